@@ -1,0 +1,277 @@
+ghost use Rattle.std.specs.Prelude.{◌≡◌, ◌<◌, ◌≤◌, ◌+◌, ◌*◌, ◌==◌, length, slice_index};
+ghost use Rattle.std.specs.List.{list_all};
+ghost use Rattle.ps_codefile.specs.Dictionary.{slots, Opened, opened, opened_beside, entry_at, name_at, names_of, tail_of, is_nameless as nameless_spec, role_of, is_filled, code_of, information_of, Gives};
+
+use crate::entry::{Entry, Role};
+use ps_words::{BLOCK_SIZE, Order, Reason, blocks_of, get};
+use std::marker::Model;
+
+/// How many slots the dictionary has.
+const SLOTS: usize = 16;
+/// The length of a word in bytes.
+const WORD: usize = 2;
+/// The length of a pair of address and length. The pairs begin the dictionary.
+const PAIR: usize = 4;
+/// The length of a name.
+const NAME: usize = 8;
+/// Where the names begin.
+const NAMES: usize = 64;
+/// Where the kind words begin.
+const KINDS: usize = 192;
+/// Where the text addresses begin.
+const TEXTS: usize = 224;
+/// Where the tail begins, which is copied unread.
+const TAIL: usize = 256;
+
+const LINKED: u16 = 0;
+
+const HOSTSEG: u16 = 1;
+
+const SEGPROC: u16 = 2;
+
+const UNITSEG: u16 = 3;
+
+const SEPRTSEG: u16 = 4;
+/// The last kind of Apple's intrinsic units and data segments.
+const LAST_INTRINSIC: u16 = 7;
+
+/// The longest code.
+const MAX_CODE_LEN: usize = 32767;
+/// The shortest code of a segment with link information.
+const MIN_LINKED_LEN: usize = 4;
+
+/// A code file seen through its segment dictionary, the sixteen slots in block 0.
+///
+/// A view: it borrows the file and copies none of it. The layout is that of the
+/// UCSD Pascal II.0 manual; how the byte order and the roles are found is this
+/// project's profile.
+#[derive(Drop)]
+pub struct Dict<'a> {
+    order: Order,
+    file: &'a [u8],
+}
+
+impl<'a> Model for Dict<'a> {
+    ghost use Rattle.std.specs.Prelude.{◌≤◌, length};
+    ghost use Rattle.ps_codefile.specs.Dictionary.{Opened};
+
+    ghost Value = { Opened };
+
+    ghost view = { λ d. record { order = d.order; file = d.file.now } };
+
+    ghost invariant = { λ d. 512 ≤ length d.file.now };
+}
+
+fn name_of(file: &[u8], slot: usize) -> [u8; 8]
+    requires in_range { slot < 16 }
+    requires whole { 512 ≤ length file.now }
+    ensures { result ≡ name_at file.now slot }
+{
+    let at = NAMES + NAME * slot;
+    [
+        file[at],
+        file[at + 1],
+        file[at + 2],
+        file[at + 3],
+        file[at + 4],
+        file[at + 5],
+        file[at + 6],
+        file[at + 7],
+    ]
+}
+
+/// Each byte of the kind words that lies an even number of bytes past `first` is 0.
+fn is_zero_from(file: &[u8], first: usize) -> bool
+    requires { first + 31 ≤ length file.now }
+    ensures { result ≡ list_all (λ i. slice_index file.now (first + 2 * i) == 0) slots }
+{
+    for i in 0..SLOTS {
+        if file[first + WORD * i] != 0 {
+            return false;
+        }
+    }
+    true
+}
+
+fn all_are(name: &[u8; 8], byte: u8) -> bool
+    ensures { result ≡ list_all (λ b. b == byte) name.now }
+{
+    name.iter().all(|b| *b == byte)
+}
+
+/// The name is eight blanks or eight zero bytes.
+fn is_nameless(name: &[u8; 8]) -> bool
+    ensures { result ≡ nameless_spec name.now }
+{
+    all_are(name, b' ') || all_are(name, 0)
+}
+
+fn role_of_entry(entry: &Entry) -> Result<Role, Reason>
+    ensures { result ≡ role_of entry.now }
+{
+    if entry.kind == UNITSEG && (entry.address == 0 || entry.length == 0) {
+        return Ok(if is_nameless(&entry.name) {
+            Role::Empty
+        } else {
+            Role::Wanted
+        });
+    }
+    if entry.length == 0 {
+        return Ok(Role::Empty);
+    }
+    match entry.kind {
+        LINKED => Ok(Role::Plain),
+        HOSTSEG => Ok(Role::Host),
+        SEGPROC => Err(Reason::SegmentProcedure),
+        UNITSEG => Ok(Role::Unit),
+        SEPRTSEG => Err(Reason::NativeSegment),
+        kind if kind <= LAST_INTRINSIC => Err(Reason::Intrinsic),
+        _ => Err(Reason::UnknownKind),
+    }
+}
+
+impl<'a> Dict<'a> {
+    /// Reads a host file, or any other by itself, in the byte order that its kind words show.
+    ///
+    /// Refuses `ShortFile` under 512 bytes, `NoOrder` where the kind words show both
+    /// orders, and `NoHost` where all of them are 0, so that no slot has a host segment.
+    pub fn read(file: &'a [u8]) -> Result<Dict<'a>, Reason>
+        ensures { result ≡ opened file.now }
+    {
+        if file.len() < BLOCK_SIZE {
+            return Err(Reason::ShortFile);
+        }
+        match (is_zero_from(file, KINDS), is_zero_from(file, KINDS + 1)) {
+            (true, true) => Err(Reason::NoHost),
+            (true, false) => Ok(Dict {
+                order: Order::Big,
+                file,
+            }),
+            (false, true) => Ok(Dict {
+                order: Order::Little,
+                file,
+            }),
+            (false, false) => Err(Reason::NoOrder),
+        }
+    }
+
+    /// Reads a library in the byte order of its host.
+    ///
+    /// Refuses `ShortFile` under 512 bytes, `NoOrder` where the kind words show both
+    /// orders, and `OrderMismatch` where they show the order that is not the host's.
+    /// A file whose kind words are all 0 takes the host's order.
+    pub fn read_beside(file: &'a [u8], host: Order) -> Result<Dict<'a>, Reason>
+        ensures { result ≡ opened_beside host file.now }
+    {
+        if file.len() < BLOCK_SIZE {
+            return Err(Reason::ShortFile);
+        }
+        match (
+            is_zero_from(file, KINDS),
+            is_zero_from(file, KINDS + 1),
+            host,
+        ) {
+            (false, false, _) => Err(Reason::NoOrder),
+            (true, false, Order::Little) | (false, true, Order::Big) => Err(Reason::OrderMismatch),
+            _ => Ok(Dict { order: host, file }),
+        }
+    }
+
+    /// The byte order in which the file's words are read.
+    pub fn order(&self) -> Order
+        ensures { result ≡ self.now.order }
+    {
+        self.order
+    }
+
+    /// What the dictionary says of a slot.
+    pub fn entry(&self, slot: u8) -> Entry
+        requires { slot < 16 }
+        ensures { result ≡ entry_at self.now.order self.now.file slot }
+    {
+        let i = slot as usize;
+        Entry {
+            address: get(self.order, self.file, PAIR * i),
+            length: get(self.order, self.file, PAIR * i + WORD),
+            name: name_of(self.file, i),
+            kind: get(self.order, self.file, KINDS + WORD * i),
+            text: get(self.order, self.file, TEXTS + WORD * i),
+        }
+    }
+
+    /// The names of all slots, eight bytes each.
+    pub fn names(&self) -> [[u8; 8]; 16]
+        ensures { result ≡ names_of self.now.file }
+    {
+        let mut names = [[0; NAME]; SLOTS];
+        for i in 0..SLOTS {
+            names[i] = name_of(self.file, i);
+        }
+        names
+    }
+
+    /// Bytes 256 to 511, which a linked file takes unread from its host.
+    pub fn tail(&self) -> &'a [u8]
+        ensures { result.now ≡ tail_of self.now.file }
+    {
+        &self.file[TAIL..BLOCK_SIZE]
+    }
+
+    /// What a slot of a host is for.
+    ///
+    /// A slot of kind 3 (UNITSEG) with address 0 or length 0 is `Wanted`, or `Empty` where
+    /// its name is eight blanks or eight zero bytes; any other slot of length 0 is `Empty`.
+    /// The rest are filled: kind 0 `Plain`, 1 `Host`, 3 `Unit`. Refuses `SegmentProcedure`
+    /// for kind 2, `NativeSegment` for 4, `Intrinsic` for 5 to 7 and `UnknownKind` above.
+    pub fn role(&self, slot: u8) -> Result<Role, Reason>
+        requires { slot < 16 }
+        ensures { result ≡ role_of (entry_at self.now.order self.now.file slot) }
+    {
+        role_of_entry(&self.entry(slot))
+    }
+
+    /// The slot has a code in this file, whatever its kind: its length is not 0, nor
+    /// its address where its kind is 3.
+    pub fn filled(&self, slot: u8) -> bool
+        requires { slot < 16 }
+        ensures { result ≡ is_filled (entry_at self.now.order self.now.file slot) }
+    {
+        let entry = self.entry(slot);
+        entry.length != 0 && !(entry.kind == UNITSEG && entry.address == 0)
+    }
+
+    /// The code of a filled slot.
+    ///
+    /// Refuses, in this order, `BadLength` over 32767 bytes, or for kinds 1 and 3 where the
+    /// length is odd or under 4; `BadAddress` at address 0; `Truncated` where the file ends
+    /// before the code does.
+    pub fn code(&self, slot: u8) -> Result<&'a [u8], Reason>
+        requires { slot < 16 }
+        ensures { Gives (λ code. code.now) result (code_of self.now.file (entry_at self.now.order self.now.file slot)) }
+    {
+        let entry = self.entry(slot);
+        let (start, len) = (BLOCK_SIZE * entry.address as usize, entry.length as usize);
+        let is_linked = entry.kind == HOSTSEG || entry.kind == UNITSEG;
+        if len > MAX_CODE_LEN || is_linked && (len % 2 == 1 || len < MIN_LINKED_LEN) {
+            return Err(Reason::BadLength);
+        }
+        if entry.address == 0 {
+            return Err(Reason::BadAddress);
+        }
+        if self.file.len() < start + len {
+            return Err(Reason::Truncated);
+        }
+        Ok(&self.file[start..start + len])
+    }
+
+    /// The file from the block after a slot's code, where the link information of a
+    /// linked segment begins; empty where that block lies past the file's end.
+    pub fn after(&self, slot: u8) -> &'a [u8]
+        requires { slot < 16 }
+        ensures { result.now ≡ information_of self.now.file (entry_at self.now.order self.now.file slot) }
+    {
+        let entry = self.entry(slot);
+        let start = BLOCK_SIZE * (entry.address as usize + blocks_of(entry.length as usize));
+        self.file.get(start..).unwrap_or(&[])
+    }
+}

@@ -1,0 +1,8 @@
+//! Code files of UCSD Pascal II.0: the segment dictionary in block 0, the code of each slot, and the procedure tables at the end of a code.
+#![tactic(auto)]
+
+mod dictionary;
+mod entry;
+
+pub use dictionary::Dict;
+pub use entry::{Entry, Role};

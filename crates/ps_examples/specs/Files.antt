@@ -1,0 +1,125 @@
+-- Small files on which the definitions are computed: a host that wants one unit, the library that has it, and what such files are changed by.
+-- Source: this project's examples.
+use Rattle.std.specs.Prelude.{ℕ, ◌+◌, ◌-◌, ◌*◌, ◌/◌, List, [], ◌∷◌, ◌++◌, length, replicate, take, drop}
+use Rattle.std.specs.List.{flat_map}
+use Rattle.ps_words.specs.Words.{word_bytes}
+use Rattle.ps_words.specs.declared.order.Order.{Order}
+use Rattle.ps_words.specs.declared.order.Order.TheVariants.{Little, Big}
+
+-- filled up with zeros to n bytes
+abbrev pub filled_to : ℕ → List ℕ → List ℕ
+filled_to n bytes = bytes ++ replicate (n - length bytes) 0
+
+-- the file with these bytes at a place
+abbrev pub put_at : ℕ → List ℕ → List ℕ → List ℕ
+put_at place bytes file = take place file ++ bytes ++ drop (place + length bytes) file
+
+-- names, of eight bytes
+abbrev pub blank : List ℕ
+blank = replicate 8 32
+
+abbrev pub demo : List ℕ
+demo = 68 ∷ 69 ∷ 77 ∷ 79 ∷ 32 ∷ 32 ∷ 32 ∷ 32 ∷ []
+
+abbrev pub util : List ℕ
+util = 85 ∷ 84 ∷ 73 ∷ 76 ∷ 32 ∷ 32 ∷ 32 ∷ 32 ∷ []
+
+abbrev pub aux : List ℕ
+aux = 65 ∷ 85 ∷ 88 ∷ 32 ∷ 32 ∷ 32 ∷ 32 ∷ 32 ∷ []
+
+abbrev pub count : List ℕ
+count = 67 ∷ 79 ∷ 85 ∷ 78 ∷ 84 ∷ 32 ∷ 32 ∷ 32 ∷ []
+
+-- `count` misspelled
+abbrev pub cuont : List ℕ
+cuont = 67 ∷ 85 ∷ 79 ∷ 78 ∷ 84 ∷ 32 ∷ 32 ∷ 32 ∷ []
+
+abbrev pub state : List ℕ
+state = 83 ∷ 84 ∷ 65 ∷ 84 ∷ 69 ∷ 32 ∷ 32 ∷ 32 ∷ []
+
+abbrev pub nobody : List ℕ
+nobody = 78 ∷ 79 ∷ 66 ∷ 79 ∷ 68 ∷ 89 ∷ 32 ∷ 32 ∷ []
+
+abbrev pub zeros : ℕ → List ℕ
+zeros n = replicate n 0
+
+-- block 0 without any segment: sixteen blank names, and otherwise zeros
+abbrev pub no_segments : List ℕ
+no_segments = replicate 64 0 ++ replicate 128 32 ++ replicate 320 0
+
+-- a slot of a dictionary
+abbrev pub with_slot : Order → ℕ → List ℕ → ℕ → ℕ → ℕ → List ℕ → List ℕ
+with_slot order slot name kind address len file =
+    put_at (4 * slot) (word_bytes order address ++ word_bytes order len) (put_at (64 + 8 * slot) name (put_at (192 + 2 * slot) (word_bytes order kind) file))
+
+-- records of link information: a name, a type and three words; a list of references in whole pieces of sixteen bytes
+abbrev pub record_of : Order → List ℕ → ℕ → ℕ → ℕ → ℕ → List ℕ
+record_of order name kind a b c = name ++ word_bytes order kind ++ word_bytes order a ++ word_bytes order b ++ word_bytes order c
+
+abbrev pub list_of : Order → List ℕ → List ℕ
+list_of order refs = filled_to (16 * ((length refs + 7) / 8)) (flat_map (word_bytes order) refs)
+
+abbrev pub unit_ref : Order → List ℕ → List ℕ → List ℕ
+unit_ref order name refs = record_of order name 1 1 (length refs) 0 ++ list_of order refs
+
+abbrev pub publ_ref : Order → List ℕ → List ℕ → List ℕ
+publ_ref order name refs = record_of order name 3 2 (length refs) 0 ++ list_of order refs
+
+abbrev pub priv_ref : Order → List ℕ → ℕ → List ℕ → List ℕ
+priv_ref order name words refs = record_of order name 4 2 (length refs) words ++ list_of order refs
+
+abbrev pub publ_def : Order → List ℕ → ℕ → List ℕ
+publ_def order name value = record_of order name 7 value 0 0
+
+abbrev pub const_def : Order → List ℕ → ℕ → List ℕ
+const_def order name value = record_of order name 8 value 0 0
+
+abbrev pub eof_mark : Order → ℕ → List ℕ
+eof_mark order next = record_of order blank 0 next 0 0
+
+-- the code of DEMO, the host's segment, and that of UTIL, a unit
+abbrev pub demo_code : Order → List ℕ
+demo_code Little = 215 ∷ 215 ∷ 193 ∷ 0 ∷ 10 ∷ 0 ∷ 4 ∷ 0 ∷ 6 ∷ 0 ∷ 10 ∷ 0 ∷ 1 ∷ 0 ∷ 2 ∷ 0 ∷ 1 ∷ 1 ∷ []
+demo_code Big = 215 ∷ 215 ∷ 193 ∷ 0 ∷ 0 ∷ 10 ∷ 0 ∷ 4 ∷ 0 ∷ 6 ∷ 0 ∷ 10 ∷ 1 ∷ 0 ∷ 0 ∷ 2 ∷ 1 ∷ 1 ∷ []
+
+abbrev pub util_code : Order → List ℕ
+util_code Little = 165 ∷ 128 ∷ 0 ∷ 171 ∷ 128 ∷ 2 ∷ 215 ∷ 215 ∷ 173 ∷ 0 ∷ 0 ∷ 0 ∷ 0 ∷ 0 ∷ 6 ∷ 0 ∷ 16 ∷ 0 ∷ 1 ∷ 0 ∷ 2 ∷ 0 ∷ 2 ∷ 1 ∷ []
+util_code Big = 165 ∷ 128 ∷ 0 ∷ 171 ∷ 128 ∷ 2 ∷ 215 ∷ 215 ∷ 173 ∷ 0 ∷ 0 ∷ 0 ∷ 0 ∷ 0 ∷ 0 ∷ 6 ∷ 0 ∷ 16 ∷ 1 ∷ 0 ∷ 0 ∷ 2 ∷ 2 ∷ 1 ∷ []
+
+-- a dictionary, a block of code and a block of link information
+abbrev pub file_of : List ℕ → List ℕ → List ℕ → List ℕ
+file_of dictionary code information = dictionary ++ filled_to 512 code ++ filled_to 512 information
+
+abbrev pub demo_information : Order → List ℕ
+demo_information order = publ_def order count 3 ++ eof_mark order 8
+
+abbrev pub util_information : Order → List ℕ
+util_information order = publ_ref order count (1 ∷ []) ++ priv_ref order state 4 (4 ∷ []) ++ eof_mark order 0
+
+-- DEMO in slot 1 wants UTIL in slot 7; byte 300 is marked
+abbrev pub host_dictionary : Order → List ℕ
+host_dictionary order = put_at 300 (42 ∷ []) (with_slot order 1 demo 1 1 18 (with_slot order 7 util 3 0 0 no_segments))
+
+abbrev pub host_with : Order → List ℕ → List ℕ
+host_with order information = file_of (host_dictionary order) (demo_code order) information
+
+abbrev pub host_in : Order → List ℕ
+host_in order = host_with order (demo_information order)
+
+-- a library with UTIL in slot 2
+abbrev pub library_with : Order → List ℕ → List ℕ
+library_with order information = file_of (with_slot order 2 util 3 1 24 no_segments) (util_code order) information
+
+abbrev pub library_in : Order → List ℕ
+library_in order = library_with order (util_information order)
+
+abbrev pub host : List ℕ
+host = host_in Little
+
+abbrev pub library : List ℕ
+library = library_in Little
+
+-- the host with UTIL in place, whose code has its slot's number, in block 3, and this link information in block 4
+abbrev pub host_in_place : Order → List ℕ → List ℕ
+host_in_place order information =
+    with_slot order 7 util 3 3 24 (host_in order) ++ filled_to 512 (put_at 22 (7 ∷ []) (util_code order)) ++ filled_to 512 information

@@ -1,0 +1,104 @@
+-- Walks over link information.
+use Rattle.std.proofs.Common.{◌≡◌, ℕ, zero, suc, ◌+◌, ◌/◌, ◌-◌, ◌≤◌, List, [], ◌∷◌, ◌++◌, length, length-drop, drop, Bool, true, false, Option, Some, None, Result, Ok, Err, refl, sym, ◌∙◌, ap, subst, arith}
+use Rattle.std.specs.List.{filter_map}
+use Rattle.std.specs.Result.{result_ok}
+use Rattle.ps_words.specs.declared.order.Order.{Order}
+use Rattle.ps_words.specs.declared.fault.Reason.{Reason}
+use Rattle.ps_linkinfo.specs.Records.{AreSpelled, BeginsWith, reading, read_from, record_at, size_of, is_eof, bad, used_by}
+use Rattle.ps_linkinfo.specs.Walk.{Walk, Advances, HasGiven, left_of, start_of}
+use Rattle.ps_linkinfo.specs.Left.{items_of, items_at, left, records_left, fault_in, fault_left}
+use Rattle.ps_linkinfo.proofs.Spelled.{spelled_more, used_more, used_cons}
+use Rattle.ps_linkinfo.proofs.Readings.{record_is}
+use Rattle.ps_linkinfo.proofs.Steps.{long_enough, size_least}
+use Rattle.ps_linkinfo.proofs.Stands.{begins_at}
+use Rattle.ps_linkinfo.specs.declared.record.LinkRecord.{LinkRecord as Record}
+
+oks_of_items : (rs : List Record) (why : Option Reason) → filter_map result_ok (items_of (rs, why)) ≡ rs
+oks_of_items [] None = refl
+oks_of_items [] (Some why) = refl
+oks_of_items (r ∷ rs) why = ap (λ (xs : List Record). r ∷ xs) (oks_of_items rs why)
+
+fault_of_items : (rs : List Record) (why : Option Reason) → fault_in (items_of (rs, why)) ≡ why
+fault_of_items [] None = refl
+fault_of_items [] (Some why) = refl
+fault_of_items (r ∷ rs) why = fault_of_items rs why
+
+-- a walk begins with all items
+pub items_first : (order : Order) (bytes : List ℕ) → left (start_of order bytes) ≡ items_of (reading order bytes)
+unfolding items_at
+items_first order bytes = refl
+
+pub records_first : (order : Order) (bytes : List ℕ) → records_left (start_of order bytes) ≡ (reading order bytes).0
+records_first order bytes = ap (λ (is : List (Result Record Reason)). filter_map result_ok is) (items_first order bytes) ∙ oks_of_items (reading order bytes).0 (reading order bytes).1
+
+pub fault_first : (order : Order) (bytes : List ℕ) → fault_left (start_of order bytes) ≡ (reading order bytes).1
+fault_first order bytes = ap fault_in (items_first order bytes) ∙ fault_of_items (reading order bytes).0 (reading order bytes).1
+
+-- a record takes 16 bytes at least
+few_from : (n : ℕ) (order : Order) (x : List ℕ) → length (read_from n order x).0 ≤ length x / 16
+few_from zero order x = omega arith
+few_from (suc n) order x = at (λ y. few_from n order y) (bad order x) refl (is_eof (record_at order x)) refl
+  where
+    r : Record
+    r = record_at order x
+
+    at : ((y : List ℕ) → length (read_from n order y).0 ≤ length y / 16) → (b : Option Reason) → bad order x ≡ b → (e : Bool) → is_eof (record_at order x) ≡ e → length (read_from (suc n) order x).0 ≤ length x / 16
+    at again (Some why) p e q = rw (p, read_from) (omega arith)
+    at again None p true q = let long = long_enough order x p in rw (p, q, read_from) (omega arith)
+    at again None p false q =
+        let size = size_least r in
+        let whole : size_of r ≤ length x = (begins_at order x p).whole in
+        rw (p, q, read_from) (omega (arith, again (drop (size_of r) x), length-drop (size_of r) x, whole, size))
+
+pub few : (order : Order) (x : List ℕ) → length (reading order x).0 ≤ length x / 16
+few order x = few_from (length x / 16 + 1) order x
+
+items_count : (rs : List Record) (why : Option Reason) → length (items_of (rs, why)) ≤ length rs + 1
+items_count [] None = omega arith
+items_count [] (Some why) = omega arith
+items_count (r ∷ rs) why = omega (arith, items_count rs why)
+
+pub few_left : (w : Walk) → length (left w) ≤ left_of w
+unfolding items_at
+few_left w = at w.ended refl
+  where
+    x : List ℕ
+    x = drop w.used w.bytes
+
+    count : length (items_at w) ≤ (length w.bytes - w.used) / 16 + 1
+    count = omega (arith, items_count (reading w.order x).0 (reading w.order x).1, few w.order x, length-drop w.used w.bytes)
+
+    at : (b : Bool) → w.ended ≡ b → length (left w) ≤ left_of w
+    at true e = rw e (omega arith)
+    at false e = rw e count
+
+-- what a walk has given
+pub given_first : (order : Order) (bytes : List ℕ) → HasGiven (start_of order bytes) []
+given_first order bytes = record { spelled = tt; used = refl }
+
+pub given_more : (w v : Walk) (rs : List Record) (r : Record) → HasGiven w rs → Advances w (Some (Ok r)) v → HasGiven v (rs ++ r ∷ [])
+given_more w v rs r h a =
+    let next : Walk = record w { used = w.used + size_of r; ended = is_eof r } in
+    let begins : BeginsWith w.order (drop (used_by rs) w.bytes) r = subst (λ (n : ℕ). BeginsWith w.order (drop n w.bytes) r) h.used a.1 in
+    let so_far : HasGiven next (rs ++ r ∷ []) = record { spelled = spelled_more w.order w.bytes rs r h.spelled begins; used = ap (λ (n : ℕ). n + size_of r) h.used ∙ sym (used_more rs r) } in
+    subst (λ (u : Walk). HasGiven u (rs ++ r ∷ [])) (sym a.2) so_far
+
+pub given_fault : (w v : Walk) (rs : List Record) (why : Reason) → HasGiven w rs → Advances w (Some (Err why)) v → HasGiven v rs
+given_fault w v rs why h a =
+    let next : Walk = record w { ended = true } in
+    let so_far : HasGiven next rs = record { spelled = h.spelled; used = h.used } in
+    subst (λ (u : Walk). HasGiven u rs) (sym a.2) so_far
+
+-- records that are spelled and take as many bytes are the same
+one_row : (order : Order) (bytes : List ℕ) (rs ss : List Record) → AreSpelled order bytes rs → AreSpelled order bytes ss → used_by rs ≡ used_by ss → ss ≡ rs
+one_row order bytes [] [] h k e = refl
+one_row order bytes [] (s ∷ ss) h k e = absurd (omega (arith, used_cons s ss, size_least s, e))
+one_row order bytes (r ∷ rs) [] h k e = absurd (omega (arith, used_cons r rs, size_least r, e))
+one_row order bytes (r ∷ rs) (s ∷ ss) h k e =
+    let same : s ≡ r = record_is order bytes s k.0 ∙ sym (record_is order bytes r h.0) in
+    let size : size_of s ≡ size_of r = ap size_of same in
+    let rest = one_row order (drop (size_of r) bytes) rs ss h.1 (subst (λ (n : ℕ). AreSpelled order (drop n bytes) ss) size k.1) (omega (arith, used_cons r rs, used_cons s ss, size, e)) in
+    cc
+
+pub given_one : (w : Walk) (rs others : List Record) → HasGiven w rs → HasGiven w others → others ≡ rs
+given_one w rs others h k = one_row w.order w.bytes rs others h.spelled k.spelled (sym h.used ∙ k.used)

@@ -1,0 +1,21 @@
+//! Link information of UCSD Pascal II.0: the records that the compiler leaves behind a segment's code for the Linker, of which the last is an EOFMARK.
+//!
+//! [`read_records`] reads them into a list, and [`Records`] gives them one by one and takes no memory. Both borrow the bytes: a record's references are a view of its list.
+//! That there is one reading of the bytes at most is the law [`one_reading`]; [`walk_from_start`] and [`walk_so_far`] are the laws of a walk by [`Records`].
+//!
+//! Source: the records and the numbers of their types are those of the published II.0 Linker source. That a list of references comes in pieces of eight words, and which records are refused, is this project's profile.
+#![tactic(auto)]
+
+mod front;
+mod laws;
+mod layout;
+mod reader;
+mod record;
+mod records;
+mod refs;
+
+pub use laws::{one_reading, walk_from_start, walk_so_far};
+pub use reader::{ReadStop, read_records};
+pub use record::{Body, LinkRecord};
+pub use records::Records;
+pub use refs::Refs;

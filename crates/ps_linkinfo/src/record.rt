@@ -1,0 +1,58 @@
+ghost use Rattle.std.specs.Prelude.{◌≡◌, ◌≤◌};
+ghost use Rattle.ps_linkinfo.specs.Records.{size_of, is_eof as is_eof_spec};
+
+use crate::layout::{RECORD_LEN, list_len};
+use crate::refs::Refs;
+
+/// What a record says, beside its name.
+///
+/// Source: the published II.0 Linker source.
+#[derive(Clone, Debug, Drop)]
+pub enum Body<'a> {
+    /// UNITREF: operands of one byte that become the number of the unit's segment.
+    UnitRef(Refs<'a>),
+    /// PUBLREF: BIG operands to which the value of the host's public variable is added.
+    PublRef(Refs<'a>),
+    /// PRIVREF: a private variable of the segment, of so many words, and the BIG operands to which its base offset is added.
+    PrivRef { words: u16, refs: Refs<'a> },
+    /// PUBLDEF: a public variable of the host, and its base offset in words.
+    PublDef(u16),
+    /// CONSTDEF: a constant of the host, and its value.
+    ConstDef(u16),
+    /// EOFMARK: the end of the link information, and the next free base offset in words.
+    Eof(u16),
+}
+
+/// A record of link information.
+///
+/// Source: the published II.0 Linker source.
+#[derive(Clone, Debug, Drop)]
+pub struct LinkRecord<'a> {
+    /// Its name, padded with blanks. That of an EOFMARK means nothing.
+    pub name: [u8; 8],
+    /// What it says.
+    pub body: Body<'a>,
+}
+
+impl LinkRecord<'_> {
+    /// How many bytes its spelling takes: 16, and 16 for each piece of eight references, of which the last may be begun. At most 131088.
+    ///
+    /// Source: the published II.0 Linker source; the pieces are this project's profile.
+    pub fn size(&self) -> usize
+        ensures size { result ≡ size_of self.now }
+        ensures bounded { result ≤ 131088 }
+    {
+        let count = match &self.body {
+            Body::UnitRef(refs) | Body::PublRef(refs) | Body::PrivRef { refs, .. } => refs.len(),
+            Body::PublDef(_) | Body::ConstDef(_) | Body::Eof(_) => 0,
+        };
+        RECORD_LEN + list_len(count)
+    }
+
+    /// Whether it is an EOFMARK, which ends the link information.
+    pub fn is_eof(&self) -> bool
+        ensures { result ≡ is_eof_spec self.now }
+    {
+        matches!(self.body, Body::Eof(_))
+    }
+}

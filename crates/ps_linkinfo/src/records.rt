@@ -1,0 +1,95 @@
+ghost use Rattle.std.specs.Prelude.{◌≡◌, false};
+ghost use Rattle.std.specs.Iterator.{YieldsFirst};
+ghost use Rattle.ps_linkinfo.specs.Walk.{Advances, start_of};
+ghost use Rattle.ps_linkinfo.specs.Left.{left};
+
+use crate::front::record_from;
+use crate::record::LinkRecord;
+use ps_words::{Order, Reason};
+use std::marker::Model;
+
+/// The records one by one, up to the EOFMARK, then the fault that stands in place of a record, if any, and then None for ever.
+/// It takes no memory, and gives at most one item for each 16 bytes, and one more.
+///
+/// Each record that is given stands at `used`; a fault is 19 where fewer than 16 bytes are left, 20, 21 or 22 by the record's type, 21 or 23 by its format, 19 where its list is not whole.
+///
+/// Source: the published II.0 Linker source; the reasons are this project's profile.
+#[derive(Debug, Drop)]
+pub struct Records<'a> {
+    order: Order,
+    bytes: &'a [u8],
+    used: usize,
+    ended: bool,
+}
+
+// Clauses see a walk: its order, its bytes, how many of them the records given so far take, and whether it is over.
+impl<'a> Model for Records<'a> {
+    ghost use Rattle.std.specs.Prelude.{◌≤◌, length};
+    ghost use Rattle.ps_linkinfo.specs.Walk.{Walk};
+
+    ghost Value = { Walk };
+
+    ghost view = { λ r. record { order = r.order; bytes = r.bytes.now; used = r.used; ended = r.ended } };
+
+    ghost invariant = { λ r. r.used ≤ length r.bytes.now };
+}
+
+impl<'a> Records<'a> {
+    /// A walk that begins at the first of the bytes.
+    pub fn new(order: Order, bytes: &'a [u8]) -> Self
+        ensures { result ≡ start_of order bytes.now }
+    {
+        Records {
+            order,
+            bytes,
+            used: 0,
+            ended: false,
+        }
+    }
+
+    /// How many bytes the records given so far take. A fault takes none.
+    pub fn used(&self) -> usize
+        ensures { result ≡ self.now.used }
+    {
+        self.used
+    }
+
+    /// The next record, or the fault that stands in its place.
+    fn advance(&mut self) -> Option<Result<LinkRecord<'a>, Reason>>
+        ensures step { Advances self.old result self.new }
+        ensures first { YieldsFirst left self.old result self.new }
+    {
+        if self.ended {
+            return None;
+        }
+        match record_from(self.order, self.bytes, self.used) {
+            Err(reason) => {
+                self.ended = true;
+                Some(Err(reason))
+            }
+            Ok(record) => {
+                self.ended = record.is_eof();
+                self.used += record.size();
+                Some(Ok(record))
+            }
+        }
+    }
+}
+
+impl<'a> Iterator for Records<'a> {
+    ghost use Rattle.ps_linkinfo.specs.Walk.{Advances, left_of};
+    ghost use Rattle.std.specs.Iterator.{at_most, YieldsFirst};
+    ghost use Rattle.ps_linkinfo.specs.Left.{left};
+
+    type Item = Result<LinkRecord<'a>, Reason>;
+
+    // What may come next, by what stands at `used`; and that it is the first of the items left.
+    ghost next_gives = { λ s r t. Advances s r t × YieldsFirst left s r t };
+
+    ghost remaining = { λ s. at_most (left_of s) };
+
+    /// The next record, or the fault that stands in its place; None once an EOFMARK or a fault was given.
+    fn next(&mut self) -> Option<Result<LinkRecord<'a>, Reason>> {
+        self.advance()
+    }
+}

@@ -1,0 +1,144 @@
+-- The first fault of a link, step by step: of each step the first fault in its own order, and a later step is looked at only where no earlier one has a fault.
+-- Source: this project's profile.
+use Rattle.std.specs.Prelude.{ℕ, ◌+◌, ◌-◌, ◌*◌, ◌==◌, ◌&&◌, ◌||◌, not, if◌then◌else◌, List, [], ◌∷◌, length, map, nat_le, nat_lt, Bool, true, false, Option, Some, None, Ok, Err, option_and_then}
+use Rattle.std.specs.List.{range_with_len, list_any, find, enumerate_from}
+use Rattle.std.specs.Option.{option_map, option_map_or, option_or}
+use Rattle.std.specs.Result.{result_err, result_ok}
+use Rattle.std.specs.Str.{bytes_eq}
+use Rattle.ps_words.specs.FaultPlaces.{in_file, in_slot, in_record, in_reference}
+use Rattle.ps_words.specs.declared.order.Order.{Order}
+use Rattle.ps_words.specs.declared.order.Order.TheVariants.{Little, Big}
+use Rattle.ps_words.specs.declared.fault.Reason.{Reason}
+use Rattle.ps_words.specs.declared.fault.Reason.TheVariants as reason
+use Rattle.ps_words.specs.declared.fault.Fault.{Fault}
+use Rattle.ps_codefile.specs.Dictionary.{slots, FileOrder, Zero, Ordered, Mixed, file_order, entry_at, role_of, code_of, information_of}
+use Rattle.ps_codefile.specs.Procedures.{table_of, tables_fault, is_reserved}
+use Rattle.ps_codefile.specs.declared.entry.Role.{Role}
+use Rattle.ps_codefile.specs.declared.entry.Entry.{Entry}
+use Rattle.ps_linkinfo.specs.Records.{reading}
+use Rattle.ps_resolve.specs.Searches.{first_of, fault_if}
+use Rattle.ps_resolve.specs.Sources.{Segment, segments, source_of, file_at, is_named, chosen_library, is_linked, is_host, is_unit, is_wanted, order_of, host_of, host_records}
+use Rattle.ps_resolve.specs.Symbols.{doubled}
+use Rattle.ps_resolve.specs.Privates.{owner_of, first_private_fault, next_of, words_of, total_words}
+use Rattle.ps_resolve.specs.References.{Known, records_fault}
+use Rattle.ps_resolve.specs.Linking.{known_of, grown_data_size}
+
+-- 1. the host by itself: too short, of no byte order, or without any kind
+abbrev pub order_reason : FileOrder → Option Reason
+order_reason Zero = Some reason.NoHost
+order_reason (Ordered order) = None
+order_reason Mixed = Some reason.NoOrder
+
+abbrev pub host_fault : List ℕ → Option Fault
+host_fault host = option_map (in_file 0) (if nat_lt (length host) 512 then Some reason.ShortFile else order_reason (file_order host))
+
+-- 2. its slots: each by its kind, then a second host segment, then a second unit of a name
+abbrev pub is_role : (Role → Bool) → Order → List ℕ → ℕ → Bool
+is_role test order host slot = option_map_or test (result_ok (role_of (entry_at order host slot))) false
+
+abbrev pub slot_reason : Order → List ℕ → ℕ → Option Reason
+slot_reason order host slot =
+    option_or (result_err (role_of (entry_at order host slot)))
+    (option_or (fault_if (is_role is_host order host slot && list_any (is_role is_host order host) (range_with_len 0 slot)) reason.TwoHosts)
+    (fault_if (is_role is_unit order host slot && list_any (λ s. is_role is_unit order host s && bytes_eq (entry_at order host s).name (entry_at order host slot).name) (range_with_len 0 slot)) reason.DoubledSegment))
+
+unfoldable pub slots_fault : Order → List ℕ → Option Fault
+slots_fault order host = first_of (λ slot. option_map (in_slot 0 slot) (slot_reason order host slot)) slots
+
+-- 3. a host segment
+unfoldable pub no_host_fault : Order → List ℕ → Option Fault
+no_host_fault order host = fault_if (not (list_any (is_role is_host order host) slots)) (in_file 0 reason.NoHost)
+
+-- 4. the libraries, each by itself
+abbrev pub same_order : Order → Order → Bool
+same_order Little Little = true
+same_order Little Big = false
+same_order Big Little = false
+same_order Big Big = true
+
+abbrev pub beside_reason : Order → FileOrder → Option Reason
+beside_reason order Zero = None
+beside_reason order (Ordered other) = fault_if (not (same_order order other)) reason.OrderMismatch
+beside_reason order Mixed = Some reason.NoOrder
+
+abbrev pub library_reason : Order → List ℕ → Option Reason
+library_reason order lib = if nat_lt (length lib) 512 then Some reason.ShortFile else beside_reason order (file_order lib)
+
+abbrev pub library_fault : Order → ℕ × List ℕ → Option Fault
+library_fault order lib = option_map (in_file lib.0) (library_reason order lib.1)
+
+unfoldable pub libraries_fault : Order → List (List ℕ) → Option Fault
+libraries_fault order libs = first_of (library_fault order) (enumerate_from 1 libs)
+
+-- 5. the source of each slot: for a wanted unit the library that has it, then the code, then for a linked segment its tables and its records
+abbrev pub entries_reason : Order → List ℕ → List ℕ → Option Reason
+entries_reason order name lib =
+    if list_any (λ i. is_named order name lib i && list_any (is_named order name lib) (range_with_len 0 i)) slots then Some reason.DoubledUnit
+    else option_and_then (λ i. let kind = (entry_at order lib i).kind in fault_if (not (kind == 3)) (reason.NotAUnit kind)) (find (is_named order name lib) slots)
+
+abbrev pub unit_fault : Order → List ℕ → List (List ℕ) → ℕ → Option Fault
+unit_fault order name libs slot =
+    option_map_or (λ lib. option_map (in_slot (lib.0 + 1) slot) (entries_reason order name lib.1)) (chosen_library order name libs) (Some (in_slot 0 slot reason.MissingUnit))
+
+abbrev pub wanted_fault : Order → List ℕ → List (List ℕ) → ℕ → Role → Option Fault
+wanted_fault order host libs slot role = if is_wanted role then unit_fault order (entry_at order host slot).name libs slot else None
+
+abbrev pub information_fault : Order → List ℕ → Entry → ℕ → ℕ → Option Fault
+information_fault order file e k slot = let read = reading order (information_of file e) in option_map (in_record k slot (length read.0)) read.1
+
+abbrev pub code_fault : Order → List ℕ → List (List ℕ) → ℕ → Role → ℕ × ℕ → Option Fault
+code_fault order host libs slot role at =
+    let file = file_at host libs at.0 in
+    let e = entry_at order file at.1 in
+    elim (code_of file e) [
+      Err why ↦ Some (in_slot at.0 slot why)
+    | Ok code ↦ if is_linked role then option_or (option_map (in_slot at.0 slot) (tables_fault order code (is_host role))) (information_fault order file e at.0 slot) else None
+    ]
+
+abbrev pub source_fault : Order → List ℕ → List (List ℕ) → ℕ → Option Fault
+source_fault order host libs slot =
+    option_and_then (λ role. option_or (wanted_fault order host libs slot role) (option_and_then (code_fault order host libs slot role) (source_of order host libs slot role))) (result_ok (role_of (entry_at order host slot)))
+
+unfoldable pub sources_fault : Order → List ℕ → List (List ℕ) → Option Fault
+sources_fault order host libs = first_of (source_fault order host libs) slots
+
+-- 6. the definitions of the host's segment
+unfoldable pub definitions_fault : List Segment → Option Fault
+definitions_fault segs = option_and_then (λ s. option_map (λ rec. in_record 0 s.slot rec reason.DoubledDefinition) (doubled s.records)) (host_of segs)
+
+-- 7. the privates
+unfoldable pub privates_fault : List Segment → Option Fault
+privates_fault segs = first_private_fault (next_of (host_records segs)) (map owner_of segs)
+
+-- 8. the host's data size
+unfoldable pub data_fault : Order → List Segment → Option Fault
+data_fault order segs =
+    option_and_then (λ s. option_and_then (λ t. fault_if (nat_lt 65535 (grown_data_size order s.code (total_words segs) t)) (in_slot 0 s.slot reason.DataTooLarge)) (table_of order s.code 1)) (host_of segs)
+
+-- 9. the references of each segment, of which those behind one segment's are looked at with the offset of the privates behind its own
+abbrev pub in_segment : ℕ → ℕ → ℕ × (Option ℕ × Reason) → Fault
+in_segment file slot (rec, (None, why)) = in_record file slot rec why
+in_segment file slot (rec, (Some reference, why)) = in_reference file slot rec reference why
+
+abbrev pub segment_fault : Order → Known → ℕ → Segment → Option Fault
+segment_fault order known free s = option_map (in_segment s.file s.slot) (records_fault known (is_reserved order s.code) s.code 0 free [] s.records)
+
+abbrev pub references_fault_from : Order → Known → ℕ → List Segment → Option Fault
+references_fault_from order known free [] = None
+references_fault_from order known free (s ∷ ss) = option_or (segment_fault order known free s) (references_fault_from order known (free + words_of s.records) ss)
+
+unfoldable pub references_fault : Order → List Segment → Option Fault
+references_fault order segs = references_fault_from order (known_of segs) (next_of (host_records segs)) segs
+
+-- what is looked at before anything is linked, and what then
+unfoldable pub reading_fault : List ℕ → List (List ℕ) → Option Fault
+reading_fault host libs =
+    let order = order_of host in
+    option_or (host_fault host) (option_or (slots_fault order host) (option_or (no_host_fault order host) (option_or (libraries_fault order libs) (sources_fault order host libs))))
+
+unfoldable pub linking_fault : Order → List Segment → Option Fault
+linking_fault order segs = option_or (definitions_fault segs) (option_or (privates_fault segs) (option_or (data_fault order segs) (references_fault order segs)))
+
+-- the first fault of all
+unfoldable pub first_fault : List ℕ → List (List ℕ) → Option Fault
+first_fault host libs = let order = order_of host in option_or (reading_fault host libs) (linking_fault order (segments order host libs))

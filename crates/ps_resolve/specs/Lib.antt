@@ -1,0 +1,15 @@
+pub mod Searches
+pub mod Sources
+pub mod Symbols
+pub mod Stops
+pub mod Places
+pub mod Operands
+pub mod Marks
+pub mod References
+pub mod Edits
+pub mod Privates
+pub mod Offsets
+pub mod Linking
+pub mod Faults
+pub mod Plans
+pub mod Views

@@ -1,0 +1,59 @@
+-- What is stored in each segment of the linked file, and what then is found at each place of its code.
+-- Source: this project's profile; the data size of the outer block that grows by the private words is that of the published II.0 Linker source.
+use Rattle.std.specs.Prelude.{ℕ, ◌+◌, ◌-◌, ◌*◌, if◌then◌else◌, List, [], ◌∷◌, ◌++◌, length}
+use Rattle.std.specs.Option.{option_map_or}
+use Rattle.ps_words.specs.Words.{word_at}
+use Rattle.ps_words.specs.Edits.{patched}
+use Rattle.ps_words.specs.declared.order.Order.{Order}
+use Rattle.ps_words.specs.declared.edit.Edit.{Edit}
+use Rattle.ps_words.specs.declared.edit.Edit.TheVariants.{Byte, Word}
+use Rattle.ps_codefile.specs.Procedures.{table_of}
+use Rattle.ps_resolve.specs.Sources.{Segment, is_linked, is_host, host_records, units_of}
+use Rattle.ps_resolve.specs.Symbols.{definitions}
+use Rattle.ps_resolve.specs.Privates.{words_of, next_of, total_words}
+use Rattle.ps_resolve.specs.References.{Known, records_edits}
+
+-- the definitions of the host's segment, and the slots of the units
+abbrev pub known_of : List Segment → Known
+known_of segs = record { definitions = definitions (host_records segs); units = units_of segs }
+
+-- where the data size of procedure 1 stands
+abbrev pub data_place : ℕ → ℕ
+data_place table = table - 8
+
+-- the data size of the host's outer block, grown by two bytes for each of the private words
+abbrev pub grown_data_size : Order → List ℕ → ℕ → ℕ → ℕ
+grown_data_size order code words table = word_at order code (data_place table) + 2 * words
+
+abbrev pub data_edits : Order → ℕ → List ℕ → List Edit
+data_edits order words code =
+    option_map_or (λ t. Word (data_place t) (grown_data_size order code words t) ∷ []) (table_of order code 1) []
+
+-- All edits of a segment, where so many private words are allotted in all and the first of its own privates has the offset `free`:
+--   the number of its slot, at the last place but one of its code;
+--   in the host's segment, the grown data size of its outer block;
+--   for each reference, the number of the unit's slot, or the displacement and the value of the definition or the private.
+-- A segment that is linked already has none.
+abbrev pub segment_edits : Order → Known → ℕ → ℕ → Segment → List Edit
+segment_edits order known words free s =
+    if is_linked s.role
+    then Byte (length s.code - 2) s.slot ∷ ((if is_host s.role then data_edits order words s.code else []) ++ records_edits known s.code free s.records)
+    else []
+
+-- a segment with its edits
+pub record Edited : Type 0 where
+  pub segment : Segment
+  pub edits : List Edit
+
+-- the privates of each segment follow those of the segments before it
+abbrev pub edited_from : Order → Known → ℕ → ℕ → List Segment → List Edited
+edited_from order known words free [] = []
+edited_from order known words free (s ∷ ss) =
+    record { segment = s; edits = segment_edits order known words free s } ∷ edited_from order known words (free + words_of s.records) ss
+
+abbrev pub edited : Order → List Segment → List Edited
+edited order segs = edited_from order (known_of segs) (total_words segs) (next_of (host_records segs)) segs
+
+-- the byte at place p of the segment in the linked file: what its edit there stores, and its input's byte where it has none there
+abbrev pub linked_byte : Order → Edited → ℕ → ℕ
+linked_byte order e p = patched order e.segment.code e.edits p

@@ -1,0 +1,48 @@
+-- Operands that references name, and the first fault of them.
+use Rattle.std.specs.Prelude.{◌≡◌, ℕ, zero, suc, ◌+◌, ◌&&◌, List, [], ◌∷◌, ◌++◌, length, map, Bool, true, false, nat_le, nat_lt, Option, Some, None}
+use Rattle.std.specs.List.{range_with_len, list_any}
+use Rattle.std.specs.Option.{option_map, option_or}
+use Rattle.ps_words.specs.Words.{displacement_at}
+use Rattle.ps_resolve.specs.Searches.{fault_if}
+use Rattle.ps_words.specs.declared.edit.Edit.{Edit}
+use Rattle.ps_words.specs.declared.edit.Edit.TheVariants.{Big, Byte}
+use Rattle.ps_words.specs.declared.fault.Reason.{Reason}
+use Rattle.ps_words.specs.declared.fault.Reason.TheVariants as reason
+use Rattle.ps_resolve.specs.declared.references.Target.{Target}
+use Rattle.ps_resolve.specs.declared.references.Target.TheVariants.{Slot, Base}
+
+abbrev pub width_of : Target → ℕ
+width_of (Slot slot) = 1
+width_of (Base base) = 2
+
+-- what an operand of two bytes becomes; there is nothing to check for a byte
+abbrev pub value_of : List ℕ → Target → ℕ → ℕ
+value_of code (Slot slot) x = 0
+value_of code (Base base) x = displacement_at code x + base
+
+abbrev pub edit_of : List ℕ → Target → ℕ → Edit
+edit_of code (Slot slot) x = Byte x slot
+edit_of code (Base base) x = Big x (displacement_at code x + base)
+
+-- an operand: its place and its width
+abbrev pub is_in : ℕ → ℕ × ℕ → Bool
+is_in p operand = nat_le operand.0 p && nat_lt p (operand.0 + operand.1)
+
+-- why there is no operand at x, where `taken` are the operands of the references before
+abbrev pub reference_reason : (ℕ → Bool) → List ℕ → List (ℕ × ℕ) → Target → ℕ → Option Reason
+reference_reason reserved code taken target x =
+    let places = range_with_len x (width_of target) in
+    option_or (fault_if (nat_lt (length code) (x + width_of target)) reason.OutsideCode)
+    (option_or (fault_if (list_any reserved places) reason.ReservedPlace)
+    (option_or (fault_if (list_any (λ p. list_any (is_in p) taken) places) reason.Overlap)
+    (fault_if (nat_lt 32767 (value_of code target x)) reason.OperandTooLarge)))
+
+abbrev pub operands : Target → List ℕ → List (ℕ × ℕ)
+operands target refs = map (λ x. (x, width_of target)) refs
+
+-- the first fault of the references, the first of which has number i
+abbrev pub refs_fault : (ℕ → Bool) → List ℕ → Target → ℕ → List (ℕ × ℕ) → List ℕ → Option (ℕ × Reason)
+refs_fault reserved code target i taken [] = None
+refs_fault reserved code target i taken (x ∷ xs) =
+    option_or (option_map (λ why. (i, why)) (reference_reason reserved code taken target x))
+    (refs_fault reserved code target (i + 1) (taken ++ (x, width_of target) ∷ []) xs)

@@ -1,0 +1,70 @@
+-- A plan of a link: where the code of each segment comes from, and the edits that link it.
+-- Source: this project's profile.
+use Rattle.std.specs.Prelude.{◌≡◌, ℕ, ◌+◌, ◌<◌, List, [], ◌∷◌, length, map, Bool, IsPermutation, ⊤, Option, Some, None, Result, Ok, Err}
+use Rattle.ps_words.specs.Edits.{AreEdits, patched}
+use Rattle.ps_words.specs.declared.order.Order.{Order}
+use Rattle.ps_words.specs.declared.edit.Edit.{Edit}
+use Rattle.ps_words.specs.declared.fault.Fault.{Fault}
+use Rattle.ps_resolve.specs.Sources.{Segment, segments, is_linked, order_of, host_records}
+use Rattle.ps_resolve.specs.Symbols.{definitions}
+use Rattle.ps_resolve.specs.Privates.{Owner, owner_of, all_allotted, next_of, total_words}
+use Rattle.ps_resolve.specs.Linking.{Edited, edited, linked_byte}
+use Rattle.ps_resolve.specs.Faults.{first_fault, reading_fault}
+use Rattle.ps_resolve.specs.declared.definitions.Def.{Def}
+use Rattle.ps_resolve.specs.declared.allotment.Private.{Private}
+use Rattle.ps_resolve.specs.declared.plan.Source.{Source}
+use Rattle.ps_resolve.specs.declared.linkage.Stop.{Stop}
+use Rattle.ps_resolve.specs.declared.linkage.Stop.TheVariants.{Refused, Memory, NotYet}
+
+-- where a segment's code comes from
+pub record Origin : Type 0 where
+  pub slot : ℕ
+  pub file : ℕ
+  pub index : ℕ
+  pub linked : Bool
+  pub code : List ℕ
+
+abbrev pub origin_of_source : Source → Origin
+origin_of_source s = record { slot = s.slot; file = s.file; index = s.index; linked = s.linked; code = s.code.now }
+
+abbrev pub origin_of : Segment → Origin
+origin_of s = record { slot = s.slot; file = s.file; index = s.index; linked = is_linked s.role; code = s.code }
+
+-- what a plan holds; the edits stand in the order of the sources
+pub record Planned : Type 0 where
+  pub order : Order
+  pub host : List ℕ
+  pub origins : List Origin
+  pub edits : List (List Edit)
+  pub definitions : List (List ℕ × Def)
+  pub privates : List Private
+  pub next_free : ℕ
+  pub private_words : ℕ
+  pub data_size : ℕ
+
+-- Edits of a segment, ready to be stored: in the order of their places, and apart; one for each that the segment has; and they make each byte the linked byte.
+pub record LinksSegment (order : Order) (e : Edited) (edits : List Edit) : Type 0 where
+  pub ready : AreEdits (length e.segment.code) edits
+  pub each : IsPermutation e.edits edits
+  pub bytes : (p : ℕ) → p < length e.segment.code → patched order e.segment.code edits p ≡ linked_byte order e p
+
+abbrev pub LinkSegments : Order → List Edited → List (List Edit) → Type 0
+LinkSegments order [] [] = ⊤
+LinkSegments order (e ∷ es) (d ∷ ds) = LinksSegment order e d × LinkSegments order es ds
+LinkSegments order [] (d ∷ ds) = ⊥
+LinkSegments order (e ∷ es) [] = ⊥
+
+-- the plan is that of a link of these files
+pub record IsPlan (host : List ℕ) (libs : List (List ℕ)) (plan : Planned) : Type 0 where
+  pub order : plan.order ≡ order_of host
+  pub of_host : plan.host ≡ host
+  pub origins : plan.origins ≡ map origin_of (segments (order_of host) host libs)
+  pub edits : LinkSegments (order_of host) (edited (order_of host) (segments (order_of host) host libs)) plan.edits
+  pub definitions : plan.definitions ≡ definitions (host_records (segments (order_of host) host libs))
+  pub private_words : plan.private_words ≡ total_words (segments (order_of host) host libs)
+
+-- why there is no plan: the first fault of all, or memory ran out where nothing that is looked at before has a fault
+abbrev pub IsStopped : List ℕ → List (List ℕ) → Stop → Type 0
+IsStopped host libs (Refused fault) = first_fault host libs ≡ Some fault
+IsStopped host libs Memory = reading_fault host libs ≡ None
+IsStopped host libs NotYet = ⊤

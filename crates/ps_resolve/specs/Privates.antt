@@ -1,0 +1,108 @@
+-- Private variables: where each is allotted, behind the host's own data and behind all privates before it, and the first that cannot be.
+-- Source: the end mark's base offset is that of the published II.0 Linker source; the order of allotment is this project's profile.
+use Rattle.std.specs.Prelude.{map, slice_get, unwrap_or, ◌≡◌, ℕ, ◌+◌, ◌<◌, if◌then◌else◌, List, [], ◌∷◌, ◌++◌, length, Bool, nat_lt, Option, Some, None, Result, Ok, Err}
+use Rattle.std.specs.List.{list_any, filter_map}
+use Rattle.std.specs.Str.{bytes_eq}
+use Rattle.std.specs.Option.{option_map, option_or}
+use Rattle.ps_linkinfo.specs.Records.{reading}
+use Rattle.ps_resolve.specs.Sources.{Segment}
+use Rattle.ps_resolve.specs.declared.linkage.Linkage.{Linkage}
+use Rattle.ps_words.specs.declared.fault.Reason.{Reason}
+use Rattle.ps_words.specs.declared.fault.Reason.TheVariants as reason
+use Rattle.ps_words.specs.declared.fault.Fault.{Fault}
+use Rattle.ps_words.specs.FaultPlaces.{in_record}
+use Rattle.ps_linkinfo.specs.declared.record.Body.{Body}
+use Rattle.ps_linkinfo.specs.declared.record.Body.TheVariants.{UnitRef, PublRef, PrivRef, PublDef, ConstDef, Eof}
+use Rattle.ps_linkinfo.specs.declared.record.LinkRecord.{LinkRecord as Record}
+use Rattle.ps_resolve.specs.declared.allotment.Private.{Private}
+use Rattle.ps_resolve.specs.declared.linkage.Stop.{Stop}
+use Rattle.ps_resolve.specs.declared.linkage.Stop.TheVariants.{Refused, NotYet, Memory}
+
+-- how many words a private of a record takes
+abbrev pub words_in : Body → Option ℕ
+words_in (PrivRef words refs) = Some words
+words_in (UnitRef refs) = None
+words_in (PublRef refs) = None
+words_in (PublDef value) = None
+words_in (ConstDef value) = None
+words_in (Eof next) = None
+
+-- The privates of the records, the first of which has number `rec`, from the offset `next` on.
+abbrev pub allotted : ℕ → ℕ → ℕ → List Record → List Private
+allotted slot rec next [] = []
+allotted slot rec next (r ∷ rs) =
+    elim (words_in r.body) [
+      None ↦ allotted slot (rec + 1) next rs
+    | Some words ↦ record { slot = slot; rec = rec; name = r.name; offset = next; words = words } ∷ allotted slot (rec + 1) (next + words) rs
+    ]
+
+-- the words of all of them
+abbrev pub words_of : List Record → ℕ
+words_of [] = 0
+words_of (r ∷ rs) = elim (words_in r.body) [ None ↦ words_of rs | Some words ↦ words + words_of rs ]
+
+-- the first that has the name of one before it, of the names `seen` or of the records, or that ends past 32767
+abbrev pub private_fault : ℕ → ℕ → List (List ℕ) → List Record → Option (ℕ × Reason)
+private_fault rec next seen [] = None
+private_fault rec next seen (r ∷ rs) =
+    elim (words_in r.body) [
+      None ↦ private_fault (rec + 1) next seen rs
+    | Some words ↦
+        if list_any (bytes_eq r.name) seen then Some (rec, reason.DoubledPrivate)
+        else (if nat_lt 32767 (next + words) then Some (rec, reason.NoRoom)
+        else private_fault (rec + 1) (next + words) (seen ++ r.name ∷ []) rs)
+    ]
+
+-- that fault, where it stands; or memory ran out
+abbrev pub IsUnallotted : ℕ → ℕ → ℕ → List Record → Stop → Type 0
+IsUnallotted file slot next rs (Refused fault) = (found : ℕ × Reason) × (private_fault 0 next [] rs ≡ Some found) × (fault ≡ in_record file slot found.0 found.1)
+IsUnallotted file slot next rs Memory = 0 < length (allotted slot 0 next rs)
+IsUnallotted file slot next rs NotYet = ⊥
+
+-- a segment as far as its privates need it: its slot, the number of the file that it comes from, and its records
+pub record Owner : Type 0 where
+  pub slot : ℕ
+  pub file : ℕ
+  pub records : List Record
+
+abbrev pub owner_of_linkage : Linkage → Owner
+owner_of_linkage s = record { slot = s.slot; file = s.file; records = (reading s.order s.bytes.now).0 }
+
+abbrev pub owner_of : Segment → Owner
+owner_of s = record { slot = s.slot; file = s.file; records = s.records }
+
+-- the privates of all segments, by slot and then by record, from the offset `next` on
+abbrev pub all_allotted : ℕ → List Owner → List Private
+all_allotted next [] = []
+all_allotted next (s ∷ ss) = allotted s.slot 0 next s.records ++ all_allotted (next + words_of s.records) ss
+
+abbrev pub all_words : List Owner → ℕ
+all_words [] = 0
+all_words (s ∷ ss) = words_of s.records + all_words ss
+
+-- the first fault of the privates
+abbrev pub first_private_fault : ℕ → List Owner → Option Fault
+first_private_fault next [] = None
+first_private_fault next (s ∷ ss) =
+    option_or (option_map (λ f. in_record s.file s.slot f.0 f.1) (private_fault 0 next [] s.records)) (first_private_fault (next + words_of s.records) ss)
+
+abbrev pub AreUnallotted : ℕ → List Owner → Stop → Type 0
+AreUnallotted next ss (Refused fault) = first_private_fault next ss ≡ Some fault
+AreUnallotted next ss Memory = 0 < length (all_allotted next ss)
+AreUnallotted next ss NotYet = ⊥
+
+-- the base offset that the end mark of the host's segment gives: the first that is free
+abbrev pub next_in : Body → Option ℕ
+next_in (Eof next) = Some next
+next_in (UnitRef refs) = None
+next_in (PublRef refs) = None
+next_in (PrivRef words refs) = None
+next_in (PublDef value) = None
+next_in (ConstDef value) = None
+
+abbrev pub next_of : List Record → ℕ
+next_of rs = unwrap_or (slice_get (filter_map (λ r. next_in r.body) rs) 0) 0
+
+-- the words of all privates of the segments
+abbrev pub total_words : List Segment → ℕ
+total_words segs = all_words (map owner_of segs)

@@ -1,0 +1,75 @@
+-- The references of a segment: what their operands become, and the first fault of them.
+use Rattle.std.specs.Prelude.{◌≡◌, ℕ, ◌+◌, ◌==◌, ◌&&◌, if◌then◌else◌, List, [], ◌∷◌, ◌++◌, map, Bool, Option, Some, None, Result, Ok, Err, find, ⊤}
+use Rattle.std.specs.Option.{option_map, option_or}
+use Rattle.std.specs.Map.{lookup}
+use Rattle.std.specs.Str.{bytes_eq}
+use Rattle.ps_words.specs.declared.edit.Edit.{Edit}
+use Rattle.ps_words.specs.declared.fault.Reason.{Reason}
+use Rattle.ps_words.specs.declared.fault.Reason.TheVariants as reason
+use Rattle.ps_linkinfo.specs.Records.{refs_of}
+use Rattle.ps_linkinfo.specs.declared.record.Body.{Body}
+use Rattle.ps_linkinfo.specs.declared.record.Body.TheVariants.{UnitRef, PublRef, PrivRef, PublDef, ConstDef, Eof}
+use Rattle.ps_linkinfo.specs.declared.record.LinkRecord.{LinkRecord as Record}
+use Rattle.ps_resolve.specs.Symbols.{definition_of}
+use Rattle.ps_resolve.specs.Privates.{words_in}
+use Rattle.std.specs.Option.{unwrap_or}
+use Rattle.ps_resolve.specs.Operands.{edit_of, operands, refs_fault}
+use Rattle.ps_resolve.specs.declared.definitions.Def.{Def}
+use Rattle.ps_resolve.specs.declared.definitions.DefKind.TheVariants.{Public, Constant}
+use Rattle.ps_resolve.specs.declared.references.Target.{Target}
+use Rattle.ps_resolve.specs.declared.references.Target.TheVariants.{Slot, Base}
+use Rattle.ps_resolve.specs.declared.segments.RecordStop.{RecordStop}
+use Rattle.ps_resolve.specs.declared.segments.RecordStop.TheVariants.{Refused, Memory}
+
+-- definitions, and slots of units by name
+pub record Known : Type 0 where
+  pub definitions : List (List ℕ × Def)
+  pub units : List (List ℕ × ℕ)
+
+abbrev pub public_base : Option Def → Result Target Reason
+public_base None = Err reason.MissingDefinition
+public_base (Some d) = elim d.kind [ Public ↦ Ok (Base d.value) | Constant ↦ Err reason.IllKind ]
+
+abbrev pub unit_slot : Option ℕ → Result Target Reason
+unit_slot None = Err reason.MissingUnitRef
+unit_slot (Some slot) = Ok (Slot slot)
+
+-- what the operands of a record's references become; a record without references has none
+abbrev pub target_in : Known → ℕ → List ℕ → Body → Result Target Reason
+target_in known off name (UnitRef refs) = unit_slot (lookup (bytes_eq name) known.units)
+target_in known off name (PublRef refs) = public_base (definition_of name known.definitions)
+target_in known off name (PrivRef words refs) = Ok (Base off)
+target_in known off name (PublDef value) = Ok (Slot 0)
+target_in known off name (ConstDef value) = Ok (Slot 0)
+target_in known off name (Eof next) = Ok (Slot 0)
+
+abbrev pub target_of : Known → ℕ → Record → Result Target Reason
+target_of known off r = target_in known off r.name r.body
+
+-- how many words a record's private takes
+abbrev pub words_taken : Body → ℕ
+words_taken body = unwrap_or (words_in body) 0
+
+-- The first fault of the records, the first of which has number `rec`, behind references with the operands `taken`.
+abbrev pub records_fault : Known → (ℕ → Bool) → List ℕ → ℕ → ℕ → List (ℕ × ℕ) → List Record → Option (ℕ × (Option ℕ × Reason))
+records_fault known reserved code rec off taken [] = None
+records_fault known reserved code rec off taken (r ∷ rs) =
+    elim (target_of known off r) [
+      Err why ↦ Some (rec, (None, why))
+    | Ok t ↦ option_or (option_map (λ f. (rec, (Some f.0, f.1))) (refs_fault reserved code t 0 taken (refs_of r.body)))
+        (records_fault known reserved code (rec + 1) (off + words_taken r.body) (taken ++ operands t (refs_of r.body)) rs)
+    ]
+
+-- the edits of the records' references, in order
+abbrev pub record_edits : Known → List ℕ → ℕ → Record → List Edit
+record_edits known code off r = elim (target_of known off r) [ Err why ↦ [] | Ok t ↦ map (edit_of code t) (refs_of r.body) ]
+
+abbrev pub records_edits : Known → List ℕ → ℕ → List Record → List Edit
+records_edits known code off [] = []
+records_edits known code off (r ∷ rs) = record_edits known code off r ++ records_edits known code (off + words_taken r.body) rs
+
+-- this is the first fault, or there is none, or memory ran out
+abbrev pub FindsOne : Result (Unit {0}) RecordStop → Option (ℕ × (Option ℕ × Reason)) → Type 0
+FindsOne (Ok done) fault = fault ≡ None
+FindsOne (Err (Refused rec reference why)) fault = fault ≡ Some (rec, (reference, why))
+FindsOne (Err Memory) fault = ⊤

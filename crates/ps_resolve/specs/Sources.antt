@@ -1,0 +1,120 @@
+-- Which segments a linked file has, and where each comes from: the host's own slots, and for a wanted unit the first library that has a filled entry of its name.
+-- Source: this project's profile.
+use Rattle.std.specs.Prelude.{ℕ, ◌+◌, ◌==◌, ◌&&◌, ◌||◌, not, if◌then◌else◌, List, [], ◌∷◌, slice_get, nat_lt, Bool, true, false, Option, Some, None, Result, Ok, Err, unwrap_or, option_and_then}
+use Rattle.std.specs.List.{list_any, filter_map, find, enumerate_from}
+use Rattle.std.specs.Option.{option_map, option_map_or}
+use Rattle.std.specs.Result.{result_ok}
+use Rattle.std.specs.Str.{bytes_eq}
+use Rattle.ps_codefile.specs.Dictionary.{slots, FileOrder, Zero, Ordered, Mixed, file_order, entry_at, role_of, is_filled, code_of, information_of}
+use Rattle.ps_codefile.specs.declared.entry.Role.{Role}
+use Rattle.ps_codefile.specs.declared.entry.Role.TheVariants.{Empty, Wanted, Plain, Host, Unit}
+use Rattle.ps_codefile.specs.declared.entry.Entry.{Entry}
+use Rattle.ps_linkinfo.specs.Records.{reading}
+use Rattle.ps_linkinfo.specs.declared.record.LinkRecord.{LinkRecord as Record}
+use Rattle.ps_words.specs.declared.order.Order.{Order}
+use Rattle.ps_words.specs.declared.order.Order.TheVariants.{Little}
+
+-- the order that all files of a link are read in: the host's
+abbrev pub known_order : FileOrder → Order
+known_order Zero = Little
+known_order (Ordered order) = order
+known_order Mixed = Little
+
+abbrev pub order_of : List ℕ → Order
+order_of host = known_order (file_order host)
+
+-- a segment of the host, of a unit in place, or of a wanted unit: its references are resolved
+abbrev pub is_linked : Role → Bool
+is_linked Empty = false
+is_linked Wanted = true
+is_linked Plain = false
+is_linked Host = true
+is_linked Unit = true
+
+abbrev pub is_host : Role → Bool
+is_host Empty = false
+is_host Wanted = false
+is_host Plain = false
+is_host Host = true
+is_host Unit = false
+
+-- a unit, in place or wanted
+abbrev pub is_unit : Role → Bool
+is_unit Empty = false
+is_unit Wanted = true
+is_unit Plain = false
+is_unit Host = false
+is_unit Unit = true
+
+abbrev pub is_wanted : Role → Bool
+is_wanted Empty = false
+is_wanted Wanted = true
+is_wanted Plain = false
+is_wanted Host = false
+is_wanted Unit = false
+
+-- the file's entry is filled, and has this name
+abbrev pub is_named : Order → List ℕ → List ℕ → ℕ → Bool
+is_named order name file i = let e = entry_at order file i in is_filled e && bytes_eq e.name name
+
+abbrev pub has_entry : Order → List ℕ → List ℕ → Bool
+has_entry order name file = list_any (is_named order name file) slots
+
+-- the first library with such an entry, and its number from 0
+abbrev pub chosen_library : Order → List ℕ → List (List ℕ) → Option (ℕ × List ℕ)
+chosen_library order name libs = find (λ lib. has_entry order name lib.1) (enumerate_from 0 libs)
+
+-- the first such entry of the first such library: the number of its file, and its slot there
+abbrev pub unit_source : Order → List ℕ → List (List ℕ) → Option (ℕ × ℕ)
+unit_source order name libs =
+    option_and_then (λ lib. option_map (λ i. (lib.0 + 1, i)) (find (is_named order name lib.1) slots)) (chosen_library order name libs)
+
+-- the file, 0 for the host and k for the k-th library, and the entry there that a slot's code comes from
+abbrev pub source_of : Order → List ℕ → List (List ℕ) → ℕ → Role → Option (ℕ × ℕ)
+source_of order host libs slot Empty = None
+source_of order host libs slot Plain = Some (0, slot)
+source_of order host libs slot Host = Some (0, slot)
+source_of order host libs slot Unit = Some (0, slot)
+source_of order host libs slot Wanted = unit_source order (entry_at order host slot).name libs
+
+abbrev pub file_at : List ℕ → List (List ℕ) → ℕ → List ℕ
+file_at host libs k = unwrap_or (slice_get (host ∷ libs) k) []
+
+-- the records of an entry's link information; those of a segment that is not linked are not read
+abbrev pub records_of : Order → List ℕ → Entry → Bool → List Record
+records_of order file e linked = if linked then (reading order (information_of file e)).0 else []
+
+-- A segment of the linked file: its slot in the host, its name and its role there, the file and the entry that it comes from, its code, and the records of its link information.
+pub record Segment : Type 0 where
+  pub slot : ℕ
+  pub name : List ℕ
+  pub role : Role
+  pub file : ℕ
+  pub index : ℕ
+  pub code : List ℕ
+  pub records : List Record
+
+abbrev pub segment_from : Order → List ℕ → List (List ℕ) → ℕ → Role → ℕ × ℕ → Option Segment
+segment_from order host libs slot role at =
+    let file = file_at host libs at.0 in
+    let e = entry_at order file at.1 in
+    option_map (λ code. record { slot = slot; name = (entry_at order host slot).name; role = role; file = at.0; index = at.1; code = code; records = records_of order file e (is_linked role) }) (result_ok (code_of file e))
+
+abbrev pub segment_at : Order → List ℕ → List (List ℕ) → ℕ → Option Segment
+segment_at order host libs slot =
+    option_and_then (λ role. option_and_then (segment_from order host libs slot role) (source_of order host libs slot role)) (result_ok (role_of (entry_at order host slot)))
+
+-- all of them, by slot
+unfoldable pub segments : Order → List ℕ → List (List ℕ) → List Segment
+segments order host libs = filter_map (segment_at order host libs) slots
+
+-- the host's own segment, and its records
+abbrev pub host_of : List Segment → Option Segment
+host_of segs = find (λ s. is_host s.role) segs
+
+abbrev pub host_records : List Segment → List Record
+host_records segs = option_map_or (λ s. s.records) (host_of segs) []
+
+-- the slot of each unit by its name
+abbrev pub units_of : List Segment → List (List ℕ × ℕ)
+units_of segs = filter_map (λ s. if is_unit s.role then Some (s.name, s.slot) else None) segs

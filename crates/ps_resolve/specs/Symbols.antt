@@ -1,0 +1,43 @@
+-- Definitions of the host: names with their values, and the first record that defines a name again.
+use Rattle.std.specs.Prelude.{◌≡◌, ℕ, zero, suc, ◌+◌, if◌then◌else◌, List, [], ◌∷◌, ◌++◌, length, take, Bool, true, false, Option, Some, None, is_some}
+use Rattle.std.specs.List.{filter_map, enumerate_from}
+use Rattle.std.specs.Map.{lookup}
+use Rattle.std.specs.Option.{option_or}
+use Rattle.std.specs.Str.{bytes_eq}
+use Rattle.ps_linkinfo.specs.declared.record.Body.{Body}
+use Rattle.ps_linkinfo.specs.declared.record.Body.TheVariants.{UnitRef, PublRef, PrivRef, PublDef, ConstDef, Eof}
+use Rattle.ps_linkinfo.specs.declared.record.LinkRecord.{LinkRecord as Record}
+use Rattle.ps_resolve.specs.declared.definitions.Def.{Def}
+use Rattle.ps_resolve.specs.declared.definitions.DefKind.TheVariants.{Public, Constant}
+
+-- what a record defines
+abbrev pub def_in : Body → Option Def
+def_in (PublDef value) = Some (record { kind = Public; value = value })
+def_in (ConstDef value) = Some (record { kind = Constant; value = value })
+def_in (UnitRef refs) = None
+def_in (PublRef refs) = None
+def_in (PrivRef words refs) = None
+def_in (Eof next) = None
+
+abbrev pub definition_in : Record → Option (List ℕ × Def)
+definition_in r = elim (def_in r.body) [ None ↦ None | Some d ↦ Some (r.name, d) ]
+
+-- all definitions, in record order
+abbrev pub definitions : List Record → List (List ℕ × Def)
+definitions rs = filter_map definition_in rs
+
+-- the definition of a name
+abbrev pub definition_of : List ℕ → List (List ℕ × Def) → Option Def
+definition_of name ds = lookup (bytes_eq name) ds
+
+-- The number of the first record of rs, the first of which has number `rec`, that defines a name again which `ds` have or an earlier record defines.
+abbrev pub doubled_from : ℕ → List (List ℕ × Def) → List Record → Option ℕ
+doubled_from rec ds [] = None
+doubled_from rec ds (r ∷ rs) =
+    elim (definition_in r) [
+      None ↦ doubled_from (rec + 1) ds rs
+    | Some d ↦ if is_some (definition_of d.0 ds) then Some rec else doubled_from (rec + 1) (ds ++ d ∷ []) rs
+    ]
+
+abbrev pub doubled : List Record → Option ℕ
+doubled rs = doubled_from 0 [] rs

@@ -1,0 +1,26 @@
+-- The segments that the files have, seen as the segments of the link, and what is known of them once the files were read without a fault.
+-- Source: this project's profile.
+use Rattle.std.specs.Prelude.{◌≡◌, ℕ, ◌≤◌, if◌then◌else◌, List, [], length, Bool, true, None}
+use Rattle.ps_words.specs.declared.order.Order.{Order}
+use Rattle.ps_codefile.specs.Procedures.{tables_fault}
+use Rattle.ps_linkinfo.specs.Records.{reading}
+use Rattle.ps_resolve.specs.Sources.{Segment, is_linked, is_host}
+use Rattle.ps_resolve.specs.declared.segment.Segment.{Segment as SegmentView}
+
+abbrev pub segment_of : Order → SegmentView → Segment
+segment_of order s = record {
+  slot = s.slot;
+  name = s.name;
+  role = s.role;
+  file = s.file;
+  index = s.index;
+  code = s.code.now;
+  records = if is_linked s.role then (reading order s.information.now).0 else [];
+}
+
+-- the length of the code is within its limits, and the procedure tables of a linked segment have no fault
+pub record IsSound (order : Order) (s : Segment) : Type 0 where
+  pub small : length s.code ≤ 32767
+  pub large : is_linked s.role ≡ true → 4 ≤ length s.code
+  pub tables : is_linked s.role ≡ true → tables_fault order s.code (is_host s.role) ≡ None
+  pub slot : s.slot ≤ 15

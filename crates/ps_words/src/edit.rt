@@ -1,0 +1,31 @@
+/// What is to be stored at a place of a segment's code.
+///
+/// `place` is the byte offset, from 0, of the first byte to be stored from the segment's first
+/// byte. What is stored is the final content: for an operand, its displacement included.
+/// Source: this project's profile.
+#[derive(Clone, Copy, Debug, PartialEq, Eq)]
+pub enum Edit {
+    /// A BIG operand, in two bytes, the high byte first in either byte order.
+    Big {
+        /// The offset of the operand's first byte, which gets the high byte and the mark of two
+        /// bytes.
+        place: usize,
+        /// The value that the operand will have, 0 to 32767: the displacement that it had, plus
+        /// what it refers to.
+        value: u16,
+    },
+    /// A single byte.
+    Byte {
+        /// The offset of the byte.
+        place: usize,
+        /// The byte that will stand there.
+        value: u8,
+    },
+    /// A word, in two bytes, in the file's byte order.
+    Word {
+        /// The offset of the word's first byte.
+        place: usize,
+        /// The word that will stand there.
+        value: u16,
+    },
+}

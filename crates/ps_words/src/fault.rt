@@ -1,0 +1,259 @@
+ghost use Rattle.std.specs.Prelude.{◌≡◌, Some};
+ghost use Rattle.ps_words.specs.FaultText.{fault_text, kind_of, name_of, number_of, part_text};
+
+use std::fmt;
+
+/// Why files are refused: each reason has a number, 1 to 34, and a name, that of its variant.
+///
+/// The reason's text is its name.
+/// Source: this project's profile.
+#[derive(Clone, Copy, Debug, PartialEq, Eq)]
+pub enum Reason {
+    /// 1: the file has fewer than 512 bytes, so it has no whole segment dictionary.
+    ShortFile,
+    /// 2: the kind words of the segment dictionary fit neither byte order.
+    NoOrder,
+    /// 3: a library's byte order is not the host's.
+    OrderMismatch,
+    /// 4: the host file has no segment of kind HOSTSEG, the program's own.
+    NoHost,
+    /// 5: the host file has a second segment of kind HOSTSEG.
+    TwoHosts,
+    /// 6: a unit has the name of an earlier unit of the host file.
+    DoubledSegment,
+    /// 7: a segment of the host file is a segment procedure, kind SEGPROC.
+    SegmentProcedure,
+    /// 8: a segment of the host file is a separate segment, kind SEPRTSEG.
+    NativeSegment,
+    /// 9: a segment of the host file is an intrinsic unit or a data segment, kinds 5 to 7.
+    Intrinsic,
+    /// 10: a segment of the host file has a kind above 7.
+    UnknownKind,
+    /// 11: the code has more than 32767 bytes, or that of a linked segment fewer than 4 or an
+    /// odd number.
+    BadLength,
+    /// 12: the code's address is block 0, where the segment dictionary stands.
+    BadAddress,
+    /// 13: no library has an entry, with code, of the name of a unit that is wanted.
+    MissingUnit,
+    /// 14: the library's entry of a wanted unit's name is no unit.
+    NotAUnit {
+        /// The entry's kind word, any but 3.
+        kind: u16,
+    },
+    /// 15: the library has more than one entry, with code, of a wanted unit's name.
+    DoubledUnit,
+    /// 16: the code is not whole in the file.
+    Truncated,
+    /// 17: the procedure dictionary or an attribute table does not lie inside the code, or the
+    /// host segment has no body for procedure 1.
+    BadProcDict,
+    /// 18: the attribute table of a procedure says that it is native code.
+    NativeProcedure,
+    /// 19: the link information ends before its EOFMARK record, or within a record.
+    RecordsTruncated,
+    /// 20: a link record's type is above 14.
+    UnknownRecord,
+    /// 21: a link record is of a type or a format that native code alone has.
+    NativeRecord,
+    /// 22: a link record is of a separate procedure or function.
+    SeparateRecord,
+    /// 23: a reference record's format is not that of its type.
+    BadFormat,
+    /// 24: a definition has the name of an earlier one.
+    DoubledDefinition,
+    /// 25: a private variable has the name of an earlier one of its segment.
+    DoubledPrivate,
+    /// 26: the next free base offset after a private variable is above 32767.
+    NoRoom,
+    /// 27: the host segment's data size, grown by the private words, is above 65535 bytes.
+    DataTooLarge,
+    /// 28: a public reference's name has no definition.
+    MissingDefinition,
+    /// 29: a public reference's definition is a constant.
+    IllKind,
+    /// 30: a unit reference's name is that of no unit of the host file.
+    MissingUnitRef,
+    /// 31: an operand does not lie inside the code.
+    OutsideCode,
+    /// 32: an operand lies in the procedure dictionary or in an attribute table.
+    ReservedPlace,
+    /// 33: an operand shares a byte with that of an earlier reference of its segment.
+    Overlap,
+    /// 34: an operand's displacement plus the value is above 32767.
+    OperandTooLarge,
+}
+
+impl Reason {
+    /// The reason's number, 1 to 34.
+    pub fn number(self) -> u8
+        ensures { result ≡ number_of self }
+    {
+        match self {
+            Reason::ShortFile => 1,
+            Reason::NoOrder => 2,
+            Reason::OrderMismatch => 3,
+            Reason::NoHost => 4,
+            Reason::TwoHosts => 5,
+            Reason::DoubledSegment => 6,
+            Reason::SegmentProcedure => 7,
+            Reason::NativeSegment => 8,
+            Reason::Intrinsic => 9,
+            Reason::UnknownKind => 10,
+            Reason::BadLength => 11,
+            Reason::BadAddress => 12,
+            Reason::MissingUnit => 13,
+            Reason::NotAUnit { .. } => 14,
+            Reason::DoubledUnit => 15,
+            Reason::Truncated => 16,
+            Reason::BadProcDict => 17,
+            Reason::NativeProcedure => 18,
+            Reason::RecordsTruncated => 19,
+            Reason::UnknownRecord => 20,
+            Reason::NativeRecord => 21,
+            Reason::SeparateRecord => 22,
+            Reason::BadFormat => 23,
+            Reason::DoubledDefinition => 24,
+            Reason::DoubledPrivate => 25,
+            Reason::NoRoom => 26,
+            Reason::DataTooLarge => 27,
+            Reason::MissingDefinition => 28,
+            Reason::IllKind => 29,
+            Reason::MissingUnitRef => 30,
+            Reason::OutsideCode => 31,
+            Reason::ReservedPlace => 32,
+            Reason::Overlap => 33,
+            Reason::OperandTooLarge => 34,
+        }
+    }
+
+    /// The reason's name, which is that of its variant.
+    pub fn name(self) -> &'static str
+        ensures { result.now ≡ name_of self }
+    {
+        match self {
+            Reason::ShortFile => "ShortFile",
+            Reason::NoOrder => "NoOrder",
+            Reason::OrderMismatch => "OrderMismatch",
+            Reason::NoHost => "NoHost",
+            Reason::TwoHosts => "TwoHosts",
+            Reason::DoubledSegment => "DoubledSegment",
+            Reason::SegmentProcedure => "SegmentProcedure",
+            Reason::NativeSegment => "NativeSegment",
+            Reason::Intrinsic => "Intrinsic",
+            Reason::UnknownKind => "UnknownKind",
+            Reason::BadLength => "BadLength",
+            Reason::BadAddress => "BadAddress",
+            Reason::MissingUnit => "MissingUnit",
+            Reason::NotAUnit { .. } => "NotAUnit",
+            Reason::DoubledUnit => "DoubledUnit",
+            Reason::Truncated => "Truncated",
+            Reason::BadProcDict => "BadProcDict",
+            Reason::NativeProcedure => "NativeProcedure",
+            Reason::RecordsTruncated => "RecordsTruncated",
+            Reason::UnknownRecord => "UnknownRecord",
+            Reason::NativeRecord => "NativeRecord",
+            Reason::SeparateRecord => "SeparateRecord",
+            Reason::BadFormat => "BadFormat",
+            Reason::DoubledDefinition => "DoubledDefinition",
+            Reason::DoubledPrivate => "DoubledPrivate",
+            Reason::NoRoom => "NoRoom",
+            Reason::DataTooLarge => "DataTooLarge",
+            Reason::MissingDefinition => "MissingDefinition",
+            Reason::IllKind => "IllKind",
+            Reason::MissingUnitRef => "MissingUnitRef",
+            Reason::OutsideCode => "OutsideCode",
+            Reason::ReservedPlace => "ReservedPlace",
+            Reason::Overlap => "Overlap",
+            Reason::OperandTooLarge => "OperandTooLarge",
+        }
+    }
+}
+
+impl Reason {
+    /// The kind word of an entry that is no unit.
+    fn kind(self) -> Option<usize>
+        ensures { result ≡ kind_of self }
+    {
+        match self {
+            Reason::NotAUnit { kind } => Some(kind.into()),
+            _ => None,
+        }
+    }
+}
+
+impl fmt::Display for Reason {
+    ghost output = { λ reason. Some (name_of reason) };
+
+    fn fmt<W: fmt::Write>(&self, f: &mut fmt::Formatter<W>) -> fmt::Result {
+        f.write_str(self.name())
+    }
+}
+
+/// A reason for which files are refused, and where it stands.
+///
+/// Its text is `refused N NAME`, then ` kind K` for an entry that is no unit, then ` file F`, and
+/// then ` slot S`, ` record R` and ` reference I`, each where the fault has it. All numbers are
+/// plain decimal.
+/// Source: this project's profile.
+#[derive(Clone, Copy, Debug, PartialEq, Eq)]
+pub struct Fault {
+    /// Why the files are refused.
+    pub reason: Reason,
+    /// The file at fault: 0 is the host file, k the k-th library, from 1.
+    pub file: usize,
+    /// The slot of the host's segment dictionary, 0 to 15, where the reason is of a segment.
+    pub slot: Option<u8>,
+    /// The index, from 0, of the record in its segment's link information, where the reason is
+    /// of a record.
+    pub rec: Option<usize>,
+    /// The index, from 0, of the reference in its record, where the reason is of a reference.
+    pub reference: Option<usize>,
+}
+
+impl fmt::Display for Fault {
+    ghost output = { λ fault. Some (fault_text fault) };
+
+    fn fmt<W: fmt::Write>(&self, f: &mut fmt::Formatter<W>) -> fmt::Result {
+        let Fault { reason, file, .. } = *self;
+        let number = reason.number();
+        let kind = Part::new("kind", reason.kind());
+        let slot = Part::new("slot", self.slot.map(usize::from));
+        let rec = Part::new("record", self.rec);
+        let reference = Part::new("reference", self.reference);
+        write!(
+            f,
+            "refused {number} {reason}{kind} file {file}{slot}{rec}{reference}"
+        )
+    }
+}
+
+/// A part of a fault's text: a label and a number, or nothing where there is no number.
+#[derive(Clone, Copy)]
+struct Part {
+    label: &'static str,
+    number: Option<usize>,
+}
+
+impl Part {
+    fn new(label: &'static str, number: Option<usize>) -> Self
+        ensures label { result.label.now ≡ label.now }
+        ensures number { result.number ≡ number }
+    {
+        Part { label, number }
+    }
+}
+
+impl fmt::Display for Part {
+    ghost output = { λ part. Some (part_text part.label.now part.number) };
+
+    fn fmt<W: fmt::Write>(&self, f: &mut fmt::Formatter<W>) -> fmt::Result {
+        match self.number {
+            Some(number) => {
+                let label = self.label;
+                write!(f, " {label} {number}")
+            }
+            None => Ok(()),
+        }
+    }
+}

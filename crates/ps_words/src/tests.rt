@@ -1,0 +1,99 @@
+use crate::{BLOCK_SIZE, Edit, Fault, Order, Reason, blocks_of, get, get_big, put, put_big};
+use std::test::Fail;
+
+#[test]
+fn words_stand_in_either_order(rt: HostRuntime) {
+    let mut bytes = [0x0A, 0x02, 0x77];
+    assert_eq!(rt; get(Order::Little, &bytes, 0), 522);
+    assert_eq!(rt; get(Order::Big, &bytes, 0), 2562);
+    put(Order::Little, &mut bytes, 1, 522);
+    assert_eq!(rt; bytes, [0x0A, 0x0A, 0x02]);
+    put(Order::Big, &mut bytes, 1, 522);
+    assert_eq!(rt; bytes, [0x0A, 0x02, 0x0A]);
+}
+
+#[test]
+fn big_operands_have_one_form(rt: HostRuntime) {
+    assert_eq!(rt; get_big(&[0x81, 0x02], 0), 258);
+    assert_eq!(rt; get_big(&[0x01, 0x02], 0), 258, "bit 7 is not looked at");
+    let mut bytes = [0xAB, 0, 0, 0xAB];
+    put_big(&mut bytes, 1, 258);
+    assert_eq!(rt; bytes, [0xAB, 0x81, 0x02, 0xAB]);
+}
+
+#[test]
+fn blocks_are_rounded_up(rt: HostRuntime) {
+    for (len, want) in [(0, 0), (1, 1), (BLOCK_SIZE, 1), (513, 2)] {
+        assert_eq!(rt; blocks_of(len), want, "at {len}");
+    }
+    assert_eq!(rt; blocks_of(usize::MAX), 1 << 55);
+}
+
+#[test]
+fn a_fault_of_an_entry_that_is_no_unit(rt: HostRuntime) -> Result<(), Fail> {
+    let fault = Fault {
+        reason: Reason::NotAUnit { kind: 5 },
+        file: 1,
+        slot: Some(7),
+        rec: None,
+        reference: None,
+    };
+    let text = fault.to_string(rt.alloc())?;
+    assert_eq!(rt; text.as_str(), "refused 14 NotAUnit kind 5 file 1 slot 7");
+    Ok(())
+}
+
+#[test]
+fn a_fault_of_a_file(rt: HostRuntime) -> Result<(), Fail> {
+    let fault = Fault {
+        reason: Reason::ShortFile,
+        file: 12,
+        slot: None,
+        rec: None,
+        reference: None,
+    };
+    let text = fault.to_string(rt.alloc())?;
+    assert_eq!(rt; text.as_str(), "refused 1 ShortFile file 12");
+    Ok(())
+}
+
+#[test]
+fn a_fault_of_a_reference(rt: HostRuntime) -> Result<(), Fail> {
+    let fault = Fault {
+        reason: Reason::Overlap,
+        file: 0,
+        slot: Some(15),
+        rec: Some(0),
+        reference: Some(65534),
+    };
+    let text = fault.to_string(rt.alloc())?;
+    assert_eq!(rt;
+        text.as_str(),
+        "refused 33 Overlap file 0 slot 15 record 0 reference 65534"
+    );
+    let reason = fault.reason.to_string(rt.alloc())?;
+    assert_eq!(rt; reason.as_str(), "Overlap");
+    assert_eq!(rt; fault.reason.number(), 33);
+    assert_eq!(rt; fault.reason.name(), "Overlap");
+    Ok(())
+}
+
+#[test]
+fn edits_are_compared_by_what_they_store(rt: HostRuntime) {
+    let edit = Edit::Word {
+        place: 4,
+        value: 18,
+    };
+    assert!(rt;
+        edit == Edit::Word {
+            place: 4,
+            value: 18
+        }
+    );
+    assert!(rt;
+        edit != Edit::Big {
+            place: 4,
+            value: 18
+        }
+    );
+}
