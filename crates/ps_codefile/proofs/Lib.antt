@@ -1,1 +1,3 @@
 pub mod Alls
+pub mod Bits
+pub mod Tables

@@ -1,2 +1,3 @@
 pub mod Dictionary
 pub mod Procedures
+pub mod Places

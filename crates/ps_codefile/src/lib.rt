@@ -3,6 +3,9 @@
 
 mod dictionary;
 mod entry;
+mod places;
+mod procedures;
 
 pub use dictionary::Dict;
 pub use entry::{Entry, Role};
+pub use procedures::Procs;

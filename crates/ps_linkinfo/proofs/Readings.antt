@@ -1,5 +1,5 @@
 -- Link information has one reading.
-use Rattle.std.proofs.Common.{◌≡◌, ℕ, ◌+◌, ◌≤◌, List, [], ◌∷◌, ◌++◌, length, drop, false, Some, None, sym, ◌∙◌, ap, subst, arith}
+use Rattle.std.proofs.Common.{◌≡◌, ℕ, ◌+◌, ◌≤◌, List, [], ◌∷◌, length, drop, false, Some, None, sym, ◌∙◌, ap, subst, arith}
 use Rattle.std.specs.List.{AllByRecursion}
 use Rattle.ps_words.specs.Words.{word_at}
 use Rattle.ps_words.specs.declared.order.Order.{Order}
@@ -46,11 +46,6 @@ no_fault order x (PrivRef words refs) h w = let len = ap length h.2 ∙ refs_len
 no_fault order x (PublDef value) h w = let k = h.0 in grind (arith, nat_tests)
 no_fault order x (ConstDef value) h w = let k = h.0 in grind (arith, nat_tests)
 no_fault order x (Eof next) h w = let k = h.0 in grind (arith, nat_tests)
-
--- no fault stands at the front of what begins with a record
-pub first_stands : (order : Order) (bytes : List ℕ) (rs : List Record) (r : Record) → AreSpelled order bytes (rs ++ r ∷ []) → bad order bytes ≡ None
-first_stands order bytes [] r h = no_fault order bytes r.body h.0.body h.0.whole
-first_stands order bytes (x ∷ rs) r h = no_fault order bytes x.body h.0.body h.0.whole
 
 -- what stops is no list
 pub not_both : (order : Order) (bytes : List ℕ) (rs ss : List Record) (why : Reason) → AreSpelled order bytes rs → AllByRecursion (λ r. is_eof r ≡ false) rs → bad order (drop (used_by rs) bytes) ≡ Some why → AreSpelled order bytes ss → EndsOnce ss → ⊥

@@ -1,10 +1,9 @@
 -- Rows of records.
-use Rattle.std.proofs.Common.{◌≡◌, ℕ, ◌+◌, List, [], ◌∷◌, ◌++◌, drop, true, false, sym, ◌∙◌, ap, zero-add}
+use Rattle.std.proofs.Common.{◌≡◌, ℕ, ◌+◌, List, [], ◌∷◌, ◌++◌, drop, sym, ◌∙◌, ap, zero-add}
 use Rattle.std.proofs.lemmas.List.{drop-drop}
 use Rattle.std.proofs.lemmas.List.Sums.{sum_by-append}
-use Rattle.std.specs.List.{AllByRecursion}
 use Rattle.ps_words.specs.declared.order.Order.{Order}
-use Rattle.ps_linkinfo.specs.Records.{AreSpelled, BeginsWith, EndsOnce, is_eof, size_of, used_by}
+use Rattle.ps_linkinfo.specs.Records.{AreSpelled, BeginsWith, size_of, used_by}
 use Rattle.ps_linkinfo.specs.declared.record.LinkRecord.{LinkRecord as Record}
 
 pub used_cons : (x : Record) (rs : List Record) → used_by (x ∷ rs) ≡ size_of x + used_by rs
@@ -22,12 +21,3 @@ spelled_more order bytes (x ∷ rs) r h b =
 
 pub used_more : (rs : List Record) (r : Record) → used_by (rs ++ r ∷ []) ≡ used_by rs + size_of r
 used_more rs r = sum_by-append size_of rs (r ∷ []) ∙ ap (λ (n : ℕ). used_by rs + n) (zero-add (size_of r))
-
-pub ends_once : (rs : List Record) (r : Record) → AllByRecursion (λ x. is_eof x ≡ false) rs → is_eof r ≡ true → EndsOnce (rs ++ r ∷ [])
-ends_once [] r h e = e
-ends_once (x ∷ []) r h e = (h.0, e)
-ends_once (x ∷ y ∷ rs) r h e = (h.0, ends_once (y ∷ rs) r h.1 e)
-
-pub goes_more : (rs : List Record) (r : Record) → AllByRecursion (λ x. is_eof x ≡ false) rs → is_eof r ≡ false → AllByRecursion (λ x. is_eof x ≡ false) (rs ++ r ∷ [])
-goes_more [] r h e = (e, tt)
-goes_more (x ∷ rs) r h e = (h.0, goes_more rs r h.1 e)

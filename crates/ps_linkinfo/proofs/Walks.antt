@@ -1,5 +1,5 @@
 -- Walks over link information.
-use Rattle.std.proofs.Common.{◌≡◌, ℕ, zero, suc, ◌+◌, ◌/◌, ◌-◌, ◌≤◌, List, [], ◌∷◌, ◌++◌, length, length-drop, drop, Bool, true, false, Option, Some, None, Result, Ok, Err, refl, sym, ◌∙◌, ap, subst, arith}
+use Rattle.std.proofs.Common.{◌≡◌, ℕ, zero, suc, ◌+◌, ◌/◌, ◌-◌, ◌≤◌, List, [], ◌∷◌, ◌++◌, length, length-drop, drop, map, Bool, true, false, Option, Some, None, Result, Ok, Err, refl, sym, ◌∙◌, ap, subst, arith}
 use Rattle.std.specs.List.{filter_map}
 use Rattle.std.specs.Result.{result_ok}
 use Rattle.ps_words.specs.declared.order.Order.{Order}
@@ -9,9 +9,13 @@ use Rattle.ps_linkinfo.specs.Walk.{Walk, Advances, HasGiven, left_of, start_of}
 use Rattle.ps_linkinfo.specs.Left.{items_of, items_at, left, records_left, fault_in, fault_left}
 use Rattle.ps_linkinfo.proofs.Spelled.{spelled_more, used_more, used_cons}
 use Rattle.ps_linkinfo.proofs.Readings.{record_is}
-use Rattle.ps_linkinfo.proofs.Steps.{long_enough, size_least}
+use Rattle.ps_linkinfo.proofs.Steps.{long_enough, read_end, size_least}
 use Rattle.ps_linkinfo.proofs.Stands.{begins_at}
 use Rattle.ps_linkinfo.specs.declared.record.LinkRecord.{LinkRecord as Record}
+
+-- records as items
+abbrev pub ok_items : List Record → List (Result Record Reason)
+ok_items rs = map (λ r. Ok r) rs
 
 oks_of_items : (rs : List Record) (why : Option Reason) → filter_map result_ok (items_of (rs, why)) ≡ rs
 oks_of_items [] None = refl
@@ -102,3 +106,58 @@ one_row order bytes (r ∷ rs) (s ∷ ss) h k e =
 
 pub given_one : (w : Walk) (rs others : List Record) → HasGiven w rs → HasGiven w others → others ≡ rs
 given_one w rs others h k = one_row w.order w.bytes rs others h.spelled k.spelled (sym h.used ∙ k.used)
+
+pub ok_more : (rs : List Record) (r : Record) (is : List (Result Record Reason)) → ok_items (rs ++ r ∷ []) ++ is ≡ ok_items rs ++ Ok r ∷ is
+ok_more [] r is = refl
+ok_more (x ∷ rs) r is = ap (λ (xs : List (Result Record Reason)). Ok x ∷ xs) (ok_more rs r is)
+
+-- items that are records alone are a reading without a fault
+pub records_alone : (rs ss : List Record) (why : Option Reason) → ok_items rs ≡ items_of (ss, why) → (ss ≡ rs) × (why ≡ None)
+records_alone [] [] None h = (refl, refl)
+records_alone [] [] (Some why) h = cc
+records_alone [] (s ∷ ss) why h = cc
+records_alone (r ∷ rs) [] None h = cc
+records_alone (r ∷ rs) [] (Some why) h = cc
+records_alone (r ∷ rs) (s ∷ ss) why h =
+    let rest = records_alone rs ss why (cc) in
+    ((let e = rest.0 in cc), rest.1)
+
+-- and a fault among them is that of the reading
+pub records_and_fault : (rs ss : List Record) (why : Reason) (w : Option Reason) (is : List (Result Record Reason)) → ok_items rs ++ Err why ∷ is ≡ items_of (ss, w) → (ss ≡ rs) × (w ≡ Some why)
+records_and_fault [] [] why None is h = cc
+records_and_fault [] [] why (Some v) is h = (refl, (let e : v ≡ why = cc in ap (λ (x : Reason). Some x) e))
+records_and_fault [] (s ∷ ss) why w is h = cc
+records_and_fault (r ∷ rs) [] why None is h = cc
+records_and_fault (r ∷ rs) [] why (Some v) is h = cc
+records_and_fault (r ∷ rs) (s ∷ ss) why w is h =
+    let rest = records_and_fault rs ss why w is (cc) in
+    ((let e = rest.0 in cc), rest.1)
+
+-- what is given next is the first of what is left
+pub given_next : (rs : List Record) (w v : Walk) (i j : Result Record Reason) (all : List (Result Record Reason)) → left w ≡ i ∷ left v → i ≡ j → ok_items rs ++ left w ≡ all → ok_items rs ++ j ∷ left v ≡ all
+given_next rs w v i j all first is items =
+    let now : j ∷ left v ≡ left w = sym (first ∙ ap (λ (k : Result Record Reason). k ∷ left v) is) in
+    ap (λ (xs : List (Result Record Reason)). ok_items rs ++ xs) now ∙ items
+
+-- a reading whose items are these
+pub reading_alone : (rs : List Record) (read : List Record × Option Reason) → ok_items rs ≡ items_of read → read ≡ (rs, None)
+reading_alone rs read h =
+    let p = records_alone rs read.0 read.1 h in
+    ap (λ (ss : List Record). (ss, read.1)) p.0 ∙ ap (λ (w : Option Reason). (rs, w)) p.1
+
+pub reading_and_fault : (rs : List Record) (why : Reason) (is : List (Result Record Reason)) (read : List Record × Option Reason) → ok_items rs ++ Err why ∷ is ≡ items_of read → read ≡ (rs, Some why)
+reading_and_fault rs why is read h =
+    let p = records_and_fault rs read.0 why read.1 is h in
+    ap (λ (ss : List Record). (ss, read.1)) p.0 ∙ ap (λ (w : Option Reason). (rs, w)) p.1
+
+-- where the items have a record, one stands at the front
+pub stands_first : (order : Order) (bytes : List ℕ) (rs : List Record) (r : Record) (is : List (Result Record Reason)) → ok_items rs ++ Ok r ∷ is ≡ items_of (reading order bytes) → bad order bytes ≡ None
+stands_first order bytes rs r is h = at (bad order bytes) refl
+  where
+    no_record : (why : Reason) (xs : List Record) → ok_items xs ++ Ok r ∷ is ≡ Err why ∷ [] → ⊥
+    no_record why [] e = cc
+    no_record why (x ∷ xs) e = cc
+
+    at : (b : Option Reason) → bad order bytes ≡ b → b ≡ None
+    at None p = refl
+    at (Some why) p = absurd (no_record why rs (h ∙ ap items_of (read_end order bytes why p)))

@@ -19,3 +19,6 @@ pub use reader::{ReadStop, read_records};
 pub use record::{Body, LinkRecord};
 pub use records::Records;
 pub use refs::Refs;
+
+#[cfg(test)]
+mod tests;

@@ -2,15 +2,15 @@ ghost use Rattle.std.specs.Prelude.{◌≡◌, IfOk, IfErr, Err, None};
 ghost use Rattle.ps_linkinfo.specs.Records.{bad, IsReading, IsStop};
 ghost use Rattle.ps_linkinfo.specs.declared.reader.ReadStop.TheVariants.{Memory};
 
-use crate::front::record_from;
 use crate::record::LinkRecord;
+use crate::records::Records;
 use ps_words::{Order, Reason};
 use std::alloc::{AllocFailed, Allocator};
 
 /// Why no list of records was read.
 #[derive(Clone, Copy, Debug, PartialEq, Eq)]
 pub enum ReadStop {
-    /// In place of a record stands a fault: `rec` records stand before it, and `reason` is one of 19 to 23.
+    /// In place of a record stands a fault. `rec` records stand before it, so it is the index, from 0, of the record that could not be read. `reason` is `RecordsTruncated`, `UnknownRecord`, `NativeRecord`, `SeparateRecord` or `BadFormat`.
     Refused { rec: usize, reason: Reason },
     /// A growth of the list was refused.
     Memory,
@@ -24,10 +24,15 @@ impl<T: Drop> From<AllocFailed<T>> for ReadStop {
     }
 }
 
-/// The records up to the EOFMARK, which is the last item; what follows it is not read. The list is their only reading.
+/// The records up to the EOFMARK, which is the last item; what follows it is not read. The bytes spell this list, and no other.
 ///
-/// Refused at the first record that cannot be read, for the first reason that fits: 19 where fewer than 16 bytes are left, 20, 21 or 22 by its type, 21 or 23 by its format, 19 where its list is not whole.
-/// Memory, at a growth that was refused, only where a record stands. Nothing is reserved from a count that a record claims: the list grows by a record that was read.
+/// `Refused` at the first record that cannot be read, for the first reason that fits:
+/// - `RecordsTruncated` where fewer than 16 bytes are left, also where an EOFMARK is missing;
+/// - `UnknownRecord`, `NativeRecord` or `SeparateRecord` by its type;
+/// - `NativeRecord` for format 0, WORD, of a reference record, and `BadFormat` for another that is not its own: 1, BYTE, of a UNITREF, 2, BIG, of a PUBLREF and a PRIVREF;
+/// - `RecordsTruncated` where its list is not whole.
+///
+/// `Memory` where a growth of the list was refused, which happens only where a record stands. Nothing is reserved from a count that a record claims: the list grows by a record that was read.
 ///
 /// Source: the published II.0 Linker source; the reasons and the pieces of a list are this project's profile.
 pub fn read_records<A: Allocator + Copy>(
@@ -40,24 +45,16 @@ pub fn read_records<A: Allocator + Copy>(
     ensures memory { result ≡ Err Memory → bad order bytes.now ≡ None }
 {
     let mut records = Vec::new(alloc);
-    let mut used = 0;
-    while used <= bytes.len() {
-        match record_from(order, bytes, used) {
+    for item in Records::new(order, bytes) {
+        match item {
             Err(reason) => {
                 return Err(ReadStop::Refused {
                     rec: records.len(),
                     reason,
                 });
             }
-            Ok(record) => {
-                let ends = record.is_eof();
-                used += record.size();
-                records.push(record)?;
-                if ends {
-                    return Ok(records);
-                }
-            }
+            Ok(record) => records.push(record)?,
         }
     }
-    unreachable!()
+    Ok(records)
 }

@@ -13,7 +13,7 @@ pub enum Body<'a> {
     UnitRef(Refs<'a>),
     /// PUBLREF: BIG operands to which the value of the host's public variable is added.
     PublRef(Refs<'a>),
-    /// PRIVREF: a private variable of the segment, of so many words, and the BIG operands to which its base offset is added.
+    /// PRIVREF: a private variable of the segment, of `words` words, 0 to 65535, and the BIG operands to which its base offset is added.
     PrivRef { words: u16, refs: Refs<'a> },
     /// PUBLDEF: a public variable of the host, and its base offset in words.
     PublDef(u16),

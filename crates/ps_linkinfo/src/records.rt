@@ -8,10 +8,10 @@ use crate::record::LinkRecord;
 use ps_words::{Order, Reason};
 use std::marker::Model;
 
-/// The records one by one, up to the EOFMARK, then the fault that stands in place of a record, if any, and then None for ever.
-/// It takes no memory, and gives at most one item for each 16 bytes, and one more.
+/// The records one by one, up to and with the EOFMARK or up to the first fault, which is an item too; then None for ever.
+/// It takes no memory, and of n bytes it gives at most n / 16 + 1 items.
 ///
-/// Each record that is given stands at `used`; a fault is 19 where fewer than 16 bytes are left, 20, 21 or 22 by the record's type, 21 or 23 by its format, 19 where its list is not whole.
+/// The records and the fault are those of [`read_records`](crate::read_records): a fault is `RecordsTruncated`, `UnknownRecord`, `NativeRecord`, `SeparateRecord` or `BadFormat`, and its record's index is the number of records given before it.
 ///
 /// Source: the published II.0 Linker source; the reasons are this project's profile.
 #[derive(Debug, Drop)]

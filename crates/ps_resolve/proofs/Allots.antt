@@ -22,14 +22,14 @@ module _ (slot rec next : ℕ) (seen : List (List ℕ)) (ps : List Private) (r :
   skip_fault h = rw (h, private_fault) refl
 
   pub more_privates : (w : ℕ) → words_in r.body ≡ Some w
-    → ps ++ allotted slot rec next (r ∷ rs) ≡ (ps ++ record { slot = slot; rec = rec; name = r.name; offset = next; words = w } ∷ []) ++ allotted slot (rec + 1) (next + w) rs
+      → ps ++ allotted slot rec next (r ∷ rs) ≡ (ps ++ record { slot = slot; rec = rec; name = r.name; offset = next; words = w } ∷ []) ++ allotted slot (rec + 1) (next + w) rs
   more_privates w h = rw (h, allotted) (sym (append_assoc ps (record { slot = slot; rec = rec; name = r.name; offset = next; words = w } ∷ []) (allotted slot (rec + 1) (next + w) rs)))
 
   pub more_words : (w : ℕ) → words_in r.body ≡ Some w → words_of (r ∷ rs) ≡ w + words_of rs
   more_words w h = rw (h, words_of) refl
 
   pub more_fault : (w : ℕ) → words_in r.body ≡ Some w → list_any (bytes_eq r.name) seen ≡ false → next + w ≤ 32767
-    → private_fault rec next seen (r ∷ rs) ≡ private_fault (rec + 1) (next + w) (seen ++ r.name ∷ []) rs
+      → private_fault rec next seen (r ∷ rs) ≡ private_fault (rec + 1) (next + w) (seen ++ r.name ∷ []) rs
   more_fault w h k le = rw (h, private_fault) (rw (k, fits_test (next + w) le) refl)
 
   pub more_length : (w : ℕ) → words_in r.body ≡ Some w → length ps < length (ps ++ allotted slot rec next (r ∷ rs))

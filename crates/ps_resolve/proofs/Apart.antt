@@ -28,7 +28,7 @@ behind e f es le once lt =
     let first : covers p e ≡ true = in_it e p le lt in
     let second : covers p f ≡ true = in_it f p (omega arith) (omega (arith, wide f)) in
     let count : count_by (covers p) (e ∷ f ∷ es) ≡ 1 + (1 + count_by (covers p) es) =
-      one_more (covers p) e (f ∷ es) ∙ rw first (ap (λ (n : ℕ). 1 + n) (one_more (covers p) f es ∙ rw second refl)) in
+    one_more (covers p) e (f ∷ es) ∙ rw first (ap (λ (n : ℕ). 1 + n) (one_more (covers p) f es ∙ rw second refl)) in
     omega (arith, once p)
 
 not_lt : (a b : ℕ) → (b < a → ⊥) → a ≤ b
@@ -38,10 +38,10 @@ pub apart_from : (es : List Edit) (from : ℕ) → ((d : Edit) → 0 < length es
 apart_from [] from low rise once = tt
 apart_from (e ∷ []) from low rise once = (low e (omega arith), tt)
 apart_from (e ∷ f ∷ es) from low rise once = (
-    low e (omega arith),
-    apart_from (f ∷ es) (place_of e + width e) (λ d h. not_lt (place_of e + width e) (place_of f) (behind e f es (rise 0 1 e (omega arith) (omega arith)) once)) (IsNonDecreasingBy-drop place_of 1 (e ∷ f ∷ es) rise)
+  low e (omega arith),
+  apart_from (f ∷ es) (place_of e + width e) (λ d h. not_lt (place_of e + width e) (place_of f) (behind e f es (rise 0 1 e (omega arith) (omega arith)) once)) (IsNonDecreasingBy-drop place_of 1 (e ∷ f ∷ es) rise)
       (λ p. omega (arith, one_more (covers p) e (f ∷ es), once p)),
-  )
+)
 
 pub apart : (es fs : List Edit) → IsPermutation es fs → IsNonDecreasingBy place_of fs → ((p : ℕ) → count_by (covers p) es ≤ 1) → AreApart 0 fs
 apart es fs same rise once = apart_from fs 0 (λ d h. omega arith) rise (λ p. omega (arith, sum_by-IsPermutation (λ e. cond (covers p e) 1 0) es fs same, once p))

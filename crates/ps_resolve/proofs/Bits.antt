@@ -19,12 +19,13 @@ unfolding has
 tested words p = ap (λ (n : ℕ). n == 1) (shr_and_one (get_or words (p / 64) 0) (p % 64))
 
 pub added : (words : List ℕ) (p q : ℕ) → length words ≡ 512 → p < 32768 → q < 32768
-  → has (set words (p / 64) (bit_or (get_or words (p / 64) 0) (1 * 2 ^ (p % 64) % 2 ^ 64))) q ≡ (q == p || has words q)
+    → has (set words (p / 64) (bit_or (get_or words (p / 64) 0) (1 * 2 ^ (p % 64) % 2 ^ 64))) q ≡ (q == p || has words q)
 unfolding has
 added words p q len h k = at (q / 64 == p / 64) refl (q == p) refl
   where
     w : ℕ
     w = bit_or (get_or words (p / 64) 0) (1 * 2 ^ (p % 64) % 2 ^ 64)
+
     at : (s : Bool) → (q / 64 == p / 64) ≡ s → (e : Bool) → (q == p) ≡ e → has (set words (p / 64) w) q ≡ (q == p || has words q)
     at true s true e =
         let same : q ≡ p = eqb-true q p e in

@@ -21,7 +21,7 @@ in_front slot (r ∷ rs) rec next tail h = at (words_in r.body) refl (λ rec nex
     at (Some w) e again =
         let same : words_of (r ∷ rs) ≡ w + words_of rs = rw (e, words_of) refl in
         rw (e, allotted) (follow_cons next (record { slot = slot; rec = rec; name = r.name; offset = next; words = w }) (allotted slot (rec + 1) (next + w) rs ++ tail) refl
-          (again (rec + 1) (next + w) (λ k d lt. h k d lt ∙ omega (arith, same))))
+        (again (rec + 1) (next + w) (λ k d lt. h k d lt ∙ omega (arith, same))))
 
 pub follow : (next : ℕ) (ss : List Owner) → FollowOn next (all_allotted next ss)
 follow next [] = λ k d lt. absurd (omega arith)

@@ -26,11 +26,11 @@ pub record IsOnce (R : ℕ → Bool) (os : List (ℕ × ℕ)) : Type 0 where
   pub once : (p : ℕ) → count_by (is_in p) os ≤ 1
   pub free : (p : ℕ) → R p ≡ true → count_by (is_in p) os ≡ 0
 
-or_none : {X : Type 0} (a b : Option X) → option_or a b ≡ None → (a ≡ None) × (b ≡ None)
+pub or_none : {X : Type 0} (a b : Option X) → option_or a b ≡ None → (a ≡ None) × (b ≡ None)
 or_none None b h = (refl, h)
 or_none (Some x) b h = cc
 
-map_none : {X Y : Type 0} (f : X → Y) (o : Option X) → option_map f o ≡ None → o ≡ None
+pub map_none : {X Y : Type 0} (f : X → Y) (o : Option X) → option_map f o ≡ None → o ≡ None
 map_none f None h = refl
 map_none f (Some x) h = cc
 
@@ -58,8 +58,8 @@ none_at (Base base) x q h p k =
     at true s g i = let same : x ≡ p = eqb-true x p s in subst (λ (n : ℕ). q n ≡ false) same g
     at false s g i = let same : x + 1 ≡ p = grind (arith, nat_tests) in subst (λ (n : ℕ). q n ≡ false) same i
 
-reasons_none : (a b c d : Bool) (r s t u : Reason) → option_or (fault_if a r) (option_or (fault_if b s) (option_or (fault_if c t) (fault_if d u))) ≡ None
-  → (a ≡ false) × (b ≡ false) × (c ≡ false) × (d ≡ false)
+pub reasons_none : (a b c d : Bool) (r s t u : Reason) → option_or (fault_if a r) (option_or (fault_if b s) (option_or (fault_if c t) (fault_if d u))) ≡ None
+    → (a ≡ false) × (b ≡ false) × (c ≡ false) × (d ≡ false)
 reasons_none true b c d r s t u h = cc
 reasons_none false true c d r s t u h = cc
 reasons_none false false true d r s t u h = cc
@@ -75,10 +75,13 @@ once_more R code t x os h o = record {
   where
     places : List ℕ
     places = range_with_len x (width_of t)
+
     e : (nat_lt (length code) (x + width_of t) ≡ false) × (list_any R places ≡ false) × (list_any (λ p. list_any (is_in p) os) places ≡ false) × (nat_lt 32767 (value_of code t x) ≡ false)
     e = reasons_none (nat_lt (length code) (x + width_of t)) (list_any R places) (list_any (λ p. list_any (is_in p) os) places) (nat_lt 32767 (value_of code t x)) reason.OutsideCode reason.ReservedPlace reason.Overlap reason.OperandTooLarge h
+
     more : (p : ℕ) → count_by (is_in p) (os ++ (x, width_of t) ∷ []) ≡ count_by (is_in p) os + cond (is_in p (x, width_of t)) 1 0
     more p = sum_by_push (λ y. cond (is_in p y) 1 0) os (x, width_of t)
+
     one : (p : ℕ) (b : Bool) → is_in p (x, width_of t) ≡ b → count_by (is_in p) os ≤ 1 → count_by (is_in p) (os ++ (x, width_of t) ∷ []) ≤ 1
     one p true k le =
         let zero = count_none (is_in p) os (none_at t x (λ p. list_any (is_in p) os) e.2 p k) in
@@ -87,6 +90,7 @@ once_more R code t x os h o = record {
     one p false k le =
         let is : ◌≡◌ {A = ℕ} (cond {A = ℕ} (is_in p (x, width_of t)) 1 0) 0 = ap (λ (b : Bool). cond {A = ℕ} b 1 0) k in
         omega (arith, more p, is)
+
     none : (p : ℕ) → R p ≡ true → (b : Bool) → is_in p (x, width_of t) ≡ b → count_by (is_in p) os ≡ 0 → count_by (is_in p) (os ++ (x, width_of t) ∷ []) ≡ 0
     none p r true k z = let no = none_at t x R e.1 p k in cc
     none p r false k z =
@@ -130,28 +134,11 @@ counts_are known code p [] off = refl
 counts_are known code p (r ∷ rs) off = at (target_of known off r) refl (counts_are known code p rs (off + words_taken r.body))
   where
     at : (a : Result Target Reason) → target_of known off r ≡ a → count_by (covers p) (records_edits known code (off + words_taken r.body) rs) ≡ count_by (is_in p) (all_operands known (off + words_taken r.body) rs)
-      → count_by (covers p) (records_edits known code off (r ∷ rs)) ≡ count_by (is_in p) (all_operands known off (r ∷ rs))
+        → count_by (covers p) (records_edits known code off (r ∷ rs)) ≡ count_by (is_in p) (all_operands known off (r ∷ rs))
     at (Err why) k rest = rw (k, record_edits, all_operands) rest
     at (Ok t) k rest = rw (k, record_edits, all_operands)
-      (sum_by-append (λ e. cond (covers p e) 1 0) (map (edit_of code t) (refs_of r.body)) (records_edits known code (off + words_taken r.body) rs)
+        (sum_by-append (λ e. cond (covers p e) 1 0) (map (edit_of code t) (refs_of r.body)) (records_edits known code (off + words_taken r.body) rs)
         ∙ (let a = same_counts code t p (refs_of r.body) in rw (a, rest) (sym (sum_by-append (λ e. cond (is_in p e) 1 0) (operands t (refs_of r.body)) (all_operands known (off + words_taken r.body) rs)))))
 
 pub none_once : (R : ℕ → Bool) → IsOnce R []
 none_once R = record { once = λ p. omega arith; free = λ p r. refl }
-
--- with the number of the segment, whose place is reserved
-pub own_once : (R : ℕ → Bool) (known : Known) (code : List ℕ) (rs : List Record) (off place slot : ℕ) → R place ≡ true → IsOnce R (all_operands known off rs)
-  → (p : ℕ) → count_by (covers p) (Byte place slot ∷ records_edits known code off rs) ≤ 1
-own_once R known code rs off place slot r o p = at (covers p (Byte place slot)) refl
-  where
-    more : count_by (covers p) (Byte place slot ∷ records_edits known code off rs) ≡ cond (covers p (Byte place slot)) 1 0 + count_by (is_in p) (all_operands known off rs)
-    more = one_more (covers p) (Byte place slot) (records_edits known code off rs) ∙ ap (λ (n : ℕ). cond (covers p (Byte place slot)) 1 0 + n) (counts_are known code p rs off)
-    at : (b : Bool) → covers p (Byte place slot) ≡ b → count_by (covers p) (Byte place slot ∷ records_edits known code off rs) ≤ 1
-    at true k =
-        let same : place ≡ p = grind (arith, nat_tests) in
-        let zero = o.free p (subst (λ (n : ℕ). R n ≡ true) same r) in
-        let is : ◌≡◌ {A = ℕ} (cond {A = ℕ} (covers p (Byte place slot)) 1 0) 1 = ap (λ (b : Bool). cond {A = ℕ} b 1 0) k in
-        omega (arith, more, zero, is)
-    at false k =
-        let is : ◌≡◌ {A = ℕ} (cond {A = ℕ} (covers p (Byte place slot)) 1 0) 0 = ap (λ (b : Bool). cond {A = ℕ} b 1 0) k in
-        omega (arith, more, is, o.once p)

@@ -41,15 +41,15 @@ module _ (known : Known) (R : ℕ → Bool) (code : List ℕ) (rec off : ℕ) (o
   record_refused why h = rw (h, records_fault) refl
 
   pub references_refused : (t : Target) (stop : RecordStop) → target_of known off r ≡ Ok t → FindsOne (Err stop) (option_map (λ f. (rec, (Some f.0, f.1))) (refs_fault R code t 0 os (refs_of r.body)))
-    → FindsOne (Err stop) (records_fault known R code rec off os (r ∷ rs))
+      → FindsOne (Err stop) (records_fault known R code rec off os (r ∷ rs))
   references_refused t stop h k = rw (h, records_fault) (finds_first stop _ _ k)
 
   pub record_by : (t : Target) → target_of known off r ≡ Ok t → records_fault known R code rec off os (r ∷ rs)
-    ≡ option_or (option_map (λ f. (rec, (Some f.0, f.1))) (refs_fault R code t 0 os (refs_of r.body))) (records_fault known R code (rec + 1) (off + words_taken r.body) (os ++ operands t (refs_of r.body)) rs)
+      ≡ option_or (option_map (λ f. (rec, (Some f.0, f.1))) (refs_fault R code t 0 os (refs_of r.body))) (records_fault known R code (rec + 1) (off + words_taken r.body) (os ++ operands t (refs_of r.body)) rs)
   record_by t h = rw (h, records_fault) refl
 
   pub record_stands : (t : Target) → target_of known off r ≡ Ok t → refs_fault R code t 0 os (refs_of r.body) ≡ None
-    → records_fault known R code rec off os (r ∷ rs) ≡ records_fault known R code (rec + 1) (off + words_taken r.body) (os ++ operands t (refs_of r.body)) rs
+      → records_fault known R code rec off os (r ∷ rs) ≡ records_fault known R code (rec + 1) (off + words_taken r.body) (os ++ operands t (refs_of r.body)) rs
   record_stands t h k = rw (h, records_fault) (rw k refl)
 
   pub edits_more : (es : List Edit) (t : Target) → target_of known off r ≡ Ok t → es ++ records_edits known code off (r ∷ rs) ≡ (es ++ map (edit_of code t) (refs_of r.body)) ++ records_edits known code (off + words_taken r.body) rs

@@ -22,8 +22,8 @@ operands_one t os xs i h = ap (λ (zs : List (ℕ × ℕ)). os ++ zs) (map_one (
 
 -- a reference that stands is passed over
 pub fault_one : (R : ℕ → Bool) (code : List ℕ) (t : Target) (os : List (ℕ × ℕ)) (xs : List ℕ) (i : ℕ) → i < length xs
-  → reference_reason R code (os ++ operands t (take i xs)) t (get_or xs i 0) ≡ None
-  → refs_fault R code t i (os ++ operands t (take i xs)) (drop i xs) ≡ refs_fault R code t (i + 1) (os ++ operands t (take (i + 1) xs)) (drop (i + 1) xs)
+    → reference_reason R code (os ++ operands t (take i xs)) t (get_or xs i 0) ≡ None
+    → refs_fault R code t i (os ++ operands t (take i xs)) (drop i xs) ≡ refs_fault R code t (i + 1) (os ++ operands t (take (i + 1) xs)) (drop (i + 1) xs)
 fault_one R code t os xs i h none =
     ap (λ (ys : List ℕ). refs_fault R code t i (os ++ operands t (take i xs)) ys) (drop_one xs i h)
     ∙ ap (λ (o : Option Reason). option_or (option_map (λ why. (i, why)) o) (refs_fault R code t (i + 1) ((os ++ operands t (take i xs)) ++ (get_or xs i 0, width_of t) ∷ []) (drop (i + 1) xs))) none

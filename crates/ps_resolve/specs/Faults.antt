@@ -91,8 +91,8 @@ code_fault order host libs slot role at =
     let file = file_at host libs at.0 in
     let e = entry_at order file at.1 in
     elim (code_of file e) [
-      Err why ↦ Some (in_slot at.0 slot why)
-    | Ok code ↦ if is_linked role then option_or (option_map (in_slot at.0 slot) (tables_fault order code (is_host role))) (information_fault order file e at.0 slot) else None
+      | Err why ↦ Some (in_slot at.0 slot why)
+      | Ok code ↦ if is_linked role then option_or (option_map (in_slot at.0 slot) (tables_fault order code (is_host role))) (information_fault order file e at.0 slot) else None
     ]
 
 abbrev pub source_fault : Order → List ℕ → List (List ℕ) → ℕ → Option Fault
@@ -111,9 +111,12 @@ unfoldable pub privates_fault : List Segment → Option Fault
 privates_fault segs = first_private_fault (next_of (host_records segs)) (map owner_of segs)
 
 -- 8. the host's data size
+abbrev pub size_fault : Order → ℕ → Segment → Option Fault
+size_fault order words s =
+    option_and_then (λ t. fault_if (nat_lt 65535 (grown_data_size order s.code words t)) (in_slot 0 s.slot reason.DataTooLarge)) (table_of order s.code 1)
+
 unfoldable pub data_fault : Order → List Segment → Option Fault
-data_fault order segs =
-    option_and_then (λ s. option_and_then (λ t. fault_if (nat_lt 65535 (grown_data_size order s.code (total_words segs) t)) (in_slot 0 s.slot reason.DataTooLarge)) (table_of order s.code 1)) (host_of segs)
+data_fault order segs = option_and_then (size_fault order (total_words segs)) (host_of segs)
 
 -- 9. the references of each segment, of which those behind one segment's are looked at with the offset of the privates behind its own
 abbrev pub in_segment : ℕ → ℕ → ℕ × (Option ℕ × Reason) → Fault

@@ -13,3 +13,7 @@ pub mod Linking
 pub mod Faults
 pub mod Plans
 pub mod Views
+pub mod First
+pub mod Standing
+pub mod Linkable
+pub mod Names

@@ -8,7 +8,7 @@ use Rattle.ps_words.specs.declared.order.Order.{Order}
 use Rattle.ps_words.specs.declared.edit.Edit.{Edit}
 use Rattle.ps_words.specs.declared.edit.Edit.TheVariants.{Byte, Word}
 use Rattle.ps_codefile.specs.Procedures.{table_of}
-use Rattle.ps_resolve.specs.Sources.{Segment, is_linked, is_host, host_records, units_of}
+use Rattle.ps_resolve.specs.Sources.{Segment, is_linked, is_host, host_of, host_records, units_of}
 use Rattle.ps_resolve.specs.Symbols.{definitions}
 use Rattle.ps_resolve.specs.Privates.{words_of, next_of, total_words}
 use Rattle.ps_resolve.specs.References.{Known, records_edits}
@@ -24,6 +24,14 @@ data_place table = table - 8
 -- the data size of the host's outer block, grown by two bytes for each of the private words
 abbrev pub grown_data_size : Order → List ℕ → ℕ → ℕ → ℕ
 grown_data_size order code words table = word_at order code (data_place table) + 2 * words
+
+-- the grown data size of the outer block of a code, which a host's has
+abbrev pub data_size_of : Order → ℕ → List ℕ → ℕ
+data_size_of order words code = option_map_or (grown_data_size order code words) (table_of order code 1) 0
+
+-- that of the host's segment
+abbrev pub data_size : Order → List Segment → ℕ
+data_size order segs = option_map_or (λ s. data_size_of order (total_words segs) s.code) (host_of segs) 0
 
 abbrev pub data_edits : Order → ℕ → List ℕ → List Edit
 data_edits order words code =

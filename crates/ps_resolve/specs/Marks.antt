@@ -1,4 +1,5 @@
 -- What sets of places stand for, and what a walk over references found.
+-- Source: this project's profile.
 use Rattle.std.specs.Prelude.{◌≡◌, ℕ, ◌<◌, List, Bool, Option, Some, None, Result, Ok, Err, ⊤}
 use Rattle.ps_resolve.specs.Places.{has}
 use Rattle.ps_words.specs.declared.fault.Reason.{Reason}

@@ -1,4 +1,5 @@
 -- Operands that references name, and the first fault of them.
+-- Source: this project's profile; BIG operands are those of the UCSD Pascal II.0 manual.
 use Rattle.std.specs.Prelude.{◌≡◌, ℕ, zero, suc, ◌+◌, ◌&&◌, List, [], ◌∷◌, ◌++◌, length, map, Bool, true, false, nat_le, nat_lt, Option, Some, None}
 use Rattle.std.specs.List.{range_with_len, list_any}
 use Rattle.std.specs.Option.{option_map, option_or}

@@ -7,9 +7,9 @@ use Rattle.ps_words.specs.declared.edit.Edit.{Edit}
 use Rattle.ps_words.specs.declared.fault.Fault.{Fault}
 use Rattle.ps_resolve.specs.Sources.{Segment, segments, is_linked, order_of, host_records}
 use Rattle.ps_resolve.specs.Symbols.{definitions}
-use Rattle.ps_resolve.specs.Privates.{Owner, owner_of, all_allotted, next_of, total_words}
-use Rattle.ps_resolve.specs.Linking.{Edited, edited, linked_byte}
-use Rattle.ps_resolve.specs.Faults.{first_fault, reading_fault}
+use Rattle.ps_resolve.specs.Privates.{owner_of, all_allotted, next_of, total_words}
+use Rattle.ps_resolve.specs.Linking.{Edited, edited, linked_byte, data_size}
+use Rattle.ps_resolve.specs.Faults.{first_fault, linking_fault, reading_fault}
 use Rattle.ps_resolve.specs.declared.definitions.Def.{Def}
 use Rattle.ps_resolve.specs.declared.allotment.Private.{Private}
 use Rattle.ps_resolve.specs.declared.plan.Source.{Source}
@@ -54,17 +54,30 @@ LinkSegments order (e ∷ es) (d ∷ ds) = LinksSegment order e d × LinkSegment
 LinkSegments order [] (d ∷ ds) = ⊥
 LinkSegments order (e ∷ es) [] = ⊥
 
--- the plan is that of a link of these files
-pub record IsPlan (host : List ℕ) (libs : List (List ℕ)) (plan : Planned) : Type 0 where
-  pub order : plan.order ≡ order_of host
+-- the plan is that of a link of these segments, of which the host file has this content
+pub record IsPlanOf (host_order : Order) (host : List ℕ) (segs : List Segment) (plan : Planned) : Type 0 where
+  pub order : plan.order ≡ host_order
   pub of_host : plan.host ≡ host
-  pub origins : plan.origins ≡ map origin_of (segments (order_of host) host libs)
-  pub edits : LinkSegments (order_of host) (edited (order_of host) (segments (order_of host) host libs)) plan.edits
-  pub definitions : plan.definitions ≡ definitions (host_records (segments (order_of host) host libs))
-  pub private_words : plan.private_words ≡ total_words (segments (order_of host) host libs)
+  pub origins : plan.origins ≡ map origin_of segs
+  pub edits : LinkSegments host_order (edited host_order segs) plan.edits
+  pub definitions : plan.definitions ≡ definitions (host_records segs)
+  pub privates : plan.privates ≡ all_allotted (next_of (host_records segs)) (map owner_of segs)
+  pub next_free : plan.next_free ≡ next_of (host_records segs) + total_words segs
+  pub private_words : plan.private_words ≡ total_words segs
+  pub data_size : plan.data_size ≡ data_size host_order segs
+
+-- the plan is that of a link of these files
+abbrev pub IsPlan : List ℕ → List (List ℕ) → Planned → Type 0
+IsPlan host libs plan = IsPlanOf (order_of host) host (segments (order_of host) host libs) plan
+
+-- why there is no plan of a link of these segments: their first fault, or memory ran out
+abbrev pub AreStopped : Order → List Segment → Stop → Type 0
+AreStopped order segs (Refused fault) = linking_fault order segs ≡ Some fault
+AreStopped order segs Memory = ⊤
+AreStopped order segs NotYet = ⊥
 
 -- why there is no plan: the first fault of all, or memory ran out where nothing that is looked at before has a fault
 abbrev pub IsStopped : List ℕ → List (List ℕ) → Stop → Type 0
 IsStopped host libs (Refused fault) = first_fault host libs ≡ Some fault
 IsStopped host libs Memory = reading_fault host libs ≡ None
-IsStopped host libs NotYet = ⊤
+IsStopped host libs NotYet = ⊥

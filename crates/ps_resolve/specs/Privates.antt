@@ -32,8 +32,8 @@ abbrev pub allotted : ℕ → ℕ → ℕ → List Record → List Private
 allotted slot rec next [] = []
 allotted slot rec next (r ∷ rs) =
     elim (words_in r.body) [
-      None ↦ allotted slot (rec + 1) next rs
-    | Some words ↦ record { slot = slot; rec = rec; name = r.name; offset = next; words = words } ∷ allotted slot (rec + 1) (next + words) rs
+      | None ↦ allotted slot (rec + 1) next rs
+      | Some words ↦ record { slot = slot; rec = rec; name = r.name; offset = next; words = words } ∷ allotted slot (rec + 1) (next + words) rs
     ]
 
 -- the words of all of them
@@ -46,11 +46,11 @@ abbrev pub private_fault : ℕ → ℕ → List (List ℕ) → List Record → O
 private_fault rec next seen [] = None
 private_fault rec next seen (r ∷ rs) =
     elim (words_in r.body) [
-      None ↦ private_fault (rec + 1) next seen rs
-    | Some words ↦
-        if list_any (bytes_eq r.name) seen then Some (rec, reason.DoubledPrivate)
-        else (if nat_lt 32767 (next + words) then Some (rec, reason.NoRoom)
-        else private_fault (rec + 1) (next + words) (seen ++ r.name ∷ []) rs)
+      | None ↦ private_fault (rec + 1) next seen rs
+      | Some words ↦
+          if list_any (bytes_eq r.name) seen then Some (rec, reason.DoubledPrivate)
+          else (if nat_lt 32767 (next + words) then Some (rec, reason.NoRoom)
+          else private_fault (rec + 1) (next + words) (seen ++ r.name ∷ []) rs)
     ]
 
 -- that fault, where it stands; or memory ran out
@@ -85,6 +85,15 @@ abbrev pub first_private_fault : ℕ → List Owner → Option Fault
 first_private_fault next [] = None
 first_private_fault next (s ∷ ss) =
     option_or (option_map (λ f. in_record s.file s.slot f.0 f.1) (private_fault 0 next [] s.records)) (first_private_fault (next + words_of s.records) ss)
+
+-- what an allotment holds: the privates, the words of all of them, and the offset behind the last
+pub record Allotted : Type 0 where
+  pub privates : List Private
+  pub words : ℕ
+  pub next_free : ℕ
+
+abbrev pub allotment_of : ℕ → List Owner → Allotted
+allotment_of next ss = record { privates = all_allotted next ss; words = all_words ss; next_free = next + all_words ss }
 
 abbrev pub AreUnallotted : ℕ → List Owner → Stop → Type 0
 AreUnallotted next ss (Refused fault) = first_private_fault next ss ≡ Some fault

@@ -1,4 +1,5 @@
 -- The references of a segment: what their operands become, and the first fault of them.
+-- Source: the link records UNITREF, PUBLREF and PRIVREF are those of the published II.0 Linker source; which fault comes first is this project's profile.
 use Rattle.std.specs.Prelude.{◌≡◌, ℕ, ◌+◌, ◌==◌, ◌&&◌, if◌then◌else◌, List, [], ◌∷◌, ◌++◌, map, Bool, Option, Some, None, Result, Ok, Err, find, ⊤}
 use Rattle.std.specs.Option.{option_map, option_or}
 use Rattle.std.specs.Map.{lookup}
@@ -55,9 +56,9 @@ abbrev pub records_fault : Known → (ℕ → Bool) → List ℕ → ℕ → ℕ
 records_fault known reserved code rec off taken [] = None
 records_fault known reserved code rec off taken (r ∷ rs) =
     elim (target_of known off r) [
-      Err why ↦ Some (rec, (None, why))
-    | Ok t ↦ option_or (option_map (λ f. (rec, (Some f.0, f.1))) (refs_fault reserved code t 0 taken (refs_of r.body)))
-        (records_fault known reserved code (rec + 1) (off + words_taken r.body) (taken ++ operands t (refs_of r.body)) rs)
+      | Err why ↦ Some (rec, (None, why))
+      | Ok t ↦ option_or (option_map (λ f. (rec, (Some f.0, f.1))) (refs_fault reserved code t 0 taken (refs_of r.body)))
+          (records_fault known reserved code (rec + 1) (off + words_taken r.body) (taken ++ operands t (refs_of r.body)) rs)
     ]
 
 -- the edits of the records' references, in order

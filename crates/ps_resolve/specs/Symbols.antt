@@ -1,4 +1,5 @@
 -- Definitions of the host: names with their values, and the first record that defines a name again.
+-- Source: the link records PUBLDEF and CONSTDEF are those of the published II.0 Linker source; that a name is defined once is this project's profile.
 use Rattle.std.specs.Prelude.{◌≡◌, ℕ, zero, suc, ◌+◌, if◌then◌else◌, List, [], ◌∷◌, ◌++◌, length, take, Bool, true, false, Option, Some, None, is_some}
 use Rattle.std.specs.List.{filter_map, enumerate_from}
 use Rattle.std.specs.Map.{lookup}
@@ -35,8 +36,8 @@ abbrev pub doubled_from : ℕ → List (List ℕ × Def) → List Record → Opt
 doubled_from rec ds [] = None
 doubled_from rec ds (r ∷ rs) =
     elim (definition_in r) [
-      None ↦ doubled_from (rec + 1) ds rs
-    | Some d ↦ if is_some (definition_of d.0 ds) then Some rec else doubled_from (rec + 1) (ds ++ d ∷ []) rs
+      | None ↦ doubled_from (rec + 1) ds rs
+      | Some d ↦ if is_some (definition_of d.0 ds) then Some rec else doubled_from (rec + 1) (ds ++ d ∷ []) rs
     ]
 
 abbrev pub doubled : List Record → Option ℕ

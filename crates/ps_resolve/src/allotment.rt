@@ -1,25 +1,36 @@
 ghost use Rattle.std.specs.Prelude.{◌≡◌, ◌<◌, ◌≤◌, ◌+◌, ◌++◌, [], IfOk, IfErr, None, ℕ, List, map};
-ghost use Rattle.ps_resolve.specs.Offsets.{FollowOn};
+ghost use Rattle.ps_resolve.specs.Linkable.{AscendFrom};
+ghost use Rattle.ps_resolve.specs.Offsets.{FollowOn, offset_of};
 ghost use Rattle.ps_words.specs.FaultPlaces.{in_record};
 ghost use Rattle.ps_resolve.specs.declared.linkage.Stop.TheVariants.{Refused};
 ghost use Rattle.ps_linkinfo.specs.Records.{reading};
-ghost use Rattle.ps_resolve.specs.Privates.{words_in, allotted, words_of, private_fault, all_allotted, all_words, first_private_fault, owner_of_linkage, IsUnallotted, AreUnallotted, Owner};
+ghost use Rattle.ps_resolve.specs.Privates.{words_in, allotted, words_of, private_fault, all_allotted, all_words, first_private_fault, owner_of_linkage, allotment_of, IsUnallotted, AreUnallotted, Owner};
 
 use crate::keyed::Keyed;
 use crate::linkage::{Linkage, Stop};
 use indexmap::IndexSet;
-use ps_words::{Fault, Reason};
 use ps_linkinfo::{Body, Records};
+use ps_words::{Fault, Reason};
 use std::alloc::{Allocator, Global};
 use std::marker::Model;
 
-/// A private variable of a segment.
+/// The last offset that may be free behind a private, in words.
+const MAX_NEXT_FREE: usize = 32767;
+
+/// A private variable of a segment, which its PRIVREF record asks for.
+///
+/// Source: the published II.0 Linker source, the link record PRIVREF.
 #[derive(Clone, Copy, Debug, PartialEq, Eq)]
 pub struct Private {
+    /// The slot of its segment in the host's segment dictionary, 0 to 15.
     pub slot: u8,
+    /// The index, from 0, of its record in the segment's link information.
     pub rec: usize,
+    /// Its name, which no other private of its segment has.
     pub name: [u8; 8],
+    /// Its base offset in words, 0 to 32767.
     pub offset: u16,
+    /// How many words it takes, 0 to 32767.
     pub words: u16,
 }
 
@@ -29,7 +40,8 @@ fn words_of_private(body: &Body) -> Option<u16>
 {
     match body {
         Body::PrivRef { words, .. } => Some(*words),
-        Body::UnitRef(_) | Body::PublRef(_) | Body::PublDef(_) | Body::ConstDef(_) | Body::Eof(_) => None,
+        Body::UnitRef(_) | Body::PublRef(_) | Body::PublDef(_) | Body::ConstDef(_) | Body::Eof(_) =>
+            None,
     }
 }
 
@@ -68,7 +80,7 @@ fn allot<A: Allocator + Copy>(
                 if names.contains(&entry.name) {
                     return Err(refused(segment, rec, Reason::DoubledPrivate));
                 }
-                if free as usize + words as usize > 32767 {
+                if free as usize + words as usize > MAX_NEXT_FREE {
                     return Err(refused(segment, rec, Reason::NoRoom));
                 }
                 names.insert(entry.name)?;
@@ -87,20 +99,24 @@ fn allot<A: Allocator + Copy>(
     Ok(free)
 }
 
-/// The private variables of all linked segments.
+/// The private variables of all linked segments, one behind another, in the order of the segments'
+/// slots and then of the records.
 #[derive(Drop)]
 pub struct Allotment<A: Allocator = Global> {
     privates: Vec<Private, A>,
-    free: u16,
+    words: u16,
+    next_free: u16,
 }
 
 impl<A: Allocator> Model for Allotment<A> {
-    ghost use Rattle.std.specs.Prelude.{ℕ, List};
-    ghost use Rattle.ps_resolve.specs.declared.allotment.Private.{Private};
+    ghost use Rattle.ps_resolve.specs.Offsets.{RiseFrom};
+    ghost use Rattle.ps_resolve.specs.Privates.{Allotted};
 
-    ghost Value = { List Private × ℕ };
+    ghost Value = { Allotted };
 
-    ghost view = { λ a. (a.privates.items, a.free) };
+    ghost view = { λ a. record { privates = a.privates.items; words = a.words; next_free = a.next_free } };
+
+    ghost invariant = { λ a. RiseFrom 0 0 a.privates.items };
 }
 
 /// A hasher that no list of names is prepared for.
@@ -140,28 +156,68 @@ fn allot_all<A: Allocator + Copy>(
 }
 
 impl<A: Allocator + Copy> Allotment<A> {
-    /// The privates of all segments, from `next` on.
+    /// Allots the private variables that the PRIVREF records of the segments ask for, the first of
+    /// them at the base offset `next`, in words. The slots of the segments rise strictly.
+    ///
+    /// The link information has to read without a fault: up to the first fault its records are taken.
+    /// Refuses, at the first private where one of them stands, `DoubledPrivate` where an earlier one of
+    /// its segment has its name, and then `NoRoom` where the offset behind it is over 32767, with the
+    /// file and the slot of its segment. Answers `Memory` only where there is a private.
+    ///
+    /// Source: this project's profile.
     pub fn build(alloc: A, next: u16, segments: &[Linkage]) -> Result<Self, Stop>
-        ensures found { IfOk result (λ a. a ≡ (all_allotted next (map owner_of_linkage segments.now), next + all_words (map owner_of_linkage segments.now))) }
+        requires { AscendFrom 0 (map (λ s. s.slot) (map owner_of_linkage segments.now)) }
+        ensures found { IfOk result (λ a. a ≡ allotment_of next (map owner_of_linkage segments.now)) }
         ensures once { IfOk result (λ _. first_private_fault next (map owner_of_linkage segments.now) ≡ None) }
         ensures stop { IfErr result (AreUnallotted next (map owner_of_linkage segments.now)) }
     {
         match allot_all(alloc, next, segments) {
             Err(stop) => Err(stop),
-            Ok((privates, free)) => Ok(Allotment { privates, free }),
+            Ok((privates, next_free)) => Ok(Allotment {
+                privates,
+                words: next_free - next,
+                next_free,
+            }),
         }
     }
 
-    /// All of them, by segment, then record.
+    /// The base offset in words, 0 to 32767, of the private that a record asks for: the record of index
+    /// `rec`, from 0, of the segment in slot `slot`. `None` where that is no PRIVREF record.
+    pub fn offset(&self, slot: u8, rec: usize) -> Option<u16>
+        ensures { result ≡ offset_of slot rec self.now.privates }
+    {
+        let privates = self.privates.as_slice();
+        let first = privates.partition_point(|p| p.slot < slot || p.slot == slot && p.rec < rec);
+        match privates.get(first) {
+            Some(private) if private.slot == slot && private.rec == rec => Some(private.offset),
+            _ => None,
+        }
+    }
+
+    /// All of them, by slot and then by record.
     pub fn privates(&self) -> &[Private]
-        ensures { result.now ≡ self.now.0 }
+        ensures { result.now ≡ self.now.privates }
     {
         self.privates.as_slice()
     }
+
+    /// How many words all of them take, 0 to 32767.
+    pub fn words(&self) -> u16
+        ensures { result ≡ self.now.words }
+    {
+        self.words
+    }
+
+    /// The base offset in words behind the last of them: the first where there is none.
+    pub fn next_free(&self) -> u16
+        ensures range { self.now.next_free < 65536 }
+        ensures value { result ≡ self.now.next_free }
+    {
+        self.next_free
+    }
 }
 
-/// Each private begins where the words of all before it end.
+/// A law of allotments: each private begins where the words of all before it end.
 pub fn privates_follow()
     ensures { (next : ℕ) (segments : List Owner) → FollowOn next (all_allotted next segments) }
-{
-}
+{}

@@ -1,32 +1,40 @@
-ghost use Rattle.std.specs.Prelude.{◌≡◌, ◌<◌, ◌+◌, length, slice_get, slice_index, Some, None, IfOk, IfErr, OnOk, Ok};
-ghost use Rattle.std.specs.Result.{result_ok};
-ghost use Rattle.std.specs.Str.{bytes_eq};
+ghost use Rattle.std.specs.Prelude.{◌≡◌, ◌<◌, ◌==◌, length, slice_get, Some, None, IfOk, IfErr};
 ghost use Rattle.ps_linkinfo.specs.Records.{reading};
-
 ghost use Rattle.ps_resolve.specs.Symbols.{definitions, definition_of, def_in, doubled};
 ghost use Rattle.ps_resolve.specs.Stops.{IsDoubled};
 
 use crate::keyed::Keyed;
 use crate::linkage::{Linkage, Stop};
 use indexmap::IndexMap;
-use ps_words::{Fault, Reason};
 use ps_linkinfo::{Body, LinkRecord, Records};
+use ps_words::{Fault, Reason};
 use std::alloc::{Allocator, Global};
 use std::marker::Model;
 
+/// What a definition of the host's segment is of.
+///
+/// Source: the published II.0 Linker source, the link records PUBLDEF and CONSTDEF.
 #[derive(Clone, Copy, Debug, PartialEq, Eq)]
 pub enum DefKind {
+    /// A global variable of the host (PUBLDEF).
     Public,
+    /// A global constant of the host (CONSTDEF).
     Constant,
 }
 
+/// A definition of the host's segment.
 #[derive(Clone, Copy, Debug, PartialEq, Eq)]
 pub struct Def {
+    /// What it is of.
     pub kind: DefKind,
+    /// The variable's base offset in words, or the constant's value: 0 to 65535.
     pub value: u16,
 }
 
-/// The definitions of a segment, in record order.
+/// The definitions of the host's segment by their names, in the order of their records.
+///
+/// Names are looked up by a hash that is keyed by the records themselves, so no list of names can
+/// be prepared for it.
 #[derive(Drop)]
 pub struct Definitions<A: Allocator + Copy = Global> {
     by_name: IndexMap<[u8; 8], Def, Keyed, A>,
@@ -42,10 +50,10 @@ impl<A: Allocator + Copy> Model for Definitions<A> {
 }
 
 /// What a record defines.
-fn def_of(record: &LinkRecord) -> Option<Def>
-    ensures { result ≡ def_in record.now.body }
+fn def_of(entry: &LinkRecord) -> Option<Def>
+    ensures { result ≡ def_in entry.now.body }
 {
-    match &record.body {
+    match &entry.body {
         Body::PublDef(value) => Some(Def {
             kind: DefKind::Public,
             value: *value,
@@ -101,7 +109,13 @@ fn table_of<A: Allocator + Copy>(
 }
 
 impl<A: Allocator + Copy> Definitions<A> {
-    /// The definitions of the segment. Refused at the first record that defines a name again.
+    /// Reads the definitions of the host's segment, its PUBLDEF and CONSTDEF records.
+    ///
+    /// The link information has to read without a fault: up to the first fault its records are taken.
+    /// Refuses `DoubledDefinition` at the first record that defines a name again, with the file and
+    /// the slot of `host`. Answers `Memory` only where there is a definition.
+    ///
+    /// Source: the published II.0 Linker source; that a name is defined once is this project's profile.
     pub fn build(alloc: A, host: &Linkage) -> Result<Self, Stop>
         ensures found { IfOk result (λ d. d ≡ definitions (reading host.now.order host.now.bytes.now).0) }
         ensures once { IfOk result (λ _. doubled (reading host.now.order host.now.bytes.now).0 ≡ None) }
@@ -111,24 +125,35 @@ impl<A: Allocator + Copy> Definitions<A> {
         Ok(Definitions { by_name })
     }
 
-    /// The definition of a name.
+    /// The definition of the name, eight bytes; `None` where the host's segment does not define it.
     pub fn look(&self, name: &[u8; 8]) -> Option<Def>
         ensures { result ≡ definition_of name.now self.now }
     {
         self.by_name.get(name).copied()
     }
 
+    /// How many definitions there are.
     pub fn len(&self) -> usize
         ensures { result ≡ length self.now }
     {
         self.by_name.len()
     }
 
-    /// The definition at an index, in record order.
-    pub fn at(&self, i: usize) -> Option<([u8; 8], Def)>
-        ensures { result ≡ slice_get self.now i }
+    /// There is no definition.
+    pub fn is_empty(&self) -> bool
+        ensures { result ≡ (length self.now == 0) }
     {
-        let (name, def) = self.by_name.get_index(i)?;
-        Some((*name, *def))
+        self.by_name.len() == 0
+    }
+
+    /// The name and the definition of index `i`, from 0, in the order of the records; `i` is below `len`.
+    pub fn at(&self, i: usize) -> ([u8; 8], Def)
+        requires { i < length self.now }
+        ensures { slice_get self.now i ≡ Some result }
+    {
+        match self.by_name.get_index(i) {
+            None => unreachable!(),
+            Some((name, def)) => (*name, *def),
+        }
     }
 }

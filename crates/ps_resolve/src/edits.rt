@@ -1,47 +1,76 @@
-ghost use Rattle.std.specs.Prelude.{◌≡◌, ℕ, ◌<◌, ◌≤◌, ◌+◌, ◌-◌, ◌∷◌, [], Bool, length, true, IfOk, IsPermutation};
-ghost use Rattle.ps_words.specs.Edits.{AreApart};
+ghost use Rattle.std.specs.Prelude.{◌≡◌, ℕ, ◌<◌, ◌≤◌, ◌+◌, ◌-◌, ◌∷◌, ◌++◌, [], count_by, length, IfOk, IfErr, IfSome, IsPermutation};
+ghost use Rattle.std.specs.Option.{option_to_list};
+ghost use Rattle.ps_words.specs.Edits.{AreEdits, covers};
 ghost use Rattle.ps_words.specs.declared.edit.Edit.TheVariants.{Byte};
+ghost use Rattle.ps_codefile.specs.Procedures.{is_reserved};
 ghost use Rattle.ps_linkinfo.specs.Records.{reading};
-ghost use Rattle.ps_resolve.specs.Marks.{Marks};
-ghost use Rattle.ps_resolve.specs.Places.{has};
-ghost use Rattle.ps_resolve.specs.References.{records_fault, records_edits, FindsOne};
+ghost use Rattle.ps_resolve.specs.References.{records_fault, records_edits};
 ghost use Rattle.ps_resolve.specs.Privates.{words_of};
-ghost use Rattle.ps_resolve.specs.Edits.{Gives};
+ghost use Rattle.ps_resolve.specs.declared.segments.RecordStop.TheVariants.{Memory};
+ghost use Rattle.ps_resolve.specs.Edits.{Gives, IsOfTable};
 
-use crate::definitions::Definitions;
 use crate::linkage::Linkage;
-use crate::places::Places;
+use crate::names::Names;
 use crate::segments::{RecordStop, add_records};
 use crate::sorting::sort_edits;
+use ps_codefile::Procs;
 use ps_words::Edit;
 use std::alloc::Allocator;
 
-/// The edits of a segment in the order of their places: its number, and what its references become.
-pub(crate) fn edits_of<A: Allocator + Copy>(
+/// How far from the end of a linked segment's code its number stands, in bytes.
+const NUMBER_FROM_END: usize = 2;
+
+/// The edits of a linked segment that are no reference's: its number, and `own`.
+fn own_edits<A: Allocator + Copy>(
     alloc: A,
-    definitions: &Definitions<A>,
-    units: &[([u8; 8], u8)],
-    segment: &Linkage,
-    free: u16,
+    slot: u8,
     code: &[u8],
-    reserved: &Places,
+    own: Option<Edit>,
 ) -> Result<Vec<Edit, A>, RecordStop>
-    requires small { length code.now ≤ 32767 }
-    requires room { free + words_of (reading segment.now.order segment.now.bytes.now).0 ≤ 32767 }
-    requires large { 4 ≤ length code.now }
-    requires number { has reserved.now.words (length code.now - 2) ≡ true }
-    ensures same { IfOk result (λ v. IsPermutation (Byte (length code.now - 2) segment.now.slot
-        ∷ records_edits (record { definitions = definitions.now; units = units.now }) code.now free (reading segment.now.order segment.now.bytes.now).0) v.items) }
-    ensures apart { IfOk result (λ v. AreApart 0 v.items) }
-    ensures fault { (R : ℕ → Bool) → Marks (length code.now) reserved.now.words R
-        → Gives result (records_fault (record { definitions = definitions.now; units = units.now }) R code.now 0 free [] (reading segment.now.order segment.now.bytes.now).0) }
+    requires { 4 ≤ length code.now }
+    ensures items { IfOk result (λ edits. edits.items ≡ Byte (length code.now - 2) slot ∷ option_to_list own) }
+    ensures stop { IfErr result (λ stop. stop ≡ Memory) }
 {
     let mut edits = Vec::new(alloc);
     edits.push(Edit::Byte {
-        place: code.len() - 2,
-        value: segment.slot,
+        place: code.len() - NUMBER_FROM_END,
+        value: slot,
     })?;
-    add_records(definitions, units, segment, free, code, reserved, &mut edits)?;
+    match own {
+        None => Ok(edits),
+        Some(edit) => {
+            edits.push(edit)?;
+            Ok(edits)
+        }
+    }
+}
+
+/// The edits of a linked segment in the order of their places: its number, `own`, and what its
+/// references become; and the offset behind its privates, the first of which has the offset `free`.
+pub(crate) fn edits_of<A: Allocator + Copy>(
+    alloc: A,
+    names: &Names<A>,
+    procedures: &Procs,
+    segment: &Linkage,
+    free: u16,
+    code: &[u8],
+    own: Option<Edit>,
+) -> Result<(Vec<Edit, A>, u16), RecordStop>
+    requires small { length code.now ≤ 32767 }
+    requires large { 4 ≤ length code.now }
+    requires room { free + words_of (reading segment.now.order segment.now.bytes.now).0 < 65536 }
+    requires own_code { procedures.now.code ≡ code.now }
+    requires table { IfSome own (IsOfTable procedures.now.order code.now) }
+    ensures same { IfOk result (λ found. IsPermutation (Byte (length code.now - 2) segment.now.slot
+        ∷ (option_to_list own ++ records_edits names.now code.now free (reading segment.now.order segment.now.bytes.now).0)) found.0.items) }
+    ensures once { IfOk result (λ found. (p : ℕ) → count_by (covers p) (Byte (length code.now - 2) segment.now.slot
+        ∷ (option_to_list own ++ records_edits names.now code.now free (reading segment.now.order segment.now.bytes.now).0)) ≤ 1) }
+    ensures ready { IfOk result (λ found. AreEdits (length code.now) found.0.items) }
+    ensures end { IfOk result (λ found. found.1 ≡ free + words_of (reading segment.now.order segment.now.bytes.now).0) }
+    ensures fault { Gives result (records_fault names.now (is_reserved procedures.now.order procedures.now.code) code.now 0 free [] (reading segment.now.order segment.now.bytes.now).0) }
+{
+    let mut edits = own_edits(alloc, segment.slot, code, own)?;
+    let end = add_records(names, procedures, segment, free, code, &mut edits)?;
     sort_edits(&mut edits);
-    Ok(edits)
+    Ok((edits, end))
 }

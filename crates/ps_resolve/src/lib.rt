@@ -1,18 +1,26 @@
-//! What a link means.
+//! What a link means: where each segment comes from, what its references become, which fault comes first, and the plan of edits that links it.
 #![tactic(auto)]
 
 mod allotment;
+mod data_size;
 mod definitions;
 mod edits;
 mod keyed;
+mod libraries;
 mod linkage;
+mod linking;
+mod names;
 mod places;
 mod plan;
 mod references;
 mod resolving;
+mod roles;
 mod segment;
 mod segments;
+mod slots;
 mod sorting;
+mod sources;
+mod units;
 
 pub use allotment::{Allotment, Private};
 pub use definitions::{Def, DefKind, Definitions};

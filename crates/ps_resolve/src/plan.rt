@@ -1,10 +1,8 @@
-ghost use Rattle.std.specs.Prelude.{◌≡◌, ◌<◌, length, map, slice_get, slice_index_or, slice_range, IfOk, IfErr, Some, None};
-ghost use Rattle.ps_resolve.specs.Plans.{IsPlan, IsStopped, origin_of_source};
-ghost use Rattle.ps_resolve.specs.Faults.{first_fault};
+ghost use Rattle.std.specs.Prelude.{◌≡◌, ◌<◌, length, map, slice_get, slice_range, Some};
+ghost use Rattle.ps_resolve.specs.Plans.{origin_of_source};
 
 use crate::allotment::Allotment;
 use crate::definitions::Definitions;
-use crate::linkage::Stop;
 use ps_words::{Edit, Order};
 use std::alloc::{Allocator, Global};
 use std::marker::Model;
@@ -24,25 +22,27 @@ pub struct Source<'a> {
     pub code: &'a [u8],
 }
 
-/// A plan of a link: where each segment's code comes from, and what is stored in it. It holds views of the inputs, and no copy of them.
+/// A plan of a link: where the code of each segment comes from, and what is stored in it.
+///
+/// It holds views of the inputs, and no copy of them.
 #[derive(Drop)]
 pub struct Plan<'a, A: Allocator + Copy = Global> {
-    order: Order,
-    host: &'a [u8],
-    sources: Vec<Source<'a>, A>,
-    edits: Vec<Vec<Edit, A>, A>,
-    definitions: Definitions<A>,
-    allotment: Allotment<A>,
-    data_size: u16,
+    pub(crate) order: Order,
+    pub(crate) host: &'a [u8],
+    pub(crate) sources: Vec<Source<'a>, A>,
+    pub(crate) edits: Vec<Vec<Edit, A>, A>,
+    pub(crate) definitions: Definitions<A>,
+    pub(crate) allotment: Allotment<A>,
+    pub(crate) data_size: u16,
 }
 
 impl<'a, A: Allocator + Copy> Model for Plan<'a, A> {
-    ghost use Rattle.std.specs.Prelude.{◌≡◌, ◌≤◌, ◌-◌, map, length, sum_by};
+    ghost use Rattle.std.specs.Prelude.{◌≡◌, ◌≤◌, map, length};
     ghost use Rattle.ps_resolve.specs.Plans.{Planned, origin_of_source};
 
     ghost Value = { Planned };
 
-    ghost view = { λ p. record { order = p.order; host = p.host.now; origins = map origin_of_source p.sources.items; edits = map (λ e. e.items) p.edits.items; definitions = p.definitions; privates = p.allotment.0; next_free = p.allotment.1; private_words = sum_by (λ v. v.words) p.allotment.0; data_size = p.data_size } };
+    ghost view = { λ p. record { order = p.order; host = p.host.now; origins = map origin_of_source p.sources.items; edits = map (λ e. e.items) p.edits.items; definitions = p.definitions; privates = p.allotment.privates; next_free = p.allotment.next_free; private_words = p.allotment.words; data_size = p.data_size } };
 
     ghost invariant = { λ p. (length p.edits.items ≡ length p.sources.items) × (512 ≤ length p.host.now) };
 }
@@ -77,11 +77,54 @@ impl<'a, A: Allocator + Copy> Plan<'a, A> {
         self.sources.as_slice()
     }
 
-    /// The edits of the k-th source, by place ascending.
+    /// What is stored in the code of the k-th source, from 0, which exists: by place ascending, apart
+    /// from one another and inside the code, each BIG value below 32768.
+    ///
+    /// A linked segment has the Byte edit of its number and one edit for each of its references, the
+    /// host's segment the Word edit of its data size too, also where they change nothing. A segment
+    /// that is linked already has none.
     pub fn edits(&self, k: usize) -> &[Edit]
         requires { k < length self.now.edits }
         ensures { slice_get self.now.edits k ≡ Some result.now }
     {
         self.edits[k].as_slice()
+    }
+
+    /// The definitions of the host's segment.
+    pub fn definitions(&self) -> &Definitions<A>
+        ensures { result.now ≡ self.now.definitions }
+    {
+        &self.definitions
+    }
+
+    /// The private variables of all segments.
+    pub fn allotment(&self) -> &Allotment<A>
+        ensures privates { result.now.privates ≡ self.now.privates }
+        ensures words { result.now.words ≡ self.now.private_words }
+        ensures next_free { result.now.next_free ≡ self.now.next_free }
+    {
+        &self.allotment
+    }
+
+    /// How many words all private variables take, 0 to 32767.
+    pub fn private_words(&self) -> u16
+        ensures { result ≡ self.now.private_words }
+    {
+        self.allotment.words()
+    }
+
+    /// The base offset in words, 0 to 65535, behind the last private variable: the one that the end
+    /// mark of the host's link information gives where there is none.
+    pub fn next_free(&self) -> u16
+        ensures { result ≡ self.now.next_free }
+    {
+        self.allotment.next_free()
+    }
+
+    /// The data size of the host's outer block in the linked file, in bytes, 0 to 65535.
+    pub fn data_size(&self) -> u16
+        ensures { result ≡ self.now.data_size }
+    {
+        self.data_size
     }
 }

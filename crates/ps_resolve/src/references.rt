@@ -1,22 +1,27 @@
-ghost use Rattle.std.specs.Prelude.{◌≡◌, ℕ, ◌<◌, ◌≤◌, ◌+◌, ◌++◌, ◌∷◌, [], List, Bool, length, map, OnOk, IfNone};
+ghost use Rattle.std.specs.Prelude.{◌≡◌, ℕ, ◌<◌, ◌≤◌, ◌+◌, ◌++◌, ◌∷◌, [], List, length, map, OnOk, IfNone};
 ghost use Rattle.std.specs.List.{range_with_len, list_any};
 ghost use Rattle.ps_resolve.specs.Places.{has};
+ghost use Rattle.ps_codefile.specs.Procedures.{is_reserved};
 ghost use Rattle.ps_resolve.specs.Operands.{width_of as width_of_spec, edit_of, value_of as value_of_spec, reference_reason, refs_fault, operands, is_in};
 ghost use Rattle.ps_resolve.specs.Marks.{Marks, Finds};
 ghost use Rattle.ps_resolve.specs.declared.references.RefStop.TheVariants.{Memory};
 
 use crate::places::Places;
-use ps_words::{Edit, Reason};
+use ps_codefile::Procs;
 use ps_linkinfo::Refs;
+use ps_words::{Edit, Reason, get_big};
 use std::alloc::{AllocFailed, Allocator};
 
 /// What a reference's operand becomes: the number of a slot, or its displacement and a base.
 #[derive(Clone, Copy)]
 pub enum Target {
+    /// A byte, which becomes the number of the slot.
     Slot(u8),
+    /// A BIG operand, which becomes its displacement and this base.
     Base(u16),
 }
 
+/// How many bytes the operand has.
 fn width_of(target: Target) -> usize
     ensures { result ≡ width_of_spec target }
 {
@@ -37,21 +42,32 @@ fn any_of(places: &Places, target: Target, x: usize) -> bool
     }
 }
 
-/// What the operand at x becomes, where it lies in the code.
+/// Whether one of the places of the operand is reserved.
+fn is_any_reserved(procedures: &Procs, target: Target, x: usize) -> bool
+    requires { x + width_of_spec target ≤ 32768 }
+    ensures { result ≡ list_any (is_reserved procedures.now.order procedures.now.code) (range_with_len x (width_of_spec target)) }
+{
+    match target {
+        Target::Slot(_) => procedures.is_reserved(x),
+        Target::Base(_) => procedures.is_reserved(x) || procedures.is_reserved(x + 1),
+    }
+}
+
+/// What the BIG operand at x becomes, which lies in the code: its displacement and the base. There is nothing to check for a byte.
 fn value_of(code: &[u8], target: Target, x: usize) -> usize
     requires { x + width_of_spec target ≤ length code.now }
     ensures { result ≡ value_of_spec code.now target x }
 {
     match target {
         Target::Slot(_) => 0,
-        Target::Base(base) => (code[x] as usize % 128) * 256 + code[x + 1] as usize + base as usize,
+        Target::Base(base) => get_big(code, x) as usize + base as usize,
     }
 }
 
 /// Why there is no operand at x, where these places are taken.
 fn reason_at(
     code: &[u8],
-    reserved: &Places,
+    procedures: &Procs,
     taken: &Places,
     target: Target,
     x: usize,
@@ -60,13 +76,13 @@ fn reason_at(
     requires word { x < 65536 }
     ensures inside { IfNone result (x + width_of_spec target ≤ length code.now) }
     ensures fits { IfNone result (value_of_spec code.now target x ≤ 32767) }
-    ensures reason { (R : ℕ → Bool) (os : List (ℕ × ℕ)) → Marks (length code.now) reserved.now.words R → Marks (length code.now) taken.now.words (λ p. list_any (is_in p) os)
-        → result ≡ reference_reason R code.now os target x }
+    ensures reason { (os : List (ℕ × ℕ)) → Marks (length code.now) taken.now.words (λ p. list_any (is_in p) os)
+        → result ≡ reference_reason (is_reserved procedures.now.order procedures.now.code) code.now os target x }
 {
     if x + width_of(target) > code.len() {
         return Some(Reason::OutsideCode);
     }
-    if any_of(reserved, target, x) {
+    if is_any_reserved(procedures, target, x) {
         return Some(Reason::ReservedPlace);
     }
     if any_of(taken, target, x) {
@@ -96,6 +112,7 @@ fn edit_at(code: &[u8], target: Target, x: usize) -> Edit
     }
 }
 
+/// Adds the places of the operand.
 fn mark(taken: &mut Places, target: Target, x: usize)
     requires { x + width_of_spec target ≤ 32768 }
     ensures { (n : ℕ) (os : List (ℕ × ℕ)) → n ≤ 32768 → Marks n taken.old.words (λ p. list_any (is_in p) os)
@@ -110,7 +127,9 @@ fn mark(taken: &mut Places, target: Target, x: usize)
 /// Why not all references were taken in.
 #[derive(Drop)]
 pub enum RefStop {
+    /// The reference of this index has this fault.
     Refused { reference: usize, reason: Reason },
+    /// Memory ran out.
     Memory,
 }
 
@@ -125,7 +144,7 @@ impl<T: Drop> From<AllocFailed<T>> for RefStop {
 /// Adds the edits of a record's references, or finds its first fault.
 pub(crate) fn add_references<A: Allocator>(
     code: &[u8],
-    reserved: &Places,
+    procedures: &Procs,
     taken: &mut Places,
     target: Target,
     refs: &Refs,
@@ -133,14 +152,14 @@ pub(crate) fn add_references<A: Allocator>(
 ) -> Result<(), RefStop>
     requires { length code.now ≤ 32767 }
     ensures ok { OnOk result (edits.new.items ≡ edits.old.items ++ map (edit_of code.now target) refs.now) }
-    ensures fault { (R : ℕ → Bool) (os : List (ℕ × ℕ)) → Marks (length code.now) reserved.now.words R → Marks (length code.now) taken.old.words (λ p. list_any (is_in p) os)
-        → Finds result (refs_fault R code.now target 0 os refs.now) }
+    ensures fault { (os : List (ℕ × ℕ)) → Marks (length code.now) taken.old.words (λ p. list_any (is_in p) os)
+        → Finds result (refs_fault (is_reserved procedures.now.order procedures.now.code) code.now target 0 os refs.now) }
     ensures taken { (os : List (ℕ × ℕ)) → Marks (length code.now) taken.old.words (λ p. list_any (is_in p) os)
         → OnOk result (Marks (length code.now) taken.new.words (λ p. list_any (is_in p) (os ++ operands target refs.now))) }
 {
     for i in 0..refs.len() {
         let x = refs.get(i) as usize;
-        if let Some(reason) = reason_at(code, reserved, taken, target, x) {
+        if let Some(reason) = reason_at(code, procedures, taken, target, x) {
             return Err(RefStop::Refused {
                 reference: i,
                 reason,

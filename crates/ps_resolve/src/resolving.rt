@@ -3,18 +3,31 @@ ghost use Rattle.ps_resolve.specs.Plans.{IsPlan, IsStopped};
 ghost use Rattle.ps_resolve.specs.Faults.{first_fault};
 
 use crate::linkage::Stop;
+use crate::linking::link_segments;
 use crate::plan::Plan;
+use crate::sources::read_segments;
 use std::alloc::Allocator;
 
-/// Plans the link of a host with the units that it uses, or names the first fault of all.
+/// Plans the link of a host file with the libraries that have the units it wants, in their order.
+///
+/// Refuses the first fault of all: of the host, its slots, the libraries, the sources of the slots,
+/// the host's definitions, the private variables, the host's data size and the references, each of
+/// which is looked at only where none before it has a fault. Answers `Memory` only where the files
+/// can be read without a fault.
+///
+/// Source: what a link is, the published II.0 Linker source; the faults and their order, this
+/// project's profile.
 pub fn resolve<'a, A: Allocator + Copy>(
-    _alloc: A,
-    _host: &'a [u8],
-    _libs: &'a [&'a [u8]],
+    alloc: A,
+    host: &'a [u8],
+    libs: &'a [&'a [u8]],
 ) -> Result<Plan<'a, A>, Stop>
-    ensures plan { IfOk result (IsPlan _host.now (map (λ lib. lib.now) _libs.now)) }
-    ensures sound { IfOk result (λ _. first_fault _host.now (map (λ lib. lib.now) _libs.now) ≡ None) }
-    ensures stop { IfErr result (IsStopped _host.now (map (λ lib. lib.now) _libs.now)) }
+    ensures plan { IfOk result (IsPlan host.now (map (λ lib. lib.now) libs.now)) }
+    ensures sound { IfOk result (λ _. first_fault host.now (map (λ lib. lib.now) libs.now) ≡ None) }
+    ensures stop { IfErr result (IsStopped host.now (map (λ lib. lib.now) libs.now)) }
 {
-    Err(Stop::NotYet)
+    match read_segments(host, libs) {
+        Err(fault) => Err(Stop::Refused(fault)),
+        Ok((order, segments)) => link_segments(alloc, order, host, segments.as_slice()),
+    }
 }

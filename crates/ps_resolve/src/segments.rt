@@ -1,33 +1,39 @@
-ghost use Rattle.std.specs.Prelude.{◌≡◌, ℕ, ◌<◌, ◌≤◌, ◌+◌, ◌++◌, [], Bool, List, length, map, OnOk, Ok, Err, Option, Some};
+ghost use Rattle.std.specs.Prelude.{◌≡◌, ℕ, ◌<◌, ◌≤◌, ◌+◌, ◌++◌, [], List, length, map, OnOk, IfOk, Ok, Err, Option, Some};
 ghost use Rattle.std.specs.Option.{option_map};
 ghost use Rattle.ps_words.specs.declared.fault.Reason.{Reason};
-ghost use Rattle.std.specs.Map.{lookup};
-ghost use Rattle.std.specs.Str.{bytes_eq};
 ghost use Rattle.std.specs.List.{list_any};
 ghost use Rattle.ps_linkinfo.specs.Records.{reading, refs_of};
+ghost use Rattle.ps_codefile.specs.Procedures.{is_reserved};
 ghost use Rattle.ps_resolve.specs.Operands.{edit_of, operands, refs_fault, is_in};
 ghost use Rattle.ps_resolve.specs.Marks.{Marks, Finds};
 ghost use Rattle.ps_resolve.specs.References.{target_of as target_of_spec, words_taken as words_taken_spec, records_fault, records_edits, FindsOne};
+ghost use Rattle.ps_resolve.specs.Edits.{Gives};
 ghost use Rattle.ps_resolve.specs.Privates.{words_of};
-
 ghost use Rattle.ps_resolve.specs.declared.segments.RecordStop.TheVariants.{Memory};
 
-use crate::definitions::{DefKind, Definitions};
+use crate::definitions::DefKind;
 use crate::linkage::Linkage;
+use crate::names::Names;
 use crate::places::Places;
 use crate::references::{RefStop, Target, add_references};
-use ps_words::{Edit, Reason};
+use ps_codefile::Procs;
 use ps_linkinfo::{Body, LinkRecord, Records};
+use ps_words::{Edit, Reason};
 use std::alloc::{AllocFailed, Allocator};
 
 /// Why not all records were taken in.
 #[derive(Drop)]
 pub enum RecordStop {
+    /// The record of this index, or its reference of this index, has this fault.
     Refused {
+        /// The index of the record, from 0.
         rec: usize,
+        /// The index of the reference, from 0, where the reason is of a reference.
         reference: Option<usize>,
+        /// Why it is refused.
         reason: Reason,
     },
+    /// Memory ran out.
     Memory,
 }
 
@@ -39,33 +45,20 @@ impl<T: Drop> From<AllocFailed<T>> for RecordStop {
     }
 }
 
-/// The slot of the unit of this name.
-fn slot_of(units: &[([u8; 8], u8)], name: [u8; 8]) -> Option<u8>
-    ensures { result ≡ lookup (bytes_eq name) units.now }
-{
-    for (unit, slot) in units {
-        if name == *unit {
-            return Some(*slot);
-        }
-    }
-    None
-}
-
 /// What the operands of the record's references become.
 fn target_of<A: Allocator + Copy>(
-    definitions: &Definitions<A>,
-    units: &[([u8; 8], u8)],
+    names: &Names<A>,
     free: u16,
     entry: &LinkRecord,
 ) -> Result<Target, Reason>
-    ensures { result ≡ target_of_spec (record { definitions = definitions.now; units = units.now }) free entry.now }
+    ensures { result ≡ target_of_spec names.now free entry.now }
 {
     match &entry.body {
-        Body::UnitRef(_) => match slot_of(units, entry.name) {
+        Body::UnitRef(_) => match names.slot_of_unit(entry.name) {
             None => Err(Reason::MissingUnitRef),
             Some(slot) => Ok(Target::Slot(slot)),
         },
-        Body::PublRef(_) => match definitions.look(&entry.name) {
+        Body::PublRef(_) => match names.definition_of(&entry.name) {
             None => Err(Reason::MissingDefinition),
             Some(def) => match def.kind {
                 DefKind::Public => Ok(Target::Base(def.value)),
@@ -83,14 +76,15 @@ fn words_taken(body: &Body) -> u16
 {
     match body {
         Body::PrivRef { words, .. } => *words,
-        Body::UnitRef(_) | Body::PublRef(_) | Body::PublDef(_) | Body::ConstDef(_) | Body::Eof(_) => 0,
+        Body::UnitRef(_) | Body::PublRef(_) | Body::PublDef(_) | Body::ConstDef(_) | Body::Eof(_) =>
+            0,
     }
 }
 
 /// Adds the edits of a record, or finds its first fault.
 fn add_body<A: Allocator>(
     code: &[u8],
-    reserved: &Places,
+    procedures: &Procs,
     taken: &mut Places,
     target: Target,
     body: &Body,
@@ -98,15 +92,15 @@ fn add_body<A: Allocator>(
 ) -> Result<(), RefStop>
     requires { length code.now ≤ 32767 }
     ensures ok { OnOk result (edits.new.items ≡ edits.old.items ++ map (edit_of code.now target) (refs_of body.now)) }
-    ensures fault { (R : ℕ → Bool) (os : List (ℕ × ℕ)) → Marks (length code.now) reserved.now.words R → Marks (length code.now) taken.old.words (λ p. list_any (is_in p) os)
-        → Finds result (refs_fault R code.now target 0 os (refs_of body.now)) }
+    ensures fault { (os : List (ℕ × ℕ)) → Marks (length code.now) taken.old.words (λ p. list_any (is_in p) os)
+        → Finds result (refs_fault (is_reserved procedures.now.order procedures.now.code) code.now target 0 os (refs_of body.now)) }
     ensures taken { (os : List (ℕ × ℕ)) → Marks (length code.now) taken.old.words (λ p. list_any (is_in p) os)
         → OnOk result (Marks (length code.now) taken.new.words (λ p. list_any (is_in p) (os ++ operands target (refs_of body.now)))) }
 {
     match body {
-        Body::UnitRef(refs) => add_references(code, reserved, taken, target, refs, edits),
-        Body::PublRef(refs) => add_references(code, reserved, taken, target, refs, edits),
-        Body::PrivRef { refs, .. } => add_references(code, reserved, taken, target, refs, edits),
+        Body::UnitRef(refs) => add_references(code, procedures, taken, target, refs, edits),
+        Body::PublRef(refs) => add_references(code, procedures, taken, target, refs, edits),
+        Body::PrivRef { refs, .. } => add_references(code, procedures, taken, target, refs, edits),
         Body::PublDef(_) | Body::ConstDef(_) | Body::Eof(_) => Ok(()),
     }
 }
@@ -125,29 +119,29 @@ fn in_record(rec: usize, stop: RefStop) -> RecordStop
     }
 }
 
-/// Adds the edits of all records of a segment, or finds the first fault.
+/// Adds the edits of all records of a segment, the first of whose privates has the offset `free`,
+/// or finds their first fault. Answers the offset behind its last private.
 pub(crate) fn add_records<A: Allocator + Copy>(
-    definitions: &Definitions<A>,
-    units: &[([u8; 8], u8)],
+    names: &Names<A>,
+    procedures: &Procs,
     segment: &Linkage,
     free: u16,
     code: &[u8],
-    reserved: &Places,
     edits: &mut Vec<Edit, A>,
-) -> Result<(), RecordStop>
+) -> Result<u16, RecordStop>
     requires small { length code.now ≤ 32767 }
-    requires room { free + words_of (reading segment.now.order segment.now.bytes.now).0 ≤ 32767 }
+    requires room { free + words_of (reading segment.now.order segment.now.bytes.now).0 < 65536 }
     ensures ok { OnOk result (edits.new.items ≡ edits.old.items
-        ++ records_edits (record { definitions = definitions.now; units = units.now }) code.now free (reading segment.now.order segment.now.bytes.now).0) }
-    ensures fault { (R : ℕ → Bool) → Marks (length code.now) reserved.now.words R
-        → FindsOne result (records_fault (record { definitions = definitions.now; units = units.now }) R code.now 0 free [] (reading segment.now.order segment.now.bytes.now).0) }
+        ++ records_edits names.now code.now free (reading segment.now.order segment.now.bytes.now).0) }
+    ensures end { IfOk result (λ end. end ≡ free + words_of (reading segment.now.order segment.now.bytes.now).0) }
+    ensures fault { Gives result (records_fault names.now (is_reserved procedures.now.order procedures.now.code) code.now 0 free [] (reading segment.now.order segment.now.bytes.now).0) }
 {
     let mut taken = Places::new();
     let mut rec = 0;
     let mut next = free;
     for item in Records::new(segment.order, segment.bytes) {
         if let Ok(entry) = item {
-            match target_of(definitions, units, next, &entry) {
+            match target_of(names, next, &entry) {
                 Err(reason) => {
                     return Err(RecordStop::Refused {
                         rec,
@@ -156,7 +150,7 @@ pub(crate) fn add_records<A: Allocator + Copy>(
                     });
                 }
                 Ok(target) => {
-                    match add_body(code, reserved, &mut taken, target, &entry.body, edits) {
+                    match add_body(code, procedures, &mut taken, target, &entry.body, edits) {
                         Err(stop) => return Err(in_record(rec, stop)),
                         Ok(()) => {
                             rec += 1;
@@ -167,5 +161,5 @@ pub(crate) fn add_records<A: Allocator + Copy>(
             }
         }
     }
-    Ok(())
+    Ok(next)
 }

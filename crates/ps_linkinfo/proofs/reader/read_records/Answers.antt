@@ -1,44 +1,49 @@
-use Rattle.std.proofs.Common.{Some, ◌≡◌, ◌≤◌, ◌++◌, ◌∷◌, [], ℕ, arith, rules, subst, sym, length, drop, length-drop}
-use Rattle.ps_linkinfo.specs.Records.{BeginsWith, Stops, bad, used_by, size_of}
-use Rattle.ps_linkinfo.proofs.Spelled.{spelled_more, used_more, ends_once, goes_more}
-use Rattle.ps_linkinfo.proofs.Readings.{is_reading, is_stop, first_stands}
+use Rattle.std.proofs.Common.{◌≡◌, ◌++◌, ◌∙◌, [], List, Option, Result, Ok, Err, length, rules, subst, sym, ap}
+use Rattle.std.proofs.lemmas.List.{append-nil}
+use Rattle.ps_words.specs.declared.fault.Reason.{Reason}
+use Rattle.ps_linkinfo.specs.Records.{Stops, reading}
+use Rattle.ps_linkinfo.specs.Left.{items_of, left}
+use Rattle.ps_linkinfo.specs.declared.record.LinkRecord.{LinkRecord as Record}
+use Rattle.ps_linkinfo.proofs.Readings.{is_reading, is_stop}
+use Rattle.ps_linkinfo.proofs.Stands.{IsRead, reading_is}
+use Rattle.ps_linkinfo.proofs.Walks.{ok_items, ok_more, given_next, items_first, reading_alone, reading_and_fault, stands_first}
 use Rattle.ps_linkinfo.proofs.reader.read_records.Goals as goal
 
-pub loop-used-preserved : goal.loop-used-preserved
-loop-used-preserved g c =
-    let bytes = c.args.bytes.now in
-    let rs = c.loop-used.records.items in
-    let r = c.in-Ok.record in
-    let items = c.in_ok-push-in-Ok.ensures.items in
-    let from : BeginsWith c.args.order (drop (used_by rs) bytes) r = subst (λ (n : ℕ). BeginsWith c.args.order (drop n bytes) r) c.loop-used.invariant.used c.in-Ok.ensures.ok in
-    record {
-      spelled = rw items (spelled_more c.args.order bytes rs r c.loop-used.invariant.spelled from);
-      goes_on = rw items (goes_more rs r c.loop-used.invariant.goes_on (sym c.if-ends.ensures));
-      used = rw items (let more = used_more rs r in let size = c.size-used.ensures.size in let used = c.loop-used.invariant.used in cc);
-      within = let whole : size_of r ≤ length (drop c.loop-used.used bytes) = c.in-Ok.ensures.ok.whole in omega (arith, whole, length-drop c.loop-used.used bytes, c.size-used.ensures.size);
-    }
+pub loop-item-init : goal.loop-item-init
+loop-item-init g c =
+    let all = ap left (c.into_iter-item-iterator.ensures.into_iter_gives ∙ c.new-item-items.ensures) ∙ items_first c.args.order c.args.bytes.now in
+    record { can = tt; finite = tt; items = rw c.new-records.ensures.items all }
 
-pub returns-then-ends-clause-ok : goal.returns-then-ends-clause-ok
-returns-then-ends-clause-ok g c =
+pub loop-item-preserved : goal.loop-item-preserved
+loop-item-preserved g c =
+    let rs = c.loop-item.records.items in
+    let all = items_of (reading c.args.order c.args.bytes.now) in
+    let items = given_next rs c.loop-item.item-iterator c.next.new.self c.in-Some.item (Ok c.in-Ok.record) all c.in-Some.ensures.steps.1 c.in-Ok.is c.loop-item.invariant.items in
+    record { can = tt; finite = tt; items = rw c.in_ok-push-in-Ok.ensures.items (ok_more rs c.in-Ok.record (left c.next.new.self) ∙ items) }
+
+pub returns-clause-ok : goal.returns-clause-ok
+returns-clause-ok g c =
+    let order = c.args.order in
     let bytes = c.args.bytes.now in
-    let rs = c.loop-used.records.items in
-    let r = c.in-Ok.record in
-    let items = c.in_ok-push-in-Ok.ensures.items in
-    let from : BeginsWith c.args.order (drop (used_by rs) bytes) r = subst (λ (n : ℕ). BeginsWith c.args.order (drop n bytes) r) c.loop-used.invariant.used c.in-Ok.ensures.ok in
-    rw items (is_reading c.args.order bytes (rs ++ r ∷ []) (spelled_more c.args.order bytes rs r c.loop-used.invariant.spelled from) (ends_once rs r c.loop-used.invariant.goes_on (sym c.if-ends.ensures)))
+    let rs = c.loop-item.records.items in
+    let none : left c.loop-item.item-iterator ≡ [] = c.in-None.ensures.steps.1.0 in
+    let items : ok_items rs ≡ items_of (reading order bytes) = sym (append-nil (ok_items rs)) ∙ ap (λ (is : List (Result Record Reason)). ok_items rs ++ is) (sym none) ∙ c.loop-item.invariant.items in
+    let read = subst (λ (read : List Record × Option Reason). IsRead order bytes read) (reading_alone rs (reading order bytes) items) (reading_is order bytes) in
+    is_reading order bytes rs read.spelled read.ends
 
 pub returns-in-Err-clause-stops : goal.returns-in-Err-clause-stops
 returns-in-Err-clause-stops g c =
+    let order = c.args.order in
     let bytes = c.args.bytes.now in
-    let rs = c.loop-used.records.items in
-    let stops : Stops c.args.order bytes rs c.in-Err.reason = record { spelled = c.loop-used.invariant.spelled; goes_on = c.loop-used.invariant.goes_on; stops = subst (λ (n : ℕ). bad c.args.order (drop n bytes) ≡ Some c.in-Err.reason) c.loop-used.invariant.used c.in-Err.ensures.bad } in
-    (rs, (let h : length rs ≡ c.len.result = search rules in h), stops, is_stop c.args.order bytes rs c.in-Err.reason stops)
+    let rs = c.loop-item.records.items in
+    let why = c.in-Err.reason in
+    let items = given_next rs c.loop-item.item-iterator c.next.new.self c.in-Some.item (Err why) (items_of (reading order bytes)) c.in-Some.ensures.steps.1 c.in-Err.is c.loop-item.invariant.items in
+    let stops : Stops order bytes rs why = subst (λ (read : List Record × Option Reason). IsRead order bytes read) (reading_and_fault rs why (left c.next.new.self) (reading order bytes) items) (reading_is order bytes) in
+    (rs, (let h : length rs ≡ c.len.result = search rules in h), stops, is_stop order bytes rs why stops)
 
--- where the list was to grow, a record stands at the front of the bytes
 pub returns-in_err-push-in-Ok-clause-memory : goal.returns-in_err-push-in-Ok-clause-memory
 returns-in_err-push-in-Ok-clause-memory g c = λ _.
-    let bytes = c.args.bytes.now in
-    let rs = c.loop-used.records.items in
-    let r = c.in-Ok.record in
-    let from : BeginsWith c.args.order (drop (used_by rs) bytes) r = subst (λ (n : ℕ). BeginsWith c.args.order (drop n bytes) r) c.loop-used.invariant.used c.in-Ok.ensures.ok in
-    first_stands c.args.order bytes rs r (spelled_more c.args.order bytes rs r c.loop-used.invariant.spelled from)
+    let rs = c.loop-item.records.items in
+    let all = items_of (reading c.args.order c.args.bytes.now) in
+    let items = given_next rs c.loop-item.item-iterator c.next.new.self c.in-Some.item (Ok c.in-Ok.record) all c.in-Some.ensures.steps.1 c.in-Ok.is c.loop-item.invariant.items in
+    stands_first c.args.order c.args.bytes.now rs c.in-Ok.record (left c.next.new.self) items

@@ -1,15 +1,13 @@
-use Rattle.std.proofs.Common.{◌≡◌, ◌-◌, ◌+◌, ◌≤◌, length, false}
-use Rattle.std.specs.List.{AllByRecursion}
-use Rattle.ps_linkinfo.specs.Records.{AreSpelled, is_eof, used_by}
+use Rattle.std.proofs.Common.{◌≡◌, ◌++◌}
+use Rattle.ps_linkinfo.specs.Records.{reading}
+use Rattle.ps_linkinfo.specs.Left.{items_of, left}
+use Rattle.ps_linkinfo.proofs.Walks.{ok_items}
 use Rattle.ps_linkinfo.proofs.reader.read_records.Given as goal
 
-abbrev pub invariant-loop-used : goal.invariant-loop-used
-invariant-loop-used g l = record {
-  spelled : AreSpelled l.order l.bytes l.records.items;
-  goes_on : AllByRecursion (λ r. is_eof r ≡ false) l.records.items;
-  used : l.used ≡ used_by l.records.items;
-  within : l.used ≤ length l.bytes;
+-- the list and the items that are left are all items
+abbrev pub invariant-loop-item : goal.invariant-loop-item
+invariant-loop-item g l = record {
+  can : (goal.iterator-loop-item g).can_next l.item-iterator;
+  finite : (goal.iterator-loop-item g).is_finite l.item-iterator;
+  items : ok_items l.records.items ++ left l.item-iterator ≡ items_of (reading l.fn.order l.fn.bytes);
 }
-
-abbrev pub decreases-loop-used : goal.decreases-loop-used
-decreases-loop-used g l = length l.bytes + 1 - l.used

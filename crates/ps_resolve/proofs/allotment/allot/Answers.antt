@@ -10,7 +10,7 @@ use Rattle.ps_resolve.proofs.Walks.{all_left, few}
 use Rattle.ps_resolve.proofs.Rows.{given_ok}
 use Rattle.ps_resolve.proofs.Allots.{skip_privates, skip_words, skip_fault, more_privates, more_words, more_fault, more_length}
 use Rattle.ps_resolve.proofs.allotment.allot.Goals as goal
-use Rattle.ps_resolve.proofs.allotment.allot.Goals.{in-Some-words_of_private+else-contains+else-free-words-gt32767+in_ok-insert+in_ok-push, in_default-words_of_private}
+use Rattle.ps_resolve.proofs.allotment.allot.Goals.{in-Some-words_of_private+else-contains+else-free-words-gt-MAX_NEXT_FREE+in_ok-insert+in_ok-push, in_default-words_of_private}
 
 pub loop-item-init : goal.loop-item-init
 loop-item-init g c =
@@ -36,31 +36,33 @@ loop-item-preserved-in-Ok g c =
     let first = ap (λ (xs : List Record). private_fault rec free seen xs) (sym records) ∙ inv.first in
     let count : rec + 1 + length rest ≡ length (reading c.args.segment.now.order c.args.segment.now.bytes.now).0 = omega (arith, ap length records, inv.count) in
     elim c.match-words_of_private.branch [
-      in_default-words_of_private w ↦
-        let none = sym c.words_of_private.ensures ∙ w.in_default-words_of_private.is in
-        rw (ap (λ v. v.items) w.privates-is, ap (λ s. s.keys) w.names-is, w.free-is) (record {
-          can = tt; finite = tt;
-          privates = sym (skip_privates slot rec free seen ps r rest none) ∙ privates;
-          words = ap (λ (n : ℕ). free + n) (sym (skip_words slot rec free seen ps r rest none)) ∙ words;
-          first = sym (skip_fault slot rec free seen ps r rest none) ∙ first;
-          more = inv.more;
-          count = count;
-        })
-    | in-Some-words_of_private+else-contains+else-free-words-gt32767+in_ok-insert+in_ok-push w ↦
-        let n = w.in-Some-words_of_private.words in
-        let some = sym c.words_of_private.ensures ∙ w.in-Some-words_of_private.is in
-        let fresh = sym w.contains.ensures ∙ w.if-contains.false in
-        let fits : free + n ≤ 32767 = omega arith in
-        let keys : w.insert.new.self.keys ≡ seen ++ r.name ∷ [] = w.in_ok-insert.ensures.keys ∙ ap (λ b. if b then seen else seen ++ r.name ∷ []) fresh in
-        let items = w.in_ok-push.ensures.items in
-        rw (ap (λ v. v.items) w.privates-is ∙ items, ap (λ s. s.keys) w.names-is ∙ keys, w.free-is) (record {
-          can = tt; finite = tt;
-          privates = sym (more_privates slot rec free seen ps r rest n some) ∙ privates;
-          words = omega (arith, more_words slot rec free seen ps r rest n some, words);
-          first = sym (more_fault slot rec free seen ps r rest n some fresh fits) ∙ first;
-          more = omega (arith, inv.more, length-append {A = Private});
-          count = count;
-        })
+      | in_default-words_of_private w ↦
+          let none = sym c.words_of_private.ensures ∙ w.in_default-words_of_private.is in
+          rw (ap (λ v. v.items) w.privates-is, ap (λ s. s.keys) w.names-is, w.free-is) (record {
+            can = tt;
+            finite = tt;
+            privates = sym (skip_privates slot rec free seen ps r rest none) ∙ privates;
+            words = ap (λ (n : ℕ). free + n) (sym (skip_words slot rec free seen ps r rest none)) ∙ words;
+            first = sym (skip_fault slot rec free seen ps r rest none) ∙ first;
+            more = inv.more;
+            count = count;
+          })
+      | in-Some-words_of_private+else-contains+else-free-words-gt-MAX_NEXT_FREE+in_ok-insert+in_ok-push w ↦
+          let n = w.in-Some-words_of_private.words in
+          let some = sym c.words_of_private.ensures ∙ w.in-Some-words_of_private.is in
+          let fresh = sym w.contains.ensures ∙ w.if-contains.false in
+          let fits : free + n ≤ 32767 = omega arith in
+          let keys : w.insert.new.self.keys ≡ seen ++ r.name ∷ [] = w.in_ok-insert.ensures.keys ∙ ap (λ b. if b then seen else seen ++ r.name ∷ []) fresh in
+          let items = w.in_ok-push.ensures.items in
+          rw (ap (λ v. v.items) w.privates-is ∙ items, ap (λ s. s.keys) w.names-is ∙ keys, w.free-is) (record {
+            can = tt;
+            finite = tt;
+            privates = sym (more_privates slot rec free seen ps r rest n some) ∙ privates;
+            words = omega (arith, more_words slot rec free seen ps r rest n some, words);
+            first = sym (more_fault slot rec free seen ps r rest n some fresh fits) ∙ first;
+            more = omega (arith, inv.more, length-append {A = Private});
+            count = count;
+          })
     ]
 
 pub returns-in_err-insert-clause-stop : goal.returns-in_err-insert-clause-stop

@@ -43,14 +43,14 @@ loop-item-preserved-in-Ok g c =
     let first : doubled_from c.loop-item.rec old (r ∷ rest) ≡ doubled rs = ap (λ (xs : List Record). doubled_from c.loop-item.rec old xs) (sym records) ∙ inv.first in
     let count : c.loop-item.rec + 1 + length rest ≡ length rs = omega (arith, ap length records, inv.count) in
     elim c.match-def_of.branch [
-      in_default-def_of w ↦
-        let none = sym c.def_of.ensures ∙ w.in_default-def_of.is in
-        rw (ap (λ m. m.entries) w.by_name-is) (record { can = tt; finite = tt; entries = sym (none_entries c.loop-item.rec old r rest none) ∙ entries; first = sym (none_first c.loop-item.rec old r rest none) ∙ first; count = count })
-    | in-Some-def_of+else-contains_key+in_ok-insert w ↦
-        let some = sym c.def_of.ensures ∙ w.in-Some-def_of.is in
-        let absent = sym w.contains_key.ensures ∙ w.if-contains_key.false in
-        let put : w.insert.new.self.entries ≡ old ++ (r.name, w.in-Some-def_of.def) ∷ [] = w.in_ok-insert.ensures.entries ∙ insert_entry-new bytes_eq c.loop-item.by_name r.name w.in-Some-def_of.def (none_is _ absent) in
-        rw (ap (λ m. m.entries) w.by_name-is ∙ put) (record { can = tt; finite = tt; entries = sym (new_entries c.loop-item.rec old r rest w.in-Some-def_of.def some) ∙ entries; first = sym (new_first c.loop-item.rec old r rest w.in-Some-def_of.def some absent) ∙ first; count = count })
+      | in_default-def_of w ↦
+          let none = sym c.def_of.ensures ∙ w.in_default-def_of.is in
+          rw (ap (λ m. m.entries) w.by_name-is) (record { can = tt; finite = tt; entries = sym (none_entries c.loop-item.rec old r rest none) ∙ entries; first = sym (none_first c.loop-item.rec old r rest none) ∙ first; count = count })
+      | in-Some-def_of+else-contains_key+in_ok-insert w ↦
+          let some = sym c.def_of.ensures ∙ w.in-Some-def_of.is in
+          let absent = sym w.contains_key.ensures ∙ w.if-contains_key.false in
+          let put : w.insert.new.self.entries ≡ old ++ (r.name, w.in-Some-def_of.def) ∷ [] = w.in_ok-insert.ensures.entries ∙ insert_entry-new bytes_eq c.loop-item.by_name r.name w.in-Some-def_of.def (none_is _ absent) in
+          rw (ap (λ m. m.entries) w.by_name-is ∙ put) (record { can = tt; finite = tt; entries = sym (new_entries c.loop-item.rec old r rest w.in-Some-def_of.def some) ∙ entries; first = sym (new_first c.loop-item.rec old r rest w.in-Some-def_of.def some absent) ∙ first; count = count })
     ]
 
 pub returns-in_err-insert-clause-stop : goal.returns-in_err-insert-clause-stop

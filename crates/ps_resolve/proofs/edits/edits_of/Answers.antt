@@ -1,22 +1,41 @@
-use Rattle.std.proofs.Common.{rules, ◌≡◌, ◌-◌, ◌≤◌, ◌++◌, ◌∷◌, ◌∙◌, [], ℕ, List, length, subst, sym, ap, refl}
-use Rattle.std.specs.Prelude.{count_by}
+use Rattle.std.proofs.Common.{◌≡◌, ℕ, ◌-◌, ◌≤◌, ◌++◌, ◌∷◌, ◌∙◌, [], List, length, subst, sym, ap, None}
+use Rattle.std.specs.Prelude.{IsPermutation, count_by}
+use Rattle.std.specs.Option.{option_to_list}
+use Rattle.std.proofs.lemmas.List.Sorted.{All-permutation}
 use Rattle.ps_linkinfo.specs.Records.{reading}
-use Rattle.ps_words.specs.Edits.{covers}
+use Rattle.ps_linkinfo.specs.declared.record.LinkRecord.{LinkRecord as Record}
+use Rattle.ps_words.specs.Edits.{covers, IsInside}
+use Rattle.ps_words.specs.declared.order.Order.{Order}
 use Rattle.ps_words.specs.declared.edit.Edit.{Edit}
 use Rattle.ps_words.specs.declared.edit.Edit.TheVariants.{Byte}
-use Rattle.ps_resolve.specs.Places.{has}
-use Rattle.ps_resolve.specs.References.{Known, records_edits}
-use Rattle.ps_resolve.proofs.Once.{records_once, none_once, own_once}
+use Rattle.ps_codefile.specs.Procedures.{is_reserved}
+use Rattle.ps_resolve.specs.References.{Known, records_edits, records_fault}
+use Rattle.ps_resolve.proofs.Own.{edits_once, edits_inside}
 use Rattle.ps_resolve.proofs.edits.edits_of.Goals as goal
 
-pub returns-clause-apart : goal.returns-clause-apart
-returns-clause-apart g c =
-    let known : Known = record { definitions = c.args.definitions.now; units = c.args.units.now } in
-    let rs = (reading c.args.segment.now.order c.args.segment.now.bytes.now).0 in
-    let code = c.args.code.now in
-    let R = has c.args.reserved.now.words in
-    let once = records_once known R code rs 0 c.args.free [] (c.in_ok-add_records.ensures.fault R (λ p h. refl)) (none_once R) in
-    let own : List Edit = Byte (length code - 2) c.args.segment.now.slot ∷ [] in
-    let edits : c.add_records.new.edits.items ≡ own ++ records_edits known code c.args.free rs =
-      c.in_ok-add_records.ensures.ok ∙ ap (λ (es : List Edit). es ++ records_edits known code c.args.free rs) (c.in_ok-push.ensures.items ∙ ap (λ (es : List Edit). es ++ own) c.new-edits.ensures.items) in
-    c.sort_edits.ensures.apart (λ p. subst (λ (es : List Edit). count_by (covers p) es ≤ 1) (sym edits) (own_once R known code rs c.args.free (length code - 2) c.args.segment.now.slot c.requires.number once p))
+pub returns : goal.returns
+returns g c =
+    let known : Known = c.args.names.now in
+    let order : Order = c.args.procedures.now.order in
+    let code : List ℕ = c.args.code.now in
+    let free : ℕ = c.args.free in
+    let slot : ℕ = c.args.segment.now.slot in
+    let rs : List Record = (reading c.args.segment.now.order c.args.segment.now.bytes.now).0 in
+    let all : List Edit = Byte (length code - 2) slot ∷ (option_to_list c.args.own ++ records_edits known code free rs) in
+    let sorted : List Edit = c.sort_edits.new.edits.items in
+    let items : c.add_records.new.edits.items ≡ all =
+    c.in_ok-end.ensures.ok ∙ ap (λ (es : List Edit). es ++ records_edits known code free rs) c.in_ok-edits.ensures.items in
+    let same : IsPermutation all sorted = subst (λ (es : List Edit). IsPermutation es sorted) items c.sort_edits.ensures.same in
+    let none : records_fault known (is_reserved order code) code 0 free [] rs ≡ None =
+    subst (λ (xs : List ℕ). records_fault known (is_reserved order xs) code 0 free [] rs ≡ None) c.requires.own_code c.in_ok-end.ensures.fault in
+    let once : (p : ℕ) → count_by (covers p) all ≤ 1 = edits_once order known code rs free slot c.args.own c.requires.large c.requires.table none in
+    record {
+      same = same;
+      once = once;
+      ready = record {
+        inside = All-permutation (IsInside (length code)) all sorted same (edits_inside order known code rs free slot c.args.own c.requires.large c.requires.table none);
+        apart = c.sort_edits.ensures.apart (λ p. subst (λ (es : List Edit). count_by (covers p) es ≤ 1) (sym items) (once p));
+      };
+      end = c.in_ok-end.ensures.end;
+      fault = c.in_ok-end.ensures.fault;
+    }

@@ -1,0 +1,10 @@
+pub mod Least
+pub mod Looking
+pub mod Steps
+pub mod Segments
+pub mod Sources
+pub mod Definitions
+pub mod DataSize
+pub mod Privates
+pub mod References
+pub mod Whole

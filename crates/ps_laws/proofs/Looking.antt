@@ -1,0 +1,64 @@
+-- Tests of items, and what they decide.
+use Rattle.std.proofs.Common.{◌≡◌, ℕ, zero, suc, ◌+◌, ◌<◌, ◌≤◌, List, [], ◌∷◌, ◌++◌, take, Option, Some, None, Bool, true, false, refl, sym, ap, subst, ◌∙◌, inl, inr, arith, is_none}
+use Rattle.std.specs.Prelude.{◌⊎◌, if◌then◌else◌, not, ◌&&◌, ◌||◌}
+use Rattle.std.specs.Bool.{Decides}
+use Rattle.std.specs.List.{slice_get, list_any, find}
+use Rattle.std.proofs.lemmas.Bool.{false≢true}
+use Rattle.std.proofs.lemmas.Bool.Decides.{Decides-or, Decides-like}
+use Rattle.ps_resolve.specs.Standing.{Lesser, SomeItem}
+
+pub of_test : (b : Bool) → Decides b (b ≡ true)
+of_test b = (λ e. e, λ e. e)
+
+-- a test of the items of a front
+pub any_of_take : {A : Type 0} (test : A → Bool) (P : A → Type 0) → ((a : A) → Decides (test a) (P a)) → (n : ℕ) (items : List A) → Decides (list_any test (take n items)) (Lesser n (λ i. (q : A) × (slice_get items i ≡ Some q) × P q))
+any_of_take test P d zero items = (λ e. absurd (false≢true e), λ t. absurd (omega (arith, t.1)))
+any_of_take test P d (suc n) [] = (λ e. absurd (false≢true e), λ t. absurd (let e = t.2.1 in cc))
+any_of_take {A} test P d (suc n) (a ∷ items) =
+    Decides-like (test a || list_any test (take n items))
+    (elim [ inl p ↦ (zero, omega arith, (a, refl, p)) | inr t ↦ (suc t.0, omega (arith, t.1), (t.2.0, t.2.1, t.2.2)) ])
+    (λ t. go t.0 t.2.0 t.1 t.2.1 t.2.2)
+    (Decides-or (test a) (list_any test (take n items)) (d a) (any_of_take test P d n items))
+  where
+    go : (i : ℕ) (q : A) → i < suc n → slice_get (a ∷ items) i ≡ Some q → P q → P a ⊎ Lesser n (λ i. (q : A) × (slice_get items i ≡ Some q) × P q)
+    go zero q h e p = inl (subst P (cc) p)
+    go (suc i) q h e p = inr (i, omega (arith, h), (q, e, p))
+
+pub any_of_items : {A : Type 0} (test : A → Bool) (P : A → Type 0) → ((a : A) → Decides (test a) (P a)) → (items : List A) → Decides (list_any test items) (SomeItem items (λ i q. P q))
+any_of_items test P d [] = (λ e. absurd (false≢true e), λ t. absurd (let e = t.2 in cc))
+any_of_items {A} test P d (a ∷ items) =
+    Decides-like (test a || list_any test items)
+    (elim [ inl p ↦ (zero, a, refl, p) | inr t ↦ (suc t.0, t.1, t.2, t.3) ])
+    (λ t. go t.0 t.1 t.2 t.3)
+    (Decides-or (test a) (list_any test items) (d a) (any_of_items test P d items))
+  where
+    go : (i : ℕ) (q : A) → slice_get (a ∷ items) i ≡ Some q → P q → P a ⊎ SomeItem items (λ i q. P q)
+    go zero q e p = inl (subst P (cc) p)
+    go (suc i) q e p = inr (i, q, e, p)
+
+pub none_of_items : {A : Type 0} (test : A → Bool) (items : List A) → is_none (find test items) ≡ not (list_any test items)
+none_of_items test [] = refl
+none_of_items {A} test (a ∷ items) = go (test a) (none_of_items test items)
+  where
+    go : (b : Bool) → is_none (find test items) ≡ not (list_any test items) → is_none (if b then Some a else find test items) ≡ not (b || list_any test items)
+    go true e = refl
+    go false e = e
+
+pub find_none : {A : Type 0} (test : A → Bool) (P : A → Type 0) → ((a : A) → Decides (test a) (P a)) → (items : List A) → find test items ≡ None → SomeItem items (λ i q. P q) → ⊥
+find_none test P d items e t = false≢true (sym (ap not ((any_of_items test P d items).1 t)) ∙ sym (none_of_items test items) ∙ ap is_none e)
+
+pub find_some : {A : Type 0} (test : A → Bool) (P : A → Type 0) → ((a : A) → Decides (test a) (P a)) → (items : List A) (x : A) → find test items ≡ Some x → SomeItem items (λ i q. (q ≡ x) × P q × ((j : ℕ) (e : A) → j < i → slice_get items j ≡ Some e → P e → ⊥))
+find_some test P d [] x = λ e. absurd (cc)
+find_some {A} test P d (a ∷ items) x = go (test a) (d a) (find_some test P d items x)
+  where
+    Found : List A → Type 0
+    Found xs = SomeItem xs (λ i q. (q ≡ x) × P q × ((j : ℕ) (e : A) → j < i → slice_get xs j ≡ Some e → P e → ⊥))
+
+    go : (b : Bool) → Decides b (P a) → (find test items ≡ Some x → Found items) → (if b then Some a else find test items) ≡ Some x → Found (a ∷ items)
+    go true h rest e = (zero, a, refl, (cc, h.0 refl, λ j q l g p. omega (arith, l)))
+    go false h rest e = let r = rest e in (suc r.0, r.1, r.2, (r.3.0, r.3.1, lesser r.0 r.3.2))
+      where
+        lesser : (i : ℕ) → ((j : ℕ) (e : A) → j < i → slice_get items j ≡ Some e → P e → ⊥) → (j : ℕ) (e : A) → j < suc i → slice_get (a ∷ items) j ≡ Some e → P e → ⊥
+        lesser i none zero q l g p = false≢true (h.1 (subst P (cc) p))
+        lesser i none (suc j) q l g p = none j q (omega (arith, l)) g p
+

@@ -1,0 +1,503 @@
+-- The first fault of the references is the least that stands.
+use Rattle.std.proofs.Common.{◌≡◌, ℕ, zero, suc, ◌+◌, ◌<◌, ◌≤◌, List, [], ◌∷◌, ◌++◌, length, take, map, Option, Some, None, Result, Ok, Err, Bool, true, false, refl, sym, ap, subst, ◌∙◌, inl, inr, arith, append_assoc, append-nil, is_some, leb-true, le-leb, unwrap_or}
+use Rattle.std.specs.Prelude.{◌≢◌, ◌⊎◌, if◌then◌else◌, ◌&&◌, ◌||◌, nat_le, nat_lt}
+use Rattle.std.specs.Bool.{Decides}
+use Rattle.std.specs.List.{range_with_len, enumerate_from, slice_get, list_any, flat_map, filter_map, cons_option}
+use Rattle.std.specs.Map.{lookup}
+use Rattle.std.specs.Option.{option_map, option_or}
+use Rattle.std.specs.Result.{result_err}
+use Rattle.std.specs.Str.{bytes_eq}
+use Rattle.std.proofs.lemmas.Bool.{cases_lt, false≢true}
+use Rattle.std.proofs.lemmas.Bool.Decides.{Decides-at, Decides-ltb, Decides-and, Decides-or, Decides-like}
+use Rattle.std.proofs.lemmas.Grind.{flat_map-append}
+use Rattle.std.proofs.lemmas.List.{map-append}
+use Rattle.std.proofs.lemmas.List.Folds.{list_any-append}
+use Rattle.std.proofs.lemmas.Slice.Eq.{bytes_eq-Decides}
+use Rattle.ps_codefile.specs.Procedures.{is_reserved}
+use Rattle.ps_linkinfo.specs.Records.{refs_of}
+use Rattle.ps_linkinfo.specs.declared.record.Body.{Body}
+use Rattle.ps_linkinfo.specs.declared.record.Body.TheVariants.{UnitRef, PublRef, PrivRef, PublDef, ConstDef, Eof}
+use Rattle.ps_linkinfo.specs.declared.record.LinkRecord.{LinkRecord as Record}
+use Rattle.ps_resolve.specs.First.{Before, Least, nothing, this}
+use Rattle.ps_resolve.specs.Searches.{first_of, fault_if}
+use Rattle.ps_resolve.specs.Sources.{Segment, segments, host_records, is_unit, units_of}
+use Rattle.ps_resolve.specs.Symbols.{definitions, definition_of}
+use Rattle.ps_resolve.specs.Privates.{words_of, owner_of, all_words, next_of}
+use Rattle.ps_resolve.specs.Operands.{width_of, value_of, is_in, reference_reason, operands, refs_fault}
+use Rattle.ps_resolve.specs.References.{Known, public_base, unit_slot, target_in, target_of, words_taken, records_fault}
+use Rattle.ps_resolve.specs.Linking.{known_of}
+use Rattle.ps_resolve.specs.Faults.{in_segment, segment_fault, references_fault_from, references_fault}
+use Rattle.ps_resolve.specs.Standing.{Because, Lesser, SomeItem, SomeSegment, OfReferences, part, Precedes, offset_of, Defines, RecordHas, operand_width, definition_value, operand_value, Covers, Meet, ReferenceHas, InReferences}
+use Rattle.ps_resolve.specs.declared.definitions.Def.{Def}
+use Rattle.ps_resolve.specs.declared.definitions.DefKind.{DefKind}
+use Rattle.ps_resolve.specs.declared.definitions.DefKind.TheVariants.{Public, Constant}
+use Rattle.ps_resolve.specs.declared.references.Target.{Target}
+use Rattle.ps_resolve.specs.declared.references.Target.TheVariants.{Slot, Base}
+use Rattle.ps_laws.proofs.Least.{least_same, least_or, least_if, least_items, at_apart}
+use Rattle.ps_laws.proofs.Steps.{Ranked, because, because_apart, any_of_range}
+use Rattle.ps_laws.proofs.Looking.{of_test, any_of_take, any_of_items}
+use Rattle.ps_laws.proofs.Segments.{over_segments, Ascends, ascend}
+use Rattle.ps_laws.proofs.Definitions.{take_front, longer}
+use Rattle.ps_laws.proofs.Privates.{AreBelow, below_from, below_more, offset_in, words_split, more_words}
+use Rattle.ps_words.specs.FaultPlaces.{in_record, in_reference}
+use Rattle.ps_words.specs.declared.order.Order.{Order}
+use Rattle.ps_words.specs.declared.fault.Reason.{Reason}
+use Rattle.ps_words.specs.declared.fault.Reason.TheVariants as reason
+use Rattle.ps_words.specs.declared.fault.Fault.{Fault}
+
+-- tests of lists that are made of others
+any_map : {A C : Type 0} (test : C → Bool) (f : A → C) (xs : List A) → list_any test (map f xs) ≡ list_any (λ x. test (f x)) xs
+any_map test f [] = refl
+any_map test f (x ∷ xs) = ap (λ (b : Bool). test (f x) || b) (any_map test f xs)
+
+any_flat : {A C : Type 0} (test : C → Bool) (f : A → List C) (xs : List A) → list_any test (flat_map f xs) ≡ list_any (λ x. list_any test (f x)) xs
+any_flat test f [] = refl
+any_flat test f (x ∷ xs) = list_any-append test (f x) (flat_map f xs) ∙ ap (λ (b : Bool). list_any test (f x) || b) (any_flat test f xs)
+
+map_or : {A C : Type 0} (f : A → C) (o p : Option A) → option_map f (option_or o p) ≡ option_or (option_map f o) (option_map f p)
+map_or f None p = refl
+map_or f (Some a) p = refl
+
+map_map : {A C D : Type 0} (f : C → D) (g : A → C) (o : Option A) → option_map f (option_map g o) ≡ option_map (λ a. f (g a)) o
+map_map f g None = refl
+map_map f g (Some a) = refl
+
+-- 1. the record's name
+named_none : {D : Type 0} (name : List ℕ) (ds : List (List ℕ × D)) → lookup (bytes_eq name) ds ≡ None → SomeItem ds (λ k e. e.0 ≡ name) → ⊥
+named_none name [] e t = absurd (let g = t.2 in cc)
+named_none {D} name (d ∷ ds) e t = go (bytes_eq name d.0) (bytes_eq-Decides name d.0) (named_none name ds) e
+  where
+    at : ((SomeItem ds (λ k e. e.0 ≡ name)) → ⊥) → (name ≡ d.0 → ⊥) → (i : ℕ) (x : List ℕ × D) → slice_get (d ∷ ds) i ≡ Some x → x.0 ≡ name → ⊥
+    at rest differs zero x g h = differs (sym h ∙ ap (λ (y : List ℕ × D). y.0) (let u : x ≡ d = cc in u))
+    at rest differs (suc i) x g h = rest (i, x, g, h)
+
+    go : (b : Bool) → Decides b (name ≡ d.0) → (lookup (bytes_eq name) ds ≡ None → SomeItem ds (λ k e. e.0 ≡ name) → ⊥) → (if b then Some d.1 else lookup (bytes_eq name) ds) ≡ None → ⊥
+    go true h rest e = absurd (cc)
+    go false h rest e = at (rest e) (λ same. false≢true (h.1 same)) t.0 t.1 t.2 t.3
+
+abbrev Earliest : {D : Type 0} → List (List ℕ × D) → List ℕ → ℕ → Type 0
+Earliest {D} ds name k = (lesser : ℕ) (other : List ℕ × D) → lesser < k → slice_get ds lesser ≡ Some other → other.0 ≢ name
+
+named_some : {D : Type 0} (name : List ℕ) (ds : List (List ℕ × D)) (d : D) → lookup (bytes_eq name) ds ≡ Some d → SomeItem ds (λ k e. ((e.0 ≡ name) × (e.1 ≡ d)) × Earliest ds name k)
+named_some name [] d e = absurd (cc)
+named_some {D} name (x ∷ ds) d e = go (bytes_eq name x.0) (bytes_eq-Decides name x.0) (named_some name ds d) e
+  where
+    Found : List (List ℕ × D) → Type 0
+    Found xs = SomeItem xs (λ k e. ((e.0 ≡ name) × (e.1 ≡ d)) × Earliest xs name k)
+
+    later : (k : ℕ) → (name ≡ x.0 → ⊥) → Earliest ds name k → Earliest (x ∷ ds) name (suc k)
+    later k differs rest zero other l g h = differs (sym h ∙ ap (λ (y : List ℕ × D). y.0) (let u : other ≡ x = cc in u))
+    later k differs rest (suc j) other l g h = rest j other (omega (arith, l)) g h
+
+    go : (b : Bool) → Decides b (name ≡ x.0) → (lookup (bytes_eq name) ds ≡ Some d → Found ds) → (if b then Some x.1 else lookup (bytes_eq name) ds) ≡ Some d → Found (x ∷ ds)
+    go true h rest e = (zero, x, refl, ((sym (h.0 refl), cc), λ lesser other l g q. omega (arith, l)))
+    go false h rest e = let r = rest e in (suc r.0, r.1, r.2, (r.3.0, later r.0 (λ same. false≢true (h.1 same)) r.3.1))
+
+abbrev unit_named : List ℕ → Segment → Bool
+unit_named name q = is_unit q.role && bytes_eq name q.name
+
+units_known : (name : List ℕ) (segs : List Segment) → is_some (lookup (bytes_eq name) (units_of segs)) ≡ list_any (unit_named name) segs
+units_known name [] = refl
+units_known name (s ∷ segs) = go (is_unit s.role) (units_known name segs)
+  where
+    go : (b : Bool) → is_some (lookup (bytes_eq name) (units_of segs)) ≡ list_any (unit_named name) segs
+        → is_some (lookup (bytes_eq name) (cons_option (if b then Some (s.name, s.slot) else None) (units_of segs))) ≡ ((b && bytes_eq name s.name) || list_any (unit_named name) segs)
+    go false e = e
+    go true e = at (bytes_eq name s.name)
+      where
+        at : (b : Bool) → is_some (if b then Some s.slot else lookup (bytes_eq name) (units_of segs)) ≡ (b || list_any (unit_named name) segs)
+        at true = refl
+        at false = e
+
+units_named : (name : List ℕ) (segs : List Segment) → Decides (is_some (lookup (bytes_eq name) (units_of segs))) (SomeItem segs (λ k q. (is_unit q.role ≡ true) × (q.name ≡ name)))
+units_named name segs =
+    Decides-at (is_some (lookup (bytes_eq name) (units_of segs))) (list_any (unit_named name) segs) (units_known name segs)
+    (any_of_items (unit_named name) (λ q. (is_unit q.role ≡ true) × (q.name ≡ name))
+    (λ q. Decides-and (is_unit q.role) (bytes_eq name q.name) (of_test (is_unit q.role)) (Decides-like (bytes_eq name q.name) (λ e. sym e) (λ e. sym e) (bytes_eq-Decides name q.name))) segs)
+
+one_definition : (ds : List (List ℕ × Def)) (name : List ℕ) (d e : Def) → Defines ds name d → Defines ds name e → d ≡ e
+one_definition ds name d e a b = elim (cases_lt a.0 b.0) [
+    inl h ↦ absurd (b.3.1 a.0 a.1 h a.2 a.3.0.0)
+  | inr h ↦ elim (cases_lt b.0 a.0) [
+        inl k ↦ absurd (a.3.1 b.0 b.1 k b.2 b.3.0.0)
+      | inr k ↦
+          let at : b.0 ≡ a.0 = omega (arith, h, k) in
+          let same : b.1 ≡ a.1 = (let p = a.2 in let q = b.2 in cc) in
+          sym a.3.0.1 ∙ (sym (ap (λ (x : List ℕ × Def). x.1) same) ∙ b.3.0.1)
+    ]
+]
+
+record_rows : (segs : List Segment) (off : ℕ) (name : List ℕ) (body : Body) → Least Ranked (RecordHas segs name body) (result_err (target_in (known_of segs) off name body))
+record_rows segs off name (PrivRef words refs) = nothing (λ y h. h)
+record_rows segs off name (PublDef value) = nothing (λ y h. h)
+record_rows segs off name (ConstDef value) = nothing (λ y h. h)
+record_rows segs off name (Eof next) = nothing (λ y h. h)
+record_rows segs off name (UnitRef refs) = go (lookup (bytes_eq name) (units_of segs)) refl
+  where
+    go : (o : Option ℕ) → lookup (bytes_eq name) (units_of segs) ≡ o → Least Ranked (RecordHas segs name (UnitRef refs)) (result_err (unit_slot o))
+    go None e = this reason.MissingUnitRef (λ t. false≢true (sym (ap is_some e) ∙ (units_named name segs).1 t)) least
+      where
+        least : (y : Reason) → RecordHas segs name (UnitRef refs) y → (y ≡ reason.MissingUnitRef) ⊎ Ranked reason.MissingUnitRef y
+        least reason.MissingUnitRef h = inl refl
+        least other h = absurd h
+    go (Some slot) e = nothing none
+      where
+        none : (y : Reason) → RecordHas segs name (UnitRef refs) y → ⊥
+        none reason.MissingUnitRef h = h ((units_named name segs).0 (ap is_some e))
+        none other h = h
+record_rows segs off name (PublRef refs) = go (definition_of name ds) refl
+  where
+    ds : List (List ℕ × Def)
+    ds = definitions (host_records segs)
+
+    any : (d : Def) → Defines ds name d → SomeItem ds (λ k e. e.0 ≡ name)
+    any d t = (t.0, t.1, t.2, t.3.0.0)
+
+    go : (o : Option Def) → definition_of name ds ≡ o → Least Ranked (RecordHas segs name (PublRef refs)) (result_err (public_base o))
+    go None e = this reason.MissingDefinition (named_none name ds e) least
+      where
+        least : (y : Reason) → RecordHas segs name (PublRef refs) y → (y ≡ reason.MissingDefinition) ⊎ Ranked reason.MissingDefinition y
+        least reason.MissingDefinition h = inl refl
+        least reason.IllKind h = inr (omega arith)
+        least other h = absurd h
+    go (Some d) e = at d.kind refl
+      where
+        found : Defines ds name d
+        found = named_some name ds d e
+
+        at : (k : DefKind) → d.kind ≡ k → Least Ranked (RecordHas segs name (PublRef refs)) (result_err (elim k [ Public ↦ Ok (Base d.value) | Constant ↦ Err reason.IllKind ]))
+        at Constant is = this reason.IllKind (d, found, is) least
+          where
+            least : (y : Reason) → RecordHas segs name (PublRef refs) y → (y ≡ reason.IllKind) ⊎ Ranked reason.IllKind y
+            least reason.MissingDefinition h = absurd (h (any d found))
+            least reason.IllKind h = inl refl
+            least other h = absurd h
+        at Public is = nothing none
+          where
+            none : (y : Reason) → RecordHas segs name (PublRef refs) y → ⊥
+            none reason.MissingDefinition h = h (any d found)
+            none reason.IllKind h = let same = one_definition ds name h.0 d h.1 found in let kind = h.2 in cc
+            none other h = h
+
+-- 2. the operands
+abbrev operands_of : Record → List (ℕ × ℕ)
+operands_of q = map (λ (y : ℕ). (y, operand_width q.body)) (refs_of q.body)
+
+-- the operands of the records before, and those of the record's own references before
+abbrev before : List Record → ℕ → List (ℕ × ℕ)
+before records rec = flat_map operands_of (take rec records)
+
+abbrev own : Body → ℕ → List (ℕ × ℕ)
+own body i = map (λ (y : ℕ). (y, operand_width body)) (take i (refs_of body))
+
+at_most : (a b : ℕ) → Decides (nat_le a b) (a ≤ b)
+at_most a b = (λ e. leb-true a b e, λ h. le-leb a b h)
+
+in_operand : (p y w : ℕ) → Decides (is_in p (y, w)) ((y ≤ p) × (p < y + w))
+in_operand p y w = Decides-and (nat_le y p) (nat_lt p (y + w)) (at_most y p) (Decides-ltb p (y + w))
+
+abbrev BeforeCovers : List Record → ℕ → ℕ → Type 0
+BeforeCovers records rec p = Lesser rec (λ o. (q : Record) × (slice_get records o ≡ Some q) × SomeItem (refs_of q.body) (λ j y. Covers q.body y p))
+
+abbrev OwnCovers : Body → ℕ → ℕ → Type 0
+OwnCovers body i p = Lesser i (λ j. (y : ℕ) × (slice_get (refs_of body) j ≡ Some y) × Covers body y p)
+
+taken_covers : (records : List Record) (rec i : ℕ) (body : Body) (p : ℕ) → Decides (list_any (is_in p) (before records rec ++ own body i)) (BeforeCovers records rec p ⊎ OwnCovers body i p)
+taken_covers records rec i body p =
+    Decides-at (list_any (is_in p) (before records rec ++ own body i)) (list_any (is_in p) (before records rec) || list_any (is_in p) (own body i)) (list_any-append (is_in p) (before records rec) (own body i))
+    (Decides-or (list_any (is_in p) (before records rec)) (list_any (is_in p) (own body i))
+    (Decides-at (list_any (is_in p) (before records rec)) (list_any (λ q. list_any (is_in p) (operands_of q)) (take rec records)) (any_flat (is_in p) operands_of (take rec records))
+    (any_of_take (λ q. list_any (is_in p) (operands_of q)) (λ q. SomeItem (refs_of q.body) (λ j y. Covers q.body y p))
+    (λ q. Decides-at (list_any (is_in p) (operands_of q)) (list_any (λ y. is_in p (y, operand_width q.body)) (refs_of q.body)) (any_map (is_in p) (λ (y : ℕ). (y, operand_width q.body)) (refs_of q.body))
+    (any_of_items (λ y. is_in p (y, operand_width q.body)) (λ y. Covers q.body y p) (λ y. in_operand p y (operand_width q.body)) (refs_of q.body))) rec records))
+    (Decides-at (list_any (is_in p) (own body i)) (list_any (λ y. is_in p (y, operand_width body)) (take i (refs_of body))) (any_map (is_in p) (λ (y : ℕ). (y, operand_width body)) (take i (refs_of body)))
+    (any_of_take (λ y. is_in p (y, operand_width body)) (λ y. Covers body y p) (λ y. in_operand p y (operand_width body)) i (refs_of body))))
+
+abbrev overlaps : List Record → ℕ → ℕ → Body → ℕ → Bool
+overlaps records rec i body x = list_any (λ p. list_any (is_in p) (before records rec ++ own body i)) (range_with_len x (operand_width body))
+
+abbrev Overlaps : List Record → ℕ → ℕ → Record → ℕ → Type 0
+Overlaps records rec i r x = SomeItem records (λ lesser q. SomeItem (refs_of q.body) (λ j y. Before (lesser ∷ j ∷ []) (rec ∷ i ∷ []) × Meet r.body x q.body y))
+
+overlapping : (records : List Record) (rec i : ℕ) (r : Record) (x : ℕ) → slice_get records rec ≡ Some r → Decides (overlaps records rec i r.body x) (Overlaps records rec i r x)
+overlapping records rec i r x er =
+    Decides-like (overlaps records rec i r.body x) (λ t. to t.0 t.1 t.2 t.3) (λ t. from t.0 t.1 t.2 t.3.0 t.3.1 t.3.2 t.3.3.0 t.3.3.1.0 t.3.3.1.1 t.3.3.1.2)
+    (any_of_range (λ p. list_any (is_in p) (before records rec ++ own r.body i)) (λ p. BeforeCovers records rec p ⊎ OwnCovers r.body i p) (λ p. taken_covers records rec i r.body p) x (operand_width r.body))
+  where
+    to : (p : ℕ) → x ≤ p → p < x + operand_width r.body → BeforeCovers records rec p ⊎ OwnCovers r.body i p → Overlaps records rec i r x
+    to p low high (inl t) = (t.0, t.2.0, t.2.1, (t.2.2.0, t.2.2.1, t.2.2.2, (inl t.1, (p, (low, high), t.2.2.3))))
+    to p low high (inr t) = (rec, r, er, (t.0, t.2.0, t.2.1, (inr (refl, inl t.1), (p, (low, high), t.2.2))))
+
+    from : (o : ℕ) (q : Record) → slice_get records o ≡ Some q → (j y : ℕ) → slice_get (refs_of q.body) j ≡ Some y → Before (o ∷ j ∷ []) (rec ∷ i ∷ []) → (p : ℕ) → Covers r.body x p → Covers q.body y p
+        → (p : ℕ) × (x ≤ p) × (p < x + operand_width r.body) × (BeforeCovers records rec p ⊎ OwnCovers r.body i p)
+    from o q a j y g (inl h) p cx cy = (p, cx.0, cx.1, inl (o, h, (q, a, (j, y, g, cy))))
+    from o q a j y g (inr t) p cx cy =
+        let same : q ≡ r = (let d = t.0 in cc) in
+        elim t.1 [
+            inl h ↦ (p, cx.0, cx.1, inr (j, h, (y, subst (λ (z : Record). slice_get (refs_of z.body) j ≡ Some y) same g, subst (λ (z : Record). Covers z.body y p) same cy)))
+          | inr u ↦ absurd u.1
+        ]
+
+wide : (body : Body) (i x : ℕ) → slice_get (refs_of body) i ≡ Some x → 0 < operand_width body
+wide (UnitRef refs) i x e = omega arith
+wide (PublRef refs) i x e = omega arith
+wide (PrivRef words refs) i x e = omega arith
+wide (PublDef value) i x e = absurd (cc)
+wide (ConstDef value) i x e = absurd (cc)
+wide (Eof next) i x e = absurd (cc)
+
+past : (len x w : ℕ) → 0 < w → Decides (nat_lt len (x + w)) ((p : ℕ) × ((x ≤ p) × (p < x + w)) × (len ≤ p))
+past len x w h =
+    Decides-like (nat_lt len (x + w))
+    (λ b. elim (cases_lt len x) [ inl a ↦ (x, (omega arith, omega (arith, h)), omega (arith, a)) | inr a ↦ (len, (a, b), omega arith) ])
+    (λ t. let a = t.1.1 in let b = t.2 in omega (arith, a, b))
+    (Decides-ltb len (x + w))
+
+-- why there is no operand of so many bytes at x that becomes v, where these are taken
+abbrev reason_with : (ℕ → Bool) → List ℕ → List (ℕ × ℕ) → ℕ → ℕ → ℕ → Option Reason
+reason_with reserved code taken w v x =
+    option_or (fault_if (nat_lt (length code) (x + w)) reason.OutsideCode)
+    (option_or (fault_if (list_any reserved (range_with_len x w)) reason.ReservedPlace)
+    (option_or (fault_if (list_any (λ p. list_any (is_in p) taken) (range_with_len x w)) reason.Overlap)
+    (fault_if (nat_lt 32767 v) reason.OperandTooLarge)))
+
+abbrev reason_at : Order → List Segment → Segment → ℕ → Record → ℕ × ℕ → Option Reason
+reason_at order segs s rec r ref = reason_with (is_reserved order s.code) s.code (before s.records rec ++ own r.body ref.0) (operand_width r.body) (operand_value segs s rec r.name r.body ref.1) ref.1
+
+reference_rows : (order : Order) (segs : List Segment) (s : Segment) (rec : ℕ) (r : Record) (i x : ℕ) → slice_get s.records rec ≡ Some r → slice_get (refs_of r.body) i ≡ Some x → Least Ranked (ReferenceHas order segs s rec r i x) (reason_at order segs s rec r (i, x))
+reference_rows order segs s rec r i x er ex =
+    least_same to from
+    (least_or (least_if (nat_lt (length s.code) (x + operand_width r.body)) reason.OutsideCode (past (length s.code) x (operand_width r.body) (wide r.body i x ex)))
+    (least_or (least_if (list_any (is_reserved order s.code) (range_with_len x (operand_width r.body))) reason.ReservedPlace reserved)
+    (least_or (least_if (overlaps s.records rec i r.body x) reason.Overlap (overlapping s.records rec i r x er))
+    (least_if (nat_lt 32767 (operand_value segs s rec r.name r.body x)) reason.OperandTooLarge (Decides-ltb 32767 (operand_value segs s rec r.name r.body x)))
+    (at_apart Ranked reason.Overlap reason.OperandTooLarge (omega arith)))
+    (λ y z t. elim [ inl u ↦ at_apart Ranked reason.ReservedPlace reason.Overlap (omega arith) y z t u | inr u ↦ at_apart Ranked reason.ReservedPlace reason.OperandTooLarge (omega arith) y z t u ]))
+    (λ y z t. elim [
+        inl u ↦ at_apart Ranked reason.OutsideCode reason.ReservedPlace (omega arith) y z t u
+      | inr v ↦ elim v [ inl u ↦ at_apart Ranked reason.OutsideCode reason.Overlap (omega arith) y z t u | inr u ↦ at_apart Ranked reason.OutsideCode reason.OperandTooLarge (omega arith) y z t u ]
+    ]))
+  where
+    Has : Reason → Type 0
+    Has = ReferenceHas order segs s rec r i x
+
+    Parts : Reason → Type 0
+    Parts y = ((y ≡ reason.OutsideCode) × Has reason.OutsideCode) ⊎ (((y ≡ reason.ReservedPlace) × Has reason.ReservedPlace) ⊎ (((y ≡ reason.Overlap) × Has reason.Overlap) ⊎ ((y ≡ reason.OperandTooLarge) × Has reason.OperandTooLarge)))
+
+    reserved : Decides (list_any (is_reserved order s.code) (range_with_len x (operand_width r.body))) (Has reason.ReservedPlace)
+    reserved = Decides-like (list_any (is_reserved order s.code) (range_with_len x (operand_width r.body))) (λ t. (t.0, (t.1, t.2), t.3)) (λ t. (t.0, t.1.0, t.1.1, t.2)) (any_of_range (is_reserved order s.code) (λ p. is_reserved order s.code p ≡ true) (λ p. of_test (is_reserved order s.code p)) x (operand_width r.body))
+
+    to : (y : Reason) → Parts y → Has y
+    to y (inl t) = subst Has (sym t.0) t.1
+    to y (inr (inl t)) = subst Has (sym t.0) t.1
+    to y (inr (inr (inl t))) = subst Has (sym t.0) t.1
+    to y (inr (inr (inr t))) = subst Has (sym t.0) t.1
+
+    from : (y : Reason) → Has y → Parts y
+    from reason.OutsideCode h = inl (refl, h)
+    from reason.ReservedPlace h = inr (inl (refl, h))
+    from reason.Overlap h = inr (inr (inl (refl, h)))
+    from reason.OperandTooLarge h = inr (inr (inr (refl, h)))
+    from other h = absurd h
+
+-- the places of a record's faults
+abbrev At : ℕ → ℕ → Fault → Type 0
+At slot rec f = (unwrap_or f.slot f.file ≡ slot) × (part f.rec ≡ rec + 1)
+
+abbrev RecordFaults : Order → List Segment → Segment → ℕ → Record → Fault → Type 0
+RecordFaults order segs s rec r f =
+    Because (in_record s.file s.slot rec) (RecordHas segs r.name r.body) f
+    ⊎ SomeItem (refs_of r.body) (λ i x. Because (in_reference s.file s.slot rec i) (ReferenceHas order segs s rec r i x) f)
+
+at_record : (order : Order) (segs : List Segment) (s : Segment) (rec : ℕ) (r : Record) (f : Fault) → RecordFaults order segs s rec r f → At s.slot rec f
+at_record order segs s rec r f (inl t) = (ap (λ (g : Fault). unwrap_or g.slot g.file) t.1, ap (λ (g : Fault). part g.rec) t.1)
+at_record order segs s rec r f (inr t) = (ap (λ (g : Fault). unwrap_or g.slot g.file) t.3.1, ap (λ (g : Fault). part g.rec) t.3.1)
+
+abbrev references_of : Order → List Segment → Segment → ℕ → Record → ℕ × ℕ → Option Fault
+references_of order segs s rec r ref = option_map (in_reference s.file s.slot rec ref.0) (reason_at order segs s rec r ref)
+
+abbrev record_fault : Order → List Segment → Segment → ℕ × Record → Option Fault
+record_fault order segs s r =
+    option_or (option_map (in_record s.file s.slot r.0) (result_err (target_of (known_of segs) (offset_of segs s.slot r.0) r.1)))
+    (first_of (references_of order segs s r.0 r.1) (enumerate_from 0 (refs_of r.1.body)))
+
+of_record : (order : Order) (segs : List Segment) (s : Segment) (rec : ℕ) (r : Record) → slice_get s.records rec ≡ Some r → Least (Precedes OfReferences) (RecordFaults order segs s rec r) (record_fault order segs s (rec, r))
+of_record order segs s rec r er =
+    least_or
+    (because OfReferences (in_record s.file s.slot rec) (λ a b h. inr (refl, inr (refl, inr (refl, inr (refl, inl h))))) (record_rows segs (offset_of segs s.slot rec) r.name r.body))
+    (least_items (references_of order segs s rec r) (refs_of r.body)
+    (λ i x ex. because OfReferences (in_reference s.file s.slot rec i) (λ a b h. inr (refl, inr (refl, inr (refl, inr (refl, inl h))))) (reference_rows order segs s rec r i x er ex))
+    (λ i j a b x y h. because_apart OfReferences (in_reference s.file s.slot rec i) (in_reference s.file s.slot rec j) (λ q p. inr (refl, inr (refl, inr (refl, inl (omega (arith, h)))))) x y))
+    (λ x y a t. because_apart OfReferences (in_record s.file s.slot rec) (in_reference s.file s.slot rec t.0) (λ q p. inr (refl, inr (refl, inr (refl, inl (omega arith))))) x y a t.3)
+
+-- 3. the search that carries the operands and the offset so far is the one that looks back
+refs_carried : (order : Order) (segs : List Segment) (s : Segment) (rec : ℕ) (r : Record) (t : Target) → width_of t ≡ operand_width r.body → ((x : ℕ) → value_of s.code t x ≡ operand_value segs s rec r.name r.body x)
+    → (done xs : List ℕ) (i : ℕ) → refs_of r.body ≡ done ++ xs → i ≡ length done
+    → option_map (λ (f : ℕ × Reason). in_reference s.file s.slot rec f.0 f.1) (refs_fault (is_reserved order s.code) s.code t i (before s.records rec ++ map (λ (y : ℕ). (y, operand_width r.body)) done) xs) ≡ first_of (references_of order segs s rec r) (enumerate_from i xs)
+refs_carried order segs s rec r t w v done [] i is at = refl
+refs_carried order segs s rec r t w v done (x ∷ xs) i is at =
+    map_or h (option_map (λ (why : Reason). (i, why)) (reference_reason R s.code taken t x)) (refs_fault R s.code t (i + 1) (taken ++ (x, width_of t) ∷ []) xs)
+    ∙ (ap (λ (o : Option Fault). option_or o (option_map h (refs_fault R s.code t (i + 1) (taken ++ (x, width_of t) ∷ []) xs))) (map_map h (λ (why : Reason). (i, why)) (reference_reason R s.code taken t x) ∙ ap (option_map (in_reference s.file s.slot rec i)) same)
+    ∙ ap (option_or (references_of order segs s rec r (i, x)))
+    (ap (λ (os : List (ℕ × ℕ)). option_map h (refs_fault R s.code t (i + 1) os xs)) more
+    ∙ refs_carried order segs s rec r t w v (done ++ x ∷ []) xs (i + 1) (is ∙ sym (append_assoc done (x ∷ []) xs)) (let l = longer done x in omega (arith, l, at))))
+  where
+    h : ℕ × Reason → Fault
+    h f = in_reference s.file s.slot rec f.0 f.1
+
+    R : ℕ → Bool
+    R = is_reserved order s.code
+
+    operand : ℕ → ℕ × ℕ
+    operand y = (y, operand_width r.body)
+
+    taken : List (ℕ × ℕ)
+    taken = before s.records rec ++ map operand done
+
+    done_is : take i (refs_of r.body) ≡ done
+    done_is = ap (λ (ys : List ℕ). take i ys) is ∙ (ap (λ (n : ℕ). take n (done ++ x ∷ xs)) at ∙ take_front done (x ∷ xs))
+
+    same : reference_reason R s.code taken t x ≡ reason_at order segs s rec r (i, x)
+    same =
+        ap (λ (n : ℕ). reason_with R s.code taken n (value_of s.code t x) x) w
+        ∙ (ap (λ (n : ℕ). reason_with R s.code taken (operand_width r.body) n x) (v x)
+        ∙ ap (λ (ys : List ℕ). reason_with R s.code (before s.records rec ++ map operand ys) (operand_width r.body) (operand_value segs s rec r.name r.body x) x) (sym done_is))
+
+    more : taken ++ (x, width_of t) ∷ [] ≡ before s.records rec ++ map operand (done ++ x ∷ [])
+    more =
+        ap (λ (n : ℕ). taken ++ (x, n) ∷ []) w
+        ∙ (append_assoc (before s.records rec) (map operand done) (operand x ∷ [])
+        ∙ ap (λ (os : List (ℕ × ℕ)). before s.records rec ++ os) (sym (map-append operand done (x ∷ []))))
+
+-- what a record's references become has its width and its value
+abbrev Fits : List Segment → Segment → ℕ → List ℕ → Body → Target → Type 0
+Fits segs s rec name body t = (refs_of body ≡ []) ⊎ ((width_of t ≡ operand_width body) × ((x : ℕ) → value_of s.code t x ≡ operand_value segs s rec name body x))
+
+fits : (segs : List Segment) (s : Segment) (rec : ℕ) (name : List ℕ) (body : Body) (t : Target) → target_in (known_of segs) (offset_of segs s.slot rec) name body ≡ Ok t → Fits segs s rec name body t
+fits segs s rec name (PublDef value) t e = inl refl
+fits segs s rec name (ConstDef value) t e = inl refl
+fits segs s rec name (Eof next) t e = inl refl
+fits segs s rec name (PrivRef words refs) t e =
+    let is : Base (offset_of segs s.slot rec) ≡ t = cc in
+    subst (Fits segs s rec name (PrivRef words refs)) is (inr (refl, λ x. refl))
+fits segs s rec name (UnitRef refs) t e = go (lookup (bytes_eq name) (units_of segs)) e
+  where
+    go : (o : Option ℕ) → unit_slot o ≡ Ok t → Fits segs s rec name (UnitRef refs) t
+    go None e = absurd (cc)
+    go (Some slot) e = let is : Slot slot ≡ t = cc in subst (Fits segs s rec name (UnitRef refs)) is (inr (refl, λ x. refl))
+fits segs s rec name (PublRef refs) t e = go (definition_of name (definitions (host_records segs))) refl e
+  where
+    go : (o : Option Def) → definition_of name (definitions (host_records segs)) ≡ o → public_base o ≡ Ok t → Fits segs s rec name (PublRef refs) t
+    go None d e = absurd (cc)
+    go (Some d) found e = at d.kind e
+      where
+        at : (k : DefKind) → (elim k as (λ _. Result Target Reason) [ Public ↦ Ok (Base d.value) | Constant ↦ Err reason.IllKind ]) ≡ Ok t → Fits segs s rec name (PublRef refs) t
+        at Constant e = absurd (cc)
+        at Public e =
+            let is : Base d.value ≡ t = cc in
+            subst (Fits segs s rec name (PublRef refs)) is (inr (refl, λ x. rw found refl))
+
+-- the references of a record
+refs_of_record : (order : Order) (segs : List Segment) (s : Segment) (rec : ℕ) (r : Record) (t : Target) (taken : List (ℕ × ℕ)) → taken ≡ before s.records rec → Fits segs s rec r.name r.body t
+    → option_map (λ (f : ℕ × Reason). in_reference s.file s.slot rec f.0 f.1) (refs_fault (is_reserved order s.code) s.code t 0 taken (refs_of r.body)) ≡ first_of (references_of order segs s rec r) (enumerate_from 0 (refs_of r.body))
+refs_of_record order segs s rec r t taken is (inl none) =
+    ap (λ (xs : List ℕ). option_map (λ (f : ℕ × Reason). in_reference s.file s.slot rec f.0 f.1) (refs_fault (is_reserved order s.code) s.code t 0 taken xs)) none
+    ∙ sym (ap (λ (xs : List ℕ). first_of (references_of order segs s rec r) (enumerate_from 0 xs)) none)
+refs_of_record order segs s rec r t taken is (inr fit) =
+    ap (λ (os : List (ℕ × ℕ)). option_map (λ (f : ℕ × Reason). in_reference s.file s.slot rec f.0 f.1) (refs_fault (is_reserved order s.code) s.code t 0 os (refs_of r.body))) (is ∙ sym (append-nil (before s.records rec)))
+    ∙ refs_carried order segs s rec r t fit.0 fit.1 [] (refs_of r.body) 0 refl refl
+
+operands_are : (segs : List Segment) (s : Segment) (rec : ℕ) (r : Record) (t : Target) → Fits segs s rec r.name r.body t → operands t (refs_of r.body) ≡ operands_of r
+operands_are segs s rec r t (inl none) = ap (λ (xs : List ℕ). operands t xs) none ∙ sym (ap (λ (xs : List ℕ). map (λ (y : ℕ). (y, operand_width r.body)) xs) none)
+operands_are segs s rec r t (inr fit) = ap (λ (n : ℕ). map (λ (y : ℕ). (y, n)) (refs_of r.body)) fit.0
+
+carried : (order : Order) (segs : List Segment) (s : Segment) (base : ℕ) → ((n : ℕ) → offset_of segs s.slot n ≡ base + words_of (take n s.records))
+    → (front rs : List Record) (rec : ℕ) → s.records ≡ front ++ rs → rec ≡ length front
+    → option_map (in_segment s.file s.slot) (records_fault (known_of segs) (is_reserved order s.code) s.code rec (offset_of segs s.slot rec) (flat_map operands_of front) rs) ≡ first_of (record_fault order segs s) (enumerate_from rec rs)
+carried order segs s base offsets front [] rec is at = refl
+carried order segs s base offsets front (r ∷ rs) rec is at =
+    go (target_of known free r) refl (carried order segs s base offsets (front ++ r ∷ []) rs (rec + 1) (is ∙ sym (append_assoc front (r ∷ []) rs)) (let l = longer front r in omega (arith, l, at)))
+  where
+    known : Known
+    known = known_of segs
+
+    free : ℕ
+    free = offset_of segs s.slot rec
+
+    R : ℕ → Bool
+    R = is_reserved order s.code
+
+    taken : List (ℕ × ℕ)
+    taken = flat_map operands_of front
+
+    front_is : take rec s.records ≡ front
+    front_is = ap (λ (records : List Record). take rec records) is ∙ (ap (λ (n : ℕ). take n (front ++ r ∷ rs)) at ∙ take_front front (r ∷ rs))
+
+    more_is : take (rec + 1) s.records ≡ front ++ r ∷ []
+    more_is =
+        ap (λ (records : List Record). take (rec + 1) records) (is ∙ sym (append_assoc front (r ∷ []) rs))
+        ∙ (ap (λ (n : ℕ). take n ((front ++ r ∷ []) ++ rs)) (let l = longer front r in omega (arith, l, at)) ∙ take_front (front ++ r ∷ []) rs)
+
+    next_free : offset_of segs s.slot (rec + 1) ≡ free + words_taken r.body
+    next_free =
+        let a = offsets (rec + 1) in
+        let b = offsets rec in
+        let c = ap words_of more_is in
+        let d = ap words_of front_is in
+        let m = more_words front r in
+        omega (arith, a, b, c, d, m)
+
+    Later : Type 0
+    Later = option_map (in_segment s.file s.slot) (records_fault known R s.code (rec + 1) (offset_of segs s.slot (rec + 1)) (flat_map operands_of (front ++ r ∷ [])) rs) ≡ first_of (record_fault order segs s) (enumerate_from (rec + 1) rs)
+
+    go : (o : Result Target Reason) → target_of known free r ≡ o → Later
+        → option_map (in_segment s.file s.slot) (records_fault known R s.code rec free taken (r ∷ rs)) ≡ option_or (record_fault order segs s (rec, r)) (first_of (record_fault order segs s) (enumerate_from (rec + 1) rs))
+    go (Err why) e later = rw (e, records_fault) refl
+    go (Ok t) e later =
+        let fit = fits segs s rec r.name r.body t e in
+        let refs = option_map (λ (f : ℕ × Reason). (rec, (Some f.0, f.1))) (refs_fault R s.code t 0 taken (refs_of r.body)) in
+        let rest = records_fault known R s.code (rec + 1) (free + words_taken r.body) (taken ++ operands t (refs_of r.body)) rs in
+        let taken_is : flat_map operands_of (front ++ r ∷ []) ≡ taken ++ operands t (refs_of r.body) =
+        flat_map-append operands_of front (r ∷ []) ∙ ap (λ (os : List (ℕ × ℕ)). taken ++ os) (append-nil (operands_of r) ∙ sym (operands_are segs s rec r t fit)) in
+        let mine : option_map (in_segment s.file s.slot) refs ≡ first_of (references_of order segs s rec r) (enumerate_from 0 (refs_of r.body)) =
+        map_map (in_segment s.file s.slot) (λ (f : ℕ × Reason). (rec, (Some f.0, f.1))) (refs_fault R s.code t 0 taken (refs_of r.body))
+        ∙ refs_of_record order segs s rec r t taken (ap (λ (records : List Record). flat_map operands_of records) (sym front_is)) fit in
+        let behind : option_map (in_segment s.file s.slot) rest ≡ first_of (record_fault order segs s) (enumerate_from (rec + 1) rs) =
+        ap (λ (n : ℕ). option_map (in_segment s.file s.slot) (records_fault known R s.code (rec + 1) n (taken ++ operands t (refs_of r.body)) rs)) (sym next_free)
+        ∙ (ap (λ (os : List (ℕ × ℕ)). option_map (in_segment s.file s.slot) (records_fault known R s.code (rec + 1) (offset_of segs s.slot (rec + 1)) os rs)) (sym taken_is) ∙ later) in
+        rw (e, records_fault)
+        (map_or (in_segment s.file s.slot) refs rest
+        ∙ (ap (λ (o : Option Fault). option_or o (option_map (in_segment s.file s.slot) rest)) mine ∙ ap (option_or (first_of (references_of order segs s rec r) (enumerate_from 0 (refs_of r.body)))) behind))
+
+abbrev all_records : Order → List Segment → Segment → Option Fault
+all_records order segs s = first_of (record_fault order segs s) (enumerate_from 0 s.records)
+
+carried_all : (order : Order) (all front rest : List Segment) (from : ℕ) → all ≡ front ++ rest → AreBelow from front → Ascends from rest
+    → references_fault_from order (known_of all) (next_of (host_records all) + all_words (map owner_of front)) rest ≡ first_of (all_records order all) rest
+carried_all order all front [] from is below ascends = refl
+carried_all order all front (s ∷ rest) from is below ascends =
+    let start = next_of (host_records all) + all_words (map owner_of front) in
+    let offsets = offset_in all front s rest from is below ascends in
+    let first : start ≡ offset_of all s.slot 0 = (let e = offsets 0 in omega (arith, e)) in
+    let mine : segment_fault order (known_of all) start s ≡ all_records order all s =
+    ap (λ (n : ℕ). segment_fault order (known_of all) n s) first ∙ carried order all s start offsets [] s.records 0 refl refl in
+    let count = words_split front (s ∷ []) in
+    let later : references_fault_from order (known_of all) (start + words_of s.records) rest ≡ first_of (all_records order all) rest =
+    ap (λ (n : ℕ). references_fault_from order (known_of all) n rest) (omega (arith, count))
+    ∙ carried_all order all (front ++ s ∷ []) rest (s.slot + 1) (is ∙ sym (append_assoc front (s ∷ []) rest)) (below_more (s.slot + 1) front s (below_from from s.slot front ascends.0 below) (omega arith)) ascends.1 in
+    ap (λ (o : Option Fault). option_or o (references_fault_from order (known_of all) (start + words_of s.records) rest)) mine ∙ ap (option_or (all_records order all s)) later
+
+pub step_9 : (order : Order) (host : List ℕ) (libs : List (List ℕ)) → Least (Precedes OfReferences) (InReferences order host libs) (references_fault order (segments order host libs))
+unfolding references_fault
+step_9 order host libs =
+    let segs = segments order host libs in
+    let e : references_fault_from order (known_of segs) (next_of (host_records segs)) segs ≡ first_of (all_records order segs) segs =
+    ap (λ (n : ℕ). references_fault_from order (known_of segs) n segs) (omega arith) ∙ carried_all order segs [] segs 0 refl tt (ascend order host libs) in
+    subst (λ (o : Option Fault). Least (Precedes OfReferences) (InReferences order host libs) o) (sym e)
+    (over_segments {S = λ s f. SomeItem s.records (λ rec r. RecordFaults order segs s rec r f)} order host libs (all_records order segs)
+    (λ s. least_items (record_fault order segs s) s.records
+    (λ rec r e. of_record order segs s rec r e)
+    (λ i j a b x y h m n. let p = at_record order segs s i a x m in let q = at_record order segs s j b y n in
+    inr (refl, inr (p.0 ∙ sym q.0, inl (let u = p.1 in let v = q.1 in omega (arith, u, v, h))))))
+    (λ s t x y h m n. let p = at_record order segs s m.0 m.1 x m.3 in let q = at_record order segs t n.0 n.1 y n.3 in
+    inr (refl, inl (let u = p.0 in let v = q.0 in omega (arith, u, v, h)))))

@@ -1,0 +1,438 @@
+-- The first fault of the sources is the least that stands.
+use Rattle.std.proofs.Common.{◌≡◌, ℕ, zero, suc, ◌+◌, ◌-◌, ◌*◌, ◌/◌, drop, ◌<◌, ◌≤◌, List, [], ◌∷◌, length, Option, Some, None, Result, Ok, Err, Bool, true, false, refl, sym, ap, subst, ◌∙◌, inl, inr, arith}
+use Rattle.std.specs.Prelude.{◌↔◌, slice_index, ◌⊎◌, ◌≢◌, if◌then◌else◌, nat_lt, not, ◌&&◌, ◌||◌, ◌==◌, nat_le, ◌%◌}
+use Rattle.std.specs.Bool.{Decides}
+use Rattle.std.specs.List.{range_with_len, enumerate_from, slice_get, list_any, filter_map, find, list_all, cons_option}
+use Rattle.std.specs.Option.{option_or, option_map, option_and_then, option_map_or}
+use Rattle.std.specs.Result.{result_ok}
+use Rattle.std.specs.Str.{bytes_eq}
+use Rattle.std.proofs.lemmas.Bool.{cases_lt, false≢true}
+use Rattle.std.proofs.lemmas.List.FromFn.{length-map-range_with_len}
+use Rattle.std.proofs.lemmas.List.{drop-drop}
+use Rattle.std.proofs.lemmas.List.Sums.{sum_by-append}
+use Rattle.std.proofs.Common.{length-drop, zero-add}
+use Rattle.std.proofs.lemmas.Bool.Decides.{eqb_tells}
+use Rattle.std.proofs.Common.{leb-true, le-leb, unwrap_or}
+use Rattle.std.proofs.lemmas.Bool.Decides.{Decides-at, Decides-ltb, Decides-and, Decides-or, Decides-not, Decides-like, Decides-eqb, nat_tests}
+use Rattle.std.proofs.lemmas.Slice.Eq.{bytes_eq-Decides}
+use Rattle.ps_codefile.specs.Dictionary.{slots, entry_at, role_of, code_of, information_of, is_filled}
+use Rattle.ps_codefile.specs.Procedures.{table_of, procedures, content_of, start_of, dictionary_len, is_placed, numbers, tables, tables_fault}
+use Rattle.ps_codefile.specs.declared.entry.Entry.{Entry}
+use Rattle.ps_codefile.specs.declared.entry.Role.{Role}
+use Rattle.ps_linkinfo.specs.Records.{refs_of, reading, read_from, Stops, BeginsWith, IsBody, is_eof, size_of, used_by, bad, record_at, body_at, refs_at, list_len}
+use Rattle.ps_linkinfo.specs.declared.record.Body.{Body}
+use Rattle.ps_linkinfo.specs.declared.record.Body.TheVariants.{UnitRef, PublRef, PrivRef, PublDef, ConstDef, Eof}
+use Rattle.ps_linkinfo.specs.declared.record.LinkRecord.{LinkRecord as Record}
+use Rattle.ps_resolve.specs.Faults.{entries_reason, unit_fault, wanted_fault, information_fault, code_fault, source_fault, sources_fault}
+use Rattle.ps_resolve.specs.First.{Least, nothing, this}
+use Rattle.ps_resolve.specs.Searches.{first_of, fault_if}
+use Rattle.ps_resolve.specs.Sources.{is_host, is_wanted, is_named, has_entry, chosen_library, source_of, file_at, is_linked}
+use Rattle.ps_resolve.specs.Standing.{Because, Lesser, SomeItem, OfSources, rank, part, Precedes, IsNamed, HasEntry, EntriesHave, UnitFault, HasBadTable, AreBad, TablesHave, CodeFault, InSources}
+use Rattle.ps_words.specs.FaultPlaces.{in_slot, in_record}
+use Rattle.ps_words.specs.Words.{word_at}
+use Rattle.ps_laws.proofs.Least.{least_same, least_or, least_if, least_then, least_range, least_items, least_guard}
+use Rattle.ps_laws.proofs.Steps.{Ranked, because, any_of_range, any_lesser}
+use Rattle.ps_words.specs.declared.order.Order.{Order}
+use Rattle.ps_codefile.specs.declared.entry.Role.TheVariants as role
+use Rattle.ps_words.specs.declared.fault.Reason.{Reason}
+use Rattle.ps_words.specs.declared.fault.Reason.TheVariants as reason
+use Rattle.ps_words.specs.declared.fault.Fault.{Fault}
+
+-- the segments that are copied, in slot order
+of_test : (b : Bool) → Decides b (b ≡ true)
+of_test b = (λ e. e, λ e. e)
+
+at_most : (a b : ℕ) → Decides (nat_le a b) (a ≤ b)
+at_most a b = (λ e. leb-true a b e, λ h. le-leb a b h)
+
+-- before rank n in the slot's own faults, or from it on, or in a record
+abbrev Early : ℕ → ℕ → Fault → Type 0
+Early slot n f = (unwrap_or f.slot f.file ≡ slot) × (part f.rec ≡ 0) × (part f.reference ≡ 0) × (rank f.reason < n)
+
+abbrev Late : ℕ → ℕ → Fault → Type 0
+Late slot n f = (unwrap_or f.slot f.file ≡ slot) × (((part f.rec ≡ 0) × (part f.reference ≡ 0) × (n ≤ rank f.reason)) ⊎ (0 < part f.rec))
+
+early_late : (slot n : ℕ) (x y : Fault) → Early slot n x → Late slot n y → Precedes OfSources x y
+early_late slot n x y a b =
+    inr (
+      refl,
+      inr (
+        a.0 ∙ sym b.0,
+        elim b.1 [
+          | inl t ↦ inr (a.1 ∙ sym t.0, inr (a.2 ∙ sym t.1, inl (let h = a.3 in let k = t.2 in omega (arith, h, k))))
+          | inr h ↦ inl (let k = a.1 in omega (arith, h, k))
+        ],
+      ),
+    )
+
+early : {P : Reason → Type 0} (k slot n : ℕ) (f : Fault) → ((why : Reason) → P why → rank why < n) → Because (in_slot k slot) P f → Early slot n f
+early k slot n f low t = (
+  ap (λ (g : Fault). unwrap_or g.slot g.file) t.1,
+  ap (λ (g : Fault). part g.rec) t.1,
+  ap (λ (g : Fault). part g.reference) t.1,
+  let a = ap (λ (g : Fault). rank g.reason) t.1 in let b = low t.0 t.2 in omega (arith, a, b),
+)
+
+late : {P : Reason → Type 0} (k slot n : ℕ) (f : Fault) → ((why : Reason) → P why → n ≤ rank why) → Because (in_slot k slot) P f → Late slot n f
+late k slot n f high t = (
+  ap (λ (g : Fault). unwrap_or g.slot g.file) t.1,
+  inl (
+    ap (λ (g : Fault). part g.rec) t.1,
+    ap (λ (g : Fault). part g.reference) t.1,
+    let a = ap (λ (g : Fault). rank g.reason) t.1 in let b = high t.0 t.2 in omega (arith, a, b),
+  ),
+)
+
+-- the first that passes is the first of those
+find_first : {X : Type 0} (p : X → Bool) (xs : List X) → find p xs ≡ first_of (λ x. if p x then Some x else None) xs
+find_first p [] = refl
+find_first {X} p (x ∷ xs) = go (p x) (find_first p xs)
+  where
+    go : (b : Bool) → find p xs ≡ first_of (λ x. if p x then Some x else None) xs → (if b then Some x else find p xs) ≡ option_or (if b then Some x else None) (first_of (λ x. if p x then Some x else None) xs)
+    go true e = refl
+    go false e = e
+
+-- the library's entries
+named : (order : Order) (name file : List ℕ) (i : ℕ) → Decides (is_named order name file i) (IsNamed order name file i)
+named order name file i = Decides-and (is_filled (entry_at order file i)) (bytes_eq (entry_at order file i).name name) (of_test (is_filled (entry_at order file i))) (bytes_eq-Decides (entry_at order file i).name name)
+
+has : (order : Order) (name file : List ℕ) → Decides (has_entry order name file) (HasEntry order name file)
+has order name file = any_lesser (is_named order name file) (λ i. IsNamed order name file i) (named order name file) 16
+
+abbrev Doubled : Order → List ℕ → List ℕ → Type 0
+Doubled order name lib = Lesser 16 (λ i. IsNamed order name lib i × Lesser i (λ j. IsNamed order name lib j))
+
+doubled : (order : Order) (name lib : List ℕ) → Decides (list_any (λ i. is_named order name lib i && list_any (is_named order name lib) (range_with_len 0 i)) slots) (Doubled order name lib)
+doubled order name lib =
+    any_lesser (λ i. is_named order name lib i && list_any (is_named order name lib) (range_with_len 0 i)) (λ i. IsNamed order name lib i × Lesser i (λ j. IsNamed order name lib j))
+    (λ i. Decides-and (is_named order name lib i) (list_any (is_named order name lib) (range_with_len 0 i)) (named order name lib i) (any_lesser (is_named order name lib) (λ j. IsNamed order name lib j) (named order name lib) i)) 16
+
+first_entry : (order : Order) (name lib : List ℕ) → Least (λ i j. i < j) (λ y. (i : ℕ) × (0 ≤ i) × (i < 0 + 16) × (IsNamed order name lib i × (y ≡ i))) (find (is_named order name lib) slots)
+first_entry order name lib =
+    subst (λ o. Least (λ i j. i < j) (λ y. (i : ℕ) × (0 ≤ i) × (i < 0 + 16) × (IsNamed order name lib i × (y ≡ i))) o) (sym (find_first (is_named order name lib) slots))
+    (least_range (λ i. if is_named order name lib i then Some i else None)
+    (λ i. least_guard (is_named order name lib i) (named order name lib i) (this i refl (λ y e. inl e)))
+    (λ i j x y h s t. let a = s.1 in let b = t.1 in omega (arith, a, b, h)) 0 16)
+
+entries_rows : (order : Order) (name lib : List ℕ) → Least Ranked (EntriesHave order name lib) (entries_reason order name lib)
+entries_rows order name lib = go (list_any (λ i. is_named order name lib i && list_any (is_named order name lib) (range_with_len 0 i)) slots) (find (is_named order name lib) slots) (doubled order name lib) (first_entry order name lib)
+  where
+    Has : Reason → Type 0
+    Has = EntriesHave order name lib
+
+    First : ℕ → Type 0
+    First y = (i : ℕ) × (0 ≤ i) × (i < 0 + 16) × (IsNamed order name lib i × (y ≡ i))
+
+    single : Decides false (Doubled order name lib) → (i j : ℕ) → i < 16 → j < 16 → IsNamed order name lib i → IsNamed order name lib j → i ≡ j
+    single d i j a b m n = elim (cases_lt i j) [
+      | inl h ↦ absurd (false≢true (d.1 (j, b, (n, (i, h, m)))))
+      | inr h ↦ elim (cases_lt j i) [ inl k ↦ absurd (false≢true (d.1 (i, a, (m, (j, k, n))))) | inr k ↦ omega (arith, h, k) ]
+    ]
+
+    go : (b : Bool) (o : Option ℕ) → Decides b (Doubled order name lib) → Least (λ i j. i < j) First o → Least Ranked Has (if b then Some reason.DoubledUnit else option_and_then (λ i. fault_if (not ((entry_at order lib i).kind == 3)) (reason.NotAUnit (entry_at order lib i).kind)) o)
+    go true o d l = this reason.DoubledUnit (d.0 refl) least
+      where
+        least : (y : Reason) → Has y → (y ≡ reason.DoubledUnit) ⊎ Ranked reason.DoubledUnit y
+        least reason.DoubledUnit h = inl refl
+        least (reason.NotAUnit kind) h = inr (omega arith)
+        least other h = absurd h
+    go false None d (nothing n) = nothing least
+      where
+        least : (y : Reason) → Has y → ⊥
+        least reason.DoubledUnit h = false≢true (d.1 h)
+        least (reason.NotAUnit kind) h = n h.0 (h.0, omega arith, (let a = h.1 in omega (arith, a)), (h.2.0, refl))
+        least other h = h
+    go false (Some i) d (this j s l) =
+        least_same to from (least_if (not ((entry_at order lib i).kind == 3)) (reason.NotAUnit (entry_at order lib i).kind) (Decides-not ((entry_at order lib i).kind == 3) (Decides-eqb (entry_at order lib i).kind 3)))
+      where
+        here : IsNamed order name lib i
+        here = subst (λ k. IsNamed order name lib k) (sym s.3.1) s.3.0
+
+        within : i < 16
+        within = let a = s.2 in let b = s.3.1 in omega (arith, a, b)
+
+        to : (y : Reason) → (y ≡ reason.NotAUnit (entry_at order lib i).kind) × ((entry_at order lib i).kind ≢ 3) → Has y
+        to y t = subst Has (sym t.0) (i, within, (here, λ j b n. single d j i b within n here, refl, t.1))
+
+        from : (y : Reason) → Has y → (y ≡ reason.NotAUnit (entry_at order lib i).kind) × ((entry_at order lib i).kind ≢ 3)
+        from reason.DoubledUnit h = absurd (false≢true (d.1 h))
+        from (reason.NotAUnit kind) h =
+            let same : kind ≡ (entry_at order lib i).kind = h.2.2 ∙ ap (λ k. (entry_at order lib k).kind) (single d h.0 i h.1 within h.2.0 here) in
+            (ap (λ k. reason.NotAUnit k) same, λ e. h.2.3 (same ∙ e))
+        from other h = absurd h
+
+-- the library
+chosen : (order : Order) (name : List ℕ) (libs : List (List ℕ)) → Least (λ p q. p.0 < q.0) (λ p. SomeItem libs (λ k lib. HasEntry order name lib × (p ≡ (k, lib)))) (chosen_library order name libs)
+chosen order name libs =
+    subst (λ o. Least (λ p q. p.0 < q.0) (λ p. SomeItem libs (λ k lib. HasEntry order name lib × (p ≡ (k, lib)))) o) (sym (find_first (λ lib. has_entry order name lib.1) (enumerate_from 0 libs)))
+    (least_items (λ lib. if has_entry order name lib.1 then Some lib else None) libs
+    (λ k lib e. least_guard (has_entry order name lib) (has order name lib) (this (k, lib) refl (λ y q. inl q)))
+    (λ i j a b x y h s t. let p = ap (λ (z : ℕ × List ℕ). z.0) s.1 in let q = ap (λ (z : ℕ × List ℕ). z.0) t.1 in omega (arith, p, q, h)))
+
+unit_least : (order : Order) (name : List ℕ) (libs : List (List ℕ)) (slot : ℕ) → Least (Precedes OfSources) (UnitFault order name libs slot) (unit_fault order name libs slot)
+unit_least order name libs slot = go (chosen_library order name libs) (chosen order name libs)
+  where
+    Found : (ℕ × List ℕ) → Type 0
+    Found p = SomeItem libs (λ k lib. HasEntry order name lib × (p ≡ (k, lib)))
+
+    go : (o : Option (ℕ × List ℕ)) → Least (λ p q. p.0 < q.0) Found o → Least (Precedes OfSources) (UnitFault order name libs slot) (option_map_or (λ lib. option_map (in_slot (lib.0 + 1) slot) (entries_reason order name lib.1)) o (Some (in_slot 0 slot reason.MissingUnit)))
+    go None (nothing n) =
+        this (in_slot 0 slot reason.MissingUnit) (inl (refl, λ t. n (t.0, t.1) (t.0, t.1, t.2, (t.3, refl))))
+        (λ f. elim [ inl t ↦ inl t.0 | inr t ↦ absurd (n (t.0, t.1) (t.0, t.1, t.2, (t.3.0.0, refl))) ])
+    go (Some p) (this q s l) =
+        least_same to from (because OfSources (in_slot (p.0 + 1) slot) (λ a b h. inr (refl, inr (refl, inr (refl, inr (refl, inl h))))) (entries_rows order name p.1))
+      where
+        get : slice_get libs p.0 ≡ Some p.1
+        get = subst (λ (z : ℕ × List ℕ). slice_get libs z.0 ≡ Some z.1) (sym s.3.1) s.2
+
+        does : HasEntry order name p.1
+        does = subst (λ (z : ℕ × List ℕ). HasEntry order name z.1) (sym s.3.1) s.3.0
+
+        lesser : (m : ℕ) (other : List ℕ) → m < p.0 → slice_get libs m ≡ Some other → HasEntry order name other → ⊥
+        lesser m other h e k = elim (l (m, other) (m, other, e, (k, refl))) [ inl x ↦ (let y = ap (λ (z : ℕ × List ℕ). z.0) x in omega (arith, y, h)) | inr x ↦ omega (arith, x, h) ]
+
+        to : (f : Fault) → Because (in_slot (p.0 + 1) slot) (EntriesHave order name p.1) f → UnitFault order name libs slot f
+        to f b = inr (p.0, p.1, get, ((does, lesser), b))
+
+        from : (f : Fault) → UnitFault order name libs slot f → Because (in_slot (p.0 + 1) slot) (EntriesHave order name p.1) f
+        from f (inl t) = absurd (t.1 (p.0, p.1, get, does))
+        from f (inr t) = elim (l (t.0, t.1) (t.0, t.1, t.2, (t.3.0.0, refl))) [
+          | inl e ↦ subst (λ (z : ℕ × List ℕ). Because (in_slot (z.0 + 1) slot) (EntriesHave order name z.1) f) e t.3.1
+          | inr h ↦ absurd (t.3.0.1 p.0 p.1 h get does)
+        ]
+
+-- the tables
+any_of_filter : {X Y : Type 0} (p : Y → Bool) (g : X → Option Y) (xs : List X) → list_any p (filter_map g xs) ≡ list_any (λ x. option_map_or p (g x) false) xs
+any_of_filter p g [] = refl
+any_of_filter {X} {Y} p g (x ∷ xs) = go (g x) (filter_map g xs) (any_of_filter p g xs)
+  where
+    go : (o : Option Y) (ys : List Y) → list_any p ys ≡ list_any (λ x. option_map_or p (g x) false) xs → list_any p (cons_option o ys) ≡ (option_map_or p o false || list_any (λ x. option_map_or p (g x) false) xs)
+    go None ys e = e
+    go (Some y) ys e = ap (λ b. p y || b) e
+
+not_all : {X : Type 0} (p : X → Bool) (xs : List X) → not (list_all p xs) ≡ list_any (λ x. not (p x)) xs
+not_all p [] = refl
+not_all {X} p (x ∷ xs) = go (p x) (not_all p xs)
+  where
+    go : (b : Bool) → not (list_all p xs) ≡ list_any (λ x. not (p x)) xs → not (b && list_all p xs) ≡ (not b || list_any (λ x. not (p x)) xs)
+    go true e = e
+    go false e = refl
+
+not_placed : (c place q start : ℕ) → Decides (not (c == 0 || (nat_le (c + 8) place && nat_lt q start))) ((c ≢ 0) × ((place < c + 8) ⊎ (start ≤ q)))
+not_placed c place q start =
+    Decides-like (not (c == 0 || (nat_le (c + 8) place && nat_lt q start)))
+    (λ n. (λ e. n (inl e), elim (cases_lt place (c + 8)) [ inl h ↦ inl h | inr h ↦ elim (cases_lt q start) [ inl k ↦ absurd (n (inr (h, k))) | inr k ↦ inr k ] ]))
+    (λ t. elim [ inl e ↦ t.0 e | inr u ↦ elim t.1 [ inl h ↦ (let a = u.0 in omega (arith, h, a)) | inr h ↦ (let a = u.1 in omega (arith, h, a)) ] ])
+    (Decides-not (c == 0 || (nat_le (c + 8) place && nat_lt q start))
+    (Decides-or (c == 0) (nat_le (c + 8) place && nat_lt q start) (Decides-eqb c 0) (Decides-and (nat_le (c + 8) place) (nat_lt q start) (at_most (c + 8) place) (Decides-ltb q start))))
+
+bad_table : (order : Order) (code : List ℕ) → Decides (not (list_all (is_placed order code) (numbers code))) (HasBadTable order code)
+bad_table order code =
+    Decides-at (not (list_all (is_placed order code) (numbers code))) (list_any (λ p. not (is_placed order code p)) (numbers code)) (not_all (is_placed order code) (numbers code))
+    (Decides-like (list_any (λ p. not (is_placed order code p)) (numbers code))
+    (λ t. (t.0, t.1, omega (arith, t.2), t.3.0, t.3.1)) (λ t. (t.0, t.1, omega (arith, t.2), (t.3, t.4)))
+    (any_of_range (λ p. not (is_placed order code p)) Misplaced (λ p. not_placed (content_of order code p) (length code - 2 - 2 * p) (length code - 2 - 2 * p - content_of order code p + 1) (start_of code)) 1 (procedures code)))
+  where
+    Misplaced : ℕ → Type 0
+    Misplaced p = (content_of order code p ≢ 0) × ((length code - 2 - 2 * p < content_of order code p + 8) ⊎ (start_of code ≤ length code - 2 - 2 * p - content_of order code p + 1))
+
+are_bad : (order : Order) (code : List ℕ) (host : Bool) → Decides (nat_lt (length code) (dictionary_len code) || not (list_all (is_placed order code) (numbers code)) || (host && (procedures code == 0 || content_of order code 1 == 0))) (AreBad order code host)
+are_bad order code host =
+    Decides-or (nat_lt (length code) (dictionary_len code) || not (list_all (is_placed order code) (numbers code))) (host && (procedures code == 0 || content_of order code 1 == 0))
+    (Decides-or (nat_lt (length code) (dictionary_len code)) (not (list_all (is_placed order code) (numbers code))) (Decides-ltb (length code) (dictionary_len code)) (bad_table order code))
+    (Decides-and host (procedures code == 0 || content_of order code 1 == 0) (of_test host)
+    (Decides-or (procedures code == 0) (content_of order code 1 == 0) (Decides-eqb (procedures code) 0) (Decides-eqb (content_of order code 1) 0)))
+
+is_at : (test : ℕ → Bool) (P : ℕ → Type 0) → ((t : ℕ) → Decides (test t) (P t)) → (o : Option ℕ) → Decides (option_map_or test o false) ((t : ℕ) × (o ≡ Some t) × P t)
+is_at test P d None = (λ e. absurd (false≢true e), λ t. absurd (let e = t.1 in cc))
+is_at test P d (Some t) = (λ e. (t, refl, (d t).0 e), λ u. (d t).1 (subst P (let e = u.1 in cc) u.2))
+
+native_table : (order : Order) (code : List ℕ) → Decides (list_any (λ t. slice_index code t == 0) (tables order code)) ((p : ℕ) × (1 ≤ p) × (p ≤ procedures code) × (t : ℕ) × (table_of order code p ≡ Some t) × (slice_index code t ≡ 0))
+native_table order code =
+    Decides-at (list_any (λ t. slice_index code t == 0) (tables order code)) (list_any (λ p. option_map_or (λ t. slice_index code t == 0) (table_of order code p) false) (numbers code)) (any_of_filter (λ t. slice_index code t == 0) (table_of order code) (numbers code))
+    (Decides-like (list_any (λ p. option_map_or (λ t. slice_index code t == 0) (table_of order code p) false) (numbers code))
+    (λ t. (t.0, t.1, omega (arith, t.2), t.3.0, t.3.1, t.3.2)) (λ t. (t.0, t.1, omega (arith, t.2), (t.3, t.4, t.5)))
+    (any_of_range (λ p. option_map_or (λ t. slice_index code t == 0) (table_of order code p) false) (λ p. (t : ℕ) × (table_of order code p ≡ Some t) × (slice_index code t ≡ 0))
+    (λ p. is_at (λ t. slice_index code t == 0) (λ t. slice_index code t ≡ 0) (λ t. Decides-eqb (slice_index code t) 0) (table_of order code p)) 1 (procedures code)))
+
+tables_rows : (order : Order) (code : List ℕ) (host : Bool) → Least Ranked (TablesHave order code host) (tables_fault order code host)
+tables_rows order code host = go (nat_lt (length code) (dictionary_len code) || not (list_all (is_placed order code) (numbers code)) || (host && (procedures code == 0 || content_of order code 1 == 0))) (are_bad order code host)
+  where
+    Has : Reason → Type 0
+    Has = TablesHave order code host
+
+    go : (b : Bool) → Decides b (AreBad order code host) → Least Ranked Has (if b then Some reason.BadProcDict else (if list_any (λ t. slice_index code t == 0) (tables order code) then Some reason.NativeProcedure else None))
+    go true d = this reason.BadProcDict (d.0 refl) least
+      where
+        least : (y : Reason) → Has y → (y ≡ reason.BadProcDict) ⊎ Ranked reason.BadProcDict y
+        least reason.BadProcDict h = inl refl
+        least reason.NativeProcedure h = inr (omega arith)
+        least other h = absurd h
+    go false d = inner (list_any (λ t. slice_index code t == 0) (tables order code)) (native_table order code)
+      where
+        Native : Type 0
+        Native = (p : ℕ) × (1 ≤ p) × (p ≤ procedures code) × (t : ℕ) × (table_of order code p ≡ Some t) × (slice_index code t ≡ 0)
+
+        fine : AreBad order code host → ⊥
+        fine h = false≢true (d.1 h)
+
+        inner : (b : Bool) → Decides b Native → Least Ranked Has (if b then Some reason.NativeProcedure else None)
+        inner true n = this reason.NativeProcedure (fine, n.0 refl) least
+          where
+            least : (y : Reason) → Has y → (y ≡ reason.NativeProcedure) ⊎ Ranked reason.NativeProcedure y
+            least reason.BadProcDict h = absurd (fine h)
+            least reason.NativeProcedure h = inl refl
+            least other h = absurd h
+        inner false n = nothing least
+          where
+            least : (y : Reason) → Has y → ⊥
+            least reason.BadProcDict h = fine h
+            least reason.NativeProcedure h = false≢true (n.1 h.1)
+            least other h = h
+
+-- what is read is the only stop: the law of link information
+abbrev pub OneStop : Type 0
+OneStop = (order : Order) (bytes : List ℕ) (rs : List Record) (why : Reason) → Stops order bytes rs why ↔ (reading order bytes ≡ (rs, Some why))
+
+abbrev read_of : List Record → Option Reason → List Record × Option Reason
+read_of rs o = (rs, o)
+
+-- the records
+records_least : OneStop → (order : Order) (file : List ℕ) (e : Entry) (k slot : ℕ) → Least (Precedes OfSources) (λ f. (rs : List Record) × (why : Reason) × (f ≡ in_record k slot (length rs) why) × Stops order (information_of file e) rs why) (information_fault order file e k slot)
+records_least law order file e k slot = go (reading order bytes) refl
+  where
+    bytes : List ℕ
+    bytes = information_of file e
+
+    go : (read : List Record × Option Reason) → reading order bytes ≡ read → Least (Precedes OfSources) (λ f. (rs : List Record) × (why : Reason) × (f ≡ in_record k slot (length rs) why) × Stops order (information_of file e) rs why) (option_map (in_record k slot (length read.0)) read.1)
+    go (rs, None) is = nothing (λ f t. clash rs t.0 t.1 (sym is ∙ (law order bytes t.0 t.1).0 t.3))
+      where
+        clash : (rs qs : List Record) (w : Reason) → read_of rs None ≡ read_of qs (Some w) → ⊥
+        clash rs qs w e = let none : None ≡ Some w = ap (λ (p : List Record × Option Reason). p.1) e in cc
+    go (rs, Some why) is = this (in_record k slot (length rs) why) (rs, why, refl, (law order bytes rs why).1 is) (λ f t. inl (t.2 ∙ same t.0 t.1 (sym ((law order bytes t.0 t.1).0 t.3) ∙ is)))
+      where
+        same : (qs : List Record) (w : Reason) → read_of qs (Some w) ≡ read_of rs (Some why) → in_record k slot (length qs) w ≡ in_record k slot (length rs) why
+        same qs w e =
+            let reasons : Some w ≡ Some why = ap (λ (p : List Record × Option Reason). p.1) e in
+            let same_why : w ≡ why = cc in
+            ap (λ (q : List Record). in_record k slot (length q) w) (ap (λ (p : List Record × Option Reason). p.0) e) ∙ ap (in_record k slot (length rs)) same_why
+
+-- a code
+record Mid (r : Result (List ℕ) Reason) : Type 0 where
+  mid : (why : Reason) → r ≡ Err why → (14 ≤ rank why) × (rank why < 17)
+
+mid_if : (b : Bool) {x y : Result (List ℕ) Reason} → Mid x → Mid y → Mid (if b then x else y)
+mid_if true p q = p
+mid_if false p q = q
+
+mid_err : (why : Reason) → (14 ≤ rank why) × (rank why < 17) → Mid (Err why)
+mid_err why h = record { mid = λ other e. subst (λ w. (14 ≤ rank w) × (rank w < 17)) (cc) h }
+
+mid_ok : {code : List ℕ} → Mid (Ok code)
+mid_ok {code} = record { mid = λ why e. absurd (cc) }
+
+code_mid : (file : List ℕ) (e : Entry) → Mid (code_of file e)
+code_mid file e =
+    mid_if (nat_lt 32767 e.length || ((e.kind == 1 || e.kind == 3) && (e.length % 2 == 1 || nat_lt e.length 4))) (mid_err reason.BadLength (omega arith, omega arith))
+    (mid_if (e.address == 0) (mid_err reason.BadAddress (omega arith, omega arith))
+    (mid_if (nat_lt (length file) (512 * e.address + e.length)) (mid_err reason.Truncated (omega arith, omega arith)) mid_ok))
+
+tables_mid : (order : Order) (code : List ℕ) (host : Bool) (why : Reason) → TablesHave order code host why → (17 ≤ rank why) × (rank why < 19)
+tables_mid order code host reason.BadProcDict h = (omega arith, omega arith)
+tables_mid order code host reason.NativeProcedure h = (omega arith, omega arith)
+tables_mid order code host other h = absurd h
+
+entries_low : (order : Order) (name lib : List ℕ) (why : Reason) → EntriesHave order name lib why → rank why < 14
+entries_low order name lib reason.DoubledUnit h = omega arith
+entries_low order name lib (reason.NotAUnit kind) h = omega arith
+entries_low order name lib other h = absurd h
+
+unit_early : (order : Order) (name : List ℕ) (libs : List (List ℕ)) (slot : ℕ) (f : Fault) → UnitFault order name libs slot f → Early slot 14 f
+unit_early order name libs slot f (inl t) = early {P = λ y. y ≡ reason.MissingUnit} 0 slot 14 f (λ y e. subst (λ z. rank z < 14) (sym e) (omega arith)) (reason.MissingUnit, t.0, refl)
+unit_early order name libs slot f (inr t) = early (t.0 + 1) slot 14 f (entries_low order name t.1) t.3.1
+
+late_record : (k slot n rec : ℕ) (why : Reason) (f : Fault) → f ≡ in_record k slot rec why → Late slot n f
+late_record k slot n rec why f e = (ap (λ (g : Fault). unwrap_or g.slot g.file) e, inr (let a : part f.rec ≡ rec + 1 = ap (λ (g : Fault). part g.rec) e in omega (arith, a)))
+
+code_late : (order : Order) (file : List ℕ) (k : ℕ) (e : Entry) (slot : ℕ) (r : Role) (f : Fault) → CodeFault order file k e slot r f → Late slot 14 f
+code_late order file k e slot r f (inl t) = late k slot 14 f (λ why h. ((code_mid file e).mid why h).0) t
+code_late order file k e slot r f (inr t) = elim t.2.1 [
+    inl b ↦ late k slot 14 f (λ why h. let a = (tables_mid order t.0 (is_host r) why h).0 in omega (arith, a)) b
+  | inr b ↦ late_record k slot 14 (length b.0) b.1 f b.2
+]
+
+code_least : OneStop → (order : Order) (slot : ℕ) (r : Role) (host : List ℕ) (libs : List (List ℕ)) (at : ℕ × ℕ) → Least (Precedes OfSources) (CodeFault order (file_at host libs at.0) at.0 (entry_at order (file_at host libs at.0) at.1) slot r) (code_fault order host libs slot r at)
+code_least law order slot r host libs at = go (code_of file e) refl
+  where
+    file : List ℕ
+    file = file_at host libs at.0
+
+    e : Entry
+    e = entry_at order file at.1
+
+    Records : Fault → Type 0
+    Records f = (rs : List Record) × (why : Reason) × (f ≡ in_record at.0 slot (length rs) why) × Stops order (information_of file e) rs why
+
+    go : (o : Result (List ℕ) Reason) → code_of file e ≡ o → Least (Precedes OfSources) (CodeFault order file at.0 e slot r) (elim o [ Err why ↦ Some (in_slot at.0 slot why) | Ok code ↦ if is_linked r then option_or (option_map (in_slot at.0 slot) (tables_fault order code (is_host r))) (information_fault order file e at.0 slot) else None ])
+    go (Err why) q =
+        this (in_slot at.0 slot why) (inl (why, refl, q))
+        (λ f. elim [ inl t ↦ inl (t.1 ∙ ap (in_slot at.0 slot) (let a = t.2 in cc)) | inr t ↦ absurd (let a = t.1 in cc) ])
+    go (Ok code) q =
+        least_same to from
+        (least_guard (is_linked r) (of_test (is_linked r))
+        (least_or (because OfSources (in_slot at.0 slot) (λ a b h. inr (refl, inr (refl, inr (refl, inr (refl, inl h))))) (tables_rows order code (is_host r))) (records_least law order file e at.0 slot)
+        (λ x y a b. early_late slot 19 x y (early at.0 slot 19 x (λ why h. (tables_mid order code (is_host r) why h).1) a) (late_record at.0 slot 19 (length b.0) b.1 y b.2))))
+      where
+        Linked : Fault → Type 0
+        Linked f = (is_linked r ≡ true) × (Because (in_slot at.0 slot) (TablesHave order code (is_host r)) f ⊎ Records f)
+
+        to : (f : Fault) → Linked f → CodeFault order file at.0 e slot r f
+        to f t = inr (code, q, t)
+
+        from : (f : Fault) → CodeFault order file at.0 e slot r f → Linked f
+        from f (inl t) = absurd (let a = t.2 in cc)
+        from f (inr t) = let same : t.0 ≡ code = (let a = t.1 in cc) in
+            (t.2.0, subst (λ (c : List ℕ). Because (in_slot at.0 slot) (TablesHave order c (is_host r)) f ⊎ Records f) same t.2.1)
+
+is_wanted_role : (r : Role) → Decides (is_wanted r) (r ≡ role.Wanted)
+is_wanted_role role.Wanted = (λ e. refl, λ p. refl)
+is_wanted_role role.Empty = (λ e. absurd (false≢true e), λ p. absurd (cc))
+is_wanted_role role.Host = (λ e. absurd (false≢true e), λ p. absurd (cc))
+is_wanted_role role.Plain = (λ e. absurd (false≢true e), λ p. absurd (cc))
+is_wanted_role role.Unit = (λ e. absurd (false≢true e), λ p. absurd (cc))
+
+ok_is : {X E : Type 0} (o : Result X E) (x : X) → result_ok o ≡ Some x → o ≡ Ok x
+ok_is (Ok y) x e = cc
+ok_is (Err y) x e = absurd (cc)
+
+is_ok : {X E : Type 0} (o : Result X E) (x : X) → o ≡ Ok x → result_ok o ≡ Some x
+is_ok (Ok y) x e = cc
+is_ok (Err y) x e = absurd (cc)
+
+abbrev SourceFaults : Order → List ℕ → List (List ℕ) → ℕ → Role → Fault → Type 0
+SourceFaults order host libs slot r f =
+    ((r ≡ role.Wanted) × UnitFault order (entry_at order host slot).name libs slot f)
+    ⊎ ((at : ℕ × ℕ) × (source_of order host libs slot r ≡ Some at)
+    × CodeFault order (file_at host libs at.0) at.0 (entry_at order (file_at host libs at.0) at.1) slot r f)
+
+of_role : OneStop → (order : Order) (host : List ℕ) (libs : List (List ℕ)) (slot : ℕ) (r : Role) → Least (Precedes OfSources) (SourceFaults order host libs slot r) (option_or (wanted_fault order host libs slot r) (option_and_then (code_fault order host libs slot r) (source_of order host libs slot r)))
+of_role law order host libs slot r =
+    least_or
+    (least_guard (is_wanted r) (is_wanted_role r) (unit_least order (entry_at order host slot).name libs slot))
+    (least_then (code_fault order host libs slot r) (source_of order host libs slot r) (λ at e. code_least law order slot r host libs at))
+    (λ x y s t. early_late slot 14 x y (unit_early order (entry_at order host slot).name libs slot x s.1) (code_late order (file_at host libs t.0.0) t.0.0 (entry_at order (file_at host libs t.0.0) t.0.1) slot r y t.2))
+
+in_place : (order : Order) (host : List ℕ) (libs : List (List ℕ)) (slot : ℕ) (r : Role) (f : Fault) → SourceFaults order host libs slot r f → unwrap_or f.slot f.file ≡ slot
+in_place order host libs slot r f (inl t) = (unit_early order (entry_at order host slot).name libs slot f t.1).0
+in_place order host libs slot r f (inr t) = (code_late order (file_at host libs t.0.0) t.0.0 (entry_at order (file_at host libs t.0.0) t.0.1) slot r f t.2).0
+
+pub step_5 : OneStop → (order : Order) (host : List ℕ) (libs : List (List ℕ)) → Least (Precedes OfSources) (InSources order host libs) (sources_fault order host libs)
+unfolding sources_fault
+step_5 law order host libs =
+    least_same
+    (λ f t. (t.0, omega (arith, t.2), (t.3.0, ok_is (role_of (entry_at order host t.0)) t.3.0 t.3.1, t.3.2)))
+    (λ f t. (t.0, omega arith, omega (arith, t.1), (t.2.0, is_ok (role_of (entry_at order host t.0)) t.2.0 t.2.1, t.2.2)))
+    (least_range (source_fault order host libs)
+    (λ slot. least_then (λ r. option_or (wanted_fault order host libs slot r) (option_and_then (code_fault order host libs slot r) (source_of order host libs slot r))) (result_ok (role_of (entry_at order host slot))) (λ r e. of_role law order host libs slot r))
+    (λ i j x y h s t. inr (refl, inl (let a = in_place order host libs i s.0 x s.2 in let b = in_place order host libs j t.0 y t.2 in omega (arith, a, b, h))))
+    0 16)

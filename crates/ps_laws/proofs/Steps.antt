@@ -1,0 +1,254 @@
+-- The first fault of each step is the least that stands.
+use Rattle.std.proofs.Common.{◌≡◌, ℕ, zero, suc, ◌+◌, ◌<◌, ◌≤◌, List, length, Option, Some, Result, Ok, Err, Bool, true, false, refl, sym, subst, inl, inr, arith}
+use Rattle.std.specs.Prelude.{◌⊎◌, ◌≢◌, if◌then◌else◌, nat_lt, not, ◌&&◌, ◌||◌, ◌==◌, nat_le}
+use Rattle.std.specs.Bool.{Decides}
+use Rattle.std.specs.List.{range_with_len, list_any}
+use Rattle.std.specs.Option.{option_map, option_map_or}
+use Rattle.std.specs.Result.{result_ok, result_err}
+use Rattle.std.specs.Str.{bytes_eq}
+use Rattle.std.proofs.lemmas.Bool.{cases_lt, false≢true}
+use Rattle.std.proofs.lemmas.Bool.Decides.{Decides-ltb, Decides-and, Decides-or, Decides-not, Decides-like}
+use Rattle.std.proofs.lemmas.Slice.Eq.{bytes_eq-Decides}
+use Rattle.ps_codefile.specs.Dictionary.{slots, is_nameless, FileOrder, Zero, Ordered, Mixed, file_order, entry_at, role_of, role_of_kind}
+use Rattle.ps_codefile.specs.declared.entry.Entry.{Entry}
+use Rattle.ps_codefile.specs.declared.entry.Role.{Role}
+use Rattle.ps_resolve.specs.Faults.{order_reason, host_fault, is_role, slot_reason, slots_fault, no_host_fault, same_order, beside_reason, library_reason, library_fault, libraries_fault}
+use Rattle.ps_resolve.specs.First.{Least, nothing, this}
+use Rattle.ps_resolve.specs.Sources.{is_host, is_unit}
+use Rattle.ps_resolve.specs.Standing.{Because, Lesser, HostHas, HasRole, IsUnitSlot, SlotHas, LibraryHas, Step, OfHost, OfSlots, OfNoHost, OfLibraries, rank, Precedes, InHost, InSlots, InNoHost, InLibraries}
+use Rattle.ps_words.specs.FaultPlaces.{in_file, in_slot}
+use Rattle.ps_laws.proofs.Least.{least_same, least_order, least_or, least_if, least_map, least_range, least_each}
+use Rattle.ps_words.specs.declared.order.Order.{Order}
+use Rattle.ps_words.specs.declared.order.Order.TheVariants.{Little, Big}
+use Rattle.ps_codefile.specs.declared.entry.Role.TheVariants as role
+use Rattle.ps_words.specs.declared.fault.Reason.{Reason}
+use Rattle.ps_words.specs.declared.fault.Reason.TheVariants as reason
+use Rattle.ps_words.specs.declared.fault.Fault.{Fault}
+
+abbrev pub Ranked : Reason → Reason → Type 0
+Ranked a b = rank a < rank b
+
+-- what a test that failed says
+pub not_below : (m n : ℕ) → Decides false (m < n) → n ≤ m
+not_below m n d = elim (cases_lt m n) [ inl h ↦ absurd (false≢true (d.1 h)) | inr h ↦ h ]
+
+-- reasons at one place, by rank
+pub because : {P : Reason → Type 0} {o : Option Reason} (step : Step) (h : Reason → Fault) → ((a b : Reason) → Ranked a b → Precedes step (h a) (h b)) → Least Ranked P o → Least (Precedes step) (Because h P) (option_map h o)
+because step h ranked l = least_map h (least_order (λ x y s t r. ranked x y r) l)
+
+-- two places
+pub because_apart : {A C : Type 0} {P : A → Type 0} {Q : C → Type 0} (step : Step) (h : A → Fault) (k : C → Fault) → ((a : A) (c : C) → Precedes step (h a) (k c)) → (x y : Fault) → Because h P x → Because k Q y → Precedes step x y
+because_apart step h k apart x y s t = subst (λ z. Precedes step z y) (sym s.1) (subst (λ z. Precedes step (h s.0) z) (sym t.1) (apart s.0 t.0))
+
+pub least_err : {X Y : Type 0} {B : X → X → Type 0} (r : Result Y X) → Least B (λ x. r ≡ Err x) (result_err r)
+least_err (Ok y) = nothing (λ x e. cc)
+least_err (Err y) = this y refl (λ x e. inl (cc))
+
+-- a test of the numbers of a range
+pub any_of_range : (test : ℕ → Bool) (P : ℕ → Type 0) → ((i : ℕ) → Decides (test i) (P i)) → (a n : ℕ) → Decides (list_any test (range_with_len a n)) ((i : ℕ) × (a ≤ i) × (i < a + n) × P i)
+any_of_range test P d a zero = (λ e. absurd (false≢true e), λ t. absurd (omega (arith, t.1, t.2)))
+any_of_range test P d a (suc n) =
+    Decides-like (test a || list_any test (range_with_len (a + 1) n))
+    (elim [ inl p ↦ (a, omega arith, omega arith, p) | inr t ↦ (t.0, omega (arith, t.1), omega (arith, t.2), t.3) ])
+    (λ t. elim (cases_lt a t.0) [ inl h ↦ inr (t.0, omega (arith, h), omega (arith, t.2), t.3) | inr h ↦ inl (subst P (omega (arith, h, t.1)) t.3) ])
+    (Decides-or (test a) (list_any test (range_with_len (a + 1) n)) (d a) (any_of_range test P d (a + 1) n))
+
+pub any_lesser : (test : ℕ → Bool) (P : ℕ → Type 0) → ((i : ℕ) → Decides (test i) (P i)) → (n : ℕ) → Decides (list_any test (range_with_len 0 n)) (Lesser n P)
+any_lesser test P d n = Decides-like (list_any test (range_with_len 0 n)) (λ t. (t.0, omega (arith, t.2), t.3)) (λ t. (t.0, omega arith, omega (arith, t.1), t.2)) (any_of_range test P d 0 n)
+
+-- 1
+host_reason : (host : List ℕ) → Least Ranked (HostHas host) (if nat_lt (length host) 512 then Some reason.ShortFile else order_reason (file_order host))
+host_reason host = go (nat_lt (length host) 512) (file_order host) (Decides-ltb (length host) 512) refl
+  where
+    go : (b : Bool) (o : FileOrder) → Decides b (length host < 512) → file_order host ≡ o → Least Ranked (HostHas host) (if b then Some reason.ShortFile else order_reason o)
+    go true o d e = this reason.ShortFile (d.0 refl) least
+      where
+        least : (y : Reason) → HostHas host y → (y ≡ reason.ShortFile) ⊎ Ranked reason.ShortFile y
+        least reason.ShortFile h = inl refl
+        least reason.NoOrder h = inr (omega arith)
+        least reason.NoHost h = inr (omega arith)
+        least other h = absurd h
+    go false Zero d e = this reason.NoHost (not_below (length host) 512 d, e) least
+      where
+        least : (y : Reason) → HostHas host y → (y ≡ reason.NoHost) ⊎ Ranked reason.NoHost y
+        least reason.ShortFile h = absurd (false≢true (d.1 h))
+        least reason.NoOrder h = absurd (let a = h.1 in cc)
+        least reason.NoHost h = inl refl
+        least other h = absurd h
+    go false Mixed d e = this reason.NoOrder (not_below (length host) 512 d, e) least
+      where
+        least : (y : Reason) → HostHas host y → (y ≡ reason.NoOrder) ⊎ Ranked reason.NoOrder y
+        least reason.ShortFile h = absurd (false≢true (d.1 h))
+        least reason.NoOrder h = inl refl
+        least reason.NoHost h = inr (omega arith)
+        least other h = absurd h
+    go false (Ordered order) d e = nothing least
+      where
+        least : (y : Reason) → HostHas host y → ⊥
+        least reason.ShortFile h = false≢true (d.1 h)
+        least reason.NoOrder h = let a = h.1 in cc
+        least reason.NoHost h = let a = h.1 in cc
+        least other h = h
+
+pub step_1 : (host : List ℕ) → Least (Precedes OfHost) (InHost host) (host_fault host)
+step_1 host = because OfHost (in_file 0) (λ a b r. inr (refl, inr (refl, inr (refl, inr (refl, inl r))))) (host_reason host)
+
+-- 4
+is_same : (order other : Order) → Decides (not (same_order order other)) (other ≢ order)
+is_same Little Little = (λ e. absurd (false≢true e), λ n. absurd (n refl))
+is_same Little Big = (λ e p. cc, λ n. refl)
+is_same Big Little = (λ e p. cc, λ n. refl)
+is_same Big Big = (λ e. absurd (false≢true e), λ n. absurd (n refl))
+
+library_reasons : (order : Order) (lib : List ℕ) → Least Ranked (LibraryHas order lib) (library_reason order lib)
+library_reasons order lib = go (nat_lt (length lib) 512) (file_order lib) (Decides-ltb (length lib) 512) refl
+  where
+    go : (b : Bool) (o : FileOrder) → Decides b (length lib < 512) → file_order lib ≡ o → Least Ranked (LibraryHas order lib) (if b then Some reason.ShortFile else beside_reason order o)
+    go true o d e = this reason.ShortFile (d.0 refl) least
+      where
+        least : (y : Reason) → LibraryHas order lib y → (y ≡ reason.ShortFile) ⊎ Ranked reason.ShortFile y
+        least reason.ShortFile h = inl refl
+        least reason.NoOrder h = inr (omega arith)
+        least reason.OrderMismatch h = inr (omega arith)
+        least other h = absurd h
+    go false Zero d e = nothing least
+      where
+        least : (y : Reason) → LibraryHas order lib y → ⊥
+        least reason.ShortFile h = false≢true (d.1 h)
+        least reason.NoOrder h = let a = h.1 in cc
+        least reason.OrderMismatch h = let a = h.2 in cc
+        least other h = h
+    go false Mixed d e = this reason.NoOrder (not_below (length lib) 512 d, e) least
+      where
+        least : (y : Reason) → LibraryHas order lib y → (y ≡ reason.NoOrder) ⊎ Ranked reason.NoOrder y
+        least reason.ShortFile h = absurd (false≢true (d.1 h))
+        least reason.NoOrder h = inl refl
+        least reason.OrderMismatch h = inr (omega arith)
+        least other h = absurd h
+    go false (Ordered other) d e =
+        least_same to from (least_if (not (same_order order other)) reason.OrderMismatch (is_same order other))
+      where
+        to : (y : Reason) → (y ≡ reason.OrderMismatch) × (other ≢ order) → LibraryHas order lib y
+        to y t = subst (LibraryHas order lib) (sym t.0) (not_below (length lib) 512 d, other, e, t.1)
+
+        from : (y : Reason) → LibraryHas order lib y → (y ≡ reason.OrderMismatch) × (other ≢ order)
+        from reason.ShortFile h = absurd (false≢true (d.1 h))
+        from reason.NoOrder h = absurd (let a = h.1 in cc)
+        from reason.OrderMismatch h = (refl, λ p. h.3 (let a = h.2 in cc))
+        from another h = absurd h
+
+pub step_4 : (order : Order) (libs : List (List ℕ)) → Least (Precedes OfLibraries) (InLibraries order libs) (libraries_fault order libs)
+unfolding libraries_fault
+step_4 order libs =
+    least_same
+    (λ f t. (t.0, t.2, t.4, subst (λ k. Because (in_file k) (LibraryHas order t.2) f) (omega (arith, t.3)) t.5))
+    (λ f t. (t.0, t.0 + 1, t.1, omega arith, t.2, t.3))
+    (least_each (library_fault order) 1 libs
+    (λ i k lib q e. because OfLibraries (in_file k) (λ a b r. inr (refl, inr (refl, inr (refl, inr (refl, inl r))))) (library_reasons order lib))
+    (λ i j a b x y h. because_apart OfLibraries (in_file i) (in_file j) (λ r q. inr (refl, inl h)) x y))
+
+-- 2
+record Low (r : Result Role Reason) : Type 0 where
+  low : (why : Reason) → r ≡ Err why → rank why < 9
+
+low_if : (b : Bool) {x y : Result Role Reason} → Low x → Low y → Low (if b then x else y)
+low_if true p q = p
+low_if false p q = q
+
+low_ok : {r : Role} → Low (Ok r)
+low_ok {r} = record { low = λ why e. absurd (cc) }
+
+low_err : (why : Reason) → rank why < 9 → Low (Err why)
+low_err why h = record { low = λ other e. subst (λ w. rank w < 9) (cc) h }
+
+low_kind : (kind : ℕ) → Low (role_of_kind kind)
+low_kind kind =
+    low_if (kind == 0) low_ok (low_if (kind == 1) low_ok (low_if (kind == 2) (low_err reason.SegmentProcedure (omega arith)) (low_if (kind == 3) low_ok (low_if (kind == 4) (low_err reason.NativeSegment (omega arith)) (low_if (nat_le kind 7) (low_err reason.Intrinsic (omega arith)) (low_err reason.UnknownKind (omega arith)))))))
+
+role_low : (e : Entry) → Low (role_of e)
+role_low e = low_if (e.kind == 3 && (e.address == 0 || e.length == 0) && not (is_nameless e.name)) low_ok (low_if (e.kind == 3 && (e.address == 0 || e.length == 0)) low_ok (low_if (e.length == 0) low_ok (low_kind e.kind)))
+
+pub host_role : (r : Result Role Reason) → Decides (option_map_or is_host (result_ok r) false) (r ≡ Ok role.Host)
+host_role (Err why) = (λ e. absurd (false≢true e), λ p. absurd (cc))
+host_role (Ok role.Host) = (λ e. refl, λ p. refl)
+host_role (Ok role.Empty) = (λ e. absurd (false≢true e), λ p. absurd (cc))
+host_role (Ok role.Wanted) = (λ e. absurd (false≢true e), λ p. absurd (cc))
+host_role (Ok role.Plain) = (λ e. absurd (false≢true e), λ p. absurd (cc))
+host_role (Ok role.Unit) = (λ e. absurd (false≢true e), λ p. absurd (cc))
+
+pub unit_role : (r : Result Role Reason) → Decides (option_map_or is_unit (result_ok r) false) ((r ≡ Ok role.Unit) ⊎ (r ≡ Ok role.Wanted))
+unit_role (Err why) = (λ e. absurd (false≢true e), elim [ inl p ↦ absurd (cc) | inr p ↦ absurd (cc) ])
+unit_role (Ok role.Host) = (λ e. absurd (false≢true e), elim [ inl p ↦ absurd (cc) | inr p ↦ absurd (cc) ])
+unit_role (Ok role.Empty) = (λ e. absurd (false≢true e), elim [ inl p ↦ absurd (cc) | inr p ↦ absurd (cc) ])
+unit_role (Ok role.Wanted) = (λ e. inr refl, λ p. refl)
+unit_role (Ok role.Plain) = (λ e. absurd (false≢true e), elim [ inl p ↦ absurd (cc) | inr p ↦ absurd (cc) ])
+unit_role (Ok role.Unit) = (λ e. inl refl, λ p. refl)
+
+slot_rows : (order : Order) (host : List ℕ) (slot : ℕ) → Least Ranked (SlotHas order host slot) (slot_reason order host slot)
+slot_rows order host slot =
+    least_same to from
+    (least_or (least_err (role_of (entry_at order host slot)))
+    (least_or
+    (least_if (is_role is_host order host slot && list_any (is_role is_host order host) (range_with_len 0 slot)) reason.TwoHosts
+    (Decides-and (is_role is_host order host slot) (list_any (is_role is_host order host) (range_with_len 0 slot)) (hosts slot) (any_lesser (is_role is_host order host) (λ i. HasRole order host i role.Host) hosts slot)))
+    (least_if (is_role is_unit order host slot && list_any same (range_with_len 0 slot)) reason.DoubledSegment
+    (Decides-and (is_role is_unit order host slot) (list_any same (range_with_len 0 slot)) (units slot)
+    (any_lesser same (λ i. IsUnitSlot order host i × (name i ≡ name slot)) (λ i. Decides-and (is_role is_unit order host i) (bytes_eq (name i) (name slot)) (units i) (bytes_eq-Decides (name i) (name slot))) slot)))
+    (λ x y s t. rw (s.0, t.0) (omega arith)))
+    apart)
+  where
+    name : ℕ → List ℕ
+    name i = (entry_at order host i).name
+
+    same : ℕ → Bool
+    same i = is_role is_unit order host i && bytes_eq (entry_at order host i).name (entry_at order host slot).name
+
+    hosts : (i : ℕ) → Decides (is_role is_host order host i) (HasRole order host i role.Host)
+    hosts i = host_role (role_of (entry_at order host i))
+
+    units : (i : ℕ) → Decides (is_role is_unit order host i) (IsUnitSlot order host i)
+    units i = unit_role (role_of (entry_at order host i))
+
+    low : (x : Reason) → role_of (entry_at order host slot) ≡ Err x → rank x < 9
+    low x e = (role_low (entry_at order host slot)).low x e
+
+    Second : Reason → Type 0
+    Second x = (x ≡ reason.TwoHosts) × (HasRole order host slot role.Host × Lesser slot (λ i. HasRole order host i role.Host))
+
+    Third : Reason → Type 0
+    Third x = (x ≡ reason.DoubledSegment) × (IsUnitSlot order host slot × Lesser slot (λ i. IsUnitSlot order host i × (name i ≡ name slot)))
+
+    keep : (x : Reason) → rank x < 9 → role_of (entry_at order host slot) ≡ Err x → SlotHas order host slot x
+    keep reason.TwoHosts h e = absurd (omega (arith, h))
+    keep reason.DoubledSegment h e = absurd (omega (arith, h))
+    keep other h e = e
+
+    to : (x : Reason) → (role_of (entry_at order host slot) ≡ Err x) ⊎ (Second x ⊎ Third x) → SlotHas order host slot x
+    to x (inr (inl t)) = subst (SlotHas order host slot) (sym t.0) t.1
+    to x (inr (inr t)) = subst (SlotHas order host slot) (sym t.0) t.1
+    to x (inl e) = keep x (low x e) e
+
+    from : (x : Reason) → SlotHas order host slot x → (role_of (entry_at order host slot) ≡ Err x) ⊎ (Second x ⊎ Third x)
+    from reason.TwoHosts h = inr (inl (refl, h))
+    from reason.DoubledSegment h = inr (inr (refl, h))
+    from other h = inl h
+
+    apart : (x y : Reason) → role_of (entry_at order host slot) ≡ Err x → Second y ⊎ Third y → Ranked x y
+    apart x y e = let h = low x e in elim [ inl t ↦ subst (λ w. Ranked x w) (sym t.0) h | inr t ↦ subst (λ w. Ranked x w) (sym t.0) (omega (arith, h)) ]
+
+pub step_2 : (order : Order) (host : List ℕ) → Least (Precedes OfSlots) (InSlots order host) (slots_fault order host)
+unfolding slots_fault
+step_2 order host =
+    least_same (λ f t. (t.0, omega (arith, t.2), t.3)) (λ f t. (t.0, omega arith, omega (arith, t.1), t.2))
+    (least_range (λ slot. option_map (in_slot 0 slot) (slot_reason order host slot))
+    (λ slot. because OfSlots (in_slot 0 slot) (λ a b r. inr (refl, inr (refl, inr (refl, inr (refl, inl r))))) (slot_rows order host slot))
+    (λ i j x y h. because_apart OfSlots (in_slot 0 i) (in_slot 0 j) (λ r q. inr (refl, inl h)) x y)
+    0 16)
+
+-- 3
+pub step_3 : (order : Order) (host : List ℕ) → Least (Precedes OfNoHost) (InNoHost order host) (no_host_fault order host)
+unfolding no_host_fault
+step_3 order host =
+    least_if (not (list_any (is_role is_host order host) slots)) (in_file 0 reason.NoHost)
+    (Decides-like (not (list_any (is_role is_host order host) slots)) (λ n slot h r. n (slot, h, r)) (λ n t. n t.0 t.1 t.2)
+    (Decides-not (list_any (is_role is_host order host) slots) (any_lesser (is_role is_host order host) (λ i. HasRole order host i role.Host) (λ i. host_role (role_of (entry_at order host i))) 16)))

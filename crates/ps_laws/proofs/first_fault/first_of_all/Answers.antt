@@ -1,0 +1,5 @@
+use Rattle.ps_laws.proofs.Whole.{some, none, one, only}
+use Rattle.ps_laws.proofs.first_fault.first_of_all.Goals as goal
+
+pub returns : goal.returns
+returns c = let law = c.one_reading.ensures.stops in record { some = some law; none = none law; one = one law; only = only law }

@@ -1,0 +1,26 @@
+-- The command line of `pslink`, as clap's contracts see it: the commands, and the arguments of each.
+-- Source: this project's profile.
+use Rattle.std.specs.Prelude.{true, Some, codes}
+use Rattle.clap.specs.Words.{App, Rule, Text, new_app, new_rule, with_rule, with_subcommand}
+use Rattle.clap.specs.declared.builder.ArgAction.TheVariants.{Set, Append}
+
+-- a file that has to be named
+abbrev pub file_rule : Text → Rule
+file_rule id = record (new_rule id) { required = true; action = Some Set }
+
+-- libraries, as many as are named
+abbrev pub libraries_rule : Rule
+libraries_rule = record (new_rule (codes "LIB")) { action = Some Append }
+
+-- `link HOST OUT [LIB]...`
+abbrev pub link_app : App
+link_app = with_rule (with_rule (with_rule (new_app (codes "link")) (file_rule (codes "HOST"))) (file_rule (codes "OUT"))) libraries_rule
+
+-- `pslink`, of which a command is required
+abbrev pub bare_app : App
+bare_app = record (new_app (codes "pslink")) {
+  top = record (new_app (codes "pslink")).top { has_version = true; subcommand_required = true; disable_help_subcommand = true };
+}
+
+abbrev pub pslink_app : App
+pslink_app = with_subcommand bare_app link_app.top

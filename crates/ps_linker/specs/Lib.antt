@@ -1,0 +1,4 @@
+pub mod CommandLine
+pub mod Requests
+pub mod Statuses
+pub mod Lines

@@ -1,0 +1,16 @@
+-- What the process ends with, by the error of its command: 1 refused, 2 usage, 3 a file or standard output, 4 want of memory.
+-- Source: this project's profile.
+use Rattle.std.specs.Prelude.{ℕ}
+use Rattle.ps_linker.specs.declared.error.CommandError.{CommandError}
+use Rattle.ps_linker.specs.declared.error.CommandError.TheVariants as error
+
+abbrev pub status_of : CommandError → ℕ
+status_of (error.Refused fault) = 1
+status_of error.NotYet = 1
+status_of (error.Usage text) = 2
+status_of error.NotText = 2
+status_of (error.Read path) = 3
+status_of (error.TooLong path) = 3
+status_of (error.Write path) = 3
+status_of error.StandardOutput = 3
+status_of error.Memory = 4

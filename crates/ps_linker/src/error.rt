@@ -1,0 +1,97 @@
+//! Why a command ends without having been done.
+ghost use Rattle.std.specs.Prelude.{◌≡◌};
+ghost use Rattle.ps_linker.specs.Statuses.{status_of};
+
+use clap::error::ErrorKind;
+use ps_linkfile::LinkError;
+use ps_words::Fault;
+use std::alloc::{AllocError, AllocFailed};
+use std::io::Write;
+use thiserror::Error;
+
+/// Each text that the program writes to standard error, with what the text names.
+#[derive(Debug, Drop, Error)]
+pub enum CommandError<'a> {
+    /// The files cannot be linked.
+    #[error("pslink: {0}")]
+    Refused(Fault),
+    /// The files are beyond what this release links.
+    #[error("pslink: not yet")]
+    NotYet,
+    /// The words of the command line are none that the program takes.
+    #[error("{0}")]
+    Usage(clap::Error),
+    /// A word of the command line is not UTF-8.
+    #[error("pslink: the words of a command are UTF-8")]
+    NotText,
+    #[error("pslink: cannot read {path}")]
+    Read { path: &'a str },
+    #[error("pslink: {path} is longer than 67108864 bytes")]
+    TooLong { path: &'a str },
+    #[error("pslink: cannot write {path}")]
+    Write { path: &'a str },
+    #[error("pslink: cannot write standard output")]
+    StandardOutput,
+    #[error("pslink: out of memory")]
+    Memory,
+}
+
+impl From<AllocError> for CommandError<'_> {
+    fn from(_error: AllocError) -> Self {
+        CommandError::Memory
+    }
+}
+
+impl<T: Drop> From<AllocFailed<T>> for CommandError<'_> {
+    fn from(_error: AllocFailed<T>) -> Self {
+        CommandError::Memory
+    }
+}
+
+impl From<clap::Error> for CommandError<'_> {
+    fn from(error: clap::Error) -> Self {
+        match error.kind() {
+            ErrorKind::OutOfMemory => CommandError::Memory,
+            _ => CommandError::Usage(error),
+        }
+    }
+}
+
+impl<'a> CommandError<'a> {
+    /// The error of a link whose output is the file at `path`.
+    pub fn of_link(error: LinkError, path: &'a str) -> CommandError<'a> {
+        match error {
+            LinkError::Refused(fault) => CommandError::Refused(fault),
+            LinkError::NotYet => CommandError::NotYet,
+            LinkError::Memory => CommandError::Memory,
+            LinkError::Write(_) => CommandError::Write { path },
+        }
+    }
+
+    /// What the process ends with.
+    pub fn status(&self) -> u8
+        ensures { result ≡ status_of self.now }
+    {
+        match self {
+            CommandError::Refused(_) | CommandError::NotYet => 1,
+            CommandError::Usage(_) | CommandError::NotText => 2,
+            CommandError::Read { .. }
+            | CommandError::TooLong { .. }
+            | CommandError::Write { .. }
+            | CommandError::StandardOutput => 3,
+            CommandError::Memory => 4,
+        }
+    }
+
+    /// Writes the text, and answers the status. A text that cannot be written is let go.
+    pub fn report<E: Write>(&self, err: &mut E) -> u8
+        ensures { result ≡ status_of self.now }
+    {
+        // The texts of `clap` end with a line end of their own.
+        let _ = match self {
+            CommandError::Usage(error) => write!(err, "{error}"),
+            _ => writeln!(err, "{self}"),
+        };
+        self.status()
+    }
+}

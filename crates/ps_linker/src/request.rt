@@ -1,0 +1,172 @@
+//! What the words of a command line ask for.
+ghost use Rattle.std.specs.Prelude.{◌≡◌, [], IfErr, IfOk, Some, codes, map, true, false, unwrap_or};
+ghost use Rattle.clap.specs.Words.{all_of, app_of, first_of, found_of, kind_of, rows_of, rule_of, subcommand_of, subcommand_rows_of, takes};
+ghost use Rattle.clap.specs.declared.Command.TheViews.{out-Command};
+ghost use Rattle.ps_linker.specs.CommandLine.{file_rule, libraries_rule, link_app, pslink_app};
+ghost use Rattle.ps_linker.specs.Requests.{AsksFor, NamesInputs, NamesLink};
+
+use crate::error::CommandError;
+use clap::error::ErrorKind;
+use clap::{Arg, ArgAction, ArgMatches, Command};
+use std::alloc::{AllocError, Allocator, Global};
+
+/// What the words of a command line ask for.
+#[derive(Drop)]
+pub enum Request<'a, A: Allocator> {
+    /// Prints the help or the version.
+    Text(clap::Error),
+    /// Links the inputs, and writes the linked file to `out`.
+    Link { inputs: Inputs<'a, A>, out: &'a str },
+}
+
+/// The paths of a host and of the libraries, in the order in which units are sought in them.
+#[derive(Drop)]
+pub struct Inputs<'a, A: Allocator> {
+    pub host: &'a str,
+    pub libraries: Vec<&'a str, A>,
+}
+
+/// Reads the words, of which the first is the program's name.
+pub fn parse<'a, A: Allocator + Copy>(
+    heap: Global,
+    alloc: A,
+    words: &'a [&'a str],
+) -> Result<Request<'a, A>, CommandError<'a>>
+    ensures { IfOk result (λ r. AsksFor r (subcommand_of pslink_app (map (λ s. s.now) words.now))) }
+{
+    match matches(heap, words) {
+        Ok(matches) => request_of(heap, alloc, &matches),
+        Err(error) => match error.kind() {
+            ErrorKind::DisplayHelp | ErrorKind::DisplayVersion => Ok(Request::Text(error)),
+            _ => Err(CommandError::from(error)),
+        },
+    }
+}
+
+/// What `clap` finds in the words.
+fn matches<'a>(heap: Global, words: &'a [&'a str]) -> Result<ArgMatches<'a>, clap::Error>
+    ensures found { IfOk result (λ m. subcommand_rows_of m ≡ subcommand_of pslink_app (map (λ s. s.now) words.now)) }
+    ensures memory { takes pslink_app (map (λ s. s.now) words.now) ≡ true → IfErr result (λ e. kind_of e ≡ ErrorKind.OutOfMemory) }
+{
+    command(heap)?.try_get_matches_from(words)
+}
+
+/// The command that was found, with its files.
+fn request_of<'a, A: Allocator + Copy>(
+    heap: Global,
+    alloc: A,
+    matches: &ArgMatches<'a>,
+) -> Result<Request<'a, A>, CommandError<'a>>
+    ensures { IfOk result (λ r. AsksFor r (subcommand_rows_of matches.now)) }
+{
+    match matches.subcommand() {
+        Some(("link", found)) => link_of(heap, alloc, found),
+        _ => Err(unnamed(heap)),
+    }
+}
+
+fn link_of<'a, A: Allocator + Copy>(
+    heap: Global,
+    alloc: A,
+    found: &ArgMatches<'a>,
+) -> Result<Request<'a, A>, CommandError<'a>>
+    ensures { IfOk result (λ r. NamesLink r (rows_of (found_of found.now))) }
+{
+    let inputs = inputs_of(heap, alloc, found)?;
+    let out = file_of(heap, found, "OUT")?;
+    Ok(Request::Link { inputs, out })
+}
+
+fn inputs_of<'a, A: Allocator + Copy>(
+    heap: Global,
+    alloc: A,
+    found: &ArgMatches<'a>,
+) -> Result<Inputs<'a, A>, CommandError<'a>>
+    ensures { IfOk result (λ inputs. NamesInputs inputs (rows_of (found_of found.now))) }
+{
+    let host = file_of(heap, found, "HOST")?;
+    let libraries = libraries(alloc, found)?;
+    Ok(Inputs { host, libraries })
+}
+
+/// The path that is given for an argument.
+fn file_of<'a>(
+    heap: Global,
+    found: &ArgMatches<'a>,
+    argument: &str,
+) -> Result<&'a str, CommandError<'a>>
+    ensures { IfOk result (λ path. first_of argument.now (rows_of (found_of found.now)) ≡ Some path.now) }
+{
+    match found.get_str(argument) {
+        Some(path) => Ok(path),
+        None => Err(unnamed(heap)),
+    }
+}
+
+/// What is said of words that leave out a command or a file of one, which `clap` does not let pass.
+fn unnamed(heap: Global) -> CommandError<'static> {
+    let Ok(mut command) = command(heap) else {
+        return CommandError::Memory;
+    };
+    match command.error(
+        ErrorKind::MissingSubcommand,
+        "a command and its files have to be named",
+    ) {
+        Ok(error) => CommandError::from(error),
+        Err(_) => CommandError::Memory,
+    }
+}
+
+fn libraries<'a, A: Allocator + Copy>(
+    alloc: A,
+    found: &ArgMatches<'a>,
+) -> Result<Vec<&'a str, A>, AllocError>
+    ensures { IfOk result (λ paths. map (λ path. path.now) paths.items ≡ unwrap_or (all_of (codes "LIB") (rows_of (found_of found.now))) []) }
+{
+    match found.get_strs("LIB") {
+        Some(paths) => Vec::from_slice(alloc, paths),
+        None => Ok(Vec::new(alloc)),
+    }
+}
+
+/// What the command line takes.
+fn command<'a>(heap: Global) -> Result<Command<'a>, AllocError>
+    ensures { IfOk result (λ c. app_of c ≡ pslink_app) }
+{
+    let link = link_command(heap)?;
+    Command::new(heap, "pslink")
+        .version("0.1.0")
+        .about("The Linker of UCSD Pascal II.0 for Pascal hosts and units")
+        .subcommand_required(true)
+        .disable_help_subcommand(true)
+        .subcommand(link)
+}
+
+fn link_command<'a>(heap: Global) -> Result<Command<'a>, AllocError>
+    ensures { IfOk result (λ c. (app_of c ≡ link_app) × ((out-Command c).has_globals ≡ false)) }
+{
+    Command::new(heap, "link")
+        .about("Links a host with the units that it names, and writes the linked file")
+        .arg(file(heap, "HOST", "The code file that holds the host program"))?
+        .arg(file(heap, "OUT", "The code file to write; it may be HOST"))?
+        .arg(libraries_argument(heap))
+}
+
+fn file<'a>(heap: Global, name: &'a str, help: &'a str) -> Arg<'a>
+    ensures rule { rule_of result ≡ file_rule name.entry.now }
+    ensures global { result.global ≡ false }
+{
+    Arg::new(heap, name)
+        .required(true)
+        .action(ArgAction::Set)
+        .help(help)
+}
+
+fn libraries_argument<'a>(heap: Global) -> Arg<'a>
+    ensures rule { rule_of result ≡ libraries_rule }
+    ensures global { result.global ≡ false }
+{
+    Arg::new(heap, "LIB")
+        .action(ArgAction::Append)
+        .help("A library in which units are sought, in the order given")
+}

@@ -1,0 +1,69 @@
+-- One segment more of those that are linked one after another.
+use Rattle.std.proofs.Common.{◌≡◌, ℕ, ◌+◌, ◌<◌, ◌≤◌, ◌++◌, List, [], ◌∷◌, length, map, get_or, drop, Bool, true, false, Option, Some, None, refl, sym, ◌∙◌, ap, subst, arith}
+use Rattle.std.specs.Prelude.{All, IfSome, if◌then◌else◌}
+use Rattle.std.specs.Option.{option_or, option_map, option_to_list}
+use Rattle.ps_words.specs.declared.order.Order.{Order}
+use Rattle.ps_words.specs.declared.edit.Edit.{Edit}
+use Rattle.ps_words.specs.declared.fault.Fault.{Fault}
+use Rattle.ps_codefile.specs.Procedures.{is_reserved}
+use Rattle.ps_resolve.specs.Sources.{Segment, is_host}
+use Rattle.ps_resolve.specs.Privates.{owner_of, words_of, all_words}
+use Rattle.ps_resolve.specs.References.{Known, records_fault}
+use Rattle.ps_resolve.specs.Linking.{Edited, data_edits, segment_edits, edited_from}
+use Rattle.ps_resolve.specs.Edits.{IsOfSegment, IsOfTable, AreOfReferences}
+use Rattle.ps_resolve.specs.Faults.{segment_fault, references_fault_from}
+use Rattle.ps_resolve.specs.Plans.{LinksSegment, LinkSegments}
+use Rattle.ps_resolve.specs.Views.{segment_of}
+use Rattle.ps_resolve.specs.declared.segment.Segment.{Segment as SegmentView}
+use Rattle.ps_resolve.specs.declared.linkage.Stop.{Stop}
+use Rattle.ps_resolve.specs.declared.linkage.Stop.TheVariants.{Refused, Memory, NotYet}
+use Rattle.std.proofs.lemmas.List.{drop_all}
+use Rattle.ps_resolve.proofs.Segs.{drop_at}
+use Rattle.ps_resolve.proofs.Stages.{skip, keep}
+
+-- what may stand beside the references' edits is the data size in the host's segment
+pub table_of_own : (order : Order) (v : SegmentView) (size : Edit) (own : Option Edit) → IfSome own (λ edit. (edit ≡ size) × (is_host v.role ≡ true)) → (is_host v.role ≡ true → IsOfTable order v.code.now size) → IfSome own (IsOfTable order v.code.now)
+table_of_own order v size None h t = tt
+table_of_own order v size (Some e) h t = subst (λ (x : Edit). IsOfTable order v.code.now x) (sym h.0) (t h.1)
+
+pub own_is : (b : Bool) (own : Option Edit) (size : Edit) (es : List Edit) → (b ≡ true → es ≡ size ∷ []) → option_to_list own ≡ (if b then size ∷ [] else []) → option_to_list own ≡ (if b then es else [])
+own_is true own size es h k = k ∙ sym (h refl)
+own_is false own size es h k = k
+
+module _ (order : Order) (known : Known) (ss : List SegmentView) (i : ℕ) (v : SegmentView) (lt : i < length ss) (is : v ≡ get_or ss i v) (free : ℕ) where
+  front : map (segment_of order) (drop i ss) ≡ segment_of order v ∷ map (segment_of order) (drop (i + 1) ss)
+  front = ap (map (segment_of order)) (drop_at ss i v lt is)
+
+  words_front : all_words (map owner_of (map (segment_of order) (drop i ss))) ≡ words_of (segment_of order v).records + all_words (map owner_of (map (segment_of order) (drop (i + 1) ss)))
+  words_front = ap (λ (xs : List Segment). all_words (map owner_of xs)) front
+
+  pub room_at : (total : ℕ) → free + all_words (map owner_of (map (segment_of order) (drop i ss))) ≡ total → total < 65536 → free + words_of (segment_of order v).records < 65536
+  room_at total h lt = omega (arith, words_front)
+
+  pub stop_at : (base : ℕ) (stop : Stop) → references_fault_from order known free (map (segment_of order) (drop i ss)) ≡ references_fault_from order known base (map (segment_of order) ss)
+      → IsOfSegment v.file v.slot (records_fault known (is_reserved order v.code.now) v.code.now 0 free [] (segment_of order v).records) stop → AreOfReferences order known base (map (segment_of order) ss) stop
+  stop_at base (Refused fault) h d = sym h ∙ ap (references_fault_from order known free) front ∙ keep _ _ fault d
+  stop_at base Memory h d = tt
+  stop_at base NotYet h d = absurd d
+
+  module _ (end : ℕ) (goes : end ≡ free + words_of (segment_of order v).records) where
+    pub words_on : (total : ℕ) → free + all_words (map owner_of (map (segment_of order) (drop i ss))) ≡ total → end + all_words (map owner_of (map (segment_of order) (drop (i + 1) ss))) ≡ total
+    words_on total h = omega (arith, words_front, goes)
+
+    pub first_on : (first : Option Fault) → references_fault_from order known free (map (segment_of order) (drop i ss)) ≡ first → segment_fault order known free (segment_of order v) ≡ None
+        → references_fault_from order known end (map (segment_of order) (drop (i + 1) ss)) ≡ first
+    first_on first h none =
+        ap (λ (n : ℕ). references_fault_from order known n (map (segment_of order) (drop (i + 1) ss))) goes
+        ∙ sym (ap (references_fault_from order known free) front ∙ skip _ _ none) ∙ h
+
+    pub links_on : (words : ℕ) (all : List Edited) (done : List (List Edit)) (d : List Edit)
+        → LinksSegment order (record { segment = segment_of order v; edits = segment_edits order known words free (segment_of order v) }) d
+        → ((behind : List (List Edit)) → LinkSegments order (edited_from order known words free (map (segment_of order) (drop i ss))) behind → LinkSegments order all (done ++ behind))
+        → (behind : List (List Edit)) → LinkSegments order (edited_from order known words end (map (segment_of order) (drop (i + 1) ss))) behind → LinkSegments order all (done ++ d ∷ behind)
+    links_on words all done d link before behind h =
+        before (d ∷ behind) (subst (λ (xs : List Segment). LinkSegments order (edited_from order known words free xs) (d ∷ behind)) (sym front)
+        (link, subst (λ (n : ℕ). LinkSegments order (edited_from order known words n (map (segment_of order) (drop (i + 1) ss))) behind) goes h))
+
+-- no segment is left
+pub none_left : (order : Order) (known : Known) (words free i : ℕ) (ss : List SegmentView) → length ss ≤ i → LinkSegments order (edited_from order known words free (map (segment_of order) (drop i ss))) []
+none_left order known words free i ss h = subst (λ (xs : List SegmentView). LinkSegments order (edited_from order known words free (map (segment_of order) xs)) []) (sym (drop_all i ss h)) tt

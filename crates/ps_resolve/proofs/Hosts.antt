@@ -1,0 +1,43 @@
+-- The host's own segment among the segments of a link.
+use Rattle.std.proofs.Common.{◌≡◌, ℕ, ◌≤◌, List, [], ◌∷◌, length, map, Bool, true, false, cond, Option, Some, None, refl, sym, ◌∙◌, ap, subst, arith}
+use Rattle.std.specs.Prelude.{All, find}
+use Rattle.std.proofs.lemmas.List.Elements.{All-head, All-tail}
+use Rattle.ps_words.specs.declared.order.Order.{Order}
+use Rattle.ps_codefile.specs.Procedures.{tables_fault}
+use Rattle.ps_codefile.specs.declared.entry.Role.{Role}
+use Rattle.ps_codefile.specs.declared.entry.Role.TheVariants.{Empty, Wanted, Plain, Host, Unit}
+use Rattle.ps_resolve.specs.Sources.{Segment, is_linked, is_host, host_of}
+use Rattle.ps_resolve.specs.Linkable.{HasOneHost}
+use Rattle.ps_resolve.specs.Views.{IsSound}
+
+host_linked : (r : Role) → is_host r ≡ true → is_linked r ≡ true
+host_linked Empty h = cc
+host_linked Wanted h = refl
+host_linked Plain h = cc
+host_linked Host h = refl
+host_linked Unit h = refl
+
+found_holds : {X : Type 0} (P : X → Type 0) (q : X → Bool) (xs : List X) (x : X) → All P xs → find q xs ≡ Some x → P x
+found_holds P q [] x all h = cc
+found_holds {X} P q (y ∷ ys) x all h = at (q y) refl h (λ k. found_holds P q ys x (All-tail P y ys all) k)
+  where
+    at : (b : Bool) → q y ≡ b → cond b (Some y) (find q ys) ≡ Some x → (find q ys ≡ Some x → P x) → P x
+    at true e k rest = let same : y ≡ x = cc in subst P same (All-head P y ys all)
+    at false e k rest = rest k
+
+some_is : (a b : Segment) → ◌≡◌ {A = Option Segment} (Some a) (Some b) → a ≡ b
+some_is a b h = cc
+
+module _ (order : Order) (segs : List Segment) (h : Segment) (is : host_of segs ≡ Some h) (role : is_host h.role ≡ true) (sound : All (IsSound order) segs) where
+  host_sound : IsSound order h
+  host_sound = found_holds (IsSound order) (λ s. is_host s.role) segs h sound is
+
+  pub host_large : 4 ≤ length h.code
+  host_large = host_sound.large (host_linked h.role role)
+
+  pub host_tables : tables_fault order h.code true ≡ None
+  host_tables = subst (λ (b : Bool). tables_fault order h.code b ≡ None) role (host_sound.tables (host_linked h.role role))
+
+-- what holds of the host's own segment holds of each that is a host's
+pub of_hosts : (segs : List Segment) (h : Segment) → host_of segs ≡ Some h → HasOneHost segs → (P : Segment → Type 0) → P h → All (λ s. is_host s.role ≡ true → P s) segs
+of_hosts segs h is one P p = λ k d lt role. subst P (some_is h _ (sym is ∙ one k d lt role)) p

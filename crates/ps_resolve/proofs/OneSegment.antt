@@ -1,0 +1,85 @@
+-- The edits of one segment link it.
+use Rattle.std.proofs.Common.{◌≡◌, ℕ, ◌+◌, ◌-◌, ◌<◌, ◌≤◌, ◌++◌, List, [], ◌∷◌, length, map, Bool, true, false, Option, Some, None, Result, Ok, Err, refl, sym, ◌∙◌, ap, subst, arith}
+use Rattle.std.specs.Prelude.{count_by, All, IsPermutation, if◌then◌else◌}
+use Rattle.std.specs.Option.{option_map, option_to_list}
+use Rattle.std.proofs.lemmas.List.Sorted.{IsPermutation-refl}
+use Rattle.std.proofs.lemmas.List.Elements.{All-nil}
+use Rattle.ps_words.specs.Edits.{AreEdits, IsInside, covers, patched}
+use Rattle.ps_words.specs.declared.order.Order.{Order}
+use Rattle.ps_words.specs.declared.edit.Edit.{Edit}
+use Rattle.ps_words.specs.declared.edit.Edit.TheVariants.{Byte}
+use Rattle.ps_words.specs.declared.fault.Reason.{Reason}
+use Rattle.ps_codefile.specs.Procedures.{is_reserved, ProcedureTables, unless}
+use Rattle.ps_linkinfo.specs.declared.record.LinkRecord.{LinkRecord as Record}
+use Rattle.ps_resolve.specs.Sources.{Segment, is_linked, is_host}
+use Rattle.ps_resolve.specs.Privates.{words_of}
+use Rattle.ps_resolve.specs.References.{Known, records_edits, records_fault}
+use Rattle.ps_resolve.specs.Linking.{Edited, data_edits, segment_edits}
+use Rattle.ps_resolve.specs.Faults.{in_segment, segment_fault}
+use Rattle.ps_resolve.specs.Plans.{LinksSegment}
+use Rattle.ps_resolve.specs.Views.{segment_of}
+use Rattle.ps_resolve.specs.declared.segment.Segment.{Segment as SegmentView}
+use Rattle.ps_resolve.proofs.Orders.{same_patched}
+
+pub unless_ok : (o : Option Reason) (x y : ProcedureTables) → ◌≡◌ {A = Result ProcedureTables Reason} (Ok y) (unless o x) → y ≡ x
+unless_ok None x y h = cc
+unless_ok (Some why) x y h = cc
+
+pub unless_err : (o : Option Reason) (x : ProcedureTables) (why : Reason) → ◌≡◌ {A = Result ProcedureTables Reason} (Err why) (unless o x) → o ≡ None → ⊥
+unless_err None x why h k = cc
+unless_err (Some e) x why h k = cc
+
+if_true : {X : Type 0} (b : Bool) (x y : X) → b ≡ true → (if b then x else y) ≡ x
+if_true true x y h = refl
+if_true false x y h = cc
+
+if_false : {X : Type 0} (b : Bool) (x y : X) → b ≡ false → (if b then x else y) ≡ y
+if_false true x y h = cc
+if_false false x y h = refl
+
+none_links : (order : Order) (s : Segment) (es : List Edit) → es ≡ [] → LinksSegment order (record { segment = s; edits = es }) []
+none_links order s es e = subst (λ (fs : List Edit). LinksSegment order (record { segment = s; edits = fs }) []) (sym e)
+    (record { ready = record { inside = All-nil (IsInside (length s.code)); apart = tt }; each = IsPermutation-refl []; bytes = λ p lt. refl })
+
+module _ (order : Order) (known : Known) (v : SegmentView) (free : ℕ) where
+  -- a segment that is linked already
+  module _ (h : is_linked v.role ≡ false) where
+    plain_records : (segment_of order v).records ≡ []
+    plain_records = if_false (is_linked v.role) _ [] h
+
+    pub plain_links : (words : ℕ) → LinksSegment order (record { segment = segment_of order v; edits = segment_edits order known words free (segment_of order v) }) []
+    plain_links words = none_links order (segment_of order v) (segment_edits order known words free (segment_of order v)) (if_false (is_linked v.role) _ [] h)
+
+    pub plain_end : free ≡ free + words_of (segment_of order v).records
+    plain_end = let e = ap words_of plain_records in omega (arith, e)
+
+    pub plain_fault : segment_fault order known free (segment_of order v) ≡ None
+    plain_fault = ap (λ (rs : List Record). option_map (in_segment v.file v.slot) (records_fault known (is_reserved order v.code.now) v.code.now 0 free [] rs)) plain_records
+
+  -- one whose references are resolved
+  module _ (h : is_linked v.role ≡ true) (slot : ℕ) (rs : List Record) (at : slot ≡ v.slot) (read : rs ≡ (segment_of order v).records) (own : Option Edit) where
+    listed : (words : ℕ) → option_to_list own ≡ (if is_host v.role then data_edits order words v.code.now else [])
+        → segment_edits order known words free (segment_of order v) ≡ Byte (length v.code.now - 2) slot ∷ (option_to_list own ++ records_edits known v.code.now free rs)
+    listed words e =
+        if_true (is_linked v.role) _ [] h
+        ∙ ap (λ (es : List Edit). Byte (length v.code.now - 2) v.slot ∷ (es ++ records_edits known v.code.now free (segment_of order v).records)) (sym e)
+        ∙ ap (λ (qs : List Record). Byte (length v.code.now - 2) v.slot ∷ (option_to_list own ++ records_edits known v.code.now free qs)) (sym read)
+        ∙ ap (λ (n : ℕ). Byte (length v.code.now - 2) n ∷ (option_to_list own ++ records_edits known v.code.now free rs)) (sym at)
+
+    pub linked_links : (sorted : List Edit) → IsPermutation (Byte (length v.code.now - 2) slot ∷ (option_to_list own ++ records_edits known v.code.now free rs)) sorted
+        → ((p : ℕ) → count_by (covers p) (Byte (length v.code.now - 2) slot ∷ (option_to_list own ++ records_edits known v.code.now free rs)) ≤ 1)
+        → AreEdits (length v.code.now) sorted
+        → (words : ℕ) → option_to_list own ≡ (if is_host v.role then data_edits order words v.code.now else [])
+        → LinksSegment order (record { segment = segment_of order v; edits = segment_edits order known words free (segment_of order v) }) sorted
+    linked_links sorted same once ready words e =
+        let all : List Edit = Byte (length v.code.now - 2) slot ∷ (option_to_list own ++ records_edits known v.code.now free rs) in
+        let is = listed words e in
+        record {
+          ready = ready;
+          each = subst (λ (es : List Edit). IsPermutation es sorted) (sym is) same;
+          bytes = λ p lt. sym (same_patched order v.code.now all sorted p same (once p)) ∙ ap (λ (es : List Edit). patched order v.code.now es p) (sym is);
+        }
+
+    pub linked_fault : records_fault known (is_reserved order v.code.now) v.code.now 0 free [] rs ≡ None → segment_fault order known free (segment_of order v) ≡ None
+    linked_fault none = ap (λ (qs : List Record). option_map (in_segment v.file v.slot) (records_fault known (is_reserved order v.code.now) v.code.now 0 free [] qs)) (sym read)
+        ∙ ap (option_map (in_segment v.file v.slot)) none

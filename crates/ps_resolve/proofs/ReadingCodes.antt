@@ -1,0 +1,46 @@
+-- How long a code is that stands whole in its file, and which kinds have one of a linked segment.
+use Rattle.std.proofs.Common.{◌≡◌, ◌==◌, ◌&&◌, ◌||◌, ◌+◌, ◌*◌, ◌%◌, ◌≤◌, ◌-◌, ℕ, List, drop, length, Bool, true, false, if◌then◌else◌, Ok, Err, refl, sym, ◌∙◌, ap, arith}
+use Rattle.std.proofs.Math.Dec.{ltb}
+use Rattle.std.specs.List.{slice_range}
+use Rattle.std.proofs.lemmas.List.{length-take, length-drop}
+use Rattle.std.proofs.lemmas.Bool.Decides.{nat_tests}
+use Rattle.ps_words.specs.declared.fault.Reason.TheVariants as reason
+use Rattle.ps_codefile.specs.declared.entry.Entry.{Entry}
+use Rattle.ps_codefile.specs.Dictionary.{code_of, has_bad_length, is_linked_kind}
+
+whole_code : (bad zero short : Bool) (x code : List ℕ) → (if bad then Err reason.BadLength else (if zero then Err reason.BadAddress else (if short then Err reason.Truncated else Ok x))) ≡ Ok code → (bad ≡ false) × (short ≡ false) × (x ≡ code)
+whole_code true zero short x code h = cc
+whole_code false true short x code h = cc
+whole_code false false true x code h = cc
+whole_code false false false x code h = (refl, refl, cc)
+
+length_within : (xs : List ℕ) (a n : ℕ) → ltb (length xs) (a + n) ≡ false → length (slice_range xs a (a + n)) ≡ n
+length_within xs a n h =
+    let le : a + n ≤ length xs = grind (arith, nat_tests) in
+    omega (arith, length-take (a + n - a) (drop a xs), length-drop a xs)
+
+small_code : (n : ℕ) (other : Bool) → (ltb 32767 n || other) ≡ false → n ≤ 32767
+small_code n other h = at (ltb 32767 n) refl
+  where
+    at : (b : Bool) → ltb 32767 n ≡ b → n ≤ 32767
+    at true q = let e : true ≡ false = rw q at h in cc
+    at false q = grind (arith, nat_tests)
+
+large_code : (n : ℕ) (long odd : Bool) → (long || (true && (odd || ltb n 4))) ≡ false → 4 ≤ n
+large_code n true odd h = cc
+large_code n false true h = cc
+large_code n false false h = grind (arith, nat_tests)
+
+pub record IsWhole (e : Entry) (code : List ℕ) : Type 0 where
+  pub len : length code ≡ e.length
+  pub small : e.length ≤ 32767
+  pub large : is_linked_kind e.kind ≡ true → 4 ≤ e.length
+
+pub whole : (file : List ℕ) (e : Entry) (code : List ℕ) → code_of file e ≡ Ok code → IsWhole e code
+whole file e code h =
+    let parts = whole_code (has_bad_length e) (e.address == 0) (ltb (length file) (512 * e.address + e.length)) (slice_range file (512 * e.address) (512 * e.address + e.length)) code h in
+    record {
+      len = ap length (sym parts.2) ∙ length_within file (512 * e.address) e.length parts.1;
+      small = small_code e.length _ parts.0;
+      large = λ linked. large_code e.length (ltb 32767 e.length) (e.length % 2 == 1) (rw linked at parts.0);
+    }

@@ -1,0 +1,107 @@
+-- The libraries of a link, from one of them on.
+use Rattle.std.proofs.Common.{◌≡◌, ℕ, suc, ◌+◌, ◌<◌, List, [], ◌∷◌, length, get_or, drop, map, Bool, true, false, if◌then◌else◌, Option, Some, None, Ok, Err, Bor, refl, sym, ◌∙◌, ap, arith, add-one}
+use Rattle.std.proofs.Math.Seq.{drop-cons}
+use Rattle.std.proofs.Math.Dec.{ltb}
+use Rattle.std.proofs.lemmas.List.{length-map, get_or-map}
+use Rattle.std.proofs.lemmas.Option.{some_pair_parts}
+use Rattle.std.specs.List.{enumerate_from, find, slice_get}
+use Rattle.std.specs.Option.{option_or, unwrap_or}
+use Rattle.std.specs.Result.{result_err}
+use Rattle.ps_words.specs.FaultPlaces.{in_file}
+use Rattle.ps_words.specs.declared.order.Order.{Order}
+use Rattle.ps_words.specs.declared.order.Order.TheVariants.{Little, Big}
+use Rattle.ps_words.specs.declared.fault.Reason.TheVariants as reason
+use Rattle.ps_words.specs.declared.fault.Fault.{Fault}
+use Rattle.ps_codefile.specs.Dictionary.{FileOrder, Zero, Ordered, Mixed, file_order, opened_beside, opened_beside_as}
+use Rattle.ps_resolve.specs.Searches.{first_of}
+use Rattle.ps_resolve.specs.Sources.{has_entry, chosen_library, file_at}
+use Rattle.ps_resolve.specs.Faults.{library_fault, library_reason, beside_reason}
+use Rattle.ps_resolve.proofs.ReadingRows.{neither_first, neither_second, none_mapped}
+
+-- reading a library refuses just what the definition names
+beside_as : (short : Bool) (of : FileOrder) (order : Order) (file : List ℕ) → result_err (if short then Err reason.ShortFile else opened_beside_as order file of) ≡ (if short then Some reason.ShortFile else beside_reason order of)
+beside_as true of order file = refl
+beside_as false Zero order file = refl
+beside_as false (Ordered Little) Little file = refl
+beside_as false (Ordered Little) Big file = refl
+beside_as false (Ordered Big) Little file = refl
+beside_as false (Ordered Big) Big file = refl
+beside_as false Mixed order file = refl
+
+pub beside : (order : Order) (file : List ℕ) → result_err (opened_beside order file) ≡ library_reason order file
+beside order file = beside_as (ltb (length file) 512) (file_order file) order file
+
+-- a library that is not refused is read as it is
+read_as : (short : Bool) (of : FileOrder) (order : Order) (file : List ℕ) → result_err (if short then Err reason.ShortFile else opened_beside_as order file of) ≡ None
+    → (if short then Err reason.ShortFile else opened_beside_as order file of) ≡ Ok (record { order = order; file = file })
+read_as true of order file h = cc
+read_as false Zero order file h = refl
+read_as false (Ordered Little) Little file h = refl
+read_as false (Ordered Little) Big file h = cc
+read_as false (Ordered Big) Little file h = cc
+read_as false (Ordered Big) Big file h = refl
+read_as false Mixed order file h = cc
+
+pub read_beside : (order : Order) (file : List ℕ) → library_reason order file ≡ None → opened_beside order file ≡ Ok (record { order = order; file = file })
+read_beside order file h = read_as (ltb (length file) 512) (file_order file) order file (beside order file ∙ h)
+
+-- what a list of references stands for
+abbrev pub files : List (Bor (List ℕ)) → List (List ℕ)
+files libs = map (λ (lib : Bor (List ℕ)). lib.now) libs
+
+abbrev pub no_file : Bor (List ℕ)
+no_file = record { ref_ptr = (0, 0); now = [] }
+
+-- the files from i on are that of i and those behind it
+pub files_more : (libs : List (Bor (List ℕ))) (i n : ℕ) → i < length libs → enumerate_from n (drop i (files libs)) ≡ (n, (get_or libs i no_file).now) ∷ enumerate_from (n + 1) (drop (i + 1) (files libs))
+files_more libs i n lt =
+    let same : get_or (files libs) i (get_or libs i no_file).now ≡ (get_or libs i no_file).now = get_or-map (λ (lib : Bor (List ℕ)). lib.now) libs i no_file (get_or libs i no_file).now lt in
+    let long : length (files libs) ≡ length libs = length-map libs (λ (lib : Bor (List ℕ)). lib.now) in
+    let here : drop i (files libs) ≡ (get_or libs i no_file).now ∷ drop (i + 1) (files libs) =
+    drop-cons (files libs) i (get_or libs i no_file).now (omega arith) ∙ (ap (λ (y : List ℕ). y ∷ drop (suc i) (files libs)) same ∙ ap (λ (j : ℕ). (get_or libs i no_file).now ∷ drop j (files libs)) (sym (add-one i))) in
+    ap (λ (ys : List (List ℕ)). enumerate_from n ys) here
+
+-- the first fault from library i on
+abbrev pub rest_of : Order → List (Bor (List ℕ)) → ℕ → Option Fault
+rest_of order libs i = first_of (library_fault order) (enumerate_from (i + 1) (drop i (files libs)))
+
+pub rest_at : (order : Order) (libs : List (Bor (List ℕ))) (i : ℕ) → i < length libs → rest_of order libs i ≡ option_or (library_fault order (i + 1, (get_or libs i no_file).now)) (rest_of order libs (i + 1))
+rest_at order libs i lt = ap (λ (xs : List (ℕ × List ℕ)). first_of (library_fault order) xs) (files_more libs i (i + 1) lt)
+
+pub no_reason : (order : Order) (libs : List (Bor (List ℕ))) (i : ℕ) → i < length libs → rest_of order libs i ≡ None → library_reason order (get_or libs i no_file).now ≡ None
+no_reason order libs i lt h = none_mapped (in_file (i + 1)) _ (neither_first _ _ (sym (rest_at order libs i lt) ∙ h))
+
+pub no_more : (order : Order) (libs : List (Bor (List ℕ))) (i : ℕ) → i < length libs → rest_of order libs i ≡ None → rest_of order libs (i + 1) ≡ None
+no_more order libs i lt h = neither_second (library_fault order (i + 1, (get_or libs i no_file).now)) _ (sym (rest_at order libs i lt) ∙ h)
+
+-- the first library from i on that has an entry of the name
+abbrev pub chosen_from : Order → List ℕ → List (Bor (List ℕ)) → ℕ → Option (ℕ × List ℕ)
+chosen_from order name libs i = find (λ (lib : ℕ × List ℕ). has_entry order name lib.1) (enumerate_from i (drop i (files libs)))
+
+pub chosen_here : (order : Order) (name : List ℕ) (libs : List (Bor (List ℕ))) (i : ℕ) → i < length libs → has_entry order name (get_or libs i no_file).now ≡ true → chosen_from order name libs i ≡ Some (i, (get_or libs i no_file).now)
+chosen_here order name libs i lt h = ap (λ (xs : List (ℕ × List ℕ)). find (λ (lib : ℕ × List ℕ). has_entry order name lib.1) xs) (files_more libs i i lt) ∙ rw h
+
+pub chosen_later : (order : Order) (name : List ℕ) (libs : List (Bor (List ℕ))) (i : ℕ) → i < length libs → has_entry order name (get_or libs i no_file).now ≡ false → chosen_from order name libs i ≡ chosen_from order name libs (i + 1)
+chosen_later order name libs i lt h = ap (λ (xs : List (ℕ × List ℕ)). find (λ (lib : ℕ × List ℕ). has_entry order name lib.1) xs) (files_more libs i i lt) ∙ rw h
+
+-- a file that is found among numbered files stands at its number
+at_number : (p : ℕ × List ℕ → Bool) (files : List (List ℕ)) (n k : ℕ) (file : List ℕ) → find p (enumerate_from n files) ≡ Some (k, file) → (j : ℕ) × (k ≡ n + j) × (slice_get files j ≡ Some file)
+at_number p [] n k file h = cc
+at_number p (x ∷ xs) n k file h = by (λ e. at_number p xs (n + 1) k file e) (p (n, x)) refl
+  where
+    by : (find p (enumerate_from (n + 1) xs) ≡ Some (k, file) → (j : ℕ) × (k ≡ n + 1 + j) × (slice_get xs j ≡ Some file)) → (b : Bool) → p (n, x) ≡ b → (j : ℕ) × (k ≡ n + j) × (slice_get (x ∷ xs) j ≡ Some file)
+    by further true q =
+        let here : ◌≡◌ {A = Option (ℕ × List ℕ)} (Some (n, x)) (Some (k, file)) = rw q at h in
+        let same = some_pair_parts n k x file here in
+        let place : k ≡ n + 0 = omega (arith, same.0) in
+        (0, place, ap (λ (y : List ℕ). Some y) same.1)
+    by further false q =
+        let rest = further (rw q at h) in
+        (suc rest.0, omega (arith, rest.1), rest.2)
+
+pub chosen_file : (order : Order) (name : List ℕ) (files : List (List ℕ)) (k : ℕ) (file host : List ℕ) → chosen_library order name files ≡ Some (k, file) → file_at host files (k + 1) ≡ file
+chosen_file order name files k file host h =
+    let there = at_number (λ (lib : ℕ × List ℕ). has_entry order name lib.1) files 0 k file h in
+    let same : k ≡ there.0 = omega (arith, there.1) in
+    let found : slice_get files k ≡ Some file = ap (λ (j : ℕ). slice_get files j) same ∙ there.2 in
+    ap (λ (j : ℕ). unwrap_or (slice_get (host ∷ files) j) []) (add-one k) ∙ rw found

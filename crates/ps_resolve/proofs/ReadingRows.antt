@@ -1,0 +1,53 @@
+-- The first of a row of slots, from one of them on.
+use Rattle.std.proofs.Common.{◌≡◌, ℕ, suc, ◌+◌, ◌-◌, ◌<◌, ◌≤◌, List, [], ◌∷◌, Bool, true, false, Option, Some, None, is_some, refl, ◌∙◌, ap, arith}
+use Rattle.std.specs.List.{range_with_len, find, list_any}
+use Rattle.std.specs.Option.{option_or, option_map}
+use Rattle.ps_resolve.specs.Searches.{first_of}
+
+-- the numbers from i up to n are i and those behind it
+pub range_more : (i n : ℕ) → i < n → range_with_len i (n - i) ≡ i ∷ range_with_len (i + 1) (n - (i + 1))
+range_more i n lt =
+    let left : n - i ≡ suc (n - (i + 1)) = omega arith in
+    ap (λ (k : ℕ). range_with_len i k) left
+
+-- the first fault from i on is that of i, or else the first behind it
+pub first_more : {Y : Type 0} (f : ℕ → Option Y) (i n : ℕ) → i < n → first_of f (range_with_len i (n - i)) ≡ option_or (f i) (first_of f (range_with_len (i + 1) (n - (i + 1))))
+first_more f i n lt = ap (λ (xs : List ℕ). first_of f xs) (range_more i n lt)
+
+pub first_here : {Y : Type 0} (f : ℕ → Option Y) (i n : ℕ) (y : Y) → i < n → f i ≡ Some y → first_of f (range_with_len i (n - i)) ≡ Some y
+first_here f i n y lt h = first_more f i n lt ∙ rw h
+
+pub first_later : {Y : Type 0} (f : ℕ → Option Y) (i n : ℕ) → i < n → f i ≡ None → first_of f (range_with_len i (n - i)) ≡ first_of f (range_with_len (i + 1) (n - (i + 1)))
+first_later f i n lt h = first_more f i n lt ∙ rw h
+
+-- the first number from i on that passes is i, where it passes, or else the first behind it
+pub found_here : (p : ℕ → Bool) (i n : ℕ) → i < n → p i ≡ true → find p (range_with_len i (n - i)) ≡ Some i
+found_here p i n lt h = ap (λ (xs : List ℕ). find p xs) (range_more i n lt) ∙ rw h
+
+pub found_later : (p : ℕ → Bool) (i n : ℕ) → i < n → p i ≡ false → find p (range_with_len i (n - i)) ≡ find p (range_with_len (i + 1) (n - (i + 1)))
+found_later p i n lt h = ap (λ (xs : List ℕ). find p xs) (range_more i n lt) ∙ rw h
+
+pub found_none : (p : ℕ → Bool) (i n : ℕ) → n ≤ i → find p (range_with_len i (n - i)) ≡ None
+found_none p i n le = let left : n - i ≡ 0 = omega arith in ap (λ (k : ℕ). find p (range_with_len i k)) left
+
+-- some number passes where a first one does
+pub any_found : {X : Type 0} (p : X → Bool) (xs : List X) → list_any p xs ≡ is_some (find p xs)
+any_found p [] = refl
+any_found {X} p (x ∷ xs) = at (any_found p xs) (p x) refl
+  where
+    at : list_any p xs ≡ is_some (find p xs) → (b : Bool) → p x ≡ b → list_any p (x ∷ xs) ≡ is_some (find p (x ∷ xs))
+    at rest true h = rw h
+    at rest false h = rw h rest
+
+-- what two searches one after the other do not find
+pub neither_first : {Y : Type 0} (a b : Option Y) → option_or a b ≡ None → a ≡ None
+neither_first None b h = refl
+neither_first (Some y) b h = h
+
+pub neither_second : {Y : Type 0} (a b : Option Y) → option_or a b ≡ None → b ≡ None
+neither_second None b h = h
+neither_second (Some y) b h = cc
+
+pub none_mapped : {X Y : Type 0} (f : X → Y) (o : Option X) → option_map f o ≡ None → o ≡ None
+none_mapped f None h = refl
+none_mapped f (Some x) h = cc

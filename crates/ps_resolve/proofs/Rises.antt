@@ -1,0 +1,130 @@
+-- Privates stand by slot and then by record, where the segments stand by slot; and so one is found by halving.
+use Rattle.std.proofs.Common.{◌≡◌, ℕ, zero, suc, ◌+◌, ◌<◌, ◌≤◌, ◌==◌, ◌&&◌, ◌||◌, ◌++◌, List, [], ◌∷◌, length, map, get_or, Bool, true, false, cond, Option, Some, None, refl, sym, ◌∙◌, ap, subst, arith}
+use Rattle.std.specs.Prelude.{find, nat_le, nat_lt}
+use Rattle.std.specs.Option.{option_map}
+use Rattle.std.specs.List.Sorted.{IsPartitionedBy, IsPartitionPoint}
+use Rattle.std.proofs.lemmas.Bool.Decides.{nat_tests}
+use Rattle.ps_linkinfo.specs.declared.record.LinkRecord.{LinkRecord as Record}
+use Rattle.ps_resolve.specs.Linkable.{AscendFrom}
+use Rattle.ps_resolve.specs.Privates.{words_in, allotted, words_of, all_allotted, Owner}
+use Rattle.ps_resolve.specs.Offsets.{is_from, RiseFrom, is_of, offset_of}
+use Rattle.ps_resolve.specs.declared.allotment.Private.{Private}
+
+weaker : (a b c d : ℕ) (ps : List Private) → ((p : Private) → is_from a b p ≡ true → is_from c d p ≡ true) → RiseFrom a b ps → RiseFrom c d ps
+weaker a b c d [] h r = tt
+weaker a b c d (p ∷ ps) h r = (h p r.0, r.1)
+
+slot_before : (a c s r : ℕ) → a ≤ c → (nat_lt c s || (c == s && nat_le 0 r)) ≡ true → (nat_lt a s || (a == s && nat_le 0 r)) ≡ true
+slot_before a c s r le h = grind (arith, nat_tests)
+
+slot_over : (a b s r : ℕ) → (nat_lt (a + 1) s || (a + 1 == s && nat_le 0 r)) ≡ true → (nat_lt a s || (a == s && nat_le b r)) ≡ true
+slot_over a b s r h = grind (arith, nat_tests)
+
+rec_before : (a b s r : ℕ) → (nat_lt a s || (a == s && nat_le (b + 1) r)) ≡ true → (nat_lt a s || (a == s && nat_le b r)) ≡ true
+rec_before a b s r h = grind (arith, nat_tests)
+
+itself : (a b : ℕ) → (nat_lt a a || (a == a && nat_le b b)) ≡ true
+itself a b = grind (arith, nat_tests)
+
+in_front : (slot : ℕ) (rs : List Record) (rec next : ℕ) (tail : List Private) → RiseFrom (slot + 1) 0 tail → RiseFrom slot rec (allotted slot rec next rs ++ tail)
+in_front slot [] rec next tail h = weaker (slot + 1) 0 slot rec tail (λ p k. slot_over slot rec p.slot p.rec k) h
+in_front slot (r ∷ rs) rec next tail h = at (words_in r.body) refl (λ rec next. in_front slot rs rec next tail h)
+  where
+    at : (w : Option ℕ) → words_in r.body ≡ w → ((rec next : ℕ) → RiseFrom slot rec (allotted slot rec next rs ++ tail)) → RiseFrom slot rec (allotted slot rec next (r ∷ rs) ++ tail)
+    at None e again = rw (e, allotted) (weaker slot (rec + 1) slot rec (allotted slot (rec + 1) next rs ++ tail) (λ p k. rec_before slot rec p.slot p.rec k) (again (rec + 1) next))
+    at (Some w) e again = rw (e, allotted) (itself slot rec, again (rec + 1) (next + w))
+
+pub rise : (next from : ℕ) (ss : List Owner) → AscendFrom from (map (λ s. s.slot) ss) → RiseFrom from 0 (all_allotted next ss)
+rise next from [] h = tt
+rise next from (s ∷ ss) h =
+    weaker s.slot 0 from 0 (all_allotted next (s ∷ ss)) (λ p k. slot_before from s.slot p.slot p.rec h.0 k)
+    (in_front s.slot s.records 0 next (all_allotted (next + words_of s.records) ss) (rise (next + words_of s.records) (s.slot + 1) ss h.1))
+
+chained : (a b s r t u : ℕ) → (nat_lt a s || (a == s && nat_le b r)) ≡ true → (nat_lt s t || (s == t && nat_le (r + 1) u)) ≡ true → (nat_lt a t || (a == t && nat_le b u)) ≡ true
+chained a b s r t u h k = grind (arith, nat_tests)
+
+all_behind : (a b : ℕ) (ps : List Private) (k : ℕ) (d : Private) → RiseFrom a b ps → k < length ps → is_from a b (get_or ps k d) ≡ true
+all_behind a b [] k d h lt = absurd (omega arith)
+all_behind a b (p ∷ ps) zero d h lt = h.0
+all_behind a b (p ∷ ps) (suc k) d h lt =
+    let x = get_or ps k d in chained a b p.slot p.rec x.slot x.rec h.0 (all_behind p.slot (p.rec + 1) ps k d h.1 (omega arith))
+
+-- any later one is of a later record
+behind : (a b : ℕ) (ps : List Private) (i j : ℕ) (d : Private) → RiseFrom a b ps → i < j → j < length ps → is_from (get_or ps i d).slot ((get_or ps i d).rec + 1) (get_or ps j d) ≡ true
+behind a b [] i j d h le lt = absurd (omega arith)
+behind a b (p ∷ ps) zero zero d h le lt = absurd (omega arith)
+behind a b (p ∷ ps) zero (suc j) d h le lt = all_behind p.slot (p.rec + 1) ps j d h.1 (omega arith)
+behind a b (p ∷ ps) (suc i) zero d h le lt = absurd (omega arith)
+behind a b (p ∷ ps) (suc i) (suc j) d h le lt = behind p.slot (p.rec + 1) ps i j d h.1 (omega arith) (omega arith)
+
+-- the private is of an earlier record
+abbrev pub is_before : ℕ → ℕ → Private → Bool
+is_before slot rec p = nat_lt p.slot slot || (p.slot == slot && nat_lt p.rec rec)
+
+earlier : (a b s r t u : ℕ) → (nat_lt a s || (a == s && nat_le (b + 1) r)) ≡ true → (nat_lt s t || (s == t && nat_lt r u)) ≡ true → (nat_lt a t || (a == t && nat_lt b u)) ≡ true
+earlier a b s r t u h k = grind (arith, nat_tests)
+
+pub partitioned : (slot rec a b : ℕ) (ps : List Private) → RiseFrom a b ps → IsPartitionedBy (is_before slot rec) ps
+partitioned slot rec a b ps h i j d le lt t = at (i == j) refl
+  where
+    at : (e : Bool) → (i == j) ≡ e → is_before slot rec (get_or ps i d) ≡ true
+    at true s = let same : i ≡ j = grind (arith, nat_tests) in subst (λ (n : ℕ). is_before slot rec (get_or ps n d) ≡ true) (sym same) t
+    at false s =
+        let x = get_or ps i d in let y = get_or ps j d in
+        earlier x.slot x.rec y.slot y.rec slot rec (behind a b ps i j d h (apart i j le s) lt) t
+      where
+        apart : (i j : ℕ) → i ≤ j → (i == j) ≡ false → i < j
+        apart i j le s = grind (arith, nat_tests)
+
+first_find : {X : Type 0} (q : X → Bool) (xs : List X) (i : ℕ) (x : X) → ((k : ℕ) → k < i → q (get_or xs k x) ≡ false) → i < length xs → x ≡ get_or xs i x → q x ≡ true → find q xs ≡ Some x
+first_find q [] i x h lt is t = absurd (omega arith)
+first_find {X} q (y ∷ ys) zero x h lt is t =
+    let e : q y ≡ true = subst (λ (z : X). q z ≡ true) is t in
+    rw e (ap Some (sym is))
+first_find q (y ∷ ys) (suc i) x h lt is t =
+    let e : q y ≡ false = h 0 (omega arith) in
+    rw e (first_find q ys i x (λ k l. h (suc k) (omega arith)) (omega arith) is t)
+
+no_find : {X : Type 0} (q : X → Bool) (xs : List X) → ((k : ℕ) (d : X) → k < length xs → q (get_or xs k d) ≡ false) → find q xs ≡ None
+no_find q [] h = refl
+no_find q (y ∷ ys) h = let e : q y ≡ false = h 0 y (omega arith) in rw e (no_find q ys (λ k d l. h (suc k) d (omega arith)))
+
+not_before : (s r t u : ℕ) → (nat_lt s t || (s == t && nat_lt r u)) ≡ true → (s == t && r == u) ≡ false
+not_before s r t u h = grind (arith, nat_tests)
+
+not_behind : (s r t u v w : ℕ) → (nat_lt s t || (s == t && nat_lt r u)) ≡ false → (nat_lt s v || (s == v && nat_le (r + 1) w)) ≡ true → (v == t && w == u) ≡ false
+not_behind s r t u v w h k = grind (arith, nat_tests)
+
+module _ (slot rec a b : ℕ) (ps : List Private) (i : ℕ) (h : RiseFrom a b ps) (p : IsPartitionPoint (λ x. is_before slot rec x ≡ true) (λ x. is_before slot rec x ≡ false) ps i) where
+  pub found_there : (x : Private) → i < length ps → x ≡ get_or ps i x → is_of slot rec x ≡ true → find (is_of slot rec) ps ≡ Some x
+  found_there x lt is t = first_find (is_of slot rec) ps i x (λ k l. let y = get_or ps k x in not_before y.slot y.rec slot rec (p.0 k x (omega arith) l)) lt is t
+
+  pub found_nowhere : ((d : Private) → i < length ps → is_of slot rec (get_or ps i d) ≡ false) → find (is_of slot rec) ps ≡ None
+  found_nowhere other = no_find (is_of slot rec) ps (λ k d lt. at k d lt (nat_lt k i) refl (k == i) refl)
+    where
+      at : (k : ℕ) (d : Private) → k < length ps → (l : Bool) → nat_lt k i ≡ l → (e : Bool) → (k == i) ≡ e → is_of slot rec (get_or ps k d) ≡ false
+      at k d lt true l e f = let y = get_or ps k d in not_before y.slot y.rec slot rec (p.0 k d (omega arith) (below k i l))
+        where
+          below : (k i : ℕ) → nat_lt k i ≡ true → k < i
+          below k i l = grind (arith, nat_tests)
+      at k d lt false l true f = let same : k ≡ i = grind (arith, nat_tests) in subst (λ (n : ℕ). is_of slot rec (get_or ps n d) ≡ false) (sym same) (other d (omega arith))
+      at k d lt false l false f =
+          let y = get_or ps k d in let x = get_or ps i d in
+          let le : i < k = over k i l f in
+          not_behind x.slot x.rec slot rec y.slot y.rec (p.1 i d (omega arith) (omega arith)) (behind a b ps i k d h le lt)
+        where
+          over : (k i : ℕ) → nat_lt k i ≡ false → (k == i) ≡ false → i < k
+          over k i l f = grind (arith, nat_tests)
+
+module _ (slot rec : ℕ) (xs ps : List Private) (i : ℕ) (same : xs ≡ ps) (h : RiseFrom 0 0 xs) (p : IsPartitionPoint (λ x. is_before slot rec x ≡ true) (λ x. is_before slot rec x ≡ false) xs i) where
+  all_of : offset_of slot rec xs ≡ offset_of slot rec ps
+  all_of = ap (offset_of slot rec) same
+
+  pub offset_found : (x : Private) → i < length xs → x ≡ get_or xs i x → x.slot ≡ slot → x.rec ≡ rec → ◌≡◌ {A = Option ℕ} (Some x.offset) (offset_of slot rec ps)
+  offset_found x lt is s r = sym (ap (option_map (λ q. q.offset)) (found_there slot rec 0 0 xs i h p x lt is (both x.slot x.rec s r))) ∙ all_of
+    where
+      both : (a b : ℕ) → a ≡ slot → b ≡ rec → (a == slot && b == rec) ≡ true
+      both a b s r = grind (arith, nat_tests)
+
+  pub offset_none : ((d : Private) → i < length xs → is_of slot rec (get_or xs i d) ≡ false) → ◌≡◌ {A = Option ℕ} None (offset_of slot rec ps)
+  offset_none other = sym (ap (option_map (λ q. q.offset)) (found_nowhere slot rec 0 0 xs i h p other)) ∙ all_of

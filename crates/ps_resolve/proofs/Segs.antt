@@ -1,0 +1,43 @@
+-- Segments of the files, seen one by one as segments of the link.
+use Rattle.std.proofs.Common.{◌≡◌, ℕ, zero, suc, ◌+◌, ◌<◌, ◌++◌, List, [], ◌∷◌, length, map, get_or, drop, Bool, true, false, refl, sym, ◌∙◌, ap, subst, arith, add-one, drop-cons, append_assoc}
+use Rattle.std.specs.Prelude.{All, if◌then◌else◌}
+use Rattle.std.proofs.lemmas.List.{map-append}
+use Rattle.std.proofs.lemmas.List.Elements.{All-tail}
+use Rattle.ps_words.specs.declared.order.Order.{Order}
+use Rattle.ps_linkinfo.specs.Records.{reading}
+use Rattle.ps_linkinfo.specs.declared.record.LinkRecord.{LinkRecord as Record}
+use Rattle.ps_resolve.specs.Names.{units_in}
+use Rattle.ps_codefile.specs.declared.entry.Role.TheVariants.{Empty}
+use Rattle.ps_resolve.specs.Privates.{owner_of}
+use Rattle.ps_resolve.specs.Sources.{Segment, units_of}
+use Rattle.ps_resolve.specs.Views.{segment_of}
+use Rattle.ps_resolve.specs.declared.segment.Segment.{Segment as SegmentView}
+
+-- no bytes have no records
+pub read_if : (order : Order) (b : Bool) (bytes : List ℕ) → (reading order (if b then bytes else [])).0 ≡ (if b then (reading order bytes).0 else [])
+read_if order true bytes = refl
+read_if order false bytes = refl
+
+pub units_are : (order : Order) (ss : List SegmentView) → units_of (map (segment_of order) ss) ≡ units_in ss
+units_are order [] = refl
+units_are order (s ∷ ss) = rw (units_are order ss) refl
+
+-- the item at i, and what holds of it
+pub drop_at : {X : Type 0} (xs : List X) (i : ℕ) (x : X) → i < length xs → x ≡ get_or xs i x → drop i xs ≡ x ∷ drop (i + 1) xs
+drop_at {X} xs i x lt is = subst (λ (y : X). drop i xs ≡ y ∷ drop (i + 1) xs) (sym is) (rw (add-one, drop-cons xs i x))
+
+pub at_map : {X Y : Type 0} (P : Y → Type 0) (f : X → Y) (xs : List X) (i : ℕ) (x : X) → i < length xs → x ≡ get_or xs i x → All P (map f xs) → P (f x)
+at_map P f [] i x lt is all = absurd (omega arith)
+at_map {X} P f (y ∷ ys) zero x lt is all = subst (λ (z : X). P (f z)) (sym is) (all 0 (f x) (omega arith))
+at_map P f (y ∷ ys) (suc i) x lt is all = at_map P f ys i x (omega arith) is (All-tail P (f y) (map f ys) all)
+
+pub map_push : {X Y : Type 0} (f : X → Y) (xs : List X) (x : X) (ys : List Y) → map f (xs ++ x ∷ []) ++ ys ≡ map f xs ++ f x ∷ ys
+map_push {X} {Y} f xs x ys = ap (λ (zs : List Y). zs ++ ys) (map-append f xs (x ∷ [])) ∙ append_assoc (map f xs) (f x ∷ []) ys
+
+pub slots_are : (segs : List Segment) → map (λ o. o.slot) (map owner_of segs) ≡ map (λ s. s.slot) segs
+slots_are [] = refl
+slots_are (s ∷ ss) = rw (slots_are ss) refl
+
+-- a segment of none of the files, which is read past the end of a list
+abbrev pub blank : SegmentView
+blank = record { slot = 0; name = []; role = Empty; file = 0; index = 0; code = record { ref_ptr = (0, 0); now = [] }; information = record { ref_ptr = (0, 0); now = [] } }

@@ -1,0 +1,34 @@
+use Rattle.std.proofs.Common.{◌≡◌, ℕ, List, map, None, sym, ◌∙◌, ap, subst}
+use Rattle.std.specs.Prelude.{IfOk}
+use Rattle.ps_words.specs.declared.order.Order.{Order}
+use Rattle.ps_resolve.specs.Sources.{Segment, segments, order_of}
+use Rattle.ps_resolve.specs.Faults.{first_fault, linking_fault}
+use Rattle.ps_resolve.specs.Plans.{AreStopped, IsPlanOf, IsStopped}
+use Rattle.ps_resolve.specs.Views.{segment_of}
+use Rattle.ps_resolve.proofs.FirstFaults.{if_ok, if_err, host_whole, first_read, first_linked, stopped}
+use Rattle.ps_resolve.proofs.resolving.resolve.Goals as goal
+
+pub link_segments-requires-clause-whole : goal.link_segments-requires-clause-whole
+link_segments-requires-clause-whole g c = host_whole c.args.host.now (map (λ lib. lib.now) c.args.libs.now) c.in-Ok.ensures.faultless
+
+pub returns-in-Err-clause-stop : goal.returns-in-Err-clause-stop
+returns-in-Err-clause-stop g c = first_read c.args.host.now (map (λ lib. lib.now) c.args.libs.now) c.in-Err.fault c.in-Err.ensures.fault
+
+pub returns-in-Ok : goal.returns-in-Ok
+returns-in-Ok g c =
+    let host : List ℕ = c.args.host.now in
+    let libs : List (List ℕ) = map (λ lib. lib.now) c.args.libs.now in
+    let order : Order = c.in-Ok.order in
+    let given : List Segment = map (segment_of order) c.as_slice.result.now in
+    let all : List Segment = segments (order_of host) host libs in
+    let order_is : order ≡ order_of host = c.in-Ok.ensures.order in
+    let given_is : given ≡ all = ap (map (segment_of order)) c.as_slice.ensures.value ∙ c.in-Ok.ensures.segments in
+    let none = c.in-Ok.ensures.faultless in
+    let same : linking_fault order given ≡ linking_fault (order_of host) all = ap (linking_fault order) given_is ∙ ap (λ (o : Order). linking_fault o all) order_is in
+    record {
+      plan = subst (λ (o : Order). IfOk c.link_segments.result (IsPlanOf o host all)) order_is
+          (subst (λ (segs : List Segment). IfOk c.link_segments.result (IsPlanOf order host segs)) given_is c.link_segments.ensures.plan);
+      sound = if_ok c.link_segments.result (linking_fault order given ≡ None) (first_fault host libs ≡ None) (λ h. first_linked host libs none ∙ sym same ∙ h) c.link_segments.ensures.sound;
+      stop = if_err c.link_segments.result (AreStopped order given) (IsStopped host libs)
+          (λ stop d. stopped host libs none stop (subst (λ (o : Order). AreStopped o all stop) order_is (subst (λ (segs : List Segment). AreStopped order segs stop) given_is d))) c.link_segments.ensures.stop;
+    }

@@ -1,0 +1,66 @@
+use Rattle.std.proofs.Common.{◌≡◌, ◌∙◌, List, ℕ, Some, None, sym, ap}
+use Rattle.ps_words.specs.declared.order.Order.{Order}
+use Rattle.ps_words.specs.declared.fault.Fault.{Fault}
+use Rattle.ps_codefile.specs.Dictionary.{Opened}
+use Rattle.ps_resolve.specs.Sources.{segments}
+use Rattle.ps_resolve.proofs.ReadingLibraries.{files}
+use Rattle.std.specs.Option.{option_or}
+use Rattle.ps_resolve.specs.Faults.{slots_fault, no_host_fault, libraries_fault, sources_fault}
+use Rattle.ps_resolve.proofs.ReadingRows.{neither_first, neither_second}
+use Rattle.ps_resolve.proofs.ReadingHosts.{host_refused, host_whole, host_is, host_read, rest_of}
+use Rattle.ps_resolve.proofs.ReadingKnown.{ascend, host_there, one_host}
+use Rattle.ps_resolve.proofs.sources.read_segments.Goals as goal
+
+pub returns-in-Err-clause-fault : goal.returns-in-Err-clause-fault
+returns-in-Err-clause-fault c =
+    host_refused c.args.host.now (files c.args.libs.now) c.in-Err.reason (sym c.read.ensures ∙ c.in-Err.is) ∙ ap (λ (f : Fault). Some f) (sym c.in_file.ensures)
+
+pub returns-in-Err-read_sources-clause-fault : goal.returns-in-Err-read_sources-clause-fault
+returns-in-Err-read_sources-clause-fault c =
+    host_read c.args.host.now (files c.args.libs.now) c.in-Ok.dict (sym c.read.ensures ∙ c.in-Ok.is) ∙ sym c.in-Err-read_sources.ensures.fault
+
+pub returns-in-Ok-read_sources-clause-faultless : goal.returns-in-Ok-read_sources-clause-faultless
+returns-in-Ok-read_sources-clause-faultless c =
+    host_read c.args.host.now (files c.args.libs.now) c.in-Ok.dict (sym c.read.ensures ∙ c.in-Ok.is) ∙ sym c.in-Ok-read_sources.ensures.fault
+
+pub returns-in-Ok-read_sources-clause-whole : goal.returns-in-Ok-read_sources-clause-whole
+returns-in-Ok-read_sources-clause-whole c = host_whole c.args.host.now c.in-Ok.dict (sym c.read.ensures ∙ c.in-Ok.is)
+
+pub returns-in-Ok-read_sources-clause-order : goal.returns-in-Ok-read_sources-clause-order
+returns-in-Ok-read_sources-clause-order c =
+    c.order.ensures ∙ ap (λ (o : Opened). o.order) (host_is c.args.host.now c.in-Ok.dict (sym c.read.ensures ∙ c.in-Ok.is))
+
+pub returns-in-Ok-read_sources-clause-segments : goal.returns-in-Ok-read_sources-clause-segments
+returns-in-Ok-read_sources-clause-segments c =
+    let is = host_is c.args.host.now c.in-Ok.dict (sym c.read.ensures ∙ c.in-Ok.is) in
+    rw c.order.ensures (c.in-Ok-read_sources.ensures.segments ∙ ap (λ (o : Opened). segments o.order o.file (files c.args.libs.now)) is)
+
+pub returns-in-Ok-read_sources-clause-sound : goal.returns-in-Ok-read_sources-clause-sound
+returns-in-Ok-read_sources-clause-sound c = rw c.order.ensures c.in-Ok-read_sources.ensures.sound
+
+-- the files have no fault
+none_of : (order : Order) (host : List ℕ) (libs : List (List ℕ)) → rest_of order host libs ≡ None → (slots_fault order host ≡ None) × (no_host_fault order host ≡ None) × (sources_fault order host libs ≡ None)
+none_of order host libs h =
+    let behind_sources = sources_fault order host libs in
+    let behind_libraries = option_or (libraries_fault order libs) behind_sources in
+    let behind_slots = option_or (no_host_fault order host) behind_libraries in
+    let slots = neither_second (slots_fault order host) behind_slots h in
+    let has = neither_second (no_host_fault order host) behind_libraries slots in
+    (neither_first (slots_fault order host) behind_slots h, neither_first (no_host_fault order host) behind_libraries slots, neither_second (libraries_fault order libs) behind_sources has)
+
+pub returns-in-Ok-read_sources-clause-ascending : goal.returns-in-Ok-read_sources-clause-ascending
+returns-in-Ok-read_sources-clause-ascending c =
+    let dict = c.in-Ok.dict in
+    rw (c.order.ensures, c.in-Ok-read_sources.ensures.segments) (ascend dict.order dict.file (files c.args.libs.now))
+
+pub returns-in-Ok-read_sources-clause-host : goal.returns-in-Ok-read_sources-clause-host
+returns-in-Ok-read_sources-clause-host c =
+    let dict = c.in-Ok.dict in
+    let none = none_of dict.order dict.file (files c.args.libs.now) (sym c.in-Ok-read_sources.ensures.fault) in
+    rw (c.order.ensures, c.in-Ok-read_sources.ensures.segments) (host_there dict.order dict.file (files c.args.libs.now) none.1 none.2)
+
+pub returns-in-Ok-read_sources-clause-one_host : goal.returns-in-Ok-read_sources-clause-one_host
+returns-in-Ok-read_sources-clause-one_host c =
+    let dict = c.in-Ok.dict in
+    let none = none_of dict.order dict.file (files c.args.libs.now) (sym c.in-Ok-read_sources.ensures.fault) in
+    rw (c.order.ensures, c.in-Ok-read_sources.ensures.segments) (one_host dict.order dict.file (files c.args.libs.now) none.0)

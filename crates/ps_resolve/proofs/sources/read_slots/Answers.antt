@@ -1,0 +1,33 @@
+use Rattle.std.proofs.Common.{◌∙◌, refl, sym, arith}
+use Rattle.std.proofs.lemmas.List.Elements.{All-nil}
+use Rattle.ps_resolve.specs.Sources.{segment_at, segments}
+use Rattle.ps_resolve.specs.Faults.{source_fault, sources_fault}
+use Rattle.ps_resolve.specs.Views.{segment_of, IsSound}
+use Rattle.ps_resolve.proofs.ReadingLibraries.{files}
+use Rattle.ps_resolve.proofs.ReadingRows.{first_here, first_later}
+use Rattle.ps_resolve.proofs.ReadingSources.{all_more, kept_on, few_more}
+use Rattle.ps_resolve.proofs.sources.read_slots.Goals as goal
+
+pub loop-slot-init : goal.loop-slot-init
+unfolding segments sources_fault
+loop-slot-init c = rw c.new-segments.ensures (record { first = refl; all = refl; sound = All-nil _; few = omega arith })
+
+pub returns-in-Err-clause-fault : goal.returns-in-Err-clause-fault
+returns-in-Err-clause-fault c =
+    let host = c.args.host.now in
+    sym (c.loop-slot.invariant.first ∙ first_here (source_fault host.order host.file (files c.args.libs.now)) c.loop-slot.slot 16 c.in-Err.fault c.loop-slot-test.true (sym c.in-Err.ensures.fault))
+
+pub loop-slot-preserved : goal.loop-slot-preserved
+loop-slot-preserved c =
+    let host = c.args.host.now in
+    let libs = files c.args.libs.now in
+    let inv = c.loop-slot.invariant in
+    let old = c.loop-slot.segments.items in
+    let i = c.loop-slot.slot in
+    let o = c.in-Ok.segment in
+    rw c.add.ensures (record {
+      first = inv.first ∙ first_later (source_fault host.order host.file libs) i 16 c.loop-slot-test.true (sym c.in-Ok.ensures.fault);
+      all = inv.all ∙ kept_on (segment_of host.order) (segment_at host.order host.file libs) old o i 16 c.loop-slot-test.true c.in-Ok.ensures.segment;
+      sound = all_more (IsSound host.order) (segment_of host.order) old o inv.sound c.in-Ok.ensures.sound;
+      few = few_more old o i inv.few;
+    })

@@ -1,0 +1,21 @@
+use Rattle.std.proofs.Common.{◌≡◌, ◌≤◌, ◌-◌, ◌++◌, length, map}
+use Rattle.std.specs.Prelude.{All}
+use Rattle.std.specs.List.{filter_map, range_with_len}
+use Rattle.ps_resolve.specs.Searches.{first_of}
+use Rattle.ps_resolve.specs.Sources.{segment_at, segments}
+use Rattle.ps_resolve.specs.Faults.{source_fault, sources_fault}
+use Rattle.ps_resolve.specs.Views.{segment_of, IsSound}
+use Rattle.ps_resolve.proofs.ReadingLibraries.{files}
+use Rattle.ps_resolve.proofs.sources.read_slots.Given as goal
+
+-- the segments so far and those of the slots that are left are all, and so is the first fault
+abbrev pub invariant-loop-slot : goal.invariant-loop-slot
+invariant-loop-slot l =
+    let order = l.host.order in
+    let host = l.host.file in
+    record {
+      first : sources_fault order host (files l.libs) ≡ first_of (source_fault order host (files l.libs)) (range_with_len l.slot (16 - l.slot));
+      all : segments order host (files l.libs) ≡ map (segment_of order) l.segments.items ++ filter_map (segment_at order host (files l.libs)) (range_with_len l.slot (16 - l.slot));
+      sound : All (IsSound order) (map (segment_of order) l.segments.items);
+      few : length l.segments.items ≤ l.slot;
+    }

@@ -1,0 +1,55 @@
+ghost use Rattle.std.specs.Prelude.{◌≡◌};
+ghost use Rattle.std.specs.Map.{lookup};
+ghost use Rattle.std.specs.Str.{bytes_eq};
+ghost use Rattle.ps_resolve.specs.Names.{units_in};
+ghost use Rattle.ps_resolve.specs.Symbols.{definition_of};
+
+use crate::definitions::{Def, Definitions};
+use crate::roles::is_unit;
+use crate::segment::Segment;
+use std::alloc::{Allocator, Global};
+use std::marker::Model;
+
+/// What the names of references may stand for: definitions of the host's segment, and units.
+#[derive(Drop)]
+pub(crate) struct Names<'k, 'a, A: Allocator + Copy = Global> {
+    pub(crate) definitions: &'k Definitions<A>,
+    pub(crate) segments: &'k [Segment<'a>],
+}
+
+impl<'k, 'a, A: Allocator + Copy> Model for Names<'k, 'a, A> {
+    ghost use Rattle.ps_resolve.specs.References.{Known};
+    ghost use Rattle.ps_resolve.specs.Names.{units_in};
+
+    ghost Value = { Known };
+
+    ghost view = { λ n. record { definitions = n.definitions.now; units = units_in n.segments.now } };
+}
+
+/// The slot of the unit of this name.
+fn slot_of(segments: &[Segment], name: [u8; 8]) -> Option<u8>
+    ensures { result ≡ lookup (bytes_eq name) (units_in segments.now) }
+{
+    for segment in segments {
+        if is_unit(segment.role) && name == segment.name {
+            return Some(segment.slot);
+        }
+    }
+    None
+}
+
+impl<'k, 'a, A: Allocator + Copy> Names<'k, 'a, A> {
+    /// The slot of the unit of this name, where there is one.
+    pub(crate) fn slot_of_unit(&self, name: [u8; 8]) -> Option<u8>
+        ensures { result ≡ lookup (bytes_eq name) self.now.units }
+    {
+        slot_of(self.segments, name)
+    }
+
+    /// The definition of this name, where there is one.
+    pub(crate) fn definition_of(&self, name: &[u8; 8]) -> Option<Def>
+        ensures { result ≡ definition_of name.now self.now.definitions }
+    {
+        self.definitions.look(name)
+    }
+}

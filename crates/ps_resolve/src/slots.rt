@@ -1,0 +1,121 @@
+ghost use Rattle.std.specs.Prelude.{◌≡◌, ◌<◌, ◌≤◌, ◌&&◌, List, ℕ};
+ghost use Rattle.std.specs.List.{list_any, range_with_len};
+ghost use Rattle.std.specs.Str.{bytes_eq};
+ghost use Rattle.ps_words.specs.FaultPlaces.{in_file as in_file_spec, in_slot as in_slot_spec};
+ghost use Rattle.ps_codefile.specs.Dictionary.{entry_at};
+ghost use Rattle.ps_resolve.specs.Sources.{is_host as is_host_role, is_unit as is_unit_role};
+ghost use Rattle.ps_resolve.specs.Faults.{is_role, slot_reason as slot_reason_spec, slots_fault as slots_fault_spec, no_host_fault as no_host_fault_spec};
+
+use ps_codefile::{Dict, Role};
+use ps_words::{Fault, Reason};
+
+/// How many slots a segment dictionary has.
+pub(crate) const SLOTS: u8 = 16;
+
+/// The number of the host among the files of a link.
+pub(crate) const HOST_FILE: usize = 0;
+
+/// A fault of a file as a whole.
+pub(crate) fn in_file(file: usize, reason: Reason) -> Fault
+    ensures { result ≡ in_file_spec file reason }
+{
+    Fault {
+        reason,
+        file,
+        slot: None,
+        rec: None,
+        reference: None,
+    }
+}
+
+/// A fault at a slot of the host.
+pub(crate) fn in_slot(file: usize, slot: u8, reason: Reason) -> Fault
+    ensures { result ≡ in_slot_spec file slot reason }
+{
+    Fault {
+        reason,
+        file,
+        slot: Some(slot),
+        rec: None,
+        reference: None,
+    }
+}
+
+/// The slot has the host's own segment.
+fn is_host(host: &Dict, slot: u8) -> bool
+    requires { slot < 16 }
+    ensures { result ≡ is_role is_host_role host.now.order host.now.file slot }
+{
+    matches!(host.role(slot), Ok(Role::Host))
+}
+
+/// The slot has a unit, in place or wanted.
+fn is_unit(host: &Dict, slot: u8) -> bool
+    requires { slot < 16 }
+    ensures { result ≡ is_role is_unit_role host.now.order host.now.file slot }
+{
+    matches!(host.role(slot), Ok(Role::Unit | Role::Wanted))
+}
+
+/// The slot has a unit of this name.
+fn is_unit_of(host: &Dict, name: [u8; 8], slot: u8) -> bool
+    requires { slot < 16 }
+    ensures { result ≡ (is_role is_unit_role host.now.order host.now.file slot && bytes_eq (entry_at host.now.order host.now.file slot).name name) }
+{
+    is_unit(host, slot) && host.entry(slot).name == name
+}
+
+/// One of the slots below `end` has the host's own segment.
+fn has_host_below(host: &Dict, end: u8) -> bool
+    requires { end ≤ 16 }
+    ensures { result ≡ list_any (is_role is_host_role host.now.order host.now.file) (range_with_len 0 end) }
+{
+    (0..end).any(|slot| is_host(host, slot))
+}
+
+/// One of the slots below `end` has a unit of this name.
+fn has_unit_below(host: &Dict, name: [u8; 8], end: u8) -> bool
+    requires { end ≤ 16 }
+    ensures { result ≡ list_any (λ s. is_role is_unit_role host.now.order host.now.file s && bytes_eq (entry_at host.now.order host.now.file s).name name) (range_with_len 0 end) }
+{
+    (0..end).any(|slot| is_unit_of(host, name, slot))
+}
+
+/// What is wrong with a slot of the host: its kind, a second host segment, or a second unit of a name.
+fn slot_reason(host: &Dict, slot: u8) -> Option<Reason>
+    requires { slot < 16 }
+    ensures { result ≡ slot_reason_spec host.now.order host.now.file slot }
+{
+    if let Err(reason) = host.role(slot) {
+        return Some(reason);
+    }
+    if is_host(host, slot) && has_host_below(host, slot) {
+        return Some(Reason::TwoHosts);
+    }
+    if is_unit(host, slot) && has_unit_below(host, host.entry(slot).name, slot) {
+        return Some(Reason::DoubledSegment);
+    }
+    None
+}
+
+/// The first fault of the host's slots.
+pub(crate) fn slots_fault(host: &Dict) -> Option<Fault>
+    ensures { result ≡ slots_fault_spec host.now.order host.now.file }
+{
+    for slot in 0..SLOTS {
+        if let Some(reason) = slot_reason(host, slot) {
+            return Some(in_slot(HOST_FILE, slot, reason));
+        }
+    }
+    None
+}
+
+/// The fault of a host file that has no host segment.
+pub(crate) fn no_host_fault(host: &Dict) -> Option<Fault>
+    ensures { result ≡ no_host_fault_spec host.now.order host.now.file }
+{
+    if has_host_below(host, SLOTS) {
+        return None;
+    }
+    Some(in_file(HOST_FILE, Reason::NoHost))
+}

@@ -1,0 +1,262 @@
+ghost use Rattle.std.specs.Prelude.{◌≡◌, ◌<◌, ◌≤◌, ◌+◌, ◌++◌, List, ℕ, [], length, map, true, false, Some, None, Ok, IfOk, IfErr, IfSome, IsSome, All, if◌then◌else◌};
+ghost use Rattle.std.specs.Option.{option_map, option_or, option_to_list};
+ghost use Rattle.arrayvec.specs.ArrayVec.{array_vec_len};
+ghost use Rattle.std.specs.Result.{result_err};
+ghost use Rattle.ps_words.specs.FaultPlaces.{in_record, in_slot as in_slot_spec};
+ghost use Rattle.ps_codefile.specs.Dictionary.{entry_at, role_of, is_linked_kind};
+ghost use Rattle.ps_codefile.specs.Procedures.{tables_fault as tables_fault_spec};
+ghost use Rattle.ps_linkinfo.specs.Records.{reading};
+ghost use Rattle.ps_resolve.specs.Sources.{is_linked as is_linked_spec, is_host as is_host_spec, file_at, segment_from, segment_at, segments, source_of, order_of, host_of};
+ghost use Rattle.ps_resolve.specs.Faults.{code_fault, slots_fault as slots_fault_spec, no_host_fault as no_host_fault_spec, libraries_fault as libraries_fault_spec, source_fault, sources_fault, reading_fault};
+ghost use Rattle.ps_resolve.specs.Linkable.{AscendFrom, HasOneHost};
+ghost use Rattle.ps_resolve.specs.Views.{segment_of, IsSound};
+
+use crate::libraries::libraries_fault;
+use crate::roles::{is_host, is_linked};
+use crate::segment::Segment;
+use crate::slots::{HOST_FILE, SLOTS, in_file, in_slot, no_host_fault, slots_fault};
+use crate::units::unit_source;
+use arrayvec::ArrayVec;
+use ps_codefile::{Dict, Procs, Role};
+use ps_linkinfo::{Records, walk_from_start};
+use ps_words::{Fault, Order, Reason};
+
+impl<'a> Default for Segment<'a> {
+    fn default() -> Self {
+        Segment {
+            slot: 0,
+            name: [0; 8],
+            role: Role::Empty,
+            file: 0,
+            index: 0,
+            code: &[],
+            information: &[],
+        }
+    }
+}
+
+/// The first fault of a linked segment's link information.
+fn information_fault(order: Order, information: &[u8], file: usize, slot: u8) -> Option<Fault>
+    ensures { result ≡ option_map (in_record file slot (length (reading order information.now).0)) (reading order information.now).1 }
+{
+    walk_from_start();
+    let mut rec = 0;
+    for item in Records::new(order, information) {
+        match item {
+            Ok(_) => rec += 1,
+            Err(reason) => {
+                return Some(Fault {
+                    reason,
+                    file,
+                    slot: Some(slot),
+                    rec: Some(rec),
+                    reference: None,
+                });
+            }
+        }
+    }
+    None
+}
+
+/// The fault of a code's procedure tables.
+fn tables_reason(order: Order, code: &[u8], host: bool) -> Option<Reason>
+    requires { 2 ≤ length code.now }
+    ensures { result ≡ tables_fault_spec order code.now host }
+{
+    Procs::read(order, code, host).err()
+}
+
+/// The first fault of the procedure tables and the link information of a segment, where it is linked.
+fn linked_fault(
+    order: Order,
+    code: &[u8],
+    information: &[u8],
+    role: Role,
+    file: usize,
+    slot: u8,
+) -> Option<Fault>
+    requires { is_linked_spec role ≡ true → 2 ≤ length code.now }
+    ensures { result ≡ (if is_linked_spec role
+        then option_or (option_map (in_slot_spec file slot) (tables_fault_spec order code.now (is_host_spec role)))
+        (option_map (in_record file slot (length (reading order information.now).0)) (reading order information.now).1)
+        else None) }
+{
+    if !is_linked(role) {
+        return None;
+    }
+    if let Some(reason) = tables_reason(order, code, is_host(role)) {
+        return Some(in_slot(file, slot, reason));
+    }
+    information_fault(order, information, file, slot)
+}
+
+/// The segment of a slot, whose code and link information are those of an entry of a file.
+fn read_segment<'a>(
+    slot: u8,
+    name: [u8; 8],
+    role: Role,
+    from: &Dict<'a>,
+    file: usize,
+    index: u8,
+) -> Result<Segment<'a>, Fault>
+    requires slots { slot < 16 }
+    requires in_range { index < 16 }
+    requires kind { is_linked_spec role ≡ true → is_linked_kind (entry_at from.now.order from.now.file index).kind ≡ true }
+    ensures fault { (host : List ℕ) (libs : List (List ℕ)) → file_at host libs file ≡ from.now.file
+        → result_err result ≡ code_fault from.now.order host libs slot role (file, index) }
+    ensures segment { (host : List ℕ) (libs : List (List ℕ)) → file_at host libs file ≡ from.now.file → (entry_at from.now.order host slot).name ≡ name
+        → IfOk result (λ s. segment_from from.now.order host libs slot role (file, index) ≡ Some (segment_of from.now.order s)) }
+    ensures sound { IfOk result (λ s. IsSound from.now.order (segment_of from.now.order s)) }
+{
+    match from.code(index) {
+        Err(reason) => Err(in_slot(file, slot, reason)),
+        Ok(code) => {
+            let information = from.after(index);
+            match linked_fault(from.order(), code, information, role, file, slot) {
+                Some(fault) => Err(fault),
+                None => Ok(Segment {
+                    slot,
+                    name,
+                    role,
+                    file,
+                    index,
+                    code,
+                    information,
+                }),
+            }
+        }
+    }
+}
+
+/// The segment of a slot of this role, or None where the slot is empty.
+fn read_role<'a>(
+    host: &Dict<'a>,
+    libs: &'a [&'a [u8]],
+    slot: u8,
+    role: Role,
+) -> Result<Option<Segment<'a>>, Fault>
+    requires slots { slot < 16 }
+    requires role { role_of (entry_at host.now.order host.now.file slot) ≡ Ok role }
+    requires libraries { libraries_fault_spec host.now.order (map (λ lib. lib.now) libs.now) ≡ None }
+    ensures fault { result_err result ≡ source_fault host.now.order host.now.file (map (λ lib. lib.now) libs.now) slot }
+    ensures segment { IfOk result (λ s. option_map (segment_of host.now.order) s ≡ segment_at host.now.order host.now.file (map (λ lib. lib.now) libs.now) slot) }
+    ensures sound { IfOk result (λ s. IfSome s (λ s. IsSound host.now.order (segment_of host.now.order s))) }
+{
+    let name = host.entry(slot).name;
+    match role {
+        Role::Empty => Ok(None),
+        Role::Plain | Role::Host | Role::Unit => {
+            match read_segment(slot, name, role, host, HOST_FILE, slot) {
+                Err(fault) => Err(fault),
+                Ok(segment) => Ok(Some(segment)),
+            }
+        }
+        Role::Wanted => match unit_source(host.order(), name, libs, slot) {
+            Err(fault) => Err(fault),
+            Ok(unit) => {
+                match read_segment(slot, name, role, &unit.dict, unit.library + 1, unit.index) {
+                    Err(fault) => Err(fault),
+                    Ok(segment) => Ok(Some(segment)),
+                }
+            }
+        },
+    }
+}
+
+/// The segment of a slot, or None where the slot is empty or has a kind that was refused.
+fn read_slot<'a>(
+    host: &Dict<'a>,
+    libs: &'a [&'a [u8]],
+    slot: u8,
+) -> Result<Option<Segment<'a>>, Fault>
+    requires slots { slot < 16 }
+    requires libraries { libraries_fault_spec host.now.order (map (λ lib. lib.now) libs.now) ≡ None }
+    ensures fault { result_err result ≡ source_fault host.now.order host.now.file (map (λ lib. lib.now) libs.now) slot }
+    ensures segment { IfOk result (λ s. option_map (segment_of host.now.order) s ≡ segment_at host.now.order host.now.file (map (λ lib. lib.now) libs.now) slot) }
+    ensures sound { IfOk result (λ s. IfSome s (λ s. IsSound host.now.order (segment_of host.now.order s))) }
+{
+    match host.role(slot) {
+        Err(_) => Ok(None),
+        Ok(role) => read_role(host, libs, slot, role),
+    }
+}
+
+/// Adds the segment of a slot, where it has one.
+fn add<'a>(segments: &mut ArrayVec<Segment<'a>, 16>, segment: Option<Segment<'a>>)
+    requires { array_vec_len segments.old < 16 }
+    ensures { segments.new.items ≡ segments.old.items ++ option_to_list segment.entry }
+{
+    if let Some(segment) = segment {
+        segments.push(segment);
+    }
+}
+
+/// The segments by slot ascending, or the first fault of a slot's source.
+fn read_slots<'a>(host: &Dict<'a>, libs: &'a [&'a [u8]]) -> Result<ArrayVec<Segment<'a>, 16>, Fault>
+    requires { libraries_fault_spec host.now.order (map (λ lib. lib.now) libs.now) ≡ None }
+    ensures fault { result_err result ≡ sources_fault host.now.order host.now.file (map (λ lib. lib.now) libs.now) }
+    ensures segments { IfOk result (λ s. map (segment_of host.now.order) s.items ≡ segments host.now.order host.now.file (map (λ lib. lib.now) libs.now)) }
+    ensures sound { IfOk result (λ s. All (IsSound host.now.order) (map (segment_of host.now.order) s.items)) }
+{
+    let mut segments = ArrayVec::new();
+    for slot in 0..SLOTS {
+        match read_slot(host, libs, slot) {
+            Err(fault) => return Err(fault),
+            Ok(segment) => add(&mut segments, segment),
+        }
+    }
+    Ok(segments)
+}
+
+/// The first fault of the slots of the host, of its want of a host segment, or of the libraries.
+fn files_fault(host: &Dict, libs: &[&[u8]]) -> Option<Fault>
+    ensures { result ≡ option_or (slots_fault_spec host.now.order host.now.file) (option_or (no_host_fault_spec host.now.order host.now.file) (libraries_fault_spec host.now.order (map (λ lib. lib.now) libs.now))) }
+{
+    if let Some(fault) = slots_fault(host) {
+        return Some(fault);
+    }
+    if let Some(fault) = no_host_fault(host) {
+        return Some(fault);
+    }
+    libraries_fault(host.order(), libs)
+}
+
+/// The segments of a host that is read in its own byte order, or the first fault behind that of its order.
+fn read_sources<'a>(
+    host: &Dict<'a>,
+    libs: &'a [&'a [u8]],
+) -> Result<ArrayVec<Segment<'a>, 16>, Fault>
+    ensures fault { result_err result ≡ option_or (slots_fault_spec host.now.order host.now.file) (option_or (no_host_fault_spec host.now.order host.now.file)
+        (option_or (libraries_fault_spec host.now.order (map (λ lib. lib.now) libs.now)) (sources_fault host.now.order host.now.file (map (λ lib. lib.now) libs.now)))) }
+    ensures segments { IfOk result (λ s. map (segment_of host.now.order) s.items ≡ segments host.now.order host.now.file (map (λ lib. lib.now) libs.now)) }
+    ensures sound { IfOk result (λ s. All (IsSound host.now.order) (map (segment_of host.now.order) s.items)) }
+{
+    match files_fault(host, libs) {
+        Some(fault) => Err(fault),
+        None => read_slots(host, libs),
+    }
+}
+
+/// The host's byte order and the segments of a link by slot ascending, or the first fault of reading the files.
+pub(crate) fn read_segments<'a>(
+    host: &'a [u8],
+    libs: &'a [&'a [u8]],
+) -> Result<(Order, ArrayVec<Segment<'a>, 16>), Fault>
+    ensures whole { IfOk result (λ _. 512 ≤ length host.now) }
+    ensures order { IfOk result (λ r. r.0 ≡ order_of host.now) }
+    ensures segments { IfOk result (λ r. map (segment_of r.0) r.1.items ≡ segments (order_of host.now) host.now (map (λ lib. lib.now) libs.now)) }
+    ensures sound { IfOk result (λ r. All (IsSound r.0) (map (segment_of r.0) r.1.items)) }
+    ensures ascending { IfOk result (λ r. AscendFrom 0 (map (λ s. s.slot) (map (segment_of r.0) r.1.items))) }
+    ensures host { IfOk result (λ r. IsSome (host_of (map (segment_of r.0) r.1.items))) }
+    ensures one_host { IfOk result (λ r. HasOneHost (map (segment_of r.0) r.1.items)) }
+    ensures faultless { IfOk result (λ _. reading_fault host.now (map (λ lib. lib.now) libs.now) ≡ None) }
+    ensures fault { IfErr result (λ f. reading_fault host.now (map (λ lib. lib.now) libs.now) ≡ Some f) }
+{
+    match Dict::read(host) {
+        Err(reason) => Err(in_file(HOST_FILE, reason)),
+        Ok(dict) => match read_sources(&dict, libs) {
+            Err(fault) => Err(fault),
+            Ok(segments) => Ok((dict.order(), segments)),
+        },
+    }
+}
