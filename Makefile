@@ -1,7 +1,21 @@
-# demo: links the stored example; test: the merge gate; install PREFIX=..: the program and its manual page
+# `make demo` proves and builds pslink and links the sample host with the sample library, `make test` proves and tests all,
+# `make install PREFIX=..` puts the program and its manual page in place.
 PREFIX ?= /usr/local
+PROGRAM = crates/ps_linker
+BINARY = $(PROGRAM)/out/ps_linker
 
-.PHONY: demo test install
+.PHONY: demo build test install
+
+demo:
+	cd $(PROGRAM) && rt run -- link ../../samples/host.code out/demo.code ../../samples/library.code
+
+build:
+	cd $(PROGRAM) && rt run -- --version
 
 test:
 	rt ci
+
+install: build
+	install -d $(DESTDIR)$(PREFIX)/bin $(DESTDIR)$(PREFIX)/share/man/man1
+	install -m 755 $(BINARY) $(DESTDIR)$(PREFIX)/bin/pslink
+	install -m 644 man/pslink.1 $(DESTDIR)$(PREFIX)/share/man/man1/pslink.1

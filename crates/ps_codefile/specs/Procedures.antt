@@ -7,10 +7,11 @@ use Rattle.ps_words.specs.declared.order.Order.{Order}
 use Rattle.ps_words.specs.declared.fault.Reason.{Reason}
 use Rattle.ps_words.specs.declared.fault.Reason.TheVariants as reason
 
--- how many procedures, and how long the procedure dictionary is
+-- how many procedures a code has
 abbrev pub procedures : List ℕ → ℕ
 procedures code = slice_index code (length code - 1)
 
+-- the length of the procedure dictionary: a word for each procedure, then the segment number and the number of procedures
 abbrev pub dictionary_len : List ℕ → ℕ
 dictionary_len code = 2 + 2 * procedures code
 
@@ -22,26 +23,29 @@ start_of code = length code - dictionary_len code
 abbrev pub content_of : Order → List ℕ → ℕ → ℕ
 content_of order code p = word_at order code (length code - 2 - 2 * p)
 
--- the place of the table of procedure p, where there is one
+-- the place of the attribute table of procedure p: its word's place minus the word's content, and none where that is 0
 abbrev pub table_of : Order → List ℕ → ℕ → Option ℕ
 table_of order code p =
     let content = content_of order code p in
     if content == 0 then None else Some (length code - 2 - 2 * p - content)
 
--- a table is whole, before the dictionary, and not before the code
+-- procedure p has no table, or one that begins in the code, eight bytes before its place, and ends before the dictionary
 abbrev pub is_placed : Order → List ℕ → ℕ → Bool
 is_placed order code p =
     let content = content_of order code p in
     let place = length code - 2 - 2 * p in
     content == 0 || (nat_le (content + 8) place && nat_lt (place - content + 1) (start_of code))
 
+-- the numbers of the procedures
 abbrev pub numbers : List ℕ → List ℕ
 numbers code = range_with_len 1 (procedures code)
 
+-- the places of all tables
 abbrev pub tables : Order → List ℕ → List ℕ
 tables order code = filter_map (table_of order code) (numbers code)
 
--- the first fault of the tables
+-- The first fault of the tables of a code, the host segment's or another's.
+-- The tables are bad where the dictionary is longer than the code, where a table is not placed, or where the host's outer block, procedure 1, has no body; a native procedure's number is 0.
 abbrev pub tables_fault : Order → List ℕ → Bool → Option Reason
 tables_fault order code host =
     if nat_lt (length code) (dictionary_len code) || not (list_all (is_placed order code) (numbers code)) || (host && (procedures code == 0 || content_of order code 1 == 0)) then Some reason.BadProcDict
@@ -60,10 +64,11 @@ pub record ProcedureTables : Type 0 where
   pub order : Order
   pub code : List ℕ
 
+-- this value, or the fault that there is
 abbrev pub unless : {X : Type 0} → Option Reason → X → Result X Reason
 unless None x = Ok x
 unless (Some why) x = Err why
 
--- the procedure tables of a code, the host's own or another's, or their first fault
+-- the procedure tables of a code, the host segment's or another's, or their first fault
 abbrev pub read_tables : Order → List ℕ → Bool → Result ProcedureTables Reason
 read_tables order code host = unless (tables_fault order code host) (record { order = order; code = code })

@@ -1,6 +1,6 @@
 ghost use Rattle.std.specs.Prelude.{◌≡◌, ◌<◌, ◌≤◌, ◌+◌, ◌*◌, ◌==◌, length, slice_index};
 ghost use Rattle.std.specs.List.{list_all};
-ghost use Rattle.ps_codefile.specs.Dictionary.{slots, Opened, opened, opened_beside, entry_at, name_at, names_of, tail_of, is_nameless as nameless_spec, role_of, is_filled, code_of, information_of, Gives};
+ghost use Rattle.ps_codefile.specs.Dictionary.{slots, Opened, opened, opened_beside, entry_at, name_at, names_of, tail_of, role_of, is_filled, code_of, information_of, Gives};
 
 use crate::entry::{Entry, Role};
 use ps_words::{BLOCK_SIZE, Order, Reason, blocks_of, get};
@@ -22,23 +22,6 @@ const KINDS: usize = 192;
 const TEXTS: usize = 224;
 /// Where the tail begins, which is copied unread.
 const TAIL: usize = 256;
-
-const LINKED: u16 = 0;
-
-const HOSTSEG: u16 = 1;
-
-const SEGPROC: u16 = 2;
-
-const UNITSEG: u16 = 3;
-
-const SEPRTSEG: u16 = 4;
-/// The last kind of Apple's intrinsic units and data segments.
-const LAST_INTRINSIC: u16 = 7;
-
-/// The longest code.
-const MAX_CODE_LEN: usize = 32767;
-/// The shortest code of a segment with link information.
-const MIN_LINKED_LEN: usize = 4;
 
 /// A code file seen through its segment dictionary, the sixteen slots in block 0.
 ///
@@ -91,43 +74,6 @@ fn is_zero_from(file: &[u8], first: usize) -> bool
         }
     }
     true
-}
-
-fn all_are(name: &[u8; 8], byte: u8) -> bool
-    ensures { result ≡ list_all (λ b. b == byte) name.now }
-{
-    name.iter().all(|b| *b == byte)
-}
-
-/// The name is eight blanks or eight zero bytes.
-fn is_nameless(name: &[u8; 8]) -> bool
-    ensures { result ≡ nameless_spec name.now }
-{
-    all_are(name, b' ') || all_are(name, 0)
-}
-
-fn role_of_entry(entry: &Entry) -> Result<Role, Reason>
-    ensures { result ≡ role_of entry.now }
-{
-    if entry.kind == UNITSEG && (entry.address == 0 || entry.length == 0) {
-        return Ok(if is_nameless(&entry.name) {
-            Role::Empty
-        } else {
-            Role::Wanted
-        });
-    }
-    if entry.length == 0 {
-        return Ok(Role::Empty);
-    }
-    match entry.kind {
-        LINKED => Ok(Role::Plain),
-        HOSTSEG => Ok(Role::Host),
-        SEGPROC => Err(Reason::SegmentProcedure),
-        UNITSEG => Ok(Role::Unit),
-        SEPRTSEG => Err(Reason::NativeSegment),
-        kind if kind <= LAST_INTRINSIC => Err(Reason::Intrinsic),
-        _ => Err(Reason::UnknownKind),
-    }
 }
 
 impl<'a> Dict<'a> {
@@ -227,7 +173,7 @@ impl<'a> Dict<'a> {
         requires { slot < 16 }
         ensures { result ≡ role_of (entry_at self.now.order self.now.file slot) }
     {
-        role_of_entry(&self.entry(slot))
+        self.entry(slot).role()
     }
 
     /// The slot has a code in this file, whatever its kind: its length is not 0, nor
@@ -236,8 +182,7 @@ impl<'a> Dict<'a> {
         requires { slot < 16 }
         ensures { result ≡ is_filled (entry_at self.now.order self.now.file slot) }
     {
-        let entry = self.entry(slot);
-        entry.length != 0 && !(entry.kind == UNITSEG && entry.address == 0)
+        self.entry(slot).is_filled()
     }
 
     /// The code of a filled slot.
@@ -250,18 +195,18 @@ impl<'a> Dict<'a> {
         ensures { Gives (λ code. code.now) result (code_of self.now.file (entry_at self.now.order self.now.file slot)) }
     {
         let entry = self.entry(slot);
-        let (start, len) = (BLOCK_SIZE * entry.address as usize, entry.length as usize);
-        let is_linked = entry.kind == HOSTSEG || entry.kind == UNITSEG;
-        if len > MAX_CODE_LEN || is_linked && (len % 2 == 1 || len < MIN_LINKED_LEN) {
+        if entry.has_bad_length() {
             return Err(Reason::BadLength);
         }
         if entry.address == 0 {
             return Err(Reason::BadAddress);
         }
-        if self.file.len() < start + len {
+        let start = BLOCK_SIZE * entry.address as usize;
+        let end = start + entry.length as usize;
+        if self.file.len() < end {
             return Err(Reason::Truncated);
         }
-        Ok(&self.file[start..start + len])
+        Ok(&self.file[start..end])
     }
 
     /// The file from the block after a slot's code, where the link information of a

@@ -1,19 +1,49 @@
+ghost use Rattle.std.specs.Prelude.{◌≡◌, ◌==◌};
+ghost use Rattle.std.specs.List.{list_all};
+ghost use Rattle.ps_codefile.specs.Dictionary.{is_nameless as nameless_spec, role_of, is_filled as filled_spec, has_bad_length as bad_length_spec};
+
+use ps_words::Reason;
+
+/// A segment that is linked, or that needs no link.
+const LINKED: u16 = 0;
+/// A host's own segment.
+const HOSTSEG: u16 = 1;
+/// A segment procedure that the compiler left unlinked.
+const SEGPROC: u16 = 2;
+/// A unit.
+const UNITSEG: u16 = 3;
+/// A separate segment, which holds native code.
+const SEPRTSEG: u16 = 4;
+/// The first and the last kind of Apple's intrinsic units and data segments.
+const FIRST_INTRINSIC: u16 = 5;
+
+const LAST_INTRINSIC: u16 = 7;
+
+/// The longest code.
+const MAX_CODE_LEN: u16 = 32767;
+/// The shortest code of a segment that is linked.
+const MIN_LINKED_LEN: u16 = 4;
+
 /// What the segment dictionary says of a slot.
+///
+/// Source: UCSD Pascal II.0 manual, code file format.
 #[derive(Clone, Copy, Debug, PartialEq, Eq)]
 pub struct Entry {
-    /// The block that the code begins in.
+    /// The block that the code begins in; 0 where the file has no code of the segment.
     pub address: u16,
     /// The code's length in bytes.
     pub length: u16,
-    /// The segment's name, blank-padded.
+    /// The segment's name, padded with blanks.
     pub name: [u8; 8],
-    /// The segment's kind, as the compiler or the Linker wrote it.
+    /// The segment's kind: 0 LINKED, 1 HOSTSEG, 2 SEGPROC, 3 UNITSEG, 4 SEPRTSEG.
     pub kind: u16,
     /// The block that the interface text begins in.
     pub text: u16,
 }
 
 /// What a slot of the host is for.
+///
+/// Source: this project's profile, over the kinds of the UCSD Pascal II.0 manual.
 #[derive(Clone, Copy, Debug, PartialEq, Eq)]
 pub enum Role {
     /// The slot has no segment.
@@ -26,4 +56,60 @@ pub enum Role {
     Host,
     /// A unit whose code is in the host file.
     Unit,
+}
+
+fn all_are(name: &[u8; 8], byte: u8) -> bool
+    ensures { result ≡ list_all (λ b. b == byte) name.now }
+{
+    name.iter().all(|b| *b == byte)
+}
+
+impl Entry {
+    /// The name is eight blanks or eight zero bytes.
+    fn is_nameless(&self) -> bool
+        ensures { result ≡ nameless_spec self.now.name }
+    {
+        all_are(&self.name, b' ') || all_are(&self.name, 0)
+    }
+
+    /// What a slot of the host with this entry is for.
+    pub(crate) fn role(&self) -> Result<Role, Reason>
+        ensures { result ≡ role_of self.now }
+    {
+        if self.kind == UNITSEG && (self.address == 0 || self.length == 0) {
+            return Ok(if self.is_nameless() {
+                Role::Empty
+            } else {
+                Role::Wanted
+            });
+        }
+        if self.length == 0 {
+            return Ok(Role::Empty);
+        }
+        match self.kind {
+            LINKED => Ok(Role::Plain),
+            HOSTSEG => Ok(Role::Host),
+            SEGPROC => Err(Reason::SegmentProcedure),
+            UNITSEG => Ok(Role::Unit),
+            SEPRTSEG => Err(Reason::NativeSegment),
+            FIRST_INTRINSIC..=LAST_INTRINSIC => Err(Reason::Intrinsic),
+            _ => Err(Reason::UnknownKind),
+        }
+    }
+
+    /// The entry has a code, whatever its kind.
+    pub(crate) fn is_filled(&self) -> bool
+        ensures { result ≡ filled_spec self.now }
+    {
+        self.length != 0 && !(self.kind == UNITSEG && self.address == 0)
+    }
+
+    /// The length is over the limit, or cannot be that of a host's segment or a unit.
+    pub(crate) fn has_bad_length(&self) -> bool
+        ensures { result ≡ bad_length_spec self.now }
+    {
+        let is_linked = self.kind == HOSTSEG || self.kind == UNITSEG;
+        self.length > MAX_CODE_LEN
+            || is_linked && (self.length % 2 == 1 || self.length < MIN_LINKED_LEN)
+    }
 }

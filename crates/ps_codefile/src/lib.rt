@@ -5,6 +5,8 @@ mod dictionary;
 mod entry;
 mod places;
 mod procedures;
+#[cfg(test)]
+mod tests;
 
 pub use dictionary::Dict;
 pub use entry::{Entry, Role};

@@ -1,6 +1,7 @@
-//! The definitions of a link, computed on small files: what is refused there, and which fault is named where several stand. Each function's contract states examples, and its body is empty.
+//! The definitions of a link, computed on small files: what is refused there, which fault is named where several stand, and what is written. Each function's contract states examples, and its body is empty.
 #![tactic(auto)]
 
+mod linked_files;
 mod orders;
 mod refused_files;
 mod refused_records;
@@ -9,6 +10,7 @@ mod refused_slots;
 mod refused_sources;
 mod refused_symbols;
 
+pub use linked_files::linked_bytes;
 pub use orders::one_order;
 pub use refused_files::faults_of_files;
 pub use refused_records::faults_of_records;

@@ -61,4 +61,3 @@ find_some {A} test P d (a ∷ items) x = go (test a) (d a) (find_some test P d i
         lesser : (i : ℕ) → ((j : ℕ) (e : A) → j < i → slice_get items j ≡ Some e → P e → ⊥) → (j : ℕ) (e : A) → j < suc i → slice_get (a ∷ items) j ≡ Some e → P e → ⊥
         lesser i none zero q l g p = false≢true (h.1 (subst P (cc) p))
         lesser i none (suc j) q l g p = none j q (omega (arith, l)) g p
-

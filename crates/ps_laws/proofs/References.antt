@@ -117,14 +117,14 @@ units_named name segs =
 
 one_definition : (ds : List (List ℕ × Def)) (name : List ℕ) (d e : Def) → Defines ds name d → Defines ds name e → d ≡ e
 one_definition ds name d e a b = elim (cases_lt a.0 b.0) [
-    inl h ↦ absurd (b.3.1 a.0 a.1 h a.2 a.3.0.0)
+  | inl h ↦ absurd (b.3.1 a.0 a.1 h a.2 a.3.0.0)
   | inr h ↦ elim (cases_lt b.0 a.0) [
-        inl k ↦ absurd (a.3.1 b.0 b.1 k b.2 b.3.0.0)
-      | inr k ↦
-          let at : b.0 ≡ a.0 = omega (arith, h, k) in
-          let same : b.1 ≡ a.1 = (let p = a.2 in let q = b.2 in cc) in
-          sym a.3.0.1 ∙ (sym (ap (λ (x : List ℕ × Def). x.1) same) ∙ b.3.0.1)
-    ]
+    | inl k ↦ absurd (a.3.1 b.0 b.1 k b.2 b.3.0.0)
+    | inr k ↦
+        let at : b.0 ≡ a.0 = omega (arith, h, k) in
+        let same : b.1 ≡ a.1 = (let p = a.2 in let q = b.2 in cc) in
+        sym a.3.0.1 ∙ (sym (ap (λ (x : List ℕ × Def). x.1) same) ∙ b.3.0.1)
+  ]
 ]
 
 record_rows : (segs : List Segment) (off : ℕ) (name : List ℕ) (body : Body) → Least Ranked (RecordHas segs name body) (result_err (target_in (known_of segs) off name body))
@@ -234,7 +234,7 @@ overlapping records rec i r x er =
     from o q a j y g (inr t) p cx cy =
         let same : q ≡ r = (let d = t.0 in cc) in
         elim t.1 [
-            inl h ↦ (p, cx.0, cx.1, inr (j, h, (y, subst (λ (z : Record). slice_get (refs_of z.body) j ≡ Some y) same g, subst (λ (z : Record). Covers z.body y p) same cy)))
+          | inl h ↦ (p, cx.0, cx.1, inr (j, h, (y, subst (λ (z : Record). slice_get (refs_of z.body) j ≡ Some y) same g, subst (λ (z : Record). Covers z.body y p) same cy)))
           | inr u ↦ absurd u.1
         ]
 
@@ -274,7 +274,7 @@ reference_rows order segs s rec r i x er ex =
     (at_apart Ranked reason.Overlap reason.OperandTooLarge (omega arith)))
     (λ y z t. elim [ inl u ↦ at_apart Ranked reason.ReservedPlace reason.Overlap (omega arith) y z t u | inr u ↦ at_apart Ranked reason.ReservedPlace reason.OperandTooLarge (omega arith) y z t u ]))
     (λ y z t. elim [
-        inl u ↦ at_apart Ranked reason.OutsideCode reason.ReservedPlace (omega arith) y z t u
+      | inl u ↦ at_apart Ranked reason.OutsideCode reason.ReservedPlace (omega arith) y z t u
       | inr v ↦ elim v [ inl u ↦ at_apart Ranked reason.OutsideCode reason.Overlap (omega arith) y z t u | inr u ↦ at_apart Ranked reason.OutsideCode reason.OperandTooLarge (omega arith) y z t u ]
     ]))
   where

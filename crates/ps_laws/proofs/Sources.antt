@@ -357,7 +357,7 @@ late_record k slot n rec why f e = (ap (λ (g : Fault). unwrap_or g.slot g.file)
 code_late : (order : Order) (file : List ℕ) (k : ℕ) (e : Entry) (slot : ℕ) (r : Role) (f : Fault) → CodeFault order file k e slot r f → Late slot 14 f
 code_late order file k e slot r f (inl t) = late k slot 14 f (λ why h. ((code_mid file e).mid why h).0) t
 code_late order file k e slot r f (inr t) = elim t.2.1 [
-    inl b ↦ late k slot 14 f (λ why h. let a = (tables_mid order t.0 (is_host r) why h).0 in omega (arith, a)) b
+  | inl b ↦ late k slot 14 f (λ why h. let a = (tables_mid order t.0 (is_host r) why h).0 in omega (arith, a)) b
   | inr b ↦ late_record k slot 14 (length b.0) b.1 f b.2
 ]
 

@@ -159,7 +159,7 @@ not_both (x ∷ a) (y ∷ b) (inr h) (inr k) = not_both a b h.1 k.1
 
 pub one : OneStop → (host : List ℕ) (libs : List (List ℕ)) (f g : Fault) → IsFirst host libs f → IsFirst host libs g → f ≡ g
 one law host libs f g a b = elim (a.least b.step g b.stands) [
-    inl e ↦ sym e.1
+  | inl e ↦ sym e.1
   | inr h ↦ elim (b.least a.step f a.stands) [ inl e ↦ e.1 | inr k ↦ absurd (not_both (key a.step f) (key b.step g) h k) ]
 ]
 

@@ -6,7 +6,6 @@ use Rattle.ps_linker.specs.declared.error.CommandError.TheVariants as error
 
 abbrev pub status_of : CommandError → ℕ
 status_of (error.Refused fault) = 1
-status_of error.NotYet = 1
 status_of (error.Usage text) = 2
 status_of error.NotText = 2
 status_of (error.Read path) = 3

@@ -15,9 +15,6 @@ pub enum CommandError<'a> {
     /// The files cannot be linked.
     #[error("pslink: {0}")]
     Refused(Fault),
-    /// The files are beyond what this release links.
-    #[error("pslink: not yet")]
-    NotYet,
     /// The words of the command line are none that the program takes.
     #[error("{0}")]
     Usage(clap::Error),
@@ -62,7 +59,6 @@ impl<'a> CommandError<'a> {
     pub fn of_link(error: LinkError, path: &'a str) -> CommandError<'a> {
         match error {
             LinkError::Refused(fault) => CommandError::Refused(fault),
-            LinkError::NotYet => CommandError::NotYet,
             LinkError::Memory => CommandError::Memory,
             LinkError::Write(_) => CommandError::Write { path },
         }
@@ -73,7 +69,7 @@ impl<'a> CommandError<'a> {
         ensures { result ≡ status_of self.now }
     {
         match self {
-            CommandError::Refused(_) | CommandError::NotYet => 1,
+            CommandError::Refused(_) => 1,
             CommandError::Usage(_) | CommandError::NotText => 2,
             CommandError::Read { .. }
             | CommandError::TooLong { .. }

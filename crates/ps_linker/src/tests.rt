@@ -43,7 +43,7 @@ fn text(bytes: &[u8]) -> &str {
 /// What lies at a place of a code file.
 type Part = (usize, &'static [u8]);
 
-/// The dictionary and the code of a host program in block 1.
+/// The dictionary and the code of a host program in block 1, which names a unit.
 static HOST_PROGRAM: [Part; 5] = [
     (4, b"\x01\x00\x12\x00"),
     (72, b"DEMO    "),
@@ -55,7 +55,15 @@ static HOST_PROGRAM: [Part; 5] = [
     ),
 ];
 
-/// Its link information, and a unit in place with one reference to the host's definition.
+/// The kinds and the host's link information, where the unit is sought in libraries.
+static UNIT_WANTED: [Part; 4] = [
+    (194, b"\x01\x00"),
+    (206, b"\x03\x00"),
+    (1024, b"COUNT   \x07\x00\x03\x00\x00\x00\x00\x00"),
+    (1040, b"        \x00\x00\x08\x00\x00\x00\x00\x00"),
+];
+
+/// The same, and the unit in the host file, with one reference to the host's definition.
 static UNIT_IN_PLACE: [Part; 9] = [
     (28, b"\x03\x00\x18\x00"),
     (194, b"\x01\x00"),
@@ -71,8 +79,8 @@ static UNIT_IN_PLACE: [Part; 9] = [
     (2080, b"        \x00\x00\x00\x00\x00\x00\x00\x00"),
 ];
 
-/// The linked unit.
-static LINKED_UNIT: [Part; 2] = [
+/// What linking makes of the unit in place.
+static LINKED_IN_PLACE: [Part; 2] = [
     (28, b"\x02\x00\x18\x00"),
     (
         1024,
@@ -80,12 +88,43 @@ static LINKED_UNIT: [Part; 2] = [
     ),
 ];
 
-fn code_file(alloc: Global, length: usize, unit: &[Part]) -> Result<Vec<u8>, AllocError> {
+/// A library with the unit, which has a private variable of four words.
+static LIBRARY: [Part; 9] = [
+    (8, b"\x01\x00\x18\x00"),
+    (80, b"UTIL    "),
+    (196, b"\x03\x00"),
+    (
+        512,
+        b"\xA5\x80\x00\xAB\x80\x02\xD7\xD7\xAD\x00\x00\x00\x00\x00\x06\x00\x10\x00\x01\x00\x02\x00\x02\x01",
+    ),
+    (1024, b"COUNT   \x03\x00\x02\x00\x01\x00\x00\x00"),
+    (1040, b"\x01\x00"),
+    (1056, b"STATE   \x04\x00\x02\x00\x01\x00\x04\x00"),
+    (1072, b"\x04\x00"),
+    (1088, b"        \x00\x00\x00\x00\x00\x00\x00\x00"),
+];
+
+/// What linking makes of the library's unit, and of the host program's data size.
+static LINKED_FROM_LIBRARY: [Part; 3] = [
+    (28, b"\x02\x00\x18\x00"),
+    (516, b"\x12\x00"),
+    (
+        1024,
+        b"\xA5\x80\x03\xAB\x80\x0A\xD7\xD7\xAD\x00\x00\x00\x00\x00\x06\x00\x10\x00\x01\x00\x02\x00\x07\x01",
+    ),
+];
+
+fn code_file(
+    alloc: Global,
+    length: usize,
+    parts: &[Part],
+    more: &[Part],
+) -> Result<Vec<u8>, AllocError> {
     let mut file = vec![in alloc; 0u8; length]?;
     for blank in file.iter_mut().skip(64).take(128) {
         *blank = b' ';
     }
-    for (place, bytes) in HOST_PROGRAM.iter().chain(unit.iter()) {
+    for (place, bytes) in parts.iter().chain(more.iter()) {
         for (at, byte) in file.iter_mut().skip(*place).zip(bytes.iter()) {
             *at = *byte;
         }
@@ -95,11 +134,46 @@ fn code_file(alloc: Global, length: usize, unit: &[Part]) -> Result<Vec<u8>, All
 
 /// A host with its unit in place, and what it is linked to.
 fn host(alloc: Global) -> Result<Vec<u8>, AllocError> {
-    code_file(alloc, 2560, UNIT_IN_PLACE.as_slice())
+    code_file(
+        alloc,
+        2560,
+        HOST_PROGRAM.as_slice(),
+        UNIT_IN_PLACE.as_slice(),
+    )
 }
 
 fn linked(alloc: Global) -> Result<Vec<u8>, AllocError> {
-    code_file(alloc, 1536, LINKED_UNIT.as_slice())
+    code_file(
+        alloc,
+        1536,
+        HOST_PROGRAM.as_slice(),
+        LINKED_IN_PLACE.as_slice(),
+    )
+}
+
+/// A host that wants its unit, a library that has it, and what the two are linked to.
+fn wanting_host(alloc: Global) -> Result<Vec<u8>, AllocError> {
+    code_file(alloc, 1536, HOST_PROGRAM.as_slice(), UNIT_WANTED.as_slice())
+}
+
+fn library(alloc: Global) -> Result<Vec<u8>, AllocError> {
+    code_file(alloc, 1536, LIBRARY.as_slice(), [].as_slice())
+}
+
+fn linked_pair(alloc: Global) -> Result<Vec<u8>, AllocError> {
+    code_file(
+        alloc,
+        1536,
+        HOST_PROGRAM.as_slice(),
+        LINKED_FROM_LIBRARY.as_slice(),
+    )
+}
+
+/// Removes files of a test.
+fn clean<R: Files>(rt: &R, paths: &[&str]) {
+    for path in paths {
+        let _ = fs::remove_file(rt, *path);
+    }
 }
 
 static SUMMARY: &str = "segments 2 private words 0 blocks 3\n";
@@ -114,6 +188,33 @@ fn links_a_unit_in_place(rt: HostRuntime) -> Result<(), Fail> {
     done(&rt, words.as_slice()).is(&rt, 0, SUMMARY, "");
     let made = fs::read(&rt, "links-out")?;
     assert_eq!(rt; made.as_slice(), linked(rt.alloc())?.as_slice());
+    clean(&rt, ["links-host", "links-out"].as_slice());
+    Ok(())
+}
+
+#[test]
+fn links_a_unit_of_a_library(rt: HostRuntime) -> Result<(), Fail> {
+    fs::write(&rt, "pair-host", wanting_host(rt.alloc())?.as_slice())?;
+    fs::write(&rt, "pair-library", library(rt.alloc())?.as_slice())?;
+    let words = ["pslink", "link", "pair-host", "pair-out", "pair-library"];
+    let summary = "segments 2 private words 4 blocks 3\n";
+    done(&rt, words.as_slice()).is(&rt, 0, summary, "");
+    let made = fs::read(&rt, "pair-out")?;
+    assert_eq!(rt; made.as_slice(), linked_pair(rt.alloc())?.as_slice());
+    clean(&rt, ["pair-host", "pair-library", "pair-out"].as_slice());
+    Ok(())
+}
+
+#[test]
+fn a_missing_unit_leaves_out_as_it_was(rt: HostRuntime) -> Result<(), Fail> {
+    fs::write(&rt, "missing-host", wanting_host(rt.alloc())?.as_slice())?;
+    fs::write(&rt, "missing-out", "as before")?;
+    let words = ["pslink", "link", "missing-host", "missing-out"];
+    let refused = "pslink: refused 13 MissingUnit file 0 slot 7\n";
+    done(&rt, words.as_slice()).is(&rt, 1, "", refused);
+    let left = fs::read(&rt, "missing-out")?;
+    assert_eq!(rt; left.as_slice(), b"as before".as_slice());
+    clean(&rt, ["missing-host", "missing-out"].as_slice());
     Ok(())
 }
 
@@ -124,6 +225,7 @@ fn out_may_be_the_host(rt: HostRuntime) -> Result<(), Fail> {
     done(&rt, words.as_slice()).is(&rt, 0, SUMMARY, "");
     let made = fs::read(&rt, "same")?;
     assert_eq!(rt; made.as_slice(), linked(rt.alloc())?.as_slice());
+    clean(&rt, ["same"].as_slice());
     Ok(())
 }
 
@@ -136,6 +238,7 @@ fn a_refusal_leaves_out_as_it_was(rt: HostRuntime) -> Result<(), Fail> {
     done(&rt, words.as_slice()).is(&rt, 1, "", refused);
     let left = fs::read(&rt, "refused-out")?;
     assert_eq!(rt; left.as_slice(), b"as before".as_slice());
+    clean(&rt, ["refused-host", "refused-out"].as_slice());
     Ok(())
 }
 
@@ -161,6 +264,8 @@ fn files_that_cannot_be_opened(rt: HostRuntime) -> Result<(), Fail> {
     done(&rt, words.as_slice()).is(&rt, 3, "", "pslink: cannot write opened-folder\n");
     let words = ["pslink", "link", "opened-folder", "opened-out"];
     done(&rt, words.as_slice()).is(&rt, 3, "", "pslink: cannot read opened-folder\n");
+    clean(&rt, ["opened-host"].as_slice());
+    let _ = fs::remove_dir(&rt, "opened-folder");
     Ok(())
 }
 
@@ -189,6 +294,7 @@ fn a_read_that_fails(rt: HostRuntime) -> Result<(), Fail> {
             assert_eq!(rt; files.0.created(), 0, "at {nth} {reads}");
         }
     }
+    clean(&rt, ["reads-host"].as_slice());
     Ok(())
 }
 
@@ -213,6 +319,7 @@ fn a_write_that_fails(rt: HostRuntime) -> Result<(), Fail> {
         failed = writes;
     }
     assert!(rt; (15..1000).contains(&failed), "{failed}");
+    clean(&rt, ["writes-host", "writes-out"].as_slice());
     Ok(())
 }
 
@@ -230,6 +337,7 @@ fn standard_output_that_fails(rt: HostRuntime) -> Result<(), Fail> {
             assert_eq!(rt; text(err.as_slice()), NO_OUTPUT);
         }
     }
+    clean(&rt, ["stuck-host", "stuck-out"].as_slice());
     Ok(())
 }
 

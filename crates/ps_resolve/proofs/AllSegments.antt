@@ -1,7 +1,7 @@
 -- One segment more of those that are linked one after another.
 use Rattle.std.proofs.Common.{◌≡◌, ℕ, ◌+◌, ◌<◌, ◌≤◌, ◌++◌, List, [], ◌∷◌, length, map, get_or, drop, Bool, true, false, Option, Some, None, refl, sym, ◌∙◌, ap, subst, arith}
-use Rattle.std.specs.Prelude.{All, IfSome, if◌then◌else◌}
-use Rattle.std.specs.Option.{option_or, option_map, option_to_list}
+use Rattle.std.specs.Prelude.{IfSome, if◌then◌else◌}
+use Rattle.std.specs.Option.{option_to_list}
 use Rattle.ps_words.specs.declared.order.Order.{Order}
 use Rattle.ps_words.specs.declared.edit.Edit.{Edit}
 use Rattle.ps_words.specs.declared.fault.Fault.{Fault}
@@ -9,14 +9,14 @@ use Rattle.ps_codefile.specs.Procedures.{is_reserved}
 use Rattle.ps_resolve.specs.Sources.{Segment, is_host}
 use Rattle.ps_resolve.specs.Privates.{owner_of, words_of, all_words}
 use Rattle.ps_resolve.specs.References.{Known, records_fault}
-use Rattle.ps_resolve.specs.Linking.{Edited, data_edits, segment_edits, edited_from}
+use Rattle.ps_resolve.specs.Linking.{Edited, segment_edits, edited_from}
 use Rattle.ps_resolve.specs.Edits.{IsOfSegment, IsOfTable, AreOfReferences}
 use Rattle.ps_resolve.specs.Faults.{segment_fault, references_fault_from}
 use Rattle.ps_resolve.specs.Plans.{LinksSegment, LinkSegments}
 use Rattle.ps_resolve.specs.Views.{segment_of}
 use Rattle.ps_resolve.specs.declared.segment.Segment.{Segment as SegmentView}
 use Rattle.ps_resolve.specs.declared.linkage.Stop.{Stop}
-use Rattle.ps_resolve.specs.declared.linkage.Stop.TheVariants.{Refused, Memory, NotYet}
+use Rattle.ps_resolve.specs.declared.linkage.Stop.TheVariants.{Refused, Memory}
 use Rattle.std.proofs.lemmas.List.{drop_all}
 use Rattle.ps_resolve.proofs.Segs.{drop_at}
 use Rattle.ps_resolve.proofs.Stages.{skip, keep}
@@ -44,7 +44,6 @@ module _ (order : Order) (known : Known) (ss : List SegmentView) (i : ℕ) (v : 
       → IsOfSegment v.file v.slot (records_fault known (is_reserved order v.code.now) v.code.now 0 free [] (segment_of order v).records) stop → AreOfReferences order known base (map (segment_of order) ss) stop
   stop_at base (Refused fault) h d = sym h ∙ ap (references_fault_from order known free) front ∙ keep _ _ fault d
   stop_at base Memory h d = tt
-  stop_at base NotYet h d = absurd d
 
   module _ (end : ℕ) (goes : end ≡ free + words_of (segment_of order v).records) where
     pub words_on : (total : ℕ) → free + all_words (map owner_of (map (segment_of order) (drop i ss))) ≡ total → end + all_words (map owner_of (map (segment_of order) (drop (i + 1) ss))) ≡ total

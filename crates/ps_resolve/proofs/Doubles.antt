@@ -1,7 +1,5 @@
 -- One record more of a table of definitions.
-use Rattle.std.proofs.Common.{◌≡◌, ℕ, zero, suc, ◌+◌, List, [], ◌∷◌, ◌++◌, length, Bool, true, false, Option, Some, None, is_some, refl, sym, ◌∙◌, ap, subst, arith, cond, append_assoc, length-append, ◌<◌}
-use Rattle.std.specs.Str.{bytes_eq}
-use Rattle.std.specs.Map.{lookup}
+use Rattle.std.proofs.Common.{◌≡◌, ℕ, ◌+◌, List, [], ◌∷◌, ◌++◌, length, false, Option, Some, None, is_some, refl, sym, arith, append_assoc, length-append, ◌<◌}
 use Rattle.std.specs.List.{filter_map}
 use Rattle.ps_resolve.specs.Symbols.{def_in, definition_in, definitions, definition_of, doubled_from}
 use Rattle.ps_resolve.specs.declared.definitions.Def.{Def}

@@ -7,7 +7,7 @@ use Rattle.ps_resolve.specs.Sources.{Segment}
 use Rattle.ps_resolve.specs.Privates.{words_of}
 use Rattle.ps_resolve.specs.References.{Known}
 use Rattle.ps_resolve.specs.Linking.{Edited, edited_from}
-use Rattle.ps_resolve.specs.Plans.{LinkSegments, Origin, origin_of, origin_of_source}
+use Rattle.ps_resolve.specs.Plans.{LinkSegments, origin_of, origin_of_source}
 use Rattle.ps_resolve.specs.declared.plan.Source.{Source}
 
 linked_len : (order : Order) (es : List Edited) (ds : List (List Edit)) → LinkSegments order es ds → length ds ≡ length es

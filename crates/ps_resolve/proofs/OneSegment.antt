@@ -1,6 +1,6 @@
 -- The edits of one segment link it.
-use Rattle.std.proofs.Common.{◌≡◌, ℕ, ◌+◌, ◌-◌, ◌<◌, ◌≤◌, ◌++◌, List, [], ◌∷◌, length, map, Bool, true, false, Option, Some, None, Result, Ok, Err, refl, sym, ◌∙◌, ap, subst, arith}
-use Rattle.std.specs.Prelude.{count_by, All, IsPermutation, if◌then◌else◌}
+use Rattle.std.proofs.Common.{◌≡◌, ℕ, ◌+◌, ◌-◌, ◌≤◌, ◌++◌, List, [], ◌∷◌, length, Bool, true, false, Option, Some, None, Result, Ok, Err, refl, sym, ◌∙◌, ap, subst, arith}
+use Rattle.std.specs.Prelude.{count_by, IsPermutation, if◌then◌else◌}
 use Rattle.std.specs.Option.{option_map, option_to_list}
 use Rattle.std.proofs.lemmas.List.Sorted.{IsPermutation-refl}
 use Rattle.std.proofs.lemmas.List.Elements.{All-nil}
@@ -14,7 +14,7 @@ use Rattle.ps_linkinfo.specs.declared.record.LinkRecord.{LinkRecord as Record}
 use Rattle.ps_resolve.specs.Sources.{Segment, is_linked, is_host}
 use Rattle.ps_resolve.specs.Privates.{words_of}
 use Rattle.ps_resolve.specs.References.{Known, records_edits, records_fault}
-use Rattle.ps_resolve.specs.Linking.{Edited, data_edits, segment_edits}
+use Rattle.ps_resolve.specs.Linking.{data_edits, segment_edits}
 use Rattle.ps_resolve.specs.Faults.{in_segment, segment_fault}
 use Rattle.ps_resolve.specs.Plans.{LinksSegment}
 use Rattle.ps_resolve.specs.Views.{segment_of}

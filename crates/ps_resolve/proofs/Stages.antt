@@ -1,9 +1,8 @@
 -- The first fault of a link's segments, stage by stage.
-use Rattle.std.proofs.Common.{◌≡◌, ℕ, ◌+◌, List, [], ◌∷◌, map, Option, Some, None, refl, sym, ◌∙◌, ap, subst}
+use Rattle.std.proofs.Common.{◌≡◌, ℕ, List, [], map, Option, Some, None, refl, sym, ◌∙◌, ap, subst}
 use Rattle.std.specs.Option.{option_or, option_map, option_map_or}
 use Rattle.ps_words.specs.FaultPlaces.{in_record}
 use Rattle.ps_words.specs.declared.order.Order.{Order}
-use Rattle.ps_words.specs.declared.fault.Fault.{Fault}
 use Rattle.ps_words.specs.declared.fault.Reason.TheVariants as reason
 use Rattle.ps_linkinfo.specs.declared.record.LinkRecord.{LinkRecord as Record}
 use Rattle.ps_resolve.specs.Sources.{Segment, host_of, host_records, units_of}
@@ -17,7 +16,7 @@ use Rattle.ps_resolve.specs.Faults.{definitions_fault, privates_fault, data_faul
 use Rattle.ps_resolve.specs.Plans.{AreStopped}
 use Rattle.ps_resolve.specs.declared.definitions.Def.{Def}
 use Rattle.ps_resolve.specs.declared.linkage.Stop.{Stop}
-use Rattle.ps_resolve.specs.declared.linkage.Stop.TheVariants.{Refused, Memory, NotYet}
+use Rattle.ps_resolve.specs.declared.linkage.Stop.TheVariants.{Refused, Memory}
 
 pub skip : {X : Type 0} (a b : Option X) → a ≡ None → option_or a b ≡ b
 skip None b h = refl
@@ -61,7 +60,6 @@ module _ (order : Order) (segs : List Segment) where
     doubled_stop : (stop : Stop) → IsDoubled 0 h.slot h.records stop → AreStopped order segs stop
     doubled_stop (Refused fault) d = stages ∙ keep _ _ fault (definitions_are ∙ ap (option_map (λ rec. in_record 0 h.slot rec reason.DoubledDefinition)) d.1 ∙ ap Some (sym d.2))
     doubled_stop Memory d = tt
-    doubled_stop NotYet d = absurd d
 
     pub doubled_at : (slot : ℕ) (rs : List Record) (stop : Stop) → slot ≡ h.slot → rs ≡ h.records → IsDoubled 0 slot rs stop → AreStopped order segs stop
     doubled_at slot rs stop s r d = doubled_stop stop (subst (λ (n : ℕ). IsDoubled 0 n h.records stop) s (subst (λ (qs : List Record). IsDoubled 0 slot qs stop) r d))
@@ -73,7 +71,6 @@ module _ (order : Order) (segs : List Segment) where
       unallotted_stop : (stop : Stop) → AreUnallotted (next_of h.records) (map owner_of segs) stop → AreStopped order segs stop
       unallotted_stop (Refused fault) d = behind_definitions ∙ keep _ _ fault (privates_are ∙ d)
       unallotted_stop Memory d = tt
-      unallotted_stop NotYet d = absurd d
 
       pub unallotted_at : (next : ℕ) (owners : List Owner) (stop : Stop) → next ≡ next_of h.records → owners ≡ map owner_of segs → AreUnallotted next owners stop → AreStopped order segs stop
       unallotted_at next owners stop n o d = unallotted_stop stop (subst (λ (m : ℕ). AreUnallotted m (map owner_of segs) stop) n (subst (λ (os : List Owner). AreUnallotted next os stop) o d))
@@ -85,7 +82,6 @@ module _ (order : Order) (segs : List Segment) where
         size_stop : (stop : Stop) → IsOfSize order (total_words segs) h stop → AreStopped order segs stop
         size_stop (Refused fault) d = behind_privates ∙ keep _ _ fault (data_is ∙ d)
         size_stop Memory d = absurd d
-        size_stop NotYet d = absurd d
 
         pub size_at : (words : ℕ) (stop : Stop) → words ≡ total_words segs → IsOfSize order words h stop → AreStopped order segs stop
         size_at words stop w d = size_stop stop (subst (λ (n : ℕ). IsOfSize order n h stop) w d)
@@ -97,7 +93,6 @@ module _ (order : Order) (segs : List Segment) where
           references_stop : (stop : Stop) → AreOfReferences order (known_of segs) (next_of h.records) segs stop → AreStopped order segs stop
           references_stop (Refused fault) d = behind_size ∙ d
           references_stop Memory d = tt
-          references_stop NotYet d = absurd d
 
           pub references_at : (known : Known) (next : ℕ) (stop : Stop) → known ≡ known_of segs → next ≡ next_of h.records → AreOfReferences order known next segs stop → AreStopped order segs stop
           references_at known next stop k n d = references_stop stop (subst (λ (m : ℕ). AreOfReferences order (known_of segs) m segs stop) n (subst (λ (q : Known). AreOfReferences order q next segs stop) k d))

@@ -1,12 +1,11 @@
 -- Walks over records.
-use Rattle.std.proofs.Common.{◌≡◌, ℕ, zero, suc, ◌+◌, ◌*◌, ◌/◌, ◌-◌, ◌<◌, ◌≤◌, ◌^◌, List, [], ◌∷◌, ◌++◌, length, drop, take, Bool, true, false, Option, Some, None, Result, Ok, Err, refl, sym, ◌∙◌, ap, subst, arith, cond, map, if◌then◌else◌}
+use Rattle.std.proofs.Common.{◌≡◌, ℕ, zero, suc, ◌+◌, ◌/◌, ◌≤◌, List, [], ◌∷◌, length, drop, Bool, true, false, Option, Some, None, refl, ap, arith}
 use Rattle.std.specs.List.{filter_map}
 use Rattle.std.specs.Result.{result_ok}
 use Rattle.ps_words.specs.declared.order.Order.{Order}
 use Rattle.ps_words.specs.declared.fault.Reason.{Reason}
 use Rattle.ps_linkinfo.specs.Records.{reading, read_from, record_at, size_of, is_eof, bad}
-use Rattle.ps_linkinfo.specs.Walk.{Walk}
-use Rattle.ps_linkinfo.specs.Left.{items_of, items_at, left, records_left}
+use Rattle.ps_linkinfo.specs.Left.{items_of, items_at, records_left}
 use Rattle.ps_linkinfo.specs.declared.record.LinkRecord.{LinkRecord as Record}
 
 oks_of_items : (rs : List Record) (why : Option Reason) → filter_map result_ok (items_of (rs, why)) ≡ rs

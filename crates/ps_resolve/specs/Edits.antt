@@ -23,19 +23,16 @@ Gives (Err stop) fault = FindsOne (Err stop) fault
 abbrev pub IsOfSegment : ℕ → ℕ → Option (ℕ × (Option ℕ × Reason)) → Stop → Type 0
 IsOfSegment file slot fault (stop.Refused f) = option_map (in_segment file slot) fault ≡ Some f
 IsOfSegment file slot fault stop.Memory = ⊤
-IsOfSegment file slot fault stop.NotYet = ⊥
 
 -- no segment from this one on has a fault of its references, or this is the first, or memory ran out
 abbrev pub AreOfReferences : Order → Known → ℕ → List Segment → Stop → Type 0
 AreOfReferences order known free segs (stop.Refused f) = references_fault_from order known free segs ≡ Some f
 AreOfReferences order known free segs stop.Memory = ⊤
-AreOfReferences order known free segs stop.NotYet = ⊥
 
 -- the host's data size is too large, so this is its fault
 abbrev pub IsOfSize : Order → ℕ → Segment → Stop → Type 0
 IsOfSize order words s (stop.Refused f) = size_fault order words s ≡ Some f
 IsOfSize order words s stop.Memory = ⊥
-IsOfSize order words s stop.NotYet = ⊥
 
 -- an edit of reserved places before the segment's number, so no reference's edit and not the number's covers one of them
 pub record IsOfTable (order : Order) (code : List ℕ) (e : Edit) : Type 0 where

@@ -1,10 +1,9 @@
 -- A plan of a link: where the code of each segment comes from, and the edits that link it.
 -- Source: this project's profile.
-use Rattle.std.specs.Prelude.{◌≡◌, ℕ, ◌+◌, ◌<◌, List, [], ◌∷◌, length, map, Bool, IsPermutation, ⊤, Option, Some, None, Result, Ok, Err}
+use Rattle.std.specs.Prelude.{◌≡◌, ℕ, ◌+◌, ◌<◌, List, [], ◌∷◌, length, map, Bool, IsPermutation, ⊤, Some, None}
 use Rattle.ps_words.specs.Edits.{AreEdits, patched}
 use Rattle.ps_words.specs.declared.order.Order.{Order}
 use Rattle.ps_words.specs.declared.edit.Edit.{Edit}
-use Rattle.ps_words.specs.declared.fault.Fault.{Fault}
 use Rattle.ps_resolve.specs.Sources.{Segment, segments, is_linked, order_of, host_records}
 use Rattle.ps_resolve.specs.Symbols.{definitions}
 use Rattle.ps_resolve.specs.Privates.{owner_of, all_allotted, next_of, total_words}
@@ -14,7 +13,7 @@ use Rattle.ps_resolve.specs.declared.definitions.Def.{Def}
 use Rattle.ps_resolve.specs.declared.allotment.Private.{Private}
 use Rattle.ps_resolve.specs.declared.plan.Source.{Source}
 use Rattle.ps_resolve.specs.declared.linkage.Stop.{Stop}
-use Rattle.ps_resolve.specs.declared.linkage.Stop.TheVariants.{Refused, Memory, NotYet}
+use Rattle.ps_resolve.specs.declared.linkage.Stop.TheVariants.{Refused, Memory}
 
 -- where a segment's code comes from
 pub record Origin : Type 0 where
@@ -74,10 +73,8 @@ IsPlan host libs plan = IsPlanOf (order_of host) host (segments (order_of host) 
 abbrev pub AreStopped : Order → List Segment → Stop → Type 0
 AreStopped order segs (Refused fault) = linking_fault order segs ≡ Some fault
 AreStopped order segs Memory = ⊤
-AreStopped order segs NotYet = ⊥
 
 -- why there is no plan: the first fault of all, or memory ran out where nothing that is looked at before has a fault
 abbrev pub IsStopped : List ℕ → List (List ℕ) → Stop → Type 0
 IsStopped host libs (Refused fault) = first_fault host libs ≡ Some fault
 IsStopped host libs Memory = reading_fault host libs ≡ None
-IsStopped host libs NotYet = ⊥

@@ -1,6 +1,6 @@
 -- Private variables: where each is allotted, behind the host's own data and behind all privates before it, and the first that cannot be.
 -- Source: the end mark's base offset is that of the published II.0 Linker source; the order of allotment is this project's profile.
-use Rattle.std.specs.Prelude.{map, slice_get, unwrap_or, ◌≡◌, ℕ, ◌+◌, ◌<◌, if◌then◌else◌, List, [], ◌∷◌, ◌++◌, length, Bool, nat_lt, Option, Some, None, Result, Ok, Err}
+use Rattle.std.specs.Prelude.{map, slice_get, unwrap_or, ◌≡◌, ℕ, ◌+◌, ◌<◌, if◌then◌else◌, List, [], ◌∷◌, ◌++◌, length, nat_lt, Option, Some, None}
 use Rattle.std.specs.List.{list_any, filter_map}
 use Rattle.std.specs.Str.{bytes_eq}
 use Rattle.std.specs.Option.{option_map, option_or}
@@ -16,7 +16,7 @@ use Rattle.ps_linkinfo.specs.declared.record.Body.TheVariants.{UnitRef, PublRef,
 use Rattle.ps_linkinfo.specs.declared.record.LinkRecord.{LinkRecord as Record}
 use Rattle.ps_resolve.specs.declared.allotment.Private.{Private}
 use Rattle.ps_resolve.specs.declared.linkage.Stop.{Stop}
-use Rattle.ps_resolve.specs.declared.linkage.Stop.TheVariants.{Refused, NotYet, Memory}
+use Rattle.ps_resolve.specs.declared.linkage.Stop.TheVariants.{Refused, Memory}
 
 -- how many words a private of a record takes
 abbrev pub words_in : Body → Option ℕ
@@ -57,7 +57,6 @@ private_fault rec next seen (r ∷ rs) =
 abbrev pub IsUnallotted : ℕ → ℕ → ℕ → List Record → Stop → Type 0
 IsUnallotted file slot next rs (Refused fault) = (found : ℕ × Reason) × (private_fault 0 next [] rs ≡ Some found) × (fault ≡ in_record file slot found.0 found.1)
 IsUnallotted file slot next rs Memory = 0 < length (allotted slot 0 next rs)
-IsUnallotted file slot next rs NotYet = ⊥
 
 -- a segment as far as its privates need it: its slot, the number of the file that it comes from, and its records
 pub record Owner : Type 0 where
@@ -98,7 +97,6 @@ allotment_of next ss = record { privates = all_allotted next ss; words = all_wor
 abbrev pub AreUnallotted : ℕ → List Owner → Stop → Type 0
 AreUnallotted next ss (Refused fault) = first_private_fault next ss ≡ Some fault
 AreUnallotted next ss Memory = 0 < length (all_allotted next ss)
-AreUnallotted next ss NotYet = ⊥
 
 -- the base offset that the end mark of the host's segment gives: the first that is free
 abbrev pub next_in : Body → Option ℕ

@@ -1,6 +1,6 @@
 -- The references of a segment: what their operands become, and the first fault of them.
 -- Source: the link records UNITREF, PUBLREF and PRIVREF are those of the published II.0 Linker source; which fault comes first is this project's profile.
-use Rattle.std.specs.Prelude.{◌≡◌, ℕ, ◌+◌, ◌==◌, ◌&&◌, if◌then◌else◌, List, [], ◌∷◌, ◌++◌, map, Bool, Option, Some, None, Result, Ok, Err, find, ⊤}
+use Rattle.std.specs.Prelude.{◌≡◌, ℕ, ◌+◌, List, [], ◌∷◌, ◌++◌, map, Bool, Option, Some, None, Result, Ok, Err, ⊤}
 use Rattle.std.specs.Option.{option_map, option_or}
 use Rattle.std.specs.Map.{lookup}
 use Rattle.std.specs.Str.{bytes_eq}

@@ -1,6 +1,6 @@
 -- Which segments a linked file has, and where each comes from: the host's own slots, and for a wanted unit the first library that has a filled entry of its name.
 -- Source: this project's profile.
-use Rattle.std.specs.Prelude.{ℕ, ◌+◌, ◌==◌, ◌&&◌, ◌||◌, not, if◌then◌else◌, List, [], ◌∷◌, slice_get, nat_lt, Bool, true, false, Option, Some, None, Result, Ok, Err, unwrap_or, option_and_then}
+use Rattle.std.specs.Prelude.{ℕ, ◌+◌, ◌&&◌, if◌then◌else◌, List, [], ◌∷◌, slice_get, Bool, true, false, Option, Some, None, unwrap_or, option_and_then}
 use Rattle.std.specs.List.{list_any, filter_map, find, enumerate_from}
 use Rattle.std.specs.Option.{option_map, option_map_or}
 use Rattle.std.specs.Result.{result_ok}

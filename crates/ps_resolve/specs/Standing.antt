@@ -1,6 +1,6 @@
 -- Which faults stand, a clause for each number, step by step; their keys, and which is the first of all.
 -- Source: this project's profile.
-use Rattle.std.specs.Prelude.{map, sum_by, nat_lt, ◌==◌, ◌&&◌, ◌||◌, is_some, ◌≡◌, ◌≢◌, ◌⊎◌, ℕ, ◌+◌, ◌-◌, ◌*◌, ◌<◌, ◌≤◌, List, [], ◌∷◌, length, slice_get, slice_index, Bool, true, false, Option, Some, None, Ok, Err, unwrap_or}
+use Rattle.std.specs.Prelude.{map, sum_by, nat_lt, ◌==◌, ◌&&◌, ◌||◌, is_some, ◌≡◌, ◌≢◌, ◌⊎◌, ℕ, ◌+◌, ◌-◌, ◌*◌, ◌<◌, ◌≤◌, List, [], ◌∷◌, length, slice_get, slice_index, Bool, true, Option, Some, None, Ok, Err, unwrap_or}
 use Rattle.std.specs.List.{filter}
 use Rattle.std.specs.Option.{option_map_or}
 use Rattle.ps_codefile.specs.Dictionary.{Zero, Ordered, Mixed, file_order, entry_at, role_of, is_filled, code_of, information_of}

@@ -1,6 +1,6 @@
 -- The segments that the files have, seen as the segments of the link, and what is known of them once the files were read without a fault.
 -- Source: this project's profile.
-use Rattle.std.specs.Prelude.{◌≡◌, ℕ, ◌≤◌, if◌then◌else◌, List, [], length, Bool, true, None}
+use Rattle.std.specs.Prelude.{◌≡◌, ◌≤◌, if◌then◌else◌, [], length, true, None}
 use Rattle.ps_words.specs.declared.order.Order.{Order}
 use Rattle.ps_codefile.specs.Procedures.{tables_fault}
 use Rattle.ps_linkinfo.specs.Records.{reading}

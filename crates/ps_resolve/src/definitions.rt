@@ -143,7 +143,7 @@ impl<A: Allocator + Copy> Definitions<A> {
     pub fn is_empty(&self) -> bool
         ensures { result ≡ (length self.now == 0) }
     {
-        self.by_name.len() == 0
+        self.len() == 0
     }
 
     /// The name and the definition of index `i`, from 0, in the order of the records; `i` is below `len`.

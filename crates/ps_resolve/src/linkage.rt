@@ -22,8 +22,6 @@ pub struct Linkage<'a> {
 pub enum Stop {
     /// The inputs have this fault.
     Refused(Fault),
-    /// What the inputs have is not linked yet.
-    NotYet,
     /// Memory ran out.
     Memory,
 }

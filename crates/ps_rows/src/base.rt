@@ -1,6 +1,8 @@
 //! The base pair: a host that wants one unit, the library that has it, and the file that the two are linked to.
+use crate::code_file::Change::{Bytes, Code, Entry, Records};
 use crate::code_file::{CodeFile, HOST_SEGMENT, LINKED, Slot, UNIT_SEGMENT};
-use crate::information::{Information, Name};
+use crate::information::Record::{End, PrivateReference, PublicDefinition, PublicReference};
+use crate::information::{Name, Record};
 use ps_words::Order;
 use std::alloc::{AllocError, Global};
 
@@ -20,14 +22,15 @@ pub const UTIL_SLOT: u8 = 7;
 
 pub const UTIL_ENTRY: u8 = 2;
 
-/// The lengths of the base files, of the host's code and of the unit's.
+/// The length of the base files and of the file that they are linked to.
 pub const BASE_LENGTH: usize = 1536;
 
+/// The lengths of the host's code and of the unit's.
 pub const DEMO_LENGTH: u16 = 18;
 
 pub const UTIL_LENGTH: u16 = 24;
 
-/// The host's entry.
+/// The entry of the host segment.
 pub const DEMO_ENTRY: Slot = Slot {
     name: DEMO,
     kind: HOST_SEGMENT,
@@ -35,30 +38,46 @@ pub const DEMO_ENTRY: Slot = Slot {
     length: DEMO_LENGTH,
 };
 
-/// The entry of a unit that the host wants.
-pub fn wanted(name: Name) -> Slot {
-    unit(name, 0, 0)
-}
+/// The entry of the unit, whose code the host has not.
+pub const WANTED_UTIL: Slot = Slot {
+    name: UTIL,
+    kind: UNIT_SEGMENT,
+    address: 0,
+    length: 0,
+};
 
-/// The entry of a unit's code.
-pub fn unit(name: Name, address: u16, length: u16) -> Slot {
-    Slot {
-        name,
-        kind: UNIT_SEGMENT,
-        address,
-        length,
-    }
-}
+/// The entry of the unit in the library.
+pub const LIBRARY_UTIL: Slot = Slot {
+    name: UTIL,
+    kind: UNIT_SEGMENT,
+    address: 1,
+    length: UTIL_LENGTH,
+};
 
-/// The entry of a segment that is linked, or that needs no link.
-pub fn linked(name: Name, address: u16, length: u16) -> Slot {
-    Slot {
-        name,
-        kind: LINKED,
-        address,
-        length,
-    }
-}
+/// The entries of the two segments once they are linked.
+pub const LINKED_DEMO: Slot = Slot {
+    name: DEMO,
+    kind: LINKED,
+    address: 1,
+    length: DEMO_LENGTH,
+};
+
+pub const LINKED_UTIL: Slot = Slot {
+    name: UTIL,
+    kind: LINKED,
+    address: 2,
+    length: UTIL_LENGTH,
+};
+
+/// The host's link information: one definition.
+pub const HOST_RECORDS: [Record<'static>; 2] = [PublicDefinition(COUNT, 3), End(8)];
+
+/// The unit's link information: a reference to the host's definition and a private variable.
+pub const LIBRARY_RECORDS: [Record<'static>; 3] = [
+    PublicReference(COUNT, &[1]),
+    PrivateReference(STATE, 4, &[4]),
+    End(0),
+];
 
 /// The host's code, with the attribute table and the procedure dictionary of its one procedure.
 pub fn demo_code(order: Order) -> [u8; 18] {
@@ -86,102 +105,50 @@ pub fn util_code(order: Order, number: u8) -> [u8; 24] {
     }
 }
 
-/// The host's link information: one definition.
-pub fn host_information(alloc: Global, order: Order) -> Result<Information, AllocError> {
-    Information::new(alloc, order)
-        .public_definition(&COUNT, 3)?
-        .end(8)
-}
-
-/// The unit's link information: a reference to the host's definition and a private variable.
-pub fn library_information(alloc: Global, order: Order) -> Result<Information, AllocError> {
-    Information::new(alloc, order)
-        .public_reference(&COUNT, &[1])?
-        .private_reference(&STATE, 4, &[4])?
-        .end(0)
-}
-
-/// A host like the base host, with this link information.
-pub fn host_with(
-    alloc: Global,
-    order: Order,
-    information: &Information,
-) -> Result<CodeFile, AllocError> {
-    Ok(
-        CodeFile::new(alloc, order, BASE_LENGTH)?
-            .slot(DEMO_SLOT, DEMO_ENTRY)
-            .slot(UTIL_SLOT, wanted(UTIL))
-            .byte(300, 0x2A)
-            .block(1, &demo_code(order))
-            .information(2, information),
-    )
-}
-
 /// The base host.
 pub fn base_host(alloc: Global, order: Order) -> Result<CodeFile, AllocError> {
-    host_with(alloc, order, &host_information(alloc, order)?)
-}
-
-/// A library like the base library, with this link information.
-pub fn library_with(
-    alloc: Global,
-    order: Order,
-    information: &Information,
-) -> Result<CodeFile, AllocError> {
-    Ok(
-        CodeFile::new(alloc, order, BASE_LENGTH)?
-            .slot(UTIL_ENTRY, unit(UTIL, 1, UTIL_LENGTH))
-            .block(1, &util_code(order, UTIL_ENTRY))
-            .information(2, information),
-    )
+    let parts = [
+        Entry(DEMO_SLOT, DEMO_ENTRY),
+        Entry(UTIL_SLOT, WANTED_UTIL),
+        Bytes(300, &[0x2A]),
+        Code(1, 0, &demo_code(order)),
+        Records(2, &HOST_RECORDS),
+    ];
+    CodeFile::new(alloc, order, BASE_LENGTH)?.with(alloc, &parts)
 }
 
 /// The base library.
 pub fn base_library(alloc: Global, order: Order) -> Result<CodeFile, AllocError> {
-    library_with(alloc, order, &library_information(alloc, order)?)
+    let parts = [
+        Entry(UTIL_ENTRY, LIBRARY_UTIL),
+        Code(1, 0, &util_code(order, UTIL_ENTRY)),
+        Records(2, &LIBRARY_RECORDS),
+    ];
+    CodeFile::new(alloc, order, BASE_LENGTH)?.with(alloc, &parts)
 }
 
-/// What a host with the base host's dictionary is linked to, where its two segments come out as these codes.
-pub fn linked_file(
-    alloc: Global,
-    order: Order,
-    demo: &[u8],
-    util: &[u8],
-) -> Result<CodeFile, AllocError> {
-    Ok(
-        CodeFile::new(alloc, order, BASE_LENGTH)?
-            .slot(DEMO_SLOT, linked(DEMO, 1, DEMO_LENGTH))
-            .slot(UTIL_SLOT, linked(UTIL, 2, UTIL_LENGTH))
-            .byte(300, 0x2A)
-            .block(1, demo)
-            .block(2, util),
-    )
+/// What a host with the base host's segments is linked to where no operand and no size changes: the two codes stand as they were, but for the unit's segment number.
+pub fn linked_segments(alloc: Global, order: Order) -> Result<CodeFile, AllocError> {
+    let parts = [
+        Entry(DEMO_SLOT, LINKED_DEMO),
+        Entry(UTIL_SLOT, LINKED_UTIL),
+        Bytes(300, &[0x2A]),
+        Code(1, 0, &demo_code(order)),
+        Code(2, 0, &util_code(order, UTIL_SLOT)),
+    ];
+    CodeFile::new(alloc, order, BASE_LENGTH)?.with(alloc, &parts)
 }
 
 /// What the base pair is linked to.
 pub fn linked_base_pair(alloc: Global, order: Order) -> Result<CodeFile, AllocError> {
-    match order {
-        Order::Little => linked_file(
-            alloc,
-            order,
-            &[
-                0xD7, 0xD7, 0xC1, 0, 18, 0, 4, 0, 6, 0, 10, 0, 1, 0, 2, 0, 1, 1,
-            ],
-            &[
-                0xA5, 0x80, 3, 0xAB, 0x80, 10, 0xD7, 0xD7, 0xAD, 0, 0, 0, 0, 0, 6, 0, 16, 0, 1, 0,
-                2, 0, 7, 1,
-            ],
-        ),
-        Order::Big => linked_file(
-            alloc,
-            order,
-            &[
-                0xD7, 0xD7, 0xC1, 0, 0, 18, 0, 4, 0, 6, 0, 10, 1, 0, 0, 2, 1, 1,
-            ],
-            &[
-                0xA5, 0x80, 3, 0xAB, 0x80, 10, 0xD7, 0xD7, 0xAD, 0, 0, 0, 0, 0, 0, 6, 0, 16, 1, 0,
-                0, 2, 7, 1,
-            ],
-        ),
-    }
+    let data_size: [u8; 2] = match order {
+        Order::Little => [18, 0],
+        Order::Big => [0, 18],
+    };
+    let changes = [
+        Code(1, 4, &data_size),
+        Code(2, 1, &[0x80, 3]),
+        Code(2, 4, &[0x80, 10]),
+    ];
+    linked_segments(alloc, order)?.with(alloc, &changes)
 }

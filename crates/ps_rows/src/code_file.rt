@@ -1,24 +1,24 @@
 //! Code files that tests make from their parts.
-use crate::information::{Information, Name, bytes_of};
+use crate::information::{Information, Name, Record, bytes_of};
 use ps_words::Order;
 use std::alloc::{AllocError, Global};
 
 /// The bytes of a block.
-pub const BLOCK: usize = 512;
+const BLOCK: usize = 512;
 
 /// Where the names, the kinds and the tail of a segment dictionary begin.
-pub const NAMES: usize = 64;
+const NAMES: usize = 64;
 
-pub const KINDS: usize = 192;
+const KINDS: usize = 192;
 
 pub const TAIL: usize = 256;
 
-/// The bytes of a slot's pair of address and length, of its name and of its kind.
-pub const PAIR_SIZE: usize = 4;
+/// The bytes of a slot's pair of address and length, of its name and of a word.
+const PAIR_SIZE: usize = 4;
 
-pub const NAME_SIZE: usize = 8;
+const NAME_SIZE: usize = 8;
 
-pub const WORD_SIZE: usize = 2;
+const WORD_SIZE: usize = 2;
 
 /// The kinds of segments that tests name.
 pub const LINKED: u16 = 0;
@@ -36,6 +36,29 @@ pub struct Slot {
     pub length: u16,
 }
 
+/// A change of a code file.
+#[derive(Clone, Copy)]
+pub enum Change<'a> {
+    /// A slot gets this entry.
+    Entry(u8, Slot),
+    /// A slot gets this address.
+    Address(u8, u16),
+    /// A slot gets this length.
+    Length(u8, u16),
+    /// A slot gets this kind.
+    Kind(u8, u16),
+    /// From a place of the file on stand these bytes.
+    Bytes(usize, &'a [u8]),
+    /// From a place of the code on that begins with a block stand these bytes.
+    Code(u16, usize, &'a [u8]),
+    /// At a place of the code that begins with a block stands this word.
+    CodeWord(u16, usize, u16),
+    /// From a block's start on stands this link information.
+    Records(u16, &'a [Record<'a>]),
+    /// The file is cut, or made longer by zeros, to so many bytes.
+    Resized(usize),
+}
+
 /// A code file that is being made: its bytes, and the order of its words.
 #[derive(Drop)]
 pub struct CodeFile {
@@ -46,58 +69,85 @@ pub struct CodeFile {
 impl CodeFile {
     /// A file of so many bytes, all 0 but for the names, which are blank.
     pub fn new(alloc: Global, order: Order, length: usize) -> Result<CodeFile, AllocError> {
-        let bytes = Vec::from_elem(alloc, 0, length)?;
-        let blanks = [b' '; KINDS - NAMES];
-        Ok(CodeFile { order, bytes }.bytes(NAMES, &blanks))
+        let mut file = CodeFile {
+            order,
+            bytes: Vec::from_elem(alloc, 0, length)?,
+        };
+        file.bytes(NAMES, &[b' '; KINDS - NAMES]);
+        Ok(file)
     }
 
-    /// With these bytes from a place on; what would lie past the file's end is left out.
-    pub fn bytes(mut self, place: usize, bytes: &[u8]) -> CodeFile {
-        for (to, from) in self.bytes.iter_mut().skip(place).zip(bytes) {
-            *to = *from;
+    /// With these changes, one after the other; bytes that would lie past the file's end are left out.
+    pub fn with(mut self, alloc: Global, changes: &[Change<'_>]) -> Result<CodeFile, AllocError> {
+        for change in changes {
+            self.change(alloc, change)?;
         }
-        self
-    }
-
-    /// With this byte at a place.
-    pub fn byte(self, place: usize, byte: u8) -> CodeFile {
-        self.bytes(place, &[byte])
-    }
-
-    /// With this word at a place.
-    pub fn word(self, place: usize, word: u16) -> CodeFile {
-        let bytes = bytes_of(self.order, word);
-        self.bytes(place, &bytes)
-    }
-
-    /// With this entry in a slot.
-    pub fn slot(self, slot: u8, entry: Slot) -> CodeFile {
-        let slot = usize::from(slot);
-        let pair = PAIR_SIZE * slot;
-        self.word(pair, entry.address)
-            .word(pair + WORD_SIZE, entry.length)
-            .bytes(NAMES + NAME_SIZE * slot, &entry.name)
-            .word(KINDS + WORD_SIZE * slot, entry.kind)
-    }
-
-    /// With these bytes from a block's start on.
-    pub fn block(self, block: u16, bytes: &[u8]) -> CodeFile {
-        self.bytes(BLOCK * usize::from(block), bytes)
-    }
-
-    /// With this link information from a block's start on.
-    pub fn information(self, block: u16, information: &Information) -> CodeFile {
-        self.block(block, information.as_slice())
-    }
-
-    /// Cut to so many bytes.
-    pub fn cut(mut self, length: usize) -> CodeFile {
-        self.bytes.truncate(length);
-        self
+        Ok(self)
     }
 
     /// The file's bytes.
     pub fn as_slice(&self) -> &[u8] {
         self.bytes.as_slice()
     }
+
+    fn change(&mut self, alloc: Global, change: &Change<'_>) -> Result<(), AllocError> {
+        match *change {
+            Change::Entry(slot, entry) => self.entry(slot, &entry),
+            Change::Address(slot, address) => self.word(pair_at(slot), address),
+            Change::Length(slot, length) => self.word(length_at(slot), length),
+            Change::Kind(slot, kind) => self.word(kind_at(slot), kind),
+            Change::Bytes(place, bytes) => self.bytes(place, bytes),
+            Change::Code(block, place, bytes) => self.bytes(code_at(block, place), bytes),
+            Change::CodeWord(block, place, word) => self.word(code_at(block, place), word),
+            Change::Records(block, records) => {
+                let information = Information::new(alloc, self.order, records)?;
+                self.bytes(code_at(block, 0), information.as_slice());
+            }
+            Change::Resized(length) => self.bytes.resize(length, 0)?,
+        }
+        Ok(())
+    }
+
+    fn entry(&mut self, slot: u8, entry: &Slot) {
+        self.word(pair_at(slot), entry.address);
+        self.word(length_at(slot), entry.length);
+        self.bytes(name_at(slot), &entry.name);
+        self.word(kind_at(slot), entry.kind);
+    }
+
+    fn word(&mut self, place: usize, word: u16) {
+        let bytes = bytes_of(self.order, word);
+        self.bytes(place, &bytes);
+    }
+
+    fn bytes(&mut self, place: usize, bytes: &[u8]) {
+        for (to, from) in self.bytes.iter_mut().skip(place).zip(bytes) {
+            *to = *from;
+        }
+    }
+}
+
+/// Where a slot's address stands.
+fn pair_at(slot: u8) -> usize {
+    PAIR_SIZE * usize::from(slot)
+}
+
+/// Where a slot's length stands.
+fn length_at(slot: u8) -> usize {
+    PAIR_SIZE * usize::from(slot) + WORD_SIZE
+}
+
+/// Where a slot's name stands.
+fn name_at(slot: u8) -> usize {
+    NAMES + NAME_SIZE * usize::from(slot)
+}
+
+/// Where a slot's kind stands.
+fn kind_at(slot: u8) -> usize {
+    KINDS + WORD_SIZE * usize::from(slot)
+}
+
+/// Where a place of the code stands in the file that begins with a block.
+fn code_at(block: u16, place: usize) -> usize {
+    (BLOCK * usize::from(block)).saturating_add(place)
 }

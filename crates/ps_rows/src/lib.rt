@@ -6,5 +6,9 @@ pub mod code_file;
 pub mod in_place;
 pub mod information;
 mod refusing;
+pub mod units;
 
 pub use refusing::Refusing;
+
+#[cfg(test)]
+mod tests;

@@ -1,10 +1,10 @@
-use Rattle.std.proofs.Common.{rules, ◌≡◌, ◌<◌, ◌≤◌, ◌+◌, ◌++◌, ◌∙◌, [], ◌∷◌, ℕ, List, length, length-append, ap, sym, subst, arith, refl}
+use Rattle.std.proofs.Common.{◌≡◌, ◌≤◌, ◌+◌, ◌++◌, ◌∙◌, [], ◌∷◌, ℕ, List, length, length-append, ap, sym, arith, refl}
 use Rattle.std.specs.Prelude.{if◌then◌else◌}
 use Rattle.std.proofs.lemmas.Result.{err_from_is_err_and}
 use Rattle.ps_linkinfo.specs.Records.{reading}
-use Rattle.ps_linkinfo.specs.Left.{left, records_left}
+use Rattle.ps_linkinfo.specs.Left.{records_left}
 use Rattle.ps_linkinfo.specs.declared.record.LinkRecord.{LinkRecord as Record}
-use Rattle.ps_resolve.specs.Privates.{words_in, allotted, words_of, private_fault}
+use Rattle.ps_resolve.specs.Privates.{allotted, words_of, private_fault}
 use Rattle.ps_resolve.specs.declared.allotment.Private.{Private}
 use Rattle.ps_resolve.proofs.Walks.{all_left, few}
 use Rattle.ps_resolve.proofs.Rows.{given_ok}

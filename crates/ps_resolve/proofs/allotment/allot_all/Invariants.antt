@@ -1,4 +1,4 @@
-use Rattle.std.proofs.Common.{◌≡◌, ◌≤◌, ◌+◌, ◌++◌, drop, map, length}
+use Rattle.std.proofs.Common.{◌≡◌, ◌+◌, ◌++◌, drop, map}
 use Rattle.ps_resolve.specs.Privates.{all_allotted, all_words, first_private_fault, owner_of_linkage}
 use Rattle.ps_resolve.proofs.allotment.allot_all.Given as goal
 

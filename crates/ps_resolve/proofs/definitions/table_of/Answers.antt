@@ -1,4 +1,4 @@
-use Rattle.std.proofs.Common.{rules, ◌≡◌, ◌<◌, ◌+◌, ◌∙◌, length, Some, None, List, ℕ, [], ◌∷◌, ◌++◌, ap, sym, refl, arith, rules, subst, Result, Ok}
+use Rattle.std.proofs.Common.{◌≡◌, ◌<◌, ◌+◌, ◌∙◌, length, List, ℕ, [], ◌∷◌, ◌++◌, ap, sym, arith, subst, Result, Ok}
 use Rattle.std.proofs.lemmas.Result.{err_from_is_err_and}
 use Rattle.ps_resolve.specs.declared.definitions.Def.{Def}
 use Rattle.std.specs.List.{filter_map}

@@ -1,11 +1,8 @@
-use Rattle.std.proofs.Common.{◌≡◌, ℕ, ◌+◌, ◌<◌, ◌++◌, ◌∷◌, [], List, length, map, get_or, drop, true, sym, subst, arith, append-nil}
-use Rattle.std.specs.Prelude.{All}
+use Rattle.std.proofs.Common.{◌≡◌, ℕ, ◌+◌, ◌<◌, ◌∷◌, [], List, length, map, get_or, true, arith, append-nil}
 use Rattle.std.proofs.lemmas.List.{get_or_default}
-use Rattle.ps_words.specs.declared.edit.Edit.{Edit}
 use Rattle.ps_words.specs.declared.order.Order.{Order}
 use Rattle.ps_resolve.specs.Edits.{IsOfTable}
 use Rattle.ps_resolve.specs.Linking.{data_edits, edited_from}
-use Rattle.ps_resolve.specs.Plans.{LinkSegments}
 use Rattle.ps_resolve.specs.Privates.{owner_of, all_words}
 use Rattle.ps_resolve.specs.References.{Known}
 use Rattle.ps_resolve.specs.Sources.{Segment, is_host}

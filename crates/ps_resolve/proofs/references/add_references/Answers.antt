@@ -1,7 +1,7 @@
-use Rattle.std.proofs.Common.{rules, ◌≡◌, ℕ, ◌<◌, ◌+◌, ◌++◌, ◌∷◌, ◌∙◌, [], List, Bool, length, map, take, drop, sym, ap, subst, arith, append_assoc, get_or, None}
+use Rattle.std.proofs.Common.{◌≡◌, ℕ, ◌<◌, ◌++◌, ◌∷◌, ◌∙◌, [], List, length, map, take, sym, ap, subst, arith, append_assoc, get_or}
 use Rattle.std.specs.List.{list_any}
 use Rattle.ps_words.specs.declared.edit.Edit.{Edit}
-use Rattle.ps_resolve.specs.Operands.{edit_of, refs_fault, operands, is_in, reference_reason, width_of}
+use Rattle.ps_resolve.specs.Operands.{edit_of, operands, is_in, reference_reason, width_of}
 use Rattle.ps_resolve.specs.Marks.{Marks}
 use Rattle.ps_codefile.specs.Procedures.{is_reserved}
 use Rattle.ps_resolve.proofs.Takes.{map_one, operands_one, fault_one}

@@ -5,11 +5,8 @@ use Rattle.ps_resolve.specs.Sources.{Segment, segments, order_of}
 use Rattle.ps_resolve.specs.Faults.{first_fault, linking_fault}
 use Rattle.ps_resolve.specs.Plans.{AreStopped, IsPlanOf, IsStopped}
 use Rattle.ps_resolve.specs.Views.{segment_of}
-use Rattle.ps_resolve.proofs.FirstFaults.{if_ok, if_err, host_whole, first_read, first_linked, stopped}
+use Rattle.ps_resolve.proofs.FirstFaults.{if_ok, if_err, first_read, first_linked, stopped}
 use Rattle.ps_resolve.proofs.resolving.resolve.Goals as goal
-
-pub link_segments-requires-clause-whole : goal.link_segments-requires-clause-whole
-link_segments-requires-clause-whole g c = host_whole c.args.host.now (map (λ lib. lib.now) c.args.libs.now) c.in-Ok.ensures.faultless
 
 pub returns-in-Err-clause-stop : goal.returns-in-Err-clause-stop
 returns-in-Err-clause-stop g c = first_read c.args.host.now (map (λ lib. lib.now) c.args.libs.now) c.in-Err.fault c.in-Err.ensures.fault

@@ -1,4 +1,3 @@
-use Rattle.std.proofs.Common.{rules}
 use Rattle.ps_resolve.proofs.segments.add_body.Goals as goal
 
 pub returns-in-UnitRef-clause-taken : goal.returns-in-UnitRef-clause-taken

@@ -1,10 +1,9 @@
-use Rattle.std.proofs.Common.{rules, ◌≡◌, ℕ, ◌<◌, ◌+◌, ◌++◌, ◌∷◌, ◌∙◌, [], List, Bool, length, map, sym, ap, subst, arith, None, Some, Ok, Err, refl, true, Option}
+use Rattle.std.proofs.Common.{ℕ, ◌++◌, ◌∙◌, [], List, length, sym, ap, subst, arith, Err, refl, true, Option}
 use Rattle.ps_words.specs.declared.fault.Reason.{Reason}
-use Rattle.std.specs.List.{list_any}
-use Rattle.ps_linkinfo.specs.Records.{reading, refs_of}
-use Rattle.ps_linkinfo.specs.Left.{left, records_left}
+use Rattle.ps_linkinfo.specs.Records.{refs_of}
+use Rattle.ps_linkinfo.specs.Left.{records_left}
 use Rattle.ps_linkinfo.specs.declared.record.LinkRecord.{LinkRecord as Record}
-use Rattle.ps_resolve.specs.Operands.{is_in, operands, refs_fault}
+use Rattle.ps_resolve.specs.Operands.{operands, refs_fault}
 use Rattle.ps_codefile.specs.Procedures.{is_reserved}
 use Rattle.ps_resolve.specs.Privates.{words_of}
 use Rattle.ps_resolve.specs.References.{Known, FindsOne, records_fault, records_edits}

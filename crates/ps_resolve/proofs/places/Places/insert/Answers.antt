@@ -1,5 +1,5 @@
 use Rattle.ps_resolve.proofs.Bits.{added}
-use Rattle.std.proofs.Common.{arith, rules}
+use Rattle.std.proofs.Common.{rules}
 use Rattle.ps_resolve.proofs.places.Places.insert.Goals as goal
 
 pub returns : goal.returns

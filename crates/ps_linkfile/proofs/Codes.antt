@@ -1,0 +1,46 @@
+-- The codes of a plan's sources, one after another.
+use Rattle.std.proofs.Common.{◌≡◌, ℕ, ◌+◌, ◌<◌, List, [], ◌∷◌, ◌++◌, length, drop, Option, Some, None, refl, sym, ◌∙◌, ap, subst, append_assoc}
+use Rattle.std.specs.Io.KnownBytes.{Appends}
+use Rattle.ps_words.specs.declared.order.Order.{Order}
+use Rattle.ps_words.specs.declared.edit.Edit.{Edit}
+use Rattle.ps_resolve.specs.Plans.{Origin}
+use Rattle.ps_linkfile.specs.LinkedFile.{padded}
+use Rattle.ps_linkfile.specs.Writing.{padded_codes, HaveEdits}
+use Rattle.ps_linkfile.specs.Outcomes.{AppendsFront}
+use Rattle.ps_linkfile.proofs.Fronts.{appends_twice, front_more}
+
+-- the codes of the first so many sources were appended
+pub record CodesSoFar (order : Order) (os : List Origin) (ds : List (List Edit)) (count : ℕ) (old new : Option (List ℕ)) (front : List ℕ) : Type 0 where
+  pub left : HaveEdits (drop count os) (drop count ds)
+  pub joined : front ++ padded_codes order (drop count os) (drop count ds) ≡ padded_codes order os ds
+  pub written : Appends old new front
+
+-- a source and its edits
+pub record IsAt (os : List Origin) (ds : List (List Edit)) (count : ℕ) (o : Origin) (d : List Edit) : Type 0 where
+  pub origin : drop count os ≡ o ∷ drop (count + 1) os
+  pub edits : drop count ds ≡ d ∷ drop (count + 1) ds
+
+pub edits_here : (os : List Origin) (ds : List (List Edit)) (count : ℕ) (o : Origin) (d : List Edit) → IsAt os ds count o d → HaveEdits (drop count os) (drop count ds) → HaveEdits (o ∷ drop (count + 1) os) (d ∷ drop (count + 1) ds)
+edits_here os ds count o d at h = subst (λ (es : List (List Edit)). HaveEdits (o ∷ drop (count + 1) os) es) at.edits (subst (λ (ps : List Origin). HaveEdits ps (drop count ds)) at.origin h)
+
+joined_here : (order : Order) (os : List Origin) (ds : List (List Edit)) (count : ℕ) (o : Origin) (d : List Edit) (front : List ℕ) → IsAt os ds count o d
+    → front ++ padded_codes order (drop count os) (drop count ds) ≡ padded_codes order os ds
+    → front ++ (padded order o.code d ++ padded_codes order (drop (count + 1) os) (drop (count + 1) ds)) ≡ padded_codes order os ds
+joined_here order os ds count o d front at h =
+    subst (λ (es : List (List Edit)). front ++ padded_codes order (o ∷ drop (count + 1) os) es ≡ padded_codes order os ds) at.edits
+    (subst (λ (ps : List Origin). front ++ padded_codes order ps (drop count ds) ≡ padded_codes order os ds) at.origin h)
+
+-- one code more
+pub codes_more : (order : Order) (os : List Origin) (ds : List (List Edit)) (count : ℕ) (a b c : Option (List ℕ)) (front : List ℕ) (o : Origin) (d : List Edit)
+    → IsAt os ds count o d → CodesSoFar order os ds count a b front → Appends b c (padded order o.code d) → CodesSoFar order os ds (count + 1) a c (front ++ padded order o.code d)
+codes_more order os ds count a b c front o d at h k = record {
+  left = (edits_here os ds count o d at h.left).1;
+  joined = append_assoc front (padded order o.code d) (padded_codes order (drop (count + 1) os) (drop (count + 1) ds)) ∙ joined_here order os ds count o d front at h.joined;
+  written = appends_twice a b c front (padded order o.code d) h.written k;
+}
+
+-- a front of one code more
+pub codes_front : (order : Order) (os : List Origin) (ds : List (List Edit)) (count : ℕ) (a b c : Option (List ℕ)) (front : List ℕ) (o : Origin) (d : List Edit)
+    → IsAt os ds count o d → CodesSoFar order os ds count a b front → AppendsFront b c (padded order o.code d) → AppendsFront a c (padded_codes order os ds)
+codes_front order os ds count a b c front o d at h k =
+    front_more a b c front (padded order o.code d) (padded_codes order (drop (count + 1) os) (drop (count + 1) ds)) (padded_codes order os ds) (joined_here order os ds count o d front at h.joined) h.written k

@@ -1,0 +1,190 @@
+-- The sixteen pairs of a segment dictionary, byte by byte.
+use Rattle.std.proofs.Common.{◌≡◌, ◌≢◌, ℕ, zero, suc, ◌+◌, ◌-◌, ◌*◌, ◌/◌, ◌%◌, ◌≤◌, ◌<◌, ◌==◌, Bool, List, [], ◌∷◌, ◌++◌, length, get_or, drop, replicate, Option, Some, None, refl, sym, ◌∙◌, ap, subst, inl, inr, arith, length-append}
+use Rattle.std.specs.Prelude.{◌⊎◌}
+use Rattle.std.specs.List.{flat_map, range_with_len, find}
+use Rattle.std.specs.Option.{option_map_or}
+use Rattle.std.proofs.lemmas.Bool.{cases_lt}
+use Rattle.std.proofs.lemmas.List.{get_or-replicate, length-replicate, get_or_append_left, get_or-append_right, ext_get_or, drop_all}
+use Rattle.ps_words.specs.Words.{word_bytes, blocks}
+use Rattle.ps_words.specs.declared.order.Order.{Order}
+use Rattle.ps_words.specs.declared.order.Order.TheVariants.{Little, Big}
+use Rattle.ps_codefile.specs.Dictionary.{slots}
+use Rattle.ps_linkfile.specs.LinkedFile.{Extent, block_of, pair_of, all_pairs}
+use Rattle.ps_linkfile.specs.Writing.{Ascend}
+use Rattle.ps_linkfile.proofs.Extents.{Left, left_start, left_more, first_pair, no_pair}
+
+-- place j of what f gives of the s-th number, where it gives four bytes of each
+pub four_at : (f : ℕ → List ℕ) → ((s : ℕ) → length (f s) ≡ 4) → (n a s j : ℕ) → s < n → j < 4 → get_or (flat_map f (range_with_len a n)) (4 * s + j) 0 ≡ get_or (f (a + s)) j 0
+four_at f h zero a s j k l = absurd (omega arith)
+four_at f h (suc n) a zero j k l =
+    let len : length (f a) ≡ 4 = h a in
+    let at : 4 * zero + j ≡ j = omega arith in
+    let is : a ≡ a + zero = omega arith in
+    ap (λ i. get_or (f a ++ flat_map f (range_with_len (a + 1) n)) i 0) at
+    ∙ (get_or_append_left (f a) (flat_map f (range_with_len (a + 1) n)) 0 j (omega arith) ∙ ap (λ i. get_or (f i) j 0) is)
+four_at f h (suc n) a (suc s) j k l =
+    let rest = flat_map f (range_with_len (a + 1) n) in
+    let at : 4 * suc s + j - 4 ≡ 4 * s + j = omega arith in
+    let is : a + 1 + s ≡ a + suc s = omega arith in
+    get_or-append_right (f a) rest 4 (4 * suc s + j) 0 (h a) (omega arith)
+    ∙ (ap (λ i. get_or rest i 0) at ∙ (four_at f h n (a + 1) s j (omega arith) l ∙ ap (λ i. get_or (f i) j 0) is))
+
+pub four_each : (f : ℕ → List ℕ) → ((s : ℕ) → length (f s) ≡ 4) → (n a : ℕ) → length (flat_map f (range_with_len a n)) ≡ 4 * n
+four_each f h zero a = omega arith
+four_each f h (suc n) a =
+    let rest = four_each f h n (a + 1) in
+    length-append (f a) (flat_map f (range_with_len (a + 1) n)) ∙ omega (arith, h a, rest)
+
+word_two : (order : Order) (v : ℕ) → length (word_bytes order v) ≡ 2
+word_two Little v = refl
+word_two Big v = refl
+
+pub pair_four : (order : Order) (all : List Extent) (slot : ℕ) → length (pair_of order all slot) ≡ 4
+pair_four order all slot = at (find (λ (c : Extent). c.slot == slot) all)
+  where
+    at : (o : Option Extent) → length (option_map_or (λ c. word_bytes order (block_of all slot) ++ word_bytes order c.size) o (0 ∷ 0 ∷ 0 ∷ 0 ∷ [])) ≡ 4
+    at None = refl
+    at (Some c) = length-append (word_bytes order (block_of all slot)) (word_bytes order c.size) ∙ omega (arith, word_two order (block_of all slot), word_two order c.size)
+
+-- the sixteen pairs, slot by slot and byte by byte
+pub pairs_at : (order : Order) (all : List Extent) (slot j : ℕ) → slot < 16 → j < 4 → get_or (flat_map (pair_of order all) slots) (4 * slot + j) 0 ≡ get_or (pair_of order all slot) j 0
+pairs_at order all slot j k l =
+    let is : 0 + slot ≡ slot = omega arith in
+    four_at (pair_of order all) (pair_four order all) 16 0 slot j k l ∙ ap (λ s. get_or (pair_of order all s) j 0) is
+
+pub pairs_len : (order : Order) (all : List Extent) → length (flat_map (pair_of order all) slots) ≡ 64
+pairs_len order all = four_each (pair_of order all) (pair_four order all) 16 0
+
+pub pairs_are : (order : Order) (all : List Extent) (xs : List ℕ) → length xs ≡ 64 → ((slot j : ℕ) → slot < 16 → j < 4 → get_or xs (4 * slot + j) 0 ≡ get_or (pair_of order all slot) j 0) → xs ≡ flat_map (pair_of order all) slots
+pairs_are order all xs len h =
+    ext_get_or 0 xs (flat_map (pair_of order all) slots) (len ∙ sym (pairs_len order all))
+    (λ i lt.
+    let parts : 4 * (i / 4) + i % 4 ≡ i = omega arith in
+    let slot : i / 4 < 16 = omega arith in
+    let within : i % 4 < 4 = omega arith in
+    subst (λ (k : ℕ). get_or xs k 0 ≡ get_or (flat_map (pair_of order all) slots) k 0) parts
+    (h (i / 4) (i % 4) slot within ∙ sym (pairs_at order all (i / 4) (i % 4) slot within)))
+
+-- what storing a word leaves
+pub record IsPut (order : Order) (old new : List ℕ) (place v : ℕ) : Type 0 where
+  pub first : get_or new place 0 ≡ get_or (word_bytes order v) 0 0
+  pub second : get_or new (place + 1) 0 ≡ get_or (word_bytes order v) 1 0
+  pub others : (p : ℕ) → p ≢ place → p ≢ place + 1 → get_or new p 0 ≡ get_or old p 0
+  pub size : length new ≡ length old
+
+-- the bytes of two words one after another
+low_first : (order : Order) (a b : ℕ) → get_or (word_bytes order a) 0 0 ≡ get_or (word_bytes order a ++ word_bytes order b) 0 0
+low_first Little a b = refl
+low_first Big a b = refl
+
+low_second : (order : Order) (a b : ℕ) → get_or (word_bytes order a) 1 0 ≡ get_or (word_bytes order a ++ word_bytes order b) 1 0
+low_second Little a b = refl
+low_second Big a b = refl
+
+high_first : (order : Order) (a b : ℕ) → get_or (word_bytes order b) 0 0 ≡ get_or (word_bytes order a ++ word_bytes order b) 2 0
+high_first Little a b = refl
+high_first Big a b = refl
+
+high_second : (order : Order) (a b : ℕ) → get_or (word_bytes order b) 1 0 ≡ get_or (word_bytes order a ++ word_bytes order b) 3 0
+high_second Little a b = refl
+high_second Big a b = refl
+
+-- a pair is two words
+pair_put : (order : Order) (old mid new : List ℕ) (pair a b j : ℕ) → IsPut order old mid pair a → IsPut order mid new (pair + 2) b → j < 4 → get_or new (pair + j) 0 ≡ get_or (word_bytes order a ++ word_bytes order b) j 0
+pair_put order old mid new pair a b zero h k lt =
+    let at : pair + zero ≡ pair = omega arith in
+    ap (λ i. get_or new i 0) at ∙ (k.others pair (omega arith) (omega arith) ∙ (h.first ∙ low_first order a b))
+pair_put order old mid new pair a b (suc zero) h k lt =
+    k.others (pair + 1) (omega arith) (omega arith) ∙ (h.second ∙ low_second order a b)
+pair_put order old mid new pair a b (suc (suc zero)) h k lt =
+    k.first ∙ high_first order a b
+pair_put order old mid new pair a b (suc (suc (suc zero))) h k lt =
+    let at : pair + 3 ≡ pair + 2 + 1 = omega arith in
+    ap (λ i. get_or new i 0) at ∙ (k.second ∙ high_second order a b)
+pair_put order old mid new pair a b (suc (suc (suc (suc j)))) h k lt = absurd (omega arith)
+
+abbrev four_zeros : List ℕ
+four_zeros = 0 ∷ 0 ∷ 0 ∷ 0 ∷ []
+
+zeros_at : (j : ℕ) → get_or four_zeros j 0 ≡ 0
+zeros_at zero = refl
+zeros_at (suc zero) = refl
+zeros_at (suc (suc zero)) = refl
+zeros_at (suc (suc (suc zero))) = refl
+zeros_at (suc (suc (suc (suc j)))) = refl
+
+-- the pairs of the first so many codes are stored, and the rest are zeros
+pub record PairsSoFar (order : Order) (all : List Extent) (count : ℕ) (pairs : List ℕ) (block from : ℕ) : Type 0 where
+  pub size : length pairs ≡ 64
+  pub left : Left all from block (drop count all)
+  pub few : count ≤ from
+  pub small : block ≤ 1 + 64 * count
+  pub stored : (slot j : ℕ) → slot < from → j < 4 → get_or pairs (4 * slot + j) 0 ≡ get_or (pair_of order all slot) j 0
+  pub empty : (slot j : ℕ) → from ≤ slot → slot < 16 → j < 4 → get_or pairs (4 * slot + j) 0 ≡ 0
+
+-- none is stored
+pub pairs_none : (order : Order) (all : List Extent) → Ascend 0 all → PairsSoFar order all 0 (replicate 64 0) 1 0
+pairs_none order all h = record {
+  size = length-replicate {A = ℕ} 64 0;
+  left = left_start all h;
+  few = omega arith;
+  small = omega arith;
+  stored = λ slot j lt l. absurd (omega arith);
+  empty = λ slot j le lt l. get_or-replicate {A = ℕ} 64 (4 * slot + j) 0 0 (omega arith);
+}
+
+-- the next code, its slot and the block that it begins in
+pub next_slot : (order : Order) (all : List Extent) (count : ℕ) (pairs : List ℕ) (block from : ℕ) (c : Extent) → drop count all ≡ c ∷ drop (count + 1) all → PairsSoFar order all count pairs block from → (c.slot < 16) × (block < 65536)
+next_slot order all count pairs block from c is h =
+    let here : Left all from block (c ∷ drop (count + 1) all) = subst (λ (cs : List Extent). Left all from block cs) is h.left in
+    let low : from ≤ c.slot = here.ascend.0 in
+    let high : c.slot < 16 = here.ascend.1 in
+    let few = h.few in
+    let small = h.small in
+    (high, omega arith)
+
+-- the pair of one code more
+pub pairs_more : (order : Order) (all : List Extent) (count : ℕ) (old mid new : List ℕ) (block from : ℕ) (c : Extent)
+    → drop count all ≡ c ∷ drop (count + 1) all → c.size ≤ 32767 → PairsSoFar order all count old block from
+    → IsPut order old mid (4 * c.slot) block → IsPut order mid new (4 * c.slot + 2) c.size
+    → PairsSoFar order all (count + 1) new (block + blocks c.size) (c.slot + 1)
+pairs_more order all count old mid new block from c is small h first second =
+    let rest = drop (count + 1) all in
+    let here : Left all from block (c ∷ rest) = subst (λ (cs : List Extent). Left all from block cs) is h.left in
+    let low : from ≤ c.slot = here.ascend.0 in
+    let same : (slot j : ℕ) → slot ≢ c.slot → j < 4 → get_or new (4 * slot + j) 0 ≡ get_or old (4 * slot + j) 0 = λ slot j ne lt.
+    second.others (4 * slot + j) (omega arith) (omega arith) ∙ first.others (4 * slot + j) (omega arith) (omega arith) in
+    record {
+      size = second.size ∙ (first.size ∙ h.size);
+      left = left_more all from block c rest here;
+      few = omega (arith, h.few);
+      small = omega (arith, h.small);
+      stored = λ slot j lt l.
+          elim (cases_lt slot c.slot) [
+            | inl below ↦ same slot j (omega arith) l ∙ elim (cases_lt slot from) [
+              | inl before ↦ h.stored slot j before l
+              | inr behind ↦ h.empty slot j behind (omega (arith, here.ascend.1)) l ∙ sym (ap (λ (bs : List ℕ). get_or bs j 0) (no_pair order all from block (c ∷ rest) c.slot slot here (omega arith, here.ascend.1, here.ascend.2) behind below) ∙ zeros_at j)
+            ]
+            | inr above ↦
+                let it : slot ≡ c.slot = omega arith in
+                subst (λ (s : ℕ). get_or new (4 * s + j) 0 ≡ get_or (pair_of order all s) j 0) (sym it)
+                (pair_put order old mid new (4 * c.slot) block c.size j first second l ∙ sym (ap (λ (bs : List ℕ). get_or bs j 0) (first_pair order all from block c rest here)))
+          ];
+      empty = λ slot j le lt l. same slot j (omega arith) l ∙ h.empty slot j (omega arith) lt l;
+    }
+
+-- all pairs
+pub pairs_done : (order : Order) (all : List Extent) (pairs : List ℕ) (block from : ℕ) → PairsSoFar order all (length all) pairs block from → pairs ≡ all_pairs order all
+unfolding all_pairs
+pairs_done order all pairs block from h =
+    pairs_are order all pairs h.size (λ slot j k l.
+    elim (cases_lt slot from) [
+      | inl below ↦ h.stored slot j below l
+      | inr behind ↦ h.empty slot j behind k l ∙ sym (ap (λ (bs : List ℕ). get_or bs j 0) (ends slot behind) ∙ zeros_at j)
+    ])
+  where
+    none_left : drop (length all) all ≡ []
+    none_left = drop_all (length all) all (omega arith)
+
+    ends : (slot : ℕ) → from ≤ slot → pair_of order all slot ≡ 0 ∷ 0 ∷ 0 ∷ 0 ∷ []
+    ends slot behind = no_pair order all from block (drop (length all) all) (slot + 1) slot h.left (subst (λ (cs : List Extent). Ascend (slot + 1) cs) (sym none_left) tt) behind (omega arith)

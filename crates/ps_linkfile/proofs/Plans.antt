@@ -1,0 +1,112 @@
+-- A plan of a link can be written, and its file is the linked file.
+use Rattle.std.proofs.Common.{◌≡◌, ℕ, ◌+◌, ◌*◌, ◌≤◌, ◌<◌, List, [], ◌∷◌, ◌++◌, length, map, Bool, true, false, cond, refl, sym, ◌∙◌, ap, subst, arith}
+use Rattle.std.proofs.lemmas.List.{length-map}
+use Rattle.std.specs.Prelude.{All, nat_lt}
+use Rattle.std.specs.List.{range_with_len, flat_map}
+use Rattle.std.proofs.lemmas.Bool.{ltb-true}
+use Rattle.ps_words.specs.Words.{blocks}
+use Rattle.ps_words.specs.Edits.{patched, AreEdits}
+use Rattle.ps_words.specs.declared.order.Order.{Order}
+use Rattle.ps_words.specs.declared.edit.Edit.{Edit}
+use Rattle.ps_codefile.specs.Dictionary.{block_len, max_code_len}
+use Rattle.ps_resolve.specs.Sources.{Segment, segments, order_of, host_records}
+use Rattle.ps_resolve.specs.Privates.{words_of, next_of, total_words}
+use Rattle.ps_resolve.specs.References.{Known}
+use Rattle.ps_resolve.specs.Linking.{Edited, edited, edited_from, known_of, linked_byte, segment_edits}
+use Rattle.ps_resolve.specs.Plans.{Planned, Origin, origin_of, LinkSegments, IsPlan}
+use Rattle.ps_patch.specs.Patched.{patched_or_zero}
+use Rattle.ps_linkfile.specs.declared.summary.Summary.{Summary}
+use Rattle.ps_linkfile.specs.LinkedFile.{Extent, extent_of, extents, all_blocks, linked_segments, dictionary, padded, padded_segment, linked_file, summary_of}
+use Rattle.ps_linkfile.specs.Writing.{extent_of_origin, extents_of, padded_codes, file_of, summary_in, Ascend, HaveEdits, IsReady}
+use Rattle.ps_linkfile.proofs.Slots.{extent_at, segments_ascend, segments_small}
+
+-- extents of segments, of segments with their edits, and of a plan's origins
+of_origins : (ss : List Segment) → map extent_of_origin (map origin_of ss) ≡ map extent_at ss
+of_origins [] = refl
+of_origins (s ∷ ss) = ap (λ (cs : List Extent). extent_at s ∷ cs) (of_origins ss)
+
+of_edited : (order : Order) (known : Known) (words free : ℕ) (ss : List Segment) → map extent_of (edited_from order known words free ss) ≡ map extent_at ss
+of_edited order known words free [] = refl
+of_edited order known words free (s ∷ ss) = ap (λ (cs : List Extent). extent_at s ∷ cs) (of_edited order known words (free + words_of s.records) ss)
+
+pub extents_are : (host : List ℕ) (libs : List (List ℕ)) → extents host libs ≡ map extent_at (segments (order_of host) host libs)
+extents_are host libs =
+    let order = order_of host in
+    let ss = segments order host libs in
+    of_edited order (known_of ss) (total_words ss) (next_of (host_records ss)) ss
+
+pub extents_ascend : (host : List ℕ) (libs : List (List ℕ)) → Ascend 0 (extents host libs)
+extents_ascend host libs = subst (λ (cs : List Extent). Ascend 0 cs) (sym (extents_are host libs)) (segments_ascend (order_of host) host libs)
+
+-- each source has its own edits
+have_edits : (order : Order) (known : Known) (words free : ℕ) (ss : List Segment) (ds : List (List Edit)) → LinkSegments order (edited_from order known words free ss) ds → HaveEdits (map origin_of ss) ds
+have_edits order known words free [] [] h = tt
+have_edits order known words free [] (d ∷ ds) h = absurd h
+have_edits order known words free (s ∷ ss) [] h = absurd h
+have_edits order known words free (s ∷ ss) (d ∷ ds) h = (h.0.ready, have_edits order known words (free + words_of s.records) ss ds h.1)
+
+-- codes that are patched alike are padded alike
+map_alike : (f g : ℕ → ℕ) → ((p : ℕ) → f p ≡ g p) → (xs : List ℕ) → map f xs ≡ map g xs
+map_alike f g h [] = refl
+map_alike f g h (x ∷ xs) = ap (λ y. y ∷ map f xs) (h x) ∙ ap (λ (ys : List ℕ). g x ∷ ys) (map_alike f g h xs)
+
+tested : (b : Bool) (x y : ℕ) → (b ≡ true → x ≡ y) → cond b x 0 ≡ cond b y 0
+tested true x y h = h refl
+tested false x y h = refl
+
+padded_alike : (order : Order) (code : List ℕ) (d e : List Edit) → ((p : ℕ) → p < length code → patched order code d p ≡ patched order code e p) → padded order code d ≡ padded order code e
+padded_alike order code d e h =
+    map_alike (patched_or_zero order code d) (patched_or_zero order code e)
+    (λ p. tested (nat_lt p (length code)) (patched order code d p) (patched order code e p) (λ within. h p (ltb-true p (length code) within)))
+    (range_with_len 0 (512 * blocks (length code)))
+
+codes_are : (order : Order) (known : Known) (words free : ℕ) (ss : List Segment) (ds : List (List Edit)) → LinkSegments order (edited_from order known words free ss) ds → padded_codes order (map origin_of ss) ds ≡ flat_map (padded_segment order) (edited_from order known words free ss)
+codes_are order known words free [] [] h = refl
+codes_are order known words free [] (d ∷ ds) h = absurd h
+codes_are order known words free (s ∷ ss) [] h = absurd h
+codes_are order known words free (s ∷ ss) (d ∷ ds) h =
+    ap (λ (bs : List ℕ). bs ++ padded_codes order (map origin_of ss) ds) (padded_alike order s.code d (segment_edits order known words free s) h.0.bytes)
+    ∙ ap (λ (bs : List ℕ). padded order s.code (segment_edits order known words free s) ++ bs) (codes_are order known words (free + words_of s.records) ss ds h.1)
+
+-- of a plan of a link
+pub plan_extents : (host : List ℕ) (libs : List (List ℕ)) (plan : Planned) → IsPlan host libs plan → extents_of plan ≡ extents host libs
+plan_extents host libs plan h =
+    ap (λ (os : List Origin). map extent_of_origin os) h.origins ∙ (of_origins (segments (order_of host) host libs) ∙ sym (extents_are host libs))
+
+plan_codes : (host : List ℕ) (libs : List (List ℕ)) (plan : Planned) → IsPlan host libs plan → padded_codes plan.order plan.origins plan.edits ≡ flat_map (padded_segment (order_of host)) (linked_segments host libs)
+plan_codes host libs plan h =
+    let order = order_of host in
+    let ss = segments order host libs in
+    ap (λ (o : Order). padded_codes o plan.origins plan.edits) h.order
+    ∙ (ap (λ (os : List Origin). padded_codes order os plan.edits) h.origins
+    ∙ codes_are order (known_of ss) (total_words ss) (next_of (host_records ss)) ss plan.edits h.edits)
+
+pub plan_file : (host : List ℕ) (libs : List (List ℕ)) (plan : Planned) → IsPlan host libs plan → file_of plan ≡ linked_file host libs
+plan_file host libs plan h =
+    let codes = padded_codes plan.order plan.origins plan.edits in
+    ap (λ (o : Order). dictionary o plan.host (extents_of plan) ++ codes) h.order
+    ∙ (ap (λ (bytes : List ℕ). dictionary (order_of host) bytes (extents_of plan) ++ codes) h.of_host
+    ∙ (ap (λ (cs : List Extent). dictionary (order_of host) host cs ++ codes) (plan_extents host libs plan h)
+    ∙ ap (λ (bs : List ℕ). dictionary (order_of host) host (extents host libs) ++ bs) (plan_codes host libs plan h)))
+
+pub plan_ready : (host : List ℕ) (libs : List (List ℕ)) (plan : Planned) → IsPlan host libs plan → block_len ≤ length plan.host → IsReady plan
+plan_ready host libs plan h long =
+    let order = order_of host in
+    let ss = segments order host libs in
+    let is : extents_of plan ≡ map extent_at ss = plan_extents host libs plan h ∙ extents_are host libs in
+    record {
+      host = long;
+      slots = subst (λ (cs : List Extent). Ascend 0 cs) (sym is) (segments_ascend order host libs);
+      sizes = subst (λ (cs : List Extent). All (λ c. c.size ≤ max_code_len) cs) (sym is) (segments_small order host libs);
+      edits = subst (λ (os : List Origin). HaveEdits os plan.edits) (sym h.origins) (have_edits order (known_of ss) (total_words ss) (next_of (host_records ss)) ss plan.edits h.edits);
+    }
+
+pub plan_summary : (host : List ℕ) (libs : List (List ℕ)) (plan : Planned) → IsPlan host libs plan → summary_in plan ≡ summary_of host libs
+plan_summary host libs plan h =
+    let words = total_words (segments (order_of host) host libs) in
+    let made : ℕ → ℕ → ℕ → Summary = λ n w b. record { segments = n; private_words = w; blocks = b } in
+    let count : length plan.origins ≡ length (extents host libs) = sym (length-map plan.origins extent_of_origin) ∙ ap (λ (cs : List Extent). length cs) (plan_extents host libs plan h) in
+    let sum_is : 1 + all_blocks (extents_of plan) ≡ 1 + all_blocks (extents host libs) = ap (λ (cs : List Extent). 1 + all_blocks cs) (plan_extents host libs plan h) in
+    ap (λ n. made n plan.private_words (1 + all_blocks (extents_of plan))) count
+    ∙ (ap (λ w. made (length (extents host libs)) w (1 + all_blocks (extents_of plan))) h.private_words
+    ∙ ap (λ b. made (length (extents host libs)) words b) sum_is)

@@ -1,0 +1,371 @@
+-- The linked file is one list: where its facts stand, each byte is that of the list.
+use Rattle.std.proofs.Common.{◌≡◌, ℕ, ◌+◌, ◌-◌, ◌*◌, ◌/◌, ◌≤◌, ◌<◌, List, [], ◌∷◌, ◌++◌, length, map, get_or, take, drop, replicate, Option, Some, None, Bool, true, false, cond, refl, sym, ◌∙◌, ap, subst, inl, inr, arith, append_assoc, length-append, length-take, length-drop}
+use Rattle.std.specs.Prelude.{All, nat_lt, slice_range}
+use Rattle.std.specs.List.{range_with_len, flat_map}
+use Rattle.std.specs.Option.{option_or, option_map}
+use Rattle.std.proofs.lemmas.Bool.{cases_lt, ltb-false, le-ltb}
+use Rattle.std.proofs.lemmas.Bool.Decides.{nat_tests}
+use Rattle.std.proofs.lemmas.List.{append-nil, get_or-take, get_or-drop, get_or_append_left, get_or-append-add, get_or-replicate, length-replicate, take-append-drop, drop-drop, drop_all, take_at, drop_at, ext_get_or}
+use Rattle.std.proofs.lemmas.List.FromFn.{length-map-range_with_len, get_or-map-range_with_len}
+use Rattle.std.proofs.lemmas.List.Elements.{All-nil, All-cons, All-head, All-tail}
+use Rattle.ps_words.specs.Words.{blocks}
+use Rattle.ps_words.specs.declared.order.Order.{Order}
+use Rattle.ps_words.specs.declared.fault.Fault.{Fault}
+use Rattle.ps_words.specs.declared.fault.Reason.{Reason}
+use Rattle.ps_words.specs.declared.fault.Reason.TheVariants as reason
+use Rattle.ps_words.specs.FaultPlaces.{in_file}
+use Rattle.ps_codefile.specs.Dictionary.{slots, file_order}
+use Rattle.ps_resolve.specs.Sources.{order_of}
+use Rattle.ps_resolve.specs.Linking.{Edited, linked_byte}
+use Rattle.ps_resolve.specs.Faults.{first_fault, reading_fault, host_fault, order_reason}
+use Rattle.ps_patch.specs.Patched.{patched_or_zero}
+use Rattle.ps_linkfile.specs.LinkedFile.{Extent, all_blocks, block_of, pair_of, linked_segments, extent_of, extents, LinkedFile, all_pairs, dictionary, padded_segment, linked_file}
+use Rattle.ps_linkfile.specs.Writing.{Ascend}
+use Rattle.ps_linkfile.proofs.Extents.{Left, left_start, left_more, first_block, all_blocks-cons}
+use Rattle.ps_linkfile.proofs.Pairs.{pair_four, pairs_at, pairs_len, pairs_are}
+use Rattle.ps_linkfile.proofs.Fronts.{image_is}
+use Rattle.ps_linkfile.proofs.Plans.{extents_ascend}
+
+-- a part of a list, by its places
+part_at : (xs ys : List ℕ) (a b j : ℕ) → slice_range xs a b ≡ ys → j < b - a → get_or xs (a + j) 0 ≡ get_or ys j 0
+part_at xs ys a b j h lt =
+    sym (get_or-take (b - a) (drop a xs) j 0 lt ∙ get_or-drop a xs j 0) ∙ ap (λ (zs : List ℕ). get_or zs j 0) h
+
+pub part_len : (xs : List ℕ) (a b : ℕ) → b ≤ length xs → length (slice_range xs a b) ≡ b - a
+part_len xs a b h = length-take (b - a) (drop a xs) ∙ omega (arith, length-drop a xs)
+
+part_is : (xs ys : List ℕ) (a b : ℕ) → length ys ≡ b - a → b ≤ length xs → ((j : ℕ) → j < b - a → get_or xs (a + j) 0 ≡ get_or ys j 0) → slice_range xs a b ≡ ys
+part_is xs ys a b len le h =
+    ext_get_or 0 (slice_range xs a b) ys (part_len xs a b le ∙ sym len)
+    (λ j lt. let within : j < b - a = omega (arith, part_len xs a b le) in get_or-take (b - a) (drop a xs) j 0 within ∙ (get_or-drop a xs j 0 ∙ h j within))
+
+-- the part behind so many
+behind : (xs ys : List ℕ) (n j : ℕ) → length xs ≡ n → get_or (xs ++ ys) (n + j) 0 ≡ get_or ys j 0
+behind xs ys n j len = ap (λ k. get_or (xs ++ ys) (k + j) 0) (sym len) ∙ get_or-append-add xs ys j 0
+
+-- Each code stands at its block, with zeros behind it; the first of these begins in this block.
+abbrev pub Laid : Order → List ℕ → ℕ → List Edited → Type 0
+Laid order file block [] = Unit {0}
+Laid order file block (e ∷ es) =
+    ((p : ℕ) → p < 512 * blocks (length e.segment.code) → get_or file (512 * block + p) 0 ≡ patched_or_zero order e.segment.code e.edits p)
+    × Laid order file (block + blocks (length e.segment.code)) es
+
+abbrev HasCode : Order → List ℕ → List Extent → Edited → Type 0
+HasCode order file all e = (p : ℕ) → p < length e.segment.code → get_or file (512 * block_of all e.segment.slot + p) 0 ≡ linked_byte order e p
+
+abbrev HasPadding : List ℕ → List Extent → Edited → Type 0
+HasPadding file all e = (p : ℕ) → length e.segment.code ≤ p → p < 512 * blocks (length e.segment.code) → get_or file (512 * block_of all e.segment.slot + p) 0 ≡ 0
+
+inside : (order : Order) (e : Edited) (p : ℕ) → p < length e.segment.code → patched_or_zero order e.segment.code e.edits p ≡ linked_byte order e p
+inside order e p lt = let yes : nat_lt p (length e.segment.code) ≡ true = grind (arith, nat_tests) in rw yes
+
+past : (order : Order) (e : Edited) (p : ℕ) → length e.segment.code ≤ p → patched_or_zero order e.segment.code e.edits p ≡ 0
+past order e p le = let no : nat_lt p (length e.segment.code) ≡ false = le-ltb p (length e.segment.code) le in rw no
+
+to_laid : (order : Order) (file : List ℕ) (all : List Extent) (from block : ℕ) (es : List Edited) → Left all from block (map extent_of es) → All (HasCode order file all) es → All (HasPadding file all) es → Laid order file block es
+to_laid order file all from block [] h codes zeros = tt
+to_laid order file all from block (e ∷ es) h codes zeros =
+    let at : block_of all e.segment.slot ≡ block = first_block all from block (extent_of e) (map extent_of es) h in
+    let code = All-head (HasCode order file all) e es codes in
+    let zero = All-head (HasPadding file all) e es zeros in (
+      (λ p lt.
+          ap (λ b. get_or file (512 * b + p) 0) (sym at)
+          ∙ elim (cases_lt p (length e.segment.code)) [
+            | inl within ↦ code p within ∙ sym (inside order e p within)
+            | inr beyond ↦ zero p beyond lt ∙ sym (past order e p beyond)
+          ]),
+      to_laid order file all (e.segment.slot + 1) (block + blocks (length e.segment.code)) es
+          (left_more all from block (extent_of e) (map extent_of es) h)
+          (All-tail (HasCode order file all) e es codes) (All-tail (HasPadding file all) e es zeros),
+    )
+
+laid_codes : (order : Order) (file : List ℕ) (all : List Extent) (from block : ℕ) (es : List Edited) → Left all from block (map extent_of es) → Laid order file block es → All (HasCode order file all) es
+laid_codes order file all from block [] h laid = All-nil (HasCode order file all)
+laid_codes order file all from block (e ∷ es) h laid =
+    let at : block_of all e.segment.slot ≡ block = first_block all from block (extent_of e) (map extent_of es) h in
+    All-cons (HasCode order file all) e es
+    (λ p within. ap (λ b. get_or file (512 * b + p) 0) at ∙ (laid.0 p (omega arith) ∙ inside order e p within))
+    (laid_codes order file all (e.segment.slot + 1) (block + blocks (length e.segment.code)) es (left_more all from block (extent_of e) (map extent_of es) h) laid.1)
+
+laid_padding : (order : Order) (file : List ℕ) (all : List Extent) (from block : ℕ) (es : List Edited) → Left all from block (map extent_of es) → Laid order file block es → All (HasPadding file all) es
+laid_padding order file all from block [] h laid = All-nil (HasPadding file all)
+laid_padding order file all from block (e ∷ es) h laid =
+    let at : block_of all e.segment.slot ≡ block = first_block all from block (extent_of e) (map extent_of es) h in
+    All-cons (HasPadding file all) e es
+    (λ p beyond lt. ap (λ b. get_or file (512 * b + p) 0) at ∙ (laid.0 p lt ∙ past order e p beyond))
+    (laid_padding order file all (e.segment.slot + 1) (block + blocks (length e.segment.code)) es (left_more all from block (extent_of e) (map extent_of es) h) laid.1)
+
+padded_len : (order : Order) (e : Edited) → length (padded_segment order e) ≡ 512 * blocks (length e.segment.code)
+padded_len order e = length-map-range_with_len (patched_or_zero order e.segment.code e.edits) 0 (512 * blocks (length e.segment.code))
+
+padded_at : (order : Order) (e : Edited) (p : ℕ) → p < 512 * blocks (length e.segment.code) → get_or (padded_segment order e) p 0 ≡ patched_or_zero order e.segment.code e.edits p
+padded_at order e p lt = get_or-map-range_with_len (patched_or_zero order e.segment.code e.edits) 0 (512 * blocks (length e.segment.code)) p p 0 lt (omega arith)
+
+codes_len : (order : Order) (es : List Edited) → length (flat_map (padded_segment order) es) ≡ 512 * all_blocks (map extent_of es)
+codes_len order [] = omega arith
+codes_len order (e ∷ es) =
+    length-append (padded_segment order e) (flat_map (padded_segment order) es)
+    ∙ omega (arith, padded_len order e, codes_len order es, all_blocks-cons (extent_of e) (map extent_of es))
+
+-- what stands behind a block is the codes
+laid_is : (order : Order) (file : List ℕ) (block : ℕ) (es : List Edited) → length file ≡ 512 * (block + all_blocks (map extent_of es)) → Laid order file block es → drop (512 * block) file ≡ flat_map (padded_segment order) es
+laid_is order file block [] len laid = drop_all (512 * block) file (omega (arith, len))
+laid_is order file block (e ∷ es) len laid =
+    let n = blocks (length e.segment.code) in
+    let f = patched_or_zero order e.segment.code e.edits in
+    let rest = drop (512 * block) file in
+    let blocks_are : all_blocks (extent_of e ∷ map extent_of es) ≡ n + all_blocks (map extent_of es) = all_blocks-cons (extent_of e) (map extent_of es) in
+    let room : length rest ≡ 512 * (n + all_blocks (map extent_of es)) = length-drop (512 * block) file ∙ omega (arith, len, blocks_are) in
+    let first : take (512 * n) rest ≡ padded_segment order e =
+    image_is f 0 (512 * n) (take (512 * n) rest) (length-take (512 * n) rest ∙ omega (arith, room))
+    (λ k lt. let at : k ≡ 0 + k = omega arith in get_or-take (512 * n) rest k 0 lt ∙ (get_or-drop (512 * block) file k 0 ∙ (laid.0 k lt ∙ ap f at))) in
+    let behind_it : drop (512 * n) rest ≡ drop (512 * (block + n)) file =
+    drop-drop (512 * n) (512 * block) file ∙ ap (λ k. drop k file) (let e : 512 * block + 512 * n ≡ 512 * (block + n) = omega arith in e) in
+    let others : drop (512 * (block + n)) file ≡ flat_map (padded_segment order) es = laid_is order file (block + n) es (omega (arith, len, blocks_are)) laid.1 in
+    sym (take-append-drop (512 * n) rest)
+    ∙ (ap (λ (xs : List ℕ). xs ++ drop (512 * n) rest) first ∙ ap (λ (xs : List ℕ). padded_segment order e ++ xs) (behind_it ∙ others))
+
+-- the codes stand where they are put
+codes_laid : (order : Order) (front : List ℕ) (block : ℕ) (es : List Edited) → length front ≡ 512 * block → Laid order (front ++ flat_map (padded_segment order) es) block es
+codes_laid order front block [] len = tt
+codes_laid order front block (e ∷ es) len =
+    let n = blocks (length e.segment.code) in
+    let code = padded_segment order e in
+    let rest = flat_map (padded_segment order) es in
+    let joined : (front ++ code) ++ rest ≡ front ++ (code ++ rest) = append_assoc front code rest in (
+      (λ p lt. behind front (code ++ rest) (512 * block) p len ∙ (get_or_append_left code rest 0 p (omega (arith, padded_len order e)) ∙ padded_at order e p lt)),
+      subst (λ (file : List ℕ). Laid order file (block + n) es) joined
+          (codes_laid order (front ++ code) (block + n) es (length-append front code ∙ omega (arith, len, padded_len order e))),
+    )
+
+-- a host whose first fault is none has its dictionary whole
+none_first : {X : Type 0} (a b : Option X) → option_or a b ≡ None → a ≡ None
+none_first None b h = refl
+none_first (Some x) b h = cc
+
+whole_test : (short : Bool) (why : Option Reason) → option_map (in_file 0) (cond short (Some reason.ShortFile) why) ≡ None → short ≡ false
+whole_test true why h = cc
+whole_test false why h = refl
+
+whole_host : (host : List ℕ) → host_fault host ≡ None → 512 ≤ length host
+whole_host host h = ltb-false (length host) 512 (whole_test (nat_lt (length host) 512) (order_reason (file_order host)) h)
+
+host_first : (host : List ℕ) (libs : List (List ℕ)) → reading_fault host libs ≡ None → host_fault host ≡ None
+unfolding reading_fault
+host_first host libs h = none_first (host_fault host) _ h
+
+reading_first : (host : List ℕ) (libs : List (List ℕ)) → first_fault host libs ≡ None → reading_fault host libs ≡ None
+unfolding first_fault
+reading_first host libs h = none_first (reading_fault host libs) _ h
+
+pub long_host : (host : List ℕ) (libs : List (List ℕ)) → first_fault host libs ≡ None → 512 ≤ length host
+long_host host libs h = whole_host host (host_first host libs (reading_first host libs h))
+
+-- a file that begins with a dictionary: its parts
+record Parts (pairs names tail codes file : List ℕ) : Type 0 where
+  whole : file ≡ (pairs ++ (names ++ (replicate 64 0 ++ tail))) ++ codes
+  pairs_len : length pairs ≡ 64
+  names_len : length names ≡ 128
+  tail_len : length tail ≡ 256
+
+flat_parts : (a b c d e : List ℕ) → (a ++ (b ++ (c ++ d))) ++ e ≡ a ++ (b ++ (c ++ (d ++ e)))
+flat_parts a b c d e = simp append_assoc
+
+record PartsAt (pairs names tail codes file : List ℕ) : Type 0 where
+  in_pairs : (j : ℕ) → j < 64 → get_or file j 0 ≡ get_or pairs j 0
+  in_names : (j : ℕ) → j < 128 → get_or file (64 + j) 0 ≡ get_or names j 0
+  in_zeros : (j : ℕ) → j < 64 → get_or file (192 + j) 0 ≡ 0
+  in_tail : (j : ℕ) → j < 256 → get_or file (256 + j) 0 ≡ get_or tail j 0
+
+parts_at : (pairs names tail codes file : List ℕ) → Parts pairs names tail codes file → PartsAt pairs names tail codes file
+parts_at pairs names tail codes file h =
+    let zeros : List ℕ = replicate 64 0 in
+    let flat : file ≡ pairs ++ (names ++ (zeros ++ (tail ++ codes))) = h.whole ∙ flat_parts pairs names zeros tail codes in
+    let zeros_len : length zeros ≡ 64 = length-replicate {A = ℕ} 64 0 in
+    let at : (i : ℕ) → get_or file i 0 ≡ get_or (pairs ++ (names ++ (zeros ++ (tail ++ codes)))) i 0 = λ i. ap (λ (xs : List ℕ). get_or xs i 0) flat in
+    let named : (j : ℕ) → get_or file (64 + j) 0 ≡ get_or (names ++ (zeros ++ (tail ++ codes))) j 0 = λ j. at (64 + j) ∙ behind pairs _ 64 j h.pairs_len in
+    let zeroed : (j : ℕ) → get_or file (192 + j) 0 ≡ get_or (zeros ++ (tail ++ codes)) j 0 = λ j.
+    ap (λ i. get_or file i 0) (let e : 192 + j ≡ 64 + (128 + j) = omega arith in e) ∙ (named (128 + j) ∙ behind names _ 128 j h.names_len) in
+    record {
+      in_pairs = λ j lt. at j ∙ get_or_append_left pairs (names ++ (zeros ++ (tail ++ codes))) 0 j (omega (arith, h.pairs_len));
+      in_names = λ j lt. named j ∙ get_or_append_left names (zeros ++ (tail ++ codes)) 0 j (omega (arith, h.names_len));
+      in_zeros = λ j lt. zeroed j ∙ (get_or_append_left zeros (tail ++ codes) 0 j (omega (arith, zeros_len)) ∙ get_or-replicate {A = ℕ} 64 j 0 0 lt);
+      in_tail = λ j lt.
+          ap (λ i. get_or file i 0) (let e : 256 + j ≡ 192 + (64 + j) = omega arith in e) ∙ (zeroed (64 + j) ∙ (behind zeros _ 64 j zeros_len ∙ get_or_append_left tail codes 0 j (omega (arith, h.tail_len))));
+    }
+
+-- the parts of a dictionary that were stored in a block of zeros, one after another
+pub stored_parts : (z d1 d2 d3 pairs names mid tail : List ℕ) → length z ≡ 512 → slice_range z 192 256 ≡ mid → length pairs ≡ 64 → length names ≡ 128 → length tail ≡ 256
+    → d1 ≡ take 0 z ++ (pairs ++ drop (0 + length pairs) z) → d2 ≡ take 64 d1 ++ (names ++ drop (64 + length names) d1) → d3 ≡ take 256 d2 ++ (tail ++ drop (256 + length tail) d2)
+    → d3 ≡ pairs ++ (names ++ (mid ++ tail))
+stored_parts z d1 d2 d3 pairs names mid tail lz hm lp ln lt h1 h2 h3 =
+    let at1 : 0 + length pairs ≡ 64 = omega (arith, lp) in
+    let first : d1 ≡ pairs ++ drop 64 z = h1 ∙ ap (λ n. pairs ++ drop n z) at1 in
+    let front1 : take 64 d1 ≡ pairs = ap (λ (xs : List ℕ). take 64 xs) first ∙ take_at pairs (drop 64 z) 64 lp in
+    let rest1 : drop (64 + length names) d1 ≡ drop 192 z =
+    ap (λ n. drop (64 + n) d1) ln
+    ∙ (ap (λ (xs : List ℕ). drop (64 + 128) xs) first
+    ∙ (sym (drop-drop 128 64 (pairs ++ drop 64 z)) ∙ (ap (λ (xs : List ℕ). drop 128 xs) (drop_at pairs (drop 64 z) 64 lp) ∙ drop-drop 128 64 z))) in
+    let second : d2 ≡ pairs ++ (names ++ drop 192 z) =
+    h2 ∙ (ap (λ (xs : List ℕ). xs ++ (names ++ drop (64 + length names) d1)) front1 ∙ ap (λ (xs : List ℕ). pairs ++ (names ++ xs)) rest1) in
+    let parted : drop 192 z ≡ mid ++ drop 256 z =
+    sym (take-append-drop 64 (drop 192 z)) ∙ (ap (λ (xs : List ℕ). xs ++ drop 64 (drop 192 z)) hm ∙ ap (λ (xs : List ℕ). mid ++ xs) (drop-drop 64 192 z)) in
+    let third : d2 ≡ (pairs ++ (names ++ mid)) ++ drop 256 z =
+    second ∙ (ap (λ (xs : List ℕ). pairs ++ (names ++ xs)) parted ∙ regrouped pairs names mid (drop 256 z)) in
+    let mid_len : length mid ≡ 64 = ap (λ (xs : List ℕ). length xs) (sym hm) ∙ (length-take 64 (drop 192 z) ∙ omega (arith, length-drop 192 z, lz)) in
+    let front_len : length (pairs ++ (names ++ mid)) ≡ 256 = length-append pairs (names ++ mid) ∙ omega (arith, length-append names mid, lp, ln, mid_len) in
+    let front2 : take 256 d2 ≡ pairs ++ (names ++ mid) = ap (λ (xs : List ℕ). take 256 xs) third ∙ take_at (pairs ++ (names ++ mid)) (drop 256 z) 256 front_len in
+    let whole_len : length d2 ≡ 512 = ap (λ (xs : List ℕ). length xs) third ∙ (length-append (pairs ++ (names ++ mid)) (drop 256 z) ∙ omega (arith, front_len, length-drop 256 z, lz)) in
+    let rest2 : drop (256 + length tail) d2 ≡ [] = drop_all (256 + length tail) d2 (omega (arith, whole_len, lt)) in
+    h3 ∙ (ap (λ (xs : List ℕ). xs ++ (tail ++ drop (256 + length tail) d2)) front2
+    ∙ (ap (λ (xs : List ℕ). (pairs ++ (names ++ mid)) ++ (tail ++ xs)) rest2
+    ∙ (ap (λ (xs : List ℕ). (pairs ++ (names ++ mid)) ++ xs) (append-nil tail) ∙ sym (regrouped pairs names mid tail))))
+  where
+    regrouped : (a b c d : List ℕ) → a ++ (b ++ (c ++ d)) ≡ (a ++ (b ++ c)) ++ d
+    regrouped a b c d = simp append_assoc
+
+pub all_pairs_len : (order : Order) (all : List Extent) → length (all_pairs order all) ≡ 64
+unfolding all_pairs
+all_pairs_len order all = pairs_len order all
+
+-- so they are the dictionary
+pub dictionary_is : (order : Order) (host : List ℕ) (all : List Extent) (d pairs names tail : List ℕ) → d ≡ pairs ++ (names ++ (replicate 64 0 ++ tail)) → pairs ≡ all_pairs order all → names ≡ slice_range host 64 192 → tail ≡ slice_range host 256 512 → d ≡ dictionary order host all
+unfolding dictionary
+dictionary_is order host all d pairs names tail h p n t =
+    h ∙ (ap (λ (xs : List ℕ). xs ++ (names ++ (replicate 64 0 ++ tail))) p
+    ∙ (ap (λ (xs : List ℕ). all_pairs order all ++ (xs ++ (replicate 64 0 ++ tail))) n
+    ∙ ap (λ (xs : List ℕ). all_pairs order all ++ (slice_range host 64 192 ++ (replicate 64 0 ++ xs))) t))
+
+-- the facts of a linked file, of any codes
+pub record IsFile (order : Order) (host : List ℕ) (all : List Extent) (es : List Edited) (file : List ℕ) : Type 0 where
+  pub size : length file ≡ 512 * (1 + all_blocks all)
+  pub pairs : (slot : ℕ) → slot < 16 → slice_range file (4 * slot) (4 * slot + 4) ≡ pair_of order all slot
+  pub names : slice_range file 64 192 ≡ slice_range host 64 192
+  pub zeros : (p : ℕ) → 192 ≤ p → p < 256 → get_or file p 0 ≡ 0
+  pub tail : slice_range file 256 512 ≡ slice_range host 256 512
+  pub codes : All (HasCode order file all) es
+  pub padding : All (HasPadding file all) es
+
+-- a pair, in the sixteen pairs
+pair_part : (order : Order) (all : List Extent) (file : List ℕ) → 512 ≤ length file → ((j : ℕ) → j < 64 → get_or file j 0 ≡ get_or (flat_map (pair_of order all) slots) j 0) → (slot : ℕ) → slot < 16 → slice_range file (4 * slot) (4 * slot + 4) ≡ pair_of order all slot
+pair_part order all file long h slot lt =
+    let width : 4 * slot + 4 - 4 * slot ≡ 4 = omega arith in
+    part_is file (pair_of order all slot) (4 * slot) (4 * slot + 4) (pair_four order all slot ∙ sym width) (omega arith)
+    (λ j l. let within : j < 4 = omega arith in h (4 * slot + j) (omega arith) ∙ pairs_at order all slot j lt within)
+
+sixteen : (order : Order) (all : List Extent) (file : List ℕ) → 512 ≤ length file → ((slot : ℕ) → slot < 16 → slice_range file (4 * slot) (4 * slot + 4) ≡ pair_of order all slot) → slice_range file 0 64 ≡ flat_map (pair_of order all) slots
+sixteen order all file long h =
+    pairs_are order all (slice_range file 0 64) (part_len file 0 64 (omega arith))
+    (λ slot j lt l.
+    let first : slice_range file 0 64 ≡ slice_range file 0 64 = refl in
+    let at : 0 + (4 * slot + j) ≡ 4 * slot + j = omega arith in
+    let within : 4 * slot + j < 64 - 0 = omega arith in
+    let width : j < 4 * slot + 4 - 4 * slot = omega arith in
+    sym (part_at file (slice_range file 0 64) 0 64 (4 * slot + j) first within)
+    ∙ (ap (λ i. get_or file i 0) at ∙ part_at file (pair_of order all slot) (4 * slot) (4 * slot + 4) j (h slot lt) width))
+
+zeros_part : (file : List ℕ) → 512 ≤ length file → ((p : ℕ) → 192 ≤ p → p < 256 → get_or file p 0 ≡ 0) → slice_range file 192 256 ≡ replicate 64 0
+zeros_part file long h =
+    part_is file (replicate 64 0) 192 256 (length-replicate {A = ℕ} 64 0) (omega arith)
+    (λ j l. h (192 + j) (omega arith) (omega arith) ∙ sym (get_or-replicate {A = ℕ} 64 j 0 0 l))
+
+zero_at : (file : List ℕ) → ((j : ℕ) → j < 64 → get_or file (192 + j) 0 ≡ 0) → (p : ℕ) → 192 ≤ p → p < 256 → get_or file p 0 ≡ 0
+zero_at file h p le lt =
+    let at : 192 + (p - 192) ≡ p = omega arith in
+    let within : p - 192 < 64 = omega arith in
+    subst (λ (k : ℕ). get_or file k 0 ≡ 0) at (h (p - 192) within)
+
+head_len : (pairs names tail : List ℕ) → length pairs ≡ 64 → length names ≡ 128 → length tail ≡ 256 → length (pairs ++ (names ++ (replicate 64 0 ++ tail))) ≡ 512
+head_len pairs names tail a b c =
+    let zeros : length (replicate 64 0 ++ tail) ≡ 64 + length tail = length-append (replicate 64 0) tail ∙ ap (λ n. n + length tail) (length-replicate {A = ℕ} 64 0) in
+    let middle : length (names ++ (replicate 64 0 ++ tail)) ≡ length names + length (replicate 64 0 ++ tail) = length-append names (replicate 64 0 ++ tail) in
+    let whole : length (pairs ++ (names ++ (replicate 64 0 ++ tail))) ≡ length pairs + length (names ++ (replicate 64 0 ++ tail)) = length-append pairs (names ++ (replicate 64 0 ++ tail)) in
+    omega arith
+
+whole_size : (head codes : List ℕ) (n : ℕ) → length head ≡ 512 → length codes ≡ 512 * n → length (head ++ codes) ≡ 512 * (1 + n)
+whole_size head codes n h k = length-append head codes ∙ omega (arith, h, k)
+
+-- the list has these facts
+pub file_there : (order : Order) (host : List ℕ) (all : List Extent) (es : List Edited) → map extent_of es ≡ all → Ascend 0 all → 512 ≤ length host → IsFile order host all es (dictionary order host all ++ flat_map (padded_segment order) es)
+unfolding dictionary all_pairs
+file_there order host all es is ascend long = made (flat_map (pair_of order all) slots) (slice_range host 64 192) (slice_range host 256 512) (flat_map (padded_segment order) es) refl refl refl refl
+  where
+    left : Left all 0 1 (map extent_of es)
+    left = subst (λ (cs : List Extent). Left all 0 1 cs) (sym is) (left_start all ascend)
+
+    made : (pairs names tail codes : List ℕ) → pairs ≡ flat_map (pair_of order all) slots → names ≡ slice_range host 64 192 → tail ≡ slice_range host 256 512 → codes ≡ flat_map (padded_segment order) es → IsFile order host all es ((pairs ++ (names ++ (replicate 64 0 ++ tail))) ++ codes)
+    made pairs names tail codes p n t c =
+        let file = (pairs ++ (names ++ (replicate 64 0 ++ tail))) ++ codes in
+        let pairs_64 : length pairs ≡ 64 = ap (λ (xs : List ℕ). length xs) p ∙ pairs_len order all in
+        let names_128 : length names ≡ 128 = ap (λ (xs : List ℕ). length xs) n ∙ part_len host 64 192 (omega (arith, long)) in
+        let tail_256 : length tail ≡ 256 = ap (λ (xs : List ℕ). length xs) t ∙ part_len host 256 512 (omega (arith, long)) in
+        let codes_are : length codes ≡ 512 * all_blocks all = ap (λ (xs : List ℕ). length xs) c ∙ (codes_len order es ∙ ap (λ (cs : List Extent). 512 * all_blocks cs) is) in
+        let front : length (pairs ++ (names ++ (replicate 64 0 ++ tail))) ≡ 512 = head_len pairs names tail pairs_64 names_128 tail_256 in
+        let size : length file ≡ 512 * (1 + all_blocks all) = whole_size (pairs ++ (names ++ (replicate 64 0 ++ tail))) codes (all_blocks all) front codes_are in
+        let room : 512 ≤ length file = room_of (length file) (all_blocks all) size in
+        let at = parts_at pairs names tail codes file (record { whole = refl; pairs_len = pairs_64; names_len = names_128; tail_len = tail_256 }) in
+        let laid : Laid order file 1 es = subst (λ (xs : List ℕ). Laid order ((pairs ++ (names ++ (replicate 64 0 ++ tail))) ++ xs) 1 es) (sym c) (codes_laid order (pairs ++ (names ++ (replicate 64 0 ++ tail))) 1 es front) in
+        record {
+          size = size;
+          pairs = pair_part order all file room (λ j l. at.in_pairs j l ∙ ap (λ (xs : List ℕ). get_or xs j 0) p);
+          names = part_is file names 64 192 names_128 (names_room (length file) room) at.in_names ∙ n;
+          zeros = zero_at file at.in_zeros;
+          tail = part_is file tail 256 512 tail_256 room at.in_tail ∙ t;
+          codes = laid_codes order file all 0 1 es left laid;
+          padding = laid_padding order file all 0 1 es left laid;
+        }
+      where
+        room_of : (n b : ℕ) → n ≡ 512 * (1 + b) → 512 ≤ n
+        room_of n b h = omega arith
+
+        names_room : (n : ℕ) → 512 ≤ n → 192 ≤ n
+        names_room n h = omega arith
+
+-- a list is its parts
+cut : (xs : List ℕ) (a b : ℕ) → a ≤ b → drop a xs ≡ slice_range xs a b ++ drop b xs
+cut xs a b le =
+    let end : a + (b - a) ≡ b = omega arith in
+    sym (take-append-drop (b - a) (drop a xs))
+    ∙ ap (λ (ys : List ℕ). slice_range xs a b ++ ys) (drop-drop (b - a) a xs ∙ ap (λ k. drop k xs) end)
+
+joined : (file pairs names zeros tail codes : List ℕ) → slice_range file 0 64 ≡ pairs → slice_range file 64 192 ≡ names → slice_range file 192 256 ≡ zeros → slice_range file 256 512 ≡ tail → drop 512 file ≡ codes → file ≡ (pairs ++ (names ++ (zeros ++ tail))) ++ codes
+joined file pairs names zeros tail codes p n z t c =
+    let last : drop 256 file ≡ tail ++ codes = cut file 256 512 (omega arith) ∙ (ap (λ (xs : List ℕ). xs ++ drop 512 file) t ∙ ap (λ (xs : List ℕ). tail ++ xs) c) in
+    let third : drop 192 file ≡ zeros ++ (tail ++ codes) = cut file 192 256 (omega arith) ∙ (ap (λ (xs : List ℕ). xs ++ drop 256 file) z ∙ ap (λ (xs : List ℕ). zeros ++ xs) last) in
+    let second : drop 64 file ≡ names ++ (zeros ++ (tail ++ codes)) = cut file 64 192 (omega arith) ∙ (ap (λ (xs : List ℕ). xs ++ drop 192 file) n ∙ ap (λ (xs : List ℕ). names ++ xs) third) in
+    let first : drop 0 file ≡ pairs ++ (names ++ (zeros ++ (tail ++ codes))) = cut file 0 64 (omega arith) ∙ (ap (λ (xs : List ℕ). xs ++ drop 64 file) p ∙ ap (λ (xs : List ℕ). pairs ++ xs) second) in
+    first ∙ sym (flat_parts pairs names zeros tail codes)
+
+-- no other list has them
+pub file_one : (order : Order) (host : List ℕ) (all : List Extent) (es : List Edited) (file : List ℕ) → map extent_of es ≡ all → Ascend 0 all → IsFile order host all es file → file ≡ dictionary order host all ++ flat_map (padded_segment order) es
+unfolding dictionary all_pairs
+file_one order host all es file is ascend h =
+    let left : Left all 0 1 (map extent_of es) = subst (λ (cs : List Extent). Left all 0 1 cs) (sym is) (left_start all ascend) in
+    let laid : Laid order file 1 es = to_laid order file all 0 1 es left h.codes h.padding in
+    let size : length file ≡ 512 * (1 + all_blocks (map extent_of es)) = h.size ∙ ap (λ (cs : List Extent). 512 * (1 + all_blocks cs)) (sym is) in
+    let room : 512 ≤ length file = room_of (length file) (all_blocks all) h.size in
+    joined file (flat_map (pair_of order all) slots) (slice_range host 64 192) (replicate 64 0) (slice_range host 256 512) (flat_map (padded_segment order) es)
+    (sixteen order all file room h.pairs) h.names (zeros_part file room h.zeros) h.tail (laid_is order file 1 es size laid)
+  where
+    room_of : (n b : ℕ) → n ≡ 512 * (1 + b) → 512 ≤ n
+    room_of n b h = omega arith
+
+-- the linked file of a host and its libraries
+pub there : (host : List ℕ) (libs : List (List ℕ)) → first_fault host libs ≡ None → LinkedFile host libs (linked_file host libs)
+there host libs none =
+    let h = file_there (order_of host) host (extents host libs) (linked_segments host libs) refl (extents_ascend host libs) (long_host host libs none) in
+    record {
+      accepted = none;
+      size = h.size;
+      pairs = h.pairs;
+      names = h.names;
+      kinds_and_texts = h.zeros;
+      tail = h.tail;
+      codes = h.codes;
+      padding = h.padding;
+    }
+
+pub one : (host : List ℕ) (libs : List (List ℕ)) (file : List ℕ) → LinkedFile host libs file → file ≡ linked_file host libs
+one host libs file h =
+    file_one (order_of host) host (extents host libs) (linked_segments host libs) file refl (extents_ascend host libs)
+    (record { size = h.size; pairs = h.pairs; names = h.names; zeros = h.kinds_and_texts; tail = h.tail; codes = h.codes; padding = h.padding })

@@ -1,0 +1,9 @@
+use Rattle.std.proofs.Common.{ℕ, length, map}
+use Rattle.ps_resolve.specs.Plans.{origin_of_source}
+use Rattle.ps_linkfile.specs.Writing.{extent_of_origin}
+use Rattle.ps_linkfile.proofs.Pairs.{PairsSoFar}
+use Rattle.ps_linkfile.proofs.dictionary.pairs_of.Given as goal
+
+-- the pairs of the sources so far are stored
+abbrev pub invariant-loop-source : goal.invariant-loop-source
+invariant-loop-source l = (from : ℕ) × PairsSoFar l.order (map (λ s. extent_of_origin (origin_of_source s)) l.sources) l.source-index l.pairs l.block from

@@ -1,0 +1,20 @@
+use Rattle.std.proofs.Common.{◌≡◌, ◌≤◌, List, ℕ, length, map, sym, subst}
+use Rattle.ps_linkfile.specs.LinkedFile.{LinkedFile}
+use Rattle.ps_linkfile.proofs.Plans.{plan_ready, plan_file, plan_summary}
+use Rattle.ps_linkfile.proofs.Whole.{there, long_host}
+use Rattle.ps_linkfile.proofs.linked.prepare.Goals as goal
+
+pub invariant_of-result : goal.invariant_of-result
+invariant_of-result g c =
+    let plan = c.in_ok-plan.ensures.plan in
+    plan_ready _ _ c.in_ok-plan.plan plan (subst (λ (bytes : List ℕ). 512 ≤ length bytes) (sym plan.of_host) (long_host _ _ c.in_ok-plan.ensures.sound))
+
+pub returns-clause-linked : goal.returns-clause-linked
+returns-clause-linked g c =
+    let host = c.args.host.now in
+    let libs = map (λ lib. lib.now) c.args.libs.now in
+    let plan = c.in_ok-plan.ensures.plan in
+    record {
+      file = subst (λ (file : List ℕ). LinkedFile host libs file) (sym (plan_file host libs c.in_ok-plan.plan plan)) (there host libs c.in_ok-plan.ensures.sound);
+      summary = plan_summary host libs c.in_ok-plan.plan plan;
+    }

@@ -1,0 +1,51 @@
+use Rattle.std.proofs.Common.{◌≡◌, ◌∙◌, ◌*◌, ◌+◌, ◌++◌, ◌-◌, ◌<◌, ◌≤◌, ℕ, List, length, map, ap, subst, refl, sym, arith, get_or, add_assoc}
+use Rattle.std.specs.Prelude.{min}
+use Rattle.std.specs.List.{range_with_len}
+use Rattle.std.specs.Io.KnownBytes.{Appends}
+use Rattle.ps_linkfile.specs.Outcomes.{AppendsFront}
+use Rattle.ps_words.specs.Words.{blocks}
+use Rattle.ps_patch.specs.Patched.{patched_or_zero}
+use Rattle.ps_patch.specs.Patcher.{Patching}
+use Rattle.ps_linkfile.proofs.Fronts.{appends_twice, image_is, image_split, front_more, on_err_always}
+use Rattle.ps_linkfile.proofs.writing.write_code.Goals as goal
+
+pub loop-at-preserved : goal.loop-at-preserved
+loop-at-preserved g c =
+    let n = length c.args.code.now in
+    let at = c.loop-at.at in
+    let f = patched_or_zero c.args.order c.args.code.now c.args.edits.now in
+    let below : at < blocks n = omega (arith, c.loop-at-test.true, c.blocks_of-blocks.ensures) in
+    let task : ℕ → Patching = λ m. record { order = c.args.order; code = c.args.code.now; edits = c.args.edits.now; position = m } in
+    let here : min (512 * at) n ≡ 512 * at = omega arith in
+    let is : c.loop-at.patcher ≡ task (512 * at) = c.loop-at.invariant.is ∙ ap task here in
+    let bytes : (k : ℕ) → k < 512 → get_or c.fill.new.block k 0 ≡ f (512 * at + k) = λ k lt.
+    subst (λ (t : Patching). get_or c.fill.new.block k 0 ≡ patched_or_zero t.order t.code t.edits (t.position + k)) is (c.fill.ensures.block k lt) in
+    let count : c.fill.result ≡ min 512 (n - 512 * at) = subst (λ (t : Patching). c.fill.result ≡ min 512 (length t.code - t.position)) is c.fill.ensures.count in
+    let moved : c.fill.new.self ≡ task (512 * at + c.fill.result) = subst (λ (t : Patching). c.fill.new.self ≡ record t { position = t.position + c.fill.result }) is c.fill.ensures.moves in
+    let next : 512 * at + c.fill.result ≡ min (512 * (at + 1)) n = omega arith in
+    let block = image_is f (512 * at) 512 c.fill.new.block (omega arith) bytes in
+    record {
+      is = moved ∙ ap task next;
+      written = rw (image_split f 0 (512 * at) 512 (512 * (at + 1)) (512 * at) (omega arith) (omega arith))
+          (appends_twice _ _ _ _ _ c.loop-at.invariant.written (subst (λ (xs : List ℕ). Appends (g.W.Write.contents c.loop-at.out) (g.W.Write.contents c.write_all_of.new.out) xs) block c.in_ok-write_all_of.ensures.all));
+    }
+
+pub returns-in_err-write_all_of-clause-front : goal.returns-in_err-write_all_of-clause-front
+returns-in_err-write_all_of-clause-front g c =
+    let n = length c.args.code.now in
+    let at = c.loop-at.at in
+    let f = patched_or_zero c.args.order c.args.code.now c.args.edits.now in
+    let below : at < blocks n = omega (arith, c.loop-at-test.true, c.blocks_of-blocks.ensures) in
+    let task : ℕ → Patching = λ m. record { order = c.args.order; code = c.args.code.now; edits = c.args.edits.now; position = m } in
+    let here : min (512 * at) n ≡ 512 * at = omega arith in
+    let is : c.loop-at.patcher ≡ task (512 * at) = c.loop-at.invariant.is ∙ ap task here in
+    let bytes : (k : ℕ) → k < 512 → get_or c.fill.new.block k 0 ≡ f (512 * at + k) = λ k lt.
+    subst (λ (t : Patching). get_or c.fill.new.block k 0 ≡ patched_or_zero t.order t.code t.edits (t.position + k)) is (c.fill.ensures.block k lt) in
+    let block = image_is f (512 * at) 512 c.fill.new.block (omega arith) bytes in
+    let whole = 512 * blocks n in
+    let rest = map f (range_with_len (512 * at + 512) (whole - (512 * at + 512))) in
+    on_err_always c.from_residual.result
+    (front_more _ _ _ (map f (range_with_len 0 (512 * at))) (map f (range_with_len (512 * at) 512)) rest _
+    (ap (λ us. map f (range_with_len 0 (512 * at)) ++ us) (sym (image_split f (512 * at) 512 (whole - (512 * at + 512)) (whole - 512 * at) (512 * at + 512) (omega arith) refl))
+    ∙ sym (image_split f 0 (512 * at) (whole - 512 * at) whole (512 * at) (omega arith) (omega arith)))
+    c.loop-at.invariant.written (subst (λ (xs : List ℕ). AppendsFront (g.W.Write.contents c.loop-at.out) (g.W.Write.contents c.write_all_of.new.out) xs) block c.in_err-write_all_of.ensures.front))

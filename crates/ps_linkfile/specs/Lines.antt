@@ -1,0 +1,29 @@
+-- Lines of text, as map and show print them: names, numbers and reasons.
+-- Source: this project's profile.
+use Rattle.std.specs.Prelude.{ℕ, ◌+◌, ◌/◌, ◌%◌, ◌&&◌, if◌then◌else◌, List, [], ◌∷◌, ◌++◌, map, nat_le, codes, decimal}
+use Rattle.std.specs.List.{flat_map}
+use Rattle.ps_words.specs.FaultText.{number_of, name_of}
+use Rattle.ps_words.specs.declared.fault.Reason.{Reason}
+
+-- a line, and its end
+abbrev pub line : List ℕ → List ℕ
+line text = text ++ 10 ∷ []
+
+-- a byte of a name: itself where ASCII prints it, and otherwise a question mark
+abbrev pub shown_byte : ℕ → ℕ
+shown_byte b = if nat_le 32 b && nat_le b 126 then b else 63
+
+abbrev pub shown : List ℕ → List ℕ
+shown name = map shown_byte name
+
+-- the number of a slot, of two digits
+abbrev pub two_digits : ℕ → List ℕ
+two_digits n = (48 + n / 10) ∷ (48 + n % 10) ∷ []
+
+-- a word and a number, each behind a blank
+abbrev pub field : List ℕ → ℕ → List ℕ
+field word n = (32 ∷ []) ++ word ++ (32 ∷ []) ++ decimal n
+
+-- `fault 19 RecordsTruncated`
+abbrev pub fault_words : Reason → List ℕ
+fault_words why = codes "fault " ++ decimal (number_of why) ++ (32 ∷ []) ++ name_of why

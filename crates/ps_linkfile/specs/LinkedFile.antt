@@ -1,0 +1,82 @@
+-- The linked file: block 0 has its segment dictionary, and the blocks behind it have the code of each segment, by slot, each padded with zeros to its last block's end.
+-- Source: UCSD Pascal II.0 manual, code file format; the layout is this project's profile.
+use Rattle.std.specs.Prelude.{◌≡◌, ℕ, ◌+◌, ◌*◌, ◌<◌, ◌≤◌, ◌==◌, List, [], ◌∷◌, ◌++◌, length, map, replicate, slice_index, slice_range, nat_lt, None, All, sum_by}
+use Rattle.std.specs.List.{range_with_len, filter, find, flat_map}
+use Rattle.std.specs.Option.{option_map_or}
+use Rattle.ps_words.specs.Words.{word_bytes, blocks}
+use Rattle.ps_words.specs.declared.order.Order.{Order}
+use Rattle.ps_words.specs.declared.edit.Edit.{Edit}
+use Rattle.ps_codefile.specs.Dictionary.{slots, block_len, names_start, kinds_start, tail_start}
+use Rattle.ps_resolve.specs.Sources.{segments, order_of}
+use Rattle.ps_resolve.specs.Privates.{total_words}
+use Rattle.ps_resolve.specs.Linking.{Edited, edited, linked_byte}
+use Rattle.ps_resolve.specs.Faults.{first_fault}
+use Rattle.ps_patch.specs.Patched.{patched_or_zero}
+use Rattle.ps_linkfile.specs.declared.summary.Summary.{Summary}
+
+-- a code of the file: the slot of its segment, and its size in bytes
+pub record Extent : Type 0 where
+  pub slot : ℕ
+  pub size : ℕ
+
+-- how many blocks the codes take
+abbrev pub all_blocks : List Extent → ℕ
+all_blocks codes = sum_by (λ c. blocks c.size) codes
+
+-- the first block of a slot's code: behind the dictionary and the codes of all slots before it
+abbrev pub block_of : List Extent → ℕ → ℕ
+block_of codes slot = 1 + all_blocks (filter (λ c. nat_lt c.slot slot) codes)
+
+-- what the dictionary says of a slot: the first block and the size of its code, and two zero words where it has none
+abbrev pub pair_of : Order → List Extent → ℕ → List ℕ
+pair_of order codes slot =
+    option_map_or (λ c. word_bytes order (block_of codes slot) ++ word_bytes order c.size) (find (λ c. c.slot == slot) codes) (0 ∷ 0 ∷ 0 ∷ 0 ∷ [])
+
+-- the segments of a link, by slot, each with its edits
+abbrev pub linked_segments : List ℕ → List (List ℕ) → List Edited
+linked_segments host libs = edited (order_of host) (segments (order_of host) host libs)
+
+abbrev pub extent_of : Edited → Extent
+extent_of e = record { slot = e.segment.slot; size = length e.segment.code }
+
+abbrev pub extents : List ℕ → List (List ℕ) → List Extent
+extents host libs = map extent_of (linked_segments host libs)
+
+-- The file is the linked file of the host and the libraries, which no fault refuses.
+pub record LinkedFile (host : List ℕ) (libs : List (List ℕ)) (file : List ℕ) : Type 0 where
+  pub accepted : first_fault host libs ≡ None
+  pub size : length file ≡ block_len * (1 + all_blocks (extents host libs))
+  pub pairs : (slot : ℕ) → slot < 16 → slice_range file (4 * slot) (4 * slot + 4) ≡ pair_of (order_of host) (extents host libs) slot
+  pub names : slice_range file names_start kinds_start ≡ slice_range host names_start kinds_start
+  pub kinds_and_texts : (p : ℕ) → kinds_start ≤ p → p < tail_start → slice_index file p ≡ 0
+  pub tail : slice_range file tail_start block_len ≡ slice_range host tail_start block_len
+  pub codes : All (λ e. (p : ℕ) → p < length e.segment.code → slice_index file (block_len * block_of (extents host libs) e.segment.slot + p) ≡ linked_byte (order_of host) e p) (linked_segments host libs)
+  pub padding : All (λ e. (p : ℕ) → length e.segment.code ≤ p → p < block_len * blocks (length e.segment.code) → slice_index file (block_len * block_of (extents host libs) e.segment.slot + p) ≡ 0) (linked_segments host libs)
+
+-- the pairs of all slots
+unfoldable pub all_pairs : Order → List Extent → List ℕ
+all_pairs order codes = flat_map (pair_of order codes) slots
+
+-- the segment dictionary, with the names and the tail of the host's
+unfoldable pub dictionary : Order → List ℕ → List Extent → List ℕ
+dictionary order host codes =
+    all_pairs order codes ++ (slice_range host names_start kinds_start ++ (replicate 64 0 ++ slice_range host tail_start block_len))
+
+-- a code with its edits, and zeros to its last block's end
+abbrev pub padded : Order → List ℕ → List Edit → List ℕ
+padded order code edits = map (patched_or_zero order code edits) (range_with_len 0 (block_len * blocks (length code)))
+
+abbrev pub padded_segment : Order → Edited → List ℕ
+padded_segment order e = padded order e.segment.code e.edits
+
+-- the one list that is the linked file where no fault stands
+abbrev pub linked_file : List ℕ → List (List ℕ) → List ℕ
+linked_file host libs = dictionary (order_of host) host (extents host libs) ++ flat_map (padded_segment (order_of host)) (linked_segments host libs)
+
+-- its segments, the words of all privates, and its blocks, the dictionary's counted
+abbrev pub summary_of : List ℕ → List (List ℕ) → Summary
+summary_of host libs = record {
+  segments = length (extents host libs);
+  private_words = total_words (segments (order_of host) host libs);
+  blocks = 1 + all_blocks (extents host libs);
+}

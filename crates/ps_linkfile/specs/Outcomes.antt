@@ -1,0 +1,48 @@
+-- What a link leaves in its writer, and what each of its errors says.
+-- Source: this project's profile.
+use Rattle.std.specs.Prelude.{◌≡◌, ℕ, List, Option, Some, None, take, ⊤}
+use Rattle.std.specs.Io.KnownBytes.{Appends}
+use Rattle.ps_words.specs.declared.fault.Fault.{Fault}
+use Rattle.ps_resolve.specs.Faults.{first_fault, reading_fault}
+use Rattle.ps_resolve.specs.declared.linkage.Stop.{Stop}
+use Rattle.ps_resolve.specs.declared.linkage.Stop.TheVariants as stop
+use Rattle.ps_linkfile.specs.LinkedFile.{LinkedFile}
+use Rattle.ps_linkfile.specs.declared.error.LinkError.{LinkError}
+use Rattle.ps_linkfile.specs.declared.error.LinkError.TheVariants.{Refused, Memory, Write}
+
+-- known bytes grow by a front of these
+abbrev pub AppendsFront : Option (List ℕ) → Option (List ℕ) → List ℕ → Type 0
+AppendsFront old new bytes = (n : ℕ) × Appends old new (take n bytes)
+
+-- known bytes grow by the linked file
+abbrev pub AppendsLinkedFile : List ℕ → List (List ℕ) → Option (List ℕ) → Option (List ℕ) → Type 0
+AppendsLinkedFile host libs old new = (file : List ℕ) × (LinkedFile host libs file × Appends old new file)
+
+-- the error of a link that has no plan
+abbrev pub error_of : Stop → LinkError
+error_of (stop.Refused fault) = Refused fault
+error_of stop.Memory = Memory
+
+-- why nothing is linked: the first fault of all, or memory ran out where the files were read without a fault; never a write
+abbrev pub IsUnprepared : List ℕ → List (List ℕ) → LinkError → Type 0
+IsUnprepared host libs (Refused fault) = first_fault host libs ≡ Some fault
+IsUnprepared host libs Memory = reading_fault host libs ≡ None
+IsUnprepared host libs (Write fault) = ⊥
+
+-- the same of a link that also writes: a write failed only where no fault stands
+abbrev pub IsUnlinked : List ℕ → List (List ℕ) → LinkError → Type 0
+IsUnlinked host libs (Refused fault) = first_fault host libs ≡ Some fault
+IsUnlinked host libs Memory = reading_fault host libs ≡ None
+IsUnlinked host libs (Write fault) = first_fault host libs ≡ None
+
+-- the writer is as it was, unless a write failed
+abbrev pub LeavesUntouched : {W : Type 0} → LinkError → W → W → Type 0
+LeavesUntouched (Refused fault) old new = new ≡ old
+LeavesUntouched Memory old new = new ≡ old
+LeavesUntouched (Write fault) old new = ⊤
+
+-- where a write failed, known bytes grew by a front of the linked file
+abbrev pub LeavesFront : List ℕ → List (List ℕ) → LinkError → Option (List ℕ) → Option (List ℕ) → Type 0
+LeavesFront host libs (Refused fault) old new = ⊤
+LeavesFront host libs Memory old new = ⊤
+LeavesFront host libs (Write fault) old new = (file : List ℕ) × (LinkedFile host libs file × AppendsFront old new file)

@@ -1,0 +1,66 @@
+-- What a code file has: its byte order, its sixteen slots, and the link information of each segment that is to be linked, record by record.
+-- Source: this project's profile.
+use Rattle.std.specs.Prelude.{ℕ, ◌+◌, ◌==◌, ◌&&◌, ◌||◌, if◌then◌else◌, List, [], ◌∷◌, ◌++◌, length, codes, decimal, Bool, Option, Some, None, Ok, Err}
+use Rattle.std.specs.List.{flat_map, enumerate_from}
+use Rattle.ps_words.specs.declared.order.Order.{Order}
+use Rattle.ps_words.specs.declared.order.Order.TheVariants.{Little, Big}
+use Rattle.ps_words.specs.declared.fault.Reason.{Reason}
+use Rattle.ps_codefile.specs.Dictionary.{slots, FileOrder, Zero, Ordered, Mixed, file_order, entry_at, is_filled, code_of, information_of}
+use Rattle.ps_codefile.specs.declared.entry.Entry.{Entry}
+use Rattle.ps_linkinfo.specs.Records.{reading}
+use Rattle.ps_linkinfo.specs.declared.record.Body.{Body}
+use Rattle.ps_linkinfo.specs.declared.record.Body.TheVariants.{UnitRef, PublRef, PrivRef, PublDef, ConstDef, Eof}
+use Rattle.ps_linkinfo.specs.declared.record.LinkRecord.{LinkRecord as Record}
+use Rattle.ps_resolve.specs.Sources.{known_order}
+use Rattle.ps_linkfile.specs.Lines.{line, shown, two_digits, field, fault_words}
+
+-- a file without any kind has no order of its own, and is read as little-endian
+abbrev pub order_words : FileOrder → List ℕ
+order_words Zero = codes "order unknown"
+order_words (Ordered Little) = codes "order little"
+order_words (Ordered Big) = codes "order big"
+order_words Mixed = []
+
+-- `slot 02 UTIL     kind 3 address 1 length 24 text 0`
+abbrev pub slot_line : Order → List ℕ → ℕ → List ℕ
+slot_line order file slot =
+    let e = entry_at order file slot in
+    line (codes "slot " ++ two_digits slot ++ (32 ∷ []) ++ shown e.name ++ field (codes "kind") e.kind ++ field (codes "address") e.address ++ field (codes "length") e.length ++ field (codes "text") e.text)
+
+-- ` at 1 4`
+abbrev pub references : List ℕ → List ℕ
+references refs = codes " at" ++ flat_map (λ x. (32 ∷ []) ++ decimal x) refs
+
+abbrev pub record_words : List ℕ → Body → List ℕ
+record_words name (UnitRef refs) = codes " UNITREF " ++ shown name ++ references refs
+record_words name (PublRef refs) = codes " PUBLREF " ++ shown name ++ references refs
+record_words name (PrivRef words refs) = codes " PRIVREF " ++ shown name ++ field (codes "words") words ++ references refs
+record_words name (PublDef value) = codes " PUBLDEF " ++ shown name ++ field (codes "value") value
+record_words name (ConstDef value) = codes " CONSTDEF " ++ shown name ++ field (codes "value") value
+record_words name (Eof next) = codes " EOFMARK" ++ field (codes "next") next
+
+-- `0 PUBLREF COUNT    at 1`
+abbrev pub record_line : ℕ × Record → List ℕ
+record_line r = line (decimal r.0 ++ record_words r.1.name r.1.body)
+
+-- the records up to the end mark, or up to the first fault and that fault
+abbrev pub record_lines : List Record × Option Reason → List ℕ
+record_lines read =
+    flat_map record_line (enumerate_from 0 read.0)
+    ++ (elim read.1 [ None ↦ [] | Some why ↦ line (decimal (length read.0) ++ (32 ∷ []) ++ fault_words why) ])
+
+-- the slot has a host segment or a unit
+abbrev pub has_links : Entry → Bool
+has_links e = is_filled e && (e.kind == 1 || e.kind == 3)
+
+abbrev pub links_lines : Order → List ℕ → ℕ → List ℕ
+links_lines order file slot =
+    let e = entry_at order file slot in
+    if has_links e
+    then line (codes "links " ++ two_digits slot) ++ (elim (code_of file e) [ Err why ↦ line (fault_words why) | Ok code ↦ record_lines (reading order (information_of file e)) ])
+    else []
+
+unfoldable pub show_of : List ℕ → List ℕ
+show_of file =
+    let order = known_order (file_order file) in
+    line (order_words (file_order file)) ++ flat_map (slot_line order file) slots ++ flat_map (links_lines order file) slots

@@ -1,0 +1,57 @@
+-- The file that a plan of a link stands for, and what a plan is owed so that it can be written.
+-- Source: this project's profile.
+use Rattle.std.specs.Prelude.{◌≡◌, ℕ, ◌+◌, ◌<◌, ◌≤◌, List, [], ◌∷◌, ◌++◌, length, map, All, ⊤}
+use Rattle.ps_words.specs.Edits.{AreEdits}
+use Rattle.ps_words.specs.declared.order.Order.{Order}
+use Rattle.ps_words.specs.declared.edit.Edit.{Edit}
+use Rattle.ps_codefile.specs.Dictionary.{block_len, max_code_len}
+use Rattle.ps_resolve.specs.Plans.{Planned, Origin}
+use Rattle.ps_linkfile.specs.LinkedFile.{Extent, all_blocks, dictionary, padded, LinkedFile, summary_of}
+use Rattle.ps_linkfile.specs.declared.summary.Summary.{Summary}
+
+abbrev pub extent_of_origin : Origin → Extent
+extent_of_origin o = record { slot = o.slot; size = length o.code }
+
+abbrev pub extents_of : Planned → List Extent
+extents_of plan = map extent_of_origin plan.origins
+
+-- the code of each source with its edits, in whole blocks
+abbrev pub padded_codes : Order → List Origin → List (List Edit) → List ℕ
+padded_codes order [] edits = []
+padded_codes order (o ∷ os) [] = []
+padded_codes order (o ∷ os) (edits ∷ rest) = padded order o.code edits ++ padded_codes order os rest
+
+-- the file that is written
+abbrev pub file_of : Planned → List ℕ
+file_of plan = dictionary plan.order plan.host (extents_of plan) ++ padded_codes plan.order plan.origins plan.edits
+
+abbrev pub summary_in : Planned → Summary
+summary_in plan = record {
+  segments = length plan.origins;
+  private_words = plan.private_words;
+  blocks = 1 + all_blocks (extents_of plan);
+}
+
+-- the plan stands for the linked file of these inputs
+pub record StandsFor (host : List ℕ) (libs : List (List ℕ)) (plan : Planned) : Type 0 where
+  pub file : LinkedFile host libs (file_of plan)
+  pub summary : summary_in plan ≡ summary_of host libs
+
+-- slots of a dictionary, each above the one before it
+abbrev pub Ascend : ℕ → List Extent → Type 0
+Ascend from [] = ⊤
+Ascend from (c ∷ cs) = (from ≤ c.slot) × (c.slot < 16) × Ascend (c.slot + 1) cs
+
+-- each code has its own edits
+abbrev pub HaveEdits : List Origin → List (List Edit) → Type 0
+HaveEdits [] [] = ⊤
+HaveEdits [] (edits ∷ rest) = ⊥
+HaveEdits (o ∷ os) [] = ⊥
+HaveEdits (o ∷ os) (edits ∷ rest) = AreEdits (length o.code) edits × HaveEdits os rest
+
+-- a plan that can be written: a whole dictionary, each slot once, codes of at most 32767 bytes, and edits inside them
+pub record IsReady (plan : Planned) : Type 0 where
+  pub host : block_len ≤ length plan.host
+  pub slots : Ascend 0 (extents_of plan)
+  pub sizes : All (λ c. c.size ≤ max_code_len) (extents_of plan)
+  pub edits : HaveEdits plan.origins plan.edits

@@ -1,0 +1,58 @@
+ghost use Rattle.std.specs.Prelude.{◌≡◌, ◌≤◌, ◌+◌, ◌++◌, map, length, take, drop, All};
+ghost use Rattle.ps_codefile.specs.Dictionary.{max_code_len};
+ghost use Rattle.ps_resolve.specs.Plans.{origin_of_source};
+ghost use Rattle.ps_linkfile.specs.LinkedFile.{all_pairs, dictionary};
+ghost use Rattle.ps_linkfile.specs.Writing.{extent_of_origin, extents_of, Ascend, IsReady};
+
+use ps_resolve::{Plan, Source};
+use ps_words::{BLOCK_SIZE, Order, blocks_of, put};
+use std::alloc::Allocator;
+
+/// The length of a word in bytes.
+const WORD: usize = 2;
+/// The length of a pair of address and length. The pairs begin the dictionary.
+const PAIR: usize = 4;
+/// Where the names begin.
+const NAMES: usize = 64;
+/// Where the tail begins.
+const TAIL: usize = 256;
+
+/// The sixteen pairs of the dictionary: for the slot of each source the block that its code begins in
+/// and the code's length, and zeros for any other.
+fn pairs_of(order: Order, sources: &[Source]) -> [u8; 64]
+    requires slots { Ascend 0 (map (λ s. extent_of_origin (origin_of_source s)) sources.now) }
+    requires sizes { All (λ c. c.size ≤ max_code_len) (map (λ s. extent_of_origin (origin_of_source s)) sources.now) }
+    ensures { result ≡ all_pairs order (map (λ s. extent_of_origin (origin_of_source s)) sources.now) }
+{
+    let mut pairs = [0; NAMES];
+    let mut block = 1;
+    for source in sources {
+        let length = source.code.len();
+        let pair = PAIR * source.slot as usize;
+        put(order, &mut pairs, pair, block as u16);
+        put(order, &mut pairs, pair + WORD, length as u16);
+        block += blocks_of(length);
+    }
+    pairs
+}
+
+/// Stores a part of the dictionary, from a place on.
+fn store(dictionary: &mut [u8], place: usize, part: &[u8])
+    requires { place + length part.now ≤ length dictionary.old }
+    ensures stored { dictionary.new ≡ take place dictionary.old ++ (part.now ++ drop (place + length part.now) dictionary.old) }
+    ensures length { length dictionary.new ≡ length dictionary.old }
+{
+    dictionary[place..place + part.len()].copy_from_slice(part);
+}
+
+/// The segment dictionary of the linked file, which is its block 0.
+pub(crate) fn dictionary_of<A: Allocator + Copy>(plan: &Plan<'_, A>) -> [u8; 512]
+    requires { IsReady plan.now }
+    ensures { result ≡ dictionary plan.now.order plan.now.host (extents_of plan.now) }
+{
+    let mut dictionary = [0; BLOCK_SIZE];
+    store(&mut dictionary, 0, &pairs_of(plan.order(), plan.sources()));
+    store(&mut dictionary, NAMES, plan.names());
+    store(&mut dictionary, TAIL, plan.tail());
+    dictionary
+}

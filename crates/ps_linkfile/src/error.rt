@@ -1,0 +1,56 @@
+ghost use Rattle.std.specs.Prelude.{◌≡◌};
+ghost use Rattle.ps_linkfile.specs.Outcomes.{error_of};
+ghost use Rattle.ps_linkfile.specs.declared.error.LinkError.TheVariants.{Write};
+
+use ps_resolve::Stop;
+use ps_words::Fault;
+use std::io;
+use thiserror::Error;
+
+/// Why a writer did not take the whole linked file.
+///
+/// Source: this project's profile.
+#[derive(Debug, Drop, Error)]
+pub enum WriteFault {
+    /// A write answered this error, of whatever kind. It was not repeated.
+    #[error("{0}")]
+    Device(io::Error),
+    /// A write of at least one byte took none.
+    #[error("the writer takes no more bytes")]
+    Stalled,
+}
+
+/// Why there is no linked file, or only a front of it.
+///
+/// Source: this project's profile.
+#[derive(Debug, Drop, Error)]
+pub enum LinkError {
+    /// The files are refused for this fault, the first of all. Nothing was written.
+    #[error("{0}")]
+    Refused(Fault),
+    /// Memory was refused. Nothing was written.
+    #[error("out of memory")]
+    Memory,
+    /// The writer failed. It has a front of the linked file.
+    #[error("{0}")]
+    Write(WriteFault),
+}
+
+impl From<Stop> for LinkError {
+    ghost from_gives = { λ stop error. error ≡ error_of stop };
+
+    fn from(stop: Stop) -> LinkError {
+        match stop {
+            Stop::Refused(fault) => LinkError::Refused(fault),
+            Stop::Memory => LinkError::Memory,
+        }
+    }
+}
+
+impl From<WriteFault> for LinkError {
+    ghost from_gives = { λ fault error. error ≡ Write fault };
+
+    fn from(fault: WriteFault) -> LinkError {
+        LinkError::Write(fault)
+    }
+}

@@ -1,0 +1,15 @@
+//! The linked file as bytes: the segment dictionary in block 0, and behind it the code of each
+//! segment, with its edits, in whole blocks.
+#![tactic(auto)]
+
+mod dictionary;
+mod error;
+mod laws;
+mod linked;
+mod summary;
+mod writing;
+
+pub use error::{LinkError, WriteFault};
+pub use laws::linked_file_is_one;
+pub use linked::{Linked, link, prepare};
+pub use summary::Summary;

@@ -1,0 +1,113 @@
+ghost use Rattle.std.specs.Prelude.{◌≡◌, ◌+◌, map, IfOk, IfErr, OnOk, OnErr};
+ghost use Rattle.std.specs.Io.KnownBytes.{Appends};
+ghost use Rattle.ps_linkfile.specs.LinkedFile.{all_blocks, summary_of};
+ghost use Rattle.ps_linkfile.specs.Writing.{extents_of, file_of, summary_in, StandsFor};
+ghost use Rattle.ps_linkfile.specs.Outcomes.{AppendsFront, AppendsLinkedFile, IsUnprepared, IsUnlinked, LeavesUntouched, LeavesFront};
+
+use crate::dictionary::dictionary_of;
+use crate::error::{LinkError, WriteFault};
+use crate::summary::Summary;
+use crate::writing::{write_all_of, write_codes};
+use ps_resolve::{Plan, resolve};
+use ps_words::blocks_of;
+use std::alloc::{Allocator, Global};
+use std::io::Write;
+use std::marker::Model;
+
+/// A link that was checked and can be written, any number of times. It has views of the inputs, and
+/// no copy of them.
+#[derive(Drop)]
+pub struct Linked<'a, A: Allocator + Copy = Global> {
+    plan: Plan<'a, A>,
+}
+
+impl<'a, A: Allocator + Copy> Model for Linked<'a, A> {
+    ghost use Rattle.ps_resolve.specs.Plans.{Planned};
+    ghost use Rattle.ps_linkfile.specs.Writing.{IsReady};
+
+    ghost Value = { Planned };
+
+    ghost view = { λ l. l.plan };
+
+    ghost invariant = { λ l. IsReady l.plan };
+}
+
+impl<'a, A: Allocator + Copy> Linked<'a, A> {
+    /// The segments, the private words and the blocks of the linked file.
+    fn summary(&self) -> Summary
+        ensures { result ≡ summary_in self.now }
+    {
+        let sources = self.plan.sources();
+        let mut blocks = 1;
+        for source in sources {
+            blocks += blocks_of(source.code.len());
+        }
+        Summary {
+            segments: sources.len(),
+            private_words: self.plan.private_words(),
+            blocks,
+        }
+    }
+
+    /// Writes the linked file, and answers what it has. It takes no memory.
+    ///
+    /// Refuses `Device` where a write answered an error, which is not repeated, and `Stalled` where a
+    /// write of at least one byte took none. The writer then has a front of the linked file.
+    /// Source: this project's profile.
+    pub fn write<W: Write>(&self, out: &mut W) -> Result<Summary, WriteFault>
+        ensures file { OnOk result (Appends (W.contents out.old) (W.contents out.new) (file_of self.now)) }
+        ensures summary { IfOk result (λ s. s ≡ summary_in self.now) }
+        ensures front { OnErr result (AppendsFront (W.contents out.old) (W.contents out.new) (file_of self.now)) }
+    {
+        write_all_of(out, &dictionary_of(&self.plan))?;
+        write_codes(&self.plan, out)?;
+        Ok(self.summary())
+    }
+}
+
+/// Checks a host and the libraries of its units, and prepares their linked file, which
+/// `Linked::write` writes. Nothing is written yet.
+///
+/// `host` and each of `libs` are whole code files; of the libraries that have a unit, the first is
+/// used. Refuses `Refused` with the first fault of all, and `Memory` where memory was refused.
+/// Source: this project's profile.
+pub fn prepare<'a, A: Allocator + Copy>(
+    alloc: A,
+    host: &'a [u8],
+    libs: &'a [&'a [u8]],
+) -> Result<Linked<'a, A>, LinkError>
+    ensures linked { IfOk result (StandsFor host.now (map (λ lib. lib.now) libs.now)) }
+    ensures error { IfErr result (IsUnprepared host.now (map (λ lib. lib.now) libs.now)) }
+{
+    let plan = resolve(alloc, host, libs)?;
+    Ok(Linked { plan })
+}
+
+/// Links a host with the units that it uses, and writes the linked file.
+///
+/// Where `link` answers Ok, the bytes written are exactly one code file: every segment is its
+/// input's code, byte for byte, except that each reference holds its definition's value added to its
+/// displacement, each linked segment its slot's number, and the host's outer block a data size grown
+/// by the private words; every kind is LINKED and no link information is left.
+///
+/// `host` and each of `libs` are whole code files; of the libraries that have a unit, the first is
+/// used. Refuses `Refused` with the first fault of all, and `Memory` where memory was refused;
+/// nothing was written then. Refuses `Write` where the writer failed, which then has a front of the
+/// linked file.
+/// Source: UCSD Pascal II.0 manual, code file format; the published II.0 Linker source; the layout
+/// is this project's profile.
+pub fn link<'a, A: Allocator + Copy, W: Write>(
+    alloc: A,
+    host: &'a [u8],
+    libs: &'a [&'a [u8]],
+    out: &mut W,
+) -> Result<Summary, LinkError>
+    ensures written { OnOk result (AppendsLinkedFile host.now (map (λ lib. lib.now) libs.now) (W.contents out.old) (W.contents out.new)) }
+    ensures summary { IfOk result (λ s. s ≡ summary_of host.now (map (λ lib. lib.now) libs.now)) }
+    ensures error { IfErr result (IsUnlinked host.now (map (λ lib. lib.now) libs.now)) }
+    ensures untouched { IfErr result (λ e. LeavesUntouched e out.old out.new) }
+    ensures front { IfErr result (λ e. LeavesFront host.now (map (λ lib. lib.now) libs.now) e (W.contents out.old) (W.contents out.new)) }
+{
+    let linked = prepare(alloc, host, libs)?;
+    Ok(linked.write(out)?)
+}

@@ -1,0 +1,59 @@
+//! Links that tests make, and their answers as text.
+use ps_linkfile::{LinkError, Summary, WriteFault, link};
+use ps_words::Order;
+use std::alloc::{AllocError, Global};
+use std::process::Abort;
+use std::test::Fail;
+
+/// The byte order of most inputs.
+pub(crate) const LITTLE: Order = Order::Little;
+
+/// A link's answer: the program's line for a Summary, the fault's text, or a word for each other error.
+pub(crate) fn text_of(
+    alloc: Global,
+    answer: Result<Summary, LinkError>,
+) -> Result<String, AllocError> {
+    match answer {
+        Ok(
+            Summary {
+                segments,
+                private_words,
+                blocks,
+            },
+        ) => {
+            format!(in alloc; "segments {segments} private words {private_words} blocks {blocks}")
+        }
+        Err(LinkError::Refused(fault)) => format!(in alloc; "{fault}"),
+        Err(LinkError::Memory) => String::from_str(alloc, "out of memory"),
+        Err(LinkError::Write(WriteFault::Device(_))) => String::from_str(alloc, "device error"),
+        Err(LinkError::Write(WriteFault::Stalled)) => String::from_str(alloc, "stalled"),
+    }
+}
+
+/// Checks that a link with these files gives this summary and this file.
+pub(crate) fn links(
+    rt: &(impl Abort + AllocGlobal),
+    what: &str,
+    host: &[u8],
+    libraries: &[&[u8]],
+    summary: &str,
+    file: &[u8],
+) -> Result<(), Fail> {
+    let alloc = rt.alloc();
+    let mut out = Vec::new(alloc);
+    let answer = text_of(alloc, link(alloc, host, libraries, &mut out))?;
+    assert_eq!(rt; answer.as_str(), summary, "{what}");
+    assert_eq!(rt; out.as_slice(), file, "{what}");
+    Ok(())
+}
+
+/// Checks that a link with these files gives this error, and that nothing is written.
+pub(crate) fn refuses(
+    rt: &(impl Abort + AllocGlobal),
+    what: &str,
+    host: &[u8],
+    libraries: &[&[u8]],
+    error: &str,
+) -> Result<(), Fail> {
+    links(rt, what, host, libraries, error, &[])
+}

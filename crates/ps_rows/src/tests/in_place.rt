@@ -1,0 +1,220 @@
+//! A host that holds its unit itself, and the files that it is linked to.
+use super::answers::links;
+use super::tables::{Base, Row, link_rows};
+use crate::base::{COUNT, LIBRARY_RECORDS, LINKED_UTIL, STATE, WANTED_UTIL};
+use crate::code_file::Change::{Address, Code, CodeWord, Entry, Kind, Length, Records, Resized};
+use crate::code_file::{LINKED, Slot};
+use crate::in_place::{linked_unit_in_place, unit_in_place};
+use crate::information::Record::{End, PrivateReference, PublicDefinition, PublicReference};
+use ps_words::Order;
+use std::test::Fail;
+
+const SUMMARY: &str = "segments 2 private words 0 blocks 3";
+
+#[test]
+fn one_public_reference_in_either_byte_order(rt: HostRuntime) -> Result<(), Fail> {
+    let alloc = rt.alloc();
+    for order in [Order::Little, Order::Big] {
+        let host = unit_in_place(alloc, order)?;
+        let linked = linked_unit_in_place(alloc, order)?;
+        links(
+            &rt,
+            "one reference",
+            host.as_slice(),
+            &[],
+            SUMMARY,
+            linked.as_slice(),
+        )?;
+    }
+    Ok(())
+}
+
+#[test]
+fn a_linked_dictionary_has_the_host_s_byte_order(rt: HostRuntime) -> Result<(), Fail> {
+    let linked = linked_unit_in_place(rt.alloc(), Order::Big)?;
+    let bytes = linked.as_slice();
+    assert_eq!(rt; bytes.len(), 1536);
+    assert_eq!(rt; bytes.get(4..8), Some([0, 1, 0, 0x12].as_slice()));
+    assert_eq!(rt; bytes.get(28..32), Some([0, 2, 0, 0x18].as_slice()));
+    Ok(())
+}
+
+const OPERANDS: [Row<'static>; 3] = [
+    Row {
+        what: "a displacement of 5 and the value 3",
+        host: &[Code(3, 2, &[5])],
+        library: &[],
+        linked: &[Code(2, 2, &[8])],
+        summary: SUMMARY,
+    },
+    Row {
+        what: "bit 7 of the operand is not looked at",
+        host: &[Code(3, 1, &[0])],
+        library: &[],
+        linked: &[],
+        summary: SUMMARY,
+    },
+    Row {
+        what: "the largest operand",
+        host: &[Records(2, &[PublicDefinition(COUNT, 32767), End(8)])],
+        library: &[],
+        linked: &[Code(2, 1, &[0xFF, 0xFF])],
+        summary: SUMMARY,
+    },
+];
+
+#[test]
+fn operands(rt: HostRuntime) -> Result<(), Fail> {
+    link_rows(&rt, Base::InPlace, &OPERANDS)
+}
+
+const REFERENCES: [Row<'static>; 4] = [
+    Row {
+        what: "two references in a record",
+        host: &[Records(4, &[PublicReference(COUNT, &[1, 4]), End(0)])],
+        library: &[],
+        linked: &[Code(2, 5, &[5])],
+        summary: SUMMARY,
+    },
+    Row {
+        what: "a record of none",
+        host: &[Records(4, &[PublicReference(COUNT, &[]), End(0)])],
+        library: &[],
+        linked: &[Code(2, 2, &[0])],
+        summary: SUMMARY,
+    },
+    Row {
+        what: "no record",
+        host: &[Records(4, &[End(0)])],
+        library: &[],
+        linked: &[Code(2, 2, &[0])],
+        summary: SUMMARY,
+    },
+    Row {
+        what: "a reference of the host segment",
+        host: &[Records(
+            2,
+            &[
+                PublicDefinition(COUNT, 3),
+                PublicReference(COUNT, &[2]),
+                End(8),
+            ],
+        )],
+        library: &[],
+        linked: &[Code(1, 3, &[3])],
+        summary: SUMMARY,
+    },
+];
+
+#[test]
+fn references(rt: HostRuntime) -> Result<(), Fail> {
+    link_rows(&rt, Base::InPlace, &REFERENCES)
+}
+
+const PRIVATE_VARIABLES: [Row<'static>; 4] = [
+    Row {
+        what: "4 words from 8 on",
+        host: &[Records(4, &LIBRARY_RECORDS)],
+        library: &[],
+        linked: &[CodeWord(1, 4, 18), Code(2, 5, &[10])],
+        summary: "segments 2 private words 4 blocks 3",
+    },
+    Row {
+        what: "the last that has room",
+        host: &[
+            Records(2, &[PublicDefinition(COUNT, 3), End(32760)]),
+            Records(
+                4,
+                &[
+                    PublicReference(COUNT, &[1]),
+                    PrivateReference(STATE, 7, &[4]),
+                    End(0),
+                ],
+            ),
+        ],
+        library: &[],
+        linked: &[CodeWord(1, 4, 24), Code(2, 4, &[0xFF, 0xFA])],
+        summary: "segments 2 private words 7 blocks 3",
+    },
+    Row {
+        what: "none, behind the last offset",
+        host: &[Records(2, &[PublicDefinition(COUNT, 3), End(40000)])],
+        library: &[],
+        linked: &[],
+        summary: SUMMARY,
+    },
+    Row {
+        what: "the largest data size",
+        host: &[CodeWord(1, 4, 65527), Records(4, &LIBRARY_RECORDS)],
+        library: &[],
+        linked: &[CodeWord(1, 4, 65535), Code(2, 5, &[10])],
+        summary: "segments 2 private words 4 blocks 3",
+    },
+];
+
+#[test]
+fn private_variables(rt: HostRuntime) -> Result<(), Fail> {
+    link_rows(&rt, Base::InPlace, &PRIVATE_VARIABLES)
+}
+
+/// A segment that is linked already.
+const TOOLS: Slot = Slot {
+    name: *b"TOOLS   ",
+    kind: LINKED,
+    address: 5,
+    length: 5,
+};
+
+const SLOTS: [Row<'static>; 2] = [
+    Row {
+        what: "a segment that is linked already is copied",
+        host: &[Resized(2565), Entry(8, TOOLS), Code(5, 0, &[1, 2, 3, 4, 5])],
+        library: &[],
+        linked: &[
+            Resized(2048),
+            Entry(8, TOOLS),
+            Address(8, 3),
+            Code(3, 0, &[1, 2, 3, 4, 5]),
+        ],
+        summary: "segments 3 private words 0 blocks 4",
+    },
+    Row {
+        what: "a slot of kind 0 with no code",
+        host: &[Entry(7, WANTED_UTIL), Kind(7, LINKED)],
+        library: &[],
+        linked: &[
+            Entry(7, LINKED_UTIL),
+            Address(7, 0),
+            Length(7, 0),
+            Resized(1024),
+        ],
+        summary: "segments 1 private words 0 blocks 2",
+    },
+];
+
+#[test]
+fn slots(rt: HostRuntime) -> Result<(), Fail> {
+    link_rows(&rt, Base::InPlace, &SLOTS)
+}
+
+const PROCEDURES: [Row<'static>; 2] = [
+    Row {
+        what: "a second procedure of the unit that has no body",
+        host: &[Code(3, 18, &[0, 0, 4, 0, 7, 2])],
+        library: &[],
+        linked: &[Code(2, 18, &[0, 0, 4, 0, 7, 2])],
+        summary: SUMMARY,
+    },
+    Row {
+        what: "a unit of no procedures",
+        host: &[Code(3, 23, &[0])],
+        library: &[],
+        linked: &[Code(2, 23, &[0])],
+        summary: SUMMARY,
+    },
+];
+
+#[test]
+fn procedures(rt: HostRuntime) -> Result<(), Fail> {
+    link_rows(&rt, Base::InPlace, &PROCEDURES)
+}

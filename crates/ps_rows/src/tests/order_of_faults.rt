@@ -1,0 +1,285 @@
+//! Files with several faults, of which the first in the order of the checks is answered.
+use super::answers::{LITTLE, refuses};
+use super::tables::{Base, Refusal, refuse_rows};
+use crate::base::{COUNT, LIBRARY_UTIL, STATE, WANTED_UTIL, base_host, base_library};
+use crate::code_file::Change::{Bytes, Code, Entry, Kind, Length, Records, Resized};
+use crate::code_file::{HOST_SEGMENT, Slot};
+use crate::information::Name;
+use crate::information::Record::{End, PrivateReference, PublicDefinition, PublicReference};
+use ps_words::Order;
+use std::test::Fail;
+
+/// A slot with no name that has the host segment's code.
+const LIKE_DEMO: Slot = Slot {
+    name: [b' '; 8],
+    kind: HOST_SEGMENT,
+    address: 1,
+    length: 18,
+};
+
+/// A name that has no definition.
+const CUONT: Name = *b"CUONT   ";
+
+/// Faults of dictionaries, and others behind them.
+const DICTIONARIES: [Refusal<'static>; 6] = [
+    (
+        "a kind in slot 8 and a second host segment in slot 9",
+        &[Entry(8, LIKE_DEMO), Kind(8, 8), Entry(9, LIKE_DEMO)],
+        &[],
+        "refused 10 UnknownKind file 0 slot 8",
+    ),
+    (
+        "a doubled name in slot 8 and a kind in slot 9",
+        &[Entry(8, WANTED_UTIL), Entry(9, LIKE_DEMO), Kind(9, 2)],
+        &[],
+        "refused 6 DoubledSegment file 0 slot 8",
+    ),
+    (
+        "a kind in the host and a short library",
+        &[Entry(8, LIKE_DEMO), Kind(8, 8)],
+        &[Resized(511)],
+        "refused 10 UnknownKind file 0 slot 8",
+    ),
+    (
+        "no host segment and a short library",
+        &[Kind(1, 0)],
+        &[Resized(511)],
+        "refused 4 NoHost file 0",
+    ),
+    (
+        "a short library and a length in the host",
+        &[Length(1, 17)],
+        &[Resized(511)],
+        "refused 1 ShortFile file 1",
+    ),
+    (
+        "a library's order and a length in the host",
+        &[Length(1, 17)],
+        &[Bytes(193, &[1])],
+        "refused 2 NoOrder file 1",
+    ),
+];
+
+/// Faults of entries, of codes and of procedures, and others behind them.
+const ENTRIES_AND_CODES: [Refusal<'static>; 6] = [
+    (
+        "two entries of the name, one of kind 5",
+        &[],
+        &[Kind(2, 5), Entry(3, LIBRARY_UTIL)],
+        "refused 15 DoubledUnit file 1 slot 7",
+    ),
+    (
+        "kind 5 and an odd length",
+        &[],
+        &[Kind(2, 5), Length(2, 23)],
+        "refused 14 NotAUnit kind 5 file 1 slot 7",
+    ),
+    (
+        "the host's records and a missing unit",
+        &[Resized(1023)],
+        &[Length(2, 0)],
+        "refused 19 RecordsTruncated file 0 slot 1 record 0",
+    ),
+    (
+        "a table past the dictionary and native code",
+        &[],
+        &[Code(1, 18, &[0]), Code(1, 23, &[2])],
+        "refused 17 BadProcDict file 1 slot 7",
+    ),
+    (
+        "native code and a record",
+        &[],
+        &[Code(1, 18, &[0]), Bytes(1032, &[15])],
+        "refused 18 NativeProcedure file 1 slot 7",
+    ),
+    (
+        "a record of the library and a doubled definition",
+        &[Records(
+            2,
+            &[
+                PublicDefinition(COUNT, 3),
+                PublicDefinition(COUNT, 4),
+                End(8),
+            ],
+        )],
+        &[Bytes(1032, &[15])],
+        "refused 20 UnknownRecord file 1 slot 7 record 0",
+    ),
+];
+
+/// Faults of names and of sizes, and others behind them.
+const NAMES_AND_SIZES: [Refusal<'static>; 6] = [
+    (
+        "a missing definition and a doubled one",
+        &[Records(
+            2,
+            &[
+                PublicDefinition(COUNT, 3),
+                PublicReference(CUONT, &[]),
+                PublicDefinition(COUNT, 4),
+                End(8),
+            ],
+        )],
+        &[],
+        "refused 24 DoubledDefinition file 0 slot 1 record 2",
+    ),
+    (
+        "a doubled definition and no room",
+        &[Records(
+            2,
+            &[
+                PublicDefinition(COUNT, 3),
+                PublicDefinition(COUNT, 4),
+                End(40000),
+            ],
+        )],
+        &[],
+        "refused 24 DoubledDefinition file 0 slot 1 record 1",
+    ),
+    (
+        "a doubled private variable with no room",
+        &[],
+        &[Records(
+            2,
+            &[
+                PrivateReference(STATE, 4, &[]),
+                PrivateReference(STATE, 65535, &[]),
+                End(0),
+            ],
+        )],
+        "refused 25 DoubledPrivate file 1 slot 7 record 1",
+    ),
+    (
+        "no room and a data size",
+        &[
+            Records(2, &[PublicDefinition(COUNT, 3), End(32760)]),
+            Code(1, 4, &[0xF8, 0xFF]),
+        ],
+        &[Bytes(1070, &[8])],
+        "refused 26 NoRoom file 1 slot 7 record 1",
+    ),
+    (
+        "a data size and a missing definition",
+        &[Code(1, 4, &[0xF8, 0xFF])],
+        &[Bytes(1024, &CUONT)],
+        "refused 27 DataTooLarge file 0 slot 1",
+    ),
+    (
+        "a missing definition in the host and in the library",
+        &[Records(2, &[PublicReference(CUONT, &[]), End(8)])],
+        &[],
+        "refused 28 MissingDefinition file 0 slot 1 record 0",
+    ),
+];
+
+/// Faults of references, and others behind them.
+const REFERENCES: [Refusal<'static>; 6] = [
+    (
+        "an operand that is too large and the same again",
+        &[Records(2, &[PublicDefinition(COUNT, 32767), End(8)])],
+        &[
+            Code(1, 2, &[1]),
+            Records(2, &[PublicReference(COUNT, &[1, 1]), End(0)]),
+        ],
+        "refused 34 OperandTooLarge file 1 slot 7 record 0 reference 0",
+    ),
+    (
+        "a reserved place and an overlap in the next record",
+        &[],
+        &[Records(
+            2,
+            &[
+                PublicReference(COUNT, &[1, 4, 10]),
+                PublicReference(COUNT, &[2]),
+                End(0),
+            ],
+        )],
+        "refused 32 ReservedPlace file 1 slot 7 record 0 reference 2",
+    ),
+    (
+        "a place and a missing definition in the next record",
+        &[],
+        &[Records(
+            2,
+            &[
+                PublicReference(COUNT, &[24]),
+                PublicReference(CUONT, &[]),
+                End(0),
+            ],
+        )],
+        "refused 31 OutsideCode file 1 slot 7 record 0 reference 0",
+    ),
+    (
+        "a missing definition and a place in one record",
+        &[],
+        &[Records(2, &[PublicReference(CUONT, &[24]), End(0)])],
+        "refused 28 MissingDefinition file 1 slot 7 record 0",
+    ),
+    (
+        "a reserved place that is covered twice",
+        &[],
+        &[Records(2, &[PublicReference(COUNT, &[9, 9]), End(0)])],
+        "refused 32 ReservedPlace file 1 slot 7 record 0 reference 0",
+    ),
+    (
+        "an overlap and an operand that is too large",
+        &[Records(2, &[PublicDefinition(COUNT, 1), End(8)])],
+        &[
+            Code(1, 3, &[0xFF, 0xFF]),
+            Records(2, &[PublicReference(COUNT, &[2, 3]), End(0)]),
+        ],
+        "refused 33 Overlap file 1 slot 7 record 0 reference 1",
+    ),
+];
+
+#[test]
+fn dictionaries(rt: HostRuntime) -> Result<(), Fail> {
+    refuse_rows(&rt, Base::Pair, &DICTIONARIES)
+}
+
+#[test]
+fn entries_and_codes(rt: HostRuntime) -> Result<(), Fail> {
+    refuse_rows(&rt, Base::Pair, &ENTRIES_AND_CODES)
+}
+
+#[test]
+fn names_and_sizes(rt: HostRuntime) -> Result<(), Fail> {
+    refuse_rows(&rt, Base::Pair, &NAMES_AND_SIZES)
+}
+
+#[test]
+fn references(rt: HostRuntime) -> Result<(), Fail> {
+    refuse_rows(&rt, Base::Pair, &REFERENCES)
+}
+
+#[test]
+fn libraries_in_order(rt: HostRuntime) -> Result<(), Fail> {
+    let alloc = rt.alloc();
+    let host = base_host(alloc, LITTLE)?;
+    let base = base_library(alloc, LITTLE)?;
+    let big = base_library(alloc, Order::Big)?;
+    let short = base_library(alloc, LITTLE)?.with(alloc, &[Resized(511)])?;
+    let kind = base_library(alloc, LITTLE)?.with(alloc, &[Kind(2, 5)])?;
+    let nothing = base_library(alloc, LITTLE)?.with(alloc, &[Length(2, 0)])?;
+    let (base, big, short) = (base.as_slice(), big.as_slice(), short.as_slice());
+    for (what, libraries, fault) in [
+        (
+            "an order and a length",
+            [base, big, short],
+            "refused 3 OrderMismatch file 2",
+        ),
+        (
+            "a length and an order",
+            [base, short, big],
+            "refused 1 ShortFile file 2",
+        ),
+        (
+            "the first that has the name",
+            [nothing.as_slice(), kind.as_slice(), base],
+            "refused 14 NotAUnit kind 5 file 2 slot 7",
+        ),
+    ] {
+        refuses(&rt, what, host.as_slice(), &libraries, fault)?;
+    }
+    Ok(())
+}

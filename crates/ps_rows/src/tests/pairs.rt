@@ -1,0 +1,337 @@
+//! A host that wants its unit from a library, and the files that the two are linked to.
+use super::answers::{LITTLE, links};
+use super::tables::{Base, Row, link_rows};
+use crate::base::{
+    COUNT, LIBRARY_RECORDS, LIBRARY_UTIL, STATE, base_host, base_library, linked_base_pair,
+    linked_segments, util_code,
+};
+use crate::code_file::Change::{
+    Address, Bytes, Code, CodeWord, Entry, Kind, Length, Records, Resized,
+};
+use crate::code_file::{LINKED, Slot, TAIL, UNIT_SEGMENT};
+use crate::in_place::unit_in_place;
+use crate::information::Record::{End, PrivateReference, PublicDefinition, PublicReference};
+use crate::units::{
+    LONG_FILL, LONG_LENGTH, NINE_LENGTH, library_of_a_long_unit, library_of_nine_references,
+    long_end, nine_operands,
+};
+use ps_words::Order;
+use std::test::Fail;
+
+const BASE_SUMMARY: &str = "segments 2 private words 4 blocks 3";
+
+const NO_PRIVATE_WORDS: &str = "segments 2 private words 0 blocks 3";
+
+/// A segment that is linked already.
+const TOOLS: Slot = Slot {
+    name: *b"TOOLS   ",
+    kind: LINKED,
+    address: 3,
+    length: 5,
+};
+
+/// A slot of no code.
+const UNUSED: Slot = Slot {
+    name: *b"UNUSED  ",
+    kind: LINKED,
+    address: 9,
+    length: 0,
+};
+
+/// A slot whose name is eight zeros.
+const ZEROS: Slot = Slot {
+    name: [0; 8],
+    kind: UNIT_SEGMENT,
+    address: 0,
+    length: 0,
+};
+
+/// Link information.
+const RECORDS: [Row<'static>; 5] = [
+    Row {
+        what: "an EOFMARK alone",
+        host: &[],
+        library: &[Records(2, &[End(0)])],
+        linked: &[CodeWord(1, 4, 10), Code(2, 2, &[0]), Code(2, 5, &[2])],
+        summary: NO_PRIVATE_WORDS,
+    },
+    Row {
+        what: "the last private variable that has room",
+        host: &[Records(2, &[PublicDefinition(COUNT, 3), End(32760)])],
+        library: &[Records(
+            2,
+            &[
+                PublicReference(COUNT, &[1]),
+                PrivateReference(STATE, 7, &[4]),
+                End(0),
+            ],
+        )],
+        linked: &[CodeWord(1, 4, 24), Code(2, 4, &[0xFF, 0xFA])],
+        summary: "segments 2 private words 7 blocks 3",
+    },
+    Row {
+        what: "the unit's own EOFMARK value and definitions are not used",
+        host: &[],
+        library: &[Records(
+            2,
+            &[
+                PublicDefinition(COUNT, 9),
+                PublicReference(COUNT, &[1]),
+                PrivateReference(STATE, 4, &[4]),
+                End(77),
+            ],
+        )],
+        linked: &[],
+        summary: BASE_SUMMARY,
+    },
+    Row {
+        what: "a private variable of the host segment comes first",
+        host: &[Records(
+            2,
+            &[
+                PublicDefinition(COUNT, 3),
+                PrivateReference(STATE, 2, &[2]),
+                End(8),
+            ],
+        )],
+        library: &[],
+        linked: &[CodeWord(1, 4, 22), Code(1, 3, &[8]), Code(2, 5, &[12])],
+        summary: "segments 2 private words 6 blocks 3",
+    },
+    Row {
+        what: "files cut behind the last record",
+        host: &[Resized(1056)],
+        library: &[Resized(1104)],
+        linked: &[],
+        summary: BASE_SUMMARY,
+    },
+];
+
+/// Slots of the host.
+const SLOTS: [Row<'static>; 9] = [
+    Row {
+        what: "a wanted unit with a length and no address",
+        host: &[Length(7, 24)],
+        library: &[],
+        linked: &[],
+        summary: BASE_SUMMARY,
+    },
+    Row {
+        what: "a wanted unit with an address and no length",
+        host: &[Address(7, 1)],
+        library: &[],
+        linked: &[],
+        summary: BASE_SUMMARY,
+    },
+    Row {
+        what: "a blank slot of kind 3 with a length",
+        host: &[Kind(8, UNIT_SEGMENT), Length(8, 24)],
+        library: &[],
+        linked: &[],
+        summary: BASE_SUMMARY,
+    },
+    Row {
+        what: "a slot of kind 3 that is named by zeros",
+        host: &[Entry(8, ZEROS), Length(8, 24)],
+        library: &[],
+        linked: &[Entry(8, ZEROS), Kind(8, LINKED)],
+        summary: BASE_SUMMARY,
+    },
+    Row {
+        what: "a kind and a text address of an empty slot",
+        host: &[Kind(9, 77), Bytes(242, &[5, 0])],
+        library: &[],
+        linked: &[],
+        summary: BASE_SUMMARY,
+    },
+    Row {
+        what: "the name of an empty slot",
+        host: &[Entry(15, UNUSED)],
+        library: &[],
+        linked: &[Entry(15, UNUSED), Address(15, 0)],
+        summary: BASE_SUMMARY,
+    },
+    Row {
+        what: "the tail",
+        host: &[Bytes(TAIL, &[0x5A; 256])],
+        library: &[Bytes(TAIL, &[1; 256])],
+        linked: &[Bytes(TAIL, &[0x5A; 256])],
+        summary: BASE_SUMMARY,
+    },
+    Row {
+        what: "a segment that is linked already",
+        host: &[Resized(1541), Entry(8, TOOLS), Code(3, 0, &[1, 2, 3, 4, 5])],
+        library: &[],
+        linked: &[Resized(2048), Entry(8, TOOLS), Code(3, 0, &[1, 2, 3, 4, 5])],
+        summary: "segments 3 private words 4 blocks 4",
+    },
+    Row {
+        what: "a unit that is not wanted",
+        host: &[Kind(7, LINKED)],
+        library: &[],
+        linked: &[
+            CodeWord(1, 4, 10),
+            Address(7, 0),
+            Length(7, 0),
+            Resized(1024),
+        ],
+        summary: "segments 1 private words 0 blocks 2",
+    },
+];
+
+/// Entries of the library.
+const ENTRIES: [Row<'static>; 3] = [
+    Row {
+        what: "entries of other names and of any kind",
+        host: &[],
+        library: &[Entry(3, TOOLS), Kind(3, 9), Entry(4, TOOLS), Kind(4, 2)],
+        linked: &[],
+        summary: BASE_SUMMARY,
+    },
+    Row {
+        what: "another entry of the name that has no code",
+        host: &[],
+        library: &[Entry(3, LIBRARY_UTIL), Length(3, 0)],
+        linked: &[],
+        summary: BASE_SUMMARY,
+    },
+    Row {
+        what: "a number byte that is no slot",
+        host: &[],
+        library: &[Code(1, 22, &[0xEE])],
+        linked: &[],
+        summary: BASE_SUMMARY,
+    },
+];
+
+#[test]
+fn records(rt: HostRuntime) -> Result<(), Fail> {
+    link_rows(&rt, Base::Pair, &RECORDS)
+}
+
+#[test]
+fn slots(rt: HostRuntime) -> Result<(), Fail> {
+    link_rows(&rt, Base::Pair, &SLOTS)
+}
+
+#[test]
+fn entries(rt: HostRuntime) -> Result<(), Fail> {
+    link_rows(&rt, Base::Pair, &ENTRIES)
+}
+
+#[test]
+fn the_base_pair_in_either_byte_order(rt: HostRuntime) -> Result<(), Fail> {
+    let alloc = rt.alloc();
+    for order in [Order::Little, Order::Big] {
+        let host = base_host(alloc, order)?;
+        let library = base_library(alloc, order)?;
+        let linked = linked_base_pair(alloc, order)?;
+        let (host, library, linked) = (host.as_slice(), library.as_slice(), linked.as_slice());
+        links(&rt, "the pair", host, &[library], BASE_SUMMARY, linked)?;
+        links(
+            &rt,
+            "and a linked file",
+            host,
+            &[library, linked],
+            BASE_SUMMARY,
+            linked,
+        )?;
+    }
+    Ok(())
+}
+
+#[test]
+fn a_unit_in_place_that_is_like_the_library_s(rt: HostRuntime) -> Result<(), Fail> {
+    let alloc = rt.alloc();
+    for order in [Order::Little, Order::Big] {
+        let changes = [
+            Code(3, 0, &util_code(order, 2)),
+            Records(4, &LIBRARY_RECORDS),
+        ];
+        let host = unit_in_place(alloc, order)?.with(alloc, &changes)?;
+        let linked = linked_base_pair(alloc, order)?;
+        links(
+            &rt,
+            "no library",
+            host.as_slice(),
+            &[],
+            BASE_SUMMARY,
+            linked.as_slice(),
+        )?;
+    }
+    Ok(())
+}
+
+#[test]
+fn nine_references_of_one_record(rt: HostRuntime) -> Result<(), Fail> {
+    let alloc = rt.alloc();
+    let host = base_host(alloc, LITTLE)?;
+    let library = library_of_nine_references(alloc)?;
+    let changes = [Length(7, NINE_LENGTH), Code(2, 0, &nine_operands(3, 7))];
+    let linked = linked_segments(alloc, LITTLE)?.with(alloc, &changes)?;
+    let libraries = [library.as_slice()];
+    links(
+        &rt,
+        "",
+        host.as_slice(),
+        &libraries,
+        NO_PRIVATE_WORDS,
+        linked.as_slice(),
+    )
+}
+
+#[test]
+fn an_operand_in_two_blocks(rt: HostRuntime) -> Result<(), Fail> {
+    let alloc = rt.alloc();
+    let host = base_host(alloc, LITTLE)?;
+    let library = library_of_a_long_unit(alloc)?;
+    let changes = [
+        Resized(2048),
+        Length(7, LONG_LENGTH),
+        Code(2, 0, &LONG_FILL),
+        Code(2, 510, &long_end([0x81, 2], 7)),
+    ];
+    let linked = linked_segments(alloc, LITTLE)?.with(alloc, &changes)?;
+    assert_eq!(rt;
+        linked.as_slice().get(1535..1537),
+        Some([0x81, 2].as_slice())
+    );
+    let libraries = [library.as_slice()];
+    let summary = "segments 2 private words 0 blocks 4";
+    links(
+        &rt,
+        "",
+        host.as_slice(),
+        &libraries,
+        summary,
+        linked.as_slice(),
+    )
+}
+
+#[test]
+fn the_first_library_with_the_unit(rt: HostRuntime) -> Result<(), Fail> {
+    let alloc = rt.alloc();
+    let host = base_host(alloc, LITTLE)?;
+    let base = base_library(alloc, LITTLE)?;
+    let other = base_library(alloc, LITTLE)?.with(alloc, &[CodeWord(1, 6, 0)])?;
+    let linked = linked_base_pair(alloc, LITTLE)?;
+    let libraries = [base.as_slice(), other.as_slice()];
+    links(
+        &rt,
+        "the base library",
+        host.as_slice(),
+        &libraries,
+        BASE_SUMMARY,
+        linked.as_slice(),
+    )?;
+    let linked = linked.with(alloc, &[CodeWord(2, 6, 0)])?;
+    let libraries = [other.as_slice(), base.as_slice()];
+    links(
+        &rt,
+        "the other",
+        host.as_slice(),
+        &libraries,
+        BASE_SUMMARY,
+        linked.as_slice(),
+    )
+}

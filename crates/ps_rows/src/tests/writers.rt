@@ -1,0 +1,74 @@
+//! A writer that takes little, and then stalls or fails.
+use std::alloc::{AllocError, Global};
+use std::io;
+use std::io::Write;
+
+/// What a writer with no room left does at the next write.
+#[derive(Clone, Copy)]
+pub(crate) enum Full {
+    Stalls,
+    Fails,
+}
+
+/// A writer with room for so many bytes, of which each write takes at most so many.
+#[derive(Drop)]
+pub(crate) struct Room {
+    bytes: Vec<u8>,
+    taken: usize,
+    per_write: usize,
+    full: Full,
+    failures: u64,
+}
+
+impl Room {
+    /// Room for so many bytes; the memory is taken here, and no write takes any.
+    pub(crate) fn new(
+        alloc: Global,
+        room: usize,
+        per_write: usize,
+        full: Full,
+    ) -> Result<Room, AllocError> {
+        Ok(Room {
+            bytes: Vec::from_elem(alloc, 0, room)?,
+            taken: 0,
+            per_write,
+            full,
+            failures: 0,
+        })
+    }
+
+    /// The bytes that were taken.
+    pub(crate) fn written(&self) -> &[u8] {
+        self.bytes.get(..self.taken).unwrap_or(&[])
+    }
+
+    /// How many writes failed.
+    pub(crate) fn failures(&self) -> u64 {
+        self.failures
+    }
+}
+
+impl Write for Room {
+    fn write(&mut self, buf: &[u8]) -> io::Result<usize> {
+        let left = self.bytes.len().saturating_sub(self.taken);
+        let count = buf.len().min(self.per_write).min(left);
+        if count == 0 && !buf.is_empty() {
+            return match self.full {
+                Full::Stalls => Ok(0),
+                Full::Fails => {
+                    self.failures = self.failures.saturating_add(1);
+                    Err(io::Error::from(io::ErrorKind::Interrupted))
+                }
+            };
+        }
+        for (to, from) in self.bytes.iter_mut().skip(self.taken).zip(buf) {
+            *to = *from;
+        }
+        self.taken = self.taken.saturating_add(count);
+        Ok(count)
+    }
+
+    fn flush(&mut self) -> io::Result<()> {
+        Ok(())
+    }
+}
