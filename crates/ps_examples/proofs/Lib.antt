@@ -1,1 +1,3 @@
 pub mod LinkedBytes
+pub mod MapTexts
+pub mod ShowTexts

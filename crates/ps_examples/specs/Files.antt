@@ -37,6 +37,9 @@ cuont = 67 ∷ 85 ∷ 79 ∷ 78 ∷ 84 ∷ 32 ∷ 32 ∷ 32 ∷ []
 abbrev pub state : List ℕ
 state = 83 ∷ 84 ∷ 65 ∷ 84 ∷ 69 ∷ 32 ∷ 32 ∷ 32 ∷ []
 
+abbrev pub limit : List ℕ
+limit = 76 ∷ 73 ∷ 77 ∷ 73 ∷ 84 ∷ 32 ∷ 32 ∷ 32 ∷ []
+
 abbrev pub nobody : List ℕ
 nobody = 78 ∷ 79 ∷ 66 ∷ 79 ∷ 68 ∷ 89 ∷ 32 ∷ 32 ∷ []
 

@@ -1,4 +1,4 @@
-//! The definitions of a link, computed on small files: what is refused there, which fault is named where several stand, and what is written. Each function's contract states examples, and its body is empty.
+//! The definitions of a link, computed on small files: what is refused there, which fault is named where several stand, what is written, and what map and show print. Each function's contract states examples, and its body is empty.
 #![tactic(auto)]
 
 mod linked_files;
@@ -9,6 +9,7 @@ mod refused_references;
 mod refused_slots;
 mod refused_sources;
 mod refused_symbols;
+mod texts;
 
 pub use linked_files::linked_bytes;
 pub use orders::one_order;
@@ -18,3 +19,4 @@ pub use refused_references::faults_of_references;
 pub use refused_slots::faults_of_slots;
 pub use refused_sources::faults_of_sources;
 pub use refused_symbols::faults_of_symbols;
+pub use texts::{map_texts, show_texts};

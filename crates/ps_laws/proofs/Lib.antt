@@ -7,4 +7,5 @@ pub mod Definitions
 pub mod DataSize
 pub mod Privates
 pub mod References
+pub mod Parts
 pub mod Whole

@@ -9,10 +9,10 @@ use Rattle.std.specs.Str.{bytes_eq}
 use Rattle.std.proofs.lemmas.Bool.{cases_lt, false≢true}
 use Rattle.std.proofs.lemmas.Bool.Decides.{Decides-ltb, Decides-and, Decides-or, Decides-not, Decides-like}
 use Rattle.std.proofs.lemmas.Slice.Eq.{bytes_eq-Decides}
-use Rattle.ps_codefile.specs.Dictionary.{slots, is_nameless, FileOrder, Zero, Ordered, Mixed, file_order, entry_at, role_of, role_of_kind}
+use Rattle.ps_codefile.specs.Dictionary.{slots, is_nameless, Opened, FileOrder, Zero, Ordered, Mixed, file_order, opened, opened_as, opened_beside_as, same_order, entry_at, role_of, role_of_kind}
 use Rattle.ps_codefile.specs.declared.entry.Entry.{Entry}
 use Rattle.ps_codefile.specs.declared.entry.Role.{Role}
-use Rattle.ps_resolve.specs.Faults.{order_reason, host_fault, is_role, slot_reason, slots_fault, no_host_fault, same_order, beside_reason, library_reason, library_fault, libraries_fault}
+use Rattle.ps_resolve.specs.Faults.{host_fault, is_role, slot_reason, slots_fault, no_host_fault, library_reason, library_fault, libraries_fault}
 use Rattle.ps_resolve.specs.First.{Least, nothing, this}
 use Rattle.ps_resolve.specs.Sources.{is_host, is_unit}
 use Rattle.ps_resolve.specs.Standing.{Because, Lesser, HostHas, HasRole, IsUnitSlot, SlotHas, LibraryHas, Step, OfHost, OfSlots, OfNoHost, OfLibraries, rank, Precedes, InHost, InSlots, InNoHost, InLibraries}
@@ -57,10 +57,10 @@ pub any_lesser : (test : ℕ → Bool) (P : ℕ → Type 0) → ((i : ℕ) → D
 any_lesser test P d n = Decides-like (list_any test (range_with_len 0 n)) (λ t. (t.0, omega (arith, t.2), t.3)) (λ t. (t.0, omega arith, omega (arith, t.1), t.2)) (any_of_range test P d 0 n)
 
 -- 1
-host_reason : (host : List ℕ) → Least Ranked (HostHas host) (if nat_lt (length host) 512 then Some reason.ShortFile else order_reason (file_order host))
+host_reason : (host : List ℕ) → Least Ranked (HostHas host) (result_err (opened host))
 host_reason host = go (nat_lt (length host) 512) (file_order host) (Decides-ltb (length host) 512) refl
   where
-    go : (b : Bool) (o : FileOrder) → Decides b (length host < 512) → file_order host ≡ o → Least Ranked (HostHas host) (if b then Some reason.ShortFile else order_reason o)
+    go : (b : Bool) (o : FileOrder) → Decides b (length host < 512) → file_order host ≡ o → Least Ranked (HostHas host) (result_err (if b then Err reason.ShortFile else opened_as host o))
     go true o d e = this reason.ShortFile (d.0 refl) least
       where
         least : (y : Reason) → HostHas host y → (y ≡ reason.ShortFile) ⊎ Ranked reason.ShortFile y
@@ -94,16 +94,16 @@ pub step_1 : (host : List ℕ) → Least (Precedes OfHost) (InHost host) (host_f
 step_1 host = because OfHost (in_file 0) (λ a b r. inr (refl, inr (refl, inr (refl, inr (refl, inl r))))) (host_reason host)
 
 -- 4
-is_same : (order other : Order) → Decides (not (same_order order other)) (other ≢ order)
-is_same Little Little = (λ e. absurd (false≢true e), λ n. absurd (n refl))
-is_same Little Big = (λ e p. cc, λ n. refl)
-is_same Big Little = (λ e p. cc, λ n. refl)
-is_same Big Big = (λ e. absurd (false≢true e), λ n. absurd (n refl))
+is_same : (other order : Order) → Decides (same_order other order) (other ≡ order)
+is_same Little Little = (λ e. refl, λ e. refl)
+is_same Little Big = (λ e. absurd (false≢true e), λ e. cc)
+is_same Big Little = (λ e. absurd (false≢true e), λ e. cc)
+is_same Big Big = (λ e. refl, λ e. refl)
 
 library_reasons : (order : Order) (lib : List ℕ) → Least Ranked (LibraryHas order lib) (library_reason order lib)
 library_reasons order lib = go (nat_lt (length lib) 512) (file_order lib) (Decides-ltb (length lib) 512) refl
   where
-    go : (b : Bool) (o : FileOrder) → Decides b (length lib < 512) → file_order lib ≡ o → Least Ranked (LibraryHas order lib) (if b then Some reason.ShortFile else beside_reason order o)
+    go : (b : Bool) (o : FileOrder) → Decides b (length lib < 512) → file_order lib ≡ o → Least Ranked (LibraryHas order lib) (result_err (if b then Err reason.ShortFile else opened_beside_as order lib o))
     go true o d e = this reason.ShortFile (d.0 refl) least
       where
         least : (y : Reason) → LibraryHas order lib y → (y ≡ reason.ShortFile) ⊎ Ranked reason.ShortFile y
@@ -125,17 +125,23 @@ library_reasons order lib = go (nat_lt (length lib) 512) (file_order lib) (Decid
         least reason.NoOrder h = inl refl
         least reason.OrderMismatch h = inr (omega arith)
         least other h = absurd h
-    go false (Ordered other) d e =
-        least_same to from (least_if (not (same_order order other)) reason.OrderMismatch (is_same order other))
+    go false (Ordered other) d e = of (same_order other order) (is_same other order)
       where
-        to : (y : Reason) → (y ≡ reason.OrderMismatch) × (other ≢ order) → LibraryHas order lib y
-        to y t = subst (LibraryHas order lib) (sym t.0) (not_below (length lib) 512 d, other, e, t.1)
-
-        from : (y : Reason) → LibraryHas order lib y → (y ≡ reason.OrderMismatch) × (other ≢ order)
-        from reason.ShortFile h = absurd (false≢true (d.1 h))
-        from reason.NoOrder h = absurd (let a = h.1 in cc)
-        from reason.OrderMismatch h = (refl, λ p. h.3 (let a = h.2 in cc))
-        from another h = absurd h
+        of : (same : Bool) → Decides same (other ≡ order) → Least Ranked (LibraryHas order lib) (result_err {T = Opened} (if same then Ok (record { order = order; file = lib }) else Err reason.OrderMismatch))
+        of true s = nothing least
+          where
+            least : (y : Reason) → LibraryHas order lib y → ⊥
+            least reason.ShortFile h = false≢true (d.1 h)
+            least reason.NoOrder h = let a = h.1 in cc
+            least reason.OrderMismatch h = h.3 (let a = h.2 in let b = s.0 refl in cc)
+            least another h = h
+        of false s = this reason.OrderMismatch (not_below (length lib) 512 d, other, e, λ p. false≢true (s.1 p)) least
+          where
+            least : (y : Reason) → LibraryHas order lib y → (y ≡ reason.OrderMismatch) ⊎ Ranked reason.OrderMismatch y
+            least reason.ShortFile h = absurd (false≢true (d.1 h))
+            least reason.NoOrder h = absurd (let a = h.1 in cc)
+            least reason.OrderMismatch h = inl refl
+            least another h = absurd h
 
 pub step_4 : (order : Order) (libs : List (List ℕ)) → Least (Precedes OfLibraries) (InLibraries order libs) (libraries_fault order libs)
 unfolding libraries_fault

@@ -1,8 +1,9 @@
 -- The linked file is one list: where its facts stand, each byte is that of the list.
-use Rattle.std.proofs.Common.{◌≡◌, ℕ, ◌+◌, ◌-◌, ◌*◌, ◌/◌, ◌≤◌, ◌<◌, List, [], ◌∷◌, ◌++◌, length, map, get_or, take, drop, replicate, Option, Some, None, Bool, true, false, cond, refl, sym, ◌∙◌, ap, subst, inl, inr, arith, append_assoc, length-append, length-take, length-drop}
+use Rattle.std.proofs.Common.{◌≡◌, ℕ, ◌+◌, ◌-◌, ◌*◌, ◌/◌, ◌≤◌, ◌<◌, List, [], ◌∷◌, ◌++◌, length, map, get_or, take, drop, replicate, Option, Some, None, Result, Ok, Err, Bool, true, false, cond, refl, sym, ◌∙◌, ap, subst, inl, inr, arith, append_assoc, length-append, length-take, length-drop}
 use Rattle.std.specs.Prelude.{All, nat_lt, slice_range}
 use Rattle.std.specs.List.{range_with_len, flat_map}
 use Rattle.std.specs.Option.{option_or, option_map}
+use Rattle.std.specs.Result.{result_err}
 use Rattle.std.proofs.lemmas.Bool.{cases_lt, ltb-false, le-ltb}
 use Rattle.std.proofs.lemmas.Bool.Decides.{nat_tests}
 use Rattle.std.proofs.lemmas.List.{append-nil, get_or-take, get_or-drop, get_or_append_left, get_or-append-add, get_or-replicate, length-replicate, take-append-drop, drop-drop, drop_all, take_at, drop_at, ext_get_or}
@@ -14,10 +15,10 @@ use Rattle.ps_words.specs.declared.fault.Fault.{Fault}
 use Rattle.ps_words.specs.declared.fault.Reason.{Reason}
 use Rattle.ps_words.specs.declared.fault.Reason.TheVariants as reason
 use Rattle.ps_words.specs.FaultPlaces.{in_file}
-use Rattle.ps_codefile.specs.Dictionary.{slots, file_order}
+use Rattle.ps_codefile.specs.Dictionary.{slots, Opened, file_order, opened_as}
 use Rattle.ps_resolve.specs.Sources.{order_of}
 use Rattle.ps_resolve.specs.Linking.{Edited, linked_byte}
-use Rattle.ps_resolve.specs.Faults.{first_fault, reading_fault, host_fault, order_reason}
+use Rattle.ps_resolve.specs.Faults.{first_fault, reading_fault, host_fault}
 use Rattle.ps_patch.specs.Patched.{patched_or_zero}
 use Rattle.ps_linkfile.specs.LinkedFile.{Extent, all_blocks, block_of, pair_of, linked_segments, extent_of, extents, LinkedFile, all_pairs, dictionary, padded_segment, linked_file}
 use Rattle.ps_linkfile.specs.Writing.{Ascend}
@@ -143,12 +144,12 @@ none_first : {X : Type 0} (a b : Option X) → option_or a b ≡ None → a ≡ 
 none_first None b h = refl
 none_first (Some x) b h = cc
 
-whole_test : (short : Bool) (why : Option Reason) → option_map (in_file 0) (cond short (Some reason.ShortFile) why) ≡ None → short ≡ false
-whole_test true why h = cc
-whole_test false why h = refl
+whole_test : (short : Bool) (of : Result Opened Reason) → option_map (in_file 0) (result_err (cond short (Err reason.ShortFile) of)) ≡ None → short ≡ false
+whole_test true of h = cc
+whole_test false of h = refl
 
 whole_host : (host : List ℕ) → host_fault host ≡ None → 512 ≤ length host
-whole_host host h = ltb-false (length host) 512 (whole_test (nat_lt (length host) 512) (order_reason (file_order host)) h)
+whole_host host h = ltb-false (length host) 512 (whole_test (nat_lt (length host) 512) (opened_as host (file_order host)) h)
 
 host_first : (host : List ℕ) (libs : List (List ℕ)) → reading_fault host libs ≡ None → host_fault host ≡ None
 unfolding reading_fault

@@ -1,9 +1,10 @@
 ghost use Rattle.std.specs.Prelude.{◌≡◌};
 ghost use Rattle.ps_linkfile.specs.Outcomes.{error_of};
-ghost use Rattle.ps_linkfile.specs.declared.error.LinkError.TheVariants.{Write};
+ghost use Rattle.ps_linkfile.specs.declared.error.LinkError.TheVariants.{Memory, Write};
 
 use ps_resolve::Stop;
 use ps_words::Fault;
+use std::alloc::AllocError;
 use std::io;
 use thiserror::Error;
 
@@ -52,5 +53,13 @@ impl From<WriteFault> for LinkError {
 
     fn from(fault: WriteFault) -> LinkError {
         LinkError::Write(fault)
+    }
+}
+
+impl From<AllocError> for LinkError {
+    ghost from_gives = { λ _ error. error ≡ Memory };
+
+    fn from(_error: AllocError) -> LinkError {
+        LinkError::Memory
     }
 }

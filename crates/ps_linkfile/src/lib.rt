@@ -5,6 +5,7 @@
 mod dictionary;
 mod error;
 mod laws;
+mod lines;
 mod linked;
 mod summary;
 mod writing;

@@ -2,12 +2,13 @@ ghost use Rattle.std.specs.Prelude.{◌≡◌, ◌+◌, map, IfOk, IfErr, OnOk, 
 ghost use Rattle.std.specs.Io.KnownBytes.{Appends};
 ghost use Rattle.ps_linkfile.specs.LinkedFile.{all_blocks, summary_of};
 ghost use Rattle.ps_linkfile.specs.Writing.{extents_of, file_of, summary_in, StandsFor};
-ghost use Rattle.ps_linkfile.specs.Outcomes.{AppendsFront, AppendsLinkedFile, IsUnprepared, IsUnlinked, LeavesUntouched, LeavesFront};
+ghost use Rattle.ps_linkfile.specs.Outcomes.{AppendsFront, AppendsLinkedFile, NoneStands, NamesFirst, IsUnprepared, IsUnlinked, LeavesUntouched, LeavesFront};
 
 use crate::dictionary::dictionary_of;
 use crate::error::{LinkError, WriteFault};
 use crate::summary::Summary;
 use crate::writing::{write_all_of, write_codes};
+use ps_laws::first_of_all;
 use ps_resolve::{Plan, resolve};
 use ps_words::blocks_of;
 use std::alloc::{Allocator, Global};
@@ -77,8 +78,11 @@ pub fn prepare<'a, A: Allocator + Copy>(
     libs: &'a [&'a [u8]],
 ) -> Result<Linked<'a, A>, LinkError>
     ensures linked { IfOk result (StandsFor host.now (map (λ lib. lib.now) libs.now)) }
+    ensures accepted { IfOk result (λ _. NoneStands host.now (map (λ lib. lib.now) libs.now)) }
     ensures error { IfErr result (IsUnprepared host.now (map (λ lib. lib.now) libs.now)) }
+    ensures first { IfErr result (NamesFirst host.now (map (λ lib. lib.now) libs.now)) }
 {
+    first_of_all();
     let plan = resolve(alloc, host, libs)?;
     Ok(Linked { plan })
 }
@@ -104,7 +108,9 @@ pub fn link<'a, A: Allocator + Copy, W: Write>(
 ) -> Result<Summary, LinkError>
     ensures written { OnOk result (AppendsLinkedFile host.now (map (λ lib. lib.now) libs.now) (W.contents out.old) (W.contents out.new)) }
     ensures summary { IfOk result (λ s. s ≡ summary_of host.now (map (λ lib. lib.now) libs.now)) }
+    ensures accepted { IfOk result (λ _. NoneStands host.now (map (λ lib. lib.now) libs.now)) }
     ensures error { IfErr result (IsUnlinked host.now (map (λ lib. lib.now) libs.now)) }
+    ensures first { IfErr result (NamesFirst host.now (map (λ lib. lib.now) libs.now)) }
     ensures untouched { IfErr result (λ e. LeavesUntouched e out.old out.new) }
     ensures front { IfErr result (λ e. LeavesFront host.now (map (λ lib. lib.now) libs.now) e (W.contents out.old) (W.contents out.new)) }
 {

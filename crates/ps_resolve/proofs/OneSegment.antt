@@ -1,10 +1,10 @@
 -- The edits of one segment link it.
 use Rattle.std.proofs.Common.{◌≡◌, ℕ, ◌+◌, ◌-◌, ◌≤◌, ◌++◌, List, [], ◌∷◌, length, Bool, true, false, Option, Some, None, Result, Ok, Err, refl, sym, ◌∙◌, ap, subst, arith}
-use Rattle.std.specs.Prelude.{count_by, IsPermutation, if◌then◌else◌}
+use Rattle.std.specs.Prelude.{IsPermutation, if◌then◌else◌}
 use Rattle.std.specs.Option.{option_map, option_to_list}
-use Rattle.std.proofs.lemmas.List.Sorted.{IsPermutation-refl}
+use Rattle.std.proofs.lemmas.List.Sorted.{IsPermutation-refl, IsPermutation-sym}
 use Rattle.std.proofs.lemmas.List.Elements.{All-nil}
-use Rattle.ps_words.specs.Edits.{AreEdits, IsInside, covers, patched}
+use Rattle.ps_words.specs.Edits.{AreApart, AreEdits, IsInside, patched}
 use Rattle.ps_words.specs.declared.order.Order.{Order}
 use Rattle.ps_words.specs.declared.edit.Edit.{Edit}
 use Rattle.ps_words.specs.declared.edit.Edit.TheVariants.{Byte}
@@ -19,7 +19,6 @@ use Rattle.ps_resolve.specs.Faults.{in_segment, segment_fault}
 use Rattle.ps_resolve.specs.Plans.{LinksSegment}
 use Rattle.ps_resolve.specs.Views.{segment_of}
 use Rattle.ps_resolve.specs.declared.segment.Segment.{Segment as SegmentView}
-use Rattle.ps_resolve.proofs.Orders.{same_patched}
 
 pub unless_ok : (o : Option Reason) (x y : ProcedureTables) → ◌≡◌ {A = Result ProcedureTables Reason} (Ok y) (unless o x) → y ≡ x
 unless_ok None x y h = cc
@@ -67,17 +66,17 @@ module _ (order : Order) (known : Known) (v : SegmentView) (free : ℕ) where
         ∙ ap (λ (n : ℕ). Byte (length v.code.now - 2) n ∷ (option_to_list own ++ records_edits known v.code.now free rs)) (sym at)
 
     pub linked_links : (sorted : List Edit) → IsPermutation (Byte (length v.code.now - 2) slot ∷ (option_to_list own ++ records_edits known v.code.now free rs)) sorted
-        → ((p : ℕ) → count_by (covers p) (Byte (length v.code.now - 2) slot ∷ (option_to_list own ++ records_edits known v.code.now free rs)) ≤ 1)
         → AreEdits (length v.code.now) sorted
+        → ((edits listed : List Edit) (p : ℕ) → AreApart 0 edits → IsPermutation edits listed → patched order v.code.now edits p ≡ patched order v.code.now listed p)
         → (words : ℕ) → option_to_list own ≡ (if is_host v.role then data_edits order words v.code.now else [])
         → LinksSegment order (record { segment = segment_of order v; edits = segment_edits order known words free (segment_of order v) }) sorted
-    linked_links sorted same once ready words e =
+    linked_links sorted same ready alike words e =
         let all : List Edit = Byte (length v.code.now - 2) slot ∷ (option_to_list own ++ records_edits known v.code.now free rs) in
         let is = listed words e in
         record {
           ready = ready;
           each = subst (λ (es : List Edit). IsPermutation es sorted) (sym is) same;
-          bytes = λ p lt. sym (same_patched order v.code.now all sorted p same (once p)) ∙ ap (λ (es : List Edit). patched order v.code.now es p) (sym is);
+          bytes = λ p lt. alike sorted all p ready.apart (IsPermutation-sym all sorted same) ∙ ap (λ (es : List Edit). patched order v.code.now es p) (sym is);
         }
 
     pub linked_fault : records_fault known (is_reserved order v.code.now) v.code.now 0 free [] rs ≡ None → segment_fault order known free (segment_of order v) ≡ None

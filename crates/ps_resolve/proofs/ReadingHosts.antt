@@ -10,20 +10,13 @@ use Rattle.ps_words.specs.declared.fault.Reason.TheVariants as reason
 use Rattle.ps_words.specs.declared.fault.Fault.{Fault}
 use Rattle.ps_codefile.specs.Dictionary.{Opened, FileOrder, Zero, Ordered, Mixed, file_order, opened, opened_as}
 use Rattle.ps_resolve.specs.Sources.{known_order, order_of}
-use Rattle.ps_resolve.specs.Faults.{order_reason, slots_fault, no_host_fault, libraries_fault, sources_fault, reading_fault}
+use Rattle.ps_resolve.specs.Faults.{slots_fault, no_host_fault, libraries_fault, sources_fault, reading_fault}
 
--- a host is refused just where the definition says
-refused_as : (short : Bool) (of : FileOrder) (file : List ℕ) (why : Reason) → (if short then Err reason.ShortFile else opened_as file of) ≡ Err why → (if short then Some reason.ShortFile else order_reason of) ≡ Some why
-refused_as true of file why h = cc
-refused_as false Zero file why h = cc
-refused_as false (Ordered order) file why h = cc
-refused_as false Mixed file why h = cc
-
-read_as : (short : Bool) (of : FileOrder) (file : List ℕ) (o : Opened) → (if short then Err reason.ShortFile else opened_as file of) ≡ Ok o
-    → ((if short then Some reason.ShortFile else order_reason of) ≡ None) × (o ≡ record { order = known_order of; file = file })
+-- a host that is read is read in its own byte order
+read_as : (short : Bool) (of : FileOrder) (file : List ℕ) (o : Opened) → (if short then Err reason.ShortFile else opened_as file of) ≡ Ok o → o ≡ record { order = known_order of; file = file }
 read_as true of file o h = cc
 read_as false Zero file o h = cc
-read_as false (Ordered order) file o h = (refl, cc)
+read_as false (Ordered order) file o h = cc
 read_as false Mixed file o h = cc
 
 whole_as : (short : Bool) (of : FileOrder) (file : List ℕ) (o : Opened) → (if short then Err reason.ShortFile else opened_as file of) ≡ Ok o → short ≡ false
@@ -38,12 +31,10 @@ host_whole host o h =
 
 pub host_refused : (host : List ℕ) (libs : List (List ℕ)) (why : Reason) → opened host ≡ Err why → reading_fault host libs ≡ Some (in_file 0 why)
 unfolding reading_fault
-host_refused host libs why h =
-    let refused = refused_as (ltb (length host) 512) (file_order host) host why h in
-    rw refused
+host_refused host libs why h = rw h
 
 pub host_is : (host : List ℕ) (o : Opened) → opened host ≡ Ok o → o ≡ record { order = order_of host; file = host }
-host_is host o h = (read_as (ltb (length host) 512) (file_order host) host o h).1
+host_is host o h = read_as (ltb (length host) 512) (file_order host) host o h
 
 -- what is looked at behind the host's order
 abbrev pub rest_of : Order → List ℕ → List (List ℕ) → Option Fault
@@ -52,5 +43,4 @@ rest_of order host libs = option_or (slots_fault order host) (option_or (no_host
 pub host_read : (host : List ℕ) (libs : List (List ℕ)) (o : Opened) → opened host ≡ Ok o → reading_fault host libs ≡ rest_of o.order o.file libs
 unfolding reading_fault
 host_read host libs o h =
-    let read = read_as (ltb (length host) 512) (file_order host) host o h in
-    rw (read.0, read.1)
+    rw (h, host_is host o h)

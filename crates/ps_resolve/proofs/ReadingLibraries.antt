@@ -15,21 +15,8 @@ use Rattle.ps_words.specs.declared.fault.Fault.{Fault}
 use Rattle.ps_codefile.specs.Dictionary.{FileOrder, Zero, Ordered, Mixed, file_order, opened_beside, opened_beside_as}
 use Rattle.ps_resolve.specs.Searches.{first_of}
 use Rattle.ps_resolve.specs.Sources.{has_entry, chosen_library, file_at}
-use Rattle.ps_resolve.specs.Faults.{library_fault, library_reason, beside_reason}
+use Rattle.ps_resolve.specs.Faults.{library_fault, library_reason}
 use Rattle.ps_resolve.proofs.ReadingRows.{neither_first, neither_second, none_mapped}
-
--- reading a library refuses just what the definition names
-beside_as : (short : Bool) (of : FileOrder) (order : Order) (file : List ℕ) → result_err (if short then Err reason.ShortFile else opened_beside_as order file of) ≡ (if short then Some reason.ShortFile else beside_reason order of)
-beside_as true of order file = refl
-beside_as false Zero order file = refl
-beside_as false (Ordered Little) Little file = refl
-beside_as false (Ordered Little) Big file = refl
-beside_as false (Ordered Big) Little file = refl
-beside_as false (Ordered Big) Big file = refl
-beside_as false Mixed order file = refl
-
-pub beside : (order : Order) (file : List ℕ) → result_err (opened_beside order file) ≡ library_reason order file
-beside order file = beside_as (ltb (length file) 512) (file_order file) order file
 
 -- a library that is not refused is read as it is
 read_as : (short : Bool) (of : FileOrder) (order : Order) (file : List ℕ) → result_err (if short then Err reason.ShortFile else opened_beside_as order file of) ≡ None
@@ -43,7 +30,7 @@ read_as false (Ordered Big) Big file h = refl
 read_as false Mixed order file h = cc
 
 pub read_beside : (order : Order) (file : List ℕ) → library_reason order file ≡ None → opened_beside order file ≡ Ok (record { order = order; file = file })
-read_beside order file h = read_as (ltb (length file) 512) (file_order file) order file (beside order file ∙ h)
+read_beside order file h = read_as (ltb (length file) 512) (file_order file) order file h
 
 -- what a list of references stands for
 abbrev pub files : List (Bor (List ℕ)) → List (List ℕ)

@@ -7,11 +7,10 @@ use Rattle.std.specs.Result.{result_err, result_ok}
 use Rattle.std.specs.Str.{bytes_eq}
 use Rattle.ps_words.specs.FaultPlaces.{in_file, in_slot, in_record, in_reference}
 use Rattle.ps_words.specs.declared.order.Order.{Order}
-use Rattle.ps_words.specs.declared.order.Order.TheVariants.{Little, Big}
 use Rattle.ps_words.specs.declared.fault.Reason.{Reason}
 use Rattle.ps_words.specs.declared.fault.Reason.TheVariants as reason
 use Rattle.ps_words.specs.declared.fault.Fault.{Fault}
-use Rattle.ps_codefile.specs.Dictionary.{slots, FileOrder, Zero, Ordered, Mixed, file_order, entry_at, role_of, code_of, information_of}
+use Rattle.ps_codefile.specs.Dictionary.{slots, opened, opened_beside, entry_at, role_of, code_of, information_of}
 use Rattle.ps_codefile.specs.Procedures.{table_of, tables_fault, is_reserved}
 use Rattle.ps_codefile.specs.declared.entry.Role.{Role}
 use Rattle.ps_codefile.specs.declared.entry.Entry.{Entry}
@@ -24,13 +23,8 @@ use Rattle.ps_resolve.specs.References.{Known, records_fault}
 use Rattle.ps_resolve.specs.Linking.{known_of, grown_data_size}
 
 -- 1. the host by itself: too short, of no byte order, or without any kind
-abbrev pub order_reason : FileOrder → Option Reason
-order_reason Zero = Some reason.NoHost
-order_reason (Ordered order) = None
-order_reason Mixed = Some reason.NoOrder
-
 abbrev pub host_fault : List ℕ → Option Fault
-host_fault host = option_map (in_file 0) (if nat_lt (length host) 512 then Some reason.ShortFile else order_reason (file_order host))
+host_fault host = option_map (in_file 0) (result_err (opened host))
 
 -- 2. its slots: each by its kind, then a second host segment, then a second unit of a name
 abbrev pub is_role : (Role → Bool) → Order → List ℕ → ℕ → Bool
@@ -50,19 +44,8 @@ unfoldable pub no_host_fault : Order → List ℕ → Option Fault
 no_host_fault order host = fault_if (not (list_any (is_role is_host order host) slots)) (in_file 0 reason.NoHost)
 
 -- 4. the libraries, each by itself
-abbrev pub same_order : Order → Order → Bool
-same_order Little Little = true
-same_order Little Big = false
-same_order Big Little = false
-same_order Big Big = true
-
-abbrev pub beside_reason : Order → FileOrder → Option Reason
-beside_reason order Zero = None
-beside_reason order (Ordered other) = fault_if (not (same_order order other)) reason.OrderMismatch
-beside_reason order Mixed = Some reason.NoOrder
-
 abbrev pub library_reason : Order → List ℕ → Option Reason
-library_reason order lib = if nat_lt (length lib) 512 then Some reason.ShortFile else beside_reason order (file_order lib)
+library_reason order lib = result_err (opened_beside order lib)
 
 abbrev pub library_fault : Order → ℕ × List ℕ → Option Fault
 library_fault order lib = option_map (in_file lib.0) (library_reason order lib.1)

@@ -9,7 +9,7 @@ ghost use Rattle.ps_resolve.specs.Privates.{words_in, allotted, words_of, privat
 use crate::keyed::Keyed;
 use crate::linkage::{Linkage, Stop};
 use indexmap::IndexSet;
-use ps_linkinfo::{Body, Records};
+use ps_linkinfo::{Body, Records, walk_from_start};
 use ps_words::{Fault, Reason};
 use std::alloc::{Allocator, Global};
 use std::marker::Model;
@@ -71,6 +71,7 @@ fn allot<A: Allocator + Copy>(
     ensures once { IfOk result (λ _. private_fault 0 next [] (reading segment.now.order segment.now.bytes.now).0 ≡ None) }
     ensures stop { IfErr result (IsUnallotted segment.now.file segment.now.slot next (reading segment.now.order segment.now.bytes.now).0) }
 {
+    walk_from_start();
     let mut names = IndexSet::with_hasher(alloc, keyed);
     let mut rec = 0;
     let mut free = next;

@@ -6,7 +6,7 @@ ghost use Rattle.ps_resolve.specs.Stops.{IsDoubled};
 use crate::keyed::Keyed;
 use crate::linkage::{Linkage, Stop};
 use indexmap::IndexMap;
-use ps_linkinfo::{Body, LinkRecord, Records};
+use ps_linkinfo::{Body, LinkRecord, Records, walk_from_start};
 use ps_words::{Fault, Reason};
 use std::alloc::{Allocator, Global};
 use std::marker::Model;
@@ -86,6 +86,7 @@ fn table_of<A: Allocator + Copy>(
     ensures once { IfOk result (λ _. doubled (reading host.now.order host.now.bytes.now).0 ≡ None) }
     ensures stop { IfErr result (IsDoubled host.now.file host.now.slot (reading host.now.order host.now.bytes.now).0) }
 {
+    walk_from_start();
     let mut by_name = IndexMap::with_hasher(alloc, hasher_for(host));
     let mut rec = 0;
     for item in Records::new(host.order, host.bytes) {

@@ -25,13 +25,12 @@ use crate::plan::{Plan, Source};
 use crate::roles::{is_host, is_linked};
 use crate::segment::Segment;
 use crate::segments::RecordStop;
+use crate::slots::HOST_FILE;
 use ps_codefile::Procs;
-use ps_linkinfo::{Body, Records};
+use ps_linkinfo::{Body, Records, walk_from_start};
+use ps_words::laws::edits_patch_alike_in_any_order;
 use ps_words::{Edit, Fault, Order};
 use std::alloc::Allocator;
-
-/// The number of the host file.
-const HOST_FILE: usize = 0;
 
 /// The bytes that a segment's records are read from; there are none where it is linked already.
 fn read_information<'a>(segment: &Segment<'a>) -> &'a [u8]
@@ -90,6 +89,7 @@ fn host_of<'a>(segments: &[Segment<'a>]) -> Option<Segment<'a>>
 fn base_of(host: &Linkage) -> u16
     ensures { result ≡ next_of (reading host.now.order host.now.bytes.now).0 }
 {
+    walk_from_start();
     for item in Records::new(host.order, host.bytes) {
         if let Ok(entry) = item {
             if let Body::Eof(next) = entry.body {
@@ -139,6 +139,7 @@ fn linked_edits<A: Allocator + Copy>(
     ensures sound { IfOk result (λ _. segment_fault order names.now free (segment_of order segment.now) ≡ None) }
     ensures stop { IfErr result (IsOfSegment segment.now.file segment.now.slot (records_fault names.now (is_reserved order segment.now.code.now) segment.now.code.now 0 free [] (segment_of order segment.now).records)) }
 {
+    edits_patch_alike_in_any_order();
     match Procs::read(order, segment.code, is_host(segment.role)) {
         Err(_) => unreachable!(),
         Ok(procedures) => {

@@ -17,7 +17,7 @@ use crate::names::Names;
 use crate::places::Places;
 use crate::references::{RefStop, Target, add_references};
 use ps_codefile::Procs;
-use ps_linkinfo::{Body, LinkRecord, Records};
+use ps_linkinfo::{Body, LinkRecord, Records, walk_from_start};
 use ps_words::{Edit, Reason};
 use std::alloc::{AllocFailed, Allocator};
 
@@ -136,6 +136,7 @@ pub(crate) fn add_records<A: Allocator + Copy>(
     ensures end { IfOk result (λ end. end ≡ free + words_of (reading segment.now.order segment.now.bytes.now).0) }
     ensures fault { Gives result (records_fault names.now (is_reserved procedures.now.order procedures.now.code) code.now 0 free [] (reading segment.now.order segment.now.bytes.now).0) }
 {
+    walk_from_start();
     let mut taken = Places::new();
     let mut rec = 0;
     let mut next = free;

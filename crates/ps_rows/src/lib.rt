@@ -1,14 +1,10 @@
-//! Tests of the linker across its crates, the makers of their inputs, and an allocator that refuses growths.
+//! Tests of the linker across its crates, and the makers of their inputs.
 #![tactic(auto)]
 
 pub mod base;
 pub mod code_file;
 pub mod in_place;
 pub mod information;
-mod refusing;
-pub mod units;
-
-pub use refusing::Refusing;
-
 #[cfg(test)]
 mod tests;
+pub mod units;

@@ -1,6 +1,7 @@
 -- Where a fault stands: in a file as a whole, at a slot of the host, at a record of that slot's link information, or at a reference of that record.
 -- Source: this project's profile.
-use Rattle.std.specs.Prelude.{ℕ, Some, None}
+use Rattle.std.specs.Prelude.{◌≡◌, ℕ, ◌≤◌, ◌==◌, ◌&&◌, ◌||◌, not, nat_le, Bool, true, Some, None, is_some}
+use Rattle.ps_words.specs.FaultText.{number_of}
 use Rattle.ps_words.specs.declared.fault.Reason.{Reason}
 use Rattle.ps_words.specs.declared.fault.Fault.{Fault}
 
@@ -15,3 +16,28 @@ in_record file slot rec why = record { reason = why; file = file; slot = Some sl
 
 abbrev pub in_reference : ℕ → ℕ → ℕ → ℕ → Reason → Fault
 in_reference file slot rec reference why = record { reason = why; file = file; slot = Some slot; rec = Some rec; reference = Some reference }
+
+-- which numbers of faults are told with a slot, with a record of it, and with a reference of that
+abbrev pub has_slot : ℕ → Bool
+has_slot number = nat_le 5 number
+
+abbrev pub has_record : ℕ → Bool
+has_record number = nat_le 19 number && not (number == 27)
+
+abbrev pub has_reference : ℕ → Bool
+has_reference number = nat_le 31 number
+
+-- which are faults of the host's file, and which are faults of a library
+abbrev pub is_of_host : ℕ → Bool
+is_of_host number = nat_le 4 number && nat_le number 10 || number == 13 || number == 24 || number == 27
+
+abbrev pub is_of_library : ℕ → Bool
+is_of_library number = number == 3 || number == 14 || number == 15
+
+-- a fault has just the parts that its number is told with
+pub record HasItsParts (f : Fault) : Type 0 where
+  pub slot : is_some f.slot ≡ has_slot (number_of f.reason)
+  pub rec : is_some f.rec ≡ has_record (number_of f.reason)
+  pub reference : is_some f.reference ≡ has_reference (number_of f.reason)
+  pub of_host : is_of_host (number_of f.reason) ≡ true → f.file ≡ 0
+  pub of_library : is_of_library (number_of f.reason) ≡ true → 1 ≤ f.file

@@ -1,12 +1,12 @@
 //! `link` where memory is wanting.
 use super::answers::{LITTLE, text_of};
 use super::writers::{Full, Room};
-use crate::Refusing;
 use crate::base::{base_host, base_library};
 use crate::code_file::Change::Code;
 use crate::in_place::unit_in_place;
 use crate::units::{host_of_two_units, library_of_nine_references, library_of_two_units};
 use ps_linkfile::link;
+use refusing::Refusing;
 use std::process::Abort;
 use std::test::Fail;
 

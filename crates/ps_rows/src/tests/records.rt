@@ -1,10 +1,10 @@
 //! Link information as `read_records` reads it.
-use crate::Refusing;
 use crate::base::{COUNT, LIBRARY_RECORDS};
 use crate::information::Information;
 use crate::information::Record::{End, Other, PublicReference};
 use ps_linkinfo::{Body, LinkRecord, ReadStop, Refs, read_records};
 use ps_words::Order;
+use refusing::Refusing;
 use std::alloc::{AllocError, Allocator, Global};
 use std::process::Abort;
 use std::test::Fail;

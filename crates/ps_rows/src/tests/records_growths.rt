@@ -1,9 +1,9 @@
 //! `read_records` where memory is wanting.
 use super::records::{BASE_RECORDS, read};
-use crate::Refusing;
 use crate::base::LIBRARY_RECORDS;
 use crate::information::Information;
 use ps_words::Order;
+use refusing::Refusing;
 use std::test::Fail;
 
 #[test]

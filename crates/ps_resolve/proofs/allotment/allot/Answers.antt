@@ -6,7 +6,6 @@ use Rattle.ps_linkinfo.specs.Left.{records_left}
 use Rattle.ps_linkinfo.specs.declared.record.LinkRecord.{LinkRecord as Record}
 use Rattle.ps_resolve.specs.Privates.{allotted, words_of, private_fault}
 use Rattle.ps_resolve.specs.declared.allotment.Private.{Private}
-use Rattle.ps_resolve.proofs.Walks.{all_left, few}
 use Rattle.ps_resolve.proofs.Rows.{given_ok}
 use Rattle.ps_resolve.proofs.Allots.{skip_privates, skip_words, skip_fault, more_privates, more_words, more_fault, more_length}
 use Rattle.ps_resolve.proofs.allotment.allot.Goals as goal
@@ -14,11 +13,11 @@ use Rattle.ps_resolve.proofs.allotment.allot.Goals.{in-Some-words_of_private+els
 
 pub loop-item-init : goal.loop-item-init
 loop-item-init g c =
-    let all = ap records_left (c.into_iter-item-iterator.ensures.into_iter_gives ∙ c.new-item-items.ensures) ∙ all_left c.args.segment.now.order c.args.segment.now.bytes.now in
+    let all = ap records_left (c.into_iter-item-iterator.ensures.into_iter_gives ∙ c.new-item-items.ensures) ∙ c.walk_from_start.ensures.records c.args.segment.now.order c.args.segment.now.bytes.now in
     rw (all, c.with_hasher-names.ensures.empty) (record { can = tt; finite = tt; privates = refl; words = refl; first = refl; more = omega arith; count = omega arith })
 
 pub overflow_add-rec : goal.overflow_add-rec
-overflow_add-rec g c = omega (arith, few c.args.segment.now.order c.args.segment.now.bytes.now)
+overflow_add-rec g c = omega (arith, c.walk_from_start.ensures.few_records c.args.segment.now.order c.args.segment.now.bytes.now)
 
 pub loop-item-preserved-in-Ok : goal.loop-item-preserved-in-Ok
 loop-item-preserved-in-Ok g c =

@@ -10,14 +10,13 @@ use Rattle.ps_words.specs.declared.fault.Reason.{Reason}
 use Rattle.ps_linkinfo.specs.declared.record.LinkRecord.{LinkRecord as Record}
 use Rattle.indexmap.proofs.CallerLemmas.{insert_entry-new}
 use Rattle.ps_resolve.specs.Symbols.{definitions, doubled, doubled_from}
-use Rattle.ps_resolve.proofs.Walks.{all_left, few}
 use Rattle.ps_resolve.proofs.Doubles.{none_is, none_entries, none_first, new_entries, new_first, some_there}
 use Rattle.ps_resolve.proofs.definitions.table_of.Goals as goal
 use Rattle.ps_resolve.proofs.definitions.table_of.Goals.{in-Some-def_of+else-contains_key+in_ok-insert, in_default-def_of}
 
 pub loop-item-init : goal.loop-item-init
 loop-item-init g c =
-    let all = ap records_left (c.into_iter-item-iterator.ensures.into_iter_gives ∙ c.new-item-items.ensures) ∙ all_left c.args.host.now.order c.args.host.now.bytes.now in
+    let all = ap records_left (c.into_iter-item-iterator.ensures.into_iter_gives ∙ c.new-item-items.ensures) ∙ c.walk_from_start.ensures.records c.args.host.now.order c.args.host.now.bytes.now in
     record {
       can = tt;
       finite = tt;
@@ -27,7 +26,7 @@ loop-item-init g c =
     }
 
 pub overflow_add-rec : goal.overflow_add-rec
-overflow_add-rec g c = omega (arith, few c.args.host.now.order c.args.host.now.bytes.now)
+overflow_add-rec g c = omega (arith, c.walk_from_start.ensures.few_records c.args.host.now.order c.args.host.now.bytes.now)
 
 pub loop-item-preserved-in-Ok : goal.loop-item-preserved-in-Ok
 loop-item-preserved-in-Ok g c =

@@ -9,4 +9,5 @@ returns-in-Ok-edits_of-clause-links g c = λ words e.
     let linkage = c.linkage_of-linkage.result in
     let found = c.in-Ok-edits_of.ensures in
     linked_links c.args.order c.args.names.now c.args.segment.now c.args.free c.requires.linked linkage.slot (reading linkage.order linkage.bytes.now).0
-    (ap (λ (o : Owner). o.slot) c.linkage_of-linkage.ensures.owner) c.linkage_of-linkage.ensures.records c.args.own c.in-Ok-edits_of.found.0.items found.same found.once found.ready words e
+    (ap (λ (o : Owner). o.slot) c.linkage_of-linkage.ensures.owner) c.linkage_of-linkage.ensures.records c.args.own c.in-Ok-edits_of.found.0.items found.same found.ready
+    (λ edits listed p. c.edits_patch_alike_in_any_order.ensures c.args.order c.args.segment.now.code.now edits listed p) words e

@@ -7,17 +7,16 @@ use Rattle.ps_resolve.specs.Operands.{operands, refs_fault}
 use Rattle.ps_codefile.specs.Procedures.{is_reserved}
 use Rattle.ps_resolve.specs.Privates.{words_of}
 use Rattle.ps_resolve.specs.References.{Known, FindsOne, records_fault, records_edits}
-use Rattle.ps_resolve.proofs.Walks.{all_left, few}
 use Rattle.ps_resolve.proofs.Rows.{given_ok, given_err, record_refused, references_refused, record_stands, edits_more, words_are}
 use Rattle.ps_resolve.proofs.segments.add_records.Goals as goal
 
 pub loop-item-init : goal.loop-item-init
 loop-item-init g c =
-    let all = ap records_left (c.into_iter-item-iterator.ensures.into_iter_gives ∙ c.new-item-items.ensures) ∙ all_left c.args.segment.now.order c.args.segment.now.bytes.now in
+    let all = ap records_left (c.into_iter-item-iterator.ensures.into_iter_gives ∙ c.new-item-items.ensures) ∙ c.walk_from_start.ensures.records c.args.segment.now.order c.args.segment.now.bytes.now in
     rw all (record { can = tt; finite = tt; edits = refl; first = ([], (λ p h. c.new-taken.ensures p (omega arith)), refl); words = refl; count = omega arith })
 
 pub overflow_add-rec : goal.overflow_add-rec
-overflow_add-rec g c = omega (arith, few c.args.segment.now.order c.args.segment.now.bytes.now)
+overflow_add-rec g c = omega (arith, c.walk_from_start.ensures.few_records c.args.segment.now.order c.args.segment.now.bytes.now)
 
 pub returns-in-Err-clause-fault : goal.returns-in-Err-clause-fault
 returns-in-Err-clause-fault g c =

@@ -15,8 +15,8 @@ use denote.Builtin.{bool}
 use denote.Steps.{nothing, only}
 use denote.Triple.Statement.{Contract}
 use denote.Triple.Spec.{triple_of}
-use Rattle.ps_rows.specs.contracts.refusing.Gate as GA
-use Rattle.ps_rows.specs.contracts.refusing.Gate.refuses as RE
+use Rattle.refusing.specs.contracts.Gate as GA
+use Rattle.refusing.specs.contracts.Gate.refuses as RE
 
 abbrev pub GateRow : RattleType
 GateRow = GA.the_row

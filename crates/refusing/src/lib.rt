@@ -1,4 +1,8 @@
-//! An allocator for tests of want of memory.
+//! An allocator for tests of want of memory: it counts growths and refuses those of chosen numbers.
+//!
+//! [`Refusing`] stands over another allocator, as the runtime's, and is handed out as `&heap`. A test makes one for each number in turn and calls what it tests, until a call is made in which nothing was refused.
+#![tactic(auto)]
+
 use std::alloc::{AllocError, Allocator};
 use std::cell::Cell;
 
@@ -86,46 +90,4 @@ unsafe impl<B: Allocator> Allocator for Refusing<B> {
 }
 
 #[cfg(test)]
-mod tests {
-    use super::*;
-    use std::alloc::Global;
-    use std::test::Fail;
-
-    #[test]
-    fn one_growth_is_refused_and_the_next_is_not(rt: HostRuntime) -> Result<(), Fail> {
-        let heap = Refusing::once(rt.alloc(), 2);
-        let mut bytes = Vec::new(&heap);
-        assert!(rt; bytes.try_reserve(1).is_ok());
-        assert!(rt; !heap.has_refused());
-        assert!(rt; bytes.try_reserve(100).is_err());
-        assert!(rt; heap.has_refused());
-        bytes.try_reserve(100)?;
-        bytes.push(7u8)?;
-        assert_eq!(rt; bytes.as_slice(), [7].as_slice());
-        bytes.shrink_to_fit();
-        assert_eq!(rt; heap.growths(), 4);
-        Ok(())
-    }
-
-    #[test]
-    fn each_growth_from_a_number_on_is_refused(rt: HostRuntime) -> Result<(), Fail> {
-        let heap = Refusing::from(rt.alloc(), 2);
-        let mut bytes = Vec::new(&heap);
-        bytes.push(7u8)?;
-        for _ in 0..3 {
-            assert!(rt; Vec::from_elem(&heap, 1u8, 5).is_err());
-        }
-        assert_eq!(rt; bytes.as_slice(), [7].as_slice());
-        assert_eq!(rt; heap.growths(), 4);
-        Ok(())
-    }
-
-    #[test]
-    fn no_growth_is_counted_where_none_is_asked_for(rt: HostRuntime) {
-        let heap = Refusing::from(rt.alloc(), 1);
-        let bytes: Vec<u8, &Refusing<Global>> = Vec::new(&heap);
-        assert!(rt; bytes.is_empty());
-        assert_eq!(rt; heap.growths(), 0);
-        assert!(rt; !heap.has_refused());
-    }
-}
+mod tests;

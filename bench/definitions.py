@@ -1,0 +1,84 @@
+#!/usr/bin/env python3
+"""Times `pslink link` on large files: a host of a million definitions and more, and a unit of many one-byte operands.
+
+Usage: definitions.py PSLINK
+
+Twice the definitions should take about twice the time. docs/FORMAT.md says what the parts of the files mean.
+"""
+
+import struct
+import subprocess
+import sys
+import tempfile
+import time
+from pathlib import Path
+
+BLOCK = 512
+HOSTSEG, UNITSEG = 1, 3
+EOFMARK, UNITREF, PUBLDEF = 0, 1, 7
+BYTE = 1
+OPERANDS = 32_000
+MILLION = 1_000_000
+
+
+def words(*values):
+    return struct.pack(f"<{len(values)}H", *values)
+
+
+def whole_blocks(data):
+    return data + bytes(-len(data) % BLOCK)
+
+
+def dictionary(entries):
+    """Block 0; each entry is (slot, name, kind, address, length)."""
+    block = bytearray(BLOCK)
+    block[64:192] = b" " * 128
+    for slot, name, kind, address, length in entries:
+        block[4 * slot : 4 * slot + 4] = words(address, length)
+        block[64 + 8 * slot : 72 + 8 * slot] = name
+        block[192 + 2 * slot : 194 + 2 * slot] = words(kind)
+    return bytes(block)
+
+
+def code(body, number):
+    """A segment of one procedure: its body, its attribute table, and the procedure dictionary."""
+    data_size, parameter_size, exit_ic, enter_ic = 10, 4, len(body) + 4, len(body) + 6
+    table = words(data_size, parameter_size, exit_ic, enter_ic) + bytes([1, 0])
+    return body + table + words(2) + bytes([number, 1])
+
+
+def record(name, kind, a, b=0, c=0):
+    return name + words(kind, a, b, c)
+
+
+def host(definitions):
+    segment = code(bytes(4), 1)
+    entries = [(1, b"DEMO    ", HOSTSEG, 1, len(segment)), (7, b"UTIL    ", UNITSEG, 0, 0)]
+    records = b"".join(record(b"%08d" % n, PUBLDEF, n % 32768) for n in range(definitions))
+    return dictionary(entries) + whole_blocks(segment) + records + record(bytes(8), EOFMARK, 8)
+
+
+def library():
+    segment = code(bytes(OPERANDS), 2)
+    references = words(*range(OPERANDS))
+    pieces = references + bytes(-len(references) % 16)
+    records = record(b"UTIL    ", UNITREF, BYTE, OPERANDS) + pieces + record(bytes(8), EOFMARK, 0)
+    return dictionary([(2, b"UTIL    ", UNITSEG, 1, len(segment))]) + whole_blocks(segment) + records
+
+
+def main():
+    if len(sys.argv) != 2:
+        sys.exit(__doc__)
+    program = Path(sys.argv[1]).resolve()
+    with tempfile.TemporaryDirectory() as folder:
+        at = Path(folder)
+        (at / "library.code").write_bytes(library())
+        for definitions in (MILLION, 2 * MILLION, 4 * MILLION):
+            (at / "host.code").write_bytes(host(definitions))
+            start = time.perf_counter()
+            subprocess.run([program, "link", "host.code", "out.code", "library.code"], cwd=at, check=True)
+            print(f"definitions {definitions} operands {OPERANDS} seconds {time.perf_counter() - start:.2f}", flush=True)
+
+
+if __name__ == "__main__":
+    main()

@@ -1,0 +1,165 @@
+-- What map and show print of the small files, line by line.
+-- Source: this project's examples.
+use Rattle.std.specs.Prelude.{ℕ, List, ◌++◌, codes}
+
+-- the map of the host and its library
+abbrev pub map_of_the_pair : List ℕ
+map_of_the_pair =
+    codes "segment 01 DEMO     file 0 entry 01 block 1 length 18\n"
+    ++ codes "segment 07 UTIL     file 1 entry 02 block 2 length 24\n"
+    ++ codes "public COUNT    value 3\n"
+    ++ codes "private 07 STATE    offset 8 words 4\n"
+    ++ codes "next 12 data 18 blocks 3\n"
+
+-- that where the host has the constant LIMIT, 9, too
+abbrev pub map_with_a_constant : List ℕ
+map_with_a_constant =
+    codes "segment 01 DEMO     file 0 entry 01 block 1 length 18\n"
+    ++ codes "segment 07 UTIL     file 1 entry 02 block 2 length 24\n"
+    ++ codes "public COUNT    value 3\n"
+    ++ codes "constant LIMIT    value 9\n"
+    ++ codes "private 07 STATE    offset 8 words 4\n"
+    ++ codes "next 12 data 18 blocks 3\n"
+
+-- the map of a host with its unit in place, which has no private
+abbrev pub map_in_place : List ℕ
+map_in_place =
+    codes "segment 01 DEMO     file 0 entry 01 block 1 length 18\n"
+    ++ codes "segment 07 UTIL     file 0 entry 07 block 2 length 24\n"
+    ++ codes "public COUNT    value 3\n"
+    ++ codes "next 8 data 10 blocks 3\n"
+
+-- the slots of the library
+abbrev pub slots_of_the_library : List ℕ
+slots_of_the_library =
+    codes "slot 00          kind 0 address 0 length 0 text 0\n"
+    ++ codes "slot 01          kind 0 address 0 length 0 text 0\n"
+    ++ codes "slot 02 UTIL     kind 3 address 1 length 24 text 0\n"
+    ++ codes "slot 03          kind 0 address 0 length 0 text 0\n"
+    ++ codes "slot 04          kind 0 address 0 length 0 text 0\n"
+    ++ codes "slot 05          kind 0 address 0 length 0 text 0\n"
+    ++ codes "slot 06          kind 0 address 0 length 0 text 0\n"
+    ++ codes "slot 07          kind 0 address 0 length 0 text 0\n"
+    ++ codes "slot 08          kind 0 address 0 length 0 text 0\n"
+    ++ codes "slot 09          kind 0 address 0 length 0 text 0\n"
+    ++ codes "slot 10          kind 0 address 0 length 0 text 0\n"
+    ++ codes "slot 11          kind 0 address 0 length 0 text 0\n"
+    ++ codes "slot 12          kind 0 address 0 length 0 text 0\n"
+    ++ codes "slot 13          kind 0 address 0 length 0 text 0\n"
+    ++ codes "slot 14          kind 0 address 0 length 0 text 0\n"
+    ++ codes "slot 15          kind 0 address 0 length 0 text 0\n"
+
+-- the link information of the library's unit
+abbrev pub links_of_the_library : List ℕ
+links_of_the_library =
+    codes "links 02\n"
+    ++ codes "0 PUBLREF COUNT    at 1\n"
+    ++ codes "1 PRIVREF STATE    words 4 at 4\n"
+    ++ codes "2 EOFMARK next 0\n"
+
+-- that where its end mark is cut
+abbrev pub links_without_an_end : List ℕ
+links_without_an_end =
+    codes "links 02\n"
+    ++ codes "0 PUBLREF COUNT    at 1\n"
+    ++ codes "1 PRIVREF STATE    words 4 at 4\n"
+    ++ codes "2 fault 19 RecordsTruncated\n"
+
+-- that where the code is cut
+abbrev pub links_without_a_code : List ℕ
+links_without_a_code =
+    codes "links 02\n"
+    ++ codes "fault 16 Truncated\n"
+
+-- the whole texts: of the library, of the library cut to 1103 bytes, and of the library cut to 535 bytes
+abbrev pub show_of_the_library : List ℕ
+show_of_the_library = codes "order little\n" ++ slots_of_the_library ++ links_of_the_library
+
+abbrev pub show_without_an_end : List ℕ
+show_without_an_end = codes "order little\n" ++ slots_of_the_library ++ links_without_an_end
+
+abbrev pub show_without_a_code : List ℕ
+show_without_a_code = codes "order little\n" ++ slots_of_the_library ++ links_without_a_code
+
+-- the slots of the linked file of the host and its library: each is linked, and none has links
+abbrev pub slots_of_the_linked_file : List ℕ
+slots_of_the_linked_file =
+    codes "slot 00          kind 0 address 0 length 0 text 0\n"
+    ++ codes "slot 01 DEMO     kind 0 address 1 length 18 text 0\n"
+    ++ codes "slot 02          kind 0 address 0 length 0 text 0\n"
+    ++ codes "slot 03          kind 0 address 0 length 0 text 0\n"
+    ++ codes "slot 04          kind 0 address 0 length 0 text 0\n"
+    ++ codes "slot 05          kind 0 address 0 length 0 text 0\n"
+    ++ codes "slot 06          kind 0 address 0 length 0 text 0\n"
+    ++ codes "slot 07 UTIL     kind 0 address 2 length 24 text 0\n"
+    ++ codes "slot 08          kind 0 address 0 length 0 text 0\n"
+    ++ codes "slot 09          kind 0 address 0 length 0 text 0\n"
+    ++ codes "slot 10          kind 0 address 0 length 0 text 0\n"
+    ++ codes "slot 11          kind 0 address 0 length 0 text 0\n"
+    ++ codes "slot 12          kind 0 address 0 length 0 text 0\n"
+    ++ codes "slot 13          kind 0 address 0 length 0 text 0\n"
+    ++ codes "slot 14          kind 0 address 0 length 0 text 0\n"
+    ++ codes "slot 15          kind 0 address 0 length 0 text 0\n"
+
+abbrev pub show_of_the_linked_file : List ℕ
+show_of_the_linked_file = codes "order unknown\n" ++ slots_of_the_linked_file
+
+-- the host, which wants the unit in slot 7
+abbrev pub slots_of_the_host : List ℕ
+slots_of_the_host =
+    codes "slot 00          kind 0 address 0 length 0 text 0\n"
+    ++ codes "slot 01 DEMO     kind 1 address 1 length 18 text 0\n"
+    ++ codes "slot 02          kind 0 address 0 length 0 text 0\n"
+    ++ codes "slot 03          kind 0 address 0 length 0 text 0\n"
+    ++ codes "slot 04          kind 0 address 0 length 0 text 0\n"
+    ++ codes "slot 05          kind 0 address 0 length 0 text 0\n"
+    ++ codes "slot 06          kind 0 address 0 length 0 text 0\n"
+    ++ codes "slot 07 UTIL     kind 3 address 0 length 0 text 0\n"
+    ++ codes "slot 08          kind 0 address 0 length 0 text 0\n"
+    ++ codes "slot 09          kind 0 address 0 length 0 text 0\n"
+    ++ codes "slot 10          kind 0 address 0 length 0 text 0\n"
+    ++ codes "slot 11          kind 0 address 0 length 0 text 0\n"
+    ++ codes "slot 12          kind 0 address 0 length 0 text 0\n"
+    ++ codes "slot 13          kind 0 address 0 length 0 text 0\n"
+    ++ codes "slot 14          kind 0 address 0 length 0 text 0\n"
+    ++ codes "slot 15          kind 0 address 0 length 0 text 0\n"
+
+abbrev pub links_of_the_host : List ℕ
+links_of_the_host =
+    codes "links 01\n"
+    ++ codes "0 PUBLDEF COUNT    value 3\n"
+    ++ codes "1 EOFMARK next 8\n"
+
+abbrev pub show_of_the_big_endian_host : List ℕ
+show_of_the_big_endian_host = codes "order big\n" ++ slots_of_the_host ++ links_of_the_host
+
+-- a slot named by eight zero bytes
+abbrev pub slot_without_a_name : List ℕ
+slot_without_a_name = codes "slot 03 ???????? kind 0 address 0 length 0 text 0\n"
+
+-- link information with a reference record of each kind, and a constant
+abbrev pub links_of_every_kind : List ℕ
+links_of_every_kind =
+    codes "links 02\n"
+    ++ codes "0 UNITREF UTIL     at 2\n"
+    ++ codes "1 PUBLREF COUNT    at 1 4\n"
+    ++ codes "2 PRIVREF STATE    words 4 at\n"
+    ++ codes "3 CONSTDEF LIMIT    value 9\n"
+    ++ codes "4 EOFMARK next 0\n"
+
+-- link information whose first record is of an unknown type
+abbrev pub links_of_an_unknown_record : List ℕ
+links_of_an_unknown_record =
+    codes "links 02\n"
+    ++ codes "0 fault 20 UnknownRecord\n"
+
+-- codes that are refused
+abbrev pub links_of_a_bad_length : List ℕ
+links_of_a_bad_length =
+    codes "links 02\n"
+    ++ codes "fault 11 BadLength\n"
+
+abbrev pub links_of_a_bad_address : List ℕ
+links_of_a_bad_address =
+    codes "links 01\n"
+    ++ codes "fault 12 BadAddress\n"

@@ -1,0 +1,227 @@
+-- A fault that stands has just the parts of its number.
+use Rattle.std.proofs.Common.{◌≡◌, ℕ, ◌+◌, ◌*◌, ◌≤◌, List, [], ◌∷◌, length, Option, Some, None, Result, Ok, Err, Bool, true, false, refl, sym, subst, inl, inr, arith}
+use Rattle.std.specs.Prelude.{◌⊎◌, if◌then◌else◌, ◌==◌, ◌&&◌, ◌||◌, not, nat_le, nat_lt}
+use Rattle.std.specs.Option.{option_or}
+use Rattle.ps_words.specs.FaultText.{number_of}
+use Rattle.ps_words.specs.FaultPlaces.{in_file, in_slot, in_record, in_reference, has_slot, has_record, has_reference, is_of_host, is_of_library, HasItsParts}
+use Rattle.ps_words.specs.Words.{word_at}
+use Rattle.ps_words.specs.declared.order.Order.{Order}
+use Rattle.ps_words.specs.declared.fault.Fault.{Fault}
+use Rattle.ps_words.specs.declared.fault.Reason.{Reason}
+use Rattle.ps_words.specs.declared.fault.Reason.TheVariants as reason
+use Rattle.ps_codefile.specs.Dictionary.{block_len, is_nameless, role_of, role_of_kind, code_of, has_bad_length, entry_at, information_of}
+use Rattle.ps_codefile.specs.declared.entry.Entry.{Entry}
+use Rattle.ps_codefile.specs.declared.entry.Role.{Role}
+use Rattle.ps_linkinfo.specs.Records.{bad, bad_format, type_fault, format_of, list_len, used_by, refs_of}
+use Rattle.ps_linkinfo.specs.declared.record.Body.{Body}
+use Rattle.ps_linkinfo.specs.declared.record.Body.TheVariants.{UnitRef, PublRef, PrivRef, PublDef, ConstDef, Eof}
+use Rattle.ps_linkinfo.specs.declared.record.LinkRecord.{LinkRecord as Record}
+use Rattle.ps_resolve.specs.Sources.{Segment, segments, file_at, is_host}
+use Rattle.ps_resolve.specs.Standing.{Because, HostHas, SlotHas, LibraryHas, EntriesHave, UnitFault, TablesHave, CodeFault, PrivateHas, RecordHas, ReferenceHas, InHost, InSlots, InNoHost, InLibraries, InSources, InDefinitions, InPrivates, InDataSize, InReferences, StandsIn, Step, OfHost, OfSlots, OfNoHost, OfLibraries, OfSources, OfDefinitions, OfPrivates, OfDataSize, OfReferences}
+
+-- what is because of a reason has what all such have
+because_parts : {Has : Reason → Type 0} (h : Reason → Fault) → ((why : Reason) → Has why → HasItsParts (h why)) → (f : Fault) → Because h Has f → HasItsParts f
+because_parts h each f t = subst HasItsParts (sym t.1) (each t.0 t.2)
+
+-- a fault of the host's file at a slot, of any file, and of a library
+host_slot : (slot : ℕ) (why : Reason) → has_slot (number_of why) ≡ true → has_record (number_of why) ≡ false → has_reference (number_of why) ≡ false → is_of_library (number_of why) ≡ false → HasItsParts (in_slot 0 slot why)
+host_slot slot why a b c d = record { slot = sym a; rec = sym b; reference = sym c; of_host = λ e. refl; of_library = λ e. absurd (cc) }
+
+any_slot : (file slot : ℕ) (why : Reason) → has_slot (number_of why) ≡ true → has_record (number_of why) ≡ false → has_reference (number_of why) ≡ false → is_of_host (number_of why) ≡ false → is_of_library (number_of why) ≡ false → HasItsParts (in_slot file slot why)
+any_slot file slot why a b c d e = record { slot = sym a; rec = sym b; reference = sym c; of_host = λ g. absurd (cc); of_library = λ g. absurd (cc) }
+
+library_slot : (k slot : ℕ) (why : Reason) → has_slot (number_of why) ≡ true → has_record (number_of why) ≡ false → has_reference (number_of why) ≡ false → is_of_host (number_of why) ≡ false → HasItsParts (in_slot (k + 1) slot why)
+library_slot k slot why a b c d = record { slot = sym a; rec = sym b; reference = sym c; of_host = λ g. absurd (cc); of_library = λ g. omega arith }
+
+-- a fault of a record and of a reference, of any file
+any_record : (file slot rec : ℕ) (why : Reason) → has_slot (number_of why) ≡ true → has_record (number_of why) ≡ true → has_reference (number_of why) ≡ false → is_of_host (number_of why) ≡ false → is_of_library (number_of why) ≡ false → HasItsParts (in_record file slot rec why)
+any_record file slot rec why a b c d e = record { slot = sym a; rec = sym b; reference = sym c; of_host = λ g. absurd (cc); of_library = λ g. absurd (cc) }
+
+any_reference : (file slot rec i : ℕ) (why : Reason) → has_slot (number_of why) ≡ true → has_record (number_of why) ≡ true → has_reference (number_of why) ≡ true → is_of_host (number_of why) ≡ false → is_of_library (number_of why) ≡ false → HasItsParts (in_reference file slot rec i why)
+any_reference file slot rec i why a b c d e = record { slot = sym a; rec = sym b; reference = sym c; of_host = λ g. absurd (cc); of_library = λ g. absurd (cc) }
+
+-- each reason of an answer has P
+record Errs {X : Type 0} (P : Reason → Type 0) (r : Result X Reason) : Type 0 where
+  held : (why : Reason) → r ≡ Err why → P why
+
+errs_if : {X : Type 0} {P : Reason → Type 0} (b : Bool) {x y : Result X Reason} → Errs P x → Errs P y → Errs P (if b then x else y)
+errs_if true p q = p
+errs_if false p q = q
+
+errs_ok : {X : Type 0} {P : Reason → Type 0} (x : X) → Errs P (Ok x)
+errs_ok x = record { held = λ why e. absurd (cc) }
+
+errs_err : {X : Type 0} {P : Reason → Type 0} (why : Reason) → P why → Errs {X = X} P (Err why)
+errs_err {X} {P} why h = record { held = λ other e. subst P (cc) h }
+
+record Somes (P : Reason → Type 0) (o : Option Reason) : Type 0 where
+  held : (why : Reason) → o ≡ Some why → P why
+
+somes_if : {P : Reason → Type 0} (b : Bool) {x y : Option Reason} → Somes P x → Somes P y → Somes P (if b then x else y)
+somes_if true p q = p
+somes_if false p q = q
+
+somes_none : {P : Reason → Type 0} → Somes P None
+somes_none = record { held = λ why e. absurd (cc) }
+
+somes_some : {P : Reason → Type 0} (why : Reason) → P why → Somes P (Some why)
+somes_some {P} why h = record { held = λ other e. subst P (cc) h }
+
+somes_or : {P : Reason → Type 0} (x y : Option Reason) → Somes P x → Somes P y → Somes P (option_or x y)
+somes_or None y p q = q
+somes_or (Some why) y p q = p
+
+-- 1
+in_host : (host : List ℕ) (f : Fault) → InHost host f → HasItsParts f
+in_host host = because_parts (in_file 0) at
+  where
+    at : (why : Reason) → HostHas host why → HasItsParts (in_file 0 why)
+    at reason.ShortFile h = record { slot = refl; rec = refl; reference = refl; of_host = λ e. refl; of_library = λ e. absurd (cc) }
+    at reason.NoOrder h = record { slot = refl; rec = refl; reference = refl; of_host = λ e. refl; of_library = λ e. absurd (cc) }
+    at reason.NoHost h = record { slot = refl; rec = refl; reference = refl; of_host = λ e. refl; of_library = λ e. absurd (cc) }
+    at other h = absurd h
+
+-- 2
+role_errs : (P : Reason → Type 0) → P reason.SegmentProcedure → P reason.NativeSegment → P reason.Intrinsic → P reason.UnknownKind → (e : Entry) → Errs P (role_of e)
+role_errs P a b c d e =
+    errs_if (e.kind == 3 && (e.address == 0 || e.length == 0) && not (is_nameless e.name)) (errs_ok _)
+    (errs_if (e.kind == 3 && (e.address == 0 || e.length == 0)) (errs_ok _)
+    (errs_if (e.length == 0) (errs_ok _)
+    (errs_if (e.kind == 0) (errs_ok _)
+    (errs_if (e.kind == 1) (errs_ok _)
+    (errs_if (e.kind == 2) (errs_err reason.SegmentProcedure a)
+    (errs_if (e.kind == 3) (errs_ok _)
+    (errs_if (e.kind == 4) (errs_err reason.NativeSegment b)
+    (errs_if (nat_le e.kind 7) (errs_err reason.Intrinsic c) (errs_err reason.UnknownKind d)))))))))
+
+in_slots : (order : Order) (host : List ℕ) (f : Fault) → InSlots order host f → HasItsParts f
+in_slots order host f t = because_parts (in_slot 0 t.0) at f t.2
+  where
+    role : (why : Reason) → role_of (entry_at order host t.0) ≡ Err why → HasItsParts (in_slot 0 t.0 why)
+    role = (role_errs (λ why. HasItsParts (in_slot 0 t.0 why)) (host_slot t.0 reason.SegmentProcedure refl refl refl refl) (host_slot t.0 reason.NativeSegment refl refl refl refl) (host_slot t.0 reason.Intrinsic refl refl refl refl)
+        (host_slot t.0 reason.UnknownKind refl refl refl refl) (entry_at order host t.0)).held
+
+    at : (why : Reason) → SlotHas order host t.0 why → HasItsParts (in_slot 0 t.0 why)
+    at reason.TwoHosts h = host_slot t.0 reason.TwoHosts refl refl refl refl
+    at reason.DoubledSegment h = host_slot t.0 reason.DoubledSegment refl refl refl refl
+    at other h = role other h
+
+-- 3
+in_no_host : (order : Order) (host : List ℕ) (f : Fault) → InNoHost order host f → HasItsParts f
+in_no_host order host f t = subst HasItsParts (sym t.0) (record { slot = refl; rec = refl; reference = refl; of_host = λ e. refl; of_library = λ e. absurd (cc) })
+
+-- 4
+in_libraries : (order : Order) (libs : List (List ℕ)) (f : Fault) → InLibraries order libs f → HasItsParts f
+in_libraries order libs f t = because_parts (in_file (t.0 + 1)) at f t.3
+  where
+    at : (why : Reason) → LibraryHas order t.1 why → HasItsParts (in_file (t.0 + 1) why)
+    at reason.ShortFile h = record { slot = refl; rec = refl; reference = refl; of_host = λ e. absurd (cc); of_library = λ e. omega arith }
+    at reason.NoOrder h = record { slot = refl; rec = refl; reference = refl; of_host = λ e. absurd (cc); of_library = λ e. omega arith }
+    at reason.OrderMismatch h = record { slot = refl; rec = refl; reference = refl; of_host = λ e. absurd (cc); of_library = λ e. omega arith }
+    at other h = absurd h
+
+-- 5
+code_errs : (P : Reason → Type 0) → P reason.BadLength → P reason.BadAddress → P reason.Truncated → (file : List ℕ) (e : Entry) → Errs P (code_of file e)
+code_errs P a b c file e =
+    errs_if (has_bad_length e) (errs_err reason.BadLength a) (errs_if (e.address == 0) (errs_err reason.BadAddress b) (errs_if (nat_lt (length file) (block_len * e.address + e.length)) (errs_err reason.Truncated c) (errs_ok _)))
+
+-- a record is refused for a reason of 19 to 23
+record_somes : (P : Reason → Type 0) → P reason.RecordsTruncated → P reason.UnknownRecord → P reason.NativeRecord → P reason.SeparateRecord → P reason.BadFormat → (order : Order) (bytes : List ℕ) → Somes P (bad order bytes)
+record_somes P a b c d e order bytes =
+    somes_if (nat_lt (length bytes) 16) (somes_some reason.RecordsTruncated a)
+    (somes_or (type_fault kind) _
+    (somes_if (nat_lt 14 kind) (somes_some reason.UnknownRecord b)
+    (somes_if (nat_lt 10 kind) (somes_some reason.SeparateRecord d)
+    (somes_if (kind == 2 || kind == 5 || kind == 6 || kind == 9 || kind == 10) (somes_some reason.NativeRecord c) somes_none)))
+    (formats (format_of kind)))
+  where
+    kind : ℕ
+    kind = word_at order bytes 8
+
+    formats : (o : Option ℕ) → Somes P (elim o [ None ↦ None | Some format ↦ bad_format order bytes format ])
+    formats None = somes_none
+    formats (Some format) =
+        somes_if (word_at order bytes 10 == 0) (somes_some reason.NativeRecord c)
+        (somes_if (not (word_at order bytes 10 == format)) (somes_some reason.BadFormat e)
+        (somes_if (nat_lt (length bytes) (16 + list_len (word_at order bytes 12))) (somes_some reason.RecordsTruncated a) somes_none))
+
+of_code : (order : Order) (file : List ℕ) (k : ℕ) (e : Entry) (slot : ℕ) (role : Role) (f : Fault) → CodeFault order file k e slot role f → HasItsParts f
+of_code order file k e slot role f (inl t) = because_parts (in_slot k slot) held f t
+  where
+    held : (why : Reason) → code_of file e ≡ Err why → HasItsParts (in_slot k slot why)
+    held = (code_errs (λ why. HasItsParts (in_slot k slot why)) (any_slot k slot reason.BadLength refl refl refl refl refl) (any_slot k slot reason.BadAddress refl refl refl refl refl) (any_slot k slot reason.Truncated refl refl refl refl refl) file e).held
+of_code order file k e slot role f (inr t) = elim t.2.1 [
+  | inl b ↦ because_parts (in_slot k slot) at f b
+  | inr r ↦ subst HasItsParts (sym r.2) (
+      (record_somes (λ why. HasItsParts (in_record k slot (length r.0) why)) (any_record k slot (length r.0) reason.RecordsTruncated refl refl refl refl refl) (any_record k slot (length r.0) reason.UnknownRecord refl refl refl refl refl)
+      (any_record k slot (length r.0) reason.NativeRecord refl refl refl refl refl) (any_record k slot (length r.0) reason.SeparateRecord refl refl refl refl refl) (any_record k slot (length r.0) reason.BadFormat refl refl refl refl refl)
+      order _).held r.1 r.3.stops)
+]
+  where
+    at : (why : Reason) → TablesHave order t.0 (is_host role) why → HasItsParts (in_slot k slot why)
+    at reason.BadProcDict h = any_slot k slot reason.BadProcDict refl refl refl refl refl
+    at reason.NativeProcedure h = any_slot k slot reason.NativeProcedure refl refl refl refl refl
+    at other h = absurd h
+
+of_unit : (order : Order) (name : List ℕ) (libs : List (List ℕ)) (slot : ℕ) (f : Fault) → UnitFault order name libs slot f → HasItsParts f
+of_unit order name libs slot f (inl t) = subst HasItsParts (sym t.0) (host_slot slot reason.MissingUnit refl refl refl refl)
+of_unit order name libs slot f (inr t) = because_parts (in_slot (t.0 + 1) slot) at f t.3.1
+  where
+    at : (why : Reason) → EntriesHave order name t.1 why → HasItsParts (in_slot (t.0 + 1) slot why)
+    at reason.DoubledUnit h = library_slot t.0 slot reason.DoubledUnit refl refl refl refl
+    at (reason.NotAUnit kind) h = library_slot t.0 slot (reason.NotAUnit kind) refl refl refl refl
+    at other h = absurd h
+
+in_sources : (order : Order) (host : List ℕ) (libs : List (List ℕ)) (f : Fault) → InSources order host libs f → HasItsParts f
+in_sources order host libs f t = elim t.2.2 [
+  | inl u ↦ of_unit order (entry_at order host t.0).name libs t.0 f u.1
+  | inr c ↦ of_code order (file_at host libs c.0.0) c.0.0 (entry_at order (file_at host libs c.0.0) c.0.1) t.0 t.2.0 f c.2
+]
+
+-- 6
+in_definitions : (order : Order) (host : List ℕ) (libs : List (List ℕ)) (f : Fault) → InDefinitions order host libs f → HasItsParts f
+in_definitions order host libs f t = subst HasItsParts (sym t.2.3.0) (record { slot = refl; rec = refl; reference = refl; of_host = λ e. refl; of_library = λ e. absurd (cc) })
+
+-- 7
+in_privates : (order : Order) (host : List ℕ) (libs : List (List ℕ)) (f : Fault) → InPrivates order host libs f → HasItsParts f
+in_privates order host libs f t = because_parts (in_record t.0.file t.0.slot t.2.0) at f t.2.3
+  where
+    at : (why : Reason) → PrivateHas (segments order host libs) t.0 t.2.0 t.2.1 why → HasItsParts (in_record t.0.file t.0.slot t.2.0 why)
+    at reason.DoubledPrivate h = any_record t.0.file t.0.slot t.2.0 reason.DoubledPrivate refl refl refl refl refl
+    at reason.NoRoom h = any_record t.0.file t.0.slot t.2.0 reason.NoRoom refl refl refl refl refl
+    at other h = absurd h
+
+-- 8
+in_data_size : (order : Order) (host : List ℕ) (libs : List (List ℕ)) (f : Fault) → InDataSize order host libs f → HasItsParts f
+in_data_size order host libs f t = subst HasItsParts (sym t.2.2.0) (host_slot t.0.slot reason.DataTooLarge refl refl refl refl)
+
+-- 9
+of_record : (segs : List Segment) (file slot rec : ℕ) (name : List ℕ) (body : Body) (why : Reason) → RecordHas segs name body why → HasItsParts (in_record file slot rec why)
+of_record segs file slot rec name (PublRef refs) reason.MissingDefinition h = any_record file slot rec reason.MissingDefinition refl refl refl refl refl
+of_record segs file slot rec name (PublRef refs) reason.IllKind h = any_record file slot rec reason.IllKind refl refl refl refl refl
+of_record segs file slot rec name (UnitRef refs) reason.MissingUnitRef h = any_record file slot rec reason.MissingUnitRef refl refl refl refl refl
+of_record segs file slot rec name body other h = absurd h
+
+of_reference : (order : Order) (segs : List Segment) (s : Segment) (rec : ℕ) (r : Record) (i x : ℕ) (why : Reason) → ReferenceHas order segs s rec r i x why → HasItsParts (in_reference s.file s.slot rec i why)
+of_reference order segs s rec r i x reason.OutsideCode h = any_reference s.file s.slot rec i reason.OutsideCode refl refl refl refl refl
+of_reference order segs s rec r i x reason.ReservedPlace h = any_reference s.file s.slot rec i reason.ReservedPlace refl refl refl refl refl
+of_reference order segs s rec r i x reason.Overlap h = any_reference s.file s.slot rec i reason.Overlap refl refl refl refl refl
+of_reference order segs s rec r i x reason.OperandTooLarge h = any_reference s.file s.slot rec i reason.OperandTooLarge refl refl refl refl refl
+of_reference order segs s rec r i x other h = absurd h
+
+in_references : (order : Order) (host : List ℕ) (libs : List (List ℕ)) (f : Fault) → InReferences order host libs f → HasItsParts f
+in_references order host libs f t = elim t.2.3 [
+  | inl b ↦ because_parts (in_record t.0.file t.0.slot t.2.0) (of_record (segments order host libs) t.0.file t.0.slot t.2.0 t.2.1.name t.2.1.body) f b
+  | inr i ↦ because_parts (in_reference t.0.file t.0.slot t.2.0 i.0) (of_reference order (segments order host libs) t.0 t.2.0 t.2.1 i.0 i.1) f i.3
+]
+
+pub parts : (order : Order) (host : List ℕ) (libs : List (List ℕ)) (step : Step) (f : Fault) → StandsIn step order host libs f → HasItsParts f
+parts order host libs OfHost f h = in_host host f h
+parts order host libs OfSlots f h = in_slots order host f h
+parts order host libs OfNoHost f h = in_no_host order host f h
+parts order host libs OfLibraries f h = in_libraries order libs f h
+parts order host libs OfSources f h = in_sources order host libs f h
+parts order host libs OfDefinitions f h = in_definitions order host libs f h
+parts order host libs OfPrivates f h = in_privates order host libs f h
+parts order host libs OfDataSize f h = in_data_size order host libs f h
+parts order host libs OfReferences f h = in_references order host libs f h
