@@ -6,3 +6,4 @@ pub mod Views
 pub mod Slots
 pub mod Plans
 pub mod Whole
+pub mod Maps

@@ -17,11 +17,11 @@ use Rattle.ps_linkfile.specs.LinkedFile.{Extent}
 use Rattle.ps_linkfile.specs.Writing.{Ascend}
 
 -- what there is where a step gives something
-and_then_some : {X Y : Type 0} (f : X → Option Y) (o : Option X) (y : Y) → option_and_then f o ≡ Some y → (x : X) × ((o ≡ Some x) × (f x ≡ Some y))
+pub and_then_some : {X Y : Type 0} (f : X → Option Y) (o : Option X) (y : Y) → option_and_then f o ≡ Some y → (x : X) × ((o ≡ Some x) × (f x ≡ Some y))
 and_then_some f None y h = cc
 and_then_some f (Some x) y h = (x, (refl, h))
 
-map_some : {X Y : Type 0} (f : X → Y) (o : Option X) (y : Y) → option_map f o ≡ Some y → (x : X) × ((o ≡ Some x) × (f x ≡ y))
+pub map_some : {X Y : Type 0} (f : X → Y) (o : Option X) (y : Y) → option_map f o ≡ Some y → (x : X) × ((o ≡ Some x) × (f x ≡ y))
 map_some f None y h = cc
 map_some f (Some x) y h = (x, (refl, cc))
 

@@ -155,7 +155,7 @@ host_first : (host : List ℕ) (libs : List (List ℕ)) → reading_fault host l
 unfolding reading_fault
 host_first host libs h = none_first (host_fault host) _ h
 
-reading_first : (host : List ℕ) (libs : List (List ℕ)) → first_fault host libs ≡ None → reading_fault host libs ≡ None
+pub reading_first : (host : List ℕ) (libs : List (List ℕ)) → first_fault host libs ≡ None → reading_fault host libs ≡ None
 unfolding first_fault
 reading_first host libs h = none_first (reading_fault host libs) _ h
 

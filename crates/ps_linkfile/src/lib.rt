@@ -7,10 +7,12 @@ mod error;
 mod laws;
 mod lines;
 mod linked;
+mod map;
 mod summary;
 mod writing;
 
 pub use error::{LinkError, WriteFault};
 pub use laws::linked_file_is_one;
 pub use linked::{Linked, link, prepare};
+pub use map::map_text;
 pub use summary::Summary;
