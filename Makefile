@@ -1,10 +1,10 @@
 # `make demo` proves and builds pslink and links the sample host with the sample library, `make test` proves and tests all,
-# `make install PREFIX=..` puts the program and its manual page in place.
+# `make install PREFIX=..` puts the program and its manual page in place, `make bench` times links of large files.
 PREFIX ?= /usr/local
 PROGRAM = crates/ps_linker
 BINARY = $(PROGRAM)/out/ps_linker
 
-.PHONY: demo build test install
+.PHONY: demo build test bench install
 
 demo:
 	cd $(PROGRAM) && rt run -- link ../../samples/host.code out/demo.code ../../samples/library.code
@@ -14,6 +14,9 @@ build:
 
 test:
 	rt ci
+
+bench: build
+	python3 bench/large_files.py $(BINARY)
 
 install: build
 	install -d $(DESTDIR)$(PREFIX)/bin $(DESTDIR)$(PREFIX)/share/man/man1

@@ -1,8 +1,8 @@
 -- What map prints of the small files, computed.
 use Rattle.std.proofs.Common.{◌≡◌, [], ◌∷◌, ◌++◌, refl}
 use Rattle.std.specs.Fmt.{digits}
-use Rattle.ps_examples.specs.Files.{host, library, host_in_place, host_with, count, limit, publ_ref, publ_def, const_def, eof_mark}
-use Rattle.ps_examples.specs.Texts.{map_of_the_pair, map_with_a_constant, map_in_place}
+use Rattle.ps_examples.specs.Files.{host, library, host_in_place, host_with, count, limit, publ_ref, publ_def, const_def, eof_mark, wanting_aux, library_of_two}
+use Rattle.ps_examples.specs.Texts.{map_of_the_pair, map_with_a_constant, map_in_place, map_of_two}
 use Rattle.ps_linkfile.specs.MapText.{map_of}
 use Rattle.ps_resolve.specs.Sources.{segments}
 use Rattle.ps_words.specs.declared.order.Order.TheVariants.{Little}
@@ -18,3 +18,7 @@ a_constant_after_the_public_variable = refl
 pub a_unit_in_place : map_of (host_in_place Little (publ_ref Little count (1 ∷ []) ++ eof_mark Little 0)) [] ≡ map_in_place
 unfolding map_of segments digits
 a_unit_in_place = refl
+
+pub two_units_of_one_library : map_of (wanting_aux host) (library_of_two ∷ []) ≡ map_of_two
+unfolding map_of segments digits
+two_units_of_one_library = refl

@@ -27,6 +27,9 @@ util = 85 ∷ 84 ∷ 73 ∷ 76 ∷ 32 ∷ 32 ∷ 32 ∷ 32 ∷ []
 abbrev pub aux : List ℕ
 aux = 65 ∷ 85 ∷ 88 ∷ 32 ∷ 32 ∷ 32 ∷ 32 ∷ 32 ∷ []
 
+abbrev pub tools : List ℕ
+tools = 84 ∷ 79 ∷ 79 ∷ 76 ∷ 83 ∷ 32 ∷ 32 ∷ 32 ∷ []
+
 abbrev pub count : List ℕ
 count = 67 ∷ 79 ∷ 85 ∷ 78 ∷ 84 ∷ 32 ∷ 32 ∷ 32 ∷ []
 
@@ -126,3 +129,35 @@ library = library_in Little
 abbrev pub host_in_place : Order → List ℕ → List ℕ
 host_in_place order information =
     with_slot order 7 util 3 3 24 (host_in order) ++ filled_to 512 (put_at 22 (7 ∷ []) (util_code order)) ++ filled_to 512 information
+
+-- a library with UTIL in slot 2, of this code, which takes one block
+abbrev pub library_having : List ℕ → List ℕ → List ℕ
+library_having code information = file_of (with_slot Little 2 util 3 1 (length code) no_segments) code information
+
+-- a code with two procedures: the second has this number in its table, and its word in the procedure dictionary has this content
+abbrev pub two_procedures : ℕ → ℕ → List ℕ
+two_procedures number content =
+    zeros 18 ++ (1 ∷ 0 ∷ []) ++ zeros 8 ++ (number ∷ 0 ∷ content ∷ 0 ∷ 14 ∷ 0 ∷ 2 ∷ 2 ∷ [])
+
+-- a host that wants AUX too, in slot 8
+abbrev pub wanting_aux : List ℕ → List ℕ
+wanting_aux file = with_slot Little 8 aux 3 0 0 file
+
+-- the library with AUX too, in slot 3: this code in block 3 and this link information in block 4
+abbrev pub with_aux : List ℕ → List ℕ → List ℕ → List ℕ
+with_aux code information file = with_slot Little 3 aux 3 3 24 file ++ filled_to 512 code ++ filled_to 512 information
+
+abbrev pub aux_code : List ℕ
+aux_code = put_at 22 (3 ∷ []) (util_code Little)
+
+abbrev pub library_of_two : List ℕ
+library_of_two = with_aux aux_code (util_information Little) library
+
+-- the host with the plain segment TOOLS too, in slot 8, whose five bytes are in block 3
+abbrev pub host_with_tools : List ℕ
+host_with_tools = with_slot Little 8 tools 0 3 5 host ++ (1 ∷ 2 ∷ 3 ∷ 4 ∷ 5 ∷ [])
+
+-- a library whose UTIL has 514 bytes and no procedure, with this link information in block 3
+abbrev pub library_of_two_blocks : List ℕ → List ℕ
+library_of_two_blocks information =
+    with_slot Little 2 util 3 1 514 no_segments ++ filled_to 1024 (zeros 512 ++ (2 ∷ 0 ∷ [])) ++ filled_to 512 information

@@ -1,22 +1,38 @@
 //! The definitions of a link, computed on small files: what is refused there, which fault is named where several stand, what is written, and what map and show print. Each function's contract states examples, and its body is empty.
 #![tactic(auto)]
 
+mod libraries;
 mod linked_files;
 mod orders;
+mod orders_within;
+mod refused_codes;
 mod refused_files;
+mod refused_operands;
+mod refused_privates;
 mod refused_records;
 mod refused_references;
 mod refused_slots;
 mod refused_sources;
 mod refused_symbols;
+mod refused_tables;
+mod refused_types;
+mod roles;
 mod texts;
 
-pub use linked_files::linked_bytes;
+pub use libraries::choice_of_libraries;
+pub use linked_files::{linked_bytes, more_linked_bytes};
 pub use orders::one_order;
+pub use orders_within::order_within_a_step;
+pub use refused_codes::faults_of_codes;
 pub use refused_files::faults_of_files;
+pub use refused_operands::faults_of_operands;
+pub use refused_privates::faults_of_privates;
 pub use refused_records::faults_of_records;
 pub use refused_references::faults_of_references;
 pub use refused_slots::faults_of_slots;
 pub use refused_sources::faults_of_sources;
 pub use refused_symbols::faults_of_symbols;
+pub use refused_tables::faults_of_tables;
+pub use refused_types::faults_of_types;
+pub use roles::roles_of_slots;
 pub use texts::{map_texts, show_texts};

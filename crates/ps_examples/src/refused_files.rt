@@ -1,7 +1,7 @@
 ghost use Rattle.std.specs.Prelude.{◌≡◌, [], ◌∷◌, take, Some, None};
 ghost use Rattle.ps_examples.specs.Files.{host, library, library_in, put_at, zeros};
 ghost use Rattle.ps_resolve.specs.Faults.{first_fault};
-ghost use Rattle.ps_words.specs.FaultPlaces.{in_file};
+ghost use Rattle.ps_words.specs.FaultPlaces.{in_file, in_slot};
 ghost use Rattle.ps_words.specs.declared.fault.Reason.TheVariants as reason;
 ghost use Rattle.ps_words.specs.declared.order.Order.TheVariants.{Big};
 
@@ -15,4 +15,6 @@ pub fn faults_of_files()
     ensures the_host_has_no_kinds { first_fault (put_at 192 (zeros 32) host) (library ∷ []) ≡ Some (in_file 0 reason.NoHost) }
     ensures the_library_is_short { first_fault host (take 511 library ∷ []) ≡ Some (in_file 1 reason.ShortFile) }
     ensures the_library_has_no_order { first_fault host (put_at 193 (1 ∷ []) library ∷ []) ≡ Some (in_file 1 reason.NoOrder) }
+    ensures a_host_of_one_block_is_not_short { first_fault (take 512 host) (library ∷ []) ≡ Some (in_slot 0 1 reason.Truncated) }
+    ensures a_library_of_one_block_is_not_short { first_fault host (take 512 library ∷ []) ≡ Some (in_slot 1 7 reason.Truncated) }
 {}

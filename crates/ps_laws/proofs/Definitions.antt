@@ -1,10 +1,9 @@
 -- The first fault of the definitions is the least that stands.
-use Rattle.std.proofs.Common.{◌≡◌, ℕ, zero, suc, ◌+◌, ◌<◌, ◌≤◌, List, [], ◌∷◌, ◌++◌, length, take, Option, Some, None, Bool, true, false, refl, sym, ap, subst, ◌∙◌, inl, inr, arith, append_assoc, append-nil, is_some}
+use Rattle.std.proofs.Common.{◌≡◌, ℕ, ◌+◌, List, [], ◌∷◌, ◌++◌, length, take, Option, Some, None, Bool, true, false, refl, sym, ap, subst, ◌∙◌, inl, inr, arith, append_assoc, append-nil, is_some}
 use Rattle.std.specs.Prelude.{if◌then◌else◌, ◌&&◌, ◌||◌}
 use Rattle.std.specs.Bool.{Decides}
-use Rattle.std.specs.List.{enumerate_from, list_any, filter_map, cons_option}
-use Rattle.std.specs.Map.{lookup}
-use Rattle.std.specs.Option.{option_map, option_or, option_and_then}
+use Rattle.std.specs.List.{enumerate_from, list_any, cons_option}
+use Rattle.std.specs.Option.{option_map, option_or}
 use Rattle.std.specs.Str.{bytes_eq}
 use Rattle.std.proofs.lemmas.Bool.Decides.{Decides-and, Decides-like}
 use Rattle.std.proofs.lemmas.Slice.Eq.{bytes_eq-Decides}
@@ -12,10 +11,10 @@ use Rattle.ps_linkinfo.specs.declared.record.Body.{Body}
 use Rattle.ps_linkinfo.specs.declared.record.LinkRecord.{LinkRecord as Record}
 use Rattle.ps_resolve.specs.First.{Least}
 use Rattle.ps_resolve.specs.Searches.{first_of, fault_if}
-use Rattle.ps_resolve.specs.Sources.{Segment, segments, host_of}
+use Rattle.ps_resolve.specs.Sources.{segments, host_of}
 use Rattle.ps_resolve.specs.Symbols.{def_in, definition_in, definitions, definition_of, doubled_from, doubled}
 use Rattle.ps_resolve.specs.Faults.{definitions_fault}
-use Rattle.ps_resolve.specs.Standing.{Lesser, SomeItem, OfDefinitions, Precedes, OfHostSegment, IsAgain, is_definition, InDefinitions}
+use Rattle.ps_resolve.specs.Standing.{SomeItem, OfDefinitions, Precedes, IsAgain, is_definition, InDefinitions}
 use Rattle.ps_resolve.specs.declared.definitions.Def.{Def}
 use Rattle.ps_laws.proofs.Least.{least_if, least_then, least_items, at_apart}
 use Rattle.ps_laws.proofs.Looking.{of_test, any_of_take}

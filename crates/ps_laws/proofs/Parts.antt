@@ -1,6 +1,6 @@
 -- A fault that stands has just the parts of its number.
-use Rattle.std.proofs.Common.{◌≡◌, ℕ, ◌+◌, ◌*◌, ◌≤◌, List, [], ◌∷◌, length, Option, Some, None, Result, Ok, Err, Bool, true, false, refl, sym, subst, inl, inr, arith}
-use Rattle.std.specs.Prelude.{◌⊎◌, if◌then◌else◌, ◌==◌, ◌&&◌, ◌||◌, not, nat_le, nat_lt}
+use Rattle.std.proofs.Common.{◌≡◌, ℕ, ◌+◌, ◌*◌, List, length, Option, Some, None, Result, Ok, Err, Bool, true, false, refl, sym, subst, inl, inr, arith}
+use Rattle.std.specs.Prelude.{if◌then◌else◌, ◌==◌, ◌&&◌, ◌||◌, not, nat_le, nat_lt}
 use Rattle.std.specs.Option.{option_or}
 use Rattle.ps_words.specs.FaultText.{number_of}
 use Rattle.ps_words.specs.FaultPlaces.{in_file, in_slot, in_record, in_reference, has_slot, has_record, has_reference, is_of_host, is_of_library, HasItsParts}
@@ -9,12 +9,12 @@ use Rattle.ps_words.specs.declared.order.Order.{Order}
 use Rattle.ps_words.specs.declared.fault.Fault.{Fault}
 use Rattle.ps_words.specs.declared.fault.Reason.{Reason}
 use Rattle.ps_words.specs.declared.fault.Reason.TheVariants as reason
-use Rattle.ps_codefile.specs.Dictionary.{block_len, is_nameless, role_of, role_of_kind, code_of, has_bad_length, entry_at, information_of}
+use Rattle.ps_codefile.specs.Dictionary.{block_len, is_nameless, role_of, code_of, has_bad_length, entry_at}
 use Rattle.ps_codefile.specs.declared.entry.Entry.{Entry}
 use Rattle.ps_codefile.specs.declared.entry.Role.{Role}
-use Rattle.ps_linkinfo.specs.Records.{bad, bad_format, type_fault, format_of, list_len, used_by, refs_of}
+use Rattle.ps_linkinfo.specs.Records.{bad, bad_format, type_fault, format_of, list_len}
 use Rattle.ps_linkinfo.specs.declared.record.Body.{Body}
-use Rattle.ps_linkinfo.specs.declared.record.Body.TheVariants.{UnitRef, PublRef, PrivRef, PublDef, ConstDef, Eof}
+use Rattle.ps_linkinfo.specs.declared.record.Body.TheVariants.{UnitRef, PublRef}
 use Rattle.ps_linkinfo.specs.declared.record.LinkRecord.{LinkRecord as Record}
 use Rattle.ps_resolve.specs.Sources.{Segment, segments, file_at, is_host}
 use Rattle.ps_resolve.specs.Standing.{Because, HostHas, SlotHas, LibraryHas, EntriesHave, UnitFault, TablesHave, CodeFault, PrivateHas, RecordHas, ReferenceHas, InHost, InSlots, InNoHost, InLibraries, InSources, InDefinitions, InPrivates, InDataSize, InReferences, StandsIn, Step, OfHost, OfSlots, OfNoHost, OfLibraries, OfSources, OfDefinitions, OfPrivates, OfDataSize, OfReferences}

@@ -1,7 +1,6 @@
 -- The first fault of the privates is the least that stands.
-use Rattle.std.proofs.Common.{◌≡◌, ℕ, zero, suc, ◌+◌, ◌<◌, ◌≤◌, List, [], ◌∷◌, ◌++◌, length, take, map, Option, Some, None, Bool, true, false, refl, sym, ap, subst, ◌∙◌, inl, inr, arith, append_assoc, append-nil, is_some}
+use Rattle.std.proofs.Common.{◌≡◌, ℕ, zero, suc, ◌+◌, ◌<◌, ◌≤◌, List, [], ◌∷◌, ◌++◌, length, take, map, Option, Some, None, Bool, true, false, refl, sym, ap, subst, ◌∙◌, inl, inr, arith, append_assoc, append-nil}
 use Rattle.std.specs.Prelude.{◌⊎◌, if◌then◌else◌, ◌&&◌, ◌||◌, ◌==◌, nat_lt, sum_by}
-use Rattle.std.specs.Bool.{Decides}
 use Rattle.std.specs.List.{enumerate_from, list_any, filter}
 use Rattle.std.specs.Option.{option_map, option_or}
 use Rattle.std.specs.Str.{bytes_eq}
@@ -13,10 +12,10 @@ use Rattle.ps_linkinfo.specs.declared.record.LinkRecord.{LinkRecord as Record}
 use Rattle.ps_resolve.specs.First.{Least}
 use Rattle.ps_resolve.specs.Searches.{first_of, fault_if}
 use Rattle.ps_resolve.specs.Sources.{Segment, segments, host_records}
-use Rattle.ps_resolve.specs.Privates.{words_in, allotted, words_of, private_fault, Owner, owner_of, all_allotted, all_words, first_private_fault, next_of}
+use Rattle.ps_resolve.specs.Privates.{words_in, allotted, words_of, private_fault, owner_of, all_allotted, all_words, first_private_fault, next_of}
 use Rattle.ps_resolve.specs.References.{words_taken}
 use Rattle.ps_resolve.specs.Faults.{privates_fault}
-use Rattle.ps_resolve.specs.Standing.{SomeItem, SomeSegment, OfPrivates, Precedes, is_private, is_before, offset_of, PrivateHas, InPrivates}
+use Rattle.ps_resolve.specs.Standing.{OfPrivates, Precedes, is_private, is_before, offset_of, PrivateHas, InPrivates}
 use Rattle.ps_resolve.specs.declared.allotment.Private.{Private}
 use Rattle.ps_laws.proofs.Least.{least_same, least_or, least_if, least_items, at_apart}
 use Rattle.ps_laws.proofs.Steps.{Ranked, because, because_apart}

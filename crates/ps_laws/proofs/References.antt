@@ -2,7 +2,7 @@
 use Rattle.std.proofs.Common.{◌≡◌, ℕ, zero, suc, ◌+◌, ◌<◌, ◌≤◌, List, [], ◌∷◌, ◌++◌, length, take, map, Option, Some, None, Result, Ok, Err, Bool, true, false, refl, sym, ap, subst, ◌∙◌, inl, inr, arith, append_assoc, append-nil, is_some, leb-true, le-leb, unwrap_or}
 use Rattle.std.specs.Prelude.{◌≢◌, ◌⊎◌, if◌then◌else◌, ◌&&◌, ◌||◌, nat_le, nat_lt}
 use Rattle.std.specs.Bool.{Decides}
-use Rattle.std.specs.List.{range_with_len, enumerate_from, slice_get, list_any, flat_map, filter_map, cons_option}
+use Rattle.std.specs.List.{range_with_len, enumerate_from, slice_get, list_any, flat_map, cons_option}
 use Rattle.std.specs.Map.{lookup}
 use Rattle.std.specs.Option.{option_map, option_or}
 use Rattle.std.specs.Result.{result_err}
@@ -27,7 +27,7 @@ use Rattle.ps_resolve.specs.Operands.{width_of, value_of, is_in, reference_reaso
 use Rattle.ps_resolve.specs.References.{Known, public_base, unit_slot, target_in, target_of, words_taken, records_fault}
 use Rattle.ps_resolve.specs.Linking.{known_of}
 use Rattle.ps_resolve.specs.Faults.{in_segment, segment_fault, references_fault_from, references_fault}
-use Rattle.ps_resolve.specs.Standing.{Because, Lesser, SomeItem, SomeSegment, OfReferences, part, Precedes, offset_of, Defines, RecordHas, operand_width, definition_value, operand_value, Covers, Meet, ReferenceHas, InReferences}
+use Rattle.ps_resolve.specs.Standing.{Because, Lesser, SomeItem, OfReferences, part, Precedes, offset_of, Defines, RecordHas, operand_width, operand_value, Covers, Meet, ReferenceHas, InReferences}
 use Rattle.ps_resolve.specs.declared.definitions.Def.{Def}
 use Rattle.ps_resolve.specs.declared.definitions.DefKind.{DefKind}
 use Rattle.ps_resolve.specs.declared.definitions.DefKind.TheVariants.{Public, Constant}

@@ -1,5 +1,5 @@
 -- The first fault of the sources is the least that stands.
-use Rattle.std.proofs.Common.{◌≡◌, ℕ, zero, suc, ◌+◌, ◌-◌, ◌*◌, ◌/◌, drop, ◌<◌, ◌≤◌, List, [], ◌∷◌, length, Option, Some, None, Result, Ok, Err, Bool, true, false, refl, sym, ap, subst, ◌∙◌, inl, inr, arith}
+use Rattle.std.proofs.Common.{◌≡◌, ℕ, ◌+◌, ◌-◌, ◌*◌, ◌<◌, ◌≤◌, List, [], ◌∷◌, length, Option, Some, None, Result, Ok, Err, Bool, true, false, refl, sym, ap, subst, ◌∙◌, inl, inr, arith}
 use Rattle.std.specs.Prelude.{◌↔◌, slice_index, ◌⊎◌, ◌≢◌, if◌then◌else◌, nat_lt, not, ◌&&◌, ◌||◌, ◌==◌, nat_le, ◌%◌}
 use Rattle.std.specs.Bool.{Decides}
 use Rattle.std.specs.List.{range_with_len, enumerate_from, slice_get, list_any, filter_map, find, list_all, cons_option}
@@ -7,21 +7,14 @@ use Rattle.std.specs.Option.{option_or, option_map, option_and_then, option_map_
 use Rattle.std.specs.Result.{result_ok}
 use Rattle.std.specs.Str.{bytes_eq}
 use Rattle.std.proofs.lemmas.Bool.{cases_lt, false≢true}
-use Rattle.std.proofs.lemmas.List.FromFn.{length-map-range_with_len}
-use Rattle.std.proofs.lemmas.List.{drop-drop}
-use Rattle.std.proofs.lemmas.List.Sums.{sum_by-append}
-use Rattle.std.proofs.Common.{length-drop, zero-add}
-use Rattle.std.proofs.lemmas.Bool.Decides.{eqb_tells}
 use Rattle.std.proofs.Common.{leb-true, le-leb, unwrap_or}
-use Rattle.std.proofs.lemmas.Bool.Decides.{Decides-at, Decides-ltb, Decides-and, Decides-or, Decides-not, Decides-like, Decides-eqb, nat_tests}
+use Rattle.std.proofs.lemmas.Bool.Decides.{Decides-at, Decides-ltb, Decides-and, Decides-or, Decides-not, Decides-like, Decides-eqb}
 use Rattle.std.proofs.lemmas.Slice.Eq.{bytes_eq-Decides}
 use Rattle.ps_codefile.specs.Dictionary.{slots, entry_at, role_of, code_of, information_of, is_filled}
 use Rattle.ps_codefile.specs.Procedures.{table_of, procedures, content_of, start_of, dictionary_len, is_placed, numbers, tables, tables_fault}
 use Rattle.ps_codefile.specs.declared.entry.Entry.{Entry}
 use Rattle.ps_codefile.specs.declared.entry.Role.{Role}
-use Rattle.ps_linkinfo.specs.Records.{refs_of, reading, read_from, Stops, BeginsWith, IsBody, is_eof, size_of, used_by, bad, record_at, body_at, refs_at, list_len}
-use Rattle.ps_linkinfo.specs.declared.record.Body.{Body}
-use Rattle.ps_linkinfo.specs.declared.record.Body.TheVariants.{UnitRef, PublRef, PrivRef, PublDef, ConstDef, Eof}
+use Rattle.ps_linkinfo.specs.Records.{reading, Stops}
 use Rattle.ps_linkinfo.specs.declared.record.LinkRecord.{LinkRecord as Record}
 use Rattle.ps_resolve.specs.Faults.{entries_reason, unit_fault, wanted_fault, information_fault, code_fault, source_fault, sources_fault}
 use Rattle.ps_resolve.specs.First.{Least, nothing, this}
@@ -29,7 +22,6 @@ use Rattle.ps_resolve.specs.Searches.{first_of, fault_if}
 use Rattle.ps_resolve.specs.Sources.{is_host, is_wanted, is_named, has_entry, chosen_library, source_of, file_at, is_linked}
 use Rattle.ps_resolve.specs.Standing.{Because, Lesser, SomeItem, OfSources, rank, part, Precedes, IsNamed, HasEntry, EntriesHave, UnitFault, HasBadTable, AreBad, TablesHave, CodeFault, InSources}
 use Rattle.ps_words.specs.FaultPlaces.{in_slot, in_record}
-use Rattle.ps_words.specs.Words.{word_at}
 use Rattle.ps_laws.proofs.Least.{least_same, least_or, least_if, least_then, least_range, least_items, least_guard}
 use Rattle.ps_laws.proofs.Steps.{Ranked, because, any_of_range, any_lesser}
 use Rattle.ps_words.specs.declared.order.Order.{Order}

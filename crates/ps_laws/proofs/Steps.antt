@@ -1,6 +1,6 @@
 -- The first fault of each step is the least that stands.
-use Rattle.std.proofs.Common.{◌≡◌, ℕ, zero, suc, ◌+◌, ◌<◌, ◌≤◌, List, length, Option, Some, Result, Ok, Err, Bool, true, false, refl, sym, subst, inl, inr, arith}
-use Rattle.std.specs.Prelude.{◌⊎◌, ◌≢◌, if◌then◌else◌, nat_lt, not, ◌&&◌, ◌||◌, ◌==◌, nat_le}
+use Rattle.std.proofs.Common.{◌≡◌, ℕ, zero, suc, ◌+◌, ◌<◌, ◌≤◌, List, length, Option, Result, Ok, Err, Bool, true, false, refl, sym, subst, inl, inr, arith}
+use Rattle.std.specs.Prelude.{◌⊎◌, if◌then◌else◌, nat_lt, not, ◌&&◌, ◌||◌, ◌==◌, nat_le}
 use Rattle.std.specs.Bool.{Decides}
 use Rattle.std.specs.List.{range_with_len, list_any}
 use Rattle.std.specs.Option.{option_map, option_map_or}

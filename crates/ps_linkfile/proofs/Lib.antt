@@ -7,3 +7,4 @@ pub mod Slots
 pub mod Plans
 pub mod Whole
 pub mod Maps
+pub mod Shows

@@ -1,11 +1,14 @@
 -- What a code file has: its byte order, its sixteen slots, and the link information of each segment that is to be linked, record by record.
 -- Source: this project's profile.
-use Rattle.std.specs.Prelude.{ℕ, ◌+◌, ◌==◌, ◌&&◌, ◌||◌, if◌then◌else◌, List, [], ◌∷◌, ◌++◌, length, codes, decimal, Bool, Option, Some, None, Ok, Err}
+use Rattle.std.specs.Prelude.{◌≡◌, ℕ, ◌==◌, ◌&&◌, ◌||◌, if◌then◌else◌, List, [], ◌∷◌, ◌++◌, length, nat_lt, codes, decimal, Bool, Option, Some, None, Ok, Err}
 use Rattle.std.specs.List.{flat_map, enumerate_from}
 use Rattle.ps_words.specs.declared.order.Order.{Order}
 use Rattle.ps_words.specs.declared.order.Order.TheVariants.{Little, Big}
+use Rattle.ps_words.specs.FaultPlaces.{in_file}
 use Rattle.ps_words.specs.declared.fault.Reason.{Reason}
-use Rattle.ps_codefile.specs.Dictionary.{slots, FileOrder, Zero, Ordered, Mixed, file_order, entry_at, is_filled, code_of, information_of}
+use Rattle.ps_words.specs.declared.fault.Reason.TheVariants as reason
+use Rattle.ps_words.specs.declared.fault.Fault.{Fault}
+use Rattle.ps_codefile.specs.Dictionary.{slots, block_len, FileOrder, Zero, Ordered, Mixed, file_order, entry_at, is_filled, code_of, information_of}
 use Rattle.ps_codefile.specs.declared.entry.Entry.{Entry}
 use Rattle.ps_linkinfo.specs.Records.{reading}
 use Rattle.ps_linkinfo.specs.declared.record.Body.{Body}
@@ -13,6 +16,8 @@ use Rattle.ps_linkinfo.specs.declared.record.Body.TheVariants.{UnitRef, PublRef,
 use Rattle.ps_linkinfo.specs.declared.record.LinkRecord.{LinkRecord as Record}
 use Rattle.ps_resolve.specs.Sources.{known_order}
 use Rattle.ps_linkfile.specs.Lines.{line, shown, two_digits, field, fault_words}
+use Rattle.ps_linkfile.specs.declared.error.LinkError.{LinkError}
+use Rattle.ps_linkfile.specs.declared.error.LinkError.TheVariants.{Refused, Memory, Write}
 
 -- a file without any kind has no order of its own, and is read as little-endian
 abbrev pub order_words : FileOrder → List ℕ
@@ -22,14 +27,18 @@ order_words (Ordered Big) = codes "order big"
 order_words Mixed = []
 
 -- `slot 02 UTIL     kind 3 address 1 length 24 text 0`
-abbrev pub slot_line : Order → List ℕ → ℕ → List ℕ
+unfoldable pub slot_line : Order → List ℕ → ℕ → List ℕ
 slot_line order file slot =
     let e = entry_at order file slot in
     line (codes "slot " ++ two_digits slot ++ (32 ∷ []) ++ shown e.name ++ field (codes "kind") e.kind ++ field (codes "address") e.address ++ field (codes "length") e.length ++ field (codes "text") e.text)
 
+-- ` 4`
+abbrev pub reference : ℕ → List ℕ
+reference place = (32 ∷ []) ++ decimal place
+
 -- ` at 1 4`
 abbrev pub references : List ℕ → List ℕ
-references refs = codes " at" ++ flat_map (λ x. (32 ∷ []) ++ decimal x) refs
+references refs = codes " at" ++ flat_map reference refs
 
 abbrev pub record_words : List ℕ → Body → List ℕ
 record_words name (UnitRef refs) = codes " UNITREF " ++ shown name ++ references refs
@@ -43,24 +52,49 @@ record_words name (Eof next) = codes " EOFMARK" ++ field (codes "next") next
 abbrev pub record_line : ℕ × Record → List ℕ
 record_line r = line (decimal r.0 ++ record_words r.1.name r.1.body)
 
+-- `2 fault 19 RecordsTruncated`, where a fault stands in place of a record
+abbrev pub fault_line : ℕ → Option Reason → List ℕ
+fault_line rec None = []
+fault_line rec (Some why) = line (decimal rec ++ (32 ∷ []) ++ fault_words why)
+
 -- the records up to the end mark, or up to the first fault and that fault
 abbrev pub record_lines : List Record × Option Reason → List ℕ
-record_lines read =
-    flat_map record_line (enumerate_from 0 read.0)
-    ++ (elim read.1 [ None ↦ [] | Some why ↦ line (decimal (length read.0) ++ (32 ∷ []) ++ fault_words why) ])
+record_lines read = flat_map record_line (enumerate_from 0 read.0) ++ fault_line (length read.0) read.1
 
 -- the slot has a host segment or a unit
 abbrev pub has_links : Entry → Bool
 has_links e = is_filled e && (e.kind == 1 || e.kind == 3)
 
-abbrev pub links_lines : Order → List ℕ → ℕ → List ℕ
+unfoldable pub links_lines : Order → List ℕ → ℕ → List ℕ
 links_lines order file slot =
     let e = entry_at order file slot in
     if has_links e
     then line (codes "links " ++ two_digits slot) ++ (elim (code_of file e) [ Err why ↦ line (fault_words why) | Ok code ↦ record_lines (reading order (information_of file e)) ])
     else []
 
+-- the text of a file that shows this order, and whose words are read in that one
+abbrev pub shown_file : FileOrder → Order → List ℕ → List ℕ
+shown_file found order file = line (order_words found) ++ flat_map (slot_line order file) slots ++ flat_map (links_lines order file) slots
+
 unfoldable pub show_of : List ℕ → List ℕ
-show_of file =
-    let order = known_order (file_order file) in
-    line (order_words (file_order file)) ++ flat_map (slot_line order file) slots ++ flat_map (links_lines order file) slots
+show_of file = shown_file (file_order file) (known_order (file_order file)) file
+
+-- what kind words show of the byte order: this one, or none
+abbrev pub order_shown : Option Order → FileOrder
+order_shown None = Zero
+order_shown (Some order) = Ordered order
+
+-- why a file cannot be shown: it has no whole dictionary, or its kind words fit neither byte order
+abbrev pub order_fault : FileOrder → Option Fault
+order_fault Zero = None
+order_fault (Ordered order) = None
+order_fault Mixed = Some (in_file 0 reason.NoOrder)
+
+abbrev pub show_fault : List ℕ → Option Fault
+show_fault file = if nat_lt (length file) block_len then Some (in_file 0 reason.ShortFile) else order_fault (file_order file)
+
+-- why there is no text: that fault, or memory ran out where it does not stand; never a write
+abbrev pub IsUnshown : List ℕ → LinkError → Type 0
+IsUnshown file (Refused fault) = show_fault file ≡ Some fault
+IsUnshown file Memory = show_fault file ≡ None
+IsUnshown file (Write fault) = ⊥

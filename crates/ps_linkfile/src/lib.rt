@@ -8,6 +8,7 @@ mod laws;
 mod lines;
 mod linked;
 mod map;
+mod show;
 mod summary;
 mod writing;
 
@@ -15,4 +16,5 @@ pub use error::{LinkError, WriteFault};
 pub use laws::linked_file_is_one;
 pub use linked::{Linked, link, prepare};
 pub use map::map_text;
+pub use show::show_text;
 pub use summary::Summary;

@@ -15,6 +15,11 @@ pub const COUNT: Name = *b"COUNT   ";
 
 pub const STATE: Name = *b"STATE   ";
 
+/// A name that has no definition, and one that no unit has.
+pub const CUONT: Name = *b"CUONT   ";
+
+pub const NOBODY: Name = *b"NOBODY  ";
+
 /// The slots of the base host's two segments, and of the unit in the base library.
 pub const DEMO_SLOT: u8 = 1;
 

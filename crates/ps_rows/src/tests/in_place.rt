@@ -39,7 +39,7 @@ fn a_linked_dictionary_has_the_host_s_byte_order(rt: HostRuntime) -> Result<(), 
     Ok(())
 }
 
-const OPERANDS: [Row<'static>; 3] = [
+pub(crate) const OPERANDS: [Row<'static>; 4] = [
     Row {
         what: "a displacement of 5 and the value 3",
         host: &[Code(3, 2, &[5])],
@@ -61,6 +61,16 @@ const OPERANDS: [Row<'static>; 3] = [
         linked: &[Code(2, 1, &[0xFF, 0xFF])],
         summary: SUMMARY,
     },
+    Row {
+        what: "a value above every operand, and no references",
+        host: &[
+            Records(2, &[PublicDefinition(COUNT, 65535), End(8)]),
+            Records(4, &[PublicReference(COUNT, &[]), End(0)]),
+        ],
+        library: &[],
+        linked: &[Code(2, 2, &[0])],
+        summary: SUMMARY,
+    },
 ];
 
 #[test]
@@ -68,7 +78,7 @@ fn operands(rt: HostRuntime) -> Result<(), Fail> {
     link_rows(&rt, Base::InPlace, &OPERANDS)
 }
 
-const REFERENCES: [Row<'static>; 4] = [
+pub(crate) const REFERENCES: [Row<'static>; 4] = [
     Row {
         what: "two references in a record",
         host: &[Records(4, &[PublicReference(COUNT, &[1, 4]), End(0)])],
@@ -111,10 +121,10 @@ fn references(rt: HostRuntime) -> Result<(), Fail> {
     link_rows(&rt, Base::InPlace, &REFERENCES)
 }
 
-const PRIVATE_VARIABLES: [Row<'static>; 4] = [
+pub(crate) const PRIVATE_VARIABLES: [Row<'static>; 8] = [
     Row {
-        what: "4 words from 8 on",
-        host: &[Records(4, &LIBRARY_RECORDS)],
+        what: "4 words from 8 on, by the library's own code and records",
+        host: &[Code(3, 22, &[2]), Records(4, &LIBRARY_RECORDS)],
         library: &[],
         linked: &[CodeWord(1, 4, 18), Code(2, 5, &[10])],
         summary: "segments 2 private words 4 blocks 3",
@@ -149,6 +159,51 @@ const PRIVATE_VARIABLES: [Row<'static>; 4] = [
         library: &[],
         linked: &[CodeWord(1, 4, 65535), Code(2, 5, &[10])],
         summary: "segments 2 private words 4 blocks 3",
+    },
+    Row {
+        what: "none, behind the largest end mark",
+        host: &[Records(2, &[PublicDefinition(COUNT, 3), End(65535)])],
+        library: &[],
+        linked: &[],
+        summary: SUMMARY,
+    },
+    Row {
+        what: "one of no words, and one of 4 words at its offset",
+        host: &[Records(
+            4,
+            &[
+                PrivateReference(STATE, 0, &[1]),
+                PrivateReference(COUNT, 4, &[4]),
+                End(0),
+            ],
+        )],
+        library: &[],
+        linked: &[CodeWord(1, 4, 18), Code(2, 2, &[8]), Code(2, 5, &[10])],
+        summary: "segments 2 private words 4 blocks 3",
+    },
+    Row {
+        what: "one of no words at the last offset",
+        host: &[
+            Records(2, &[End(32767)]),
+            Records(4, &[PrivateReference(STATE, 0, &[1]), End(0)]),
+        ],
+        library: &[],
+        linked: &[Code(2, 1, &[0xFF, 0xFF])],
+        summary: SUMMARY,
+    },
+    Row {
+        what: "2 words of the host segment",
+        host: &[Records(
+            2,
+            &[
+                PublicDefinition(COUNT, 3),
+                PrivateReference(STATE, 2, &[2]),
+                End(8),
+            ],
+        )],
+        library: &[],
+        linked: &[CodeWord(1, 4, 14), Code(1, 3, &[8])],
+        summary: "segments 2 private words 2 blocks 3",
     },
 ];
 
@@ -197,7 +252,7 @@ fn slots(rt: HostRuntime) -> Result<(), Fail> {
     link_rows(&rt, Base::InPlace, &SLOTS)
 }
 
-const PROCEDURES: [Row<'static>; 2] = [
+const PROCEDURES: [Row<'static>; 3] = [
     Row {
         what: "a second procedure of the unit that has no body",
         host: &[Code(3, 18, &[0, 0, 4, 0, 7, 2])],
@@ -210,6 +265,13 @@ const PROCEDURES: [Row<'static>; 2] = [
         host: &[Code(3, 23, &[0])],
         library: &[],
         linked: &[Code(2, 23, &[0])],
+        summary: SUMMARY,
+    },
+    Row {
+        what: "two procedures of one table",
+        host: &[Code(3, 18, &[2, 0, 4, 0, 7, 2])],
+        library: &[],
+        linked: &[Code(2, 18, &[2, 0, 4, 0, 7, 2])],
         summary: SUMMARY,
     },
 ];

@@ -1,9 +1,9 @@
 //! A host that holds its unit itself, and why it is refused.
+use super::host_faults::LIKE_DEMO;
 use super::tables::{Base, Refusal, refuse_rows};
-use crate::base::{COUNT, DEMO, STATE, WANTED_UTIL};
-use crate::code_file::Change::{Address, Bytes, Code, Entry, Kind, Length, Records, Resized};
-use crate::code_file::{HOST_SEGMENT, LINKED, Slot};
-use crate::in_place::UTIL_IN_PLACE;
+use crate::base::{COUNT, CUONT, DEMO, NOBODY, STATE, WANTED_UTIL};
+use crate::code_file::Change::{Code, Entry, Length, Records};
+use crate::code_file::{LINKED, Slot};
 use crate::information::Name;
 use crate::information::Record::{
     ConstantDefinition, End, Other, PrivateReference, PublicDefinition, PublicReference,
@@ -11,12 +11,13 @@ use crate::information::Record::{
 };
 use std::test::Fail;
 
-/// A slot with no name that has the host segment's code.
-const LIKE_DEMO: Slot = Slot {
-    name: [b' '; 8],
-    kind: HOST_SEGMENT,
-    address: 1,
-    length: 18,
+/// A segment that is linked already, of the host segment's code.
+const TOOLS: Name = *b"TOOLS   ";
+
+const LINKED_TOOLS: Slot = Slot {
+    name: TOOLS,
+    kind: LINKED,
+    ..LIKE_DEMO
 };
 
 /// A unit that is wanted and has the host segment's name.
@@ -25,145 +26,16 @@ const WANTED_DEMO: Slot = Slot {
     ..WANTED_UTIL
 };
 
-/// A name that has no definition, and one that no unit has.
-const CUONT: Name = *b"CUONT   ";
-
-const NOBODY: Name = *b"NOBODY  ";
-
 /// The end of a code of 24 bytes with two procedures, whose tables are at 16 and at 14.
 const TWO_PROCEDURES: [u8; 6] = [4, 0, 4, 0, 7, 2];
 
-/// Segment dictionaries.
-const DICTIONARIES: [Refusal<'static>; 15] = [
-    (
-        "no whole block",
-        &[Resized(511)],
-        &[],
-        "refused 1 ShortFile file 0",
-    ),
-    (
-        "a byte of either order",
-        &[Bytes(193, &[1])],
-        &[],
-        "refused 2 NoOrder file 0",
-    ),
-    (
-        "no kinds at all",
-        &[Bytes(192, &[0; 32])],
-        &[],
-        "refused 4 NoHost file 0",
-    ),
-    (
-        "a host segment with no code",
-        &[Length(1, 0)],
-        &[],
-        "refused 4 NoHost file 0",
-    ),
-    (
-        "a second host segment below",
-        &[Entry(0, LIKE_DEMO)],
-        &[],
-        "refused 5 TwoHosts file 0 slot 1",
-    ),
-    (
-        "a second host segment",
-        &[Entry(2, LIKE_DEMO)],
-        &[],
-        "refused 5 TwoHosts file 0 slot 2",
-    ),
-    (
-        "a unit and a wanted unit of one name",
-        &[Entry(8, WANTED_UTIL)],
-        &[],
-        "refused 6 DoubledSegment file 0 slot 8",
-    ),
-    (
-        "two units of one name",
-        &[Entry(8, UTIL_IN_PLACE)],
-        &[],
-        "refused 6 DoubledSegment file 0 slot 8",
-    ),
-    (
-        "kind 2",
-        &[Entry(8, LIKE_DEMO), Kind(8, 2)],
-        &[],
-        "refused 7 SegmentProcedure file 0 slot 8",
-    ),
-    (
-        "kind 4",
-        &[Entry(8, LIKE_DEMO), Kind(8, 4)],
-        &[],
-        "refused 8 NativeSegment file 0 slot 8",
-    ),
-    (
-        "kind 5",
-        &[Entry(8, LIKE_DEMO), Kind(8, 5)],
-        &[],
-        "refused 9 Intrinsic file 0 slot 8",
-    ),
-    (
-        "kind 6",
-        &[Entry(8, LIKE_DEMO), Kind(8, 6)],
-        &[],
-        "refused 9 Intrinsic file 0 slot 8",
-    ),
-    (
-        "kind 7",
-        &[Entry(8, LIKE_DEMO), Kind(8, 7)],
-        &[],
-        "refused 9 Intrinsic file 0 slot 8",
-    ),
-    (
-        "kind 8",
-        &[Entry(8, LIKE_DEMO), Kind(8, 8)],
-        &[],
-        "refused 10 UnknownKind file 0 slot 8",
-    ),
-    (
-        "kind 255",
-        &[Entry(8, LIKE_DEMO), Kind(8, 255)],
-        &[],
-        "refused 10 UnknownKind file 0 slot 8",
-    ),
-];
-
 /// Codes.
-const CODES: [Refusal<'static>; 10] = [
-    (
-        "an odd length",
-        &[Length(1, 17)],
-        &[],
-        "refused 11 BadLength file 0 slot 1",
-    ),
+pub(crate) const CODES: [Refusal<'static>; 3] = [
     (
         "a length below 4",
-        &[Length(1, 2)],
+        &[Length(7, 2)],
         &[],
-        "refused 11 BadLength file 0 slot 1",
-    ),
-    (
-        "a length above 32767",
-        &[Length(1, 32768)],
-        &[],
-        "refused 11 BadLength file 0 slot 1",
-    ),
-    (
-        "the same of a segment that is linked already",
-        &[Entry(8, LIKE_DEMO), Kind(8, LINKED), Length(8, 32768)],
-        &[],
-        "refused 11 BadLength file 0 slot 8",
-    ),
-    (
-        "an odd length and address 0",
-        &[Length(1, 17), Address(1, 0)],
-        &[],
-        "refused 11 BadLength file 0 slot 1",
-    ),
-    (
-        "address 0",
-        &[Address(1, 0)],
-        &[],
-        "refused 12 BadAddress file 0 slot 1",
+        "refused 11 BadLength file 0 slot 7",
     ),
     (
         "a unit that no library has",
@@ -177,72 +49,30 @@ const CODES: [Refusal<'static>; 10] = [
         &[],
         "refused 13 MissingUnit file 0 slot 8",
     ),
-    (
-        "a length past the file",
-        &[Length(1, 32766)],
-        &[],
-        "refused 16 Truncated file 0 slot 1",
-    ),
-    (
-        "17 bytes of 18",
-        &[Resized(529)],
-        &[],
-        "refused 16 Truncated file 0 slot 1",
-    ),
 ];
 
 /// Procedure dictionaries and attribute tables.
-const PROCEDURES: [Refusal<'static>; 11] = [
+pub(crate) const PROCEDURES: [Refusal<'static>; 6] = [
     (
-        "no body of procedure 1",
-        &[Code(1, 14, &[0])],
-        &[],
-        "refused 17 BadProcDict file 0 slot 1",
-    ),
-    (
-        "no procedures in the host segment",
-        &[Code(1, 17, &[0])],
-        &[],
-        "refused 17 BadProcDict file 0 slot 1",
-    ),
-    (
-        "a table before the code",
-        &[Code(1, 14, &[15])],
-        &[],
-        "refused 17 BadProcDict file 0 slot 1",
-    ),
-    (
-        "a table that would begin before the code",
-        &[Code(1, 14, &[7])],
-        &[],
-        "refused 17 BadProcDict file 0 slot 1",
-    ),
-    (
-        "a table that ends in the dictionary",
-        &[Code(1, 14, &[1])],
-        &[],
-        "refused 17 BadProcDict file 0 slot 1",
-    ),
-    (
-        "a dictionary longer than the unit's code",
+        "a dictionary longer than the code",
         &[Code(3, 23, &[12])],
         &[],
         "refused 17 BadProcDict file 0 slot 7",
     ),
     (
-        "a table before the unit's code",
+        "a table before the code",
         &[Code(3, 20, &[21])],
         &[],
         "refused 17 BadProcDict file 0 slot 7",
     ),
     (
-        "a table that would begin before the unit's code",
+        "a table that would begin before the code",
         &[Code(3, 20, &[13])],
         &[],
         "refused 17 BadProcDict file 0 slot 7",
     ),
     (
-        "a table that ends in the unit's dictionary",
+        "a table that ends in the dictionary",
         &[Code(3, 20, &[1])],
         &[],
         "refused 17 BadProcDict file 0 slot 7",
@@ -262,7 +92,7 @@ const PROCEDURES: [Refusal<'static>; 11] = [
 ];
 
 /// Link information.
-const RECORDS: [Refusal<'static>; 10] = [
+pub(crate) const RECORDS: [Refusal<'static>; 6] = [
     (
         "type 15",
         &[Records(4, &[Other(COUNT, 15, [2, 0, 0])])],
@@ -299,60 +129,10 @@ const RECORDS: [Refusal<'static>; 10] = [
         &[],
         "refused 23 BadFormat file 0 slot 7 record 0",
     ),
-    (
-        "no information",
-        &[Resized(530)],
-        &[],
-        "refused 19 RecordsTruncated file 0 slot 1 record 0",
-    ),
-    (
-        "a file that ends before it",
-        &[Resized(1023)],
-        &[],
-        "refused 19 RecordsTruncated file 0 slot 1 record 0",
-    ),
-    (
-        "15 bytes of it",
-        &[Resized(1039)],
-        &[],
-        "refused 19 RecordsTruncated file 0 slot 1 record 0",
-    ),
-    (
-        "15 bytes of its second record",
-        &[Resized(1055)],
-        &[],
-        "refused 19 RecordsTruncated file 0 slot 1 record 1",
-    ),
 ];
 
-/// Names of definitions, of private variables and of what is referred to.
-const NAMES: [Refusal<'static>; 7] = [
-    (
-        "two definitions",
-        &[Records(
-            2,
-            &[
-                PublicDefinition(COUNT, 3),
-                PublicDefinition(COUNT, 4),
-                End(8),
-            ],
-        )],
-        &[],
-        "refused 24 DoubledDefinition file 0 slot 1 record 1",
-    ),
-    (
-        "a definition and a constant",
-        &[Records(
-            2,
-            &[
-                PublicDefinition(COUNT, 3),
-                ConstantDefinition(COUNT, 4),
-                End(8),
-            ],
-        )],
-        &[],
-        "refused 24 DoubledDefinition file 0 slot 1 record 1",
-    ),
+/// Names of private variables and of what is referred to.
+pub(crate) const NAMES: [Refusal<'static>; 6] = [
     (
         "two private variables",
         &[Records(
@@ -386,6 +166,15 @@ const NAMES: [Refusal<'static>; 7] = [
         "refused 30 MissingUnitRef file 0 slot 7 record 0",
     ),
     (
+        "a segment that is linked already as a unit",
+        &[
+            Entry(8, LINKED_TOOLS),
+            Records(4, &[UnitReference(TOOLS, &[1]), End(0)]),
+        ],
+        &[],
+        "refused 30 MissingUnitRef file 0 slot 7 record 0",
+    ),
+    (
         "the host segment as a unit, and no references",
         &[Records(4, &[UnitReference(DEMO, &[]), End(0)])],
         &[],
@@ -394,7 +183,7 @@ const NAMES: [Refusal<'static>; 7] = [
 ];
 
 /// Sizes.
-const SIZES: [Refusal<'static>; 4] = [
+pub(crate) const SIZES: [Refusal<'static>; 5] = [
     (
         "one private word too many",
         &[
@@ -428,6 +217,15 @@ const SIZES: [Refusal<'static>; 4] = [
         "refused 26 NoRoom file 0 slot 7 record 1",
     ),
     (
+        "a private variable behind the largest end mark",
+        &[
+            Records(2, &[PublicDefinition(COUNT, 3), End(65535)]),
+            Records(4, &[PrivateReference(STATE, 1, &[]), End(0)]),
+        ],
+        &[],
+        "refused 26 NoRoom file 0 slot 7 record 0",
+    ),
+    (
         "65536 bytes of data",
         &[
             Code(1, 4, &[0xF8, 0xFF]),
@@ -448,7 +246,7 @@ const SIZES: [Refusal<'static>; 4] = [
 ];
 
 /// Places of operands.
-const PLACES: [Refusal<'static>; 14] = [
+pub(crate) const PLACES: [Refusal<'static>; 15] = [
     (
         "the last byte before a table",
         &[Records(4, &[PublicReference(COUNT, &[9]), End(0)])],
@@ -532,6 +330,15 @@ const PLACES: [Refusal<'static>; 14] = [
         "refused 33 Overlap file 0 slot 7 record 0 reference 1",
     ),
     (
+        "a reserved place that ends in another operand, which is too large",
+        &[
+            Code(3, 9, &[0x7F, 0xFF]),
+            Records(4, &[PublicReference(COUNT, &[8, 9]), End(0)]),
+        ],
+        &[],
+        "refused 32 ReservedPlace file 0 slot 7 record 0 reference 1",
+    ),
+    (
         "one place in two records",
         &[Records(
             4,
@@ -558,11 +365,6 @@ const PLACES: [Refusal<'static>; 14] = [
         "refused 33 Overlap file 0 slot 7 record 1 reference 0",
     ),
 ];
-
-#[test]
-fn dictionaries(rt: HostRuntime) -> Result<(), Fail> {
-    refuse_rows(&rt, Base::InPlace, &DICTIONARIES)
-}
 
 #[test]
 fn codes(rt: HostRuntime) -> Result<(), Fail> {

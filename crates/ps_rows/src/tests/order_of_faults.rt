@@ -1,27 +1,17 @@
 //! Files with several faults, of which the first in the order of the checks is answered.
 use super::answers::{LITTLE, refuses};
+use super::host_faults::LIKE_DEMO;
 use super::tables::{Base, Refusal, refuse_rows};
-use crate::base::{COUNT, LIBRARY_UTIL, STATE, WANTED_UTIL, base_host, base_library};
+use crate::base::{
+    COUNT, CUONT, LIBRARY_UTIL, STATE, WANTED_UTIL, base_host, base_library, linked_base_pair,
+};
 use crate::code_file::Change::{Bytes, Code, Entry, Kind, Length, Records, Resized};
-use crate::code_file::{HOST_SEGMENT, Slot};
-use crate::information::Name;
 use crate::information::Record::{End, PrivateReference, PublicDefinition, PublicReference};
 use ps_words::Order;
 use std::test::Fail;
 
-/// A slot with no name that has the host segment's code.
-const LIKE_DEMO: Slot = Slot {
-    name: [b' '; 8],
-    kind: HOST_SEGMENT,
-    address: 1,
-    length: 18,
-};
-
-/// A name that has no definition.
-const CUONT: Name = *b"CUONT   ";
-
 /// Faults of dictionaries, and others behind them.
-const DICTIONARIES: [Refusal<'static>; 6] = [
+const DICTIONARIES: [Refusal<'static>; 9] = [
     (
         "a kind in slot 8 and a second host segment in slot 9",
         &[Entry(8, LIKE_DEMO), Kind(8, 8), Entry(9, LIKE_DEMO)],
@@ -31,6 +21,24 @@ const DICTIONARIES: [Refusal<'static>; 6] = [
     (
         "a doubled name in slot 8 and a kind in slot 9",
         &[Entry(8, WANTED_UTIL), Entry(9, LIKE_DEMO), Kind(9, 2)],
+        &[],
+        "refused 6 DoubledSegment file 0 slot 8",
+    ),
+    (
+        "the same, of kind 4",
+        &[Entry(8, WANTED_UTIL), Entry(9, LIKE_DEMO), Kind(9, 4)],
+        &[],
+        "refused 6 DoubledSegment file 0 slot 8",
+    ),
+    (
+        "the same, of kind 6",
+        &[Entry(8, WANTED_UTIL), Entry(9, LIKE_DEMO), Kind(9, 6)],
+        &[],
+        "refused 6 DoubledSegment file 0 slot 8",
+    ),
+    (
+        "the same, of kind 8",
+        &[Entry(8, WANTED_UTIL), Entry(9, LIKE_DEMO), Kind(9, 8)],
         &[],
         "refused 6 DoubledSegment file 0 slot 8",
     ),
@@ -173,7 +181,7 @@ const NAMES_AND_SIZES: [Refusal<'static>; 6] = [
 ];
 
 /// Faults of references, and others behind them.
-const REFERENCES: [Refusal<'static>; 6] = [
+const REFERENCES: [Refusal<'static>; 10] = [
     (
         "an operand that is too large and the same again",
         &[Records(2, &[PublicDefinition(COUNT, 32767), End(8)])],
@@ -208,6 +216,61 @@ const REFERENCES: [Refusal<'static>; 6] = [
             ],
         )],
         "refused 31 OutsideCode file 1 slot 7 record 0 reference 0",
+    ),
+    (
+        "a reserved place and a missing definition in the next record",
+        &[],
+        &[Records(
+            2,
+            &[
+                PublicReference(COUNT, &[9]),
+                PublicReference(CUONT, &[]),
+                End(0),
+            ],
+        )],
+        "refused 32 ReservedPlace file 1 slot 7 record 0 reference 0",
+    ),
+    (
+        "an overlap and a missing definition in the next record",
+        &[],
+        &[Records(
+            2,
+            &[
+                PublicReference(COUNT, &[1, 2]),
+                PublicReference(CUONT, &[]),
+                End(0),
+            ],
+        )],
+        "refused 33 Overlap file 1 slot 7 record 0 reference 1",
+    ),
+    (
+        "an operand that is too large and a missing definition in the next record",
+        &[Records(2, &[PublicDefinition(COUNT, 32767), End(8)])],
+        &[
+            Code(1, 2, &[1]),
+            Records(
+                2,
+                &[
+                    PublicReference(COUNT, &[1]),
+                    PublicReference(CUONT, &[]),
+                    End(0),
+                ],
+            ),
+        ],
+        "refused 34 OperandTooLarge file 1 slot 7 record 0 reference 0",
+    ),
+    (
+        "a later record of the host segment and the first of the unit",
+        &[Records(
+            2,
+            &[
+                PublicDefinition(COUNT, 3),
+                PublicReference(CUONT, &[]),
+                End(8),
+            ],
+        )],
+        &[Bytes(1024, &CUONT)],
+        "refused 28 MissingDefinition file 0 slot 1 record 1",
     ),
     (
         "a missing definition and a place in one record",
@@ -261,6 +324,7 @@ fn libraries_in_order(rt: HostRuntime) -> Result<(), Fail> {
     let short = base_library(alloc, LITTLE)?.with(alloc, &[Resized(511)])?;
     let kind = base_library(alloc, LITTLE)?.with(alloc, &[Kind(2, 5)])?;
     let nothing = base_library(alloc, LITTLE)?.with(alloc, &[Length(2, 0)])?;
+    let linked = linked_base_pair(alloc, LITTLE)?;
     let (base, big, short) = (base.as_slice(), big.as_slice(), short.as_slice());
     for (what, libraries, fault) in [
         (
@@ -278,8 +342,24 @@ fn libraries_in_order(rt: HostRuntime) -> Result<(), Fail> {
             [nothing.as_slice(), kind.as_slice(), base],
             "refused 14 NotAUnit kind 5 file 2 slot 7",
         ),
+        (
+            "a linked file that has the name",
+            [linked.as_slice(), base, base],
+            "refused 14 NotAUnit kind 0 file 1 slot 7",
+        ),
     ] {
         refuses(&rt, what, host.as_slice(), &libraries, fault)?;
     }
     Ok(())
+}
+
+#[test]
+fn libraries_before_codes(rt: HostRuntime) -> Result<(), Fail> {
+    let alloc = rt.alloc();
+    let host = base_host(alloc, LITTLE)?.with(alloc, &[Length(1, 17)])?;
+    let base = base_library(alloc, LITTLE)?;
+    let big = base_library(alloc, Order::Big)?;
+    let libraries = [base.as_slice(), big.as_slice()];
+    let fault = "refused 3 OrderMismatch file 2";
+    refuses(&rt, "an order", host.as_slice(), &libraries, fault)
 }

@@ -1,87 +1,14 @@
 //! A host that wants its unit from a library, and why the two are refused.
 use super::tables::{Base, Refusal, refuse_rows};
-use crate::base::{COUNT, LIBRARY_UTIL, STATE, WANTED_UTIL};
+use crate::base::{COUNT, CUONT, LIBRARY_UTIL, NOBODY, STATE};
 use crate::code_file::Change::{Address, Bytes, Code, Entry, Kind, Length, Records, Resized};
-use crate::code_file::{HOST_SEGMENT, Slot};
-use crate::information::Name;
 use crate::information::Record::{
     ConstantDefinition, End, PrivateReference, PublicDefinition, PublicReference, UnitReference,
 };
 use std::test::Fail;
 
-/// A slot with no name that has the host segment's code.
-const LIKE_DEMO: Slot = Slot {
-    name: [b' '; 8],
-    kind: HOST_SEGMENT,
-    address: 1,
-    length: 18,
-};
-
-/// A name that has no definition, and one that no unit has.
-const CUONT: Name = *b"CUONT   ";
-
-const NOBODY: Name = *b"NOBODY  ";
-
-/// Segment dictionaries of the host.
-const DICTIONARIES: [Refusal<'static>; 9] = [
-    (
-        "no whole block",
-        &[Resized(511)],
-        &[],
-        "refused 1 ShortFile file 0",
-    ),
-    (
-        "a byte of either order",
-        &[Bytes(193, &[1])],
-        &[],
-        "refused 2 NoOrder file 0",
-    ),
-    (
-        "a host segment with no code",
-        &[Length(1, 0)],
-        &[],
-        "refused 4 NoHost file 0",
-    ),
-    (
-        "a second host segment",
-        &[Entry(2, LIKE_DEMO)],
-        &[],
-        "refused 5 TwoHosts file 0 slot 2",
-    ),
-    (
-        "two units of one name",
-        &[Entry(8, WANTED_UTIL)],
-        &[],
-        "refused 6 DoubledSegment file 0 slot 8",
-    ),
-    (
-        "kind 2",
-        &[Entry(8, LIKE_DEMO), Kind(8, 2)],
-        &[],
-        "refused 7 SegmentProcedure file 0 slot 8",
-    ),
-    (
-        "kind 4",
-        &[Entry(8, LIKE_DEMO), Kind(8, 4)],
-        &[],
-        "refused 8 NativeSegment file 0 slot 8",
-    ),
-    (
-        "kind 6",
-        &[Entry(8, LIKE_DEMO), Kind(8, 6)],
-        &[],
-        "refused 9 Intrinsic file 0 slot 8",
-    ),
-    (
-        "kind 8",
-        &[Entry(8, LIKE_DEMO), Kind(8, 8)],
-        &[],
-        "refused 10 UnknownKind file 0 slot 8",
-    ),
-];
-
 /// Segment dictionaries of the library.
-const LIBRARIES: [Refusal<'static>; 10] = [
+pub(crate) const LIBRARIES: [Refusal<'static>; 11] = [
     (
         "no whole block",
         &[],
@@ -131,6 +58,12 @@ const LIBRARIES: [Refusal<'static>; 10] = [
         "refused 14 NotAUnit kind 5 file 1 slot 7",
     ),
     (
+        "kind 7",
+        &[],
+        &[Kind(2, 7)],
+        "refused 14 NotAUnit kind 7 file 1 slot 7",
+    ),
+    (
         "kind 5 with address 0",
         &[],
         &[Kind(2, 5), Address(2, 0)],
@@ -144,32 +77,16 @@ const LIBRARIES: [Refusal<'static>; 10] = [
     ),
 ];
 
-/// Codes of the host and of the library.
-const CODES: [Refusal<'static>; 7] = [
-    (
-        "an odd length",
-        &[Length(1, 17)],
-        &[],
-        "refused 11 BadLength file 0 slot 1",
-    ),
-    (
-        "address 0",
-        &[Address(1, 0)],
-        &[],
-        "refused 12 BadAddress file 0 slot 1",
-    ),
-    (
-        "17 bytes of 18",
-        &[Resized(529)],
-        &[],
-        "refused 16 Truncated file 0 slot 1",
-    ),
-    (
-        "no body of procedure 1",
-        &[Code(1, 14, &[0])],
-        &[],
-        "refused 17 BadProcDict file 0 slot 1",
-    ),
+/// The base host without a library.
+pub(crate) const HOST_ALONE: [Refusal<'static>; 1] = [(
+    "a unit that no library has",
+    &[],
+    &[],
+    "refused 13 MissingUnit file 0 slot 7",
+)];
+
+/// Codes of the library.
+pub(crate) const CODES: [Refusal<'static>; 4] = [
     (
         "native code",
         &[],
@@ -183,6 +100,12 @@ const CODES: [Refusal<'static>; 7] = [
         "refused 11 BadLength file 1 slot 7",
     ),
     (
+        "a length below 4",
+        &[],
+        &[Length(2, 2)],
+        "refused 11 BadLength file 1 slot 7",
+    ),
+    (
         "23 bytes of 24",
         &[],
         &[Resized(535)],
@@ -190,14 +113,8 @@ const CODES: [Refusal<'static>; 7] = [
     ),
 ];
 
-/// Link information of the host and of the library.
-const RECORDS: [Refusal<'static>; 8] = [
-    (
-        "no information",
-        &[Resized(1023)],
-        &[],
-        "refused 19 RecordsTruncated file 0 slot 1 record 0",
-    ),
+/// Link information of the library.
+pub(crate) const RECORDS: [Refusal<'static>; 7] = [
     (
         "type 15",
         &[],
@@ -242,21 +159,8 @@ const RECORDS: [Refusal<'static>; 8] = [
     ),
 ];
 
-/// Names of definitions, of private variables and of what is referred to.
-const NAMES: [Refusal<'static>; 6] = [
-    (
-        "two definitions",
-        &[Records(
-            2,
-            &[
-                PublicDefinition(COUNT, 3),
-                PublicDefinition(COUNT, 4),
-                End(8),
-            ],
-        )],
-        &[],
-        "refused 24 DoubledDefinition file 0 slot 1 record 1",
-    ),
+/// Names of private variables and of what is referred to.
+pub(crate) const NAMES: [Refusal<'static>; 5] = [
     (
         "two private variables",
         &[],
@@ -305,7 +209,7 @@ const NAMES: [Refusal<'static>; 6] = [
 ];
 
 /// Sizes.
-const SIZES: [Refusal<'static>; 3] = [
+pub(crate) const SIZES: [Refusal<'static>; 3] = [
     (
         "one private word too many",
         &[Records(2, &[PublicDefinition(COUNT, 3), End(32760)])],
@@ -327,7 +231,7 @@ const SIZES: [Refusal<'static>; 3] = [
 ];
 
 /// Places of operands.
-const PLACES: [Refusal<'static>; 3] = [
+pub(crate) const PLACES: [Refusal<'static>; 3] = [
     (
         "the last byte",
         &[],
@@ -348,14 +252,28 @@ const PLACES: [Refusal<'static>; 3] = [
     ),
 ];
 
-#[test]
-fn dictionaries(rt: HostRuntime) -> Result<(), Fail> {
-    refuse_rows(&rt, Base::Pair, &DICTIONARIES)
-}
+/// Types of records that no Pascal unit has, and the faults.
+const TYPES: [(u8, &str); 10] = [
+    (2, "refused 21 NativeRecord file 1 slot 7 record 0"),
+    (5, "refused 21 NativeRecord file 1 slot 7 record 0"),
+    (6, "refused 21 NativeRecord file 1 slot 7 record 0"),
+    (9, "refused 21 NativeRecord file 1 slot 7 record 0"),
+    (10, "refused 21 NativeRecord file 1 slot 7 record 0"),
+    (11, "refused 22 SeparateRecord file 1 slot 7 record 0"),
+    (12, "refused 22 SeparateRecord file 1 slot 7 record 0"),
+    (13, "refused 22 SeparateRecord file 1 slot 7 record 0"),
+    (14, "refused 22 SeparateRecord file 1 slot 7 record 0"),
+    (15, "refused 20 UnknownRecord file 1 slot 7 record 0"),
+];
 
 #[test]
 fn libraries(rt: HostRuntime) -> Result<(), Fail> {
     refuse_rows(&rt, Base::Pair, &LIBRARIES)
+}
+
+#[test]
+fn the_host_alone(rt: HostRuntime) -> Result<(), Fail> {
+    refuse_rows(&rt, Base::HostAlone, &HOST_ALONE)
 }
 
 #[test]
@@ -366,6 +284,15 @@ fn codes(rt: HostRuntime) -> Result<(), Fail> {
 #[test]
 fn records(rt: HostRuntime) -> Result<(), Fail> {
     refuse_rows(&rt, Base::Pair, &RECORDS)
+}
+
+#[test]
+fn types_of_records(rt: HostRuntime) -> Result<(), Fail> {
+    for (kind, fault) in TYPES {
+        let change = [Bytes(1032, &[kind])];
+        refuse_rows(&rt, Base::Pair, &[("a type", &[], &change, fault)])?;
+    }
+    Ok(())
 }
 
 #[test]

@@ -1,5 +1,5 @@
 //! A host that wants its unit from a library, and the files that the two are linked to.
-use super::answers::{LITTLE, links};
+use super::answers::{LITTLE, links, refuses};
 use super::tables::{Base, Row, link_rows};
 use crate::base::{
     COUNT, LIBRARY_RECORDS, LIBRARY_UTIL, STATE, base_host, base_library, linked_base_pair,
@@ -47,7 +47,21 @@ const ZEROS: Slot = Slot {
 };
 
 /// Link information.
-const RECORDS: [Row<'static>; 5] = [
+pub(crate) const RECORDS: [Row<'static>; 7] = [
+    Row {
+        what: "a definition, a reference to it and a private variable",
+        host: &[],
+        library: &[],
+        linked: &[],
+        summary: BASE_SUMMARY,
+    },
+    Row {
+        what: "the largest operand",
+        host: &[Records(2, &[PublicDefinition(COUNT, 32767), End(8)])],
+        library: &[],
+        linked: &[Code(2, 1, &[0xFF, 0xFF])],
+        summary: BASE_SUMMARY,
+    },
     Row {
         what: "an EOFMARK alone",
         host: &[],
@@ -236,6 +250,20 @@ fn the_base_pair_in_either_byte_order(rt: HostRuntime) -> Result<(), Fail> {
             BASE_SUMMARY,
             linked,
         )?;
+    }
+    Ok(())
+}
+
+#[test]
+fn a_linked_file_is_no_host(rt: HostRuntime) -> Result<(), Fail> {
+    let alloc = rt.alloc();
+    for order in [Order::Little, Order::Big] {
+        let linked = linked_base_pair(alloc, order)?;
+        let library = base_library(alloc, order)?;
+        let libraries = [library.as_slice()];
+        let fault = "refused 4 NoHost file 0";
+        refuses(&rt, "linked", linked.as_slice(), &libraries, fault)?;
+        refuses(&rt, "no library", linked.as_slice(), &[], fault)?;
     }
     Ok(())
 }

@@ -4,7 +4,6 @@ use crate::information::Information;
 use crate::information::Record::{End, Other, PublicReference};
 use ps_linkinfo::{Body, LinkRecord, ReadStop, Refs, read_records};
 use ps_words::Order;
-use refusing::Refusing;
 use std::alloc::{AllocError, Allocator, Global};
 use std::process::Abort;
 use std::test::Fail;
@@ -144,17 +143,6 @@ fn as_many_references_as_a_record_can_have(rt: HostRuntime) -> Result<(), Fail> 
     }
     let cut = bytes.get(..131087).unwrap_or(bytes);
     reads(&rt, "cut", cut, "RecordsTruncated at record 0")
-}
-
-#[test]
-fn a_claimed_list_that_is_not_there_costs_nothing(rt: HostRuntime) -> Result<(), Fail> {
-    let alloc = rt.alloc();
-    let claim = Information::new(alloc, LITTLE, &[Other(COUNT, 3, [2, 65535, 0])])?;
-    let heap = Refusing::from(alloc, 1);
-    let text = read(alloc, &heap, LITTLE, claim.as_slice())?;
-    assert_eq!(rt; text.as_str(), "RecordsTruncated at record 0");
-    assert_eq!(rt; heap.growths(), 0);
-    Ok(())
 }
 
 #[test]

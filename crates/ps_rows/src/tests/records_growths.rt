@@ -1,28 +1,40 @@
 //! `read_records` where memory is wanting.
+use super::growths::{Growing, makes_no_growth, refuses_each_growth};
 use super::records::{BASE_RECORDS, read};
-use crate::base::LIBRARY_RECORDS;
+use crate::base::{COUNT, LIBRARY_RECORDS};
 use crate::information::Information;
+use crate::information::Record::Other;
 use ps_words::Order;
-use refusing::Refusing;
+use std::alloc::{AllocError, Allocator, Global};
 use std::test::Fail;
+
+/// `read_records` on these little-endian bytes.
+#[derive(Clone, Copy)]
+struct ReadRecords<'a> {
+    bytes: &'a [u8],
+}
+
+impl<'a> Growing for ReadRecords<'a> {
+    fn answer<A: Allocator + Copy>(&self, alloc: Global, heap: A) -> Result<String, AllocError> {
+        read(alloc, heap, Order::Little, self.bytes)
+    }
+}
 
 #[test]
 fn each_growth_refused_in_turn(rt: HostRuntime) -> Result<(), Fail> {
-    let alloc = rt.alloc();
-    let information = Information::new(alloc, Order::Little, &LIBRARY_RECORDS)?;
-    let bytes = information.as_slice();
-    for growth in 1..100 {
-        let heap = Refusing::once(alloc, growth);
-        let text = read(alloc, &heap, Order::Little, bytes)?;
-        if !heap.has_refused() {
-            assert_eq!(rt; text.as_str(), BASE_RECORDS);
-            assert!(rt; growth > 1, "no growth at all");
-            return Ok(());
-        }
-        assert_eq!(rt; text.as_str(), "out of memory", "growth {growth}");
-        let again = read(alloc, &heap, Order::Little, bytes)?;
-        assert_eq!(rt; again.as_str(), BASE_RECORDS, "after growth {growth}");
-    }
-    assert!(rt; false, "each growth was refused");
-    Ok(())
+    let information = Information::new(rt.alloc(), Order::Little, &LIBRARY_RECORDS)?;
+    let call = ReadRecords {
+        bytes: information.as_slice(),
+    };
+    refuses_each_growth(&rt, "the base library", &call, BASE_RECORDS)
+}
+
+#[test]
+fn a_claimed_list_that_is_not_there_costs_nothing(rt: HostRuntime) -> Result<(), Fail> {
+    let records = [Other(COUNT, 3, [2, 65535, 0])];
+    let information = Information::new(rt.alloc(), Order::Little, &records)?;
+    let call = ReadRecords {
+        bytes: information.as_slice(),
+    };
+    makes_no_growth(&rt, "a claim", &call, "RecordsTruncated at record 0")
 }

@@ -1,5 +1,7 @@
 //! Tables of links, each of changed base files.
 use super::answers::{LITTLE, links};
+use super::growths::{makes_no_growth, refuses_each_growth};
+use super::link_growths::Link;
 use crate::base::{base_host, base_library, linked_base_pair};
 use crate::code_file::{Change, CodeFile};
 use crate::in_place::{linked_unit_in_place, unit_in_place};
@@ -27,6 +29,34 @@ pub(crate) struct Row<'a> {
 /// What a refusal shows, the changes of the host and of the library, and the fault.
 pub(crate) type Refusal<'a> = (&'a str, Changes<'a>, Changes<'a>, &'a str);
 
+/// The memory that a link is given.
+#[derive(Clone, Copy)]
+pub(crate) enum Memory {
+    /// As much as it asks for.
+    Ample,
+    /// None, and it asks for none.
+    NoGrowth,
+    /// Each growth is refused in turn, and the link is made again with ample memory.
+    EachGrowthRefused,
+}
+
+impl Memory {
+    /// Checks a link's answer and what was written.
+    fn answers(
+        self,
+        rt: &(impl Abort + AllocGlobal),
+        what: &str,
+        link: &Link<'_>,
+        answer: &str,
+    ) -> Result<(), Fail> {
+        match self {
+            Memory::Ample => links(rt, what, link.host, link.libraries, answer, link.linked),
+            Memory::NoGrowth => makes_no_growth(rt, what, link, answer),
+            Memory::EachGrowthRefused => refuses_each_growth(rt, what, link, answer),
+        }
+    }
+}
+
 /// The files that a table's entries change.
 #[derive(Clone, Copy, PartialEq, Eq)]
 pub(crate) enum Base {
@@ -34,6 +64,8 @@ pub(crate) enum Base {
     InPlace,
     /// The base pair.
     Pair,
+    /// The base host, and no library.
+    HostAlone,
     /// The host and the library of two units.
     TwoUnits,
 }
@@ -42,50 +74,75 @@ impl Base {
     fn host(self, alloc: Global) -> Result<CodeFile, AllocError> {
         match self {
             Base::InPlace => unit_in_place(alloc, LITTLE),
-            Base::Pair => base_host(alloc, LITTLE),
+            Base::Pair | Base::HostAlone => base_host(alloc, LITTLE),
             Base::TwoUnits => host_of_two_units(alloc),
         }
     }
 
     fn library(self, alloc: Global) -> Result<CodeFile, AllocError> {
         match self {
-            Base::InPlace | Base::Pair => base_library(alloc, LITTLE),
             Base::TwoUnits => library_of_two_units(alloc),
+            Base::InPlace | Base::Pair | Base::HostAlone => base_library(alloc, LITTLE),
         }
     }
 
     fn linked(self, alloc: Global) -> Result<CodeFile, AllocError> {
         match self {
             Base::InPlace => linked_unit_in_place(alloc, LITTLE),
-            Base::Pair => linked_base_pair(alloc, LITTLE),
+            Base::Pair | Base::HostAlone => linked_base_pair(alloc, LITTLE),
             Base::TwoUnits => linked_two_units(alloc),
         }
+    }
+
+    fn has_library(self) -> bool {
+        matches!(self, Base::Pair | Base::TwoUnits)
     }
 
     /// Checks one link: its answer and what was written.
     fn answers(
         self,
         rt: &(impl Abort + AllocGlobal),
+        memory: Memory,
         what: &str,
         changes: (Changes<'_>, Changes<'_>),
         answer: &str,
-        written: &[u8],
+        linked: &[u8],
     ) -> Result<(), Fail> {
         let alloc = rt.alloc();
         let host = self.host(alloc)?.with(alloc, changes.0)?;
-        if self == Base::InPlace {
-            return links(rt, what, host.as_slice(), &[], answer, written);
-        }
         let library = self.library(alloc)?.with(alloc, changes.1)?;
-        links(
-            rt,
-            what,
-            host.as_slice(),
-            &[library.as_slice()],
-            answer,
-            written,
-        )
+        if self.has_library() {
+            let link = Link {
+                host: host.as_slice(),
+                libraries: &[library.as_slice()],
+                linked,
+            };
+            return memory.answers(rt, what, &link, answer);
+        }
+        let link = Link {
+            host: host.as_slice(),
+            libraries: &[],
+            linked,
+        };
+        memory.answers(rt, what, &link, answer)
     }
+}
+
+/// Checks each link of a table, with this memory.
+pub(crate) fn link_rows_in(
+    rt: &(impl Abort + AllocGlobal),
+    base: Base,
+    memory: Memory,
+    rows: &[Row<'_>],
+) -> Result<(), Fail> {
+    let alloc = rt.alloc();
+    for row in rows {
+        let linked = base.linked(alloc)?.with(alloc, row.linked)?;
+        let changes = (row.host, row.library);
+        let linked = linked.as_slice();
+        base.answers(rt, memory, row.what, changes, row.summary, linked)?;
+    }
+    Ok(())
 }
 
 /// Checks each link of a table.
@@ -94,11 +151,18 @@ pub(crate) fn link_rows(
     base: Base,
     rows: &[Row<'_>],
 ) -> Result<(), Fail> {
-    let alloc = rt.alloc();
-    for row in rows {
-        let linked = base.linked(alloc)?.with(alloc, row.linked)?;
-        let changes = (row.host, row.library);
-        base.answers(rt, row.what, changes, row.summary, linked.as_slice())?;
+    link_rows_in(rt, base, Memory::Ample, rows)
+}
+
+/// Checks each refusal of a table, with this memory, and that nothing is written.
+pub(crate) fn refuse_rows_in(
+    rt: &(impl Abort + AllocGlobal),
+    base: Base,
+    memory: Memory,
+    refusals: &[Refusal<'_>],
+) -> Result<(), Fail> {
+    for (what, host, library, fault) in refusals {
+        base.answers(rt, memory, *what, (*host, *library), *fault, &[])?;
     }
     Ok(())
 }
@@ -109,8 +173,5 @@ pub(crate) fn refuse_rows(
     base: Base,
     refusals: &[Refusal<'_>],
 ) -> Result<(), Fail> {
-    for (what, host, library, fault) in refusals {
-        base.answers(rt, *what, (*host, *library), *fault, &[])?;
-    }
-    Ok(())
+    refuse_rows_in(rt, base, Memory::Ample, refusals)
 }

@@ -20,7 +20,7 @@ const UNIT_REFERENCE: [u8; 24] = [
 ];
 
 /// Links of two units.
-const TWO_UNITS: [Row<'static>; 4] = [
+pub(crate) const TWO_UNITS: [Row<'static>; 4] = [
     Row {
         what: "a private variable of each, of one name",
         host: &[],

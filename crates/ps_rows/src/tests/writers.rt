@@ -17,6 +17,7 @@ pub(crate) struct Room {
     taken: usize,
     per_write: usize,
     full: Full,
+    writes: u64,
     failures: u64,
 }
 
@@ -33,6 +34,7 @@ impl Room {
             taken: 0,
             per_write,
             full,
+            writes: 0,
             failures: 0,
         })
     }
@@ -40,6 +42,11 @@ impl Room {
     /// The bytes that were taken.
     pub(crate) fn written(&self) -> &[u8] {
         self.bytes.get(..self.taken).unwrap_or(&[])
+    }
+
+    /// How many writes there were, those that failed among them.
+    pub(crate) fn writes(&self) -> u64 {
+        self.writes
     }
 
     /// How many writes failed.
@@ -50,6 +57,7 @@ impl Room {
 
 impl Write for Room {
     fn write(&mut self, buf: &[u8]) -> io::Result<usize> {
+        self.writes = self.writes.saturating_add(1);
         let left = self.bytes.len().saturating_sub(self.taken);
         let count = buf.len().min(self.per_write).min(left);
         if count == 0 && !buf.is_empty() {

@@ -23,7 +23,7 @@ fn writes(
     Ok(())
 }
 
-/// Links into writers of few bytes a write, into one that stalls and into one that fails.
+/// Links into writers of few bytes a write, into one that stalls and into one that fails; the linked file has three blocks.
 fn writes_little(
     rt: &(impl Abort + AllocGlobal),
     host: &[u8],
@@ -32,9 +32,10 @@ fn writes_little(
     linked: &[u8],
 ) -> Result<(), Fail> {
     let alloc = rt.alloc();
-    for per_write in [1, 511, 513, usize::MAX] {
+    for (per_write, count) in [(1, 1536), (511, 6), (513, 3), (usize::MAX, 3)] {
         let mut out = Room::new(alloc, linked.len(), per_write, Full::Fails)?;
         writes(rt, host, libraries, &mut out, summary, linked)?;
+        assert_eq!(rt; out.writes(), count, "{per_write} bytes a write");
     }
     let mut out = Room::new(alloc, 100, usize::MAX, Full::Stalls)?;
     let front = linked.get(..100).unwrap_or(&[]);

@@ -1,0 +1,105 @@
+-- The order of a file that is shown, and its lines: those of a row of slots, and those of a walk over records.
+use Rattle.std.proofs.Common.{◌≡◌, ℕ, suc, ◌+◌, ◌-◌, ◌<◌, ◌≤◌, List, [], ◌∷◌, ◌++◌, length, append_assoc, append-nil, Bool, true, false, if◌then◌else◌, Option, Some, None, Result, Ok, Err, refl, sym, ◌∙◌, ap, arith}
+use Rattle.std.specs.List.{flat_map, enumerate_from, range_with_len}
+use Rattle.ps_words.specs.FaultPlaces.{in_file}
+use Rattle.ps_words.specs.declared.order.Order.TheVariants.{Little}
+use Rattle.ps_words.specs.declared.fault.Reason.{Reason}
+use Rattle.ps_words.specs.declared.fault.Reason.TheVariants as reason
+use Rattle.ps_codefile.specs.Dictionary.{Opened, FileOrder, Zero, Ordered, Mixed, file_order, opened_as, opened_beside_as}
+use Rattle.ps_linkinfo.specs.Left.{items_of}
+use Rattle.ps_linkinfo.specs.declared.record.LinkRecord.{LinkRecord as Record}
+use Rattle.ps_resolve.specs.Sources.{known_order}
+use Rattle.ps_linkfile.specs.ShowText.{record_line, record_lines, fault_line, shown_file, show_of, order_fault}
+
+-- a file whose kind words show an order
+pub record Shows (short : Bool) (of : FileOrder) (file : List ℕ) (shown : FileOrder) (o : Opened) : Type 0 where
+  pub order : shown ≡ of
+  pub dict : o ≡ record { order = known_order of; file = file }
+  pub sound : (if short then Some (in_file 0 reason.ShortFile) else order_fault of) ≡ None
+
+pub read_shows : (short : Bool) (of : FileOrder) (file : List ℕ) (o : Opened) → (if short then Err reason.ShortFile else opened_as file of) ≡ Ok o → Shows short of file (Ordered o.order) o
+read_shows true of file o h = cc
+read_shows false Zero file o h = cc
+read_shows false (Ordered order) file o h =
+    let is : o ≡ record { order = order; file = file } = cc in
+    record { order = ap (λ (q : Opened). Ordered q.order) is; dict = is; sound = refl }
+read_shows false Mixed file o h = cc
+
+pub beside_shows : (short : Bool) (of : FileOrder) (file : List ℕ) (why : Reason) (o : Opened) → (if short then Err reason.ShortFile else opened_as file of) ≡ Err why
+    → (if short then Err reason.ShortFile else opened_beside_as Little file of) ≡ Ok o → Shows short of file Zero o
+beside_shows true of file why o h k = cc
+beside_shows false Zero file why o h k = record { order = refl; dict = cc; sound = refl }
+beside_shows false (Ordered order) file why o h k = cc
+beside_shows false Mixed file why o h k = cc
+
+pub beside_fault : (short : Bool) (of : FileOrder) (file : List ℕ) (why other : Reason) → (if short then Err reason.ShortFile else opened_as file of) ≡ Err why
+    → (if short then Err reason.ShortFile else opened_beside_as Little file of) ≡ Err other → (if short then Some (in_file 0 reason.ShortFile) else order_fault of) ≡ Some (in_file 0 other)
+beside_fault true of file why other h k = cc
+beside_fault false Zero file why other h k = cc
+beside_fault false (Ordered order) file why other h k = cc
+beside_fault false Mixed file why other h k = cc
+
+pub shown_is : (file : List ℕ) (found : FileOrder) (o : Opened) → found ≡ file_order file → o ≡ record { order = known_order (file_order file); file = file } → shown_file found o.order o.file ≡ show_of file
+unfolding show_of
+shown_is file found o h k = ap (λ (f : FileOrder). shown_file f o.order o.file) h ∙ ap (λ (q : Opened). shown_file (file_order file) q.order q.file) k
+
+-- a text that begins with this one and goes on here
+grown : (text new here rest all : List ℕ) → text ++ (here ++ rest) ≡ all → new ≡ text ++ here → new ++ rest ≡ all
+grown text new here rest all h e = ap (λ (xs : List ℕ). xs ++ rest) e ∙ (append_assoc text here rest ∙ h)
+
+ended : (text rest all : List ℕ) → rest ≡ [] → text ++ rest ≡ all → text ≡ all
+ended text rest all e h = sym (append-nil text) ∙ (ap (λ (xs : List ℕ). text ++ xs) (sym e) ∙ h)
+
+pub three : (text a b c x y z : List ℕ) → x ≡ text ++ a → y ≡ x ++ b → z ≡ y ++ c → z ≡ text ++ ((a ++ b) ++ c)
+three text a b c x y z p q r =
+    r ∙ (ap (λ (xs : List ℕ). xs ++ c) (q ∙ (ap (λ (xs : List ℕ). xs ++ b) p ∙ append_assoc text a b)) ∙ append_assoc text (a ++ b) c)
+
+module _ (f : ℕ → List ℕ) (text all : List ℕ) (i n : ℕ) where
+  -- the lines of one slot more
+  pub slot_more : (new : List ℕ) → i < n → text ++ flat_map f (range_with_len i (n - i)) ≡ all → new ≡ text ++ f i → new ++ flat_map f (range_with_len (i + 1) (n - (i + 1))) ≡ all
+  slot_more new lt h e =
+      let left : n - i ≡ suc (n - (i + 1)) = omega arith in
+      grown text new (f i) _ all (ap (λ (k : ℕ). text ++ flat_map f (range_with_len i k)) (sym left) ∙ h) e
+
+  pub slots_over : n ≤ i → text ++ flat_map f (range_with_len i (n - i)) ≡ all → text ≡ all
+  slots_over le h =
+      let left : n - i ≡ 0 = omega arith in
+      ended text (flat_map f (range_with_len i (n - i))) all (ap (λ (k : ℕ). flat_map f (range_with_len i k)) left) h
+
+-- the lines of items, the first of which has the index rec
+abbrev pub item_lines : ℕ → List (Result Record Reason) → List ℕ
+item_lines rec [] = []
+item_lines rec (Ok r ∷ items) = record_line (rec, r) ++ item_lines (rec + 1) items
+item_lines rec (Err why ∷ items) = fault_line rec (Some why) ++ item_lines rec items
+
+lines_of_items : (n : ℕ) (rs : List Record) (why : Option Reason) → item_lines n (items_of (rs, why)) ≡ flat_map record_line (enumerate_from n rs) ++ fault_line (n + length rs) why
+lines_of_items n [] None = refl
+lines_of_items n [] (Some why) =
+    let at : n ≡ n + 0 = omega arith in
+    append-nil (fault_line n (Some why)) ∙ ap (λ (k : ℕ). fault_line k (Some why)) at
+lines_of_items n (r ∷ rs) why =
+    let at : n + 1 + length rs ≡ n + length (r ∷ rs) = omega arith in
+    ap (λ (xs : List ℕ). record_line (n, r) ++ xs) (lines_of_items (n + 1) rs why ∙ ap (λ (k : ℕ). flat_map record_line (enumerate_from (n + 1) rs) ++ fault_line k why) at)
+    ∙ sym (append_assoc (record_line (n, r)) (flat_map record_line (enumerate_from (n + 1) rs)) (fault_line (n + length (r ∷ rs)) why))
+
+-- the lines of a reading's items are those of its records, and of its fault
+pub lines_of_reading : (read : List Record × Option Reason) → item_lines 0 (items_of read) ≡ record_lines read
+lines_of_reading read =
+    let at : 0 + length read.0 ≡ length read.0 = omega arith in
+    lines_of_items 0 read.0 read.1 ∙ ap (λ (k : ℕ). flat_map record_line (enumerate_from 0 read.0) ++ fault_line k read.1) at
+
+module _ (text all : List ℕ) (n : ℕ) (i : Result Record Reason) (old items : List (Result Record Reason)) where
+  -- the line of one record more
+  pub record_more : (new : List ℕ) (r : Record) → old ≡ i ∷ items → i ≡ Ok r → text ++ item_lines n old ≡ all → new ≡ text ++ record_line (n, r) → new ++ item_lines (n + 1) items ≡ all
+  record_more new r p q h e =
+      let is = p ∙ ap (λ (j : Result Record Reason). j ∷ items) q in
+      grown text new (record_line (n, r)) (item_lines (n + 1) items) all (ap (λ (xs : List (Result Record Reason)). text ++ item_lines n xs) (sym is) ∙ h) e
+
+  -- the line of a fault
+  pub fault_more : (new : List ℕ) (why : Reason) → old ≡ i ∷ items → i ≡ Err why → text ++ item_lines n old ≡ all → new ≡ text ++ fault_line n (Some why) → new ++ item_lines n items ≡ all
+  fault_more new why p q h e =
+      let is = p ∙ ap (λ (j : Result Record Reason). j ∷ items) q in
+      grown text new (fault_line n (Some why)) (item_lines n items) all (ap (λ (xs : List (Result Record Reason)). text ++ item_lines n xs) (sym is) ∙ h) e
+
+pub lines_over : (text all : List ℕ) (n : ℕ) (old : List (Result Record Reason)) → old ≡ [] → text ++ item_lines n old ≡ all → text ≡ all
+lines_over text all n old e h = ended text (item_lines n old) all (ap (λ (xs : List (Result Record Reason)). item_lines n xs) e) h

@@ -1,0 +1,247 @@
+//! What a code file has, as text.
+ghost use Rattle.std.specs.Prelude.{◌≡◌, ◌<◌, ◌++◌, None, Some, IfOk, IfErr, OnOk, string_bytes};
+ghost use Rattle.std.specs.List.{flat_map};
+ghost use Rattle.ps_words.specs.FaultPlaces.{in_file};
+ghost use Rattle.ps_codefile.specs.Dictionary.{slots, file_order, entry_at};
+ghost use Rattle.ps_linkinfo.specs.Records.{reading};
+ghost use Rattle.ps_resolve.specs.Sources.{known_order};
+ghost use Rattle.ps_linkfile.specs.Lines.{line};
+ghost use Rattle.ps_linkfile.specs.ShowText.{order_words, slot_line, references, record_line, fault_line, record_lines, has_links as has_links_spec, links_lines, shown_file, show_of, order_shown, show_fault, IsUnshown};
+
+use crate::error::LinkError;
+use crate::lines::{FaultWords, Shown, TwoDigits};
+use ps_codefile::{Dict, Entry, Role};
+use ps_linkinfo::{Body, LinkRecord, Records, Refs, walk_from_start};
+use ps_words::{Fault, Order, Reason};
+use std::alloc::{AllocError, Allocator};
+use std::fmt::Write as _;
+
+/// How many slots a segment dictionary has.
+const SLOTS: u8 = 16;
+
+/// A fault of the file as a whole.
+fn refused(reason: Reason) -> Fault
+    ensures { result ≡ in_file 0 reason }
+{
+    Fault {
+        reason,
+        file: 0,
+        slot: None,
+        rec: None,
+        reference: None,
+    }
+}
+
+/// The file seen through its dictionary, and the byte order that its kind words show. Where they
+/// show none, for all are 0, its words are read as little-endian.
+fn read(file: &[u8]) -> Result<(Dict<'_>, Option<Order>), Fault>
+    ensures order { IfOk result (λ read. order_shown read.1 ≡ file_order file.now) }
+    ensures dict { IfOk result (λ read. read.0 ≡ record { order = known_order (file_order file.now); file = file.now }) }
+    ensures sound { IfOk result (λ _. show_fault file.now ≡ None) }
+    ensures fault { IfErr result (λ fault. show_fault file.now ≡ Some fault) }
+{
+    match Dict::read(file) {
+        Ok(dict) => {
+            let order = dict.order();
+            Ok((dict, Some(order)))
+        }
+        Err(_) => match Dict::read_beside(file, Order::Little) {
+            Ok(dict) => Ok((dict, None)),
+            Err(reason) => Err(refused(reason)),
+        },
+    }
+}
+
+/// Adds the line of the byte order.
+fn add_order<A: Allocator>(text: &mut String<A>, order: Option<Order>) -> Result<(), AllocError>
+    ensures { OnOk result (string_bytes text.new ≡ string_bytes text.old ++ line (order_words (order_shown order))) }
+{
+    let order = match order {
+        None => "unknown",
+        Some(Order::Little) => "little",
+        Some(Order::Big) => "big",
+    };
+    writeln!(text, "order {order}")
+}
+
+/// Adds the line of a slot.
+#[tactic(auto, unfolding(crate::specs::ShowText::slot_line))]
+fn add_slot<A: Allocator>(text: &mut String<A>, dict: &Dict, slot: u8) -> Result<(), AllocError>
+    requires { slot < 16 }
+    ensures { OnOk result (string_bytes text.new ≡ string_bytes text.old ++ slot_line dict.now.order dict.now.file slot) }
+{
+    let Entry {
+        address,
+        length,
+        name,
+        kind,
+        text: block,
+    } = dict.entry(slot);
+    let number = TwoDigits(slot);
+    let name = Shown(name);
+    writeln!(
+        text,
+        "slot {number} {name} kind {kind} address {address} length {length} text {block}"
+    )
+}
+
+/// Adds the line of each slot.
+fn add_slots<A: Allocator>(text: &mut String<A>, dict: &Dict) -> Result<(), AllocError>
+    ensures { OnOk result (string_bytes text.new ≡ string_bytes text.old ++ flat_map (slot_line dict.now.order dict.now.file) slots) }
+{
+    for slot in 0..SLOTS {
+        add_slot(text, dict, slot)?;
+    }
+    Ok(())
+}
+
+/// Adds the references of a record, and ends its line.
+fn add_references<A: Allocator>(text: &mut String<A>, refs: &Refs) -> Result<(), AllocError>
+    ensures { OnOk result (string_bytes text.new ≡ string_bytes text.old ++ line (references refs.now)) }
+{
+    text.push_str(" at")?;
+    for index in 0..refs.len() {
+        let reference = refs.get(index);
+        write!(text, " {reference}")?;
+    }
+    text.push('\n')
+}
+
+/// Adds the line of a record, which has the index `rec` in its segment's link information.
+fn add_record<A: Allocator>(
+    text: &mut String<A>,
+    rec: usize,
+    entry: &LinkRecord,
+) -> Result<(), AllocError>
+    ensures { OnOk result (string_bytes text.new ≡ string_bytes text.old ++ record_line (rec, entry.now)) }
+{
+    let name = Shown(entry.name);
+    match &entry.body {
+        Body::UnitRef(refs) => {
+            write!(text, "{rec} UNITREF {name}")?;
+            add_references(text, refs)
+        }
+        Body::PublRef(refs) => {
+            write!(text, "{rec} PUBLREF {name}")?;
+            add_references(text, refs)
+        }
+        Body::PrivRef { words, refs } => {
+            write!(text, "{rec} PRIVREF {name} words {words}")?;
+            add_references(text, refs)
+        }
+        Body::PublDef(value) => writeln!(text, "{rec} PUBLDEF {name} value {value}"),
+        Body::ConstDef(value) => writeln!(text, "{rec} CONSTDEF {name} value {value}"),
+        Body::Eof(next) => writeln!(text, "{rec} EOFMARK next {next}"),
+    }
+}
+
+/// Adds the line of a fault that stands in place of the record of index `rec`.
+fn add_record_fault<A: Allocator>(
+    text: &mut String<A>,
+    rec: usize,
+    reason: Reason,
+) -> Result<(), AllocError>
+    ensures { OnOk result (string_bytes text.new ≡ string_bytes text.old ++ fault_line rec (Some reason)) }
+{
+    let fault = FaultWords(reason);
+    writeln!(text, "{rec} {fault}")
+}
+
+/// Adds the lines of link information: of each record up to its end, or up to the first fault and
+/// that fault.
+fn add_records<A: Allocator>(
+    text: &mut String<A>,
+    order: Order,
+    information: &[u8],
+) -> Result<(), AllocError>
+    ensures { OnOk result (string_bytes text.new ≡ string_bytes text.old ++ record_lines (reading order information.now)) }
+{
+    walk_from_start();
+    let mut rec = 0;
+    for item in Records::new(order, information) {
+        match item {
+            Ok(entry) => {
+                add_record(text, rec, &entry)?;
+                rec += 1;
+            }
+            Err(reason) => add_record_fault(text, rec, reason)?,
+        }
+    }
+    Ok(())
+}
+
+/// The slot has a host segment or a unit, with a code in this file.
+fn has_links(dict: &Dict, slot: u8) -> bool
+    requires { slot < 16 }
+    ensures { result ≡ has_links_spec (entry_at dict.now.order dict.now.file slot) }
+{
+    matches!(dict.role(slot), Ok(Role::Host | Role::Unit))
+}
+
+/// Adds the link information of a slot, where it has a segment with one.
+#[tactic(auto, unfolding(crate::specs::ShowText::links_lines))]
+fn add_links<A: Allocator>(text: &mut String<A>, dict: &Dict, slot: u8) -> Result<(), AllocError>
+    requires { slot < 16 }
+    ensures { OnOk result (string_bytes text.new ≡ string_bytes text.old ++ links_lines dict.now.order dict.now.file slot) }
+{
+    if !has_links(dict, slot) {
+        return Ok(());
+    }
+    writeln!(text, "links {}", TwoDigits(slot))?;
+    match dict.code(slot) {
+        Err(reason) => writeln!(text, "{}", FaultWords(reason)),
+        Ok(_) => add_records(text, dict.order(), dict.after(slot)),
+    }
+}
+
+/// Adds the link information of each slot.
+fn add_all_links<A: Allocator>(text: &mut String<A>, dict: &Dict) -> Result<(), AllocError>
+    ensures { OnOk result (string_bytes text.new ≡ string_bytes text.old ++ flat_map (links_lines dict.now.order dict.now.file) slots) }
+{
+    for slot in 0..SLOTS {
+        add_links(text, dict, slot)?;
+    }
+    Ok(())
+}
+
+/// Adds all lines of a file.
+fn add_file<A: Allocator>(
+    text: &mut String<A>,
+    dict: &Dict,
+    order: Option<Order>,
+) -> Result<(), AllocError>
+    ensures { OnOk result (string_bytes text.new ≡ string_bytes text.old ++ shown_file (order_shown order) dict.now.order dict.now.file) }
+{
+    add_order(text, order)?;
+    add_slots(text, dict)?;
+    add_all_links(text, dict)
+}
+
+/// What a code file has, as ASCII lines: its byte order; its sixteen slots; and for each slot with a
+/// host segment or a unit, whose code is in the file, the records of its link information.
+///
+/// `file` is a whole code file, of any contents. Its words are read in the byte order that its kind
+/// words show, and as little-endian where all of these are 0, which the first line then calls
+/// `unknown`. Where a code is refused (`BadLength`, `BadAddress` or `Truncated`), a line of that fault
+/// stands in place of its records; where a record cannot be read (`RecordsTruncated`,
+/// `UnknownRecord`, `NativeRecord`, `SeparateRecord` or `BadFormat`), a line of that fault is the
+/// last of the segment. Nothing else is checked.
+///
+/// Refuses `Refused` with `ShortFile` for a file of fewer than 512 bytes, and with `NoOrder` where the
+/// kind words fit neither byte order, each of file 0, also where there is no memory; and `Memory`
+/// where memory was refused. Never answers `Write`.
+/// Source: UCSD Pascal II.0 manual, code file format; the text is this project's profile.
+pub fn show_text<A: Allocator + Copy>(alloc: A, file: &[u8]) -> Result<Vec<u8, A>, LinkError>
+    ensures text { IfOk result (λ text. text.items ≡ show_of file.now) }
+    ensures sound { IfOk result (λ _. show_fault file.now ≡ None) }
+    ensures error { IfErr result (IsUnshown file.now) }
+{
+    match read(file) {
+        Err(fault) => Err(LinkError::Refused(fault)),
+        Ok((dict, order)) => {
+            let mut text = String::new(alloc);
+            add_file(&mut text, &dict, order)?;
+            Ok(text.into_bytes())
+        }
+    }
+}

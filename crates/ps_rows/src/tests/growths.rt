@@ -1,0 +1,56 @@
+//! Calls where memory is wanting.
+use refusing::Refusing;
+use std::alloc::{AllocError, Allocator, Global};
+use std::process::Abort;
+use std::test::Fail;
+
+/// More growths than a call on these files makes.
+const MANY: u64 = 1000;
+
+/// The answer of each call whose growth is refused.
+pub(crate) const OUT_OF_MEMORY: &str = "out of memory";
+
+/// A call that takes memory.
+pub(crate) trait Growing {
+    /// Makes the call, which grows on `heap`, and answers its answer as text made on `alloc`.
+    fn answer<A: Allocator + Copy>(&self, alloc: Global, heap: A) -> Result<String, AllocError>;
+}
+
+/// Makes a call with each growth refused in turn, until none was refused: the answer is want of memory until then, and each time a second call has the memory that it wants.
+pub(crate) fn refuses_each_growth(
+    rt: &(impl Abort + AllocGlobal),
+    what: &str,
+    call: &impl Growing,
+    answer: &str,
+) -> Result<(), Fail> {
+    let alloc = rt.alloc();
+    for growth in 1..MANY {
+        let heap = Refusing::once(alloc, growth);
+        let text = call.answer(alloc, &heap)?;
+        if !heap.has_refused() {
+            assert_eq!(rt; text.as_str(), answer, "{what}");
+            assert!(rt; growth > 1, "{what}: no growth at all");
+            return Ok(());
+        }
+        assert_eq!(rt; text.as_str(), OUT_OF_MEMORY, "{what}: growth {growth}");
+        let again = call.answer(alloc, &heap)?;
+        assert_eq!(rt; again.as_str(), answer, "{what}: after growth {growth}");
+    }
+    assert!(rt; false, "{what}: each growth was refused");
+    Ok(())
+}
+
+/// Checks the answer of a call that has no memory and asks for none.
+pub(crate) fn makes_no_growth(
+    rt: &(impl Abort + AllocGlobal),
+    what: &str,
+    call: &impl Growing,
+    answer: &str,
+) -> Result<(), Fail> {
+    let alloc = rt.alloc();
+    let heap = Refusing::from(alloc, 1);
+    let text = call.answer(alloc, &heap)?;
+    assert_eq!(rt; text.as_str(), answer, "{what}");
+    assert_eq!(rt; heap.growths(), 0, "{what}");
+    Ok(())
+}

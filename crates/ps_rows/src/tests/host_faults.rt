@@ -1,0 +1,290 @@
+//! Why a host is refused, whatever units it has.
+use super::tables::{Base, Memory, Refusal, refuse_rows_in};
+use crate::base::{COUNT, WANTED_UTIL};
+use crate::code_file::Change::{Address, Bytes, Code, Entry, Kind, Length, Records, Resized};
+use crate::code_file::{HOST_SEGMENT, LINKED, Slot};
+use crate::in_place::UTIL_IN_PLACE;
+use crate::information::Record::{ConstantDefinition, End, PublicDefinition};
+use std::process::Abort;
+use std::test::Fail;
+
+/// A slot with no name that has the host segment's code.
+pub(crate) const LIKE_DEMO: Slot = Slot {
+    name: [b' '; 8],
+    kind: HOST_SEGMENT,
+    address: 1,
+    length: 18,
+};
+
+/// Segment dictionaries.
+const DICTIONARIES: [Refusal<'static>; 15] = [
+    (
+        "no whole block",
+        &[Resized(511)],
+        &[],
+        "refused 1 ShortFile file 0",
+    ),
+    (
+        "a byte of either order",
+        &[Bytes(193, &[1])],
+        &[],
+        "refused 2 NoOrder file 0",
+    ),
+    (
+        "no kinds at all",
+        &[Bytes(192, &[0; 32])],
+        &[],
+        "refused 4 NoHost file 0",
+    ),
+    (
+        "a host segment with no code",
+        &[Length(1, 0)],
+        &[],
+        "refused 4 NoHost file 0",
+    ),
+    (
+        "a second host segment below",
+        &[Entry(0, LIKE_DEMO)],
+        &[],
+        "refused 5 TwoHosts file 0 slot 1",
+    ),
+    (
+        "a second host segment",
+        &[Entry(2, LIKE_DEMO)],
+        &[],
+        "refused 5 TwoHosts file 0 slot 2",
+    ),
+    (
+        "a unit and a wanted unit of one name",
+        &[Entry(8, WANTED_UTIL)],
+        &[],
+        "refused 6 DoubledSegment file 0 slot 8",
+    ),
+    (
+        "two units of one name",
+        &[Entry(8, UTIL_IN_PLACE)],
+        &[],
+        "refused 6 DoubledSegment file 0 slot 8",
+    ),
+    (
+        "kind 2",
+        &[Entry(8, LIKE_DEMO), Kind(8, 2)],
+        &[],
+        "refused 7 SegmentProcedure file 0 slot 8",
+    ),
+    (
+        "kind 4",
+        &[Entry(8, LIKE_DEMO), Kind(8, 4)],
+        &[],
+        "refused 8 NativeSegment file 0 slot 8",
+    ),
+    (
+        "kind 5",
+        &[Entry(8, LIKE_DEMO), Kind(8, 5)],
+        &[],
+        "refused 9 Intrinsic file 0 slot 8",
+    ),
+    (
+        "kind 6",
+        &[Entry(8, LIKE_DEMO), Kind(8, 6)],
+        &[],
+        "refused 9 Intrinsic file 0 slot 8",
+    ),
+    (
+        "kind 7",
+        &[Entry(8, LIKE_DEMO), Kind(8, 7)],
+        &[],
+        "refused 9 Intrinsic file 0 slot 8",
+    ),
+    (
+        "kind 8",
+        &[Entry(8, LIKE_DEMO), Kind(8, 8)],
+        &[],
+        "refused 10 UnknownKind file 0 slot 8",
+    ),
+    (
+        "kind 255",
+        &[Entry(8, LIKE_DEMO), Kind(8, 255)],
+        &[],
+        "refused 10 UnknownKind file 0 slot 8",
+    ),
+];
+
+/// Codes.
+const CODES: [Refusal<'static>; 8] = [
+    (
+        "an odd length",
+        &[Length(1, 17)],
+        &[],
+        "refused 11 BadLength file 0 slot 1",
+    ),
+    (
+        "a length below 4",
+        &[Length(1, 2)],
+        &[],
+        "refused 11 BadLength file 0 slot 1",
+    ),
+    (
+        "a length above 32767",
+        &[Length(1, 32768)],
+        &[],
+        "refused 11 BadLength file 0 slot 1",
+    ),
+    (
+        "a length above 32767 of a segment that is linked already",
+        &[Entry(2, LIKE_DEMO), Kind(2, LINKED), Length(2, 32768)],
+        &[],
+        "refused 11 BadLength file 0 slot 2",
+    ),
+    (
+        "an odd length and address 0",
+        &[Length(1, 17), Address(1, 0)],
+        &[],
+        "refused 11 BadLength file 0 slot 1",
+    ),
+    (
+        "address 0",
+        &[Address(1, 0)],
+        &[],
+        "refused 12 BadAddress file 0 slot 1",
+    ),
+    (
+        "a length past the file",
+        &[Length(1, 32766)],
+        &[],
+        "refused 16 Truncated file 0 slot 1",
+    ),
+    (
+        "17 bytes of 18",
+        &[Resized(529)],
+        &[],
+        "refused 16 Truncated file 0 slot 1",
+    ),
+];
+
+/// Procedure dictionaries and attribute tables.
+const PROCEDURES: [Refusal<'static>; 5] = [
+    (
+        "no body of procedure 1",
+        &[Code(1, 14, &[0])],
+        &[],
+        "refused 17 BadProcDict file 0 slot 1",
+    ),
+    (
+        "no procedures in the host segment",
+        &[Code(1, 17, &[0])],
+        &[],
+        "refused 17 BadProcDict file 0 slot 1",
+    ),
+    (
+        "a table before the code",
+        &[Code(1, 14, &[15])],
+        &[],
+        "refused 17 BadProcDict file 0 slot 1",
+    ),
+    (
+        "a table that would begin before the code",
+        &[Code(1, 14, &[7])],
+        &[],
+        "refused 17 BadProcDict file 0 slot 1",
+    ),
+    (
+        "a table that ends in the dictionary",
+        &[Code(1, 14, &[1])],
+        &[],
+        "refused 17 BadProcDict file 0 slot 1",
+    ),
+];
+
+/// Link information.
+const RECORDS: [Refusal<'static>; 4] = [
+    (
+        "no information",
+        &[Resized(530)],
+        &[],
+        "refused 19 RecordsTruncated file 0 slot 1 record 0",
+    ),
+    (
+        "a file that ends before it",
+        &[Resized(1023)],
+        &[],
+        "refused 19 RecordsTruncated file 0 slot 1 record 0",
+    ),
+    (
+        "15 bytes of it",
+        &[Resized(1039)],
+        &[],
+        "refused 19 RecordsTruncated file 0 slot 1 record 0",
+    ),
+    (
+        "15 bytes of its second record",
+        &[Resized(1055)],
+        &[],
+        "refused 19 RecordsTruncated file 0 slot 1 record 1",
+    ),
+];
+
+/// Definitions.
+pub(crate) const DEFINITIONS: [Refusal<'static>; 3] = [
+    (
+        "two definitions",
+        &[Records(
+            2,
+            &[
+                PublicDefinition(COUNT, 3),
+                PublicDefinition(COUNT, 4),
+                End(8),
+            ],
+        )],
+        &[],
+        "refused 24 DoubledDefinition file 0 slot 1 record 1",
+    ),
+    (
+        "a definition and a constant",
+        &[Records(
+            2,
+            &[
+                PublicDefinition(COUNT, 3),
+                ConstantDefinition(COUNT, 4),
+                End(8),
+            ],
+        )],
+        &[],
+        "refused 24 DoubledDefinition file 0 slot 1 record 1",
+    ),
+    (
+        "a constant and a definition",
+        &[Records(
+            2,
+            &[
+                ConstantDefinition(COUNT, 3),
+                PublicDefinition(COUNT, 4),
+                End(8),
+            ],
+        )],
+        &[],
+        "refused 24 DoubledDefinition file 0 slot 1 record 1",
+    ),
+];
+
+/// Checks the refusals that are found before anything grows, with this memory: with the unit in place, in a library and nowhere.
+pub(crate) fn refuses_hosts(rt: &(impl Abort + AllocGlobal), memory: Memory) -> Result<(), Fail> {
+    for base in [Base::InPlace, Base::Pair, Base::HostAlone] {
+        refuse_rows_in(rt, base, memory, &DICTIONARIES)?;
+        refuse_rows_in(rt, base, memory, &CODES)?;
+        refuse_rows_in(rt, base, memory, &PROCEDURES)?;
+        refuse_rows_in(rt, base, memory, &RECORDS)?;
+    }
+    Ok(())
+}
+
+#[test]
+fn hosts(rt: HostRuntime) -> Result<(), Fail> {
+    refuses_hosts(&rt, Memory::Ample)
+}
+
+#[test]
+fn definitions(rt: HostRuntime) -> Result<(), Fail> {
+    refuse_rows_in(&rt, Base::InPlace, Memory::Ample, &DEFINITIONS)?;
+    refuse_rows_in(&rt, Base::Pair, Memory::Ample, &DEFINITIONS)
+}

@@ -1,0 +1,164 @@
+//! The map of a link and the show of a code file, as text.
+use super::answers::LITTLE;
+use super::growths::{Growing, makes_no_growth, refuses_each_growth};
+use crate::base::{BASE_LENGTH, COUNT, base_host, base_library};
+use crate::code_file::Change::{Bytes, Records, Resized};
+use crate::code_file::CodeFile;
+use crate::information::Record::{ConstantDefinition, End, PublicDefinition};
+use ps_linkfile::{LinkError, map_text, show_text};
+use std::alloc::{AllocError, Allocator, Global};
+use std::process::Abort;
+use std::str;
+use std::test::Fail;
+
+static MAP: &str = "segment 01 DEMO     file 0 entry 01 block 1 length 18
+segment 07 UTIL     file 1 entry 02 block 2 length 24
+public COUNT    value 3
+private 07 STATE    offset 8 words 4
+next 12 data 18 blocks 3
+";
+
+static MAP_WITH_A_CONSTANT: &str = "segment 01 DEMO     file 0 entry 01 block 1 length 18
+segment 07 UTIL     file 1 entry 02 block 2 length 24
+public COUNT    value 3
+constant LIMIT    value 9
+private 07 STATE    offset 8 words 4
+next 12 data 18 blocks 3
+";
+
+static SLOTS_OF_THE_LIBRARY: &str = "order little
+slot 00          kind 0 address 0 length 0 text 0
+slot 01          kind 0 address 0 length 0 text 0
+slot 02 UTIL     kind 3 address 1 length 24 text 0
+slot 03          kind 0 address 0 length 0 text 0
+slot 04          kind 0 address 0 length 0 text 0
+slot 05          kind 0 address 0 length 0 text 0
+slot 06          kind 0 address 0 length 0 text 0
+slot 07          kind 0 address 0 length 0 text 0
+slot 08          kind 0 address 0 length 0 text 0
+slot 09          kind 0 address 0 length 0 text 0
+slot 10          kind 0 address 0 length 0 text 0
+slot 11          kind 0 address 0 length 0 text 0
+slot 12          kind 0 address 0 length 0 text 0
+slot 13          kind 0 address 0 length 0 text 0
+slot 14          kind 0 address 0 length 0 text 0
+slot 15          kind 0 address 0 length 0 text 0
+";
+
+/// An answer as text: the text itself, the fault's, or a word for want of memory.
+fn text_of<A: Allocator + Copy>(
+    alloc: Global,
+    answer: Result<Vec<u8, A>, LinkError>,
+) -> Result<String, AllocError> {
+    match answer {
+        Ok(bytes) => String::from_str(alloc, str::from_utf8(bytes.as_slice()).unwrap_or("no text")),
+        Err(LinkError::Refused(fault)) => format!(in alloc; "{fault}"),
+        Err(LinkError::Memory) => String::from_str(alloc, "out of memory"),
+        Err(LinkError::Write(_)) => String::from_str(alloc, "a write failed"),
+    }
+}
+
+/// `map_text` of these files.
+#[derive(Clone, Copy)]
+struct Map<'a> {
+    host: &'a [u8],
+    libraries: &'a [&'a [u8]],
+}
+
+impl<'a> Growing for Map<'a> {
+    fn answer<A: Allocator + Copy>(&self, alloc: Global, heap: A) -> Result<String, AllocError> {
+        text_of(alloc, map_text(heap, self.host, self.libraries))
+    }
+}
+
+/// `show_text` of this file.
+#[derive(Clone, Copy)]
+struct Show<'a> {
+    file: &'a [u8],
+}
+
+impl<'a> Growing for Show<'a> {
+    fn answer<A: Allocator + Copy>(&self, alloc: Global, heap: A) -> Result<String, AllocError> {
+        text_of(alloc, show_text(heap, self.file))
+    }
+}
+
+#[test]
+fn the_map_of_a_pair(rt: HostRuntime) -> Result<(), Fail> {
+    let alloc = rt.alloc();
+    let host = base_host(alloc, LITTLE)?;
+    let library = base_library(alloc, LITTLE)?;
+    let libraries = [library.as_slice()];
+    let call = Map {
+        host: host.as_slice(),
+        libraries: libraries.as_slice(),
+    };
+    refuses_each_growth(&rt, "the base pair", &call, MAP)?;
+    let definitions = [
+        PublicDefinition(COUNT, 3),
+        ConstantDefinition(*b"LIMIT   ", 9),
+        End(8),
+    ];
+    let host = host.with(alloc, &[Records(2, &definitions)])?;
+    let call = Map {
+        host: host.as_slice(),
+        libraries: libraries.as_slice(),
+    };
+    refuses_each_growth(&rt, "a constant", &call, MAP_WITH_A_CONSTANT)
+}
+
+#[test]
+fn a_map_that_is_refused(rt: HostRuntime) -> Result<(), Fail> {
+    let host = base_host(rt.alloc(), LITTLE)?;
+    let call = Map {
+        host: host.as_slice(),
+        libraries: &[],
+    };
+    let refused = "refused 13 MissingUnit file 0 slot 7";
+    makes_no_growth(&rt, "no library", &call, refused)
+}
+
+/// Checks the show of a library that has only so many bytes, which ends with these lines behind those of the slots.
+fn shows_library(rt: &(impl Abort + AllocGlobal), length: usize, last: &str) -> Result<(), Fail> {
+    let alloc = rt.alloc();
+    let library = base_library(alloc, LITTLE)?.with(alloc, &[Resized(length)])?;
+    let text = format!(in alloc; "{SLOTS_OF_THE_LIBRARY}{last}")?;
+    let call = Show {
+        file: library.as_slice(),
+    };
+    refuses_each_growth(rt, "a library", &call, text.as_str())
+}
+
+#[test]
+fn the_show_of_a_library(rt: HostRuntime) -> Result<(), Fail> {
+    let records =
+        "links 02\n0 PUBLREF COUNT    at 1\n1 PRIVREF STATE    words 4 at 4\n2 EOFMARK next 0\n";
+    shows_library(&rt, BASE_LENGTH, records)
+}
+
+#[test]
+fn the_show_of_a_library_without_its_end(rt: HostRuntime) -> Result<(), Fail> {
+    let records =
+        "links 02\n0 PUBLREF COUNT    at 1\n1 PRIVREF STATE    words 4 at 4\n2 fault 19 RecordsTruncated\n";
+    shows_library(&rt, 1103, records)
+}
+
+#[test]
+fn the_show_of_a_library_with_half_a_code(rt: HostRuntime) -> Result<(), Fail> {
+    shows_library(&rt, 535, "links 02\nfault 16 Truncated\n")
+}
+
+#[test]
+fn a_show_that_is_refused(rt: HostRuntime) -> Result<(), Fail> {
+    let alloc = rt.alloc();
+    let short = CodeFile::new(alloc, LITTLE, 511)?;
+    let call = Show {
+        file: short.as_slice(),
+    };
+    makes_no_growth(&rt, "short", &call, "refused 1 ShortFile file 0")?;
+    let mixed = CodeFile::new(alloc, LITTLE, 512)?.with(alloc, &[Bytes(192, &[1, 1])])?;
+    let call = Show {
+        file: mixed.as_slice(),
+    };
+    makes_no_growth(&rt, "mixed", &call, "refused 2 NoOrder file 0")
+}
