@@ -4,7 +4,7 @@ use Rattle.std.specs.Prelude.{take}
 use Rattle.std.specs.Fmt.{digits}
 use Rattle.ps_examples.specs.Files.{host, library, host_in, library_with, put_at, zeros, util, count, state, limit, unit_ref, publ_ref, priv_ref, const_def, eof_mark}
 use Rattle.ps_examples.specs.Expected.{linked_pair}
-use Rattle.ps_examples.specs.Texts.{show_of_the_library, show_without_an_end, show_without_a_code, show_of_the_linked_file, show_of_the_big_endian_host, slot_without_a_name, links_of_every_kind, links_of_an_unknown_record, links_of_a_bad_length, links_of_a_bad_address}
+use Rattle.ps_examples.specs.Texts.{show_of_the_library, show_without_an_end, show_without_a_code, show_of_the_linked_file, show_of_the_big_endian_host, slot_without_a_name, slot_with_a_text, links_of_every_kind, links_of_an_unknown_record, links_of_a_bad_length, links_of_a_bad_address}
 use Rattle.ps_examples.proofs.LinkedBytes.{a_host_and_its_library}
 use Rattle.ps_linkfile.specs.LinkedFile.{linked_file}
 use Rattle.ps_linkfile.specs.ShowText.{show_of, slot_line, links_lines}
@@ -36,6 +36,10 @@ the_host_big_endian = refl
 pub a_slot_named_by_zero_bytes : slot_line Little (put_at 88 (zeros 8) library) 3 ≡ slot_without_a_name
 unfolding slot_line digits
 a_slot_named_by_zero_bytes = refl
+
+pub a_slot_with_interface_text : slot_line Little (put_at 228 (5 ∷ []) library) 2 ≡ slot_with_a_text
+unfolding slot_line digits
+a_slot_with_interface_text = refl
 
 pub a_record_of_every_kind : links_lines Little (library_with Little (unit_ref Little util (2 ∷ []) ++ publ_ref Little count (1 ∷ 4 ∷ []) ++ priv_ref Little state 4 [] ++ const_def Little limit 9 ++ eof_mark Little 0)) 2 ≡ links_of_every_kind
 unfolding links_lines digits

@@ -148,6 +148,10 @@ show_of_the_big_endian_host = codes "order big\n" ++ slots_of_the_host ++ links_
 abbrev pub slot_without_a_name : List ℕ
 slot_without_a_name = codes "slot 03 ???????? kind 0 address 0 length 0 text 0\n"
 
+-- a slot with interface text
+abbrev pub slot_with_a_text : List ℕ
+slot_with_a_text = codes "slot 02 UTIL     kind 3 address 1 length 24 text 5\n"
+
 -- link information with a reference record of each kind, and a constant
 abbrev pub links_of_every_kind : List ℕ
 links_of_every_kind =

@@ -1,6 +1,6 @@
 ghost use Rattle.std.specs.Prelude.{◌≡◌, [], ◌∷◌, ◌++◌, take, codes};
 ghost use Rattle.ps_examples.specs.Files.{host, library, host_in, host_in_place, host_with, library_with, put_at, zeros, util, count, state, limit, unit_ref, publ_ref, priv_ref, publ_def, const_def, eof_mark, wanting_aux, library_of_two};
-ghost use Rattle.ps_examples.specs.Texts.{map_of_the_pair, map_with_a_constant, map_in_place, map_of_two, show_of_the_library, show_without_an_end, show_without_a_code, show_of_the_linked_file, show_of_the_big_endian_host, slot_without_a_name, links_of_every_kind, links_of_an_unknown_record, links_of_a_bad_length, links_of_a_bad_address};
+ghost use Rattle.ps_examples.specs.Texts.{map_of_the_pair, map_with_a_constant, map_in_place, map_of_two, show_of_the_library, show_without_an_end, show_without_a_code, show_of_the_linked_file, show_of_the_big_endian_host, slot_without_a_name, slot_with_a_text, links_of_every_kind, links_of_an_unknown_record, links_of_a_bad_length, links_of_a_bad_address};
 ghost use Rattle.ps_linkfile.specs.Lines.{shown};
 ghost use Rattle.ps_linkfile.specs.LinkedFile.{linked_file};
 ghost use Rattle.ps_linkfile.specs.MapText.{map_of};
@@ -25,6 +25,7 @@ pub fn show_texts()
     ensures a_name_of_zero_bytes { shown (zeros 8) ≡ codes "????????" }
     ensures a_name_of_bytes_at_the_edges { shown (31 ∷ 32 ∷ 126 ∷ 127 ∷ 255 ∷ []) ≡ codes "? ~??" }
     ensures a_slot_named_by_zero_bytes { slot_line Little (put_at 88 (zeros 8) library) 3 ≡ slot_without_a_name }
+    ensures a_slot_with_interface_text { slot_line Little (put_at 228 (5 ∷ []) library) 2 ≡ slot_with_a_text }
     ensures a_record_of_every_kind { links_lines Little (library_with Little (unit_ref Little util (2 ∷ []) ++ publ_ref Little count (1 ∷ 4 ∷ []) ++ priv_ref Little state 4 [] ++ const_def Little limit 9 ++ eof_mark Little 0)) 2 ≡ links_of_every_kind }
     ensures an_unknown_record { links_lines Little (put_at 1032 (15 ∷ []) library) 2 ≡ links_of_an_unknown_record }
     ensures a_code_of_odd_length { links_lines Little (put_at 10 (23 ∷ []) library) 2 ≡ links_of_a_bad_length }
