@@ -16,6 +16,14 @@ libraries_rule = record (new_rule (codes "LIB")) { action = Some Append }
 abbrev pub link_app : App
 link_app = with_rule (with_rule (with_rule (new_app (codes "link")) (file_rule (codes "HOST"))) (file_rule (codes "OUT"))) libraries_rule
 
+-- `map HOST [LIB]...`
+abbrev pub map_app : App
+map_app = with_rule (with_rule (new_app (codes "map")) (file_rule (codes "HOST"))) libraries_rule
+
+-- `show FILE`
+abbrev pub show_app : App
+show_app = with_rule (new_app (codes "show")) (file_rule (codes "FILE"))
+
 -- `pslink`, of which a command is required
 abbrev pub bare_app : App
 bare_app = record (new_app (codes "pslink")) {
@@ -23,4 +31,4 @@ bare_app = record (new_app (codes "pslink")) {
 }
 
 abbrev pub pslink_app : App
-pslink_app = with_subcommand bare_app link_app.top
+pslink_app = with_subcommand (with_subcommand (with_subcommand bare_app link_app.top) map_app.top) show_app.top

@@ -2,3 +2,4 @@ pub mod CommandLine
 pub mod Requests
 pub mod Statuses
 pub mod Lines
+pub mod Printed

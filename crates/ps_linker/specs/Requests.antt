@@ -7,17 +7,25 @@ use Rattle.ps_linker.specs.declared.request.Inputs.{Inputs}
 use Rattle.ps_linker.specs.declared.request.Request.{Request}
 use Rattle.ps_linker.specs.declared.request.Request.TheVariants as request
 
+-- the libraries that are named, in their order
+abbrev pub libraries_of : List Row → List Text
+libraries_of rows = unwrap_or (all_of (codes "LIB") rows) []
+
 -- the files that are named as HOST and as libraries
 abbrev pub NamesInputs : {A : Type 0} → Inputs A → List Row → Type 0
 NamesInputs inputs rows = (first_of (codes "HOST") rows ≡ Some inputs.host.now)
-    × (map (λ path. path.now) inputs.libraries.items ≡ unwrap_or (all_of (codes "LIB") rows) [])
+    × (map (λ path. path.now) inputs.libraries.items ≡ libraries_of rows)
 
--- `link`, with the files that are named for it
-abbrev pub NamesLink : {A : Type 0} → Request A → List Row → Type 0
-NamesLink (request.Text text) rows = ⊥
-NamesLink (request.Link inputs out) rows = NamesInputs inputs rows × (first_of (codes "OUT") rows ≡ Some out.now)
+-- the command that is named, with the files that are named for it
+abbrev pub IsNamed : {A : Type 0} → Request A → Option (Text × List Row) → Type 0
+IsNamed (request.Text text) named = ⊥
+IsNamed (request.Link inputs out) named = (rows : List Row) × (named ≡ Some (codes "link", rows)) × NamesInputs inputs rows × (first_of (codes "OUT") rows ≡ Some out.now)
+IsNamed (request.Map inputs) named = (rows : List Row) × (named ≡ Some (codes "map", rows)) × NamesInputs inputs rows
+IsNamed (request.Show file) named = (rows : List Row) × (named ≡ Some (codes "show", rows)) × (first_of (codes "FILE") rows ≡ Some file.now)
 
--- the help or the version, or the command that is named, with its files
+-- the help or the version, or the command that is named
 abbrev pub AsksFor : {A : Type 0} → Request A → Option (Text × List Row) → Type 0
-AsksFor (request.Text text) named = (kind_of text ≡ DisplayHelp) ⊎ (kind_of text ≡ DisplayVersion)
-AsksFor (request.Link inputs out) named = (rows : List Row) × (named ≡ Some (codes "link", rows)) × NamesLink (request.Link inputs out) rows
+AsksFor {A} (request.Text text) named = (kind_of text ≡ DisplayHelp) ⊎ (kind_of text ≡ DisplayVersion)
+AsksFor {A} (request.Link inputs out) named = IsNamed {A = A} (request.Link inputs out) named
+AsksFor {A} (request.Map inputs) named = IsNamed {A = A} (request.Map inputs) named
+AsksFor {A} (request.Show file) named = IsNamed {A = A} (request.Show file) named

@@ -12,7 +12,7 @@ use thiserror::Error;
 /// Each text that the program writes to standard error, with what the text names.
 #[derive(Debug, Drop, Error)]
 pub enum CommandError<'a> {
-    /// The files cannot be linked.
+    /// The files are refused.
     #[error("pslink: {0}")]
     Refused(Fault),
     /// The words of the command line are none that the program takes.
@@ -54,16 +54,18 @@ impl From<clap::Error> for CommandError<'_> {
     }
 }
 
-impl<'a> CommandError<'a> {
-    /// The error of a link whose output is the file at `path`.
-    pub fn of_link(error: LinkError, path: &'a str) -> CommandError<'a> {
+impl From<LinkError> for CommandError<'_> {
+    /// The calls that check files and make texts answer no `Write`; a file that is written is named where it is written.
+    fn from(error: LinkError) -> Self {
         match error {
             LinkError::Refused(fault) => CommandError::Refused(fault),
             LinkError::Memory => CommandError::Memory,
-            LinkError::Write(_) => CommandError::Write { path },
+            LinkError::Write(_) => CommandError::StandardOutput,
         }
     }
+}
 
+impl CommandError<'_> {
     /// What the process ends with.
     pub fn status(&self) -> u8
         ensures { result ≡ status_of self.now }

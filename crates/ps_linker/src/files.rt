@@ -46,7 +46,9 @@ pub fn read_inputs<'a, R: Files, A: Allocator + Copy>(
     rt: &R,
     alloc: A,
     inputs: &Inputs<'a, A>,
-) -> Result<Contents<A>, CommandError<'a>> {
+) -> Result<Contents<A>, CommandError<'a>>
+    ensures { IfOk result (λ contents. length contents.libraries.items ≡ length inputs.now.libraries.items) }
+{
     let host = read(rt, alloc, inputs.host)?;
     let mut libraries = Vec::new(alloc);
     for path in inputs.libraries.iter() {

@@ -3,8 +3,6 @@
 #![tactic(auto)]
 
 mod error;
-#[cfg(test)]
-mod faulty;
 mod files;
 mod output;
 mod request;

@@ -1,9 +1,9 @@
 //! What the words of a command line ask for.
-ghost use Rattle.std.specs.Prelude.{◌≡◌, [], IfErr, IfOk, Some, codes, map, true, false, unwrap_or};
-ghost use Rattle.clap.specs.Words.{all_of, app_of, first_of, found_of, kind_of, rows_of, rule_of, subcommand_of, subcommand_rows_of, takes};
+ghost use Rattle.std.specs.Prelude.{◌≡◌, IfErr, IfOk, Some, codes, map, true, false};
+ghost use Rattle.clap.specs.Words.{app_of, first_of, found_of, kind_of, rows_of, rule_of, subcommand_of, subcommand_rows_of, takes};
 ghost use Rattle.clap.specs.declared.Command.TheViews.{out-Command};
-ghost use Rattle.ps_linker.specs.CommandLine.{file_rule, libraries_rule, link_app, pslink_app};
-ghost use Rattle.ps_linker.specs.Requests.{AsksFor, NamesInputs, NamesLink};
+ghost use Rattle.ps_linker.specs.CommandLine.{file_rule, libraries_rule, link_app, map_app, show_app, pslink_app};
+ghost use Rattle.ps_linker.specs.Requests.{AsksFor, IsNamed, NamesInputs, libraries_of};
 
 use crate::error::CommandError;
 use clap::error::ErrorKind;
@@ -17,6 +17,10 @@ pub enum Request<'a, A: Allocator> {
     Text(clap::Error),
     /// Links the inputs, and writes the linked file to `out`.
     Link { inputs: Inputs<'a, A>, out: &'a str },
+    /// Prints the map of a link of the inputs.
+    Map { inputs: Inputs<'a, A> },
+    /// Prints what `file` has.
+    Show { file: &'a str },
 }
 
 /// The paths of a host and of the libraries, in the order in which units are sought in them.
@@ -32,7 +36,10 @@ pub fn parse<'a, A: Allocator + Copy>(
     alloc: A,
     words: &'a [&'a str],
 ) -> Result<Request<'a, A>, CommandError<'a>>
-    ensures { IfOk result (λ r. AsksFor r (subcommand_of pslink_app (map (λ s. s.now) words.now))) }
+    ensures asked { IfOk result (λ r. AsksFor r (subcommand_of pslink_app (map (λ s. s.now) words.now))) }
+
+    // Words that clap takes name a command, and ask for no help.
+    ensures named { takes pslink_app (map (λ s. s.now) words.now) ≡ true → IfOk result (λ r. IsNamed r (subcommand_of pslink_app (map (λ s. s.now) words.now))) }
 {
     match matches(heap, words) {
         Ok(matches) => request_of(heap, alloc, &matches),
@@ -57,10 +64,12 @@ fn request_of<'a, A: Allocator + Copy>(
     alloc: A,
     matches: &ArgMatches<'a>,
 ) -> Result<Request<'a, A>, CommandError<'a>>
-    ensures { IfOk result (λ r. AsksFor r (subcommand_rows_of matches.now)) }
+    ensures { IfOk result (λ r. IsNamed r (subcommand_rows_of matches.now)) }
 {
     match matches.subcommand() {
         Some(("link", found)) => link_of(heap, alloc, found),
+        Some(("map", found)) => map_of(heap, alloc, found),
+        Some(("show", found)) => show_of(heap, found),
         _ => Err(unnamed(heap)),
     }
 }
@@ -70,11 +79,32 @@ fn link_of<'a, A: Allocator + Copy>(
     alloc: A,
     found: &ArgMatches<'a>,
 ) -> Result<Request<'a, A>, CommandError<'a>>
-    ensures { IfOk result (λ r. NamesLink r (rows_of (found_of found.now))) }
+    ensures { IfOk result (λ r. IsNamed r (Some (codes "link", rows_of (found_of found.now)))) }
 {
     let inputs = inputs_of(heap, alloc, found)?;
     let out = file_of(heap, found, "OUT")?;
     Ok(Request::Link { inputs, out })
+}
+
+fn map_of<'a, A: Allocator + Copy>(
+    heap: Global,
+    alloc: A,
+    found: &ArgMatches<'a>,
+) -> Result<Request<'a, A>, CommandError<'a>>
+    ensures { IfOk result (λ r. IsNamed r (Some (codes "map", rows_of (found_of found.now)))) }
+{
+    let inputs = inputs_of(heap, alloc, found)?;
+    Ok(Request::Map { inputs })
+}
+
+fn show_of<'a, A: Allocator + Copy>(
+    heap: Global,
+    found: &ArgMatches<'a>,
+) -> Result<Request<'a, A>, CommandError<'a>>
+    ensures { IfOk result (λ r. IsNamed r (Some (codes "show", rows_of (found_of found.now)))) }
+{
+    let file = file_of(heap, found, "FILE")?;
+    Ok(Request::Show { file })
 }
 
 fn inputs_of<'a, A: Allocator + Copy>(
@@ -121,7 +151,7 @@ fn libraries<'a, A: Allocator + Copy>(
     alloc: A,
     found: &ArgMatches<'a>,
 ) -> Result<Vec<&'a str, A>, AllocError>
-    ensures { IfOk result (λ paths. map (λ path. path.now) paths.items ≡ unwrap_or (all_of (codes "LIB") (rows_of (found_of found.now))) []) }
+    ensures { IfOk result (λ paths. map (λ path. path.now) paths.items ≡ libraries_of (rows_of (found_of found.now))) }
 {
     match found.get_strs("LIB") {
         Some(paths) => Vec::from_slice(alloc, paths),
@@ -134,12 +164,16 @@ fn command<'a>(heap: Global) -> Result<Command<'a>, AllocError>
     ensures { IfOk result (λ c. app_of c ≡ pslink_app) }
 {
     let link = link_command(heap)?;
+    let map = map_command(heap)?;
+    let show = show_command(heap)?;
     Command::new(heap, "pslink")
         .version("0.1.0")
         .about("The Linker of UCSD Pascal II.0 for Pascal hosts and units")
         .subcommand_required(true)
         .disable_help_subcommand(true)
-        .subcommand(link)
+        .subcommand(link)?
+        .subcommand(map)?
+        .subcommand(show)
 }
 
 fn link_command<'a>(heap: Global) -> Result<Command<'a>, AllocError>
@@ -150,6 +184,27 @@ fn link_command<'a>(heap: Global) -> Result<Command<'a>, AllocError>
         .arg(file(heap, "HOST", "The code file that holds the host program"))?
         .arg(file(heap, "OUT", "The code file to write; it may be HOST"))?
         .arg(libraries_argument(heap))
+}
+
+fn map_command<'a>(heap: Global) -> Result<Command<'a>, AllocError>
+    ensures { IfOk result (λ c. (app_of c ≡ map_app) × ((out-Command c).has_globals ≡ false)) }
+{
+    Command::new(heap, "map")
+        .about("Prints where a link would put each segment and private, and writes no file")
+        .arg(file(heap, "HOST", "The code file that holds the host program"))?
+        .arg(libraries_argument(heap))
+}
+
+fn show_command<'a>(heap: Global) -> Result<Command<'a>, AllocError>
+    ensures { IfOk result (λ c. (app_of c ≡ show_app) × ((out-Command c).has_globals ≡ false)) }
+{
+    Command::new(heap, "show")
+        .about("Prints the segments of one code file and the link information of each")
+        .arg(file(
+            heap,
+            "FILE",
+            "The code file to show: a host, a library, or a linked file",
+        ))
 }
 
 fn file<'a>(heap: Global, name: &'a str, help: &'a str) -> Arg<'a>

@@ -1,9 +1,10 @@
 //! One command, from its words to its status.
-ghost use Rattle.std.specs.Prelude.{◌≡◌, ◌≢◌, ◌≤◌, IfErr, OnOk};
-ghost use Rattle.std.specs.Io.KnownBytes.{Appends};
-ghost use Rattle.ps_linker.specs.Lines.{summary_line};
+ghost use Rattle.std.specs.Prelude.{◌≡◌, ◌≢◌, ◌≤◌, IfErr, IfOk, OnOk, length, map, true};
+ghost use Rattle.clap.specs.Words.{subcommand_of, takes};
+ghost use Rattle.ps_linkfile.specs.Writing.{summary_in};
+ghost use Rattle.ps_linker.specs.CommandLine.{pslink_app};
+ghost use Rattle.ps_linker.specs.Printed.{Prints, PrintsLine, PrintsMap, PrintsShow};
 ghost use Rattle.ps_linker.specs.Statuses.{status_of};
-ghost use Rattle.ps_linkfile.specs.declared.summary.Summary.{Summary as TheSummary};
 
 use crate::error::CommandError;
 use crate::files::{self, Contents};
@@ -20,11 +21,13 @@ const SUMMARY_LENGTH: usize = 128;
 
 /// Does the command that `words` name, of which the first is the program's name, and answers the status of the process.
 ///
+/// `link` writes the linked file to OUT, which is opened only once all is read and checked, and prints its summary to
+/// `out`; `map` prints the map of the link, and `show` what one code file has.
+///
 /// The status is 0 where the command was done, or where the help or the version was asked for; 1 where the files are
 /// refused; 2 where the words are none that the program takes; 3 where a file could not be read or written or is too
 /// long, or standard output failed; 4 where memory was refused. From 1 on, one text that ends with a line end is
-/// written to `err`, and whether that succeeds changes no status. The file to be written is opened only once all is
-/// read and checked.
+/// written to `err`, and whether that succeeds changes no status.
 ///
 /// Memory for the words is taken from `rt`, all other from `alloc`. Source: this project's profile.
 pub fn run<R: Files + AllocGlobal, A: Allocator + Copy, O: Write, E: Write>(
@@ -36,6 +39,9 @@ pub fn run<R: Files + AllocGlobal, A: Allocator + Copy, O: Write, E: Write>(
 ) -> u8
     ensures known { result ≤ 4 }
     ensures silent { result ≡ 0 → err.new ≡ err.old }
+
+    // What was done printed what its command prints, and nothing else.
+    ensures printed { takes pslink_app (map (λ s. s.now) words.now) ≡ true → result ≡ 0 → Prints (subcommand_of pslink_app (map (λ s. s.now) words.now)) (O.contents out.old) (O.contents out.new) }
 
     // Only what was done, or a fault of standard output itself, leaves anything there.
     ensures unprinted { result ≢ 0 → result ≢ 3 → out.new ≡ out.old }
@@ -52,11 +58,14 @@ fn carry_out<'a, R: Files + AllocGlobal, A: Allocator + Copy, O: Write>(
     words: &'a [&'a str],
     out: &mut O,
 ) -> Result<(), CommandError<'a>>
-    ensures { IfErr result (λ e. status_of e ≢ 3 → out.new ≡ out.old) }
+    ensures ok { takes pslink_app (map (λ s. s.now) words.now) ≡ true → OnOk result (Prints (subcommand_of pslink_app (map (λ s. s.now) words.now)) (O.contents out.old) (O.contents out.new)) }
+    ensures err { IfErr result (λ e. status_of e ≢ 3 → out.new ≡ out.old) }
 {
     match request::parse(rt.alloc(), alloc, words)? {
         Request::Text(text) => print_text(rt.alloc(), text, out),
         Request::Link { inputs, out: path } => link(rt, alloc, inputs, path, out),
+        Request::Map { inputs } => map(rt, alloc, inputs, out),
+        Request::Show { file } => show(rt, alloc, file, out),
     }
 }
 
@@ -80,19 +89,47 @@ fn link<'a, R: Files, A: Allocator + Copy, O: Write>(
     path: &'a str,
     out: &mut O,
 ) -> Result<(), CommandError<'a>>
-    ensures ok { OnOk result ((s : TheSummary) × Appends (O.contents out.old) (O.contents out.new) (summary_line s)) }
+    ensures ok { OnOk result (PrintsLine (length inputs.entry.libraries.items) (O.contents out.old) (O.contents out.new)) }
     ensures err { IfErr result (λ e. status_of e ≢ 3 → out.new ≡ out.old) }
 {
     let mut line = String::with_capacity(alloc, SUMMARY_LENGTH)?;
     let Contents { host, libraries } = files::read_inputs(rt, alloc, &inputs)?;
     let views = views(alloc, libraries.as_slice())?;
-    let linked = match ps_linkfile::prepare(alloc, host.as_slice(), views.as_slice()) {
-        Ok(linked) => linked,
-        Err(error) => return Err(CommandError::of_link(error, path)),
-    };
+    let linked = ps_linkfile::prepare(alloc, host.as_slice(), views.as_slice())?;
     let summary = write_linked(rt, &linked, path)?;
     output::add_summary(&mut line, summary)?;
     output::print(out, line.as_bytes())
+}
+
+/// Prints the map of a link.
+fn map<'a, R: Files, A: Allocator + Copy, O: Write>(
+    rt: &R,
+    alloc: A,
+    inputs: Inputs<'a, A>,
+    out: &mut O,
+) -> Result<(), CommandError<'a>>
+    ensures ok { OnOk result (PrintsMap (length inputs.entry.libraries.items) (O.contents out.old) (O.contents out.new)) }
+    ensures err { IfErr result (λ e. status_of e ≢ 3 → out.new ≡ out.old) }
+{
+    let Contents { host, libraries } = files::read_inputs(rt, alloc, &inputs)?;
+    let views = views(alloc, libraries.as_slice())?;
+    let text = ps_linkfile::map_text(alloc, host.as_slice(), views.as_slice())?;
+    output::print(out, text.as_slice())
+}
+
+/// Prints what the file at `path` has.
+fn show<'a, R: Files, A: Allocator + Copy, O: Write>(
+    rt: &R,
+    alloc: A,
+    path: &'a str,
+    out: &mut O,
+) -> Result<(), CommandError<'a>>
+    ensures ok { OnOk result (PrintsShow (O.contents out.old) (O.contents out.new)) }
+    ensures err { IfErr result (λ e. status_of e ≢ 3 → out.new ≡ out.old) }
+{
+    let file = files::read(rt, alloc, path)?;
+    let text = ps_linkfile::show_text(alloc, file.as_slice())?;
+    output::print(out, text.as_slice())
 }
 
 /// Creates or empties the file at `path`, and writes the linked file to it.
@@ -100,7 +137,9 @@ fn write_linked<'a, R: Files, A: Allocator + Copy>(
     rt: &R,
     linked: &Linked<'_, A>,
     path: &'a str,
-) -> Result<Summary, CommandError<'a>> {
+) -> Result<Summary, CommandError<'a>>
+    ensures { IfOk result (λ summary. summary ≡ summary_in linked.now) }
+{
     let Ok(mut file) = fs::create(rt, path) else {
         return Err(CommandError::Write { path });
     };
@@ -114,7 +153,9 @@ fn write_linked<'a, R: Files, A: Allocator + Copy>(
 fn views<'c, A: Allocator + Copy>(
     alloc: A,
     contents: &'c [Vec<u8, A>],
-) -> Result<Vec<&'c [u8], A>, AllocError> {
+) -> Result<Vec<&'c [u8], A>, AllocError>
+    ensures { IfOk result (λ views. length views.items ≡ length contents.now) }
+{
     let mut views = Vec::new(alloc);
     for content in contents {
         views.push(content.as_slice())?;

@@ -1,4 +1,4 @@
-//! Files and writers that fail.
+//! Files that fail.
 use std::alloc::Allocator;
 use std::cell::Cell;
 use std::fs::{Metadata, OpenFile, OpenOptions};
@@ -6,8 +6,8 @@ use std::io;
 use std::io::{Read, Seek, SeekFrom, Write};
 use std::rt::Files;
 
-/// The files of `inner`, of which the one that is opened as the `nth`, from 1, fails after so many reads and writes. A write
-/// takes three bytes at most.
+/// The files of `inner`, of which the one that is opened as the `nth`, from 1, fails after so many reads and writes. A read
+/// gives 500 bytes at most, and a write takes three.
 pub struct Faulty<R: Files> {
     inner: R,
     nth: u64,
@@ -65,7 +65,8 @@ impl<F> FaultyFile<F> {
 impl<F: Read> Read for FaultyFile<F> {
     fn read(&mut self, buf: &mut [u8]) -> io::Result<usize> {
         self.call()?;
-        self.inner.read(buf)
+        let most = buf.len().min(500);
+        self.inner.read(&mut buf[..most])
     }
 }
 
@@ -158,33 +159,5 @@ impl<R: Files> Files for Faulty<R> {
 
     fn remove_dir_all<B: Allocator>(&self, alloc: B, path: &str) -> io::Result<()> {
         self.inner.remove_dir_all(alloc, path)
-    }
-}
-
-/// A writer that does not take what it is given.
-#[derive(Clone, Copy, Debug, PartialEq, Eq)]
-pub enum Stuck {
-    Broken,
-    TakesNothing,
-    /// The first write is interrupted, and each later one takes all.
-    Interrupted,
-    Freed,
-}
-
-impl Write for Stuck {
-    fn write(&mut self, buf: &[u8]) -> io::Result<usize> {
-        match *self {
-            Stuck::Broken => Err(io::Error::from(io::ErrorKind::BrokenPipe)),
-            Stuck::TakesNothing => Ok(0),
-            Stuck::Interrupted => {
-                *self = Stuck::Freed;
-                Err(io::Error::from(io::ErrorKind::Interrupted))
-            }
-            Stuck::Freed => Ok(buf.len()),
-        }
-    }
-
-    fn flush(&mut self) -> io::Result<()> {
-        Ok(())
     }
 }

@@ -1,0 +1,57 @@
+//! What a run answers and writes.
+use crate::running::run;
+use std::alloc::{Allocator, Global};
+use std::fs;
+use std::process::Abort;
+use std::rt::Files;
+
+/// What a run answers and writes.
+#[derive(Drop)]
+pub struct Outcome {
+    pub status: u8,
+    pub out: Vec<u8>,
+    pub err: Vec<u8>,
+}
+
+/// Runs the words with ample memory.
+pub fn done<R: Files + AllocGlobal>(rt: &R, words: &[&str]) -> Outcome {
+    done_with(rt, rt.alloc(), words)
+}
+
+/// Runs the words with memory from `alloc`.
+pub fn done_with<R: Files + AllocGlobal, A: Allocator + Copy>(
+    rt: &R,
+    alloc: A,
+    words: &[&str],
+) -> Outcome {
+    let heap: Global = rt.alloc();
+    let mut out = Vec::new(heap);
+    let mut err = Vec::new(heap);
+    let status = run(rt, alloc, words, &mut out, &mut err);
+    Outcome { status, out, err }
+}
+
+impl Outcome {
+    /// The run answered this status and wrote these texts.
+    pub fn is(self, rt: &impl Abort, status: u8, out: &str, err: &str) {
+        let Outcome {
+            status: answered,
+            out: printed,
+            err: complained,
+        } = self;
+        assert_eq!(rt; text(complained.as_slice()), err);
+        assert_eq!(rt; text(printed.as_slice()), out);
+        assert_eq!(rt; answered, status);
+    }
+}
+
+pub fn text(bytes: &[u8]) -> &str {
+    std::str::from_utf8(bytes).unwrap_or("not UTF-8")
+}
+
+/// Removes files of a test.
+pub fn clean<R: Files>(rt: &R, paths: &[&str]) {
+    for path in paths {
+        let _ = fs::remove_file(rt, *path);
+    }
+}

@@ -1,0 +1,135 @@
+//! Standard output and standard error that fail, or take little at a time.
+use super::inputs::{
+    MAP_OF_PAIR, SHOWN_LIBRARY, SUMMARY_IN_PLACE, host, host_in_place, library, linked_in_place,
+};
+use super::outcome::{clean, text};
+use super::words::{HELP, VERSION};
+use super::writers::{Limited, Stuck};
+use crate::running::run;
+use std::fs;
+use std::process::Abort;
+use std::rt::Files;
+use std::test::Fail;
+
+static NO_OUTPUT: &str = "pslink: cannot write standard output\n";
+
+#[test]
+fn standard_output_that_fails(rt: HostRuntime) -> Result<(), Fail> {
+    fs::write(&rt, "stuck-in-place", host_in_place(rt.alloc())?.as_slice())?;
+    fs::write(&rt, "stuck-host", host(rt.alloc())?.as_slice())?;
+    fs::write(&rt, "stuck-library", library(rt.alloc())?.as_slice())?;
+    let link = ["pslink", "link", "stuck-in-place", "stuck-out"];
+    let map = ["pslink", "map", "stuck-host", "stuck-library"];
+    let show = ["pslink", "show", "stuck-library"];
+    let help = ["pslink", "--help"];
+    let commands = [
+        link.as_slice(),
+        map.as_slice(),
+        show.as_slice(),
+        help.as_slice(),
+    ];
+    for words in commands {
+        for stuck in [Stuck::Broken, Stuck::TakesNothing, Stuck::Interrupted] {
+            let mut out = stuck;
+            let mut err = Vec::new(rt.alloc());
+            let status = run(&rt, rt.alloc(), words, &mut out, &mut err);
+            assert_eq!(rt; status, 3, "{stuck:?}");
+            assert_eq!(rt; text(err.as_slice()), NO_OUTPUT);
+        }
+    }
+    // The linked file was written before the line that tells of it.
+    let made = fs::read(&rt, "stuck-out")?;
+    assert_eq!(rt; made.as_slice(), linked_in_place(rt.alloc())?.as_slice());
+    let files = ["stuck-in-place", "stuck-host", "stuck-library", "stuck-out"];
+    clean(&rt, files.as_slice());
+    Ok(())
+}
+
+/// Has each write of the words' text fail in turn, until none fails: how many failed. A write takes `most` bytes. What was
+/// taken is a front of the text, and all of it only where the status is 0.
+fn failing_prints<R: Files + AllocGlobal + Abort>(
+    rt: &R,
+    words: &[&str],
+    most: usize,
+    wanted: &str,
+) -> u64 {
+    for writes in 0..1000 {
+        let mut out = Limited::new(rt.alloc(), most, writes);
+        let mut err = Vec::new(rt.alloc());
+        let status = run(rt, rt.alloc(), words, &mut out, &mut err);
+        let taken = text(out.taken.as_slice());
+        if status == 0 {
+            assert_eq!(rt; taken, wanted);
+            assert_eq!(rt; text(err.as_slice()), "");
+            return writes;
+        }
+        assert_eq!(rt; status, 3, "at {writes}");
+        assert_eq!(rt; text(err.as_slice()), NO_OUTPUT);
+        assert!(rt;
+            wanted.starts_with(taken) && taken.len() < wanted.len(),
+            "at {writes}"
+        );
+    }
+    1000
+}
+
+#[test]
+fn each_write_of_a_text_fails(rt: HostRuntime) -> Result<(), Fail> {
+    fs::write(
+        &rt,
+        "prints-in-place",
+        host_in_place(rt.alloc())?.as_slice(),
+    )?;
+    fs::write(&rt, "prints-host", host(rt.alloc())?.as_slice())?;
+    fs::write(&rt, "prints-library", library(rt.alloc())?.as_slice())?;
+    let link = ["pslink", "link", "prints-in-place", "prints-out"];
+    let map = ["pslink", "map", "prints-host", "prints-library"];
+    let show = ["pslink", "show", "prints-library"];
+    let help = ["pslink", "--help"];
+    let version = ["pslink", "--version"];
+    let texts = [
+        (link.as_slice(), SUMMARY_IN_PLACE),
+        (map.as_slice(), MAP_OF_PAIR),
+        (show.as_slice(), SHOWN_LIBRARY),
+        (help.as_slice(), HELP),
+        (version.as_slice(), VERSION),
+    ];
+    for (words, wanted) in texts {
+        for most in [1, 7, 4096] {
+            let failed = failing_prints(&rt, words, most, wanted);
+            assert_eq!(rt; failed, wanted.len().div_ceil(most) as u64, "{most}");
+        }
+    }
+    let files = [
+        "prints-in-place",
+        "prints-host",
+        "prints-library",
+        "prints-out",
+    ];
+    clean(&rt, files.as_slice());
+    Ok(())
+}
+
+#[test]
+fn standard_error_that_fails(rt: HostRuntime) {
+    let _ = fs::remove_file(&rt, "silent-host");
+    let link = ["pslink", "link", "silent-host", "silent-out"];
+    let map = ["pslink", "map", "silent-host"];
+    let show = ["pslink", "show", "silent-host"];
+    let usage = ["pslink", "frob"];
+    let commands = [
+        (link.as_slice(), 3),
+        (map.as_slice(), 3),
+        (show.as_slice(), 3),
+        (usage.as_slice(), 2),
+    ];
+    for (words, wanted) in commands {
+        for stuck in [Stuck::Broken, Stuck::TakesNothing, Stuck::Interrupted] {
+            let mut out = Vec::new(rt.alloc());
+            let mut err = stuck;
+            let status = run(&rt, rt.alloc(), words, &mut out, &mut err);
+            assert_eq!(rt; status, wanted, "{stuck:?}");
+            assert!(rt; out.is_empty());
+        }
+    }
+}
