@@ -1,5 +1,5 @@
 -- What the getters of a parse say, put together.
-use Rattle.std.proofs.Common.{◌≡◌, List, Option, Some, None, option_map, sym, ap₂}
+use Rattle.std.proofs.Common.{◌≡◌, Option, Some, None, option_map, sym, ap₂}
 use Rattle.std.proofs.lemmas.Option.{none-some, same_Some}
 
 -- a name and what stands beside it, from one option

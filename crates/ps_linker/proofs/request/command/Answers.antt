@@ -1,7 +1,7 @@
 use Rattle.std.proofs.Common.{◌≡◌, ◌∙◌, ap, ap₂, rules}
 use Rattle.std.proofs.lemmas.Result.{IfOk-weaker}
 use Rattle.clap.specs.Words.{App, app_of, with_subcommand}
-use Rattle.ps_linker.specs.CommandLine.{bare_app, link_app, map_app, show_app}
+use Rattle.ps_linker.specs.CommandLine.{bare_app, link_app, map_app}
 use Rattle.ps_linker.proofs.request.command.Goals as goal
 
 pub returns : goal.returns
