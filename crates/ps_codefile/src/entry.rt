@@ -64,20 +64,22 @@ fn all_are(name: &[u8; 8], byte: u8) -> bool
     name.iter().all(|b| *b == byte)
 }
 
-impl Entry {
-    /// The name is eight blanks or eight zero bytes.
-    fn is_nameless(&self) -> bool
-        ensures { result ≡ nameless_spec self.now.name }
-    {
-        all_are(&self.name, b' ') || all_are(&self.name, 0)
-    }
+/// The name is eight blanks or eight zero bytes.
+///
+/// Source: this project's profile.
+pub fn is_nameless(name: &[u8; 8]) -> bool
+    ensures { result ≡ nameless_spec name.now }
+{
+    all_are(name, b' ') || all_are(name, 0)
+}
 
+impl Entry {
     /// What a slot of the host with this entry is for.
     pub(crate) fn role(&self) -> Result<Role, Reason>
         ensures { result ≡ role_of self.now }
     {
         if self.kind == UNITSEG && (self.address == 0 || self.length == 0) {
-            return Ok(if self.is_nameless() {
+            return Ok(if is_nameless(&self.name) {
                 Role::Empty
             } else {
                 Role::Wanted

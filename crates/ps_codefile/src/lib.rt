@@ -9,5 +9,5 @@ mod procedures;
 mod tests;
 
 pub use dictionary::Dict;
-pub use entry::{Entry, Role};
+pub use entry::{Entry, Role, is_nameless};
 pub use procedures::Procs;

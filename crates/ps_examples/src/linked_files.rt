@@ -2,7 +2,7 @@ ghost use Rattle.std.specs.Prelude.{◌≡◌, [], ◌∷◌, ◌++◌, None};
 ghost use Rattle.ps_examples.specs.Files.{host, library, host_in, library_in, host_with, library_with, library_of_two, wanting_aux, host_in_place, host_with_tools, library_of_two_blocks, put_at, util, count, state, nobody, unit_ref, publ_ref, priv_ref, publ_def, eof_mark};
 ghost use Rattle.ps_examples.specs.Expected.{linked_pair, linked_in_place, linked_two, linked_two_privates, linked_wide_operand, linked_unit_reference, linked_host_reference, linked_other_library, linked_plain_segment, linked_two_blocks};
 ghost use Rattle.ps_linkfile.specs.LinkedFile.{linked_file};
-ghost use Rattle.ps_resolve.specs.Faults.{first_fault};
+ghost use Rattle.ps_resolve.specs.AllFaults.{first_fault};
 ghost use Rattle.ps_words.specs.declared.order.Order.TheVariants.{Little, Big};
 
 /// What is written of a host and its library, and of a host with its unit in place.

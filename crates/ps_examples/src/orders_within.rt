@@ -1,6 +1,6 @@
 ghost use Rattle.std.specs.Prelude.{◌≡◌, [], ◌∷◌, ◌++◌, take, Some};
 ghost use Rattle.ps_examples.specs.Files.{host, library, library_with, host_with, put_at, with_slot, blank, count, cuont, state, publ_ref, priv_ref, publ_def, eof_mark, wanting_aux, with_aux, aux_code};
-ghost use Rattle.ps_resolve.specs.Faults.{first_fault};
+ghost use Rattle.ps_resolve.specs.AllFaults.{first_fault};
 ghost use Rattle.ps_words.specs.FaultPlaces.{in_file, in_slot, in_record, in_reference};
 ghost use Rattle.ps_words.specs.declared.fault.Reason.TheVariants as reason;
 ghost use Rattle.ps_words.specs.declared.order.Order.TheVariants.{Little};

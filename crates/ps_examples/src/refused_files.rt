@@ -1,7 +1,7 @@
 ghost use Rattle.std.specs.Prelude.{◌≡◌, [], ◌∷◌, take, Some, None, Err};
 ghost use Rattle.ps_examples.specs.Files.{host, library, library_in, put_at, zeros};
 ghost use Rattle.ps_codefile.specs.Dictionary.{opened};
-ghost use Rattle.ps_resolve.specs.Faults.{first_fault};
+ghost use Rattle.ps_resolve.specs.AllFaults.{first_fault};
 ghost use Rattle.ps_words.specs.FaultPlaces.{in_file, in_slot};
 ghost use Rattle.ps_words.specs.declared.fault.Reason.TheVariants as reason;
 ghost use Rattle.ps_words.specs.declared.order.Order.TheVariants.{Big};

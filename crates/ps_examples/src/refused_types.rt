@@ -1,6 +1,6 @@
 ghost use Rattle.std.specs.Prelude.{◌≡◌, [], ◌∷◌, ◌++◌, take, Some};
 ghost use Rattle.ps_examples.specs.Files.{host, library, library_with, put_at, util, state, record_of, list_of, eof_mark};
-ghost use Rattle.ps_resolve.specs.Faults.{first_fault};
+ghost use Rattle.ps_resolve.specs.AllFaults.{first_fault};
 ghost use Rattle.ps_words.specs.FaultPlaces.{in_record};
 ghost use Rattle.ps_words.specs.declared.fault.Reason.TheVariants as reason;
 ghost use Rattle.ps_words.specs.declared.order.Order.TheVariants.{Little};

@@ -6,7 +6,8 @@ use Rattle.std.proofs.lemmas.Bool.Decides.{Decides-ltb}
 use Rattle.ps_codefile.specs.Procedures.{table_of}
 use Rattle.ps_resolve.specs.First.{Least}
 use Rattle.ps_resolve.specs.Searches.{fault_if}
-use Rattle.ps_resolve.specs.Sources.{segments, host_of}
+use Rattle.ps_resolve.specs.Sources.{host_of}
+use Rattle.ps_resolve.specs.Added.{segments}
 use Rattle.ps_resolve.specs.Privates.{total_words}
 use Rattle.ps_resolve.specs.Linking.{grown_data_size}
 use Rattle.ps_resolve.specs.Faults.{data_fault}

@@ -11,7 +11,8 @@ use Rattle.ps_linkinfo.specs.declared.record.Body.{Body}
 use Rattle.ps_linkinfo.specs.declared.record.LinkRecord.{LinkRecord as Record}
 use Rattle.ps_resolve.specs.First.{Least}
 use Rattle.ps_resolve.specs.Searches.{first_of, fault_if}
-use Rattle.ps_resolve.specs.Sources.{segments, host_of}
+use Rattle.ps_resolve.specs.Sources.{host_of}
+use Rattle.ps_resolve.specs.Added.{segments}
 use Rattle.ps_resolve.specs.Symbols.{def_in, definition_in, definitions, definition_of, doubled_from, doubled}
 use Rattle.ps_resolve.specs.Faults.{definitions_fault}
 use Rattle.ps_resolve.specs.Standing.{SomeItem, OfDefinitions, Precedes, IsAgain, is_definition, InDefinitions}

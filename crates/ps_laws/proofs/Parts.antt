@@ -16,7 +16,8 @@ use Rattle.ps_linkinfo.specs.Records.{bad, bad_format, type_fault, format_of, li
 use Rattle.ps_linkinfo.specs.declared.record.Body.{Body}
 use Rattle.ps_linkinfo.specs.declared.record.Body.TheVariants.{UnitRef, PublRef}
 use Rattle.ps_linkinfo.specs.declared.record.LinkRecord.{LinkRecord as Record}
-use Rattle.ps_resolve.specs.Sources.{Segment, segments, file_at, is_host}
+use Rattle.ps_resolve.specs.Sources.{Segment, file_at, is_host}
+use Rattle.ps_resolve.specs.Added.{segments}
 use Rattle.ps_resolve.specs.Standing.{Because, HostHas, SlotHas, LibraryHas, EntriesHave, UnitFault, TablesHave, CodeFault, PrivateHas, RecordHas, ReferenceHas, InHost, InSlots, InNoHost, InLibraries, InSources, InDefinitions, InPrivates, InDataSize, InReferences, StandsIn, Step, OfHost, OfSlots, OfNoHost, OfLibraries, OfSources, OfDefinitions, OfPrivates, OfDataSize, OfReferences}
 
 -- what is because of a reason has what all such have

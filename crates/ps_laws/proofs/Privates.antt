@@ -11,7 +11,8 @@ use Rattle.std.proofs.lemmas.List.Sums.{sum_by-append, sum_by-cons}
 use Rattle.ps_linkinfo.specs.declared.record.LinkRecord.{LinkRecord as Record}
 use Rattle.ps_resolve.specs.First.{Least}
 use Rattle.ps_resolve.specs.Searches.{first_of, fault_if}
-use Rattle.ps_resolve.specs.Sources.{Segment, segments, host_records}
+use Rattle.ps_resolve.specs.Sources.{Segment, host_records}
+use Rattle.ps_resolve.specs.Added.{segments}
 use Rattle.ps_resolve.specs.Privates.{words_in, allotted, words_of, private_fault, owner_of, all_allotted, all_words, first_private_fault, next_of}
 use Rattle.ps_resolve.specs.References.{words_taken}
 use Rattle.ps_resolve.specs.Faults.{privates_fault}

@@ -20,7 +20,8 @@ use Rattle.ps_linkinfo.specs.declared.record.Body.TheVariants.{UnitRef, PublRef,
 use Rattle.ps_linkinfo.specs.declared.record.LinkRecord.{LinkRecord as Record}
 use Rattle.ps_resolve.specs.First.{Before, Least, nothing, this}
 use Rattle.ps_resolve.specs.Searches.{first_of, fault_if}
-use Rattle.ps_resolve.specs.Sources.{Segment, segments, host_records, is_unit, units_of}
+use Rattle.ps_resolve.specs.Sources.{Segment, host_records, is_unit, units_of}
+use Rattle.ps_resolve.specs.Added.{segments}
 use Rattle.ps_resolve.specs.Symbols.{definitions, definition_of}
 use Rattle.ps_resolve.specs.Privates.{words_of, owner_of, all_words, next_of}
 use Rattle.ps_resolve.specs.Operands.{width_of, value_of, is_in, reference_reason, operands, refs_fault}

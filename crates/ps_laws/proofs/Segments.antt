@@ -8,7 +8,8 @@ use Rattle.ps_codefile.specs.Dictionary.{slots, entry_at, role_of, code_of}
 use Rattle.ps_codefile.specs.declared.entry.Role.{Role}
 use Rattle.ps_resolve.specs.First.{Least}
 use Rattle.ps_resolve.specs.Searches.{first_of}
-use Rattle.ps_resolve.specs.Sources.{Segment, segments, segment_at, segment_from, records_of, file_at, source_of, is_linked}
+use Rattle.ps_resolve.specs.Sources.{Segment, segment_from, records_of, file_at, source_of, is_linked}
+use Rattle.ps_resolve.specs.Added.{segments, segment_at}
 use Rattle.ps_resolve.specs.Standing.{SomeSegment}
 use Rattle.ps_laws.proofs.Least.{least_same, least_then, least_range, first_of_filter_map}
 use Rattle.ps_words.specs.declared.order.Order.{Order}

@@ -4,9 +4,11 @@ use Rattle.std.specs.Prelude.{◌⊎◌}
 use Rattle.std.specs.List.{slice_get}
 use Rattle.std.proofs.lemmas.Bool.{cases_lt}
 use Rattle.std.specs.Option.{option_or, option_map}
-use Rattle.ps_resolve.specs.Faults.{first_fault, host_fault, slots_fault, no_host_fault, libraries_fault, sources_fault, definitions_fault, privates_fault, data_fault, references_fault, reading_fault, linking_fault}
+use Rattle.ps_resolve.specs.Faults.{host_fault, slots_fault, no_host_fault, libraries_fault, sources_fault, definitions_fault, privates_fault, data_fault, references_fault, linking_fault}
+use Rattle.ps_resolve.specs.AllFaults.{first_fault, reading_fault}
 use Rattle.ps_resolve.specs.First.{Before, Least, nothing, this}
-use Rattle.ps_resolve.specs.Sources.{segments, order_of}
+use Rattle.ps_resolve.specs.Sources.{order_of}
+use Rattle.ps_resolve.specs.Added.{segments}
 use Rattle.ps_resolve.specs.Standing.{Step, OfHost, OfSlots, OfNoHost, OfLibraries, OfSources, OfDefinitions, OfPrivates, OfDataSize, OfReferences, turn, key, Precedes, StandsIn, FaultAt, IsFirst}
 use Rattle.ps_laws.proofs.Least.{least_same, least_or, least_map}
 use Rattle.ps_laws.proofs.Steps.{step_1, step_2, step_3, step_4}

@@ -1,5 +1,5 @@
 ghost use Rattle.std.specs.Prelude.{◌≡◌, ℕ, List, Some, None};
-ghost use Rattle.ps_resolve.specs.Faults.{first_fault};
+ghost use Rattle.ps_resolve.specs.AllFaults.{first_fault};
 ghost use Rattle.ps_resolve.specs.Standing.{IsFirst, FaultAt, Step};
 ghost use Rattle.ps_words.specs.FaultPlaces.{HasItsParts};
 ghost use Rattle.ps_words.specs.declared.fault.Fault.{Fault};

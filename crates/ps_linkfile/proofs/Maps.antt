@@ -9,7 +9,8 @@ use Rattle.ps_words.specs.Words.{blocks}
 use Rattle.ps_words.specs.declared.order.Order.{Order}
 use Rattle.ps_codefile.specs.Dictionary.{slots, name_at, entry_at, role_of, code_of}
 use Rattle.ps_codefile.specs.declared.entry.Role.{Role}
-use Rattle.ps_resolve.specs.Sources.{Segment, segments, segment_at, segment_from, source_of, file_at, order_of, host_records}
+use Rattle.ps_resolve.specs.Sources.{Segment, segment_from, source_of, file_at, order_of, host_records}
+use Rattle.ps_resolve.specs.Added.{segments, segment_at}
 use Rattle.ps_resolve.specs.Privates.{next_of, total_words}
 use Rattle.ps_resolve.specs.Linking.{data_size}
 use Rattle.ps_resolve.specs.Plans.{Planned, Origin, origin_of, origin_of_source, IsPlan}

@@ -9,7 +9,8 @@ use Rattle.ps_words.specs.Edits.{patched, AreEdits}
 use Rattle.ps_words.specs.declared.order.Order.{Order}
 use Rattle.ps_words.specs.declared.edit.Edit.{Edit}
 use Rattle.ps_codefile.specs.Dictionary.{block_len, max_code_len}
-use Rattle.ps_resolve.specs.Sources.{Segment, segments, order_of, host_records}
+use Rattle.ps_resolve.specs.Sources.{Segment, order_of, host_records}
+use Rattle.ps_resolve.specs.Added.{segments}
 use Rattle.ps_resolve.specs.Privates.{words_of, next_of, total_words}
 use Rattle.ps_resolve.specs.References.{Known}
 use Rattle.ps_resolve.specs.Linking.{Edited, edited, edited_from, known_of, linked_byte, segment_edits}

@@ -12,7 +12,8 @@ use Rattle.ps_words.specs.declared.fault.Reason.TheVariants as reason
 use Rattle.ps_codefile.specs.Dictionary.{slots, block_len, max_code_len, code_of, has_bad_length, is_linked_kind, entry_at, role_of}
 use Rattle.ps_codefile.specs.declared.entry.Entry.{Entry}
 use Rattle.ps_codefile.specs.declared.entry.Role.{Role}
-use Rattle.ps_resolve.specs.Sources.{Segment, segments, segment_at, segment_from, source_of, file_at}
+use Rattle.ps_resolve.specs.Sources.{Segment, segment_from, source_of, file_at}
+use Rattle.ps_resolve.specs.Added.{segments, segment_at}
 use Rattle.ps_linkfile.specs.LinkedFile.{Extent}
 use Rattle.ps_linkfile.specs.Writing.{Ascend}
 

@@ -18,7 +18,8 @@ use Rattle.ps_words.specs.FaultPlaces.{in_file}
 use Rattle.ps_codefile.specs.Dictionary.{slots, Opened, file_order, opened_as}
 use Rattle.ps_resolve.specs.Sources.{order_of}
 use Rattle.ps_resolve.specs.Linking.{Edited, linked_byte}
-use Rattle.ps_resolve.specs.Faults.{first_fault, reading_fault, host_fault}
+use Rattle.ps_resolve.specs.Faults.{host_fault}
+use Rattle.ps_resolve.specs.AllFaults.{first_fault, reading_fault}
 use Rattle.ps_patch.specs.Patched.{patched_or_zero}
 use Rattle.ps_linkfile.specs.LinkedFile.{Extent, all_blocks, block_of, pair_of, linked_segments, extent_of, extents, LinkedFile, all_pairs, dictionary, padded_segment, linked_file}
 use Rattle.ps_linkfile.specs.Writing.{Ascend}

@@ -7,10 +7,11 @@ use Rattle.ps_words.specs.Words.{word_bytes, blocks}
 use Rattle.ps_words.specs.declared.order.Order.{Order}
 use Rattle.ps_words.specs.declared.edit.Edit.{Edit}
 use Rattle.ps_codefile.specs.Dictionary.{slots, block_len, names_start, kinds_start, tail_start}
-use Rattle.ps_resolve.specs.Sources.{segments, order_of}
+use Rattle.ps_resolve.specs.Sources.{order_of}
+use Rattle.ps_resolve.specs.Added.{segments}
 use Rattle.ps_resolve.specs.Privates.{total_words}
 use Rattle.ps_resolve.specs.Linking.{Edited, edited, linked_byte}
-use Rattle.ps_resolve.specs.Faults.{first_fault}
+use Rattle.ps_resolve.specs.AllFaults.{first_fault}
 use Rattle.ps_patch.specs.Patched.{patched_or_zero}
 use Rattle.ps_linkfile.specs.declared.summary.Summary.{Summary}
 

@@ -3,7 +3,8 @@
 use Rattle.std.specs.Prelude.{ℕ, ◌+◌, List, [], ◌∷◌, ◌++◌, length, map, codes, decimal}
 use Rattle.std.specs.List.{flat_map}
 use Rattle.ps_codefile.specs.Dictionary.{name_at}
-use Rattle.ps_resolve.specs.Sources.{Segment, segments, order_of, host_records}
+use Rattle.ps_resolve.specs.Sources.{Segment, order_of, host_records}
+use Rattle.ps_resolve.specs.Added.{segments}
 use Rattle.ps_resolve.specs.Symbols.{definitions}
 use Rattle.ps_resolve.specs.Privates.{all_allotted, owner_of, next_of, total_words}
 use Rattle.ps_resolve.specs.Linking.{data_size}

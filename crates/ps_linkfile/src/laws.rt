@@ -1,5 +1,5 @@
 ghost use Rattle.std.specs.Prelude.{◌≡◌, ℕ, List, None};
-ghost use Rattle.ps_resolve.specs.Faults.{first_fault};
+ghost use Rattle.ps_resolve.specs.AllFaults.{first_fault};
 ghost use Rattle.ps_linkfile.specs.LinkedFile.{LinkedFile, linked_file};
 
 /// The linked file of a host and its libraries is one list and no other, and it is there wherever no

@@ -1,7 +1,7 @@
 //! The map of a link, as text.
 ghost use Rattle.std.specs.Prelude.{◌≡◌, ◌+◌, ◌*◌, ◌≤◌, ◌++◌, None, IfOk, IfErr, OnOk, length, map, slice_range, string_bytes};
 ghost use Rattle.std.specs.List.{flat_map};
-ghost use Rattle.ps_resolve.specs.Faults.{first_fault};
+ghost use Rattle.ps_resolve.specs.AllFaults.{first_fault};
 ghost use Rattle.ps_linkfile.specs.LinkedFile.{all_blocks};
 ghost use Rattle.ps_linkfile.specs.Writing.{extents_of, IsReady};
 ghost use Rattle.ps_linkfile.specs.Outcomes.{IsUnprepared, NoneStands, NamesFirst};

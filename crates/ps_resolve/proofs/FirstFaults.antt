@@ -2,8 +2,10 @@
 use Rattle.std.proofs.Common.{◌≡◌, ℕ, List, Some, None, Result, Ok, Err, ◌∙◌}
 use Rattle.std.specs.Prelude.{IfOk, IfErr}
 use Rattle.ps_words.specs.declared.fault.Fault.{Fault}
-use Rattle.ps_resolve.specs.Sources.{segments, order_of}
-use Rattle.ps_resolve.specs.Faults.{first_fault, reading_fault, linking_fault}
+use Rattle.ps_resolve.specs.Sources.{order_of}
+use Rattle.ps_resolve.specs.Added.{segments}
+use Rattle.ps_resolve.specs.Faults.{linking_fault}
+use Rattle.ps_resolve.specs.AllFaults.{first_fault, reading_fault}
 use Rattle.ps_resolve.specs.Plans.{AreStopped, IsStopped}
 use Rattle.ps_resolve.specs.declared.linkage.Stop.{Stop}
 use Rattle.ps_resolve.specs.declared.linkage.Stop.TheVariants.{Refused, Memory}

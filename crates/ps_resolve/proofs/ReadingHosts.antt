@@ -10,7 +10,8 @@ use Rattle.ps_words.specs.declared.fault.Reason.TheVariants as reason
 use Rattle.ps_words.specs.declared.fault.Fault.{Fault}
 use Rattle.ps_codefile.specs.Dictionary.{Opened, FileOrder, Zero, Ordered, Mixed, file_order, opened, opened_as}
 use Rattle.ps_resolve.specs.Sources.{known_order, order_of}
-use Rattle.ps_resolve.specs.Faults.{slots_fault, no_host_fault, libraries_fault, sources_fault, reading_fault}
+use Rattle.ps_resolve.specs.Faults.{slots_fault, no_host_fault, libraries_fault, sources_fault}
+use Rattle.ps_resolve.specs.AllFaults.{reading_fault}
 
 -- a host that is read is read in its own byte order
 read_as : (short : Bool) (of : FileOrder) (file : List ℕ) (o : Opened) → (if short then Err reason.ShortFile else opened_as file of) ≡ Ok o → o ≡ record { order = known_order of; file = file }

@@ -16,7 +16,8 @@ use Rattle.ps_codefile.specs.declared.entry.Entry.{Entry}
 use Rattle.ps_codefile.specs.Dictionary.{entry_at, role_of, code_of, slots}
 use Rattle.ps_codefile.specs.Procedures.{tables_fault}
 use Rattle.ps_resolve.specs.Searches.{first_of, fault_if}
-use Rattle.ps_resolve.specs.Sources.{Segment, segment_at, segment_from, source_of, segments, is_host, is_linked, host_of, records_of, file_at}
+use Rattle.ps_resolve.specs.Sources.{Segment, segment_from, source_of, is_host, is_linked, host_of, records_of, file_at}
+use Rattle.ps_resolve.specs.Added.{segment_at, segments}
 use Rattle.ps_resolve.specs.Faults.{is_role, slot_reason, slots_fault, no_host_fault, sources_fault, source_fault, information_fault}
 use Rattle.ps_resolve.specs.Linkable.{AscendFrom, HasOneHost}
 use Rattle.ps_resolve.proofs.ReadingRows.{neither_first, neither_second, none_mapped}

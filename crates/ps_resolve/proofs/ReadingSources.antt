@@ -12,7 +12,8 @@ use Rattle.ps_words.specs.declared.fault.Fault.{Fault}
 use Rattle.ps_codefile.specs.declared.entry.Role.{Role}
 use Rattle.ps_codefile.specs.declared.entry.Role.TheVariants as role
 use Rattle.ps_codefile.specs.Dictionary.{entry_at, role_of}
-use Rattle.ps_resolve.specs.Sources.{Segment, segment_at, segment_from, source_of}
+use Rattle.ps_resolve.specs.Sources.{Segment, segment_from, source_of}
+use Rattle.ps_resolve.specs.Added.{segment_at}
 use Rattle.ps_resolve.specs.Faults.{source_fault, wanted_fault, code_fault}
 use Rattle.ps_resolve.proofs.ReadingRows.{range_more}
 

@@ -1,4 +1,4 @@
--- The first fault of a link, step by step: of each step the first fault in its own order, and a later step is looked at only where no earlier one has a fault.
+-- The faults of a link, step by step: of each step the first fault in its own order, and a later step is looked at only where no earlier one has a fault.
 -- Source: this project's profile.
 use Rattle.std.specs.Prelude.{ℕ, ◌+◌, ◌==◌, ◌&&◌, not, if◌then◌else◌, List, [], ◌∷◌, length, map, nat_lt, Bool, false, Option, Some, None, Ok, Err, option_and_then}
 use Rattle.std.specs.List.{range_with_len, list_any, find, enumerate_from}
@@ -16,7 +16,7 @@ use Rattle.ps_codefile.specs.declared.entry.Role.{Role}
 use Rattle.ps_codefile.specs.declared.entry.Entry.{Entry}
 use Rattle.ps_linkinfo.specs.Records.{reading}
 use Rattle.ps_resolve.specs.Searches.{first_of, fault_if}
-use Rattle.ps_resolve.specs.Sources.{Segment, segments, source_of, file_at, is_named, chosen_library, is_linked, is_host, is_unit, is_wanted, order_of, host_of, host_records}
+use Rattle.ps_resolve.specs.Sources.{Segment, source_of, file_at, is_named, chosen_library, is_linked, is_host, is_unit, is_wanted, host_of, host_records}
 use Rattle.ps_resolve.specs.Symbols.{doubled}
 use Rattle.ps_resolve.specs.Privates.{owner_of, first_private_fault, next_of, words_of, total_words}
 use Rattle.ps_resolve.specs.References.{Known, records_fault}
@@ -63,6 +63,10 @@ abbrev pub unit_fault : Order → List ℕ → List (List ℕ) → ℕ → Optio
 unit_fault order name libs slot =
     option_map_or (λ lib. option_map (in_slot (lib.0 + 1) slot) (entries_reason order name lib.1)) (chosen_library order name libs) (Some (in_slot 0 slot reason.MissingUnit))
 
+-- the first fault of the chosen library's entries of a name, where there is such a library
+abbrev pub entry_fault : Order → List ℕ → List (List ℕ) → ℕ → Option Fault
+entry_fault order name libs slot = option_and_then (λ lib. option_map (in_slot (lib.0 + 1) slot) (entries_reason order name lib.1)) (chosen_library order name libs)
+
 abbrev pub wanted_fault : Order → List ℕ → List (List ℕ) → ℕ → Role → Option Fault
 wanted_fault order host libs slot role = if is_wanted role then unit_fault order (entry_at order host slot).name libs slot else None
 
@@ -85,15 +89,15 @@ source_fault order host libs slot =
 unfoldable pub sources_fault : Order → List ℕ → List (List ℕ) → Option Fault
 sources_fault order host libs = first_of (source_fault order host libs) slots
 
--- 6. the definitions of the host's segment
+-- 7. the definitions of the host's segment
 unfoldable pub definitions_fault : List Segment → Option Fault
 definitions_fault segs = option_and_then (λ s. option_map (λ rec. in_record 0 s.slot rec reason.DoubledDefinition) (doubled s.records)) (host_of segs)
 
--- 7. the privates
+-- 8. the privates
 unfoldable pub privates_fault : List Segment → Option Fault
 privates_fault segs = first_private_fault (next_of (host_records segs)) (map owner_of segs)
 
--- 8. the host's data size
+-- 9. the host's data size
 abbrev pub size_fault : Order → ℕ → Segment → Option Fault
 size_fault order words s =
     option_and_then (λ t. fault_if (nat_lt 65535 (grown_data_size order s.code words t)) (in_slot 0 s.slot reason.DataTooLarge)) (table_of order s.code 1)
@@ -101,7 +105,7 @@ size_fault order words s =
 unfoldable pub data_fault : Order → List Segment → Option Fault
 data_fault order segs = option_and_then (size_fault order (total_words segs)) (host_of segs)
 
--- 9. the references of each segment, of which those behind one segment's are looked at with the offset of the privates behind its own
+-- 10. the references of each segment, of which those behind one segment's are looked at with the offset of the privates behind its own
 abbrev pub in_segment : ℕ → ℕ → ℕ × (Option ℕ × Reason) → Fault
 in_segment file slot (rec, (None, why)) = in_record file slot rec why
 in_segment file slot (rec, (Some reference, why)) = in_reference file slot rec reference why
@@ -116,15 +120,6 @@ references_fault_from order known free (s ∷ ss) = option_or (segment_fault ord
 unfoldable pub references_fault : Order → List Segment → Option Fault
 references_fault order segs = references_fault_from order (known_of segs) (next_of (host_records segs)) segs
 
--- what is looked at before anything is linked, and what then
-unfoldable pub reading_fault : List ℕ → List (List ℕ) → Option Fault
-reading_fault host libs =
-    let order = order_of host in
-    option_or (host_fault host) (option_or (slots_fault order host) (option_or (no_host_fault order host) (option_or (libraries_fault order libs) (sources_fault order host libs))))
-
+-- what is looked at once all segments were read
 unfoldable pub linking_fault : Order → List Segment → Option Fault
 linking_fault order segs = option_or (definitions_fault segs) (option_or (privates_fault segs) (option_or (data_fault order segs) (references_fault order segs)))
-
--- the first fault of all
-unfoldable pub first_fault : List ℕ → List (List ℕ) → Option Fault
-first_fault host libs = let order = order_of host in option_or (reading_fault host libs) (linking_fault order (segments order host libs))

@@ -11,6 +11,8 @@ pub mod Privates
 pub mod Offsets
 pub mod Linking
 pub mod Faults
+pub mod Added
+pub mod AllFaults
 pub mod Plans
 pub mod Views
 pub mod First

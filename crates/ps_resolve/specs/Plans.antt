@@ -4,11 +4,13 @@ use Rattle.std.specs.Prelude.{◌≡◌, ℕ, ◌+◌, ◌<◌, List, [], ◌∷
 use Rattle.ps_words.specs.Edits.{AreEdits, patched}
 use Rattle.ps_words.specs.declared.order.Order.{Order}
 use Rattle.ps_words.specs.declared.edit.Edit.{Edit}
-use Rattle.ps_resolve.specs.Sources.{Segment, segments, is_linked, order_of, host_records}
+use Rattle.ps_resolve.specs.Sources.{Segment, is_linked, order_of, host_records}
+use Rattle.ps_resolve.specs.Added.{segments}
 use Rattle.ps_resolve.specs.Symbols.{definitions}
 use Rattle.ps_resolve.specs.Privates.{owner_of, all_allotted, next_of, total_words}
 use Rattle.ps_resolve.specs.Linking.{Edited, edited, linked_byte, data_size}
-use Rattle.ps_resolve.specs.Faults.{first_fault, linking_fault, reading_fault}
+use Rattle.ps_resolve.specs.Faults.{linking_fault}
+use Rattle.ps_resolve.specs.AllFaults.{first_fault, reading_fault}
 use Rattle.ps_resolve.specs.declared.definitions.Def.{Def}
 use Rattle.ps_resolve.specs.declared.allotment.Private.{Private}
 use Rattle.ps_resolve.specs.declared.plan.Source.{Source}
@@ -21,13 +23,14 @@ pub record Origin : Type 0 where
   pub file : ℕ
   pub index : ℕ
   pub linked : Bool
+  pub added : Bool
   pub code : List ℕ
 
 abbrev pub origin_of_source : Source → Origin
-origin_of_source s = record { slot = s.slot; file = s.file; index = s.index; linked = s.linked; code = s.code.now }
+origin_of_source s = record { slot = s.slot; file = s.file; index = s.index; linked = s.linked; added = s.added; code = s.code.now }
 
 abbrev pub origin_of : Segment → Origin
-origin_of s = record { slot = s.slot; file = s.file; index = s.index; linked = is_linked s.role; code = s.code }
+origin_of s = record { slot = s.slot; file = s.file; index = s.index; linked = is_linked s.role; added = s.added; code = s.code }
 
 -- what a plan holds; the edits stand in the order of the sources
 pub record Planned : Type 0 where

@@ -1,4 +1,4 @@
--- Which segments a linked file has, and where each comes from: the host's own slots, and for a wanted unit the first library that has a filled entry of its name.
+-- The segments that the host's own slots have in a linked file, and where each comes from: the host file, and for a wanted unit the first library that has a filled entry of its name.
 -- Source: this project's profile.
 use Rattle.std.specs.Prelude.{ℕ, ◌+◌, ◌&&◌, if◌then◌else◌, List, [], ◌∷◌, slice_get, Bool, true, false, Option, Some, None, unwrap_or, option_and_then}
 use Rattle.std.specs.List.{list_any, filter_map, find, enumerate_from}
@@ -46,6 +46,13 @@ is_unit Plain = false
 is_unit Host = false
 is_unit Unit = true
 
+abbrev pub is_empty : Role → Bool
+is_empty Empty = true
+is_empty Wanted = false
+is_empty Plain = false
+is_empty Host = false
+is_empty Unit = false
+
 abbrev pub is_wanted : Role → Bool
 is_wanted Empty = false
 is_wanted Wanted = true
@@ -84,29 +91,32 @@ file_at host libs k = unwrap_or (slice_get (host ∷ libs) k) []
 abbrev pub records_of : Order → List ℕ → Entry → Bool → List Record
 records_of order file e linked = if linked then (reading order (information_of file e)).0 else []
 
--- A segment of the linked file: its slot in the host, its name and its role there, the file and the entry that it comes from, its code, and the records of its link information.
+-- A segment of the linked file: its slot in the host, its name and its role there, whether it was added for a UNITREF, the file and the entry that it comes from, its code, and the records of its link information.
+-- An added segment has the role of a wanted unit.
 pub record Segment : Type 0 where
   pub slot : ℕ
   pub name : List ℕ
   pub role : Role
+  pub added : Bool
   pub file : ℕ
   pub index : ℕ
   pub code : List ℕ
   pub records : List Record
 
-abbrev pub segment_from : Order → List ℕ → List (List ℕ) → ℕ → Role → ℕ × ℕ → Option Segment
-segment_from order host libs slot role at =
+abbrev pub segment_from : Order → List ℕ → List (List ℕ) → ℕ → List ℕ → Role → ℕ × ℕ → Option Segment
+segment_from order host libs slot name role at =
     let file = file_at host libs at.0 in
     let e = entry_at order file at.1 in
-    option_map (λ code. record { slot = slot; name = (entry_at order host slot).name; role = role; file = at.0; index = at.1; code = code; records = records_of order file e (is_linked role) }) (result_ok (code_of file e))
+    option_map (λ code. record { slot = slot; name = name; role = role; added = false; file = at.0; index = at.1; code = code; records = records_of order file e (is_linked role) }) (result_ok (code_of file e))
 
-abbrev pub segment_at : Order → List ℕ → List (List ℕ) → ℕ → Option Segment
-segment_at order host libs slot =
-    option_and_then (λ role. option_and_then (segment_from order host libs slot role) (source_of order host libs slot role)) (result_ok (role_of (entry_at order host slot)))
+-- the segment of the slot's own role, where it is not empty
+abbrev pub own_segment : Order → List ℕ → List (List ℕ) → ℕ → Option Segment
+own_segment order host libs slot =
+    option_and_then (λ role. option_and_then (segment_from order host libs slot (entry_at order host slot).name role) (source_of order host libs slot role)) (result_ok (role_of (entry_at order host slot)))
 
--- all of them, by slot
-unfoldable pub segments : Order → List ℕ → List (List ℕ) → List Segment
-segments order host libs = filter_map (segment_at order host libs) slots
+-- those of all slots, by slot
+unfoldable pub own_segments : Order → List ℕ → List (List ℕ) → List Segment
+own_segments order host libs = filter_map (own_segment order host libs) slots
 
 -- the host's own segment, and its records
 abbrev pub host_of : List Segment → Option Segment

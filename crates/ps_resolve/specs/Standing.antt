@@ -1,9 +1,9 @@
 -- Which faults stand, a clause for each number, step by step; their keys, and which is the first of all.
 -- Source: this project's profile.
-use Rattle.std.specs.Prelude.{map, sum_by, nat_lt, ◌==◌, ◌&&◌, ◌||◌, is_some, ◌≡◌, ◌≢◌, ◌⊎◌, ℕ, ◌+◌, ◌-◌, ◌*◌, ◌<◌, ◌≤◌, List, [], ◌∷◌, length, slice_get, slice_index, Bool, true, Option, Some, None, Ok, Err, unwrap_or}
+use Rattle.std.specs.Prelude.{map, sum_by, nat_lt, ◌==◌, ◌&&◌, ◌||◌, is_some, ◌≡◌, ◌≢◌, ◌⊎◌, ℕ, ◌+◌, ◌-◌, ◌*◌, ◌<◌, ◌≤◌, List, [], ◌∷◌, length, slice_get, slice_index, take, Bool, true, Option, Some, None, Ok, Err, unwrap_or}
 use Rattle.std.specs.List.{filter}
 use Rattle.std.specs.Option.{option_map_or}
-use Rattle.ps_codefile.specs.Dictionary.{Zero, Ordered, Mixed, file_order, entry_at, role_of, is_filled, code_of, information_of}
+use Rattle.ps_codefile.specs.Dictionary.{Zero, Ordered, Mixed, file_order, entry_at, role_of, is_filled, is_nameless, code_of, information_of}
 use Rattle.ps_codefile.specs.Procedures.{table_of, is_reserved, procedures, content_of, start_of, dictionary_len}
 use Rattle.ps_codefile.specs.declared.entry.Entry.{Entry}
 use Rattle.ps_codefile.specs.declared.entry.Role.{Role}
@@ -12,11 +12,13 @@ use Rattle.ps_linkinfo.specs.declared.record.Body.{Body}
 use Rattle.ps_linkinfo.specs.declared.record.Body.TheVariants.{UnitRef, PublRef, PrivRef, PublDef, ConstDef, Eof}
 use Rattle.ps_linkinfo.specs.declared.record.LinkRecord.{LinkRecord as Record}
 use Rattle.ps_resolve.specs.First.{Before}
-use Rattle.ps_resolve.specs.Sources.{Segment, segments, segment_at, host_of, host_records, is_linked, is_host, is_unit, source_of, file_at, order_of}
+use Rattle.ps_resolve.specs.Sources.{Segment, host_of, host_records, is_linked, is_host, source_of, unit_source, file_at, order_of}
+use Rattle.ps_resolve.specs.Added.{added, sought, empty_slots, segments, segment_at}
 use Rattle.ps_resolve.specs.Symbols.{def_in, definitions, definition_of}
 use Rattle.ps_resolve.specs.Privates.{words_in, owner_of, all_allotted, next_of, total_words}
 use Rattle.ps_resolve.specs.References.{words_taken}
 use Rattle.ps_resolve.specs.Linking.{grown_data_size}
+use Rattle.ps_resolve.specs.declared.added.UnitReference.{UnitReference}
 use Rattle.ps_resolve.specs.declared.allotment.Private.{Private}
 use Rattle.ps_resolve.specs.declared.definitions.Def.{Def}
 use Rattle.ps_resolve.specs.declared.definitions.DefKind.TheVariants.{Constant}
@@ -68,13 +70,14 @@ LibraryHas order lib reason.NoOrder = (512 ≤ length lib) × (file_order lib �
 LibraryHas order lib reason.OrderMismatch = (512 ≤ length lib) × (other : Order) × (file_order lib ≡ Ordered other) × (other ≢ order)
 LibraryHas order lib other = ⊥
 
--- the steps, each of which asks for the faults of one kind of place
+-- the steps, each of which asks for the faults of one kind of place; each unit that is added has a step of its own, its round
 pub data Step : Type 0 where
   OfHost : Step
   OfSlots : Step
   OfNoHost : Step
   OfLibraries : Step
   OfSources : Step
+  OfAdded : (k : ℕ) → Step
   OfDefinitions : Step
   OfPrivates : Step
   OfDataSize : Step
@@ -86,10 +89,11 @@ turn OfSlots = 2
 turn OfNoHost = 3
 turn OfLibraries = 4
 turn OfSources = 5
-turn OfDefinitions = 6
-turn OfPrivates = 7
-turn OfDataSize = 8
-turn OfReferences = 9
+turn (OfAdded k) = 6
+turn OfDefinitions = 7
+turn OfPrivates = 8
+turn OfDataSize = 9
+turn OfReferences = 10
 
 abbrev pub rank : Reason → ℕ
 rank reason.ShortFile = 1
@@ -103,36 +107,44 @@ rank reason.UnknownKind = 8
 rank reason.TwoHosts = 9
 rank reason.DoubledSegment = 10
 rank reason.MissingUnit = 11
-rank reason.DoubledUnit = 12
-rank (reason.NotAUnit kind) = 13
-rank reason.BadLength = 14
-rank reason.BadAddress = 15
-rank reason.Truncated = 16
-rank reason.BadProcDict = 17
-rank reason.NativeProcedure = 18
-rank reason.RecordsTruncated = 19
-rank reason.UnknownRecord = 20
-rank reason.NativeRecord = 21
-rank reason.SeparateRecord = 22
-rank reason.BadFormat = 23
-rank reason.DoubledDefinition = 24
-rank reason.DoubledPrivate = 25
-rank reason.NoRoom = 26
-rank reason.DataTooLarge = 27
-rank reason.MissingDefinition = 28
-rank reason.IllKind = 29
-rank reason.MissingUnitRef = 30
-rank reason.OutsideCode = 31
-rank reason.ReservedPlace = 32
-rank reason.Overlap = 33
-rank reason.OperandTooLarge = 34
+rank reason.NoSlot = 12
+rank reason.DoubledUnit = 13
+rank (reason.NotAUnit kind) = 14
+rank reason.BadLength = 15
+rank reason.BadAddress = 16
+rank reason.Truncated = 17
+rank reason.BadProcDict = 18
+rank reason.NativeProcedure = 19
+rank reason.RecordsTruncated = 20
+rank reason.UnknownRecord = 21
+rank reason.NativeRecord = 22
+rank reason.SeparateRecord = 23
+rank reason.BadFormat = 24
+rank reason.DoubledDefinition = 25
+rank reason.DoubledPrivate = 26
+rank reason.NoRoom = 27
+rank reason.DataTooLarge = 28
+rank reason.MissingDefinition = 29
+rank reason.IllKind = 30
+rank reason.MissingUnitRef = 31
+rank reason.OutsideCode = 32
+rank reason.ReservedPlace = 33
+rank reason.Overlap = 34
+rank reason.OperandTooLarge = 35
 
 abbrev pub part : Option ℕ → ℕ
 part None = 0
 part (Some n) = n + 1
 
--- step; slot, or the library; record; reference; rank
+-- the record that was read; a unit that is missing or has no slot is told with the record that asked for it
+abbrev pub record_read : Reason → Option ℕ → ℕ
+record_read reason.MissingUnit rec = 0
+record_read reason.NoSlot rec = 0
+record_read other rec = part rec
+
+-- step; slot, or the library, or the round; record; reference; rank
 abbrev pub key : Step → Fault → List ℕ
+key (OfAdded k) f = turn (OfAdded k) ∷ k ∷ record_read f.reason f.rec ∷ part f.reference ∷ rank f.reason ∷ []
 key step f = turn step ∷ unwrap_or f.slot f.file ∷ part f.rec ∷ part f.reference ∷ rank f.reason ∷ []
 
 abbrev pub Precedes : Step → Fault → Fault → Type 0
@@ -164,13 +176,19 @@ EntriesHave order name lib (reason.NotAUnit kind) =
     Lesser 16 (λ i. IsNamed order name lib i × ((j : ℕ) → j < 16 → IsNamed order name lib j → j ≡ i) × (kind ≡ (entry_at order lib i).kind) × (kind ≢ 3))
 EntriesHave order name lib other = ⊥
 
--- no library has an entry of the name, or the first that has one has too many, or of another kind
-abbrev pub UnitFault : Order → List ℕ → List (List ℕ) → ℕ → Fault → Type 0
-UnitFault order name libs slot f =
-    ((f ≡ in_slot 0 slot reason.MissingUnit) × (SomeItem libs (λ k lib. HasEntry order name lib) → ⊥))
-    ⊎ SomeItem libs (λ k lib.
+-- no library has an entry of the name
+abbrev pub NoneHas : Order → List ℕ → List (List ℕ) → Type 0
+NoneHas order name libs = SomeItem libs (λ k lib. HasEntry order name lib) → ⊥
+
+-- the first library that has an entry of the name has too many, or of another kind
+abbrev pub EntryFault : Order → List ℕ → List (List ℕ) → ℕ → Fault → Type 0
+EntryFault order name libs slot f =
+    SomeItem libs (λ k lib.
     (HasEntry order name lib × ((lesser : ℕ) (other : List ℕ) → lesser < k → slice_get libs lesser ≡ Some other → HasEntry order name other → ⊥))
     × Because (in_slot (k + 1) slot) (EntriesHave order name lib) f)
+
+abbrev pub UnitFault : Order → List ℕ → List (List ℕ) → ℕ → Fault → Type 0
+UnitFault order name libs slot f = ((f ≡ in_slot 0 slot reason.MissingUnit) × NoneHas order name libs) ⊎ EntryFault order name libs slot f
 
 -- the procedure tables of a code
 abbrev pub HasBadTable : Order → List ℕ → Type 0
@@ -205,6 +223,30 @@ InSources order host libs f =
     ⊎ ((at : ℕ × ℕ) × (source_of order host libs slot r ≡ Some at)
     × CodeFault order (file_at host libs at.0) at.0 (entry_at order (file_at host libs at.0) at.1) slot r f)))
 
+-- 6. a unit that only a unit names
+-- the name that is sought in round k, where the rounds before it had no fault: each of them added its segment
+abbrev pub IsSought : Order → List ℕ → List (List ℕ) → ℕ → UnitReference → Type 0
+IsSought order host libs k g = (k ≤ length (added order host libs)) × (slice_get (sought order host libs (take k (added order host libs))) k ≡ Some g)
+
+-- nothing has this name, or no library has an entry of it
+abbrev pub IsMissing : Order → List (List ℕ) → List ℕ → Type 0
+IsMissing order libs name = (is_nameless name ≡ true) ⊎ NoneHas order name libs
+
+-- what is wrong with the unit of a name in its slot: the library's entries, or its code
+abbrev pub PlacedFault : Order → List ℕ → List (List ℕ) → List ℕ → ℕ → Fault → Type 0
+PlacedFault order host libs name slot f =
+    EntryFault order name libs slot f
+    ⊎ ((at : ℕ × ℕ) × (unit_source order name libs ≡ Some at)
+    × CodeFault order (file_at host libs at.0) at.0 (entry_at order (file_at host libs at.0) at.1) slot role.Wanted f)
+
+-- the unit is missing, or no slot is left for it, or the slot's unit has a fault
+abbrev pub InRound : Order → List ℕ → List (List ℕ) → ℕ → Fault → Type 0
+InRound order host libs k f =
+    (g : UnitReference) × IsSought order host libs k g
+    × (((f ≡ in_record g.file g.slot g.rec reason.MissingUnit) × IsMissing order libs g.name)
+    ⊎ (((f ≡ in_record g.file g.slot g.rec reason.NoSlot) × (slice_get (empty_slots order host) k ≡ None))
+    ⊎ ((slot : ℕ) × (slice_get (empty_slots order host) k ≡ Some slot) × PlacedFault order host libs g.name slot f)))
+
 -- a segment of the linked file, in its slot
 abbrev pub IsSegment : Order → List ℕ → List (List ℕ) → Segment → Type 0
 IsSegment order host libs s = (s.slot < 16) × (segment_at order host libs s.slot ≡ Some s)
@@ -216,7 +258,7 @@ SomeSegment order host libs P = (s : Segment) × IsSegment order host libs s × 
 abbrev pub OfHostSegment : Order → List ℕ → List (List ℕ) → (Segment → Type 0) → Type 0
 OfHostSegment order host libs P = (s : Segment) × (host_of (segments order host libs) ≡ Some s) × P s
 
--- 6. a record of the host's segment
+-- 7. a record of the host's segment
 -- the record is of this kind, and a lesser one of this kind has its name
 abbrev pub IsAgain : (Body → Bool) → List Record → ℕ → Record → Type 0
 IsAgain test records rec r =
@@ -230,7 +272,7 @@ InDefinitions order host libs f =
     OfHostSegment order host libs (λ s. SomeItem s.records (λ rec r.
     (f ≡ in_record 0 s.slot rec reason.DoubledDefinition) × IsAgain is_definition s.records rec r))
 
--- 7. a PRIVREF
+-- 8. a PRIVREF
 abbrev pub is_private : Body → Bool
 is_private body = is_some (words_in body)
 
@@ -254,13 +296,13 @@ InPrivates order host libs f =
     SomeSegment order host libs (λ s. SomeItem s.records (λ rec r.
     Because (in_record s.file s.slot rec) (PrivateHas (segments order host libs) s rec r) f))
 
--- 8. the host's data size
+-- 9. the host's data size
 abbrev pub InDataSize : Order → List ℕ → List (List ℕ) → Fault → Type 0
 InDataSize order host libs f =
     OfHostSegment order host libs (λ s. (t : ℕ) × (table_of order s.code 1 ≡ Some t)
     × ((f ≡ in_slot 0 s.slot reason.DataTooLarge) × (65535 < grown_data_size order s.code (total_words (segments order host libs)) t)))
 
--- 9. a record, and its references
+-- 10. a record, and its references
 -- the name's definition is this one: the first that has the name
 abbrev pub Defines : List (List ℕ × Def) → List ℕ → Def → Type 0
 Defines ds name d =
@@ -269,7 +311,6 @@ Defines ds name d =
 abbrev pub RecordHas : List Segment → List ℕ → Body → Reason → Type 0
 RecordHas segs name (PublRef refs) reason.MissingDefinition = SomeItem (definitions (host_records segs)) (λ k d. d.0 ≡ name) → ⊥
 RecordHas segs name (PublRef refs) reason.IllKind = (d : Def) × Defines (definitions (host_records segs)) name d × (d.kind ≡ Constant)
-RecordHas segs name (UnitRef refs) reason.MissingUnitRef = SomeItem segs (λ k q. (is_unit q.role ≡ true) × (q.name ≡ name)) → ⊥
 RecordHas segs name body other = ⊥
 
 -- how many bytes an operand has
@@ -323,6 +364,7 @@ StandsIn OfSlots order host libs f = InSlots order host f
 StandsIn OfNoHost order host libs f = InNoHost order host f
 StandsIn OfLibraries order host libs f = InLibraries order libs f
 StandsIn OfSources order host libs f = InSources order host libs f
+StandsIn (OfAdded k) order host libs f = InRound order host libs k f
 StandsIn OfDefinitions order host libs f = InDefinitions order host libs f
 StandsIn OfPrivates order host libs f = InPrivates order host libs f
 StandsIn OfDataSize order host libs f = InDataSize order host libs f

@@ -1,10 +1,14 @@
 -- The segments that the files have, seen as the segments of the link, and what is known of them once the files were read without a fault.
 -- Source: this project's profile.
-use Rattle.std.specs.Prelude.{◌≡◌, ◌≤◌, if◌then◌else◌, [], length, true, None}
+use Rattle.std.specs.Prelude.{◌≡◌, ◌≤◌, ◌==◌, if◌then◌else◌, ℕ, List, [], length, Bool, true, None}
+use Rattle.std.specs.List.{find, filter_map}
+use Rattle.std.specs.Option.{option_or}
 use Rattle.ps_words.specs.declared.order.Order.{Order}
+use Rattle.ps_codefile.specs.Dictionary.{slots}
 use Rattle.ps_codefile.specs.Procedures.{tables_fault}
 use Rattle.ps_linkinfo.specs.Records.{reading}
-use Rattle.ps_resolve.specs.Sources.{Segment, is_linked, is_host}
+use Rattle.ps_resolve.specs.Sources.{Segment, is_linked, is_host, is_empty}
+use Rattle.ps_resolve.specs.Faults.{is_role}
 use Rattle.ps_resolve.specs.declared.segment.Segment.{Segment as SegmentView}
 
 abbrev pub segment_of : Order → SegmentView → Segment
@@ -12,11 +16,20 @@ segment_of order s = record {
   slot = s.slot;
   name = s.name;
   role = s.role;
+  added = s.added;
   file = s.file;
   index = s.index;
   code = s.code.now;
   records = if is_linked s.role then (reading order s.information.now).0 else [];
 }
+
+abbrev pub is_in_slot : ℕ → Segment → Bool
+is_in_slot slot s = s.slot == slot
+
+-- by slot, the own segment that stands there, or in an empty slot the added one
+abbrev pub in_slots : Order → List ℕ → List Segment → List Segment → List Segment
+in_slots order host own added =
+    filter_map (λ slot. option_or (find (is_in_slot slot) own) (if is_role is_empty order host slot then find (is_in_slot slot) added else None)) slots
 
 -- the length of the code is within its limits, and the procedure tables of a linked segment have no fault
 pub record IsSound (order : Order) (s : Segment) : Type 0 where

@@ -1,6 +1,7 @@
 //! What a link means: where each segment comes from, what its references become, which fault comes first, and the plan of edits that links it.
 #![tactic(auto)]
 
+mod added;
 mod allotment;
 mod data_size;
 mod definitions;
@@ -12,6 +13,7 @@ mod linking;
 mod names;
 mod places;
 mod plan;
+mod reading;
 mod references;
 mod resolving;
 mod roles;

@@ -23,7 +23,7 @@ use crate::linkage::{Linkage, Stop};
 use crate::names::Names;
 use crate::plan::{Plan, Source};
 use crate::roles::{is_host, is_linked};
-use crate::segment::Segment;
+use crate::segment::{Segment, linkage_of};
 use crate::segments::RecordStop;
 use crate::slots::HOST_FILE;
 use ps_codefile::Procs;
@@ -31,30 +31,6 @@ use ps_linkinfo::{Body, Records, walk_from_start};
 use ps_words::laws::edits_patch_alike_in_any_order;
 use ps_words::{Edit, Fault, Order};
 use std::alloc::Allocator;
-
-/// The bytes that a segment's records are read from; there are none where it is linked already.
-fn read_information<'a>(segment: &Segment<'a>) -> &'a [u8]
-    ensures { result.now ≡ (if is_linked_spec segment.now.role then segment.now.information.now else []) }
-{
-    if is_linked(segment.role) {
-        segment.information
-    } else {
-        &[]
-    }
-}
-
-/// The link information of a segment.
-fn linkage_of<'a>(order: Order, segment: &Segment<'a>) -> Linkage<'a>
-    ensures owner { owner_of_linkage result ≡ owner_of (segment_of order segment.now) }
-    ensures records { (reading result.order result.bytes.now).0 ≡ (segment_of order segment.now).records }
-{
-    Linkage {
-        file: segment.file,
-        slot: segment.slot,
-        order,
-        bytes: read_information(segment),
-    }
-}
 
 /// The link information of each segment.
 fn linkages_of<'a, A: Allocator + Copy>(
@@ -236,6 +212,7 @@ fn sources_of<'a, A: Allocator + Copy>(
             file: segment.file,
             index: segment.index,
             linked: is_linked(segment.role),
+            added: segment.added,
             code: segment.code,
         })?;
     }

@@ -27,7 +27,7 @@ impl<'k, 'a, A: Allocator + Copy> Model for Names<'k, 'a, A> {
 }
 
 /// The slot of the unit of this name.
-fn slot_of(segments: &[Segment], name: [u8; 8]) -> Option<u8>
+pub(crate) fn slot_of(segments: &[Segment], name: [u8; 8]) -> Option<u8>
     ensures { result ≡ lookup (bytes_eq name) (units_in segments.now) }
 {
     for segment in segments {

@@ -18,6 +18,8 @@ pub struct Source<'a> {
     pub index: u8,
     /// Its references are resolved; the code of a segment that is linked already is copied as it is.
     pub linked: bool,
+    /// It was added in an empty slot of the host, for a unit that only a UNITREF record names.
+    pub added: bool,
     /// The code, as the input has it.
     pub code: &'a [u8],
 }

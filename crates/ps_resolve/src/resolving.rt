@@ -1,17 +1,17 @@
 ghost use Rattle.std.specs.Prelude.{◌≡◌, map, IfOk, IfErr, None};
 ghost use Rattle.ps_resolve.specs.Plans.{IsPlan, IsStopped};
-ghost use Rattle.ps_resolve.specs.Faults.{first_fault};
+ghost use Rattle.ps_resolve.specs.AllFaults.{first_fault};
 
 use crate::linkage::Stop;
 use crate::linking::link_segments;
 use crate::plan::Plan;
-use crate::sources::read_segments;
+use crate::reading::read_segments;
 use std::alloc::Allocator;
 
 /// Plans the link of a host file with the libraries that have the units it wants, in their order.
 ///
 /// Refuses the first fault of all: of the host, its slots, the libraries, the sources of the slots,
-/// the host's definitions, the private variables, the host's data size and the references, each of
+/// the units that only UNITREF records name, the host's definitions, the private variables, the host's data size and the references, each of
 /// which is looked at only where none before it has a fault. Answers `Memory` only where the files
 /// can be read without a fault.
 ///

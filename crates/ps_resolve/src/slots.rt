@@ -1,9 +1,9 @@
 ghost use Rattle.std.specs.Prelude.{◌≡◌, ◌<◌, ◌≤◌, ◌&&◌, List, ℕ};
 ghost use Rattle.std.specs.List.{list_any, range_with_len};
 ghost use Rattle.std.specs.Str.{bytes_eq};
-ghost use Rattle.ps_words.specs.FaultPlaces.{in_file as in_file_spec, in_slot as in_slot_spec};
+ghost use Rattle.ps_words.specs.FaultPlaces.{in_file as in_file_spec, in_slot as in_slot_spec, in_record as in_record_spec};
 ghost use Rattle.ps_codefile.specs.Dictionary.{entry_at};
-ghost use Rattle.ps_resolve.specs.Sources.{is_host as is_host_role, is_unit as is_unit_role};
+ghost use Rattle.ps_resolve.specs.Sources.{is_host as is_host_role, is_unit as is_unit_role, is_empty as is_empty_role};
 ghost use Rattle.ps_resolve.specs.Faults.{is_role, slot_reason as slot_reason_spec, slots_fault as slots_fault_spec, no_host_fault as no_host_fault_spec};
 
 use ps_codefile::{Dict, Role};
@@ -39,6 +39,27 @@ pub(crate) fn in_slot(file: usize, slot: u8, reason: Reason) -> Fault
         rec: None,
         reference: None,
     }
+}
+
+/// A fault at a record of a slot's link information.
+pub(crate) fn in_record(file: usize, slot: u8, rec: usize, reason: Reason) -> Fault
+    ensures { result ≡ in_record_spec file slot rec reason }
+{
+    Fault {
+        reason,
+        file,
+        slot: Some(slot),
+        rec: Some(rec),
+        reference: None,
+    }
+}
+
+/// The slot has no segment of its own.
+pub(crate) fn is_empty(host: &Dict, slot: u8) -> bool
+    requires { slot < 16 }
+    ensures { result ≡ is_role is_empty_role host.now.order host.now.file slot }
+{
+    matches!(host.role(slot), Ok(Role::Empty))
 }
 
 /// The slot has the host's own segment.

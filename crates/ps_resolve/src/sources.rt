@@ -1,4 +1,4 @@
-ghost use Rattle.std.specs.Prelude.{◌≡◌, ◌<◌, ◌≤◌, ◌+◌, ◌++◌, List, ℕ, [], length, map, true, false, Some, None, Ok, IfOk, IfErr, IfSome, IsSome, All, if◌then◌else◌};
+ghost use Rattle.std.specs.Prelude.{◌≡◌, ◌<◌, ◌≤◌, ◌+◌, ◌++◌, List, ℕ, length, map, true, Some, None, Ok, IfOk, IfSome, All, if◌then◌else◌};
 ghost use Rattle.std.specs.Option.{option_map, option_or, option_to_list};
 ghost use Rattle.arrayvec.specs.ArrayVec.{array_vec_len};
 ghost use Rattle.std.specs.Result.{result_err};
@@ -6,15 +6,13 @@ ghost use Rattle.ps_words.specs.FaultPlaces.{in_record, in_slot as in_slot_spec}
 ghost use Rattle.ps_codefile.specs.Dictionary.{entry_at, role_of, is_linked_kind};
 ghost use Rattle.ps_codefile.specs.Procedures.{tables_fault as tables_fault_spec};
 ghost use Rattle.ps_linkinfo.specs.Records.{reading};
-ghost use Rattle.ps_resolve.specs.Sources.{is_linked as is_linked_spec, is_host as is_host_spec, file_at, segment_from, segment_at, segments, source_of, order_of, host_of};
-ghost use Rattle.ps_resolve.specs.Faults.{code_fault, slots_fault as slots_fault_spec, no_host_fault as no_host_fault_spec, libraries_fault as libraries_fault_spec, source_fault, sources_fault, reading_fault};
-ghost use Rattle.ps_resolve.specs.Linkable.{AscendFrom, HasOneHost};
+ghost use Rattle.ps_resolve.specs.Sources.{is_linked as is_linked_spec, is_host as is_host_spec, own_segment, own_segments, file_at, segment_from};
+ghost use Rattle.ps_resolve.specs.Faults.{code_fault, libraries_fault as libraries_fault_spec, source_fault, sources_fault};
 ghost use Rattle.ps_resolve.specs.Views.{segment_of, IsSound};
 
-use crate::libraries::libraries_fault;
 use crate::roles::{is_host, is_linked};
 use crate::segment::Segment;
-use crate::slots::{HOST_FILE, SLOTS, in_file, in_slot, no_host_fault, slots_fault};
+use crate::slots::{HOST_FILE, SLOTS, in_slot};
 use crate::units::unit_source;
 use arrayvec::ArrayVec;
 use ps_codefile::{Dict, Procs, Role};
@@ -27,6 +25,7 @@ impl<'a> Default for Segment<'a> {
             slot: 0,
             name: [0; 8],
             role: Role::Empty,
+            added: false,
             file: 0,
             index: 0,
             code: &[],
@@ -91,7 +90,7 @@ fn linked_fault(
 }
 
 /// The segment of a slot, whose code and link information are those of an entry of a file.
-fn read_segment<'a>(
+pub(crate) fn read_segment<'a>(
     slot: u8,
     name: [u8; 8],
     role: Role,
@@ -104,8 +103,8 @@ fn read_segment<'a>(
     requires kind { is_linked_spec role ≡ true → is_linked_kind (entry_at from.now.order from.now.file index).kind ≡ true }
     ensures fault { (host : List ℕ) (libs : List (List ℕ)) → file_at host libs file ≡ from.now.file
         → result_err result ≡ code_fault from.now.order host libs slot role (file, index) }
-    ensures segment { (host : List ℕ) (libs : List (List ℕ)) → file_at host libs file ≡ from.now.file → (entry_at from.now.order host slot).name ≡ name
-        → IfOk result (λ s. segment_from from.now.order host libs slot role (file, index) ≡ Some (segment_of from.now.order s)) }
+    ensures segment { (host : List ℕ) (libs : List (List ℕ)) → file_at host libs file ≡ from.now.file
+        → IfOk result (λ s. segment_from from.now.order host libs slot name role (file, index) ≡ Some (segment_of from.now.order s)) }
     ensures sound { IfOk result (λ s. IsSound from.now.order (segment_of from.now.order s)) }
 {
     match from.code(index) {
@@ -118,6 +117,7 @@ fn read_segment<'a>(
                     slot,
                     name,
                     role,
+                    added: false,
                     file,
                     index,
                     code,
@@ -139,7 +139,7 @@ fn read_role<'a>(
     requires role { role_of (entry_at host.now.order host.now.file slot) ≡ Ok role }
     requires libraries { libraries_fault_spec host.now.order (map (λ lib. lib.now) libs.now) ≡ None }
     ensures fault { result_err result ≡ source_fault host.now.order host.now.file (map (λ lib. lib.now) libs.now) slot }
-    ensures segment { IfOk result (λ s. option_map (segment_of host.now.order) s ≡ segment_at host.now.order host.now.file (map (λ lib. lib.now) libs.now) slot) }
+    ensures segment { IfOk result (λ s. option_map (segment_of host.now.order) s ≡ own_segment host.now.order host.now.file (map (λ lib. lib.now) libs.now) slot) }
     ensures sound { IfOk result (λ s. IfSome s (λ s. IsSound host.now.order (segment_of host.now.order s))) }
 {
     let name = host.entry(slot).name;
@@ -172,7 +172,7 @@ fn read_slot<'a>(
     requires slots { slot < 16 }
     requires libraries { libraries_fault_spec host.now.order (map (λ lib. lib.now) libs.now) ≡ None }
     ensures fault { result_err result ≡ source_fault host.now.order host.now.file (map (λ lib. lib.now) libs.now) slot }
-    ensures segment { IfOk result (λ s. option_map (segment_of host.now.order) s ≡ segment_at host.now.order host.now.file (map (λ lib. lib.now) libs.now) slot) }
+    ensures segment { IfOk result (λ s. option_map (segment_of host.now.order) s ≡ own_segment host.now.order host.now.file (map (λ lib. lib.now) libs.now) slot) }
     ensures sound { IfOk result (λ s. IfSome s (λ s. IsSound host.now.order (segment_of host.now.order s))) }
 {
     match host.role(slot) {
@@ -182,7 +182,7 @@ fn read_slot<'a>(
 }
 
 /// Adds the segment of a slot, where it has one.
-fn add<'a>(segments: &mut ArrayVec<Segment<'a>, 16>, segment: Option<Segment<'a>>)
+pub(crate) fn add<'a>(segments: &mut ArrayVec<Segment<'a>, 16>, segment: Option<Segment<'a>>)
     requires { array_vec_len segments.old < 16 }
     ensures { segments.new.items ≡ segments.old.items ++ option_to_list segment.entry }
 {
@@ -191,11 +191,11 @@ fn add<'a>(segments: &mut ArrayVec<Segment<'a>, 16>, segment: Option<Segment<'a>
     }
 }
 
-/// The segments by slot ascending, or the first fault of a slot's source.
-fn read_slots<'a>(host: &Dict<'a>, libs: &'a [&'a [u8]]) -> Result<ArrayVec<Segment<'a>, 16>, Fault>
+/// The segments of the host's own slots by slot ascending, or the first fault of a slot's source.
+pub(crate) fn read_slots<'a>(host: &Dict<'a>, libs: &'a [&'a [u8]]) -> Result<ArrayVec<Segment<'a>, 16>, Fault>
     requires { libraries_fault_spec host.now.order (map (λ lib. lib.now) libs.now) ≡ None }
     ensures fault { result_err result ≡ sources_fault host.now.order host.now.file (map (λ lib. lib.now) libs.now) }
-    ensures segments { IfOk result (λ s. map (segment_of host.now.order) s.items ≡ segments host.now.order host.now.file (map (λ lib. lib.now) libs.now)) }
+    ensures segments { IfOk result (λ s. map (segment_of host.now.order) s.items ≡ own_segments host.now.order host.now.file (map (λ lib. lib.now) libs.now)) }
     ensures sound { IfOk result (λ s. All (IsSound host.now.order) (map (segment_of host.now.order) s.items)) }
 {
     let mut segments = ArrayVec::new();
@@ -206,57 +206,4 @@ fn read_slots<'a>(host: &Dict<'a>, libs: &'a [&'a [u8]]) -> Result<ArrayVec<Segm
         }
     }
     Ok(segments)
-}
-
-/// The first fault of the slots of the host, of its want of a host segment, or of the libraries.
-fn files_fault(host: &Dict, libs: &[&[u8]]) -> Option<Fault>
-    ensures { result ≡ option_or (slots_fault_spec host.now.order host.now.file) (option_or (no_host_fault_spec host.now.order host.now.file) (libraries_fault_spec host.now.order (map (λ lib. lib.now) libs.now))) }
-{
-    if let Some(fault) = slots_fault(host) {
-        return Some(fault);
-    }
-    if let Some(fault) = no_host_fault(host) {
-        return Some(fault);
-    }
-    libraries_fault(host.order(), libs)
-}
-
-/// The segments of a host that is read in its own byte order, or the first fault behind that of its order.
-fn read_sources<'a>(
-    host: &Dict<'a>,
-    libs: &'a [&'a [u8]],
-) -> Result<ArrayVec<Segment<'a>, 16>, Fault>
-    ensures fault { result_err result ≡ option_or (slots_fault_spec host.now.order host.now.file) (option_or (no_host_fault_spec host.now.order host.now.file)
-        (option_or (libraries_fault_spec host.now.order (map (λ lib. lib.now) libs.now)) (sources_fault host.now.order host.now.file (map (λ lib. lib.now) libs.now)))) }
-    ensures segments { IfOk result (λ s. map (segment_of host.now.order) s.items ≡ segments host.now.order host.now.file (map (λ lib. lib.now) libs.now)) }
-    ensures sound { IfOk result (λ s. All (IsSound host.now.order) (map (segment_of host.now.order) s.items)) }
-{
-    match files_fault(host, libs) {
-        Some(fault) => Err(fault),
-        None => read_slots(host, libs),
-    }
-}
-
-/// The host's byte order and the segments of a link by slot ascending, or the first fault of reading the files.
-pub(crate) fn read_segments<'a>(
-    host: &'a [u8],
-    libs: &'a [&'a [u8]],
-) -> Result<(Order, ArrayVec<Segment<'a>, 16>), Fault>
-    ensures whole { IfOk result (λ _. 512 ≤ length host.now) }
-    ensures order { IfOk result (λ r. r.0 ≡ order_of host.now) }
-    ensures segments { IfOk result (λ r. map (segment_of r.0) r.1.items ≡ segments (order_of host.now) host.now (map (λ lib. lib.now) libs.now)) }
-    ensures sound { IfOk result (λ r. All (IsSound r.0) (map (segment_of r.0) r.1.items)) }
-    ensures ascending { IfOk result (λ r. AscendFrom 0 (map (λ s. s.slot) (map (segment_of r.0) r.1.items))) }
-    ensures host { IfOk result (λ r. IsSome (host_of (map (segment_of r.0) r.1.items))) }
-    ensures one_host { IfOk result (λ r. HasOneHost (map (segment_of r.0) r.1.items)) }
-    ensures faultless { IfOk result (λ _. reading_fault host.now (map (λ lib. lib.now) libs.now) ≡ None) }
-    ensures fault { IfErr result (λ f. reading_fault host.now (map (λ lib. lib.now) libs.now) ≡ Some f) }
-{
-    match Dict::read(host) {
-        Err(reason) => Err(in_file(HOST_FILE, reason)),
-        Ok(dict) => match read_sources(&dict, libs) {
-            Err(fault) => Err(fault),
-            Ok(segments) => Ok((dict.order(), segments)),
-        },
-    }
 }

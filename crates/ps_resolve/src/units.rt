@@ -85,7 +85,7 @@ fn entry_in<'a>(order: Order, name: [u8; 8], lib: &'a [u8]) -> Option<(Dict<'a>,
 }
 
 /// The first entry of this name of the first library that has one.
-fn chosen_library<'a>(order: Order, name: [u8; 8], libs: &'a [&'a [u8]]) -> Option<UnitSource<'a>>
+pub(crate) fn chosen_library<'a>(order: Order, name: [u8; 8], libs: &'a [&'a [u8]]) -> Option<UnitSource<'a>>
     requires { libraries_fault order (map (λ lib. lib.now) libs.now) ≡ None }
     ensures library { option_map (λ u. (u.library, u.dict.file)) result ≡ chosen_library_spec order name (map (λ lib. lib.now) libs.now) }
     ensures entry { IfSome result (λ u. find (is_named_spec order name u.dict.file) slots ≡ Some u.index) }
@@ -106,7 +106,7 @@ fn chosen_library<'a>(order: Order, name: [u8; 8], libs: &'a [&'a [u8]]) -> Opti
 }
 
 /// Why the library's first entry of this name is not taken: another has the name too, or its kind is not that of a unit.
-fn entries_reason(dict: &Dict, name: [u8; 8], index: u8) -> Option<Reason>
+pub(crate) fn entries_reason(dict: &Dict, name: [u8; 8], index: u8) -> Option<Reason>
     requires entry { find (is_named_spec dict.now.order name dict.now.file) slots ≡ Some index }
     requires in_range { index < 16 }
     ensures { result ≡ entries_reason_spec dict.now.order name dict.now.file }

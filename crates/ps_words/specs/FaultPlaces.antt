@@ -17,6 +17,10 @@ in_record file slot rec why = record { reason = why; file = file; slot = Some sl
 abbrev pub in_reference : ℕ → ℕ → ℕ → ℕ → Reason → Fault
 in_reference file slot rec reference why = record { reason = why; file = file; slot = Some slot; rec = Some rec; reference = Some reference }
 
+-- the unit that is missing is one that a UNITREF record asks for, and not one that a slot wants
+abbrev pub is_asked : Fault → Bool
+is_asked f = is_some f.rec && number_of f.reason == 13
+
 -- which numbers of faults are told with a slot, with a record of it, and with a reference of that
 abbrev pub has_slot : ℕ → Bool
 has_slot number = nat_le 5 number
@@ -25,7 +29,7 @@ abbrev pub has_record : ℕ → Bool
 has_record number = nat_le 19 number && not (number == 27)
 
 abbrev pub has_reference : ℕ → Bool
-has_reference number = nat_le 31 number
+has_reference number = nat_le 31 number && nat_le number 34
 
 -- which are faults of the host's file, and which are faults of a library
 abbrev pub is_of_host : ℕ → Bool
@@ -34,10 +38,10 @@ is_of_host number = nat_le 4 number && nat_le number 10 || number == 13 || numbe
 abbrev pub is_of_library : ℕ → Bool
 is_of_library number = number == 3 || number == 14 || number == 15
 
--- a fault has just the parts that its number is told with
+-- a fault has just the parts that its number is told with; one of a unit that a UNITREF asks for has that record and its file
 pub record HasItsParts (f : Fault) : Type 0 where
   pub slot : is_some f.slot ≡ has_slot (number_of f.reason)
-  pub rec : is_some f.rec ≡ has_record (number_of f.reason)
+  pub rec : is_some f.rec ≡ (is_asked f || has_record (number_of f.reason))
   pub reference : is_some f.reference ≡ has_reference (number_of f.reason)
-  pub of_host : is_of_host (number_of f.reason) ≡ true → f.file ≡ 0
+  pub of_host : (not (is_asked f) && is_of_host (number_of f.reason)) ≡ true → f.file ≡ 0
   pub of_library : is_of_library (number_of f.reason) ≡ true → 1 ≤ f.file

@@ -41,6 +41,7 @@ number_of reason.OutsideCode = 31
 number_of reason.ReservedPlace = 32
 number_of reason.Overlap = 33
 number_of reason.OperandTooLarge = 34
+number_of reason.NoSlot = 35
 
 -- the name of a reason
 abbrev pub name_of : Reason → List ℕ
@@ -78,6 +79,7 @@ name_of reason.OutsideCode = codes "OutsideCode"
 name_of reason.ReservedPlace = codes "ReservedPlace"
 name_of reason.Overlap = codes "Overlap"
 name_of reason.OperandTooLarge = codes "OperandTooLarge"
+name_of reason.NoSlot = codes "NoSlot"
 
 -- the kind word that a reason carries
 abbrev pub kind_of : Reason → Option ℕ

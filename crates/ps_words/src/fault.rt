@@ -3,7 +3,7 @@ ghost use Rattle.ps_words.specs.FaultText.{fault_text, kind_of, name_of, number_
 
 use std::fmt;
 
-/// Why files are refused: each reason has a number, 1 to 34, and a name, that of its variant.
+/// Why files are refused: each reason has a number, 1 to 35, and a name, that of its variant.
 ///
 /// The reason's text is its name.
 /// Source: this project's profile.
@@ -34,7 +34,8 @@ pub enum Reason {
     BadLength,
     /// 12: the code's address is block 0, where the segment dictionary stands.
     BadAddress,
-    /// 13: no library has an entry, with code, of the name of a unit that is wanted.
+    /// 13: no library has an entry, with code, of the name of a unit that a slot of the host wants
+    /// or a UNITREF record asks for, or the record's name is no name.
     MissingUnit,
     /// 14: the library's entry of a wanted unit's name is no unit.
     NotAUnit {
@@ -72,7 +73,7 @@ pub enum Reason {
     MissingDefinition,
     /// 29: a public reference's definition is a constant.
     IllKind,
-    /// 30: a unit reference's name is that of no unit of the host file.
+    /// 30: no longer answered: a unit that no slot of the host has is sought in the libraries.
     MissingUnitRef,
     /// 31: an operand does not lie inside the code.
     OutsideCode,
@@ -82,10 +83,12 @@ pub enum Reason {
     Overlap,
     /// 34: an operand's displacement plus the value is above 32767.
     OperandTooLarge,
+    /// 35: no empty slot from 7 to 15 is left for a unit that a UNITREF record asks for.
+    NoSlot,
 }
 
 impl Reason {
-    /// The reason's number, 1 to 34.
+    /// The reason's number, 1 to 35.
     pub fn number(self) -> u8
         ensures { result ≡ number_of self }
     {
@@ -124,6 +127,7 @@ impl Reason {
             Reason::ReservedPlace => 32,
             Reason::Overlap => 33,
             Reason::OperandTooLarge => 34,
+            Reason::NoSlot => 35,
         }
     }
 
@@ -166,6 +170,7 @@ impl Reason {
             Reason::ReservedPlace => "ReservedPlace",
             Reason::Overlap => "Overlap",
             Reason::OperandTooLarge => "OperandTooLarge",
+            Reason::NoSlot => "NoSlot",
         }
     }
 }

@@ -1,6 +1,7 @@
 use Rattle.std.proofs.Common.{refl}
-use Rattle.ps_resolve.specs.Sources.{segments}
-use Rattle.ps_resolve.specs.Faults.{first_fault, reading_fault, slots_fault, no_host_fault, libraries_fault, sources_fault, linking_fault, definitions_fault, privates_fault, data_fault, references_fault}
+use Rattle.ps_resolve.specs.Added.{segments}
+use Rattle.ps_resolve.specs.Faults.{slots_fault, no_host_fault, libraries_fault, sources_fault, linking_fault, definitions_fault, privates_fault, data_fault, references_fault}
+use Rattle.ps_resolve.specs.AllFaults.{first_fault, reading_fault}
 use Rattle.ps_examples.proofs.refused_types.faults_of_types.Goals as goal
 
 pub returns : goal.returns

@@ -1,6 +1,6 @@
 use Rattle.std.proofs.Common.{◌∙◌, refl, sym, arith}
 use Rattle.std.proofs.lemmas.List.Elements.{All-nil}
-use Rattle.ps_resolve.specs.Sources.{segment_at, segments}
+use Rattle.ps_resolve.specs.Added.{segment_at, segments}
 use Rattle.ps_resolve.specs.Faults.{source_fault, sources_fault}
 use Rattle.ps_resolve.specs.Views.{segment_of, IsSound}
 use Rattle.ps_resolve.proofs.ReadingLibraries.{files}

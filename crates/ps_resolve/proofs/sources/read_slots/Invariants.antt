@@ -2,7 +2,7 @@ use Rattle.std.proofs.Common.{◌≡◌, ◌≤◌, ◌-◌, ◌++◌, length, m
 use Rattle.std.specs.Prelude.{All}
 use Rattle.std.specs.List.{filter_map, range_with_len}
 use Rattle.ps_resolve.specs.Searches.{first_of}
-use Rattle.ps_resolve.specs.Sources.{segment_at, segments}
+use Rattle.ps_resolve.specs.Added.{segment_at, segments}
 use Rattle.ps_resolve.specs.Faults.{source_fault, sources_fault}
 use Rattle.ps_resolve.specs.Views.{segment_of, IsSound}
 use Rattle.ps_resolve.proofs.ReadingLibraries.{files}

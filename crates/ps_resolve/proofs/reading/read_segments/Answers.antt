@@ -2,14 +2,14 @@ use Rattle.std.proofs.Common.{◌≡◌, ◌∙◌, List, ℕ, Some, None, sym, 
 use Rattle.ps_words.specs.declared.order.Order.{Order}
 use Rattle.ps_words.specs.declared.fault.Fault.{Fault}
 use Rattle.ps_codefile.specs.Dictionary.{Opened}
-use Rattle.ps_resolve.specs.Sources.{segments}
+use Rattle.ps_resolve.specs.Added.{segments}
 use Rattle.ps_resolve.proofs.ReadingLibraries.{files}
 use Rattle.std.specs.Option.{option_or}
 use Rattle.ps_resolve.specs.Faults.{slots_fault, no_host_fault, libraries_fault, sources_fault}
 use Rattle.ps_resolve.proofs.ReadingRows.{neither_first, neither_second}
 use Rattle.ps_resolve.proofs.ReadingHosts.{host_refused, host_whole, host_is, host_read, rest_of}
 use Rattle.ps_resolve.proofs.ReadingKnown.{ascend, host_there, one_host}
-use Rattle.ps_resolve.proofs.sources.read_segments.Goals as goal
+use Rattle.ps_resolve.proofs.reading.read_segments.Goals as goal
 
 pub returns-in-Err-clause-fault : goal.returns-in-Err-clause-fault
 returns-in-Err-clause-fault c =

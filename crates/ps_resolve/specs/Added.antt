@@ -1,0 +1,129 @@
+-- Units that only a unit names: which names are sought in the libraries, which empty slot each takes, the segments that are added so, and then all segments of a link.
+-- Source: this project's profile.
+use Rattle.std.specs.Prelude.{ℕ, ◌+◌, ◌==◌, ◌||◌, if◌then◌else◌, List, [], ◌∷◌, ◌++◌, slice_get, take, Bool, true, false, Option, Some, None, is_some, is_none}
+use Rattle.std.specs.List.{range_with_len, list_any, filter, filter_map, flat_map, find}
+use Rattle.std.specs.Map.{lookup}
+use Rattle.std.specs.Option.{option_map, option_or, option_and_then}
+use Rattle.std.specs.Str.{bytes_eq}
+use Rattle.ps_words.specs.FaultPlaces.{in_record}
+use Rattle.ps_words.specs.declared.order.Order.{Order}
+use Rattle.ps_words.specs.declared.fault.Reason.TheVariants as reason
+use Rattle.ps_words.specs.declared.fault.Fault.{Fault}
+use Rattle.ps_codefile.specs.Dictionary.{slots, is_nameless}
+use Rattle.ps_codefile.specs.declared.entry.Role.TheVariants.{Wanted}
+use Rattle.ps_linkinfo.specs.declared.record.Body.{Body}
+use Rattle.ps_linkinfo.specs.declared.record.Body.TheVariants.{UnitRef, PublRef, PrivRef, PublDef, ConstDef, Eof}
+use Rattle.ps_linkinfo.specs.declared.record.LinkRecord.{LinkRecord as Record}
+use Rattle.ps_resolve.specs.Sources.{Segment, own_segment, own_segments, segment_from, unit_source, chosen_library, units_of, is_empty}
+use Rattle.ps_resolve.specs.Faults.{is_role, entry_fault, code_fault}
+use Rattle.ps_resolve.specs.declared.added.UnitReference.{UnitReference}
+
+abbrev pub is_unit_reference : Body → Bool
+is_unit_reference (UnitRef refs) = true
+is_unit_reference (PublRef refs) = false
+is_unit_reference (PrivRef words refs) = false
+is_unit_reference (PublDef value) = false
+is_unit_reference (ConstDef value) = false
+is_unit_reference (Eof next) = false
+
+-- the UNITREF records of a segment from this file in this slot, the first of whose records has number `rec`
+abbrev pub unit_references : ℕ → ℕ → ℕ → List Record → List UnitReference
+unit_references file slot rec [] = []
+unit_references file slot rec (r ∷ rs) =
+    if is_unit_reference r.body
+    then record { name = r.name; file = file; slot = slot; rec = rec } ∷ unit_references file slot (rec + 1) rs
+    else unit_references file slot (rec + 1) rs
+
+-- those of all these segments, one segment after another
+abbrev pub references_in : List Segment → List UnitReference
+references_in segs = flat_map (λ s. unit_references s.file s.slot 0 s.records) segs
+
+-- a unit in a slot of the host has the name, or it is in the row of those that are sought
+abbrev pub is_had : List (List ℕ × ℕ) → List UnitReference → List ℕ → Bool
+is_had units row name = is_some (lookup (bytes_eq name) units) || list_any (λ g. bytes_eq g.name name) row
+
+-- The row of the names that are sought, each with the record that first gave it: behind those of `row`, each name of the references that no unit has and that is not in the row yet.
+abbrev pub sought_from : List (List ℕ × ℕ) → List UnitReference → List UnitReference → List UnitReference
+sought_from units row [] = row
+sought_from units row (g ∷ gs) = sought_from units (if is_had units row g.name then row else row ++ g ∷ []) gs
+
+-- the slots that units may be added in, ascending
+unfoldable pub empty_slots : Order → List ℕ → List ℕ
+empty_slots order host = filter (is_role is_empty order host) (range_with_len 7 9)
+
+-- nothing has this name, or no library has a filled entry of it
+abbrev pub is_missing : Order → List (List ℕ) → List ℕ → Bool
+is_missing order libs name = is_nameless name || is_none (chosen_library order name libs)
+
+-- the fault of a name for which no slot is left
+abbrev pub unplaced_fault : Order → List (List ℕ) → UnitReference → Fault
+unplaced_fault order libs g = in_record g.file g.slot g.rec (if is_missing order libs g.name then reason.MissingUnit else reason.NoSlot)
+
+-- the first fault of a name that takes this slot: of the name, of the library's entries, then of the code, its tables and its records
+abbrev pub placed_fault : Order → List ℕ → List (List ℕ) → UnitReference → ℕ → Option Fault
+placed_fault order host libs g slot =
+    if is_missing order libs g.name then Some (in_record g.file g.slot g.rec reason.MissingUnit)
+    else option_or (entry_fault order g.name libs slot) (option_and_then (code_fault order host libs slot Wanted) (unit_source order g.name libs))
+
+abbrev pub as_added : Segment → Segment
+as_added s = record s { added = true }
+
+-- the segment that the name brings into this slot
+abbrev pub added_segment : Order → List ℕ → List (List ℕ) → UnitReference → ℕ → Option Segment
+added_segment order host libs g slot = option_map as_added (option_and_then (segment_from order host libs slot g.name Wanted) (unit_source order g.name libs))
+
+-- what the rounds from one on come to: the segments that they add, and the fault that ends them
+pub record Rounds : Type 0 where
+  pub added : List Segment
+  pub fault : Option Fault
+
+abbrev pub after : Segment → Rounds → Rounds
+after s rounds = record { added = s ∷ rounds.added; fault = rounds.fault }
+
+-- The rounds from round k on, with the slots that are left: the k-th name of the row takes the next slot, and the names that its unit seeks stand behind the row.
+-- They end where no name is left, or with the first fault.
+abbrev pub rounds_from : Order → List ℕ → List (List ℕ) → List (List ℕ × ℕ) → List ℕ → ℕ → List UnitReference → Rounds
+rounds_from order host libs units [] k row = record { added = []; fault = option_map (unplaced_fault order libs) (slice_get row k) }
+rounds_from order host libs units (slot ∷ left) k row =
+    elim (slice_get row k) [
+      | None ↦ record { added = []; fault = None }
+      | Some g ↦ elim (placed_fault order host libs g slot) [
+          | Some fault ↦ record { added = []; fault = Some fault }
+          | None ↦ elim (added_segment order host libs g slot) [
+              | None ↦ record { added = []; fault = None }
+              | Some s ↦ after s (rounds_from order host libs units left (k + 1) (sought_from units row (unit_references s.file s.slot 0 s.records)))
+            ]
+        ]
+    ]
+
+-- the names that are sought by the host's own segments and then by these
+unfoldable pub sought : Order → List ℕ → List (List ℕ) → List Segment → List UnitReference
+sought order host libs others =
+    let own = own_segments order host libs in sought_from (units_of own) [] (references_in (own ++ others))
+
+-- the rounds of a host whose own segments are these
+abbrev pub rounds_of : Order → List ℕ → List (List ℕ) → List Segment → Rounds
+rounds_of order host libs own = rounds_from order host libs (units_of own) (empty_slots order host) 0 (sought_from (units_of own) [] (references_in own))
+
+unfoldable pub rounds : Order → List ℕ → List (List ℕ) → Rounds
+rounds order host libs = rounds_of order host libs (own_segments order host libs)
+
+-- the segments that are added, in the order of their rounds and so of their slots
+abbrev pub added : Order → List ℕ → List (List ℕ) → List Segment
+added order host libs = (rounds order host libs).added
+
+-- the first fault of the rounds
+abbrev pub added_fault : Order → List ℕ → List (List ℕ) → Option Fault
+added_fault order host libs = (rounds order host libs).fault
+
+-- the segment that was added in an empty slot
+abbrev pub added_at : Order → List ℕ → List (List ℕ) → ℕ → Option Segment
+added_at order host libs slot = if is_role is_empty order host slot then find (λ s. s.slot == slot) (added order host libs) else None
+
+-- the slot's own segment, or the one that was added there
+abbrev pub segment_at : Order → List ℕ → List (List ℕ) → ℕ → Option Segment
+segment_at order host libs slot = option_or (own_segment order host libs slot) (added_at order host libs slot)
+
+-- all segments of a link, by slot
+unfoldable pub segments : Order → List ℕ → List (List ℕ) → List Segment
+segments order host libs = filter_map (segment_at order host libs) slots

@@ -1,0 +1,242 @@
+ghost use Rattle.std.specs.Prelude.{◌≡◌, ◌<◌, ◌≤◌, ◌+◌, ◌∷◌, [], List, ℕ, All, length, map, take, true, None, Some, IfOk, IfSome, is_none, slice_get};
+ghost use Rattle.std.specs.List.{find};
+ghost use Rattle.std.specs.Option.{option_map};
+ghost use Rattle.std.specs.Result.{result_err};
+ghost use Rattle.ps_codefile.specs.Dictionary.{slots, is_nameless as is_nameless_spec};
+ghost use Rattle.ps_resolve.specs.Sources.{is_named, chosen_library as chosen_library_spec};
+ghost use Rattle.ps_resolve.specs.Added.{unit_references, references_in, is_had as is_had_spec, is_missing, sought_from, empty_slots as empty_slots_spec, unplaced_fault, placed_fault, added_segment, rounds_of};
+ghost use Rattle.ps_resolve.specs.Faults.{libraries_fault};
+ghost use Rattle.ps_resolve.specs.Names.{units_in};
+ghost use Rattle.ps_resolve.specs.Views.{segment_of, IsSound};
+
+use crate::names::slot_of;
+use crate::segment::{Segment, linkage_of};
+use crate::slots::{SLOTS, in_record, in_slot, is_empty};
+use crate::sources::read_segment;
+use crate::units::{UnitSource, chosen_library, entries_reason};
+use arrayvec::ArrayVec;
+use ps_codefile::{Dict, Role, is_nameless};
+use ps_linkinfo::{Body, LinkRecord, Records, walk_from_start};
+use ps_words::{Fault, Order, Reason};
+
+/// The first slot that a unit may be added in.
+const FIRST_ADDED: u8 = 7;
+
+/// How many units may be added: one in each slot from the first on.
+const MAX_ADDED: usize = 9;
+
+/// How many names are kept: those that may have a slot, and the first that has none.
+const MAX_SOUGHT: usize = 10;
+
+/// A UNITREF record: the name that it asks for, and where it stands.
+#[derive(Clone, Copy)]
+pub(crate) struct UnitReference {
+    /// The name of a unit.
+    pub(crate) name: [u8; 8],
+    /// The file that the record's segment comes from: 0 for the host, k for the k-th library.
+    pub(crate) file: usize,
+    /// The slot of the record's segment, 0 to 15.
+    pub(crate) slot: u8,
+    /// The index of the record in its segment's link information, from 0.
+    pub(crate) rec: usize,
+}
+
+impl Default for UnitReference {
+    fn default() -> Self {
+        UnitReference {
+            name: [0; 8],
+            file: 0,
+            slot: 0,
+            rec: 0,
+        }
+    }
+}
+
+/// The empty slots that a unit may be added in, ascending.
+fn empty_slots(host: &Dict) -> ArrayVec<u8, 9>
+    ensures slots { result.items ≡ empty_slots_spec host.now.order host.now.file }
+    ensures in_range { All (λ slot. slot < 16) result.items }
+    ensures few { length result.items ≤ 9 }
+{
+    let mut slots: ArrayVec<u8, MAX_ADDED> = ArrayVec::new();
+    for slot in FIRST_ADDED..SLOTS {
+        if is_empty(host, slot) {
+            slots.push(slot);
+        }
+    }
+    slots
+}
+
+/// A unit of the host has the name, or it is in the row.
+fn is_had(own: &[Segment], row: &ArrayVec<UnitReference, 10>, name: [u8; 8]) -> bool
+    ensures { result ≡ is_had_spec (units_in own.now) row.now.items name }
+{
+    slot_of(own, name).is_some() || row.iter().any(|sought| sought.name == name)
+}
+
+/// Adds the reference behind the row, where its name is not had; a full row stays as it is.
+fn seek(own: &[Segment], row: &mut ArrayVec<UnitReference, 10>, reference: UnitReference)
+    ensures { row.new.items ≡ take 10 (sought_from (units_in own.now) row.old.items (reference ∷ [])) }
+{
+    if !row.is_full() && !is_had(own, row, reference.name) {
+        row.push(reference);
+    }
+}
+
+/// Adds the record of a segment behind the row, where it seeks a name that is not had.
+fn seek_record(
+    own: &[Segment],
+    row: &mut ArrayVec<UnitReference, 10>,
+    segment: &Segment,
+    rec: usize,
+    entry: &LinkRecord,
+)
+    ensures { row.new.items ≡ take 10 (sought_from (units_in own.now) row.old.items (unit_references segment.now.file segment.now.slot rec (entry.now ∷ []))) }
+{
+    match &entry.body {
+        Body::UnitRef(_) => seek(own, row, UnitReference {
+            name: entry.name,
+            file: segment.file,
+            slot: segment.slot,
+            rec,
+        }),
+        Body::PublRef(_)
+        | Body::PrivRef { .. }
+        | Body::PublDef(_)
+        | Body::ConstDef(_)
+        | Body::Eof(_) => {}
+    }
+}
+
+/// Adds the names that the records of a segment seek behind the row.
+fn seek_records(
+    order: Order,
+    own: &[Segment],
+    row: &mut ArrayVec<UnitReference, 10>,
+    segment: &Segment,
+)
+    ensures { row.new.items ≡ take 10 (sought_from (units_in own.now) row.old.items (unit_references segment.now.file segment.now.slot 0 (segment_of order segment.now).records)) }
+{
+    walk_from_start();
+    let mut rec = 0;
+    let linkage = linkage_of(order, segment);
+    for item in Records::new(linkage.order, linkage.bytes) {
+        if let Ok(entry) = item {
+            seek_record(own, row, segment, rec, &entry);
+            rec += 1;
+        }
+    }
+}
+
+/// The names that the host's own segments seek.
+fn sought_by(order: Order, own: &[Segment]) -> ArrayVec<UnitReference, 10>
+    ensures { result.items ≡ take 10 (sought_from (units_in own.now) [] (references_in (map (segment_of order) own.now))) }
+{
+    let mut row: ArrayVec<UnitReference, MAX_SOUGHT> = ArrayVec::new();
+    for segment in own {
+        seek_records(order, own, &mut row, segment);
+    }
+    row
+}
+
+/// The first library with a filled entry of this name, and the first such entry there.
+fn unit_named<'a>(order: Order, name: [u8; 8], libs: &'a [&'a [u8]]) -> Option<UnitSource<'a>>
+    requires { libraries_fault order (map (λ lib. lib.now) libs.now) ≡ None }
+    ensures missing { is_none result ≡ is_missing order (map (λ lib. lib.now) libs.now) name }
+    ensures library { IfSome result (λ u. chosen_library_spec order name (map (λ lib. lib.now) libs.now) ≡ Some (u.library, u.dict.file)) }
+    ensures entry { IfSome result (λ u. find (is_named order name u.dict.file) slots ≡ Some u.index) }
+    ensures order { IfSome result (λ u. u.dict.order ≡ order) }
+    ensures in_range { IfSome result (λ u. u.index < 16) }
+    ensures number { IfSome result (λ u. u.library < length libs.now) }
+{
+    if is_nameless(&name) {
+        return None;
+    }
+    chosen_library(order, name, libs)
+}
+
+/// The fault of a name for which no slot is left.
+fn no_slot(order: Order, libs: &[&[u8]], sought: &UnitReference) -> Fault
+    requires { libraries_fault order (map (λ lib. lib.now) libs.now) ≡ None }
+    ensures { result ≡ unplaced_fault order (map (λ lib. lib.now) libs.now) sought.now }
+{
+    let reason = match unit_named(order, sought.name, libs) {
+        None => Reason::MissingUnit,
+        Some(_) => Reason::NoSlot,
+    };
+    in_record(sought.file, sought.slot, sought.rec, reason)
+}
+
+/// The segment that a name brings into a slot, or the first fault of its unit.
+fn read_added<'a>(
+    order: Order,
+    libs: &'a [&'a [u8]],
+    sought: &UnitReference,
+    slot: u8,
+) -> Result<Segment<'a>, Fault>
+    requires slots { slot < 16 }
+    requires libraries { libraries_fault order (map (λ lib. lib.now) libs.now) ≡ None }
+    ensures fault { (host : List ℕ) → result_err result ≡ placed_fault order host (map (λ lib. lib.now) libs.now) sought.now slot }
+    ensures segment { (host : List ℕ) → IfOk result (λ s. added_segment order host (map (λ lib. lib.now) libs.now) sought.now slot ≡ Some (segment_of order s)) }
+    ensures sound { IfOk result (λ s. IsSound order (segment_of order s)) }
+{
+    match unit_named(order, sought.name, libs) {
+        None => Err(in_record(sought.file, sought.slot, sought.rec, Reason::MissingUnit)),
+        Some(unit) => match entries_reason(&unit.dict, sought.name, unit.index) {
+            Some(reason) => Err(in_slot(unit.library + 1, slot, reason)),
+            None => {
+                match read_segment(slot, sought.name, Role::Wanted, &unit.dict, unit.library + 1, unit.index) {
+                    Err(fault) => Err(fault),
+                    Ok(segment) => Ok(Segment {
+                        added: true,
+                        ..segment
+                    }),
+                }
+            }
+        },
+    }
+}
+
+/// The k-th name of the row, from 0, where there is one.
+fn sought_at(row: &ArrayVec<UnitReference, 10>, k: usize) -> Option<UnitReference>
+    ensures { result ≡ slice_get row.now.items k }
+{
+    row.get(k).copied()
+}
+
+/// The segments that are added to a host's own, in the order of their slots, or the first fault of them.
+///
+/// The names that UNITREF records of linked segments seek, and that no unit of the host has, take the
+/// empty slots from 7 to 15 in turn, each with the first library's unit of that name; the names that
+/// such a unit seeks stand behind.
+pub(crate) fn add_units<'a>(
+    host: &Dict<'a>,
+    libs: &'a [&'a [u8]],
+    own: &[Segment<'a>],
+) -> Result<ArrayVec<Segment<'a>, 9>, Fault>
+    requires { libraries_fault host.now.order (map (λ lib. lib.now) libs.now) ≡ None }
+    ensures fault { result_err result ≡ (rounds_of host.now.order host.now.file (map (λ lib. lib.now) libs.now) (map (segment_of host.now.order) own.now)).fault }
+    ensures added { IfOk result (λ added. map (segment_of host.now.order) added.items ≡ (rounds_of host.now.order host.now.file (map (λ lib. lib.now) libs.now) (map (segment_of host.now.order) own.now)).added) }
+    ensures sound { IfOk result (λ added. All (IsSound host.now.order) (map (segment_of host.now.order) added.items)) }
+{
+    let order = host.order();
+    let mut row = sought_by(order, own);
+    let mut added: ArrayVec<Segment<'a>, MAX_ADDED> = ArrayVec::new();
+    let slots = empty_slots(host);
+    for slot in slots.as_slice() {
+        match sought_at(&row, added.len()) {
+            None => return Ok(added),
+            Some(sought) => match read_added(order, libs, &sought, *slot) {
+                Err(fault) => return Err(fault),
+                Ok(segment) => {
+                    seek_records(order, own, &mut row, &segment);
+                    added.push(segment);
+                }
+            },
+        }
+    }
+    match sought_at(&row, added.len()) {
+        None => Ok(added),
+        Some(sought) => Err(no_slot(order, libs, &sought)),
+    }
+}

@@ -1,0 +1,142 @@
+ghost use Rattle.std.specs.Prelude.{◌≡◌, ◌<◌, ◌≤◌, length, map, Some, None, IfOk, IfErr, IsSome, All, if◌then◌else◌};
+ghost use Rattle.std.specs.List.{find};
+ghost use Rattle.std.specs.Option.{option_map, option_or};
+ghost use Rattle.std.specs.Result.{result_err};
+ghost use Rattle.ps_words.specs.declared.order.Order.{Order as ByteOrder};
+ghost use Rattle.ps_resolve.specs.Sources.{order_of, host_of, is_empty as is_empty_role};
+ghost use Rattle.ps_resolve.specs.Added.{segments};
+ghost use Rattle.ps_resolve.specs.Faults.{is_role, slots_fault as slots_fault_spec, no_host_fault as no_host_fault_spec, libraries_fault as libraries_fault_spec};
+ghost use Rattle.ps_resolve.specs.AllFaults.{reading_fault, reading_rest};
+ghost use Rattle.ps_resolve.specs.Linkable.{AscendFrom, HasOneHost};
+ghost use Rattle.ps_resolve.specs.Views.{segment_of, IsSound, is_in_slot, in_slots};
+
+use crate::added::add_units;
+use crate::libraries::libraries_fault;
+use crate::segment::Segment;
+use crate::slots::{HOST_FILE, SLOTS, in_file, is_empty, no_host_fault, slots_fault};
+use crate::sources::{add, read_slots};
+use arrayvec::ArrayVec;
+use ps_codefile::Dict;
+use ps_words::{Fault, Order};
+
+/// The segment that stands in a slot.
+fn segment_in<'a>(segments: &[Segment<'a>], slot: u8) -> Option<Segment<'a>>
+    ensures found { (order : ByteOrder) → option_map (segment_of order) result ≡ find (is_in_slot slot) (map (segment_of order) segments.now) }
+{
+    for segment in segments {
+        if segment.slot == slot {
+            return Some(*segment);
+        }
+    }
+    None
+}
+
+/// The slot's own segment, or in an empty slot the one that was added there.
+fn segment_of_slot<'a>(
+    host: &Dict<'a>,
+    own: &[Segment<'a>],
+    added: &[Segment<'a>],
+    slot: u8,
+) -> Option<Segment<'a>>
+    requires { slot < 16 }
+    ensures found { option_map (segment_of host.now.order) result ≡ option_or (find (is_in_slot slot) (map (segment_of host.now.order) own.now))
+        (if is_role is_empty_role host.now.order host.now.file slot then find (is_in_slot slot) (map (segment_of host.now.order) added.now) else None) }
+{
+    if let Some(segment) = segment_in(own, slot) {
+        return Some(segment);
+    }
+    if is_empty(host, slot) {
+        return segment_in(added, slot);
+    }
+    None
+}
+
+/// The segments of all slots, by slot.
+fn by_slot<'a>(
+    host: &Dict<'a>,
+    own: &[Segment<'a>],
+    added: &[Segment<'a>],
+) -> ArrayVec<Segment<'a>, 16>
+    requires own { All (IsSound host.now.order) (map (segment_of host.now.order) own.now) }
+    requires added { All (IsSound host.now.order) (map (segment_of host.now.order) added.now) }
+    ensures segments { map (segment_of host.now.order) result.items ≡ in_slots host.now.order host.now.file (map (segment_of host.now.order) own.now) (map (segment_of host.now.order) added.now) }
+    ensures sound { All (IsSound host.now.order) (map (segment_of host.now.order) result.items) }
+{
+    let mut segments = ArrayVec::new();
+    for slot in 0..SLOTS {
+        add(&mut segments, segment_of_slot(host, own, added, slot));
+    }
+    segments
+}
+
+/// The segments of a host whose slots and libraries have no fault of their own, or the first fault of their sources.
+fn read_all<'a>(
+    host: &Dict<'a>,
+    libs: &'a [&'a [u8]],
+) -> Result<ArrayVec<Segment<'a>, 16>, Fault>
+    requires { libraries_fault_spec host.now.order (map (λ lib. lib.now) libs.now) ≡ None }
+    ensures fault { result_err result ≡ reading_rest host.now.order host.now.file (map (λ lib. lib.now) libs.now) }
+    ensures segments { IfOk result (λ s. map (segment_of host.now.order) s.items ≡ segments host.now.order host.now.file (map (λ lib. lib.now) libs.now)) }
+    ensures sound { IfOk result (λ s. All (IsSound host.now.order) (map (segment_of host.now.order) s.items)) }
+{
+    match read_slots(host, libs) {
+        Err(fault) => Err(fault),
+        Ok(own) => match add_units(host, libs, own.as_slice()) {
+            Err(fault) => Err(fault),
+            Ok(added) => Ok(by_slot(host, own.as_slice(), added.as_slice())),
+        },
+    }
+}
+
+/// The first fault of the slots of the host, of its want of a host segment, or of the libraries.
+fn files_fault(host: &Dict, libs: &[&[u8]]) -> Option<Fault>
+    ensures { result ≡ option_or (slots_fault_spec host.now.order host.now.file) (option_or (no_host_fault_spec host.now.order host.now.file) (libraries_fault_spec host.now.order (map (λ lib. lib.now) libs.now))) }
+{
+    if let Some(fault) = slots_fault(host) {
+        return Some(fault);
+    }
+    if let Some(fault) = no_host_fault(host) {
+        return Some(fault);
+    }
+    libraries_fault(host.order(), libs)
+}
+
+/// The segments of a host that is read in its own byte order, or the first fault behind that of its order.
+fn read_sources<'a>(
+    host: &Dict<'a>,
+    libs: &'a [&'a [u8]],
+) -> Result<ArrayVec<Segment<'a>, 16>, Fault>
+    ensures fault { result_err result ≡ option_or (slots_fault_spec host.now.order host.now.file) (option_or (no_host_fault_spec host.now.order host.now.file)
+        (option_or (libraries_fault_spec host.now.order (map (λ lib. lib.now) libs.now)) (reading_rest host.now.order host.now.file (map (λ lib. lib.now) libs.now)))) }
+    ensures segments { IfOk result (λ s. map (segment_of host.now.order) s.items ≡ segments host.now.order host.now.file (map (λ lib. lib.now) libs.now)) }
+    ensures sound { IfOk result (λ s. All (IsSound host.now.order) (map (segment_of host.now.order) s.items)) }
+{
+    match files_fault(host, libs) {
+        Some(fault) => Err(fault),
+        None => read_all(host, libs),
+    }
+}
+
+/// The host's byte order and the segments of a link by slot ascending, or the first fault of reading the files.
+pub(crate) fn read_segments<'a>(
+    host: &'a [u8],
+    libs: &'a [&'a [u8]],
+) -> Result<(Order, ArrayVec<Segment<'a>, 16>), Fault>
+    ensures whole { IfOk result (λ _. 512 ≤ length host.now) }
+    ensures order { IfOk result (λ r. r.0 ≡ order_of host.now) }
+    ensures segments { IfOk result (λ r. map (segment_of r.0) r.1.items ≡ segments (order_of host.now) host.now (map (λ lib. lib.now) libs.now)) }
+    ensures sound { IfOk result (λ r. All (IsSound r.0) (map (segment_of r.0) r.1.items)) }
+    ensures ascending { IfOk result (λ r. AscendFrom 0 (map (λ s. s.slot) (map (segment_of r.0) r.1.items))) }
+    ensures host { IfOk result (λ r. IsSome (host_of (map (segment_of r.0) r.1.items))) }
+    ensures one_host { IfOk result (λ r. HasOneHost (map (segment_of r.0) r.1.items)) }
+    ensures faultless { IfOk result (λ _. reading_fault host.now (map (λ lib. lib.now) libs.now) ≡ None) }
+    ensures fault { IfErr result (λ f. reading_fault host.now (map (λ lib. lib.now) libs.now) ≡ Some f) }
+{
+    match Dict::read(host) {
+        Err(reason) => Err(in_file(HOST_FILE, reason)),
+        Ok(dict) => match read_sources(&dict, libs) {
+            Err(fault) => Err(fault),
+            Ok(segments) => Ok((dict.order(), segments)),
+        },
+    }
+}
