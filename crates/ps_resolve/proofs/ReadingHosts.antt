@@ -10,8 +10,8 @@ use Rattle.ps_words.specs.declared.fault.Reason.TheVariants as reason
 use Rattle.ps_words.specs.declared.fault.Fault.{Fault}
 use Rattle.ps_codefile.specs.Dictionary.{Opened, FileOrder, Zero, Ordered, Mixed, file_order, opened, opened_as}
 use Rattle.ps_resolve.specs.Sources.{known_order, order_of}
-use Rattle.ps_resolve.specs.Faults.{slots_fault, no_host_fault, libraries_fault, sources_fault}
-use Rattle.ps_resolve.specs.AllFaults.{reading_fault}
+use Rattle.ps_resolve.specs.Faults.{slots_fault, no_host_fault, libraries_fault}
+use Rattle.ps_resolve.specs.AllFaults.{reading_fault, reading_rest}
 
 -- a host that is read is read in its own byte order
 read_as : (short : Bool) (of : FileOrder) (file : List ℕ) (o : Opened) → (if short then Err reason.ShortFile else opened_as file of) ≡ Ok o → o ≡ record { order = known_order of; file = file }
@@ -39,7 +39,7 @@ host_is host o h = read_as (ltb (length host) 512) (file_order host) host o h
 
 -- what is looked at behind the host's order
 abbrev pub rest_of : Order → List ℕ → List (List ℕ) → Option Fault
-rest_of order host libs = option_or (slots_fault order host) (option_or (no_host_fault order host) (option_or (libraries_fault order libs) (sources_fault order host libs)))
+rest_of order host libs = option_or (slots_fault order host) (option_or (no_host_fault order host) (option_or (libraries_fault order libs) (reading_rest order host libs)))
 
 pub host_read : (host : List ℕ) (libs : List (List ℕ)) (o : Opened) → opened host ≡ Ok o → reading_fault host libs ≡ rest_of o.order o.file libs
 unfolding reading_fault

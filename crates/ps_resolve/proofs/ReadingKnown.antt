@@ -1,11 +1,12 @@
 -- What is known of the segments of a link once the files were read without a fault: they rise by slot, and one of them is the host's own.
-use Rattle.std.proofs.Common.{◌≡◌, ℕ, zero, suc, ◌+◌, ◌≤◌, List, [], ◌∷◌, map, Bool, true, false, ◌||◌, ◌&&◌, not, Option, Some, None, is_some, Result, Ok, Err, refl, sym, ◌∙◌, ap, arith, add-zero}
-use Rattle.std.specs.List.{range_with_len, filter_map, find, list_any}
+use Rattle.std.proofs.Common.{◌≡◌, ℕ, zero, suc, ◌+◌, ◌≤◌, List, [], ◌∷◌, map, Bool, true, false, ◌||◌, ◌&&◌, not, Option, Some, None, is_some, Result, Ok, Err, refl, sym, ◌∙◌, ap, subst, ◌<◌, ◌==◌, arith, add-zero}
+use Rattle.std.specs.List.{range_with_len, filter_map, find, list_any, slice_get}
 use Rattle.std.specs.Prelude.{All}
 use Rattle.std.specs.Option.{option_or, option_map, option_and_then, option_map_or}
 use Rattle.std.specs.Result.{result_ok}
+use Rattle.std.proofs.lemmas.Bool.{eqb-true}
 use Rattle.std.proofs.lemmas.Option.{option_and_then_some, same_Some}
-use Rattle.std.proofs.lemmas.List.Elements.{All-nil, All-cons, All-weaker}
+use Rattle.std.proofs.lemmas.List.Elements.{All-nil, All-cons, All-tail, All-weaker}
 use Rattle.ps_words.specs.FaultPlaces.{in_slot}
 use Rattle.ps_words.specs.declared.order.Order.{Order}
 use Rattle.ps_words.specs.declared.fault.Reason.{Reason}
@@ -16,35 +17,105 @@ use Rattle.ps_codefile.specs.declared.entry.Entry.{Entry}
 use Rattle.ps_codefile.specs.Dictionary.{entry_at, role_of, code_of, slots}
 use Rattle.ps_codefile.specs.Procedures.{tables_fault}
 use Rattle.ps_resolve.specs.Searches.{first_of, fault_if}
-use Rattle.ps_resolve.specs.Sources.{Segment, segment_from, source_of, is_host, is_linked, host_of, records_of, file_at}
-use Rattle.ps_resolve.specs.Added.{segment_at, segments}
+use Rattle.ps_resolve.specs.Sources.{Segment, own_segment, segment_from, source_of, unit_source, units_of, own_segments, is_host, is_empty, is_linked, host_of, records_of, file_at}
+use Rattle.ps_resolve.specs.Added.{Rounds, segment_at, segments, added, rounds, rounds_from, added_segment, as_added, placed_fault, sought_from, unit_references, references_in, empty_slots}
+use Rattle.ps_resolve.specs.declared.added.UnitReference.{UnitReference}
 use Rattle.ps_resolve.specs.Faults.{is_role, slot_reason, slots_fault, no_host_fault, sources_fault, source_fault, information_fault}
 use Rattle.ps_resolve.specs.Linkable.{AscendFrom, HasOneHost}
 use Rattle.ps_resolve.proofs.ReadingRows.{neither_first, neither_second, none_mapped}
-use Rattle.ps_resolve.proofs.ReadingSources.{own_fault, own_segment, is_own_host}
+use Rattle.ps_resolve.proofs.ReadingSources.{own_fault, read_from_host, is_own_host}
 
--- the segment of a slot has the slot's number and role
-abbrev segment_with : Order → List ℕ → List (List ℕ) → ℕ → Role → ℕ × ℕ → List ℕ → Segment
-segment_with order host libs slot r place code =
+-- a segment that is read has the slot and the role that it was read for
+abbrev segment_with : Order → List ℕ → List (List ℕ) → ℕ → List ℕ → Role → ℕ × ℕ → List ℕ → Segment
+segment_with order host libs slot name r place code =
     let file = file_at host libs place.0 in
     let e = entry_at order file place.1 in
-    record { slot = slot; name = (entry_at order host slot).name; role = r; file = place.0; index = place.1; code = code; records = records_of order file e (is_linked r) }
+    record { slot = slot; name = name; role = r; added = false; file = place.0; index = place.1; code = code; records = records_of order file e (is_linked r) }
 
-made : (order : Order) (host : List ℕ) (libs : List (List ℕ)) (slot : ℕ) (r : Role) (place : ℕ × ℕ) (q : Result (List ℕ) Reason) (s : Segment) → option_map (segment_with order host libs slot r place) (result_ok q) ≡ Some s → (s.slot ≡ slot) × (r ≡ s.role)
-made order host libs slot r place (Err why) s h = cc
-made order host libs slot r place (Ok code) s h =
-    let same : segment_with order host libs slot r place code ≡ s = same_Some _ _ h in
+made : (order : Order) (host : List ℕ) (libs : List (List ℕ)) (slot : ℕ) (name : List ℕ) (r : Role) (place : ℕ × ℕ) (q : Result (List ℕ) Reason) (s : Segment) → option_map (segment_with order host libs slot name r place) (result_ok q) ≡ Some s → (s.slot ≡ slot) × (r ≡ s.role)
+made order host libs slot name r place (Err why) s h = cc
+made order host libs slot name r place (Ok code) s h =
+    let same : segment_with order host libs slot name r place code ≡ s = same_Some _ _ h in
     (ap (λ (x : Segment). x.slot) (sym same), ap (λ (x : Segment). x.role) same)
 
-segment_parts : (order : Order) (host : List ℕ) (libs : List (List ℕ)) (slot : ℕ) (s : Segment) → segment_at order host libs slot ≡ Some s → (s.slot ≡ slot) × (result_ok (role_of (entry_at order host slot)) ≡ Some s.role)
-segment_parts order host libs slot s h =
-    option_and_then_some (λ (r : Role). option_and_then (segment_from order host libs slot r) (source_of order host libs slot r)) (result_ok (role_of (entry_at order host slot))) s h (λ r is rest.
-    option_and_then_some (segment_from order host libs slot r) (source_of order host libs slot r) s rest (λ place there from.
-    let parts = made order host libs slot r place (code_of (file_at host libs place.0) (entry_at order (file_at host libs place.0) place.1)) s from in
+pub own_parts : (order : Order) (host : List ℕ) (libs : List (List ℕ)) (slot : ℕ) (s : Segment) → own_segment order host libs slot ≡ Some s → (s.slot ≡ slot) × (result_ok (role_of (entry_at order host slot)) ≡ Some s.role)
+own_parts order host libs slot s h =
+    let name = (entry_at order host slot).name in
+    option_and_then_some (λ (r : Role). option_and_then (segment_from order host libs slot name r) (source_of order host libs slot r)) (result_ok (role_of (entry_at order host slot))) s h (λ r is rest.
+    option_and_then_some (segment_from order host libs slot name r) (source_of order host libs slot r) s rest (λ place there from.
+    let parts = made order host libs slot name r place (code_of (file_at host libs place.0) (entry_at order (file_at host libs place.0) place.1)) s from in
     (parts.0, is ∙ ap (λ (x : Role). Some x) parts.1)))
 
+-- an added segment stands in its slot, with the role of a wanted unit
+pub of_added : (order : Order) (host : List ℕ) (libs : List (List ℕ)) (g : UnitReference) (slot : ℕ) (s : Segment) → added_segment order host libs g slot ≡ Some s → (s.slot ≡ slot) × (s.role ≡ role.Wanted)
+of_added order host libs g slot s h = by (option_and_then (segment_from order host libs slot g.name role.Wanted) (unit_source order g.name libs)) refl h
+  where
+    by : (o : Option Segment) → option_and_then (segment_from order host libs slot g.name role.Wanted) (unit_source order g.name libs) ≡ o → option_map as_added o ≡ Some s → (s.slot ≡ slot) × (s.role ≡ role.Wanted)
+    by None e k = cc
+    by (Some t) e k =
+        let same : as_added t ≡ s = same_Some _ _ k in
+        let parts : (t.slot ≡ slot) × (role.Wanted ≡ t.role) =
+        option_and_then_some (segment_from order host libs slot g.name role.Wanted) (unit_source order g.name libs) t e (λ place there from.
+        made order host libs slot g.name role.Wanted place (code_of (file_at host libs place.0) (entry_at order (file_at host libs place.0) place.1)) t from) in
+        (ap (λ (x : Segment). x.slot) (sym same) ∙ parts.0, ap (λ (x : Segment). x.role) (sym same) ∙ sym parts.1)
+
+abbrev pub IsWanted : Segment → Type 0
+IsWanted s = s.role ≡ role.Wanted
+
+rounds_wanted : (order : Order) (host : List ℕ) (libs : List (List ℕ)) (units : List (List ℕ × ℕ)) (left : List ℕ) (k : ℕ) (row : List UnitReference) → All IsWanted (rounds_from order host libs units left k row).added
+rounds_wanted order host libs units [] k row = All-nil IsWanted
+rounds_wanted order host libs units (slot ∷ left) k row = by (λ next. rounds_wanted order host libs units left (k + 1) next) (slice_get row k) refl
+  where
+    at : ((next : List UnitReference) → All IsWanted (rounds_from order host libs units left (k + 1) next).added) → (g : UnitReference) (p : Option Fault) → placed_fault order host libs g slot ≡ p → (o : Option Segment) → added_segment order host libs g slot ≡ o → slice_get row k ≡ Some g → All IsWanted (rounds_from order host libs units (slot ∷ left) k row).added
+    at rest g (Some fault) e o f h = rw (h, rounds_from) (rw (e, rounds_from) (All-nil IsWanted))
+    at rest g None e None f h = rw (h, rounds_from) (rw (e, rounds_from) (rw (f, rounds_from) (All-nil IsWanted)))
+    at rest g None e (Some s) f h =
+        let next = sought_from units row (unit_references s.file s.slot 0 s.records) in
+        rw (h, rounds_from) (rw (e, rounds_from) (rw (f, rounds_from) (All-cons IsWanted s (rounds_from order host libs units left (k + 1) next).added (of_added order host libs g slot s f).1 (rest next))))
+
+    by : ((next : List UnitReference) → All IsWanted (rounds_from order host libs units left (k + 1) next).added) → (o : Option UnitReference) → slice_get row k ≡ o → All IsWanted (rounds_from order host libs units (slot ∷ left) k row).added
+    by rest None h = rw (h, rounds_from) (All-nil IsWanted)
+    by rest (Some g) h = at rest g (placed_fault order host libs g slot) refl (added_segment order host libs g slot) refl h
+
+added_wanted : (order : Order) (host : List ℕ) (libs : List (List ℕ)) → All IsWanted (added order host libs)
+unfolding rounds
+added_wanted order host libs =
+    let own = own_segments order host libs in rounds_wanted order host libs (units_of own) (empty_slots order host) 0 (sought_from (units_of own) [] (references_in own))
+
+-- what is found passes the test, and has what all have
+pub find_has : {X : Type 0} (P : X → Type 0) (test : X → Bool) (xs : List X) (x : X) → find test xs ≡ Some x → All P xs → (test x ≡ true) × P x
+find_has P test [] x h all = cc
+find_has {X} P test (y ∷ ys) x h all = by (λ e. find_has P test ys x e (All-tail P y ys all)) (test y) refl
+  where
+    by : (find test ys ≡ Some x → (test x ≡ true) × P x) → (b : Bool) → test y ≡ b → (test x ≡ true) × P x
+    by rest true e = let same : y ≡ x = same_Some _ _ (rw e at h) in (subst (λ (z : X). test z ≡ true) same e, subst P same (all 0 y (omega arith)))
+    by rest false e = rest (rw e at h)
+
+empty_role : (q : Result Role Reason) → option_map_or is_empty (result_ok q) false ≡ true → option_map_or is_host (result_ok q) false ≡ false
+empty_role (Err why) h = cc
+empty_role (Ok role.Empty) h = refl
+empty_role (Ok role.Wanted) h = cc
+empty_role (Ok role.Plain) h = cc
+empty_role (Ok role.Host) h = cc
+empty_role (Ok role.Unit) h = cc
+
+-- the segment of a slot, its own or one that was added there, stands in the slot and is the host's just where the slot's role is
+pub slot_parts : (order : Order) (host : List ℕ) (libs : List (List ℕ)) (slot : ℕ) (s : Segment) → segment_at order host libs slot ≡ Some s → (s.slot ≡ slot) × (is_role is_host order host slot ≡ is_host s.role)
+slot_parts order host libs slot s h = by (own_segment order host libs slot) refl (is_role is_empty order host slot) refl
+  where
+    by : (o : Option Segment) → own_segment order host libs slot ≡ o → (b : Bool) → is_role is_empty order host slot ≡ b → (s.slot ≡ slot) × (is_role is_host order host slot ≡ is_host s.role)
+    by (Some t) e b f =
+        let same : t ≡ s = same_Some _ _ (rw e at h) in
+        let parts = own_parts order host libs slot s (e ∙ ap (λ (x : Segment). Some x) same) in
+        (parts.0, ap (λ (o : Option Role). option_map_or is_host o false) parts.1)
+    by None e false f = let none : None ≡ Some s = rw (e, f) at h in cc
+    by None e true f =
+        let found : find (λ (x : Segment). x.slot == slot) (added order host libs) ≡ Some s = rw (e, f) at h in
+        let has = find_has IsWanted (λ (x : Segment). x.slot == slot) (added order host libs) s found (added_wanted order host libs) in
+        (eqb-true s.slot slot has.0, empty_role (role_of (entry_at order host slot)) f ∙ sym (ap is_host has.1))
+
 host_role : (order : Order) (host : List ℕ) (libs : List (List ℕ)) (slot : ℕ) (s : Segment) → segment_at order host libs slot ≡ Some s → is_role is_host order host slot ≡ is_host s.role
-host_role order host libs slot s h = ap (λ (o : Option Role). option_map_or is_host o false) (segment_parts order host libs slot s h).1
+host_role order host libs slot s h = (slot_parts order host libs slot s h).1
 
 -- a slot of the host's own segment has one, where it has no fault
 fault_by : Order → List ℕ → Entry → ℕ → Result (List ℕ) Reason → Option Fault
@@ -70,10 +141,10 @@ slot_host order host libs slot none is =
     let of = host_of_role (role_of (entry_at order host slot)) is in
     let e = entry_at order host slot in
     let fault : fault_by order host e slot (code_of host e) ≡ None = sym (own_fault order host libs slot role.Host of is_own_host) ∙ none in
-    let code = is_ok_by order host e slot (code_of host e) fault in (
-      segment_with order host libs slot role.Host (0, slot) code.0,
-      own_segment order host libs slot role.Host of is_own_host ∙ ap (λ (q : Result (List ℕ) Reason). option_map (segment_with order host libs slot role.Host (0, slot)) (result_ok q)) code.1,
-    )
+    let code = is_ok_by order host e slot (code_of host e) fault in
+    let own : own_segment order host libs slot ≡ Some (segment_with order host libs slot e.name role.Host (0, slot) code.0) =
+    read_from_host order host libs slot role.Host of is_own_host ∙ ap (λ (q : Result (List ℕ) Reason). option_map (segment_with order host libs slot e.name role.Host (0, slot)) (result_ok q)) code.1 in
+    (segment_with order host libs slot e.name role.Host (0, slot) code.0, rw own refl)
 
 found_host : (order : Order) (host : List ℕ) (libs : List (List ℕ)) (xs : List ℕ) → list_any (is_role is_host order host) xs ≡ true → first_of (source_fault order host libs) xs ≡ None
     → is_some (find (λ (s : Segment). is_host s.role) (filter_map (segment_at order host libs) xs)) ≡ true
@@ -109,7 +180,7 @@ ascend_from order host libs (suc n) a from le = by (λ next l. ascend_from order
         → AscendFrom from (map (λ (s : Segment). s.slot) (filter_map (segment_at order host libs) (a ∷ range_with_len (a + 1) n)))
     by rest None o = rw o (rest from (omega arith))
     by rest (Some s) o =
-        let is = (segment_parts order host libs a s o).0 in
+        let is = (slot_parts order host libs a s o).0 in
         rw o (omega (arith, is), rest (s.slot + 1) (omega (arith, is)))
 
 pub ascend : (order : Order) (host : List ℕ) (libs : List (List ℕ)) → AscendFrom 0 (map (λ (s : Segment). s.slot) (segments order host libs))

@@ -12,8 +12,7 @@ use Rattle.ps_words.specs.declared.fault.Fault.{Fault}
 use Rattle.ps_codefile.specs.declared.entry.Role.{Role}
 use Rattle.ps_codefile.specs.declared.entry.Role.TheVariants as role
 use Rattle.ps_codefile.specs.Dictionary.{entry_at, role_of}
-use Rattle.ps_resolve.specs.Sources.{Segment, segment_from, source_of}
-use Rattle.ps_resolve.specs.Added.{segment_at}
+use Rattle.ps_resolve.specs.Sources.{Segment, own_segment, segment_from, source_of}
 use Rattle.ps_resolve.specs.Faults.{source_fault, wanted_fault, code_fault}
 use Rattle.ps_resolve.proofs.ReadingRows.{range_more}
 
@@ -31,17 +30,17 @@ abbrev fault_as : Order → List ℕ → List (List ℕ) → ℕ → Role → Op
 fault_as order host libs slot r = option_or (wanted_fault order host libs slot r) (option_and_then (code_fault order host libs slot r) (source_of order host libs slot r))
 
 abbrev segment_as : Order → List ℕ → List (List ℕ) → ℕ → Role → Option Segment
-segment_as order host libs slot r = option_and_then (segment_from order host libs slot r) (source_of order host libs slot r)
+segment_as order host libs slot r = option_and_then (segment_from order host libs slot (entry_at order host slot).name r) (source_of order host libs slot r)
 
 pub own_fault : (order : Order) (host : List ℕ) (libs : List (List ℕ)) (slot : ℕ) (r : Role) → role_of (entry_at order host slot) ≡ Ok r → IsOwn r → source_fault order host libs slot ≡ code_fault order host libs slot r (0, slot)
 own_fault order host libs slot r of is =
     ap (λ (q : Result Role Reason). option_and_then (fault_as order host libs slot) (result_ok q)) of
     ∙ own_each (λ (r : Role). fault_as order host libs slot r ≡ code_fault order host libs slot r (0, slot)) refl refl refl r is
 
-pub own_segment : (order : Order) (host : List ℕ) (libs : List (List ℕ)) (slot : ℕ) (r : Role) → role_of (entry_at order host slot) ≡ Ok r → IsOwn r → segment_at order host libs slot ≡ segment_from order host libs slot r (0, slot)
-own_segment order host libs slot r of is =
+pub read_from_host : (order : Order) (host : List ℕ) (libs : List (List ℕ)) (slot : ℕ) (r : Role) → role_of (entry_at order host slot) ≡ Ok r → IsOwn r → own_segment order host libs slot ≡ segment_from order host libs slot (entry_at order host slot).name r (0, slot)
+read_from_host order host libs slot r of is =
     ap (λ (q : Result Role Reason). option_and_then (segment_as order host libs slot) (result_ok q)) of
-    ∙ own_each (λ (r : Role). segment_as order host libs slot r ≡ segment_from order host libs slot r (0, slot)) refl refl refl r is
+    ∙ own_each (λ (r : Role). segment_as order host libs slot r ≡ segment_from order host libs slot (entry_at order host slot).name r (0, slot)) refl refl refl r is
 
 -- what is kept of the numbers from i on is that of i and what is kept behind it
 pub kept_more : {Y : Type 0} (h : ℕ → Option Y) (i n : ℕ) → i < n → filter_map h (range_with_len i (n - i)) ≡ option_to_list (h i) ++ filter_map h (range_with_len (i + 1) (n - (i + 1)))

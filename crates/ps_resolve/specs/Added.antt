@@ -88,12 +88,12 @@ rounds_from order host libs units (slot ∷ left) k row =
     elim (slice_get row k) [
       | None ↦ record { added = []; fault = None }
       | Some g ↦ elim (placed_fault order host libs g slot) [
-          | Some fault ↦ record { added = []; fault = Some fault }
-          | None ↦ elim (added_segment order host libs g slot) [
-              | None ↦ record { added = []; fault = None }
-              | Some s ↦ after s (rounds_from order host libs units left (k + 1) (sought_from units row (unit_references s.file s.slot 0 s.records)))
-            ]
+        | Some fault ↦ record { added = []; fault = Some fault }
+        | None ↦ elim (added_segment order host libs g slot) [
+          | None ↦ record { added = []; fault = None }
+          | Some s ↦ after s (rounds_from order host libs units left (k + 1) (sought_from units row (unit_references s.file s.slot 0 s.records)))
         ]
+      ]
     ]
 
 -- the names that are sought by the host's own segments and then by these
@@ -101,9 +101,13 @@ unfoldable pub sought : Order → List ℕ → List (List ℕ) → List Segment 
 sought order host libs others =
     let own = own_segments order host libs in sought_from (units_of own) [] (references_in (own ++ others))
 
+-- the rounds of own segments, with these slots
+abbrev pub rounds_in : Order → List ℕ → List (List ℕ) → List Segment → List ℕ → Rounds
+rounds_in order host libs own left = rounds_from order host libs (units_of own) left 0 (sought_from (units_of own) [] (references_in own))
+
 -- the rounds of a host whose own segments are these
 abbrev pub rounds_of : Order → List ℕ → List (List ℕ) → List Segment → Rounds
-rounds_of order host libs own = rounds_from order host libs (units_of own) (empty_slots order host) 0 (sought_from (units_of own) [] (references_in own))
+rounds_of order host libs own = rounds_in order host libs own (empty_slots order host)
 
 unfoldable pub rounds : Order → List ℕ → List (List ℕ) → Rounds
 rounds order host libs = rounds_of order host libs (own_segments order host libs)

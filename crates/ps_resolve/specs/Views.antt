@@ -1,6 +1,6 @@
 -- The segments that the files have, seen as the segments of the link, and what is known of them once the files were read without a fault.
 -- Source: this project's profile.
-use Rattle.std.specs.Prelude.{◌≡◌, ◌≤◌, ◌==◌, if◌then◌else◌, ℕ, List, [], length, Bool, true, None}
+use Rattle.std.specs.Prelude.{◌≡◌, ◌≤◌, ◌==◌, if◌then◌else◌, ℕ, List, [], length, Bool, true, Option, None}
 use Rattle.std.specs.List.{find, filter_map}
 use Rattle.std.specs.Option.{option_or}
 use Rattle.ps_words.specs.declared.order.Order.{Order}
@@ -26,10 +26,13 @@ segment_of order s = record {
 abbrev pub is_in_slot : ℕ → Segment → Bool
 is_in_slot slot s = s.slot == slot
 
--- by slot, the own segment that stands there, or in an empty slot the added one
-abbrev pub in_slots : Order → List ℕ → List Segment → List Segment → List Segment
-in_slots order host own added =
-    filter_map (λ slot. option_or (find (is_in_slot slot) own) (if is_role is_empty order host slot then find (is_in_slot slot) added else None)) slots
+-- the own segment that stands in a slot, or in an empty slot the added one
+abbrev pub in_slot : Order → List ℕ → List Segment → List Segment → ℕ → Option Segment
+in_slot order host own added slot = option_or (find (is_in_slot slot) own) (if is_role is_empty order host slot then find (is_in_slot slot) added else None)
+
+-- those of all slots
+unfoldable pub in_slots : Order → List ℕ → List Segment → List Segment → List Segment
+in_slots order host own added = filter_map (in_slot order host own added) slots
 
 -- the length of the code is within its limits, and the procedure tables of a linked segment have no fault
 pub record IsSound (order : Order) (s : Segment) : Type 0 where

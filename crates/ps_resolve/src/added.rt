@@ -1,11 +1,13 @@
-ghost use Rattle.std.specs.Prelude.{◌≡◌, ◌<◌, ◌≤◌, ◌+◌, ◌∷◌, [], List, ℕ, All, length, map, take, true, None, Some, IfOk, IfSome, is_none, slice_get};
-ghost use Rattle.std.specs.List.{find};
+ghost use Rattle.std.specs.Prelude.{◌≡◌, ◌<◌, ◌≤◌, ◌+◌, ◌++◌, ◌∷◌, [], List, ℕ, All, if◌then◌else◌, length, map, take, true, None, Some, IfOk, IfSome, is_none, slice_get};
+ghost use Rattle.std.specs.List.{find, list_any};
 ghost use Rattle.std.specs.Option.{option_map};
 ghost use Rattle.std.specs.Result.{result_err};
+ghost use Rattle.std.specs.Str.{bytes_eq};
+ghost use Rattle.arrayvec.specs.ArrayVec.{array_vec_len};
 ghost use Rattle.ps_codefile.specs.Dictionary.{slots, is_nameless as is_nameless_spec};
-ghost use Rattle.ps_resolve.specs.Sources.{is_named, chosen_library as chosen_library_spec};
-ghost use Rattle.ps_resolve.specs.Added.{unit_references, references_in, is_had as is_had_spec, is_missing, sought_from, empty_slots as empty_slots_spec, unplaced_fault, placed_fault, added_segment, rounds_of};
-ghost use Rattle.ps_resolve.specs.Faults.{libraries_fault};
+ghost use Rattle.ps_resolve.specs.Sources.{is_named, is_empty as is_empty_role, chosen_library as chosen_library_spec};
+ghost use Rattle.ps_resolve.specs.Added.{unit_references, references_in, is_had as is_had_spec, is_missing, sought_from, empty_slots as empty_slots_spec, unplaced_fault, placed_fault, added_segment, rounds_in, rounds_of};
+ghost use Rattle.ps_resolve.specs.Faults.{is_role, libraries_fault};
 ghost use Rattle.ps_resolve.specs.Names.{units_in};
 ghost use Rattle.ps_resolve.specs.Views.{segment_of, IsSound};
 
@@ -52,6 +54,17 @@ impl Default for UnitReference {
     }
 }
 
+/// Adds the slot behind the others, where it is empty.
+fn add_empty(host: &Dict, slots: &mut ArrayVec<u8, 9>, slot: u8)
+    requires in_range { slot < 16 }
+    requires room { array_vec_len slots.old < 9 }
+    ensures { slots.new.items ≡ slots.old.items ++ (if is_role is_empty_role host.now.order host.now.file slot then slot ∷ [] else []) }
+{
+    if is_empty(host, slot) {
+        slots.push(slot);
+    }
+}
+
 /// The empty slots that a unit may be added in, ascending.
 fn empty_slots(host: &Dict) -> ArrayVec<u8, 9>
     ensures slots { result.items ≡ empty_slots_spec host.now.order host.now.file }
@@ -60,25 +73,37 @@ fn empty_slots(host: &Dict) -> ArrayVec<u8, 9>
 {
     let mut slots: ArrayVec<u8, MAX_ADDED> = ArrayVec::new();
     for slot in FIRST_ADDED..SLOTS {
-        if is_empty(host, slot) {
-            slots.push(slot);
-        }
+        add_empty(host, &mut slots, slot);
     }
     slots
+}
+
+/// The name is in the row.
+fn is_in_row(row: &ArrayVec<UnitReference, 10>, name: [u8; 8]) -> bool
+    ensures { result ≡ list_any (λ sought. bytes_eq sought.name name) row.now.items }
+{
+    row.iter().any(|sought| sought.name == name)
 }
 
 /// A unit of the host has the name, or it is in the row.
 fn is_had(own: &[Segment], row: &ArrayVec<UnitReference, 10>, name: [u8; 8]) -> bool
     ensures { result ≡ is_had_spec (units_in own.now) row.now.items name }
 {
-    slot_of(own, name).is_some() || row.iter().any(|sought| sought.name == name)
+    match slot_of(own, name) {
+        Some(_) => true,
+        None => is_in_row(row, name),
+    }
 }
 
 /// Adds the reference behind the row, where its name is not had; a full row stays as it is.
 fn seek(own: &[Segment], row: &mut ArrayVec<UnitReference, 10>, reference: UnitReference)
+    requires { length row.old.items ≤ 10 }
     ensures { row.new.items ≡ take 10 (sought_from (units_in own.now) row.old.items (reference ∷ [])) }
 {
-    if !row.is_full() && !is_had(own, row, reference.name) {
+    if is_had(own, row, reference.name) {
+        return;
+    }
+    if !row.is_full() {
         row.push(reference);
     }
 }
@@ -91,15 +116,20 @@ fn seek_record(
     rec: usize,
     entry: &LinkRecord,
 )
+    requires { length row.old.items ≤ 10 }
     ensures { row.new.items ≡ take 10 (sought_from (units_in own.now) row.old.items (unit_references segment.now.file segment.now.slot rec (entry.now ∷ []))) }
 {
     match &entry.body {
-        Body::UnitRef(_) => seek(own, row, UnitReference {
-            name: entry.name,
-            file: segment.file,
-            slot: segment.slot,
-            rec,
-        }),
+        Body::UnitRef(_) => seek(
+            own,
+            row,
+            UnitReference {
+                name: entry.name,
+                file: segment.file,
+                slot: segment.slot,
+                rec,
+            },
+        ),
         Body::PublRef(_)
         | Body::PrivRef { .. }
         | Body::PublDef(_)
@@ -115,6 +145,7 @@ fn seek_records(
     row: &mut ArrayVec<UnitReference, 10>,
     segment: &Segment,
 )
+    requires { length row.old.items ≤ 10 }
     ensures { row.new.items ≡ take 10 (sought_from (units_in own.now) row.old.items (unit_references segment.now.file segment.now.slot 0 (segment_of order segment.now).records)) }
 {
     walk_from_start();
@@ -185,7 +216,14 @@ fn read_added<'a>(
         Some(unit) => match entries_reason(&unit.dict, sought.name, unit.index) {
             Some(reason) => Err(in_slot(unit.library + 1, slot, reason)),
             None => {
-                match read_segment(slot, sought.name, Role::Wanted, &unit.dict, unit.library + 1, unit.index) {
+                match read_segment(
+                    slot,
+                    sought.name,
+                    Role::Wanted,
+                    &unit.dict,
+                    unit.library + 1,
+                    unit.index,
+                ) {
                     Err(fault) => Err(fault),
                     Ok(segment) => Ok(Segment {
                         added: true,
@@ -204,6 +242,41 @@ fn sought_at(row: &ArrayVec<UnitReference, 10>, k: usize) -> Option<UnitReferenc
     row.get(k).copied()
 }
 
+/// The segments that are added in these slots, in their order, or the first fault of them.
+fn add_in<'a>(
+    order: Order,
+    libs: &'a [&'a [u8]],
+    own: &[Segment<'a>],
+    slots: &[u8],
+) -> Result<ArrayVec<Segment<'a>, 9>, Fault>
+    requires libraries { libraries_fault order (map (λ lib. lib.now) libs.now) ≡ None }
+    requires few { length slots.now ≤ 9 }
+    requires in_range { All (λ slot. slot < 16) slots.now }
+    ensures fault { (host : List ℕ) → result_err result ≡ (rounds_in order host (map (λ lib. lib.now) libs.now) (map (segment_of order) own.now) slots.now).fault }
+    ensures added { (host : List ℕ) → IfOk result (λ added. map (segment_of order) added.items ≡ (rounds_in order host (map (λ lib. lib.now) libs.now) (map (segment_of order) own.now) slots.now).added) }
+    ensures sound { IfOk result (λ added. All (IsSound order) (map (segment_of order) added.items)) }
+{
+    let mut row = sought_by(order, own);
+    let mut added: ArrayVec<Segment<'a>, MAX_ADDED> = ArrayVec::new();
+    for slot in slots {
+        match sought_at(&row, added.len()) {
+            None => return Ok(added),
+            Some(sought) => match read_added(order, libs, &sought, *slot) {
+                Err(fault) => return Err(fault),
+                Ok(segment) => {
+                    seek_records(order, own, &mut row, &segment);
+                    added.push(segment);
+                }
+            },
+        }
+    }
+    let placed = added.len();
+    match sought_at(&row, placed) {
+        None => Ok(added),
+        Some(sought) => Err(no_slot(order, libs, &sought)),
+    }
+}
+
 /// The segments that are added to a host's own, in the order of their slots, or the first fault of them.
 ///
 /// The names that UNITREF records of linked segments seek, and that no unit of the host has, take the
@@ -219,24 +292,6 @@ pub(crate) fn add_units<'a>(
     ensures added { IfOk result (λ added. map (segment_of host.now.order) added.items ≡ (rounds_of host.now.order host.now.file (map (λ lib. lib.now) libs.now) (map (segment_of host.now.order) own.now)).added) }
     ensures sound { IfOk result (λ added. All (IsSound host.now.order) (map (segment_of host.now.order) added.items)) }
 {
-    let order = host.order();
-    let mut row = sought_by(order, own);
-    let mut added: ArrayVec<Segment<'a>, MAX_ADDED> = ArrayVec::new();
     let slots = empty_slots(host);
-    for slot in slots.as_slice() {
-        match sought_at(&row, added.len()) {
-            None => return Ok(added),
-            Some(sought) => match read_added(order, libs, &sought, *slot) {
-                Err(fault) => return Err(fault),
-                Ok(segment) => {
-                    seek_records(order, own, &mut row, &segment);
-                    added.push(segment);
-                }
-            },
-        }
-    }
-    match sought_at(&row, added.len()) {
-        None => Ok(added),
-        Some(sought) => Err(no_slot(order, libs, &sought)),
-    }
+    add_in(host.order(), libs, own, slots.as_slice())
 }

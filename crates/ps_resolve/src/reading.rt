@@ -1,14 +1,14 @@
-ghost use Rattle.std.specs.Prelude.{◌≡◌, ◌<◌, ◌≤◌, length, map, Some, None, IfOk, IfErr, IsSome, All, if◌then◌else◌};
+ghost use Rattle.std.specs.Prelude.{◌≡◌, ◌<◌, ◌≤◌, length, map, Some, None, IfOk, IfErr, IsSome, All};
 ghost use Rattle.std.specs.List.{find};
 ghost use Rattle.std.specs.Option.{option_map, option_or};
 ghost use Rattle.std.specs.Result.{result_err};
 ghost use Rattle.ps_words.specs.declared.order.Order.{Order as ByteOrder};
-ghost use Rattle.ps_resolve.specs.Sources.{order_of, host_of, is_empty as is_empty_role};
+ghost use Rattle.ps_resolve.specs.Sources.{order_of, host_of};
 ghost use Rattle.ps_resolve.specs.Added.{segments};
-ghost use Rattle.ps_resolve.specs.Faults.{is_role, slots_fault as slots_fault_spec, no_host_fault as no_host_fault_spec, libraries_fault as libraries_fault_spec};
+ghost use Rattle.ps_resolve.specs.Faults.{slots_fault as slots_fault_spec, no_host_fault as no_host_fault_spec, libraries_fault as libraries_fault_spec};
 ghost use Rattle.ps_resolve.specs.AllFaults.{reading_fault, reading_rest};
 ghost use Rattle.ps_resolve.specs.Linkable.{AscendFrom, HasOneHost};
-ghost use Rattle.ps_resolve.specs.Views.{segment_of, IsSound, is_in_slot, in_slots};
+ghost use Rattle.ps_resolve.specs.Views.{segment_of, IsSound, is_in_slot, in_slot, in_slots};
 
 use crate::added::add_units;
 use crate::libraries::libraries_fault;
@@ -39,8 +39,7 @@ fn segment_of_slot<'a>(
     slot: u8,
 ) -> Option<Segment<'a>>
     requires { slot < 16 }
-    ensures found { option_map (segment_of host.now.order) result ≡ option_or (find (is_in_slot slot) (map (segment_of host.now.order) own.now))
-        (if is_role is_empty_role host.now.order host.now.file slot then find (is_in_slot slot) (map (segment_of host.now.order) added.now) else None) }
+    ensures { option_map (segment_of host.now.order) result ≡ in_slot host.now.order host.now.file (map (segment_of host.now.order) own.now) (map (segment_of host.now.order) added.now) slot }
 {
     if let Some(segment) = segment_in(own, slot) {
         return Some(segment);
@@ -70,10 +69,7 @@ fn by_slot<'a>(
 }
 
 /// The segments of a host whose slots and libraries have no fault of their own, or the first fault of their sources.
-fn read_all<'a>(
-    host: &Dict<'a>,
-    libs: &'a [&'a [u8]],
-) -> Result<ArrayVec<Segment<'a>, 16>, Fault>
+fn read_all<'a>(host: &Dict<'a>, libs: &'a [&'a [u8]]) -> Result<ArrayVec<Segment<'a>, 16>, Fault>
     requires { libraries_fault_spec host.now.order (map (λ lib. lib.now) libs.now) ≡ None }
     ensures fault { result_err result ≡ reading_rest host.now.order host.now.file (map (λ lib. lib.now) libs.now) }
     ensures segments { IfOk result (λ s. map (segment_of host.now.order) s.items ≡ segments host.now.order host.now.file (map (λ lib. lib.now) libs.now)) }
@@ -81,10 +77,16 @@ fn read_all<'a>(
 {
     match read_slots(host, libs) {
         Err(fault) => Err(fault),
-        Ok(own) => match add_units(host, libs, own.as_slice()) {
-            Err(fault) => Err(fault),
-            Ok(added) => Ok(by_slot(host, own.as_slice(), added.as_slice())),
-        },
+        Ok(segments) => {
+            let own = segments.as_slice();
+            match add_units(host, libs, own) {
+                Err(fault) => Err(fault),
+                Ok(units) => {
+                    let added = units.as_slice();
+                    Ok(by_slot(host, own, added))
+                }
+            }
+        }
     }
 }
 

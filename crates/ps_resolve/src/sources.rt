@@ -192,7 +192,10 @@ pub(crate) fn add<'a>(segments: &mut ArrayVec<Segment<'a>, 16>, segment: Option<
 }
 
 /// The segments of the host's own slots by slot ascending, or the first fault of a slot's source.
-pub(crate) fn read_slots<'a>(host: &Dict<'a>, libs: &'a [&'a [u8]]) -> Result<ArrayVec<Segment<'a>, 16>, Fault>
+pub(crate) fn read_slots<'a>(
+    host: &Dict<'a>,
+    libs: &'a [&'a [u8]],
+) -> Result<ArrayVec<Segment<'a>, 16>, Fault>
     requires { libraries_fault_spec host.now.order (map (λ lib. lib.now) libs.now) ≡ None }
     ensures fault { result_err result ≡ sources_fault host.now.order host.now.file (map (λ lib. lib.now) libs.now) }
     ensures segments { IfOk result (λ s. map (segment_of host.now.order) s.items ≡ own_segments host.now.order host.now.file (map (λ lib. lib.now) libs.now)) }

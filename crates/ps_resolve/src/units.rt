@@ -85,7 +85,11 @@ fn entry_in<'a>(order: Order, name: [u8; 8], lib: &'a [u8]) -> Option<(Dict<'a>,
 }
 
 /// The first entry of this name of the first library that has one.
-pub(crate) fn chosen_library<'a>(order: Order, name: [u8; 8], libs: &'a [&'a [u8]]) -> Option<UnitSource<'a>>
+pub(crate) fn chosen_library<'a>(
+    order: Order,
+    name: [u8; 8],
+    libs: &'a [&'a [u8]],
+) -> Option<UnitSource<'a>>
     requires { libraries_fault order (map (λ lib. lib.now) libs.now) ≡ None }
     ensures library { option_map (λ u. (u.library, u.dict.file)) result ≡ chosen_library_spec order name (map (λ lib. lib.now) libs.now) }
     ensures entry { IfSome result (λ u. find (is_named_spec order name u.dict.file) slots ≡ Some u.index) }

@@ -2,10 +2,11 @@ use Rattle.std.proofs.Common.{◌≡◌, ◌∙◌, List, ℕ, Some, None, sym, 
 use Rattle.ps_words.specs.declared.order.Order.{Order}
 use Rattle.ps_words.specs.declared.fault.Fault.{Fault}
 use Rattle.ps_codefile.specs.Dictionary.{Opened}
-use Rattle.ps_resolve.specs.Added.{segments}
+use Rattle.ps_resolve.specs.Added.{segments, added_fault}
 use Rattle.ps_resolve.proofs.ReadingLibraries.{files}
 use Rattle.std.specs.Option.{option_or}
 use Rattle.ps_resolve.specs.Faults.{slots_fault, no_host_fault, libraries_fault, sources_fault}
+use Rattle.ps_resolve.specs.AllFaults.{reading_rest}
 use Rattle.ps_resolve.proofs.ReadingRows.{neither_first, neither_second}
 use Rattle.ps_resolve.proofs.ReadingHosts.{host_refused, host_whole, host_is, host_read, rest_of}
 use Rattle.ps_resolve.proofs.ReadingKnown.{ascend, host_there, one_host}
@@ -41,12 +42,11 @@ returns-in-Ok-read_sources-clause-sound c = rw c.order.ensures c.in-Ok-read_sour
 -- the files have no fault
 none_of : (order : Order) (host : List ℕ) (libs : List (List ℕ)) → rest_of order host libs ≡ None → (slots_fault order host ≡ None) × (no_host_fault order host ≡ None) × (sources_fault order host libs ≡ None)
 none_of order host libs h =
-    let behind_sources = sources_fault order host libs in
-    let behind_libraries = option_or (libraries_fault order libs) behind_sources in
+    let behind_libraries = option_or (libraries_fault order libs) (reading_rest order host libs) in
     let behind_slots = option_or (no_host_fault order host) behind_libraries in
     let slots = neither_second (slots_fault order host) behind_slots h in
     let has = neither_second (no_host_fault order host) behind_libraries slots in
-    (neither_first (slots_fault order host) behind_slots h, neither_first (no_host_fault order host) behind_libraries slots, neither_second (libraries_fault order libs) behind_sources has)
+    (neither_first (slots_fault order host) behind_slots h, neither_first (no_host_fault order host) behind_libraries slots, neither_first (sources_fault order host libs) (added_fault order host libs) (neither_second (libraries_fault order libs) (reading_rest order host libs) has))
 
 pub returns-in-Ok-read_sources-clause-ascending : goal.returns-in-Ok-read_sources-clause-ascending
 returns-in-Ok-read_sources-clause-ascending c =

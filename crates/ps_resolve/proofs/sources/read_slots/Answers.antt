@@ -1,6 +1,6 @@
 use Rattle.std.proofs.Common.{◌∙◌, refl, sym, arith}
 use Rattle.std.proofs.lemmas.List.Elements.{All-nil}
-use Rattle.ps_resolve.specs.Added.{segment_at, segments}
+use Rattle.ps_resolve.specs.Sources.{own_segment, own_segments}
 use Rattle.ps_resolve.specs.Faults.{source_fault, sources_fault}
 use Rattle.ps_resolve.specs.Views.{segment_of, IsSound}
 use Rattle.ps_resolve.proofs.ReadingLibraries.{files}
@@ -9,7 +9,7 @@ use Rattle.ps_resolve.proofs.ReadingSources.{all_more, kept_on, few_more}
 use Rattle.ps_resolve.proofs.sources.read_slots.Goals as goal
 
 pub loop-slot-init : goal.loop-slot-init
-unfolding segments sources_fault
+unfolding own_segments sources_fault
 loop-slot-init c = rw c.new-segments.ensures (record { first = refl; all = refl; sound = All-nil _; few = omega arith })
 
 pub returns-in-Err-clause-fault : goal.returns-in-Err-clause-fault
@@ -27,7 +27,7 @@ loop-slot-preserved c =
     let o = c.in-Ok.segment in
     rw c.add.ensures (record {
       first = inv.first ∙ first_later (source_fault host.order host.file libs) i 16 c.loop-slot-test.true (sym c.in-Ok.ensures.fault);
-      all = inv.all ∙ kept_on (segment_of host.order) (segment_at host.order host.file libs) old o i 16 c.loop-slot-test.true c.in-Ok.ensures.segment;
+      all = inv.all ∙ kept_on (segment_of host.order) (own_segment host.order host.file libs) old o i 16 c.loop-slot-test.true c.in-Ok.ensures.segment;
       sound = all_more (IsSound host.order) (segment_of host.order) old o inv.sound c.in-Ok.ensures.sound;
       few = few_more old o i inv.few;
     })

@@ -2,7 +2,7 @@ use Rattle.std.proofs.Common.{◌≡◌, ◌≤◌, ◌-◌, ◌++◌, length, m
 use Rattle.std.specs.Prelude.{All}
 use Rattle.std.specs.List.{filter_map, range_with_len}
 use Rattle.ps_resolve.specs.Searches.{first_of}
-use Rattle.ps_resolve.specs.Added.{segment_at, segments}
+use Rattle.ps_resolve.specs.Sources.{own_segment, own_segments}
 use Rattle.ps_resolve.specs.Faults.{source_fault, sources_fault}
 use Rattle.ps_resolve.specs.Views.{segment_of, IsSound}
 use Rattle.ps_resolve.proofs.ReadingLibraries.{files}
@@ -15,7 +15,7 @@ invariant-loop-slot l =
     let host = l.host.file in
     record {
       first : sources_fault order host (files l.libs) ≡ first_of (source_fault order host (files l.libs)) (range_with_len l.slot (16 - l.slot));
-      all : segments order host (files l.libs) ≡ map (segment_of order) l.segments.items ++ filter_map (segment_at order host (files l.libs)) (range_with_len l.slot (16 - l.slot));
+      all : own_segments order host (files l.libs) ≡ map (segment_of order) l.segments.items ++ filter_map (own_segment order host (files l.libs)) (range_with_len l.slot (16 - l.slot));
       sound : All (IsSound order) (map (segment_of order) l.segments.items);
       few : length l.segments.items ≤ l.slot;
     }

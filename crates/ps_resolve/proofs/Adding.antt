@@ -1,0 +1,157 @@
+-- The row of names that are sought, of which only the first ten are kept, and the rounds that it gives.
+use Rattle.std.proofs.Common.{◌≡◌, ℕ, zero, suc, ◌+◌, ◌<◌, ◌≤◌, List, [], ◌∷◌, ◌++◌, ◌-◌, length, length-append, append_assoc, append-nil, take, Bool, true, false, Option, Some, None, inl, inr, refl, sym, ◌∙◌, ap, arith}
+use Rattle.std.specs.Prelude.{◌⊎◌, All, if◌then◌else◌}
+use Rattle.std.proofs.lemmas.Bool.{cases_lt}
+use Rattle.std.proofs.lemmas.List.{take-append-le, take_all, length-take, length-take-le}
+use Rattle.std.proofs.lemmas.List.Elements.{All-nil, All-cons, All-append}
+use Rattle.ps_resolve.proofs.ReadingRows.{range_more}
+use Rattle.std.specs.List.{slice_get, find, filter, range_with_len}
+use Rattle.std.specs.Option.{option_map}
+use Rattle.ps_words.specs.FaultPlaces.{in_slot, in_record}
+use Rattle.ps_words.specs.declared.order.Order.{Order}
+use Rattle.ps_words.specs.declared.fault.Reason.{Reason}
+use Rattle.ps_words.specs.declared.fault.Reason.TheVariants as reason
+use Rattle.ps_codefile.specs.Dictionary.{slots}
+use Rattle.ps_codefile.specs.declared.entry.Role.TheVariants.{Wanted}
+use Rattle.ps_words.specs.declared.fault.Fault.{Fault}
+use Rattle.ps_linkinfo.specs.declared.record.LinkRecord.{LinkRecord as Record}
+use Rattle.ps_resolve.specs.Sources.{Segment, segment_from, chosen_library, is_named}
+use Rattle.ps_resolve.specs.Faults.{code_fault, entries_reason}
+use Rattle.ps_resolve.specs.Added.{is_missing, as_added, is_had, is_unit_reference, unit_references, sought_from, unplaced_fault, placed_fault, added_segment, Rounds, after, rounds_from}
+use Rattle.ps_resolve.specs.declared.added.UnitReference.{UnitReference}
+
+-- names that are sought behind others
+pub sought-append : (units : List (List ℕ × ℕ)) (row xs ys : List UnitReference) → sought_from units row (xs ++ ys) ≡ sought_from units (sought_from units row xs) ys
+sought-append units row [] ys = refl
+sought-append units row (x ∷ xs) ys = sought-append units (if is_had units row x.name then row else row ++ x ∷ []) xs ys
+
+-- the front of a row stays
+pub row_front : (units : List (List ℕ × ℕ)) (n : ℕ) (row gs : List UnitReference) → n ≤ length row → take n (sought_from units row gs) ≡ take n row
+row_front units n row [] h = refl
+row_front units n row (g ∷ gs) h = by (λ r l. row_front units n r gs l) (is_had units row g.name) refl
+  where
+    by : ((r : List UnitReference) → n ≤ length r → take n (sought_from units r gs) ≡ take n r) → (b : Bool) → is_had units row g.name ≡ b → take n (sought_from units row (g ∷ gs)) ≡ take n row
+    by rest true e = rw e (rest row h)
+    by rest false e = rw e (rest (row ++ g ∷ []) (omega (arith, length-append row (g ∷ []))) ∙ take-append-le n row (g ∷ []) h)
+
+-- what is kept of a row decides what is kept of the row behind it
+pub kept : (units : List (List ℕ × ℕ)) (row gs : List UnitReference) → take 10 (sought_from units (take 10 row) gs) ≡ take 10 (sought_from units row gs)
+kept units row gs = by (cases_lt (length row) 10)
+  where
+    by : (length row < 10) ⊎ (10 ≤ length row) → take 10 (sought_from units (take 10 row) gs) ≡ take 10 (sought_from units row gs)
+    by (inl h) = ap (λ (r : List UnitReference). take 10 (sought_from units r gs)) (take_all 10 row (omega arith))
+    by (inr h) =
+        let long : length (take 10 row) ≡ 10 = length-take-le 10 row h in
+        row_front units 10 (take 10 row) gs (omega (arith, long)) ∙ (take_all 10 (take 10 row) (omega (arith, long)) ∙ sym (row_front units 10 row gs h))
+
+-- one name more, which is had, or for which there is no place, or which is kept
+pub kept_had : (units : List (List ℕ × ℕ)) (row : List UnitReference) (g : UnitReference) → length row ≤ 10 → is_had units row g.name ≡ true → row ≡ take 10 (sought_from units row (g ∷ []))
+kept_had units row g h e = rw e (sym (take_all 10 row h))
+
+pub kept_full : (units : List (List ℕ × ℕ)) (row : List UnitReference) (g : UnitReference) → length row ≡ 10 → is_had units row g.name ≡ false → row ≡ take 10 (sought_from units row (g ∷ []))
+kept_full units row g h e = rw e (sym (take-append-le 10 row (g ∷ []) (omega arith) ∙ take_all 10 row (omega arith)))
+
+pub kept_new : (units : List (List ℕ × ℕ)) (row : List UnitReference) (g : UnitReference) → length row < 10 → is_had units row g.name ≡ false → row ++ g ∷ [] ≡ take 10 (sought_from units row (g ∷ []))
+kept_new units row g h e = rw e (sym (take_all 10 (row ++ g ∷ []) (omega (arith, length-append row (g ∷ [])))))
+
+-- one record more
+pub references-cons : (file slot rec : ℕ) (r : Record) (rs : List Record) → unit_references file slot rec (r ∷ rs) ≡ unit_references file slot rec (r ∷ []) ++ unit_references file slot (rec + 1) rs
+references-cons file slot rec r rs = by (is_unit_reference r.body) refl
+  where
+    by : (b : Bool) → is_unit_reference r.body ≡ b → unit_references file slot rec (r ∷ rs) ≡ unit_references file slot rec (r ∷ []) ++ unit_references file slot (rec + 1) rs
+    by true e = rw e refl
+    by false e = rw e refl
+
+-- the names that a record seeks, and then those of the records behind it
+pub kept_more : (units : List (List ℕ × ℕ)) (row now : List UnitReference) (file slot rec : ℕ) (r : Record) (rs : List Record)
+    → now ≡ take 10 (sought_from units row (unit_references file slot rec (r ∷ [])))
+    → take 10 (sought_from units now (unit_references file slot (rec + 1) rs)) ≡ take 10 (sought_from units row (unit_references file slot rec (r ∷ rs)))
+kept_more units row now file slot rec r rs is =
+    let one = unit_references file slot rec (r ∷ []) in
+    let rest = unit_references file slot (rec + 1) rs in
+    ap (λ (q : List UnitReference). take 10 (sought_from units q rest)) is
+    ∙ (kept units (sought_from units row one) rest
+    ∙ sym (ap (λ (gs : List UnitReference). take 10 (sought_from units row gs)) (references-cons file slot rec r rs) ∙ ap (λ (q : List UnitReference). take 10 q) (sought-append units row one rest)))
+
+-- the names that a segment seeks, and then those of the segments behind it
+pub kept_segment : (units : List (List ℕ × ℕ)) (row now one rest all : List UnitReference) → all ≡ one ++ rest → now ≡ take 10 (sought_from units row one) → take 10 (sought_from units now rest) ≡ take 10 (sought_from units row all)
+kept_segment units row now one rest all split is =
+    ap (λ (q : List UnitReference). take 10 (sought_from units q rest)) is
+    ∙ (kept units (sought_from units row one) rest
+    ∙ sym (ap (λ (gs : List UnitReference). take 10 (sought_from units row gs)) split ∙ ap (λ (q : List UnitReference). take 10 q) (sought-append units row one rest)))
+
+-- the k-th name of what is kept
+pub kept_at : (n k : ℕ) (row : List UnitReference) → k < n → slice_get (take n row) k ≡ slice_get row k
+kept_at zero k row h = absurd (omega arith)
+kept_at (suc n) k [] h = refl
+kept_at (suc n) zero (g ∷ row) h = refl
+kept_at (suc n) (suc k) (g ∷ row) h = kept_at n k row (omega arith)
+
+-- the rounds, one by one
+module _ (order : Order) (host : List ℕ) (libs : List (List ℕ)) (units : List (List ℕ × ℕ)) (k : ℕ) (row : List UnitReference) where
+  pub no_name_left : (left : List ℕ) → slice_get row k ≡ None → rounds_from order host libs units left k row ≡ record { added = []; fault = None }
+  no_name_left [] h = rw h refl
+  no_name_left (slot ∷ left) h = rw (h, rounds_from) refl
+
+  pub no_slot_left : (g : UnitReference) → slice_get row k ≡ Some g → rounds_from order host libs units [] k row ≡ record { added = []; fault = Some (unplaced_fault order libs g) }
+  no_slot_left g h = rw h refl
+
+  pub round_refused : (slot : ℕ) (left : List ℕ) (g : UnitReference) (f : Fault) → slice_get row k ≡ Some g → placed_fault order host libs g slot ≡ Some f
+      → rounds_from order host libs units (slot ∷ left) k row ≡ record { added = []; fault = Some f }
+  round_refused slot left g f h e = rw (h, rounds_from) (rw (e, rounds_from) refl)
+
+  pub round_adds : (slot : ℕ) (left : List ℕ) (g : UnitReference) (s : Segment) → slice_get row k ≡ Some g → placed_fault order host libs g slot ≡ None → added_segment order host libs g slot ≡ Some s
+      → rounds_from order host libs units (slot ∷ left) k row ≡ after s (rounds_from order host libs units left (k + 1) (sought_from units row (unit_references s.file s.slot 0 s.records)))
+  round_adds slot left g s h e f = rw (h, rounds_from) (rw (e, rounds_from) (rw (f, rounds_from) refl))
+
+-- the fault and the segment of a name in its slot, by the library's entry
+module _ (order : Order) (host : List ℕ) (libs : List (List ℕ)) (g : UnitReference) (slot : ℕ) where
+  pub placed_missing : is_missing order libs g.name ≡ true → placed_fault order host libs g slot ≡ Some (in_record g.file g.slot g.rec reason.MissingUnit)
+  placed_missing m = rw m refl
+
+  module _ (library : ℕ) (file : List ℕ) (m : is_missing order libs g.name ≡ false) (chosen : chosen_library order g.name libs ≡ Some (library, file)) where
+    pub placed_refused : (why : Reason) → entries_reason order g.name file ≡ Some why → placed_fault order host libs g slot ≡ Some (in_slot (library + 1) slot why)
+    placed_refused why e = rw m (rw chosen (rw e refl))
+
+    pub placed_by : (i : ℕ) → entries_reason order g.name file ≡ None → find (is_named order g.name file) slots ≡ Some i → placed_fault order host libs g slot ≡ code_fault order host libs slot Wanted (library + 1, i)
+    placed_by i e f = rw m (rw chosen (rw (e, f) refl))
+
+  pub added_by : (library : ℕ) (file : List ℕ) (i : ℕ) → chosen_library order g.name libs ≡ Some (library, file) → find (is_named order g.name file) slots ≡ Some i
+      → added_segment order host libs g slot ≡ option_map as_added (segment_from order host libs slot g.name Wanted (library + 1, i))
+  added_by library file i chosen f = rw chosen (rw f refl)
+
+-- segments that were added before the rounds that are left
+abbrev pub joined : List Segment → Rounds → Rounds
+joined xs r = record { added = xs ++ r.added; fault = r.fault }
+
+pub joined_more : (xs : List Segment) (s : Segment) (r : Rounds) → joined xs (after s r) ≡ joined (xs ++ s ∷ []) r
+joined_more xs s r = ap (λ (ys : List Segment). record { added = ys; fault = r.fault }) (sym (append_assoc xs (s ∷ []) r.added))
+
+-- the k-th name, as the row that is kept has it
+pub at_round : (row items : List UnitReference) (i n : ℕ) (o : Option UnitReference) → items ≡ take 10 row → i < 10 → n ≡ i → o ≡ slice_get items n → slice_get row i ≡ o
+at_round row items i n o is lt same at =
+    sym (kept_at 10 i row lt) ∙ (ap (λ (q : List UnitReference). slice_get q i) (sym is) ∙ (ap (λ (j : ℕ). slice_get items j) (sym same) ∙ sym at))
+
+-- what is kept of a row has ten names at most
+pub few_kept : (row : List UnitReference) → length (take 10 row) ≤ 10
+few_kept row = omega (arith, length-take 10 row)
+
+-- one number more, where it passes
+pub filter_more : (test : ℕ → Bool) (xs : List ℕ) (i n : ℕ) → i < n → xs ++ filter test (range_with_len i (n - i)) ≡ (xs ++ (if test i then i ∷ [] else [])) ++ filter test (range_with_len (i + 1) (n - (i + 1)))
+filter_more test xs i n lt =
+    ap (λ (ys : List ℕ). xs ++ filter test ys) (range_more i n lt) ∙ by (test i) refl
+  where
+    rest : List ℕ
+    rest = range_with_len (i + 1) (n - (i + 1))
+
+    by : (b : Bool) → test i ≡ b → xs ++ filter test (i ∷ rest) ≡ (xs ++ (if test i then i ∷ [] else [])) ++ filter test rest
+    by true e = rw e (sym (append_assoc xs (i ∷ []) (filter test rest)))
+    by false e = rw e (ap (λ (ys : List ℕ). ys ++ filter test rest) (sym (append-nil xs)))
+
+pub all_if : (P : ℕ → Type 0) (b : Bool) (xs : List ℕ) (i : ℕ) → All P xs → P i → All P (xs ++ (if b then i ∷ [] else []))
+all_if P true xs i all h = All-append P xs (i ∷ []) all (All-cons P i [] h (All-nil P))
+all_if P false xs i all h = All-append P xs [] all (All-nil P)
+
+pub few_if : (b : Bool) (xs : List ℕ) (i n m : ℕ) → length xs + m ≤ i → n ≡ i + 1 → length (xs ++ (if b then i ∷ [] else [])) + m ≤ n
+few_if true xs i n m h e = omega (arith, length-append xs (i ∷ []))
+few_if false xs i n m h e = omega (arith, length-append xs [])

@@ -1,0 +1,72 @@
+-- The segments of a link, put together slot by slot from the host's own and those that were added.
+use Rattle.std.proofs.Common.{◌≡◌, ◌≢◌, ℕ, zero, suc, ◌+◌, ◌<◌, ◌≤◌, List, [], ◌∷◌, Bool, true, false, if◌then◌else◌, Option, Some, None, map, refl, sym, ◌∙◌, ap, subst, inl, inr, arith}
+use Rattle.std.specs.Prelude.{◌⊎◌, All}
+use Rattle.std.proofs.lemmas.Option.{same_Some}
+use Rattle.std.specs.List.{range_with_len, filter_map, find}
+use Rattle.std.specs.Option.{option_or, option_map, IfSome}
+use Rattle.std.proofs.lemmas.Bool.{cases_lt, ne_eqb, eq-eqb}
+use Rattle.ps_words.specs.declared.order.Order.{Order}
+use Rattle.ps_resolve.specs.Sources.{Segment, own_segment, own_segments, is_empty}
+use Rattle.ps_resolve.specs.Added.{added, segments, segment_at}
+use Rattle.ps_resolve.specs.Faults.{is_role}
+use Rattle.ps_resolve.specs.Views.{segment_of, IsSound, is_in_slot, in_slot, in_slots}
+use Rattle.ps_resolve.specs.declared.segment.Segment.{Segment as SegmentView}
+use Rattle.ps_resolve.proofs.ReadingKnown.{own_parts, find_has}
+
+-- each number's segment stands in its slot
+abbrev InPlace : (ℕ → Option Segment) → Type 0
+InPlace f = (i : ℕ) (s : Segment) → f i ≡ Some s → s.slot ≡ i
+
+other_slot : (j : ℕ) (s : Segment) → s.slot ≢ j → is_in_slot j s ≡ false
+other_slot j s differs = ne_eqb s.slot j differs
+
+none_before : (f : ℕ → Option Segment) → InPlace f → (j n a : ℕ) → j < a → find (is_in_slot j) (filter_map f (range_with_len a n)) ≡ None
+none_before f place j zero a lt = refl
+none_before f place j (suc n) a lt = by (f a) refl (none_before f place j n (a + 1) (omega arith))
+  where
+    by : (o : Option Segment) → f a ≡ o → find (is_in_slot j) (filter_map f (range_with_len (a + 1) n)) ≡ None → find (is_in_slot j) (filter_map f (a ∷ range_with_len (a + 1) n)) ≡ None
+    by None e rest = rw e rest
+    by (Some s) e rest = let is = place a s e in rw (e, other_slot j s (λ same. omega (arith, is, same, lt))) rest
+
+found_there : (f : ℕ → Option Segment) → InPlace f → (j n a : ℕ) → a ≤ j → j < a + n → find (is_in_slot j) (filter_map f (range_with_len a n)) ≡ f j
+found_there f place j zero a le lt = absurd (omega arith)
+found_there f place j (suc n) a le lt = by (λ h. found_there f place j n (a + 1) (omega (arith, h)) (omega (arith, lt))) (cases_lt a j)
+  where
+    here : (o : Option Segment) → f a ≡ o → a ≡ j → find (is_in_slot j) (filter_map f (a ∷ range_with_len (a + 1) n)) ≡ o
+    here None e same = rw e (none_before f place j n (a + 1) (omega arith))
+    here (Some s) e same = let is = place a s e in let at : is_in_slot j s ≡ true = eq-eqb s.slot j (is ∙ same) in rw (e, at) refl
+
+    later : find (is_in_slot j) (filter_map f (range_with_len (a + 1) n)) ≡ f j → a < j → (o : Option Segment) → f a ≡ o → find (is_in_slot j) (filter_map f (a ∷ range_with_len (a + 1) n)) ≡ f j
+    later rest h None e = rw e rest
+    later rest h (Some s) e = let is = place a s e in rw (e, other_slot j s (λ same. omega (arith, is, same, h))) rest
+
+    by : (a < j → find (is_in_slot j) (filter_map f (range_with_len (a + 1) n)) ≡ f j) → (a < j) ⊎ (j ≤ a) → find (is_in_slot j) (filter_map f (a ∷ range_with_len (a + 1) n)) ≡ f j
+    by rest (inl h) = later (rest h) h (f a) refl
+    by rest (inr h) = let same : a ≡ j = omega arith in here (f a) refl same ∙ ap f same
+
+same_kept : (f g : ℕ → Option Segment) (n a : ℕ) → ((i : ℕ) → i < a + n → f i ≡ g i) → filter_map f (range_with_len a n) ≡ filter_map g (range_with_len a n)
+same_kept f g zero a same = refl
+same_kept f g (suc n) a same = by (g a) refl (same_kept f g n (a + 1) (λ i h. same i (omega arith)))
+  where
+    by : (o : Option Segment) → g a ≡ o → filter_map f (range_with_len (a + 1) n) ≡ filter_map g (range_with_len (a + 1) n) → filter_map f (a ∷ range_with_len (a + 1) n) ≡ filter_map g (a ∷ range_with_len (a + 1) n)
+    by None e rest = rw (same a (omega arith), e) rest
+    by (Some s) e rest = rw (same a (omega arith), e) (ap (λ (xs : List Segment). s ∷ xs) rest)
+
+-- the own segments and the added ones, slot by slot, are those of the link
+pub in_slots_are : (order : Order) (host : List ℕ) (libs : List (List ℕ)) → in_slots order host (own_segments order host libs) (added order host libs) ≡ segments order host libs
+unfolding in_slots segments own_segments
+in_slots_are order host libs =
+    same_kept (in_slot order host (own_segments order host libs) (added order host libs)) (segment_at order host libs) 16 0
+    (λ i h. ap (λ (o : Option Segment). option_or o (if is_role is_empty order host i then find (is_in_slot i) (added order host libs) else None))
+    (found_there (own_segment order host libs) (λ j s e. (own_parts order host libs j s e).0) i 16 0 (omega arith) h))
+
+-- what stands in a slot is sound, where all segments are
+pub sound_in_slot : (order : Order) (host : List ℕ) (own added : List SegmentView) (slot : ℕ) (o : Option SegmentView) → option_map (segment_of order) o ≡ in_slot order host (map (segment_of order) own) (map (segment_of order) added) slot
+    → All (IsSound order) (map (segment_of order) own) → All (IsSound order) (map (segment_of order) added) → IfSome o (λ s. IsSound order (segment_of order s))
+sound_in_slot order host own added slot None e all rest = tt
+sound_in_slot order host own added slot (Some s) e all rest = by (find (is_in_slot slot) (map (segment_of order) own)) refl (is_role is_empty order host slot) refl
+  where
+    by : (p : Option Segment) → find (is_in_slot slot) (map (segment_of order) own) ≡ p → (b : Bool) → is_role is_empty order host slot ≡ b → IsSound order (segment_of order s)
+    by (Some t) f b g = let same : segment_of order s ≡ t = same_Some _ _ (e ∙ rw f refl) in subst (IsSound order) (sym same) (find_has (IsSound order) (is_in_slot slot) (map (segment_of order) own) t f all).1
+    by None f true g = let found = sym (e ∙ rw (f, g) refl) in (find_has (IsSound order) (is_in_slot slot) (map (segment_of order) added) (segment_of order s) found rest).1
+    by None f false g = let none : Some (segment_of order s) ≡ None = e ∙ rw (f, g) refl in cc
