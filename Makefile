@@ -13,7 +13,7 @@ build:
 	cd $(PROGRAM) && rt run -- --version
 
 test:
-	rt ci
+	.ci/run
 
 bench: build
 	python3 bench/large_files.py $(BINARY)

@@ -85,14 +85,14 @@ role_of_kind kind =
     else (if kind == 4 then Err reason.NativeSegment
     else (if nat_le kind 7 then Err reason.Intrinsic else Err reason.UnknownKind)))))
 
--- A unit of no address or no length is wanted from a library if it has a name. Any other slot of no length is empty, and the rest are filled.
+-- A slot of kind 3 with address 0 or length 0 is wanted if it has a name, and empty if it has none. Any other slot of length 0 is empty. The rest are filled, and their kind decides.
 abbrev pub role_of : Entry → Result Role Reason
 role_of e =
     if e.kind == 3 && (e.address == 0 || e.length == 0) && not (is_nameless e.name) then Ok role.Wanted
     else (if e.kind == 3 && (e.address == 0 || e.length == 0) then Ok role.Empty
     else (if e.length == 0 then Ok role.Empty else role_of_kind e.kind))
 
--- the slot has a code of its own, whatever its kind
+-- the slot is neither wanted nor empty, whatever its kind; whether its code can be read is another question
 abbrev pub is_filled : Entry → Bool
 is_filled e = not (e.length == 0) && not (e.kind == 3 && e.address == 0)
 

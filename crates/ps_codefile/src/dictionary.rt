@@ -165,10 +165,11 @@ impl<'a> Dict<'a> {
 
     /// What a slot of a host is for.
     ///
-    /// A slot of kind 3 (UNITSEG) with address 0 or length 0 is `Wanted`, or `Empty` where
-    /// its name is eight blanks or eight zero bytes; any other slot of length 0 is `Empty`.
-    /// The rest are filled: kind 0 `Plain`, 1 `Host`, 3 `Unit`. Refuses `SegmentProcedure`
-    /// for kind 2, `NativeSegment` for 4, `Intrinsic` for 5 to 7 and `UnknownKind` above.
+    /// A slot of kind 3 (UNITSEG) with address 0 or length 0 is `Wanted` if it has a name,
+    /// and `Empty` if it has none, which is eight blanks or eight zero bytes. Any other slot
+    /// of length 0 is `Empty`. The rest are filled, and their kind decides: 0 `Plain`,
+    /// 1 `Host`, 3 `Unit`. Refuses `SegmentProcedure` for kind 2, `NativeSegment` for 4,
+    /// `Intrinsic` for 5 to 7 and `UnknownKind` above.
     pub fn role(&self, slot: u8) -> Result<Role, Reason>
         requires { slot < 16 }
         ensures { result ≡ role_of (entry_at self.now.order self.now.file slot) }
@@ -176,8 +177,9 @@ impl<'a> Dict<'a> {
         self.entry(slot).role()
     }
 
-    /// The slot has a code in this file, whatever its kind: its length is not 0, nor
-    /// its address where its kind is 3.
+    /// The slot is neither wanted nor empty, whatever its kind: its length is not 0, nor its
+    /// address where its kind is 3. Whether its code can be read is another question, which
+    /// `code` answers.
     pub fn filled(&self, slot: u8) -> bool
         requires { slot < 16 }
         ensures { result ≡ is_filled (entry_at self.now.order self.now.file slot) }

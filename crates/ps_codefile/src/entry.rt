@@ -99,7 +99,7 @@ impl Entry {
         }
     }
 
-    /// The entry has a code, whatever its kind.
+    /// The slot is neither wanted nor empty, whatever its kind.
     pub(crate) fn is_filled(&self) -> bool
         ensures { result ≡ filled_spec self.now }
     {
