@@ -60,9 +60,9 @@ fn text_of<A: Allocator + Copy>(
 
 /// `map_text` of these files.
 #[derive(Clone, Copy)]
-struct Map<'a> {
-    host: &'a [u8],
-    libraries: &'a [&'a [u8]],
+pub(crate) struct Map<'a> {
+    pub host: &'a [u8],
+    pub libraries: &'a [&'a [u8]],
 }
 
 impl<'a> Growing for Map<'a> {
