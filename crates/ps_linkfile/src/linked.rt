@@ -70,7 +70,8 @@ impl<'a, A: Allocator + Copy> Linked<'a, A> {
 /// `Linked::write` writes. Nothing is written yet.
 ///
 /// `host` and each of `libs` are whole code files; of the libraries that have a unit, the first is
-/// used. Refuses `Refused` with the first fault of all, and `Memory` where memory was refused.
+/// used. Refuses `Refused` with the first fault of all, and `Memory` where memory was refused, which
+/// is asked for only once the files are read and no fault stands in them.
 /// Source: this project's profile.
 pub fn prepare<'a, A: Allocator + Copy>(
     alloc: A,
@@ -95,8 +96,8 @@ pub fn prepare<'a, A: Allocator + Copy>(
 /// by the private words; every kind is LINKED and no link information is left.
 ///
 /// `host` and each of `libs` are whole code files; of the libraries that have a unit, the first is
-/// used. Refuses `Refused` with the first fault of all, and `Memory` where memory was refused;
-/// nothing was written then. Refuses `Write` where the writer failed, which then has a front of the
+/// used. Refuses `Refused` with the first fault of all, and `Memory` where memory was refused, which
+/// is asked for only once the files are read and no fault stands in them; nothing was written then. Refuses `Write` where the writer failed, which then has a front of the
 /// linked file.
 /// Source: UCSD Pascal II.0 manual, code file format; the published II.0 Linker source; the layout
 /// is this project's profile.

@@ -155,7 +155,7 @@ fn map_of_plan<A: Allocator + Copy>(alloc: A, plan: &Plan<'_, A>) -> Result<Stri
 ///
 /// `host` and each of `libs` are whole code files; of the libraries that have a unit, the first is
 /// used. Refuses what `link` refuses: `Refused` with the first fault of all, and `Memory` where memory
-/// was refused.
+/// was refused, which is asked for only once the files are read and no fault stands in them.
 /// Source: this project's profile.
 pub fn map_text<'a, A: Allocator + Copy>(
     alloc: A,
