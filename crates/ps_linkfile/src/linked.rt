@@ -1,13 +1,16 @@
-ghost use Rattle.std.specs.Prelude.{◌≡◌, ◌+◌, map, IfOk, IfErr, OnOk, OnErr};
+ghost use Rattle.std.specs.Prelude.{◌≡◌, ◌+◌, map, length, IfOk, IfErr, OnOk, OnErr};
 ghost use Rattle.std.specs.Io.KnownBytes.{Appends};
 ghost use Rattle.ps_linkfile.specs.LinkedFile.{all_blocks, summary_of};
 ghost use Rattle.ps_linkfile.specs.Writing.{extents_of, file_of, summary_in, StandsFor};
 ghost use Rattle.ps_linkfile.specs.Outcomes.{AppendsFront, AppendsLinkedFile, NoneStands, NamesFirst, IsUnprepared, IsUnlinked, LeavesUntouched, LeavesFront};
+ghost use Rattle.ps_linkfile.specs.Counts.{AreAtMost, IfDevice, IfStalled, NoneFailed, OneError, OneStall, RisesByBytes, RisesByPieces};
 
-use crate::dictionary::dictionary_of;
+use crate::counts::Counts;
 use crate::error::{LinkError, WriteFault};
 use crate::summary::Summary;
-use crate::writing::{write_all_of, write_codes};
+use crate::tally::ByWriter;
+use crate::told::ToldWriter;
+use crate::writing::write_file;
 use ps_laws::first_of_all;
 use ps_resolve::{Plan, resolve};
 use ps_words::blocks_of;
@@ -60,8 +63,31 @@ impl<'a, A: Allocator + Copy> Linked<'a, A> {
         ensures summary { IfOk result (λ s. s ≡ summary_in self.now) }
         ensures front { OnErr result (AppendsFront (W.contents out.old) (W.contents out.new) (file_of self.now)) }
     {
-        write_all_of(out, &dictionary_of(&self.plan))?;
-        write_codes(&self.plan, out)?;
+        write_file(&self.plan, out, &mut Counts::new())?;
+        Ok(self.summary())
+    }
+
+    /// Writes the linked file as `write` does, by told writes alone.
+    ///
+    /// Each count of `out` is at most 4294967296 before. `writes` rises by no more than the bytes of
+    /// the linked file, and by no more than its blocks and the rise of `shorts` together. After Ok
+    /// neither `errors` nor `stalls` has risen. Refuses `Device` where a write answered an error,
+    /// which is not repeated: `errors` has then risen by one, and `stalls` not. Refuses `Stalled`
+    /// where a write of at least one byte took none: `stalls` has then risen by one, and `errors`
+    /// not. The writer then has a front of the linked file.
+    /// Source: this project's profile.
+    pub fn write_told<W: ToldWriter>(&self, out: &mut W) -> Result<Summary, WriteFault>
+        requires { AreAtMost (W.counts out.old) 4294967296 }
+        ensures file { OnOk result (Appends (W.contents out.old) (W.contents out.new) (file_of self.now)) }
+        ensures summary { IfOk result (λ s. s ≡ summary_in self.now) }
+        ensures front { OnErr result (AppendsFront (W.contents out.old) (W.contents out.new) (file_of self.now)) }
+        ensures bytes { RisesByBytes (W.counts out.old) (W.counts out.new) (length (file_of self.now)) }
+        ensures blocks { RisesByPieces (W.counts out.old) (W.counts out.new) (summary_in self.now).blocks }
+        ensures ok { OnOk result (NoneFailed (W.counts out.old) (W.counts out.new)) }
+        ensures device { IfErr result (λ e. IfDevice e (OneError (W.counts out.old) (W.counts out.new))) }
+        ensures stalled { IfErr result (λ e. IfStalled e (OneStall (W.counts out.old) (W.counts out.new))) }
+    {
+        write_file(&self.plan, out, &mut ByWriter)?;
         Ok(self.summary())
     }
 }
