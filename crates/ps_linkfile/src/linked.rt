@@ -12,7 +12,7 @@ use crate::tally::ByWriter;
 use crate::told::ToldWriter;
 use crate::writing::write_file;
 use ps_laws::first_of_all;
-use ps_resolve::{Plan, resolve};
+use ps_resolve::{Plan, resolve, slot_names_are_whole};
 use ps_words::blocks_of;
 use std::alloc::{Allocator, Global};
 use std::io::Write;
@@ -110,6 +110,7 @@ pub fn prepare<'a, A: Allocator + Copy>(
     ensures first { IfErr result (NamesFirst host.now (map (λ lib. lib.now) libs.now)) }
 {
     first_of_all();
+    slot_names_are_whole();
     let plan = resolve(alloc, host, libs)?;
     Ok(Linked { plan })
 }

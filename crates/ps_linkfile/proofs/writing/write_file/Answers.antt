@@ -16,14 +16,14 @@ pub returns-in_err-write_all_of-clause-front : goal.returns-in_err-write_all_of-
 returns-in_err-write_all_of-clause-front g c =
     let plan = c.args.plan.now in
     on_err_always c.from_residual.result
-    (front_then _ _ (dictionary plan.order plan.host (extents_of plan)) (padded_codes plan.order plan.origins plan.edits)
+    (front_then _ _ (dictionary plan.order plan.names plan.host (extents_of plan)) (padded_codes plan.order plan.origins plan.edits)
     (subst (λ (bytes : List ℕ). AppendsFront (g.W.Write.contents c.args.out.now) (g.W.Write.contents c.write_all_of.new.out) bytes) c.dictionary_of.ensures c.in_err-write_all_of.ensures.front))
 
 pub returns-in_err-write_all_of-clause-writes : goal.returns-in_err-write_all_of-clause-writes
 returns-in_err-write_all_of-clause-writes g c =
     let plan = c.args.plan.now in
-    let first : length (dictionary plan.order plan.host (extents_of plan)) ≡ 512 = ap (λ (bytes : List ℕ). length bytes) (sym c.dictionary_of.ensures) ∙ omega arith in
-    let whole = length-append (dictionary plan.order plan.host (extents_of plan)) (padded_codes plan.order plan.origins plan.edits) in
+    let first : length (dictionary plan.order plan.names plan.host (extents_of plan)) ≡ 512 = ap (λ (bytes : List ℕ). length bytes) (sym c.dictionary_of.ensures) ∙ omega arith in
+    let whole = length-append (dictionary plan.order plan.names plan.host (extents_of plan)) (padded_codes plan.order plan.origins plan.edits) in
     record {
       by_bytes = omega (arith, c.write_all_of.ensures.writes.by_bytes, first, whole);
       by_pieces = omega (arith, c.write_all_of.ensures.writes.by_pieces);
@@ -41,7 +41,7 @@ pub returns-clause-all : goal.returns-clause-all
 returns-clause-all g c =
     let plan = c.args.plan.now in
     on_ok_weaker c.write_codes.result
-    (appends_twice _ _ _ (dictionary plan.order plan.host (extents_of plan)) (padded_codes plan.order plan.origins plan.edits)
+    (appends_twice _ _ _ (dictionary plan.order plan.names plan.host (extents_of plan)) (padded_codes plan.order plan.origins plan.edits)
     (subst (λ (bytes : List ℕ). Appends (g.W.Write.contents c.args.out.now) (g.W.Write.contents c.write_all_of.new.out) bytes) c.dictionary_of.ensures c.in_ok-write_all_of.ensures.all))
     c.write_codes.ensures.all
 
@@ -49,7 +49,7 @@ pub returns-clause-front : goal.returns-clause-front
 returns-clause-front g c =
     let plan = c.args.plan.now in
     on_err_weaker c.write_codes.result
-    (front_last _ _ _ (dictionary plan.order plan.host (extents_of plan)) (padded_codes plan.order plan.origins plan.edits)
+    (front_last _ _ _ (dictionary plan.order plan.names plan.host (extents_of plan)) (padded_codes plan.order plan.origins plan.edits)
     (subst (λ (bytes : List ℕ). Appends (g.W.Write.contents c.args.out.now) (g.W.Write.contents c.write_all_of.new.out) bytes) c.dictionary_of.ensures c.in_ok-write_all_of.ensures.all))
     c.write_codes.ensures.front
 
@@ -57,9 +57,9 @@ pub returns-clause-writes : goal.returns-clause-writes
 returns-clause-writes g c =
     let plan = c.args.plan.now in
     let n = all_blocks (extents_of plan) in
-    let first : length (dictionary plan.order plan.host (extents_of plan)) ≡ 512 = ap (λ (bytes : List ℕ). length bytes) (sym c.dictionary_of.ensures) ∙ omega arith in
+    let first : length (dictionary plan.order plan.names plan.host (extents_of plan)) ≡ 512 = ap (λ (bytes : List ℕ). length bytes) (sym c.dictionary_of.ensures) ∙ omega arith in
     let rest : length (padded_codes plan.order plan.origins plan.edits) ≡ 512 * n = codes_len plan.order plan.origins plan.edits c.requires.ready.edits in
-    let whole = length-append (dictionary plan.order plan.host (extents_of plan)) (padded_codes plan.order plan.origins plan.edits) in
+    let whole = length-append (dictionary plan.order plan.names plan.host (extents_of plan)) (padded_codes plan.order plan.origins plan.edits) in
     rises_then _ _ _ (length c.dictionary_of.result) 1 (512 * n) n _ (1 + n) c.write_all_of.ensures.writes c.write_codes.ensures.writes (omega (arith, first, rest, whole)) (omega arith)
 
 pub returns-clause-ok : goal.returns-clause-ok
