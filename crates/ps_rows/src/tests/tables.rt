@@ -42,7 +42,7 @@ pub(crate) enum Memory {
 
 impl Memory {
     /// Checks a link's answer and what was written.
-    fn answers(
+    pub(crate) fn answers(
         self,
         rt: &(impl Abort + AllocGlobal),
         what: &str,
