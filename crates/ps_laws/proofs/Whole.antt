@@ -1,5 +1,5 @@
 -- The first fault of all is the least that stands.
-use Rattle.std.proofs.Common.{◌≡◌, ℕ, ◌+◌, ◌≤◌, List, [], ◌∷◌, Option, Some, None, refl, sym, ap, subst, ◌∙◌, inl, inr, arith}
+use Rattle.std.proofs.Common.{◌≡◌, ℕ, ◌+◌, ◌≤◌, List, [], ◌∷◌, Option, Some, None, true, refl, sym, ap, subst, ◌∙◌, inl, inr, arith}
 use Rattle.std.specs.Prelude.{◌⊎◌}
 use Rattle.std.specs.List.{slice_get}
 use Rattle.std.proofs.lemmas.Bool.{cases_lt}
@@ -9,7 +9,7 @@ use Rattle.ps_resolve.specs.AllFaults.{first_fault, reading_fault}
 use Rattle.ps_resolve.specs.First.{Before, Least, nothing, this}
 use Rattle.ps_resolve.specs.Sources.{order_of}
 use Rattle.ps_resolve.specs.Added.{segments}
-use Rattle.ps_resolve.specs.Standing.{Step, OfHost, OfSlots, OfNoHost, OfLibraries, OfSources, OfDefinitions, OfPrivates, OfDataSize, OfReferences, turn, key, Precedes, StandsIn, FaultAt, IsFirst}
+use Rattle.ps_resolve.specs.Standing.{Step, OfHost, OfSlots, OfNoHost, OfLibraries, OfSources, OfDefinitions, OfPrivates, OfDataSize, OfReferences, turn, is_of_reading, key, Precedes, StandsIn, FaultAt, NoneStandsInReading, IsFirst}
 use Rattle.ps_laws.proofs.Least.{least_same, least_or, least_map}
 use Rattle.ps_laws.proofs.Steps.{step_1, step_2, step_3, step_4}
 use Rattle.ps_laws.proofs.Sources.{OneStop, step_5}
@@ -171,3 +171,49 @@ only law host libs f a = go (first_fault host libs) refl
     go : (o : Option Fault) → first_fault host libs ≡ o → o ≡ Some f
     go None e = absurd (none law host libs e a.step f a.stands)
     go (Some g) e = ap (λ (x : Fault). Some x) (one law host libs g f (some law host libs g e) a)
+
+-- what is computed for a step, and what stands in it
+no_or : (o p : Option Fault) → option_or o p ≡ None → (o ≡ None) × (p ≡ None)
+no_or None p e = (refl, e)
+no_or (Some f) p e = absurd (cc)
+
+none_stands : {B : Fault → Fault → Type 0} {S : Fault → Type 0} {o : Option Fault} → Least B S o → o ≡ None → (f : Fault) → S f → ⊥
+none_stands (nothing n) e = n
+none_stands (this x s l) e = absurd (cc)
+
+none_found : {B : Fault → Fault → Type 0} {S : Fault → Type 0} {o : Option Fault} → Least B S o → ((f : Fault) → S f → ⊥) → o ≡ None
+none_found (nothing n) h = refl
+none_found (this x s l) h = absurd (h x s)
+
+pub read : OneStop → (host : List ℕ) (libs : List (List ℕ)) → reading_fault host libs ≡ None → NoneStandsInReading host libs
+unfolding reading_fault
+read law host libs e =
+    let order = order_of host in
+    let of_host = no_or (host_fault host) _ e in
+    let of_slots = no_or (slots_fault order host) _ of_host.1 in
+    let of_no_host = no_or (no_host_fault order host) _ of_slots.1 in
+    let of_libraries = no_or (libraries_fault order libs) (sources_fault order host libs) of_no_host.1 in
+    λ step f. elim step as (λ s. is_of_reading s ≡ true → FaultAt host libs s f → ⊥) [
+      | OfHost ↦ λ r h. none_stands (step_1 host) of_host.0 f h.stands
+      | OfSlots ↦ λ r h. none_stands (step_2 order host) of_slots.0 f h.stands
+      | OfNoHost ↦ λ r h. none_stands (step_3 order host) of_no_host.0 f h.stands
+      | OfLibraries ↦ λ r h. none_stands (step_4 order libs) of_libraries.0 f h.stands
+      | OfSources ↦ λ r h. none_stands (step_5 law order host libs) of_libraries.1 f h.stands
+      | OfDefinitions ↦ λ r h. cc
+      | OfPrivates ↦ λ r h. cc
+      | OfDataSize ↦ λ r h. cc
+      | OfReferences ↦ λ r h. cc
+    ]
+
+pub unread : OneStop → (host : List ℕ) (libs : List (List ℕ)) → NoneStandsInReading host libs → reading_fault host libs ≡ None
+unfolding reading_fault
+unread law host libs none_in =
+    let order = order_of host in
+    let absent = λ (step : Step) (r : is_of_reading step ≡ true) (f : Fault) (s : StandsIn step order host libs f). none_in step f r (record { stands = s }) in
+    rw (
+      none_found (step_1 host) (absent OfHost refl),
+      none_found (step_2 order host) (absent OfSlots refl),
+      none_found (step_3 order host) (absent OfNoHost refl),
+      none_found (step_4 order libs) (absent OfLibraries refl),
+      none_found (step_5 law order host libs) (absent OfSources refl),
+    )

@@ -3,6 +3,7 @@
 mod faulty;
 mod files;
 mod inputs;
+mod libraries;
 mod linking;
 mod mapping;
 mod memory;

@@ -1,12 +1,16 @@
 -- The codes of a plan's sources, one after another.
-use Rattle.std.proofs.Common.{◌≡◌, ℕ, ◌+◌, ◌<◌, List, [], ◌∷◌, ◌++◌, length, drop, Option, Some, None, refl, sym, ◌∙◌, ap, subst, append_assoc}
+use Rattle.std.proofs.Common.{◌≡◌, ℕ, ◌+◌, ◌*◌, ◌<◌, List, [], ◌∷◌, ◌++◌, length, map, drop, Option, Some, None, refl, sym, ◌∙◌, ap, subst, append_assoc, arith, length-append}
+use Rattle.std.proofs.lemmas.List.FromFn.{length-map-range_with_len}
 use Rattle.std.specs.Io.KnownBytes.{Appends}
+use Rattle.ps_words.specs.Words.{blocks}
 use Rattle.ps_words.specs.declared.order.Order.{Order}
 use Rattle.ps_words.specs.declared.edit.Edit.{Edit}
 use Rattle.ps_resolve.specs.Plans.{Origin}
-use Rattle.ps_linkfile.specs.LinkedFile.{padded}
-use Rattle.ps_linkfile.specs.Writing.{padded_codes, HaveEdits}
+use Rattle.ps_patch.specs.Patched.{patched_or_zero}
+use Rattle.ps_linkfile.specs.LinkedFile.{all_blocks, padded}
+use Rattle.ps_linkfile.specs.Writing.{extent_of_origin, padded_codes, HaveEdits}
 use Rattle.ps_linkfile.specs.Outcomes.{AppendsFront}
+use Rattle.ps_linkfile.proofs.Extents.{all_blocks-cons}
 use Rattle.ps_linkfile.proofs.Fronts.{appends_twice, front_more}
 
 -- the codes of the first so many sources were appended
@@ -44,3 +48,11 @@ pub codes_front : (order : Order) (os : List Origin) (ds : List (List Edit)) (co
     → IsAt os ds count o d → CodesSoFar order os ds count a b front → AppendsFront b c (padded order o.code d) → AppendsFront a c (padded_codes order os ds)
 codes_front order os ds count a b c front o d at h k =
     front_more a b c front (padded order o.code d) (padded_codes order (drop (count + 1) os) (drop (count + 1) ds)) (padded_codes order os ds) (joined_here order os ds count o d front at h.joined) h.written k
+
+-- the codes are whole blocks
+pub codes_len : (order : Order) (os : List Origin) (ds : List (List Edit)) → HaveEdits os ds → length (padded_codes order os ds) ≡ 512 * all_blocks (map extent_of_origin os)
+codes_len order [] ds h = omega arith
+codes_len order (o ∷ os) [] h = absurd h
+codes_len order (o ∷ os) (d ∷ ds) h =
+    length-append (padded order o.code d) (padded_codes order os ds)
+    ∙ omega (arith, length-map-range_with_len (patched_or_zero order o.code d) 0 (512 * blocks (length o.code)), codes_len order os ds h.1, all_blocks-cons (extent_of_origin o) (map extent_of_origin os))

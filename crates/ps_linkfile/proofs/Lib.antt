@@ -1,5 +1,6 @@
 pub mod Fronts
 pub mod Extents
+pub mod Rising
 pub mod Pairs
 pub mod Codes
 pub mod Views

@@ -1,16 +1,18 @@
 -- The map of a plan is the map of its link, and the lines of its sources one after another.
 use Rattle.std.proofs.Common.{◌≡◌, ℕ, zero, suc, ◌+◌, ◌-◌, ◌*◌, ◌≤◌, ◌<◌, List, [], ◌∷◌, ◌++◌, length, map, get_or, take, drop, Option, Some, None, refl, sym, ◌∙◌, ap, subst, add-one, append_assoc, arith}
-use Rattle.std.specs.Prelude.{option_and_then, slice_get, slice_range, codes, decimal, ⊤}
-use Rattle.std.specs.List.{filter_map, cons_option, flat_map}
-use Rattle.std.specs.Result.{result_ok}
-use Rattle.std.proofs.lemmas.List.{append-nil, drop-take, drop-drop, take-take, take_all, flat_map_more}
+use Rattle.std.specs.Prelude.{◌≢◌, ◌==◌, true, false, slice_get, codes, decimal}
+use Rattle.std.specs.List.{find, flat_map}
+use Rattle.std.specs.Option.{option_map_or}
+use Rattle.std.proofs.lemmas.Bool.{ne_eqb, eq-eqb}
+use Rattle.std.proofs.lemmas.List.{append-nil, take_all, flat_map_more}
+use Rattle.std.proofs.lemmas.List.FromFn.{get_or-map-range_with_len}
+use Rattle.std.proofs.lemmas.Option.{same_Some, unwrap_or-slice_get}
 use Rattle.std.proofs.lemmas.List.Sums.{sum_by-cons}
 use Rattle.ps_words.specs.Words.{blocks}
 use Rattle.ps_words.specs.declared.order.Order.{Order}
-use Rattle.ps_codefile.specs.Dictionary.{slots, name_at, entry_at, role_of, code_of}
-use Rattle.ps_codefile.specs.declared.entry.Role.{Role}
-use Rattle.ps_resolve.specs.Sources.{Segment, segment_from, source_of, file_at, order_of, host_records}
-use Rattle.ps_resolve.specs.Added.{segments, segment_at}
+use Rattle.ps_codefile.specs.Dictionary.{slots, name_at}
+use Rattle.ps_resolve.specs.Sources.{Segment, order_of, host_records}
+use Rattle.ps_resolve.specs.Added.{segments, slot_name, slot_names}
 use Rattle.ps_resolve.specs.Privates.{next_of, total_words}
 use Rattle.ps_resolve.specs.Linking.{data_size}
 use Rattle.ps_resolve.specs.Plans.{Planned, Origin, origin_of, origin_of_source, IsPlan}
@@ -20,47 +22,43 @@ use Rattle.ps_resolve.specs.declared.plan.Source.{Source}
 use Rattle.ps_linkfile.specs.LinkedFile.{Extent, extents, block_of, all_blocks}
 use Rattle.ps_linkfile.specs.Writing.{extent_of_origin, extents_of, Ascend}
 use Rattle.ps_linkfile.specs.Lines.{shown, two_digits}
-use Rattle.ps_linkfile.specs.MapText.{code_line, segment_line, source_line, definition_line, private_line, last_line, map_of, map_in}
+use Rattle.ps_linkfile.specs.MapText.{code_line, segment_line, name_in, source_line, definition_line, private_line, last_line, map_of, map_in}
 use Rattle.ps_linkfile.proofs.Extents.{Left, left_start, left_more, first_block}
-use Rattle.ps_linkfile.proofs.Slots.{and_then_some, map_some}
+use Rattle.ps_linkfile.proofs.Slots.{extent_at, segments_ascend}
 use Rattle.ps_linkfile.proofs.Plans.{plan_extents}
 use Rattle.ps_linkfile.proofs.Views.{no_source, view_at}
 
--- a segment has the name that the host's dictionary has for its slot
-segment_named : (order : Order) (host : List ℕ) (libs : List (List ℕ)) (slot : ℕ) (s : Segment) → segment_at order host libs slot ≡ Some s → s.name ≡ name_at host s.slot
-segment_named order host libs slot s h =
-    let at_role = and_then_some (λ (role : Role). option_and_then (segment_from order host libs slot role) (source_of order host libs slot role)) (result_ok (role_of (entry_at order host slot))) s h in
-    let role = at_role.0 in
-    let at_source = and_then_some (segment_from order host libs slot role) (source_of order host libs slot role) s at_role.1.1 in
-    let file = file_at host libs at_source.0.0 in
-    let e = entry_at order file at_source.0.1 in
-    let at_code = map_some _ (result_ok (code_of file e)) s at_source.1.1 in
-    let of_slot : slot ≡ s.slot = ap (λ (t : Segment). t.slot) at_code.1.1 in
-    let of_name : name_at host slot ≡ s.name = ap (λ (t : Segment). t.name) at_code.1.1 in
-    sym of_name ∙ ap (λ i. name_at host i) of_slot
+-- each segment of a row that rises by slot is found there by its slot
+other_slot : (slot : ℕ) (s : Segment) → s.slot ≢ slot → (s.slot == slot) ≡ false
+other_slot slot s differs = ne_eqb s.slot slot differs
 
-abbrev Named : List ℕ → List Segment → Type 0
-Named host [] = ⊤
-Named host (s ∷ ss) = (s.name ≡ name_at host s.slot) × Named host ss
+found_in : (ss : List Segment) (from : ℕ) → Ascend from (map extent_at ss) → (i : ℕ) (s : Segment) → slice_get ss i ≡ Some s → (from ≤ s.slot) × (s.slot < 16) × (find (λ (t : Segment). t.slot == s.slot) ss ≡ Some s)
+found_in [] from a i s h = cc
+found_in (t ∷ ss) from a zero s h =
+    let same : t ≡ s = same_Some _ _ h in
+    let at : (t.slot == s.slot) ≡ true = eq-eqb t.slot s.slot (ap (λ (x : Segment). x.slot) same) in
+    let is = ap (λ (x : Segment). x.slot) same in
+    (omega (arith, is, a.0), omega (arith, is, a.1), rw at h)
+found_in (t ∷ ss) from a (suc i) s h =
+    let rest = found_in ss (t.slot + 1) a.2 i s h in
+    let off : (t.slot == s.slot) ≡ false = other_slot s.slot t (λ same. omega (arith, same, rest.0)) in
+    (omega (arith, a.0, rest.0), rest.1, rw off rest.2)
 
-row_named : (host : List ℕ) (f : ℕ → Option Segment) → ((x : ℕ) (s : Segment) → f x ≡ Some s → s.name ≡ name_at host s.slot) → (xs : List ℕ) → Named host (filter_map f xs)
-row_named host f h [] = tt
-row_named host f h (x ∷ xs) = at (f x) refl (row_named host f h xs)
-  where
-    at : (o : Option Segment) → f x ≡ o → Named host (filter_map f xs) → Named host (cons_option o (filter_map f xs))
-    at None is rest = rest
-    at (Some s) is rest = (h x s is, rest)
-
-segments_named : (order : Order) (host : List ℕ) (libs : List (List ℕ)) → Named host (segments order host libs)
-unfolding segments
-segments_named order host libs = row_named host (segment_at order host libs) (segment_named order host libs) slots
+-- the name of a segment is that of its slot, among the names of all
+name_within : (host : List ℕ) (ss : List Segment) → Ascend 0 (map extent_at ss) → (i : ℕ) (s : Segment) → slice_get ss i ≡ Some s → name_in (slot_names host ss) s.slot ≡ s.name
+unfolding slot_names
+name_within host ss a i s h =
+    let found = found_in ss 0 a i s h in
+    unwrap_or-slice_get (map (slot_name host ss) slots) s.slot []
+    ∙ (get_or-map-range_with_len (slot_name host ss) 0 16 s.slot s.slot [] found.1 (omega arith)
+    ∙ ap (λ (o : Option Segment). option_map_or (λ (t : Segment). t.name) o (name_at host s.slot)) found.2)
 
 -- the lines of the sources are those of the segments
-lines_are : (host : List ℕ) (cs : List Extent) (ss : List Segment) → Named host ss → flat_map (source_line host cs) (map origin_of ss) ≡ flat_map (segment_line cs) ss
-lines_are host cs [] h = refl
-lines_are host cs (s ∷ ss) h =
-    ap (λ (name : List ℕ). code_line s.slot name s.file s.index (block_of cs s.slot) (length s.code) ++ flat_map (source_line host cs) (map origin_of ss)) (sym h.0)
-    ∙ ap (λ (bs : List ℕ). segment_line cs s ++ bs) (lines_are host cs ss h.1)
+lines_are : (names : List (List ℕ)) (cs : List Extent) (ss : List Segment) → ((i : ℕ) (s : Segment) → slice_get ss i ≡ Some s → name_in names s.slot ≡ s.name) → flat_map (source_line names cs) (map origin_of ss) ≡ flat_map (segment_line cs) ss
+lines_are names cs [] h = refl
+lines_are names cs (s ∷ ss) h =
+    ap (λ (name : List ℕ). code_line s.slot name s.file s.index (block_of cs s.slot) (length s.code) ++ flat_map (source_line names cs) (map origin_of ss)) (h zero s refl)
+    ∙ ap (λ (bs : List ℕ). segment_line cs s ++ bs) (lines_are names cs ss (λ i t e. h (suc i) t e))
 
 four : (a b c d e f g h : List ℕ) → a ≡ e → b ≡ f → c ≡ g → d ≡ h → a ++ b ++ c ++ d ≡ e ++ f ++ g ++ h
 four a b c d e f g h p q r s = cc
@@ -73,30 +71,16 @@ plan_map host libs plan h =
     let cs = extents host libs in
     let next = next_of (host_records ss) in
     let same : extents_of plan ≡ cs = plan_extents host libs plan h in
-    let sources : flat_map (source_line plan.host (extents_of plan)) plan.origins ≡ flat_map (segment_line cs) ss =
-    ap (λ (bytes : List ℕ). flat_map (source_line bytes (extents_of plan)) plan.origins) h.of_host
-    ∙ (ap (λ (es : List Extent). flat_map (source_line host es) plan.origins) same
-    ∙ (ap (λ (os : List Origin). flat_map (source_line host cs) os) h.origins
-    ∙ lines_are host cs ss (segments_named order host libs))) in
+    let sources : flat_map (source_line plan.names (extents_of plan)) plan.origins ≡ flat_map (segment_line cs) ss =
+    ap (λ (names : List (List ℕ)). flat_map (source_line names (extents_of plan)) plan.origins) h.names
+    ∙ (ap (λ (es : List Extent). flat_map (source_line (slot_names host ss) es) plan.origins) same
+    ∙ (ap (λ (os : List Origin). flat_map (source_line (slot_names host ss) cs) os) h.origins
+    ∙ lines_are (slot_names host ss) cs ss (name_within host ss (segments_ascend order host libs)))) in
     let last : last_line plan.next_free plan.data_size (1 + all_blocks (extents_of plan)) ≡ last_line (next + total_words ss) (data_size order ss) (1 + all_blocks cs) =
     ap (λ n. last_line n plan.data_size (1 + all_blocks (extents_of plan))) h.next_free
     ∙ (ap (λ n. last_line (next + total_words ss) n (1 + all_blocks (extents_of plan))) h.data_size
     ∙ ap (λ (es : List Extent). last_line (next + total_words ss) (data_size order ss) (1 + all_blocks es)) same) in
     four _ _ _ _ _ _ _ _ sources (ap (λ (ds : List (List ℕ × Def)). flat_map definition_line ds) h.definitions) (ap (λ (ps : List Private). flat_map private_line ps) h.privates) last
-
--- the name of a slot, among the names of all
-pub name_within : (host : List ℕ) (slot : ℕ) → slot < 16 → slice_range (slice_range host 64 192) (8 * slot) (8 * slot + 8) ≡ name_at host slot
-name_within host slot h =
-    let names = drop 64 host in
-    let size : 128 ≡ 8 * slot + (128 - 8 * slot) = omega arith in
-    let eight : 8 * slot + 8 - 8 * slot ≡ 8 = omega arith in
-    let place : 64 + 8 * slot + 8 - (64 + 8 * slot) ≡ 8 = omega arith in
-    let at : drop (8 * slot) (take 128 names) ≡ take (128 - 8 * slot) (drop (64 + 8 * slot) host) =
-    ap (λ n. drop (8 * slot) (take n names)) size ∙ (drop-take (8 * slot) (128 - 8 * slot) names ∙ ap (λ (xs : List ℕ). take (128 - 8 * slot) xs) (drop-drop (8 * slot) 64 host)) in
-    ap (λ n. take n (drop (8 * slot) (take 128 names))) eight
-    ∙ (ap (λ (xs : List ℕ). take 8 xs) at
-    ∙ (take-take 8 (128 - 8 * slot) (drop (64 + 8 * slot) host) (omega arith)
-    ∙ ap (λ n. take n (drop (64 + 8 * slot) host)) (sym place)))
 
 -- so many of a list and the next
 next_taken : {X : Type 0} (xs : List X) (i : ℕ) (x : X) → drop i xs ≡ x ∷ drop (suc i) xs → take (suc i) xs ≡ take i xs ++ x ∷ []
@@ -129,15 +113,15 @@ pub source_at : (ss : List Source) (os : List Origin) (i : ℕ) → map origin_o
 source_at ss os i h lt = subst (λ (ps : List Origin). drop i ps ≡ origin_of_source (get_or ss i no_source) ∷ drop (i + 1) ps) h (view_at origin_of_source ss i no_source lt)
 
 -- the lines of the first so many sources were added; the code of the next begins in this block
-pub record LinesSoFar (host : List ℕ) (os : List Origin) (count : ℕ) (old new : List ℕ) (block from : ℕ) : Type 0 where
+pub record LinesSoFar (names : List (List ℕ)) (os : List Origin) (count : ℕ) (old new : List ℕ) (block from : ℕ) : Type 0 where
   pub left : Left (map extent_of_origin os) from block (map extent_of_origin (drop count os))
   pub few : count ≤ from
   pub small : block ≤ 1 + 64 * count
   pub blocks : block ≡ 1 + all_blocks (map extent_of_origin (take count os))
-  pub text : new ≡ old ++ flat_map (source_line host (map extent_of_origin os)) (take count os)
+  pub text : new ≡ old ++ flat_map (source_line names (map extent_of_origin os)) (take count os)
 
-pub lines_none : (host : List ℕ) (os : List Origin) (old : List ℕ) → Ascend 0 (map extent_of_origin os) → LinesSoFar host os 0 old old 1 0
-lines_none host os old h = record {
+pub lines_none : (names : List (List ℕ)) (os : List Origin) (old : List ℕ) → Ascend 0 (map extent_of_origin os) → LinesSoFar names os 0 old old 1 0
+lines_none names os old h = record {
   left = left_start (map extent_of_origin os) h;
   few = omega arith;
   small = omega arith;
@@ -145,25 +129,25 @@ lines_none host os old h = record {
   text = sym (append-nil old);
 }
 
-here : (host : List ℕ) (os : List Origin) (count : ℕ) (old new : List ℕ) (block from : ℕ) (o : Origin) → drop count os ≡ o ∷ drop (count + 1) os → LinesSoFar host os count old new block from → Left (map extent_of_origin os) from block (extent_of_origin o ∷ map extent_of_origin (drop (count + 1) os))
-here host os count old new block from o is h = subst (λ (ps : List Origin). Left (map extent_of_origin os) from block (map extent_of_origin ps)) is h.left
+here : (names : List (List ℕ)) (os : List Origin) (count : ℕ) (old new : List ℕ) (block from : ℕ) (o : Origin) → drop count os ≡ o ∷ drop (count + 1) os → LinesSoFar names os count old new block from → Left (map extent_of_origin os) from block (extent_of_origin o ∷ map extent_of_origin (drop (count + 1) os))
+here names os count old new block from o is h = subst (λ (ps : List Origin). Left (map extent_of_origin os) from block (map extent_of_origin ps)) is h.left
 
-pub next_line : (host : List ℕ) (os : List Origin) (count : ℕ) (old new : List ℕ) (block from : ℕ) (o : Origin) → drop count os ≡ o ∷ drop (count + 1) os → LinesSoFar host os count old new block from → (o.slot < 16) × (block < 65536)
-next_line host os count old new block from o is h =
-    let at = here host os count old new block from o is h in
+pub next_line : (names : List (List ℕ)) (os : List Origin) (count : ℕ) (old new : List ℕ) (block from : ℕ) (o : Origin) → drop count os ≡ o ∷ drop (count + 1) os → LinesSoFar names os count old new block from → (o.slot < 16) × (block < 65536)
+next_line names os count old new block from o is h =
+    let at = here names os count old new block from o is h in
     let low : from ≤ o.slot = at.ascend.0 in
     let high : o.slot < 16 = at.ascend.1 in
     let few = h.few in
     let small = h.small in
     (high, omega arith)
 
-pub lines_more : (host : List ℕ) (os : List Origin) (count : ℕ) (old mid new : List ℕ) (block from : ℕ) (o : Origin)
-    → drop count os ≡ o ∷ drop (count + 1) os → length o.code ≤ 32767 → LinesSoFar host os count old mid block from
-    → new ≡ mid ++ code_line o.slot (name_at host o.slot) o.file o.index block (length o.code)
-    → LinesSoFar host os (count + 1) old new (block + blocks (length o.code)) (o.slot + 1)
-lines_more host os count old mid new block from o is size h line =
+pub lines_more : (names : List (List ℕ)) (os : List Origin) (count : ℕ) (old mid new : List ℕ) (block from : ℕ) (o : Origin)
+    → drop count os ≡ o ∷ drop (count + 1) os → length o.code ≤ 32767 → LinesSoFar names os count old mid block from
+    → new ≡ mid ++ code_line o.slot (name_in names o.slot) o.file o.index block (length o.code)
+    → LinesSoFar names os (count + 1) old new (block + blocks (length o.code)) (o.slot + 1)
+lines_more names os count old mid new block from o is size h line =
     let all = map extent_of_origin os in
-    let at = here host os count old mid block from o is h in
+    let at = here names os count old mid block from o is h in
     let begins : block_of all o.slot ≡ block = first_block all from block (extent_of_origin o) (map extent_of_origin (drop (count + 1) os)) at in
     let more : take (count + 1) os ≡ take count os ++ o ∷ [] = took os count o is in
     let sum_is : all_blocks (map extent_of_origin (take (count + 1) os)) ≡ all_blocks (map extent_of_origin (take count os)) + blocks (length o.code) =
@@ -178,10 +162,10 @@ lines_more host os count old mid new block from o is size h line =
       small = omega arith;
       blocks = omega arith;
       text = line
-          ∙ (ap (λ b. mid ++ code_line o.slot (name_at host o.slot) o.file o.index b (length o.code)) (sym begins)
-          ∙ (ap (λ (bs : List ℕ). bs ++ source_line host all o) h.text
-          ∙ (flat_map_more (source_line host all) old (take count os) o
-          ∙ ap (λ (ps : List Origin). old ++ flat_map (source_line host all) ps) (sym more))));
+          ∙ (ap (λ b. mid ++ code_line o.slot (name_in names o.slot) o.file o.index b (length o.code)) (sym begins)
+          ∙ (ap (λ (bs : List ℕ). bs ++ source_line names all o) h.text
+          ∙ (flat_map_more (source_line names all) old (take count os) o
+          ∙ ap (λ (ps : List Origin). old ++ flat_map (source_line names all) ps) (sym more))));
     }
   where
     blocks_more : (ps : List Origin) (p : Origin) → all_blocks (map extent_of_origin (ps ++ p ∷ [])) ≡ all_blocks (map extent_of_origin ps) + blocks (length p.code)
@@ -190,11 +174,11 @@ lines_more host os count old mid new block from o is size h line =
         sum_by-cons (λ (c : Extent). blocks c.size) (extent_of_origin q) (map extent_of_origin (qs ++ p ∷ []))
         ∙ omega (arith, blocks_more qs p, sum_by-cons (λ (c : Extent). blocks c.size) (extent_of_origin q) (map extent_of_origin qs))
 
-pub lines_done : (host : List ℕ) (os : List Origin) (count : ℕ) (old new : List ℕ) (block from : ℕ) → length os ≤ count → LinesSoFar host os count old new block from
-    → (new ≡ old ++ flat_map (source_line host (map extent_of_origin os)) os) × (block ≡ 1 + all_blocks (map extent_of_origin os))
-lines_done host os count old new block from le h =
+pub lines_done : (names : List (List ℕ)) (os : List Origin) (count : ℕ) (old new : List ℕ) (block from : ℕ) → length os ≤ count → LinesSoFar names os count old new block from
+    → (new ≡ old ++ flat_map (source_line names (map extent_of_origin os)) os) × (block ≡ 1 + all_blocks (map extent_of_origin os))
+lines_done names os count old new block from le h =
     let whole : take count os ≡ os = take_all count os le in (
-      h.text ∙ ap (λ (ps : List Origin). old ++ flat_map (source_line host (map extent_of_origin os)) ps) whole,
+      h.text ∙ ap (λ (ps : List Origin). old ++ flat_map (source_line names (map extent_of_origin os)) ps) whole,
       h.blocks ∙ ap (λ (ps : List Origin). 1 + all_blocks (map extent_of_origin ps)) whole,
     )
 

@@ -8,7 +8,7 @@ use Rattle.ps_words.specs.declared.order.Order.{Order}
 use Rattle.ps_words.specs.declared.edit.Edit.{Edit}
 use Rattle.ps_codefile.specs.Dictionary.{slots, block_len, names_start, kinds_start, tail_start}
 use Rattle.ps_resolve.specs.Sources.{order_of}
-use Rattle.ps_resolve.specs.Added.{segments}
+use Rattle.ps_resolve.specs.Added.{segments, slot_names}
 use Rattle.ps_resolve.specs.Privates.{total_words}
 use Rattle.ps_resolve.specs.Linking.{Edited, edited, linked_byte}
 use Rattle.ps_resolve.specs.AllFaults.{first_fault}
@@ -48,7 +48,7 @@ pub record LinkedFile (host : List ℕ) (libs : List (List ℕ)) (file : List �
   pub accepted : first_fault host libs ≡ None
   pub size : length file ≡ block_len * (1 + all_blocks (extents host libs))
   pub pairs : (slot : ℕ) → slot < 16 → slice_range file (4 * slot) (4 * slot + 4) ≡ pair_of (order_of host) (extents host libs) slot
-  pub names : slice_range file names_start kinds_start ≡ slice_range host names_start kinds_start
+  pub names : slice_range file names_start kinds_start ≡ flat_map (λ name. name) (slot_names host (segments (order_of host) host libs))
   pub kinds_and_texts : (p : ℕ) → kinds_start ≤ p → p < tail_start → slice_index file p ≡ 0
   pub tail : slice_range file tail_start block_len ≡ slice_range host tail_start block_len
   pub codes : All (λ e. (p : ℕ) → p < length e.segment.code → slice_index file (block_len * block_of (extents host libs) e.segment.slot + p) ≡ linked_byte (order_of host) e p) (linked_segments host libs)
@@ -58,10 +58,10 @@ pub record LinkedFile (host : List ℕ) (libs : List (List ℕ)) (file : List �
 unfoldable pub all_pairs : Order → List Extent → List ℕ
 all_pairs order codes = flat_map (pair_of order codes) slots
 
--- the segment dictionary, with the names and the tail of the host's
-unfoldable pub dictionary : Order → List ℕ → List Extent → List ℕ
-dictionary order host codes =
-    all_pairs order codes ++ (slice_range host names_start kinds_start ++ (replicate 64 0 ++ slice_range host tail_start block_len))
+-- the segment dictionary, with these names of the slots and the tail of the host's
+unfoldable pub dictionary : Order → List (List ℕ) → List ℕ → List Extent → List ℕ
+dictionary order names host codes =
+    all_pairs order codes ++ (flat_map (λ name. name) names ++ (replicate 64 0 ++ slice_range host tail_start block_len))
 
 -- a code with its edits, and zeros to its last block's end
 abbrev pub padded : Order → List ℕ → List Edit → List ℕ
@@ -72,7 +72,7 @@ padded_segment order e = padded order e.segment.code e.edits
 
 -- the one list that is the linked file where no fault stands
 abbrev pub linked_file : List ℕ → List (List ℕ) → List ℕ
-linked_file host libs = dictionary (order_of host) host (extents host libs) ++ flat_map (padded_segment (order_of host)) (linked_segments host libs)
+linked_file host libs = dictionary (order_of host) (slot_names host (segments (order_of host) host libs)) host (extents host libs) ++ flat_map (padded_segment (order_of host)) (linked_segments host libs)
 
 -- its segments, the words of all privates, and its blocks, the dictionary's counted
 abbrev pub summary_of : List ℕ → List (List ℕ) → Summary

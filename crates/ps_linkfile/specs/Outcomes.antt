@@ -5,7 +5,7 @@ use Rattle.std.specs.Io.KnownBytes.{Appends}
 use Rattle.ps_words.specs.declared.fault.Fault.{Fault}
 use Rattle.ps_words.specs.FaultPlaces.{HasItsParts}
 use Rattle.ps_resolve.specs.AllFaults.{first_fault, reading_fault}
-use Rattle.ps_resolve.specs.Standing.{Step, FaultAt, IsFirst}
+use Rattle.ps_resolve.specs.Standing.{Step, FaultAt, NoneStandsInReading, IsFirst}
 use Rattle.ps_resolve.specs.declared.linkage.Stop.{Stop}
 use Rattle.ps_resolve.specs.declared.linkage.Stop.TheVariants as stop
 use Rattle.ps_linkfile.specs.LinkedFile.{LinkedFile}
@@ -41,10 +41,10 @@ IsUnlinked host libs (Write fault) = first_fault host libs ≡ None
 abbrev pub NoneStands : List ℕ → List (List ℕ) → Type 0
 NoneStands host libs = (step : Step) (f : Fault) → FaultAt host libs step f → ⊥
 
--- the fault that a refusal names is the first of all that stand, and has just the parts of its number; a write fails only where no fault stands
+-- the fault that a refusal names is the first of all that stand, and has just the parts of its number; memory runs out only where no fault stands in the steps of reading, and a write fails only where none stands
 abbrev pub NamesFirst : List ℕ → List (List ℕ) → LinkError → Type 0
 NamesFirst host libs (Refused fault) = IsFirst host libs fault × HasItsParts fault
-NamesFirst host libs Memory = ⊤
+NamesFirst host libs Memory = NoneStandsInReading host libs
 NamesFirst host libs (Write fault) = NoneStands host libs
 
 -- the writer is as it was, unless a write failed

@@ -2,6 +2,7 @@
 //! segment, with its edits, in whole blocks.
 #![tactic(auto)]
 
+mod counts;
 mod dictionary;
 mod error;
 mod laws;
@@ -10,6 +11,8 @@ mod linked;
 mod map;
 mod show;
 mod summary;
+mod tally;
+mod told;
 mod writing;
 
 pub use error::{LinkError, WriteFault};
@@ -18,3 +21,4 @@ pub use linked::{Linked, link, prepare};
 pub use map::map_text;
 pub use show::show_text;
 pub use summary::Summary;
+pub use told::{Counting, ToldWriter};

@@ -1,15 +1,18 @@
-ghost use Rattle.std.specs.Prelude.{◌≡◌, ◌+◌, map, IfOk, IfErr, OnOk, OnErr};
+ghost use Rattle.std.specs.Prelude.{◌≡◌, ◌+◌, map, length, IfOk, IfErr, OnOk, OnErr};
 ghost use Rattle.std.specs.Io.KnownBytes.{Appends};
 ghost use Rattle.ps_linkfile.specs.LinkedFile.{all_blocks, summary_of};
 ghost use Rattle.ps_linkfile.specs.Writing.{extents_of, file_of, summary_in, StandsFor};
 ghost use Rattle.ps_linkfile.specs.Outcomes.{AppendsFront, AppendsLinkedFile, NoneStands, NamesFirst, IsUnprepared, IsUnlinked, LeavesUntouched, LeavesFront};
+ghost use Rattle.ps_linkfile.specs.Counts.{AreAtMost, IfDevice, IfStalled, NoneFailed, OneError, OneStall, RisesByBytes, RisesByPieces};
 
-use crate::dictionary::dictionary_of;
+use crate::counts::Counts;
 use crate::error::{LinkError, WriteFault};
 use crate::summary::Summary;
-use crate::writing::{write_all_of, write_codes};
+use crate::tally::ByWriter;
+use crate::told::ToldWriter;
+use crate::writing::write_file;
 use ps_laws::first_of_all;
-use ps_resolve::{Plan, resolve};
+use ps_resolve::{Plan, resolve, slot_names_are_whole};
 use ps_words::blocks_of;
 use std::alloc::{Allocator, Global};
 use std::io::Write;
@@ -60,8 +63,31 @@ impl<'a, A: Allocator + Copy> Linked<'a, A> {
         ensures summary { IfOk result (λ s. s ≡ summary_in self.now) }
         ensures front { OnErr result (AppendsFront (W.contents out.old) (W.contents out.new) (file_of self.now)) }
     {
-        write_all_of(out, &dictionary_of(&self.plan))?;
-        write_codes(&self.plan, out)?;
+        write_file(&self.plan, out, &mut Counts::new())?;
+        Ok(self.summary())
+    }
+
+    /// Writes the linked file as `write` does, by told writes alone.
+    ///
+    /// Each count of `out` is at most 4294967296 before. `writes` rises by no more than the bytes of
+    /// the linked file, and by no more than its blocks and the rise of `shorts` together. After Ok
+    /// neither `errors` nor `stalls` has risen. Refuses `Device` where a write answered an error,
+    /// which is not repeated: `errors` has then risen by one, and `stalls` not. Refuses `Stalled`
+    /// where a write of at least one byte took none: `stalls` has then risen by one, and `errors`
+    /// not. The writer then has a front of the linked file.
+    /// Source: this project's profile.
+    pub fn write_told<W: ToldWriter>(&self, out: &mut W) -> Result<Summary, WriteFault>
+        requires { AreAtMost (W.counts out.old) 4294967296 }
+        ensures file { OnOk result (Appends (W.contents out.old) (W.contents out.new) (file_of self.now)) }
+        ensures summary { IfOk result (λ s. s ≡ summary_in self.now) }
+        ensures front { OnErr result (AppendsFront (W.contents out.old) (W.contents out.new) (file_of self.now)) }
+        ensures bytes { RisesByBytes (W.counts out.old) (W.counts out.new) (length (file_of self.now)) }
+        ensures blocks { RisesByPieces (W.counts out.old) (W.counts out.new) (summary_in self.now).blocks }
+        ensures ok { OnOk result (NoneFailed (W.counts out.old) (W.counts out.new)) }
+        ensures device { IfErr result (λ e. IfDevice e (OneError (W.counts out.old) (W.counts out.new))) }
+        ensures stalled { IfErr result (λ e. IfStalled e (OneStall (W.counts out.old) (W.counts out.new))) }
+    {
+        write_file(&self.plan, out, &mut ByWriter)?;
         Ok(self.summary())
     }
 }
@@ -70,7 +96,8 @@ impl<'a, A: Allocator + Copy> Linked<'a, A> {
 /// `Linked::write` writes. Nothing is written yet.
 ///
 /// `host` and each of `libs` are whole code files; of the libraries that have a unit, the first is
-/// used. Refuses `Refused` with the first fault of all, and `Memory` where memory was refused.
+/// used. Refuses `Refused` with the first fault of all, and `Memory` where memory was refused, which
+/// is asked for only once the files are read and no fault stands in them.
 /// Source: this project's profile.
 pub fn prepare<'a, A: Allocator + Copy>(
     alloc: A,
@@ -83,6 +110,7 @@ pub fn prepare<'a, A: Allocator + Copy>(
     ensures first { IfErr result (NamesFirst host.now (map (λ lib. lib.now) libs.now)) }
 {
     first_of_all();
+    slot_names_are_whole();
     let plan = resolve(alloc, host, libs)?;
     Ok(Linked { plan })
 }
@@ -95,8 +123,8 @@ pub fn prepare<'a, A: Allocator + Copy>(
 /// by the private words; every kind is LINKED and no link information is left.
 ///
 /// `host` and each of `libs` are whole code files; of the libraries that have a unit, the first is
-/// used. Refuses `Refused` with the first fault of all, and `Memory` where memory was refused;
-/// nothing was written then. Refuses `Write` where the writer failed, which then has a front of the
+/// used. Refuses `Refused` with the first fault of all, and `Memory` where memory was refused, which
+/// is asked for only once the files are read and no fault stands in them; nothing was written then. Refuses `Write` where the writer failed, which then has a front of the
 /// linked file.
 /// Source: UCSD Pascal II.0 manual, code file format; the published II.0 Linker source; the layout
 /// is this project's profile.

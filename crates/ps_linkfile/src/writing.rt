@@ -1,25 +1,38 @@
-ghost use Rattle.std.specs.Prelude.{length, OnOk, OnErr};
+ghost use Rattle.std.specs.Prelude.{◌*◌, length, IfErr, OnOk, OnErr};
 ghost use Rattle.std.specs.Io.KnownBytes.{Appends};
 ghost use Rattle.ps_words.specs.Edits.{AreEdits};
-ghost use Rattle.ps_linkfile.specs.LinkedFile.{padded};
-ghost use Rattle.ps_linkfile.specs.Writing.{padded_codes, HaveEdits};
+ghost use Rattle.ps_words.specs.Words.{blocks};
+ghost use Rattle.ps_codefile.specs.Dictionary.{block_len};
+ghost use Rattle.ps_linkfile.specs.LinkedFile.{all_blocks, padded};
+ghost use Rattle.ps_linkfile.specs.Writing.{extents_of, file_of, padded_codes, summary_in, HaveEdits, IsReady};
 ghost use Rattle.ps_linkfile.specs.Outcomes.{AppendsFront};
+ghost use Rattle.ps_linkfile.specs.Counts.{AreAtMost, HasRoom, NoneFailed, OneFailed, Rises};
 
+use crate::dictionary::dictionary_of;
 use crate::error::WriteFault;
+use crate::tally::Tally;
 use ps_patch::Patcher;
 use ps_resolve::Plan;
 use ps_words::{BLOCK_SIZE, Edit, Order, blocks_of};
 use std::alloc::Allocator;
 use std::io::Write;
 
-/// Writes all bytes, by one call of `write` a turn. No write is made again after an error.
-pub(crate) fn write_all_of<W: Write>(out: &mut W, bytes: &[u8]) -> Result<(), WriteFault>
+/// Writes all bytes, by one write a turn. No write is made again after an error.
+fn write_all_of<W: Write, T: Tally<W>>(
+    out: &mut W,
+    tally: &mut T,
+    bytes: &[u8],
+) -> Result<(), WriteFault>
+    requires { HasRoom (T.counts tally.old out.old) (length bytes.now) }
     ensures all { OnOk result (Appends (W.contents out.old) (W.contents out.new) bytes.now) }
     ensures front { OnErr result (AppendsFront (W.contents out.old) (W.contents out.new) bytes.now) }
+    ensures writes { Rises (T.counts tally.old out.old) (T.counts tally.new out.new) (length bytes.now) 1 }
+    ensures ok { OnOk result (NoneFailed (T.counts tally.old out.old) (T.counts tally.new out.new)) }
+    ensures failed { IfErr result (λ fault. OneFailed fault (T.counts tally.old out.old) (T.counts tally.new out.new)) }
 {
     let mut at = 0;
     while at < bytes.len() {
-        match out.write(&bytes[at..]) {
+        match tally.write(out, &bytes[at..]) {
             Err(error) => return Err(WriteFault::Device(error)),
             Ok(0) => return Err(WriteFault::Stalled),
             Ok(taken) => at += taken,
@@ -29,37 +42,65 @@ pub(crate) fn write_all_of<W: Write>(out: &mut W, bytes: &[u8]) -> Result<(), Wr
 }
 
 /// Writes a code with its edits, in whole blocks, each through the same 512 bytes.
-fn write_code<W: Write>(
+fn write_code<W: Write, T: Tally<W>>(
     order: Order,
     code: &[u8],
     edits: &[Edit],
     out: &mut W,
+    tally: &mut T,
 ) -> Result<(), WriteFault>
-    requires { AreEdits (length code.now) edits.now }
+    requires edits { AreEdits (length code.now) edits.now }
+    requires room { HasRoom (T.counts tally.old out.old) (block_len * blocks (length code.now)) }
     ensures all { OnOk result (Appends (W.contents out.old) (W.contents out.new) (padded order code.now edits.now)) }
     ensures front { OnErr result (AppendsFront (W.contents out.old) (W.contents out.new) (padded order code.now edits.now)) }
+    ensures writes { Rises (T.counts tally.old out.old) (T.counts tally.new out.new) (block_len * blocks (length code.now)) (blocks (length code.now)) }
+    ensures ok { OnOk result (NoneFailed (T.counts tally.old out.old) (T.counts tally.new out.new)) }
+    ensures failed { IfErr result (λ fault. OneFailed fault (T.counts tally.old out.old) (T.counts tally.new out.new)) }
 {
     let mut patcher = Patcher::new(order, code, edits);
     let mut block = [0; BLOCK_SIZE];
     let blocks = blocks_of(code.len());
     for at in 0..blocks {
         patcher.fill(&mut block);
-        write_all_of(out, &block)?;
+        write_all_of(out, tally, &block)?;
     }
     Ok(())
 }
 
 /// Writes the code of each segment, by slot.
-pub(crate) fn write_codes<A: Allocator + Copy, W: Write>(
+fn write_codes<A: Allocator + Copy, W: Write, T: Tally<W>>(
     plan: &Plan<'_, A>,
     out: &mut W,
+    tally: &mut T,
 ) -> Result<(), WriteFault>
-    requires { HaveEdits plan.now.origins plan.now.edits }
+    requires edits { HaveEdits plan.now.origins plan.now.edits }
+    requires room { HasRoom (T.counts tally.old out.old) (block_len * all_blocks (extents_of plan.now)) }
     ensures all { OnOk result (Appends (W.contents out.old) (W.contents out.new) (padded_codes plan.now.order plan.now.origins plan.now.edits)) }
     ensures front { OnErr result (AppendsFront (W.contents out.old) (W.contents out.new) (padded_codes plan.now.order plan.now.origins plan.now.edits)) }
+    ensures writes { Rises (T.counts tally.old out.old) (T.counts tally.new out.new) (block_len * all_blocks (extents_of plan.now)) (all_blocks (extents_of plan.now)) }
+    ensures ok { OnOk result (NoneFailed (T.counts tally.old out.old) (T.counts tally.new out.new)) }
+    ensures failed { IfErr result (λ fault. OneFailed fault (T.counts tally.old out.old) (T.counts tally.new out.new)) }
 {
     for (k, source) in plan.sources().iter().enumerate() {
-        write_code(plan.order(), source.code, plan.edits(k), out)?;
+        write_code(plan.order(), source.code, plan.edits(k), out, tally)?;
     }
     Ok(())
+}
+
+/// Writes the linked file: its segment dictionary, and then the codes.
+pub(crate) fn write_file<A: Allocator + Copy, W: Write, T: Tally<W>>(
+    plan: &Plan<'_, A>,
+    out: &mut W,
+    tally: &mut T,
+) -> Result<(), WriteFault>
+    requires ready { IsReady plan.now }
+    requires counts { AreAtMost (T.counts tally.old out.old) 4294967296 }
+    ensures all { OnOk result (Appends (W.contents out.old) (W.contents out.new) (file_of plan.now)) }
+    ensures front { OnErr result (AppendsFront (W.contents out.old) (W.contents out.new) (file_of plan.now)) }
+    ensures writes { Rises (T.counts tally.old out.old) (T.counts tally.new out.new) (length (file_of plan.now)) (summary_in plan.now).blocks }
+    ensures ok { OnOk result (NoneFailed (T.counts tally.old out.old) (T.counts tally.new out.new)) }
+    ensures failed { IfErr result (λ fault. OneFailed fault (T.counts tally.old out.old) (T.counts tally.new out.new)) }
+{
+    write_all_of(out, tally, &dictionary_of(plan))?;
+    write_codes(plan, out, tally)
 }

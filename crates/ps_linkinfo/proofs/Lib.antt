@@ -4,3 +4,4 @@ pub mod Readings
 pub mod Steps
 pub mod Stands
 pub mod Walks
+pub mod Names

@@ -1,5 +1,5 @@
 //! Laws of link information, of all bytes: functions that do nothing, whose clauses are the laws. A caller that needs them calls the function.
-ghost use Rattle.std.specs.Prelude.{◌≡◌, ◌≤◌, ◌/◌, ◌↔◌, ◌++◌, ◌∷◌, [], ℕ, List, length};
+ghost use Rattle.std.specs.Prelude.{◌≡◌, ◌≤◌, ◌/◌, ◌↔◌, ◌++◌, ◌∷◌, [], ℕ, List, All, length};
 ghost use Rattle.ps_words.specs.declared.order.Order.{Order as ByteOrder};
 ghost use Rattle.ps_words.specs.declared.fault.Reason.{Reason as FaultReason};
 ghost use Rattle.ps_linkinfo.specs.declared.record.LinkRecord.{LinkRecord as Record};
@@ -17,6 +17,11 @@ pub fn one_reading()
         → Spells order bytes rs ↔ (reading order bytes ≡ (rs, None)) }
     ensures stops { (order : ByteOrder) (bytes : List ℕ) (rs : List Record) (why : FaultReason)
         → Stops order bytes rs why ↔ (reading order bytes ≡ (rs, Some why)) }
+{}
+
+/// The name of each record that is read has eight bytes.
+pub fn names_are_whole()
+    ensures { (order : ByteOrder) (bytes : List ℕ) → All (λ r. length r.name ≡ 8) (reading order bytes).0 }
 {}
 
 /// A walk from the start has all items of the reading to give: its records, then its fault, if any. A walk has one item at most for each 16 bytes, and one for a fault.

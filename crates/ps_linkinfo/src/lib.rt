@@ -14,7 +14,7 @@ mod record;
 mod records;
 mod refs;
 
-pub use laws::{one_reading, walk_from_start, walk_so_far};
+pub use laws::{names_are_whole, one_reading, walk_from_start, walk_so_far};
 pub use reader::{ReadStop, read_records};
 pub use record::{Body, LinkRecord};
 pub use records::Records;

@@ -1,15 +1,15 @@
 -- Units that only a unit names: which names are sought in the libraries, which empty slot each takes, the segments that are added so, and then all segments of a link.
 -- Source: this project's profile.
-use Rattle.std.specs.Prelude.{ℕ, ◌+◌, ◌==◌, ◌||◌, if◌then◌else◌, List, [], ◌∷◌, ◌++◌, slice_get, take, Bool, true, false, Option, Some, None, is_some, is_none}
+use Rattle.std.specs.Prelude.{ℕ, ◌+◌, ◌==◌, ◌||◌, if◌then◌else◌, List, [], ◌∷◌, ◌++◌, map, slice_get, Bool, true, false, Option, Some, None, is_some, is_none}
 use Rattle.std.specs.List.{range_with_len, list_any, filter, filter_map, flat_map, find}
 use Rattle.std.specs.Map.{lookup}
-use Rattle.std.specs.Option.{option_map, option_or, option_and_then}
+use Rattle.std.specs.Option.{option_map, option_map_or, option_or, option_and_then}
 use Rattle.std.specs.Str.{bytes_eq}
 use Rattle.ps_words.specs.FaultPlaces.{in_record}
 use Rattle.ps_words.specs.declared.order.Order.{Order}
 use Rattle.ps_words.specs.declared.fault.Reason.TheVariants as reason
 use Rattle.ps_words.specs.declared.fault.Fault.{Fault}
-use Rattle.ps_codefile.specs.Dictionary.{slots, is_nameless}
+use Rattle.ps_codefile.specs.Dictionary.{slots, name_at, is_nameless}
 use Rattle.ps_codefile.specs.declared.entry.Role.TheVariants.{Wanted}
 use Rattle.ps_linkinfo.specs.declared.record.Body.{Body}
 use Rattle.ps_linkinfo.specs.declared.record.Body.TheVariants.{UnitRef, PublRef, PrivRef, PublDef, ConstDef, Eof}
@@ -131,3 +131,10 @@ segment_at order host libs slot = option_or (own_segment order host libs slot) (
 -- all segments of a link, by slot
 unfoldable pub segments : Order → List ℕ → List (List ℕ) → List Segment
 segments order host libs = filter_map (segment_at order host libs) slots
+
+-- the name of a slot in the linked file: that of the segment that stands there, which an added one has of its UNITREF, or the host's
+abbrev pub slot_name : List ℕ → List Segment → ℕ → List ℕ
+slot_name host segs slot = option_map_or (λ s. s.name) (find (λ s. s.slot == slot) segs) (name_at host slot)
+
+unfoldable pub slot_names : List ℕ → List Segment → List (List ℕ)
+slot_names host segs = map (slot_name host segs) slots

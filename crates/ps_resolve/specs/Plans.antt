@@ -5,7 +5,7 @@ use Rattle.ps_words.specs.Edits.{AreEdits, patched}
 use Rattle.ps_words.specs.declared.order.Order.{Order}
 use Rattle.ps_words.specs.declared.edit.Edit.{Edit}
 use Rattle.ps_resolve.specs.Sources.{Segment, is_linked, order_of, host_records}
-use Rattle.ps_resolve.specs.Added.{segments}
+use Rattle.ps_resolve.specs.Added.{segments, slot_names}
 use Rattle.ps_resolve.specs.Symbols.{definitions}
 use Rattle.ps_resolve.specs.Privates.{owner_of, all_allotted, next_of, total_words}
 use Rattle.ps_resolve.specs.Linking.{Edited, edited, linked_byte, data_size}
@@ -32,10 +32,11 @@ origin_of_source s = record { slot = s.slot; file = s.file; index = s.index; lin
 abbrev pub origin_of : Segment → Origin
 origin_of s = record { slot = s.slot; file = s.file; index = s.index; linked = is_linked s.role; added = s.added; code = s.code }
 
--- what a plan holds; the edits stand in the order of the sources
+-- what a plan holds; the names are those of all slots, by slot, and the edits stand in the order of the sources
 pub record Planned : Type 0 where
   pub order : Order
   pub host : List ℕ
+  pub names : List (List ℕ)
   pub origins : List Origin
   pub edits : List (List Edit)
   pub definitions : List (List ℕ × Def)
@@ -60,6 +61,7 @@ LinkSegments order (e ∷ es) [] = ⊥
 pub record IsPlanOf (host_order : Order) (host : List ℕ) (segs : List Segment) (plan : Planned) : Type 0 where
   pub order : plan.order ≡ host_order
   pub of_host : plan.host ≡ host
+  pub names : plan.names ≡ slot_names host segs
   pub origins : plan.origins ≡ map origin_of segs
   pub edits : LinkSegments host_order (edited host_order segs) plan.edits
   pub definitions : plan.definitions ≡ definitions (host_records segs)

@@ -120,19 +120,6 @@ impl<A: Allocator> Model for Allotment<A> {
     ghost invariant = { λ a. RiseFrom 0 0 a.privates.items };
 }
 
-/// A hasher that no list of names is prepared for.
-fn hasher_for(segments: &[Linkage]) -> Keyed {
-    let mut keyed = Keyed::new();
-    for segment in segments {
-        for item in Records::new(segment.order, segment.bytes) {
-            if let Ok(entry) = item {
-                keyed.take_in(entry.name);
-            }
-        }
-    }
-    keyed
-}
-
 /// The privates of all segments, and the next free offset.
 fn allot_all<A: Allocator + Copy>(
     alloc: A,
@@ -144,7 +131,7 @@ fn allot_all<A: Allocator + Copy>(
     ensures once { IfOk result (λ _. first_private_fault next (map owner_of_linkage segments.now) ≡ None) }
     ensures stop { IfErr result (AreUnallotted next (map owner_of_linkage segments.now)) }
 {
-    let keyed = hasher_for(segments);
+    let keyed = Keyed::by_names(segments);
     let mut privates = Vec::new(alloc);
     let mut free = next;
     for segment in segments {

@@ -1,5 +1,8 @@
-ghost use Rattle.std.specs.Prelude.{◌≡◌, ◌<◌, ◌==◌, length, slice_get, Some, None, IfOk, IfErr};
+ghost use Rattle.std.specs.Prelude.{◌≡◌, ◌<◌, ◌==◌, ◌∷◌, [], length, slice_get, Some, None, IfOk, IfErr};
+ghost use Rattle.indexmap.specs.IndexMap.{hasher_of};
 ghost use Rattle.ps_linkinfo.specs.Records.{reading};
+ghost use Rattle.ps_resolve.specs.Keys.{key_of};
+ghost use Rattle.ps_resolve.specs.Privates.{owner_of_linkage};
 ghost use Rattle.ps_resolve.specs.Symbols.{definitions, definition_of, def_in, doubled};
 ghost use Rattle.ps_resolve.specs.Stops.{IsDoubled};
 
@@ -66,28 +69,18 @@ fn def_of(entry: &LinkRecord) -> Option<Def>
     }
 }
 
-/// A hasher that no list of names is prepared for.
-fn hasher_for(host: &Linkage) -> Keyed {
-    let mut keyed = Keyed::new();
-    for item in Records::new(host.order, host.bytes) {
-        if let Ok(record) = item {
-            keyed.take_in(record.name);
-        }
-    }
-    keyed
-}
-
-/// The definitions of a segment.
+/// The definitions of a segment, by hashes that are keyed by its records.
 fn table_of<A: Allocator + Copy>(
     alloc: A,
     host: &Linkage,
 ) -> Result<IndexMap<[u8; 8], Def, Keyed, A>, Stop>
     ensures entries { IfOk result (λ m. m.entries ≡ definitions (reading host.now.order host.now.bytes.now).0) }
     ensures once { IfOk result (λ _. doubled (reading host.now.order host.now.bytes.now).0 ≡ None) }
+    ensures keyed { IfOk result (λ m. hasher_of m ≡ key_of (owner_of_linkage host.now ∷ [])) }
     ensures stop { IfErr result (IsDoubled host.now.file host.now.slot (reading host.now.order host.now.bytes.now).0) }
 {
     walk_from_start();
-    let mut by_name = IndexMap::with_hasher(alloc, hasher_for(host));
+    let mut by_name = IndexMap::with_hasher(alloc, Keyed::by_names(&[*host]));
     let mut rec = 0;
     for item in Records::new(host.order, host.bytes) {
         if let Ok(record) = item {

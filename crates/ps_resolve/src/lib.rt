@@ -7,6 +7,7 @@ mod data_size;
 mod definitions;
 mod edits;
 mod keyed;
+mod laws;
 mod libraries;
 mod linkage;
 mod linking;
@@ -26,6 +27,7 @@ mod units;
 
 pub use allotment::{Allotment, Private};
 pub use definitions::{Def, DefKind, Definitions};
+pub use laws::slot_names_are_whole;
 pub use linkage::{Linkage, Stop};
 pub use plan::{Plan, Source};
 pub use resolving::resolve;

@@ -4,6 +4,7 @@ ghost use Rattle.ps_words.specs.declared.order.Order.{Order as ByteOrder};
 ghost use Rattle.ps_linkinfo.specs.Records.{reading};
 ghost use Rattle.ps_resolve.specs.Edits.{IsOfSegment, IsOfTable, AreOfReferences};
 ghost use Rattle.ps_resolve.specs.Faults.{segment_fault, references_fault_from, linking_fault};
+ghost use Rattle.ps_resolve.specs.Added.{slot_names};
 ghost use Rattle.ps_resolve.specs.Linkable.{AscendFrom, HasOneHost};
 ghost use Rattle.ps_resolve.specs.Linking.{segment_edits as segment_edits_spec, data_edits, edited_from};
 ghost use Rattle.ps_resolve.specs.Plans.{AreStopped, IsPlanOf, LinksSegment, LinkSegments, origin_of, origin_of_source};
@@ -225,6 +226,7 @@ pub(crate) fn link_segments<'a, A: Allocator + Copy>(
     alloc: A,
     order: Order,
     host: &'a [u8],
+    names: [[u8; 8]; 16],
     segments: &[Segment<'a>],
 ) -> Result<Plan<'a, A>, Stop>
     requires sound { All (IsSound order) (map (segment_of order) segments.now) }
@@ -232,6 +234,7 @@ pub(crate) fn link_segments<'a, A: Allocator + Copy>(
     requires one_host { HasOneHost (map (segment_of order) segments.now) }
     requires ascending { AscendFrom 0 (map (λ s. s.slot) (map (segment_of order) segments.now)) }
     requires whole { 512 ≤ length host.now }
+    requires names { names ≡ slot_names host.now (map (segment_of order) segments.now) }
     ensures plan { IfOk result (IsPlanOf order host.now (map (segment_of order) segments.now)) }
     ensures sound { IfOk result (λ _. linking_fault order (map (segment_of order) segments.now) ≡ None) }
     ensures stop { IfErr result (AreStopped order (map (segment_of order) segments.now)) }
@@ -248,15 +251,16 @@ pub(crate) fn link_segments<'a, A: Allocator + Copy>(
             let base = base_of(&linkage);
             let allotment = Allotment::build(alloc, base, linkages.as_slice())?;
             let size = grown_data_size(order, &own, allotment.words())?;
-            let names = Names {
+            let known = Names {
                 definitions: &definitions,
                 segments,
             };
-            let edits = all_edits(alloc, order, &names, segments, base, size.edit())?;
+            let edits = all_edits(alloc, order, &known, segments, base, size.edit())?;
             let sources = sources_of(alloc, segments)?;
             Ok(Plan {
                 order,
                 host,
+                names,
                 sources,
                 edits,
                 definitions,

@@ -4,7 +4,7 @@ ghost use Rattle.std.specs.Option.{option_map, option_or};
 ghost use Rattle.std.specs.Result.{result_err};
 ghost use Rattle.ps_words.specs.declared.order.Order.{Order as ByteOrder};
 ghost use Rattle.ps_resolve.specs.Sources.{order_of, host_of};
-ghost use Rattle.ps_resolve.specs.Added.{segments};
+ghost use Rattle.ps_resolve.specs.Added.{segments, slot_name as slot_name_spec, slot_names as slot_names_spec};
 ghost use Rattle.ps_resolve.specs.Faults.{slots_fault as slots_fault_spec, no_host_fault as no_host_fault_spec, libraries_fault as libraries_fault_spec};
 ghost use Rattle.ps_resolve.specs.AllFaults.{reading_fault, reading_rest};
 ghost use Rattle.ps_resolve.specs.Linkable.{AscendFrom, HasOneHost};
@@ -68,6 +68,28 @@ fn by_slot<'a>(
     segments
 }
 
+/// The name of a slot in the linked file.
+fn slot_name(host: &Dict, segments: &[Segment], slot: u8) -> [u8; 8]
+    requires { slot < 16 }
+    ensures { (order : ByteOrder) → result ≡ slot_name_spec host.now.file (map (segment_of order) segments.now) slot }
+{
+    match segment_in(segments, slot) {
+        Some(segment) => segment.name,
+        None => host.entry(slot).name,
+    }
+}
+
+/// The names of all slots in the linked file.
+fn slot_names(host: &Dict, segments: &[Segment]) -> [[u8; 8]; 16]
+    ensures { (order : ByteOrder) → result ≡ slot_names_spec host.now.file (map (segment_of order) segments.now) }
+{
+    let mut names = [[0; 8]; SLOTS as usize];
+    for slot in 0..SLOTS {
+        names[slot as usize] = slot_name(host, segments, slot);
+    }
+    names
+}
+
 /// The segments of a host whose slots and libraries have no fault of their own, or the first fault of their sources.
 fn read_all<'a>(host: &Dict<'a>, libs: &'a [&'a [u8]]) -> Result<ArrayVec<Segment<'a>, 16>, Fault>
     requires { libraries_fault_spec host.now.order (map (λ lib. lib.now) libs.now) ≡ None }
@@ -119,18 +141,27 @@ fn read_sources<'a>(
     }
 }
 
-/// The host's byte order and the segments of a link by slot ascending, or the first fault of reading the files.
-pub(crate) fn read_segments<'a>(
-    host: &'a [u8],
-    libs: &'a [&'a [u8]],
-) -> Result<(Order, ArrayVec<Segment<'a>, 16>), Fault>
+/// What the files of a link have.
+#[derive(Drop)]
+pub(crate) struct Reading<'a> {
+    /// The byte order of the host.
+    pub(crate) order: Order,
+    /// The names of all slots in the linked file.
+    pub(crate) names: [[u8; 8]; 16],
+    /// The segments by slot ascending.
+    pub(crate) segments: ArrayVec<Segment<'a>, 16>,
+}
+
+/// The host's byte order, the names of its slots and the segments of a link, or the first fault of reading the files.
+pub(crate) fn read_segments<'a>(host: &'a [u8], libs: &'a [&'a [u8]]) -> Result<Reading<'a>, Fault>
     ensures whole { IfOk result (λ _. 512 ≤ length host.now) }
-    ensures order { IfOk result (λ r. r.0 ≡ order_of host.now) }
-    ensures segments { IfOk result (λ r. map (segment_of r.0) r.1.items ≡ segments (order_of host.now) host.now (map (λ lib. lib.now) libs.now)) }
-    ensures sound { IfOk result (λ r. All (IsSound r.0) (map (segment_of r.0) r.1.items)) }
-    ensures ascending { IfOk result (λ r. AscendFrom 0 (map (λ s. s.slot) (map (segment_of r.0) r.1.items))) }
-    ensures host { IfOk result (λ r. IsSome (host_of (map (segment_of r.0) r.1.items))) }
-    ensures one_host { IfOk result (λ r. HasOneHost (map (segment_of r.0) r.1.items)) }
+    ensures order { IfOk result (λ r. r.order ≡ order_of host.now) }
+    ensures segments { IfOk result (λ r. map (segment_of r.order) r.segments.items ≡ segments (order_of host.now) host.now (map (λ lib. lib.now) libs.now)) }
+    ensures names { IfOk result (λ r. (order : ByteOrder) → r.names ≡ slot_names_spec host.now (map (segment_of order) r.segments.items)) }
+    ensures sound { IfOk result (λ r. All (IsSound r.order) (map (segment_of r.order) r.segments.items)) }
+    ensures ascending { IfOk result (λ r. AscendFrom 0 (map (λ s. s.slot) (map (segment_of r.order) r.segments.items))) }
+    ensures host { IfOk result (λ r. IsSome (host_of (map (segment_of r.order) r.segments.items))) }
+    ensures one_host { IfOk result (λ r. HasOneHost (map (segment_of r.order) r.segments.items)) }
     ensures faultless { IfOk result (λ _. reading_fault host.now (map (λ lib. lib.now) libs.now) ≡ None) }
     ensures fault { IfErr result (λ f. reading_fault host.now (map (λ lib. lib.now) libs.now) ≡ Some f) }
 {
@@ -138,7 +169,11 @@ pub(crate) fn read_segments<'a>(
         Err(reason) => Err(in_file(HOST_FILE, reason)),
         Ok(dict) => match read_sources(&dict, libs) {
             Err(fault) => Err(fault),
-            Ok(segments) => Ok((dict.order(), segments)),
+            Ok(segments) => Ok(Reading {
+                order: dict.order(),
+                names: slot_names(&dict, segments.as_slice()),
+                segments,
+            }),
         },
     }
 }

@@ -28,6 +28,12 @@ pub fn resolve<'a, A: Allocator + Copy>(
 {
     match read_segments(host, libs) {
         Err(fault) => Err(Stop::Refused(fault)),
-        Ok((order, segments)) => link_segments(alloc, order, host, segments.as_slice()),
+        Ok(files) => link_segments(
+            alloc,
+            files.order,
+            host,
+            files.names,
+            files.segments.as_slice(),
+        ),
     }
 }

@@ -1,9 +1,9 @@
 //! Hosts that want two units, and libraries other than the base library.
 use crate::base::{
-    BASE_LENGTH, COUNT, LIBRARY_RECORDS, LIBRARY_UTIL, UTIL_ENTRY, UTIL_LENGTH, base_host,
-    base_library, linked_base_pair, util_code,
+    BASE_LENGTH, COUNT, LIBRARY_RECORDS, LIBRARY_UTIL, UTIL_ENTRY, UTIL_LENGTH, UTIL_SLOT,
+    base_host, base_library, linked_base_pair, linked_segments, util_code,
 };
-use crate::code_file::Change::{Bytes, Code, Entry, Records, Resized};
+use crate::code_file::Change::{Bytes, Code, Entry, Length, Records, Resized};
 use crate::code_file::{CodeFile, LINKED, Slot, UNIT_SEGMENT};
 use crate::information::Record::{End, PublicReference};
 use crate::information::{Name, Record};
@@ -129,4 +129,15 @@ pub fn library_of_a_long_unit(alloc: Global) -> Result<CodeFile, AllocError> {
         Records(3, &[PublicReference(COUNT, &[511]), End(0)]),
     ];
     CodeFile::new(alloc, Order::Little, 2048)?.with(alloc, &parts)
+}
+
+/// What the base host is linked to with that library.
+pub fn linked_long_unit(alloc: Global) -> Result<CodeFile, AllocError> {
+    let changes = [
+        Resized(2048),
+        Length(UTIL_SLOT, LONG_LENGTH),
+        Code(2, 0, &LONG_FILL),
+        Code(2, 510, &long_end([0x81, 2], UTIL_SLOT)),
+    ];
+    linked_segments(alloc, Order::Little)?.with(alloc, &changes)
 }

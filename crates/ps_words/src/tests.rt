@@ -1,4 +1,6 @@
 use crate::{BLOCK_SIZE, Edit, Fault, Order, Reason, blocks_of, get, get_big, put, put_big};
+use std::fmt;
+use std::fmt::Write;
 use std::test::Fail;
 
 #[test]
@@ -92,6 +94,90 @@ fn a_fault_of_a_reference(rt: HostRuntime) -> Result<(), Fail> {
     assert_eq!(rt; fault.reason.number(), 33);
     assert_eq!(rt; fault.reason.name(), "Overlap");
     Ok(())
+}
+
+/// A fault with every part, the last reference of the last record of a file as long as one can be.
+const WHOLE: Fault = Fault {
+    reason: Reason::NotAUnit { kind: 65535 },
+    file: 13,
+    slot: Some(15),
+    rec: Some(4_194_303),
+    reference: Some(65_534),
+};
+
+const WHOLE_TEXT: &str =
+    "refused 14 NotAUnit kind 65535 file 13 slot 15 record 4194303 reference 65534";
+
+#[test]
+fn a_fault_of_large_numbers(rt: HostRuntime) -> Result<(), Fail> {
+    let text = WHOLE.to_string(rt.alloc())?;
+    assert_eq!(rt; text.as_str(), WHOLE_TEXT);
+    let fault = Fault {
+        reason: Reason::DoubledPrivate,
+        file: usize::MAX,
+        slot: Some(0),
+        rec: Some(usize::MAX),
+        reference: None,
+    };
+    let text = fault.to_string(rt.alloc())?;
+    assert_eq!(rt;
+        text.as_str(),
+        "refused 25 DoubledPrivate file 18446744073709551615 slot 0 record 18446744073709551615"
+    );
+    Ok(())
+}
+
+#[test]
+fn a_width_changes_no_text(rt: HostRuntime) -> Result<(), Fail> {
+    let text = format!(in rt.alloc(); "{WHOLE:>100}")?;
+    assert_eq!(rt; text.as_str(), WHOLE_TEXT);
+    let text = format!(in rt.alloc(); "{WHOLE:<100}")?;
+    assert_eq!(rt; text.as_str(), WHOLE_TEXT);
+    let text = format!(in rt.alloc(); "{WHOLE:.3}")?;
+    assert_eq!(rt; text.as_str(), WHOLE_TEXT);
+    Ok(())
+}
+
+/// A writer of which one call fails, behind so many that do not; it counts those behind the one.
+#[derive(Drop)]
+struct FailsOnce {
+    before: u32,
+    has_failed: bool,
+    after: u32,
+}
+
+impl fmt::Write for FailsOnce {
+    fn write_str(&mut self, _text: &str) -> fmt::Result {
+        if self.has_failed {
+            self.after = self.after.saturating_add(1);
+            return Ok(());
+        }
+        if self.before == 0 {
+            self.has_failed = true;
+            return Err(fmt::Error);
+        }
+        self.before -= 1;
+        Ok(())
+    }
+}
+
+#[test]
+fn nothing_is_written_behind_a_call_that_failed(rt: HostRuntime) {
+    for before in 0..100 {
+        let mut writer = FailsOnce {
+            before,
+            has_failed: false,
+            after: 0,
+        };
+        let result = write!(writer, "{WHOLE}");
+        if !writer.has_failed {
+            assert!(rt; before > 0 && result.is_ok());
+            return;
+        }
+        assert!(rt; result.is_err(), "{before}");
+        assert_eq!(rt; writer.after, 0, "{before}");
+    }
+    assert!(rt; false, "each call failed");
 }
 
 #[test]

@@ -147,6 +147,26 @@ pub fn library(alloc: Global) -> Result<Vec<u8>, AllocError> {
     code_file(alloc, 1536, LIBRARY.as_slice(), [].as_slice())
 }
 
+/// The library where two bytes of its unit's code are other ones, and what the host is linked to with it.
+pub fn other_library(alloc: Global) -> Result<Vec<u8>, AllocError> {
+    let other = [(518, b"\x00\x00".as_slice())];
+    code_file(alloc, 1536, LIBRARY.as_slice(), other.as_slice())
+}
+
+pub fn linked_with_other(alloc: Global) -> Result<Vec<u8>, AllocError> {
+    let mut linked = linked_pair(alloc)?;
+    for byte in linked.iter_mut().skip(1030).take(2) {
+        *byte = 0;
+    }
+    Ok(linked)
+}
+
+/// The library where its unit has another name.
+pub fn library_without_unit(alloc: Global) -> Result<Vec<u8>, AllocError> {
+    let other = [(80, b"OTHER   ".as_slice())];
+    code_file(alloc, 1536, LIBRARY.as_slice(), other.as_slice())
+}
+
 pub fn big_endian_library(alloc: Global) -> Result<Vec<u8>, AllocError> {
     code_file(alloc, 1536, BIG_ENDIAN_LIBRARY.as_slice(), [].as_slice())
 }

@@ -16,27 +16,38 @@ pub(crate) trait Growing {
     fn answer<A: Allocator + Copy>(&self, alloc: Global, heap: A) -> Result<String, AllocError>;
 }
 
-/// Makes a call with each growth refused in turn, until none was refused: the answer is want of memory until then, and each time a second call has the memory that it wants.
-pub(crate) fn refuses_each_growth(
+/// Makes a call with each growth refused in turn, until none was refused: the answer is want of memory until then, and each time a second call has the memory that it wants. Answers how many were refused.
+pub(crate) fn refused_growths(
     rt: &(impl Abort + AllocGlobal),
     what: &str,
     call: &impl Growing,
     answer: &str,
-) -> Result<(), Fail> {
+) -> Result<u64, Fail> {
     let alloc = rt.alloc();
     for growth in 1..MANY {
         let heap = Refusing::once(alloc, growth);
         let text = call.answer(alloc, &heap)?;
         if !heap.has_refused() {
             assert_eq!(rt; text.as_str(), answer, "{what}");
-            assert!(rt; growth > 1, "{what}: no growth at all");
-            return Ok(());
+            return Ok(growth - 1);
         }
         assert_eq!(rt; text.as_str(), OUT_OF_MEMORY, "{what}: growth {growth}");
         let again = call.answer(alloc, &heap)?;
         assert_eq!(rt; again.as_str(), answer, "{what}: after growth {growth}");
     }
     assert!(rt; false, "{what}: each growth was refused");
+    Ok(MANY)
+}
+
+/// The same, of a call that does grow.
+pub(crate) fn refuses_each_growth(
+    rt: &(impl Abort + AllocGlobal),
+    what: &str,
+    call: &impl Growing,
+    answer: &str,
+) -> Result<(), Fail> {
+    let refused = refused_growths(rt, what, call, answer)?;
+    assert!(rt; refused > 0, "{what}: no growth at all");
     Ok(())
 }
 

@@ -1,5 +1,5 @@
 //! A host that holds its unit itself, and the files that it is linked to.
-use super::answers::links;
+use super::answers::{links, refuses};
 use super::tables::{Base, Row, link_rows};
 use crate::base::{COUNT, LIBRARY_RECORDS, LINKED_UTIL, STATE, WANTED_UTIL};
 use crate::code_file::Change::{Address, Code, CodeWord, Entry, Kind, Length, Records, Resized};
@@ -25,6 +25,16 @@ fn one_public_reference_in_either_byte_order(rt: HostRuntime) -> Result<(), Fail
             SUMMARY,
             linked.as_slice(),
         )?;
+    }
+    Ok(())
+}
+
+#[test]
+fn its_linked_file_is_no_host(rt: HostRuntime) -> Result<(), Fail> {
+    for order in [Order::Little, Order::Big] {
+        let linked = linked_unit_in_place(rt.alloc(), order)?;
+        let fault = "refused 4 NoHost file 0";
+        refuses(&rt, "linked", linked.as_slice(), &[], fault)?;
     }
     Ok(())
 }

@@ -1,17 +1,19 @@
-//! `link` where memory is wanting, and how often it is asked for.
+//! `link` and its parts where memory is wanting, and how often it is asked for.
 use super::answers::{LITTLE, text_of};
-use super::growths::{Growing, refuses_each_growth};
+use super::growths::{Growing, OUT_OF_MEMORY, refused_growths, refuses_each_growth};
 use super::host_faults::{DEFINITIONS, refuses_hosts};
 use super::tables::{Base, Memory, link_rows_in, refuse_rows_in};
+use super::texts::Map;
 use super::writers::{Full, Room};
 use super::{in_place, in_place_faults, pair_faults, pairs, two_units};
 use crate::base::{base_host, base_library, linked_base_pair, linked_segments};
 use crate::code_file::Change::{Code, Length};
 use crate::units::{
-    NINE_LENGTH, library_of_a_long_unit, library_of_nine_references, nine_operands,
+    NINE_LENGTH, library_of_a_long_unit, library_of_nine_references, linked_long_unit,
+    nine_operands,
 };
-use ps_linkfile::{link, prepare};
-use ps_resolve::resolve;
+use ps_linkfile::{LinkError, Summary, link, prepare};
+use ps_resolve::{Stop, resolve};
 use refusing::Refusing;
 use std::alloc::{AllocError, Allocator, Global};
 use std::process::Abort;
@@ -30,12 +32,93 @@ impl<'a> Growing for Link<'a> {
     fn answer<A: Allocator + Copy>(&self, alloc: Global, heap: A) -> Result<String, AllocError> {
         let mut out = Room::new(alloc, self.linked.len(), usize::MAX, Full::Stalls)?;
         let answer = link(heap, self.host, self.libraries, &mut out);
+        self.text_of(alloc, answer, &out)
+    }
+}
+
+impl Link<'_> {
+    /// An answer as text, where no other bytes were written than it says.
+    fn text_of(
+        &self,
+        alloc: Global,
+        answer: Result<Summary, LinkError>,
+        out: &Room,
+    ) -> Result<String, AllocError> {
         let wanted = if answer.is_ok() { self.linked } else { &[] };
         if out.written() != wanted {
             return String::from_str(alloc, "other bytes were written");
         }
         text_of(alloc, answer)
     }
+}
+
+/// `resolve` with the files of a link.
+#[derive(Clone, Copy)]
+struct Resolve<'a> {
+    link: Link<'a>,
+}
+
+impl<'a> Growing for Resolve<'a> {
+    /// How many edits each segment of the plan has, and how many private words there are.
+    fn answer<A: Allocator + Copy>(&self, alloc: Global, heap: A) -> Result<String, AllocError> {
+        match resolve(heap, self.link.host, self.link.libraries) {
+            Ok(plan) => {
+                let mut text = String::from_str(alloc, "edits")?;
+                for k in 0..plan.sources().len() {
+                    let edits = plan.edits(k).len();
+                    write!(text, " {edits}")?;
+                }
+                let words = plan.private_words();
+                write!(text, " private words {words}")?;
+                Ok(text)
+            }
+            Err(Stop::Refused(fault)) => format!(in alloc; "{fault}"),
+            Err(Stop::Memory) => String::from_str(alloc, OUT_OF_MEMORY),
+        }
+    }
+}
+
+/// `prepare` with the files of a link, and the linked file written from it.
+#[derive(Clone, Copy)]
+struct Prepare<'a> {
+    link: Link<'a>,
+}
+
+impl<'a> Growing for Prepare<'a> {
+    fn answer<A: Allocator + Copy>(&self, alloc: Global, heap: A) -> Result<String, AllocError> {
+        let mut out = Room::new(alloc, self.link.linked.len(), usize::MAX, Full::Stalls)?;
+        match prepare(heap, self.link.host, self.link.libraries) {
+            Ok(linked) => {
+                let answer = linked.write(&mut out).map_err(LinkError::Write);
+                self.link.text_of(alloc, answer, &out)
+            }
+            Err(error) => self.link.text_of(alloc, Err(error), &out),
+        }
+    }
+}
+
+/// Checks the answers of each call that plans a link, with ample memory: its edits and private words, its summary and linked file, and its map.
+pub(crate) fn answers_each_call(
+    rt: &(impl Abort + AllocGlobal),
+    link: Link<'_>,
+    planned: &str,
+    summary: &str,
+    map: &str,
+) -> Result<(), Fail> {
+    let alloc = rt.alloc();
+    let text = Resolve { link }.answer(alloc, alloc)?;
+    assert_eq!(rt; text.as_str(), planned);
+    let text = Prepare { link }.answer(alloc, alloc)?;
+    assert_eq!(rt; text.as_str(), summary);
+    let text = link.answer(alloc, alloc)?;
+    assert_eq!(rt; text.as_str(), summary);
+    let call = Map {
+        host: link.host,
+        libraries: link.libraries,
+    };
+    let text = call.answer(alloc, alloc)?;
+    assert!(rt; text.as_str() == map, "another map");
+    Ok(())
 }
 
 #[test]
@@ -97,29 +180,31 @@ fn faults_that_are_found_before_anything_grows(rt: HostRuntime) -> Result<(), Fa
     refuse_rows_in(&rt, Base::Pair, memory, &pair_faults::LIBRARIES)?;
     refuse_rows_in(&rt, Base::Pair, memory, &pair_faults::CODES)?;
     refuse_rows_in(&rt, Base::Pair, memory, &pair_faults::RECORDS)?;
-    refuse_rows_in(&rt, Base::HostAlone, memory, &pair_faults::HOST_ALONE)
+    refuse_rows_in(&rt, Base::HostAlone, memory, &pair_faults::HOST_ALONE)?;
+    pair_faults::refuses_the_other_byte_order(&rt, memory)
 }
 
-/// Checks that as many growths are asked for to prepare a link as to plan it, and none to write it.
+/// Checks the answers of `resolve` and of `prepare` with each growth refused in turn, that both are refused as many, and that a linked file is written without any.
 fn only_the_plan_grows(
     rt: &(impl Abort + AllocGlobal),
-    host: &[u8],
-    libraries: &[&[u8]],
-    length: usize,
+    link: Link<'_>,
+    planned: &str,
+    summary: &str,
 ) -> Result<(), Fail> {
     let alloc = rt.alloc();
-    let planning = Refusing::once(alloc, 0);
-    assert!(rt; resolve(&planning, host, libraries).is_ok());
-    let preparing = Refusing::once(alloc, 0);
-    let linked = prepare(&preparing, host, libraries)?;
-    assert!(rt; planning.growths() > 0);
-    assert_eq!(rt; preparing.growths(), planning.growths());
+    let planning = refused_growths(rt, "resolve", &Resolve { link }, planned)?;
+    let preparing = refused_growths(rt, "prepare", &Prepare { link }, summary)?;
+    assert!(rt; planning > 0);
+    assert_eq!(rt; preparing, planning);
+    let heap = Refusing::once(alloc, 0);
+    let linked = prepare(&heap, link.host, link.libraries)?;
+    assert_eq!(rt; heap.growths(), planning);
     for _ in 0..2 {
-        let mut out = Room::new(alloc, length, usize::MAX, Full::Stalls)?;
+        let mut out = Room::new(alloc, link.linked.len(), usize::MAX, Full::Stalls)?;
         linked.write(&mut out)?;
-        assert_eq!(rt; out.written().len(), length);
+        assert_eq!(rt; out.written(), link.linked);
     }
-    assert_eq!(rt; preparing.growths(), planning.growths());
+    assert_eq!(rt; heap.growths(), planning);
     Ok(())
 }
 
@@ -128,7 +213,31 @@ fn writing_takes_no_memory(rt: HostRuntime) -> Result<(), Fail> {
     let alloc = rt.alloc();
     let host = base_host(alloc, LITTLE)?;
     let library = base_library(alloc, LITTLE)?;
-    only_the_plan_grows(&rt, host.as_slice(), &[library.as_slice()], 1536)?;
+    let linked = linked_base_pair(alloc, LITTLE)?;
+    let libraries = [library.as_slice()];
+    let link = Link {
+        host: host.as_slice(),
+        libraries: libraries.as_slice(),
+        linked: linked.as_slice(),
+    };
+    let planned = "edits 2 3 private words 4";
+    let summary = "segments 2 private words 4 blocks 3";
+    only_the_plan_grows(&rt, link, planned, summary)
+}
+
+#[test]
+fn writing_an_operand_in_two_blocks_takes_no_memory(rt: HostRuntime) -> Result<(), Fail> {
+    let alloc = rt.alloc();
+    let host = base_host(alloc, LITTLE)?;
     let library = library_of_a_long_unit(alloc)?;
-    only_the_plan_grows(&rt, host.as_slice(), &[library.as_slice()], 2048)
+    let linked = linked_long_unit(alloc)?;
+    let libraries = [library.as_slice()];
+    let link = Link {
+        host: host.as_slice(),
+        libraries: libraries.as_slice(),
+        linked: linked.as_slice(),
+    };
+    let planned = "edits 2 2 private words 0";
+    let summary = "segments 2 private words 0 blocks 4";
+    only_the_plan_grows(&rt, link, planned, summary)
 }

@@ -116,7 +116,20 @@ const ENTRIES_AND_CODES: [Refusal<'static>; 6] = [
 ];
 
 /// Faults of names and of sizes, and others behind them.
-const NAMES_AND_SIZES: [Refusal<'static>; 6] = [
+const NAMES_AND_SIZES: [Refusal<'static>; 7] = [
+    (
+        "a missing definition of the library and a doubled one",
+        &[Records(
+            2,
+            &[
+                PublicDefinition(COUNT, 3),
+                PublicDefinition(COUNT, 4),
+                End(8),
+            ],
+        )],
+        &[Bytes(1024, &CUONT)],
+        "refused 24 DoubledDefinition file 0 slot 1 record 1",
+    ),
     (
         "a missing definition and a doubled one",
         &[Records(

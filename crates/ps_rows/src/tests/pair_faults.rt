@@ -1,10 +1,13 @@
 //! A host that wants its unit from a library, and why the two are refused.
-use super::tables::{Base, Refusal, refuse_rows};
-use crate::base::{COUNT, CUONT, LIBRARY_UTIL, NOBODY, STATE};
+use super::link_growths::Link;
+use super::tables::{Base, Memory, Refusal, refuse_rows};
+use crate::base::{COUNT, CUONT, LIBRARY_UTIL, NOBODY, STATE, base_host, base_library};
 use crate::code_file::Change::{Address, Bytes, Code, Entry, Kind, Length, Records, Resized};
 use crate::information::Record::{
     ConstantDefinition, End, PrivateReference, PublicDefinition, PublicReference, UnitReference,
 };
+use ps_words::Order;
+use std::process::Abort;
 use std::test::Fail;
 
 /// Segment dictionaries of the library.
@@ -310,4 +313,29 @@ fn sizes(rt: HostRuntime) -> Result<(), Fail> {
 #[test]
 fn places(rt: HostRuntime) -> Result<(), Fail> {
     refuse_rows(&rt, Base::Pair, &PLACES)
+}
+
+/// Checks, with this memory, that a library is refused whose words stand in the other byte order.
+pub(crate) fn refuses_the_other_byte_order(
+    rt: &(impl Abort + AllocGlobal),
+    memory: Memory,
+) -> Result<(), Fail> {
+    let alloc = rt.alloc();
+    for (order, other) in [(Order::Little, Order::Big), (Order::Big, Order::Little)] {
+        let host = base_host(alloc, order)?;
+        let library = base_library(alloc, other)?;
+        let link = Link {
+            host: host.as_slice(),
+            libraries: &[library.as_slice()],
+            linked: &[],
+        };
+        let fault = "refused 3 OrderMismatch file 1";
+        memory.answers(rt, "the other byte order", &link, fault)?;
+    }
+    Ok(())
+}
+
+#[test]
+fn a_library_of_the_other_byte_order(rt: HostRuntime) -> Result<(), Fail> {
+    refuses_the_other_byte_order(&rt, Memory::Ample)
 }

@@ -12,8 +12,8 @@ use crate::code_file::{LINKED, Slot, TAIL, UNIT_SEGMENT};
 use crate::in_place::unit_in_place;
 use crate::information::Record::{End, PrivateReference, PublicDefinition, PublicReference};
 use crate::units::{
-    LONG_FILL, LONG_LENGTH, NINE_LENGTH, library_of_a_long_unit, library_of_nine_references,
-    long_end, nine_operands,
+    NINE_LENGTH, library_of_a_long_unit, library_of_nine_references, linked_long_unit,
+    nine_operands,
 };
 use ps_words::Order;
 use std::test::Fail;
@@ -121,6 +121,20 @@ pub(crate) const RECORDS: [Row<'static>; 7] = [
     },
 ];
 
+/// A host whose slot of the unit is none that wants it.
+const NOT_WANTED: Row<'static> = Row {
+    what: "a unit that is not wanted",
+    host: &[Kind(7, LINKED)],
+    library: &[],
+    linked: &[
+        CodeWord(1, 4, 10),
+        Address(7, 0),
+        Length(7, 0),
+        Resized(1024),
+    ],
+    summary: "segments 1 private words 0 blocks 2",
+};
+
 /// Slots of the host.
 const SLOTS: [Row<'static>; 9] = [
     Row {
@@ -179,18 +193,7 @@ const SLOTS: [Row<'static>; 9] = [
         linked: &[Resized(2048), Entry(8, TOOLS), Code(3, 0, &[1, 2, 3, 4, 5])],
         summary: "segments 3 private words 4 blocks 4",
     },
-    Row {
-        what: "a unit that is not wanted",
-        host: &[Kind(7, LINKED)],
-        library: &[],
-        linked: &[
-            CodeWord(1, 4, 10),
-            Address(7, 0),
-            Length(7, 0),
-            Resized(1024),
-        ],
-        summary: "segments 1 private words 0 blocks 2",
-    },
+    NOT_WANTED,
 ];
 
 /// Entries of the library.
@@ -226,6 +229,11 @@ fn records(rt: HostRuntime) -> Result<(), Fail> {
 #[test]
 fn slots(rt: HostRuntime) -> Result<(), Fail> {
     link_rows(&rt, Base::Pair, &SLOTS)
+}
+
+#[test]
+fn no_library_and_none_wanted(rt: HostRuntime) -> Result<(), Fail> {
+    link_rows(&rt, Base::HostAlone, &[NOT_WANTED])
 }
 
 #[test]
@@ -313,13 +321,7 @@ fn an_operand_in_two_blocks(rt: HostRuntime) -> Result<(), Fail> {
     let alloc = rt.alloc();
     let host = base_host(alloc, LITTLE)?;
     let library = library_of_a_long_unit(alloc)?;
-    let changes = [
-        Resized(2048),
-        Length(7, LONG_LENGTH),
-        Code(2, 0, &LONG_FILL),
-        Code(2, 510, &long_end([0x81, 2], 7)),
-    ];
-    let linked = linked_segments(alloc, LITTLE)?.with(alloc, &changes)?;
+    let linked = linked_long_unit(alloc)?;
     assert_eq!(rt;
         linked.as_slice().get(1535..1537),
         Some([0x81, 2].as_slice())

@@ -2,6 +2,7 @@
 use super::growths::{Growing, OUT_OF_MEMORY, refuses_each_growth};
 use crate::base::{COUNT, DEMO_SLOT, STATE, UTIL_ENTRY, UTIL_SLOT, base_host, base_library};
 use crate::code_file::Change::Records;
+use crate::in_place::unit_in_place;
 use crate::information::Record::{
     ConstantDefinition, End, PrivateReference, PublicDefinition, PublicReference,
 };
@@ -106,6 +107,19 @@ fn definitions_of_the_base_host(rt: HostRuntime) -> Result<(), Fail> {
             host: host_linkage(host.as_slice())?,
         };
         refuses_each_growth(&rt, "the base host", &call, "COUNT    Public 3; ")?;
+        match Definitions::build(rt.alloc(), &call.host) {
+            Ok(definitions) => {
+                let count = Def {
+                    kind: DefKind::Public,
+                    value: 3,
+                };
+                assert_eq!(rt; definitions.len(), 1);
+                assert_eq!(rt; definitions.look(&COUNT), Some(count));
+                assert_eq!(rt; definitions.look(&STATE), None);
+                assert_eq!(rt; definitions.at(0), (COUNT, count));
+            }
+            Err(_) => assert!(rt; false, "no definitions"),
+        }
     }
     Ok(())
 }
@@ -253,6 +267,24 @@ fn the_base_pair(rt: HostRuntime) -> Result<(), Fail> {
                 assert_eq!(rt; plan.order(), order);
                 assert_eq!(rt; Some(plan.names()), host.as_slice().get(64..192));
                 assert_eq!(rt; Some(plan.tail()), host.as_slice().get(256..512));
+            }
+            Err(_) => assert!(rt; false, "no plan"),
+        }
+    }
+    Ok(())
+}
+
+#[test]
+fn no_private_words_behind_the_last_offset(rt: HostRuntime) -> Result<(), Fail> {
+    let alloc = rt.alloc();
+    let changes = [Records(2, &[PublicDefinition(COUNT, 3), End(40000)])];
+    for order in ORDERS {
+        let host = unit_in_place(alloc, order)?.with(alloc, &changes)?;
+        match resolve(alloc, host.as_slice(), &[]) {
+            Ok(plan) => {
+                assert_eq!(rt; plan.next_free(), 40000);
+                assert_eq!(rt; plan.private_words(), 0);
+                assert_eq!(rt; plan.data_size(), 10);
             }
             Err(_) => assert!(rt; false, "no plan"),
         }

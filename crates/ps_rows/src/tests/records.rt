@@ -1,7 +1,11 @@
 //! Link information as `read_records` reads it.
-use crate::base::{COUNT, LIBRARY_RECORDS};
-use crate::information::Information;
-use crate::information::Record::{End, Other, PublicReference};
+use super::most_records::references;
+use crate::base::{COUNT, DEMO, LIBRARY_RECORDS, STATE, UTIL};
+use crate::information::Record::{
+    ConstantDefinition, End, Other, PrivateReference, PublicDefinition, PublicReference,
+    UnitReference,
+};
+use crate::information::{Information, Record};
 use ps_linkinfo::{Body, LinkRecord, ReadStop, Refs, read_records};
 use ps_words::Order;
 use std::alloc::{AllocError, Allocator, Global};
@@ -103,6 +107,31 @@ fn the_base_library_and_its_cuts(rt: HostRuntime) -> Result<(), Fail> {
     Ok(())
 }
 
+/// A record of each type, and what they are read as.
+const EACH_TYPE: [Record<'static>; 6] = [
+    UnitReference(UTIL, &[1]),
+    PublicReference(COUNT, &[2, 4]),
+    PrivateReference(STATE, 4, &[6]),
+    PublicDefinition(COUNT, 3),
+    ConstantDefinition(DEMO, 9),
+    End(7),
+];
+
+const EACH_TYPE_READ: &str =
+    "UNITREF UTIL     at 1; PUBLREF COUNT    at 2 4; PRIVREF STATE    words 4 at 6; \
+PUBLDEF COUNT    value 3; CONSTDEF DEMO     value 9; EOFMARK next 7; ";
+
+#[test]
+fn a_record_of_each_type(rt: HostRuntime) -> Result<(), Fail> {
+    let alloc = rt.alloc();
+    for order in [Order::Little, Order::Big] {
+        let information = Information::new(alloc, order, &EACH_TYPE)?;
+        let text = read(alloc, alloc, order, information.as_slice())?;
+        assert_eq!(rt; text.as_str(), EACH_TYPE_READ);
+    }
+    Ok(())
+}
+
 /// References, the length of a PUBLREF with them and an EOFMARK, and what the two are read as.
 const LISTS: [(&[u16], usize, &str); 3] = [
     (&[], 32, "PUBLREF COUNT    at; EOFMARK next 0; "),
@@ -132,13 +161,24 @@ fn lists_of_none_and_of_one_piece_and_of_two(rt: HostRuntime) -> Result<(), Fail
 #[test]
 fn as_many_references_as_a_record_can_have(rt: HostRuntime) -> Result<(), Fail> {
     let alloc = rt.alloc();
-    let references = Vec::from_elem(alloc, 5u16, 65535)?;
+    let references = references(alloc)?;
     let records = [PublicReference(COUNT, references.as_slice()), End(0)];
     let information = Information::new(alloc, LITTLE, &records)?;
     let bytes = information.as_slice();
     assert_eq!(rt; bytes.len(), 131104);
     match read_records(alloc, LITTLE, bytes) {
-        Ok(records) => assert_eq!(rt; records.len(), 2),
+        Ok(records) => {
+            assert_eq!(rt; records.len(), 2);
+            match records.first().map(|record| &record.body) {
+                Some(Body::PublRef(read)) => {
+                    assert_eq!(rt; read.len(), 65535);
+                    for i in 0..read.len() {
+                        assert_eq!(rt; usize::from(read.get(i)), i);
+                    }
+                }
+                _ => assert!(rt; false, "no public reference"),
+            }
+        }
         Err(_) => assert!(rt; false, "no records"),
     }
     let cut = bytes.get(..131087).unwrap_or(bytes);

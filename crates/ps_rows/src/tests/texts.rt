@@ -26,7 +26,7 @@ private 07 STATE    offset 8 words 4
 next 12 data 18 blocks 3
 ";
 
-static SLOTS_OF_THE_LIBRARY: &str = "order little
+pub(crate) static SLOTS_OF_THE_LIBRARY: &str = "order little
 slot 00          kind 0 address 0 length 0 text 0
 slot 01          kind 0 address 0 length 0 text 0
 slot 02 UTIL     kind 3 address 1 length 24 text 0

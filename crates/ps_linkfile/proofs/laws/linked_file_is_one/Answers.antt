@@ -5,4 +5,4 @@ pub returns-clause-one : goal.returns-clause-one
 returns-clause-one c = one
 
 pub returns-clause-there : goal.returns-clause-there
-returns-clause-there c = there
+returns-clause-there c = there c.slot_names_are_whole.ensures

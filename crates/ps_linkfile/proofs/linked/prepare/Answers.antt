@@ -15,6 +15,6 @@ returns-clause-linked g c =
     let libs = map (λ lib. lib.now) c.args.libs.now in
     let plan = c.in_ok-plan.ensures.plan in
     record {
-      file = subst (λ (file : List ℕ). LinkedFile host libs file) (sym (plan_file host libs c.in_ok-plan.plan plan)) (there host libs c.in_ok-plan.ensures.sound);
+      file = subst (λ (file : List ℕ). LinkedFile host libs file) (sym (plan_file host libs c.in_ok-plan.plan plan)) (there c.slot_names_are_whole.ensures host libs c.in_ok-plan.ensures.sound);
       summary = plan_summary host libs c.in_ok-plan.plan plan;
     }

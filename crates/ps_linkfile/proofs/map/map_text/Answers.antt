@@ -19,7 +19,7 @@ returns-in_err-text-clause-error g c =
 pub returns-in_err-text-clause-first : goal.returns-in_err-text-clause-first
 returns-in_err-text-clause-first g c =
     let p = err_from_is_err_and c.from_residual-in_err-text.result c.from_residual-in_err-text.ensures.1 in
-    rw (p.1, p.2) tt
+    rw (p.1, p.2) (c.first_of_all.ensures.read _ _ (reading_first _ _ c.in_ok-plan.ensures.sound))
 
 pub returns-clause-text : goal.returns-clause-text
 returns-clause-text g c =

@@ -1,5 +1,6 @@
 use Rattle.std.proofs.Common.{length, ◌-◌, ◌≤◌, take}
 use Rattle.std.specs.Io.KnownBytes.{Appends}
+use Rattle.ps_linkfile.proofs.Rising.{Progress}
 use Rattle.ps_linkfile.proofs.writing.write_all_of.Given as goal
 
 -- the bytes so far were appended
@@ -7,6 +8,7 @@ abbrev pub invariant-loop-at : goal.invariant-loop-at
 invariant-loop-at g l = record {
   within : l.at ≤ length l.bytes;
   written : Appends (g.W.Write.contents l.fn.out) (g.W.Write.contents l.out) (take l.at l.bytes);
+  counts : Progress (g.T.Tally.counts l.fn.tally l.fn.out) (g.T.Tally.counts l.tally l.out) (length l.bytes) l.at;
 }
 
 abbrev pub decreases-loop-at : goal.decreases-loop-at

@@ -8,6 +8,7 @@ use Rattle.ps_linkinfo.specs.Records.{reading}
 use Rattle.ps_linkinfo.specs.Left.{left, records_left}
 use Rattle.ps_words.specs.declared.fault.Reason.{Reason}
 use Rattle.ps_linkinfo.specs.declared.record.LinkRecord.{LinkRecord as Record}
+use Rattle.indexmap.specs.IndexMap.{hasher_of}
 use Rattle.indexmap.proofs.CallerLemmas.{insert_entry-new}
 use Rattle.ps_resolve.specs.Symbols.{definitions, doubled, doubled_from}
 use Rattle.ps_resolve.proofs.Doubles.{none_is, none_entries, none_first, new_entries, new_first, some_there}
@@ -22,6 +23,7 @@ loop-item-init g c =
       finite = tt;
       entries = rw c.with_hasher-by_name.ensures.empty (ap definitions all);
       first = rw c.with_hasher-by_name.ensures.empty (ap doubled all);
+      keyed = c.with_hasher-by_name.ensures.hasher ∙ c.by_names.ensures;
       count = omega (arith, ap length all);
     }
 
@@ -44,12 +46,12 @@ loop-item-preserved-in-Ok g c =
     elim c.match-def_of.branch [
       | in_default-def_of w ↦
           let none = sym c.def_of.ensures ∙ w.in_default-def_of.is in
-          rw (ap (λ m. m.entries) w.by_name-is) (record { can = tt; finite = tt; entries = sym (none_entries c.loop-item.rec old r rest none) ∙ entries; first = sym (none_first c.loop-item.rec old r rest none) ∙ first; count = count })
+          rw (ap (λ m. m.entries) w.by_name-is, ap hasher_of w.by_name-is) (record { can = tt; finite = tt; entries = sym (none_entries c.loop-item.rec old r rest none) ∙ entries; first = sym (none_first c.loop-item.rec old r rest none) ∙ first; keyed = inv.keyed; count = count })
       | in-Some-def_of+else-contains_key+in_ok-insert w ↦
           let some = sym c.def_of.ensures ∙ w.in-Some-def_of.is in
           let absent = sym w.contains_key.ensures ∙ w.if-contains_key.false in
           let put : w.insert.new.self.entries ≡ old ++ (r.name, w.in-Some-def_of.def) ∷ [] = w.in_ok-insert.ensures.entries ∙ insert_entry-new bytes_eq c.loop-item.by_name r.name w.in-Some-def_of.def (none_is _ absent) in
-          rw (ap (λ m. m.entries) w.by_name-is ∙ put) (record { can = tt; finite = tt; entries = sym (new_entries c.loop-item.rec old r rest w.in-Some-def_of.def some) ∙ entries; first = sym (new_first c.loop-item.rec old r rest w.in-Some-def_of.def some absent) ∙ first; count = count })
+          rw (ap (λ m. m.entries) w.by_name-is ∙ put, ap hasher_of w.by_name-is ∙ w.insert.ensures.hasher) (record { can = tt; finite = tt; entries = sym (new_entries c.loop-item.rec old r rest w.in-Some-def_of.def some) ∙ entries; first = sym (new_first c.loop-item.rec old r rest w.in-Some-def_of.def some absent) ∙ first; keyed = inv.keyed; count = count })
     ]
 
 pub returns-in_err-insert-clause-stop : goal.returns-in_err-insert-clause-stop

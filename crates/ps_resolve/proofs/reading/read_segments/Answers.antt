@@ -1,8 +1,10 @@
-use Rattle.std.proofs.Common.{◌≡◌, ◌∙◌, List, ℕ, Some, None, sym, ap}
+use Rattle.std.proofs.Common.{◌≡◌, ◌∙◌, List, ℕ, map, Some, None, sym, ap}
 use Rattle.ps_words.specs.declared.order.Order.{Order}
 use Rattle.ps_words.specs.declared.fault.Fault.{Fault}
 use Rattle.ps_codefile.specs.Dictionary.{Opened}
-use Rattle.ps_resolve.specs.Added.{segments, added_fault}
+use Rattle.ps_resolve.specs.Added.{segments, added_fault, slot_names}
+use Rattle.ps_resolve.specs.Views.{segment_of}
+use Rattle.ps_resolve.specs.declared.segment.Segment.{Segment as SegmentView}
 use Rattle.ps_resolve.proofs.ReadingLibraries.{files}
 use Rattle.std.specs.Option.{option_or}
 use Rattle.ps_resolve.specs.Faults.{slots_fault, no_host_fault, libraries_fault, sources_fault}
@@ -64,3 +66,9 @@ returns-in-Ok-read_sources-clause-one_host c =
     let dict = c.in-Ok.dict in
     let none = none_of dict.order dict.file (files c.args.libs.now) (sym c.in-Ok-read_sources.ensures.fault) in
     rw (c.order.ensures, c.in-Ok-read_sources.ensures.segments) (one_host dict.order dict.file (files c.args.libs.now) none.0)
+
+pub returns-in-Ok-read_sources-clause-names : goal.returns-in-Ok-read_sources-clause-names
+returns-in-Ok-read_sources-clause-names c = λ order.
+    c.slot_names.ensures order
+    ∙ (ap (λ (o : Opened). slot_names o.file (map (segment_of order) c.as_slice.result.now)) (host_is c.args.host.now c.in-Ok.dict (sym c.read.ensures ∙ c.in-Ok.is))
+    ∙ ap (λ (ss : List SegmentView). slot_names c.args.host.now (map (segment_of order) ss)) c.as_slice.ensures.value)

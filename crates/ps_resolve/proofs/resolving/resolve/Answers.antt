@@ -2,7 +2,8 @@ use Rattle.std.proofs.Common.{◌≡◌, ℕ, List, map, None, sym, ◌∙◌, a
 use Rattle.std.specs.Prelude.{IfOk}
 use Rattle.ps_words.specs.declared.order.Order.{Order}
 use Rattle.ps_resolve.specs.Sources.{Segment, order_of}
-use Rattle.ps_resolve.specs.Added.{segments}
+use Rattle.ps_resolve.specs.Added.{segments, slot_names}
+use Rattle.ps_resolve.specs.declared.segment.Segment.{Segment as SegmentView}
 use Rattle.ps_resolve.specs.Faults.{linking_fault}
 use Rattle.ps_resolve.specs.AllFaults.{first_fault}
 use Rattle.ps_resolve.specs.Plans.{AreStopped, IsPlanOf, IsStopped}
@@ -17,7 +18,7 @@ pub returns-in-Ok : goal.returns-in-Ok
 returns-in-Ok g c =
     let host : List ℕ = c.args.host.now in
     let libs : List (List ℕ) = map (λ lib. lib.now) c.args.libs.now in
-    let order : Order = c.in-Ok.order in
+    let order : Order = c.in-Ok.files.order in
     let given : List Segment = map (segment_of order) c.as_slice.result.now in
     let all : List Segment = segments (order_of host) host libs in
     let order_is : order ≡ order_of host = c.in-Ok.ensures.order in
@@ -31,3 +32,7 @@ returns-in-Ok g c =
       stop = if_err c.link_segments.result (AreStopped order given) (IsStopped host libs)
           (λ stop d. stopped host libs none stop (subst (λ (o : Order). AreStopped o all stop) order_is (subst (λ (segs : List Segment). AreStopped order segs stop) given_is d))) c.link_segments.ensures.stop;
     }
+
+pub link_segments-requires-clause-names : goal.link_segments-requires-clause-names
+link_segments-requires-clause-names g c =
+    c.in-Ok.ensures.names c.in-Ok.files.order ∙ ap (λ (ss : List SegmentView). slot_names c.args.host.now (map (segment_of c.in-Ok.files.order) ss)) (sym c.as_slice.ensures.value)

@@ -1,0 +1,144 @@
+-- How the counts of a writer rise while a file is written.
+use Rattle.std.proofs.Common.{◌≡◌, ◌≢◌, ◌∙◌, ℕ, ◌+◌, ◌*◌, ◌-◌, ◌≤◌, ◌<◌, List, [], ◌∷◌, length, map, drop, Result, Ok, ap, subst, refl, arith}
+use Rattle.std.specs.Prelude.{All}
+use Rattle.std.proofs.lemmas.Bool.Decides.{nat_tests}
+use Rattle.std.specs.declared.io.Error.{Error}
+use Rattle.ps_words.specs.Words.{blocks}
+use Rattle.ps_codefile.specs.Dictionary.{max_code_len}
+use Rattle.ps_resolve.specs.Plans.{Origin}
+use Rattle.ps_linkfile.specs.declared.counts.Counts.{Counts}
+use Rattle.ps_linkfile.specs.declared.error.WriteFault.{WriteFault}
+use Rattle.ps_linkfile.specs.declared.error.WriteFault.TheVariants.{Device, Stalled}
+use Rattle.ps_linkfile.specs.Counts.{AreAtMost, HasRoom, counted, Rises, NoneFailed, OneError, OneStall, OneFailed, IfDevice, IfStalled}
+use Rattle.ps_linkfile.specs.LinkedFile.{Extent, all_blocks}
+use Rattle.ps_linkfile.specs.Writing.{extent_of_origin, Ascend}
+use Rattle.ps_linkfile.proofs.Extents.{all_blocks-cons, few_codes, few_blocks}
+
+-- the counts after the first i of so many bytes went out; while some are left, each write was short
+pub record Progress (old new : Counts) (size i : ℕ) : Type 0 where
+  pub by_bytes : new.writes ≤ old.writes + i
+  pub by_pieces : new.writes + old.shorts ≤ old.writes + 1 + new.shorts
+  pub unfinished : i < size → new.writes + old.shorts ≤ old.writes + new.shorts
+  pub shorts : new.shorts ≤ old.shorts + i
+  pub errors : new.errors ≡ old.errors
+  pub stalls : new.stalls ≡ old.stalls
+
+-- a write took some of those that were left
+pub progress : (old mid : Counts) (size i taken left : ℕ) → Progress old mid size i → i < size → left ≡ size - i → taken ≤ left → taken ≢ 0 → Progress old (counted {E = Error} mid left (Ok taken)) size (i + taken)
+progress old mid size i taken left h lt is le ne = record {
+  by_bytes = grind (arith, nat_tests);
+  by_pieces = grind (arith, nat_tests);
+  unfinished = λ more. grind (arith, nat_tests);
+  shorts = grind (arith, nat_tests);
+  errors = h.errors;
+  stalls = grind (arith, nat_tests);
+}
+
+pub rises_none : (c : Counts) → Rises c c 0 0
+rises_none c = record { by_bytes = omega arith; by_pieces = omega arith; shorts = omega arith }
+
+-- some pieces, and then more, of a file that has still more
+pub rises_then : (a b c : Counts) (m x n y size pieces : ℕ) → Rises a b m x → Rises b c n y → m + n ≤ size → x + y ≤ pieces → Rises a c size pieces
+rises_then a b c m x n y size pieces h k le few = record {
+  by_bytes = omega (arith, h.by_bytes, k.by_bytes, le);
+  by_pieces = omega (arith, h.by_pieces, k.by_pieces, few);
+  shorts = omega (arith, h.shorts, k.shorts, le);
+}
+
+pub none_after : (a b c : Counts) → NoneFailed a b → NoneFailed b c → NoneFailed a c
+none_after a b c h k = record { errors = k.errors ∙ h.errors; stalls = k.stalls ∙ h.stalls }
+
+pub one_after : (a b c : Counts) (fault : WriteFault) → NoneFailed a b → OneFailed fault b c → OneFailed fault a c
+one_after a b c (Device error) h k = record { errors = omega (arith, h.errors, k.errors); stalls = k.stalls ∙ h.stalls }
+one_after a b c Stalled h k = record { errors = k.errors ∙ h.errors; stalls = omega (arith, h.stalls, k.stalls) }
+
+pub if_device : (old new : Counts) (fault : WriteFault) → OneFailed fault old new → IfDevice fault (OneError old new)
+if_device old new (Device error) h = h
+if_device old new Stalled h = tt
+
+pub if_stalled : (old new : Counts) (fault : WriteFault) → OneFailed fault old new → IfStalled fault (OneStall old new)
+if_stalled old new (Device error) h = tt
+if_stalled old new Stalled h = h
+
+-- small counts have room for a file
+pub room_for : (c : Counts) (n : ℕ) → AreAtMost c 4294967296 → n ≤ 4294967296 → HasRoom c n
+room_for c n h le = record {
+  writes = omega (arith, h.writes, le);
+  errors = omega (arith, h.errors, le);
+  stalls = omega (arith, h.stalls, le);
+  shorts = omega (arith, h.shorts, le);
+}
+
+-- room that is left after some pieces
+pub room_left : (a b : Counts) (size m x n : ℕ) → HasRoom a size → Rises a b m x → NoneFailed a b → m + n ≤ size → HasRoom b n
+room_left a b size m x n room h none le = record {
+  writes = omega (arith, room.writes, h.by_bytes, le);
+  errors = omega (arith, room.errors, none.errors, le);
+  stalls = omega (arith, room.stalls, none.stalls, le);
+  shorts = omega (arith, room.shorts, h.shorts, le);
+}
+
+-- a file has few blocks
+pub few_of_all : (cs : List Extent) → Ascend 0 cs → All (λ c. c.size ≤ max_code_len) cs → all_blocks cs ≤ 1024
+few_of_all cs slots sizes = omega (arith, few_blocks cs sizes, few_codes 0 cs (omega arith) slots)
+
+abbrev pub blocks_in : List Origin → ℕ
+blocks_in os = all_blocks (map extent_of_origin os)
+
+-- n blocks are those of the first so many sources
+pub record BlocksSoFar (os : List Origin) (count n : ℕ) (old new : Counts) : Type 0 where
+  pub sum : n + blocks_in (drop count os) ≡ blocks_in os
+  pub rises : Rises old new (512 * n) n
+  pub none : NoneFailed old new
+
+next_blocks : (os : List Origin) (count n : ℕ) (o : Origin) → drop count os ≡ o ∷ drop (count + 1) os → n + blocks_in (drop count os) ≡ blocks_in os → n + blocks (length o.code) + blocks_in (drop (count + 1) os) ≡ blocks_in os
+next_blocks os count n o at h = sum (blocks_in os) (blocks_in (drop count os)) (blocks_in (drop (count + 1) os)) (blocks (length o.code)) h (ap blocks_in at ∙ all_blocks-cons (extent_of_origin o) (map extent_of_origin (drop (count + 1) os)))
+  where
+    sum : (all here rest one : ℕ) → n + here ≡ all → here ≡ one + rest → n + one + rest ≡ all
+    sum all here rest one h k = omega arith
+
+-- none is written yet
+pub blocks_none : (os : List Origin) (c : Counts) → BlocksSoFar os 0 0 c c
+blocks_none os c = record { sum = omega arith; rises = rises_none c; none = record { errors = refl; stalls = refl } }
+
+-- the blocks of one source more
+pub blocks_more : (os : List Origin) (count n : ℕ) (o : Origin) (a b c : Counts) → drop count os ≡ o ∷ drop (count + 1) os → BlocksSoFar os count n a b
+    → Rises b c (512 * blocks (length o.code)) (blocks (length o.code)) → NoneFailed b c → BlocksSoFar os (count + 1) (n + blocks (length o.code)) a c
+blocks_more os count n o a b c at h k none =
+    let one = blocks (length o.code) in
+    record {
+      sum = next_blocks os count n o at h.sum;
+      rises = rises_then a b c (512 * n) n (512 * one) one (512 * (n + one)) (n + one) h.rises k (distributes n one) (omega arith);
+      none = none_after a b c h.none none;
+    }
+  where
+    distributes : (x y : ℕ) → 512 * x + 512 * y ≤ 512 * (x + y)
+    distributes x y = omega arith
+
+-- some blocks of one source more, at which the file stops
+pub blocks_stop : (os : List Origin) (count n : ℕ) (o : Origin) (a b c : Counts) → drop count os ≡ o ∷ drop (count + 1) os → BlocksSoFar os count n a b
+    → Rises b c (512 * blocks (length o.code)) (blocks (length o.code)) → Rises a c (512 * blocks_in os) (blocks_in os)
+blocks_stop os count n o a b c at h k =
+    let one = blocks (length o.code) in
+    let fits = within n one (blocks_in (drop (count + 1) os)) (blocks_in os) (next_blocks os count n o at h.sum) in
+    rises_then a b c (512 * n) n (512 * one) one (512 * blocks_in os) (blocks_in os) h.rises k fits.0 fits.1
+  where
+    within : (x y rest all : ℕ) → x + y + rest ≡ all → (512 * x + 512 * y ≤ 512 * all) × (x + y ≤ all)
+    within x y rest all h = (omega arith, omega arith)
+
+-- there is room for the blocks of one source more
+pub blocks_room : (os : List Origin) (count n : ℕ) (o : Origin) (a b : Counts) → drop count os ≡ o ∷ drop (count + 1) os → BlocksSoFar os count n a b
+    → HasRoom a (512 * blocks_in os) → HasRoom b (512 * blocks (length o.code))
+blocks_room os count n o a b at h room =
+    let one = blocks (length o.code) in
+    room_left a b (512 * blocks_in os) (512 * n) n (512 * one) room h.rises h.none (within n one (blocks_in (drop (count + 1) os)) (blocks_in os) (next_blocks os count n o at h.sum))
+  where
+    within : (x y rest all : ℕ) → x + y + rest ≡ all → 512 * x + 512 * y ≤ 512 * all
+    within x y rest all h = omega arith
+
+-- all are written
+pub blocks_done : (os : List Origin) (count n : ℕ) (a b : Counts) → drop count os ≡ [] → BlocksSoFar os count n a b → Rises a b (512 * blocks_in os) (blocks_in os)
+blocks_done os count n a b at h = subst (λ (m : ℕ). Rises a b (512 * m) m) (sum n (blocks_in (drop count os)) (blocks_in os) (ap blocks_in at) h.sum) h.rises
+  where
+    sum : (n rest all : ℕ) → rest ≡ 0 → n + rest ≡ all → n ≡ all
+    sum n rest all h k = omega arith

@@ -1,0 +1,24 @@
+use Rattle.std.proofs.Common.{◌≡◌, length, subst}
+use Rattle.std.proofs.lemmas.Result.{err_from_is_err_and}
+use Rattle.ps_resolve.specs.Plans.{Planned}
+use Rattle.ps_linkfile.specs.Writing.{file_of}
+use Rattle.ps_linkfile.specs.Outcomes.{AppendsFront}
+use Rattle.ps_linkfile.proofs.Fronts.{on_err_always}
+use Rattle.ps_linkfile.proofs.Rising.{if_device, if_stalled}
+use Rattle.ps_linkfile.proofs.linked.Linked.write_told.Goals as goal
+
+pub returns-in_err-write_file-clause-front : goal.returns-in_err-write_file-clause-front
+returns-in_err-write_file-clause-front g c =
+    let same : c.self.inside.plan ≡ c.args.self.now = cc (c.self.view_is) in
+    on_err_always c.from_residual.result
+    (subst (λ (p : Planned). AppendsFront (g.W.Write.contents c.args.out.now) (g.W.Write.contents c.write_file.new.out) (file_of p)) same c.in_err-write_file.ensures.front)
+
+pub returns-in_err-write_file-clause-device : goal.returns-in_err-write_file-clause-device
+returns-in_err-write_file-clause-device g c =
+    let p = err_from_is_err_and c.from_residual.result c.from_residual.ensures.1 in
+    rw (p.1, p.2) (if_device _ _ _ c.in_err-write_file.ensures.failed)
+
+pub returns-in_err-write_file-clause-stalled : goal.returns-in_err-write_file-clause-stalled
+returns-in_err-write_file-clause-stalled g c =
+    let p = err_from_is_err_and c.from_residual.result c.from_residual.ensures.1 in
+    rw (p.1, p.2) (if_stalled _ _ _ c.in_err-write_file.ensures.failed)

@@ -1,0 +1,69 @@
+use Rattle.std.proofs.Common.{◌≡◌, ◌+◌, ◌*◌, ◌∙◌, ℕ, List, ap, arith, length, length-append, subst, sym}
+use Rattle.std.proofs.lemmas.Result.{err_from_is_err_and, IfErr-weaker, on_err_weaker, on_ok_weaker}
+use Rattle.std.specs.Io.KnownBytes.{Appends}
+use Rattle.ps_linkfile.specs.LinkedFile.{all_blocks, dictionary}
+use Rattle.ps_linkfile.specs.Writing.{extents_of, padded_codes}
+use Rattle.ps_linkfile.specs.Outcomes.{AppendsFront}
+use Rattle.ps_linkfile.proofs.Fronts.{appends_twice, front_last, front_then, on_err_always}
+use Rattle.ps_linkfile.proofs.Codes.{codes_len}
+use Rattle.ps_linkfile.proofs.Rising.{few_of_all, none_after, one_after, rises_then, room_for, room_left}
+use Rattle.ps_linkfile.proofs.writing.write_file.Goals as goal
+
+pub write_all_of-requires : goal.write_all_of-requires
+write_all_of-requires g c = room_for _ _ c.requires.counts (omega arith)
+
+pub returns-in_err-write_all_of-clause-front : goal.returns-in_err-write_all_of-clause-front
+returns-in_err-write_all_of-clause-front g c =
+    let plan = c.args.plan.now in
+    on_err_always c.from_residual.result
+    (front_then _ _ (dictionary plan.order plan.names plan.host (extents_of plan)) (padded_codes plan.order plan.origins plan.edits)
+    (subst (λ (bytes : List ℕ). AppendsFront (g.W.Write.contents c.args.out.now) (g.W.Write.contents c.write_all_of.new.out) bytes) c.dictionary_of.ensures c.in_err-write_all_of.ensures.front))
+
+pub returns-in_err-write_all_of-clause-writes : goal.returns-in_err-write_all_of-clause-writes
+returns-in_err-write_all_of-clause-writes g c =
+    let plan = c.args.plan.now in
+    let first : length (dictionary plan.order plan.names plan.host (extents_of plan)) ≡ 512 = ap (λ (bytes : List ℕ). length bytes) (sym c.dictionary_of.ensures) ∙ omega arith in
+    let whole = length-append (dictionary plan.order plan.names plan.host (extents_of plan)) (padded_codes plan.order plan.origins plan.edits) in
+    record {
+      by_bytes = omega (arith, c.write_all_of.ensures.writes.by_bytes, first, whole);
+      by_pieces = omega (arith, c.write_all_of.ensures.writes.by_pieces);
+      shorts = omega (arith, c.write_all_of.ensures.writes.shorts, first, whole);
+    }
+
+pub write_codes-requires-clause-room : goal.write_codes-requires-clause-room
+write_codes-requires-clause-room g c =
+    let n = all_blocks (extents_of c.args.plan.now) in
+    let few = few_of_all (extents_of c.args.plan.now) c.requires.ready.slots c.requires.ready.sizes in
+    room_left _ _ (512 + 512 * n) (length c.dictionary_of.result) 1 (512 * n) (room_for _ (512 + 512 * n) c.requires.counts (omega (arith, few)))
+    c.write_all_of.ensures.writes c.in_ok-write_all_of.ensures.ok (omega arith)
+
+pub returns-clause-all : goal.returns-clause-all
+returns-clause-all g c =
+    let plan = c.args.plan.now in
+    on_ok_weaker c.write_codes.result
+    (appends_twice _ _ _ (dictionary plan.order plan.names plan.host (extents_of plan)) (padded_codes plan.order plan.origins plan.edits)
+    (subst (λ (bytes : List ℕ). Appends (g.W.Write.contents c.args.out.now) (g.W.Write.contents c.write_all_of.new.out) bytes) c.dictionary_of.ensures c.in_ok-write_all_of.ensures.all))
+    c.write_codes.ensures.all
+
+pub returns-clause-front : goal.returns-clause-front
+returns-clause-front g c =
+    let plan = c.args.plan.now in
+    on_err_weaker c.write_codes.result
+    (front_last _ _ _ (dictionary plan.order plan.names plan.host (extents_of plan)) (padded_codes plan.order plan.origins plan.edits)
+    (subst (λ (bytes : List ℕ). Appends (g.W.Write.contents c.args.out.now) (g.W.Write.contents c.write_all_of.new.out) bytes) c.dictionary_of.ensures c.in_ok-write_all_of.ensures.all))
+    c.write_codes.ensures.front
+
+pub returns-clause-writes : goal.returns-clause-writes
+returns-clause-writes g c =
+    let plan = c.args.plan.now in
+    let n = all_blocks (extents_of plan) in
+    let first : length (dictionary plan.order plan.names plan.host (extents_of plan)) ≡ 512 = ap (λ (bytes : List ℕ). length bytes) (sym c.dictionary_of.ensures) ∙ omega arith in
+    let rest : length (padded_codes plan.order plan.origins plan.edits) ≡ 512 * n = codes_len plan.order plan.origins plan.edits c.requires.ready.edits in
+    let whole = length-append (dictionary plan.order plan.names plan.host (extents_of plan)) (padded_codes plan.order plan.origins plan.edits) in
+    rises_then _ _ _ (length c.dictionary_of.result) 1 (512 * n) n _ (1 + n) c.write_all_of.ensures.writes c.write_codes.ensures.writes (omega (arith, first, rest, whole)) (omega arith)
+
+pub returns-clause-ok : goal.returns-clause-ok
+returns-clause-ok g c = on_ok_weaker c.write_codes.result (none_after _ _ _ c.in_ok-write_all_of.ensures.ok) c.write_codes.ensures.ok
+
+pub returns-clause-failed : goal.returns-clause-failed
+returns-clause-failed g c = IfErr-weaker c.write_codes.result _ _ (λ fault h. one_after _ _ _ fault c.in_ok-write_all_of.ensures.ok h) c.write_codes.ensures.failed

@@ -1,0 +1,76 @@
+-- How often a writer was called, and how its counts rise.
+-- Source: this project's profile.
+use Rattle.std.specs.Prelude.{◌≡◌, ℕ, ◌+◌, ◌^◌, ◌<◌, ◌≤◌, ◌==◌, ◌&&◌, nat_lt, if◌then◌else◌, Result, Ok, Err, ⊤}
+use Rattle.ps_linkfile.specs.declared.counts.Counts.{Counts}
+use Rattle.ps_linkfile.specs.declared.error.WriteFault.{WriteFault}
+use Rattle.ps_linkfile.specs.declared.error.WriteFault.TheVariants.{Device, Stalled}
+
+abbrev pub no_counts : Counts
+no_counts = record { writes = 0; errors = 0; stalls = 0; shorts = 0 }
+
+pub record AreAtMost (counts : Counts) (n : ℕ) : Type 0 where
+  pub writes : counts.writes ≤ n
+  pub errors : counts.errors ≤ n
+  pub stalls : counts.stalls ≤ n
+  pub shorts : counts.shorts ≤ n
+
+-- each count may rise by n, and is then still a u64
+pub record HasRoom (counts : Counts) (n : ℕ) : Type 0 where
+  pub writes : counts.writes + n < 2 ^ 64
+  pub errors : counts.errors + n < 2 ^ 64
+  pub stalls : counts.stalls + n < 2 ^ 64
+  pub shorts : counts.shorts + n < 2 ^ 64
+
+-- the counts after a write of so many bytes that gave this answer
+abbrev pub counted : {E : Type 0} → Counts → ℕ → Result ℕ E → Counts
+counted old size (Ok taken) = record {
+  writes = old.writes + 1;
+  errors = old.errors;
+  stalls = if nat_lt taken size && taken == 0 then old.stalls + 1 else old.stalls;
+  shorts = if nat_lt taken size then old.shorts + 1 else old.shorts;
+}
+counted old size (Err error) = record { writes = old.writes + 1; errors = old.errors + 1; stalls = old.stalls; shorts = old.shorts }
+
+-- there were at most as many writes as bytes
+abbrev pub RisesByBytes : Counts → Counts → ℕ → Type 0
+RisesByBytes old new size = new.writes ≤ old.writes + size
+
+-- there were at most as many writes as pieces and short writes together
+abbrev pub RisesByPieces : Counts → Counts → ℕ → Type 0
+RisesByPieces old new pieces = new.writes + old.shorts ≤ old.writes + pieces + new.shorts
+
+-- how often a writer is called while so many bytes are written, in so many pieces
+pub record Rises (old new : Counts) (size pieces : ℕ) : Type 0 where
+  pub by_bytes : RisesByBytes old new size
+  pub by_pieces : RisesByPieces old new pieces
+  pub shorts : new.shorts ≤ old.shorts + size
+
+-- no write answered an error, and none stalled
+pub record NoneFailed (old new : Counts) : Type 0 where
+  pub errors : new.errors ≡ old.errors
+  pub stalls : new.stalls ≡ old.stalls
+
+-- one write answered an error, and none stalled
+pub record OneError (old new : Counts) : Type 0 where
+  pub errors : new.errors ≡ old.errors + 1
+  pub stalls : new.stalls ≡ old.stalls
+
+-- one write stalled, and none answered an error
+pub record OneStall (old new : Counts) : Type 0 where
+  pub errors : new.errors ≡ old.errors
+  pub stalls : new.stalls ≡ old.stalls + 1
+
+-- a fault says what the one write that failed did
+abbrev pub OneFailed : WriteFault → Counts → Counts → Type 0
+OneFailed (Device error) old new = OneError old new
+OneFailed Stalled old new = OneStall old new
+
+-- what it says where a write answered an error
+abbrev pub IfDevice : WriteFault → Type 0 → Type 0
+IfDevice (Device error) P = P
+IfDevice Stalled P = ⊤
+
+-- what it says where a write took none
+abbrev pub IfStalled : WriteFault → Type 0 → Type 0
+IfStalled (Device error) P = ⊤
+IfStalled Stalled P = P

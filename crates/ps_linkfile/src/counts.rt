@@ -1,0 +1,52 @@
+use std::io;
+
+/// How often a writer was called, and with what answers.
+///
+/// Source: this project's profile.
+#[derive(Clone, Copy, Debug, PartialEq, Eq)]
+pub struct Counts {
+    /// How many writes there were.
+    pub writes: u64,
+    /// How many of them answered an error.
+    pub errors: u64,
+    /// How many of them stalled: they took none of at least one byte.
+    pub stalls: u64,
+    /// How many of them took fewer bytes than they were handed, those that stalled among them.
+    pub shorts: u64,
+}
+
+impl Counts {
+    ghost use Rattle.std.specs.Prelude.{◌≡◌};
+    ghost use Rattle.ps_linkfile.specs.Counts.{no_counts, counted, HasRoom};
+
+    /// The counts before the first write.
+    pub(crate) fn new() -> Counts
+        ensures { result ≡ no_counts }
+    {
+        Counts {
+            writes: 0,
+            errors: 0,
+            stalls: 0,
+            shorts: 0,
+        }
+    }
+
+    /// Counts a write of so many bytes, by its answer.
+    pub(crate) fn count(&mut self, size: usize, answer: &io::Result<usize>)
+        requires { HasRoom self.old 1 }
+        ensures { self.new ≡ counted self.old size answer.now }
+    {
+        self.writes += 1;
+        match answer {
+            Err(_) => self.errors += 1,
+            Ok(taken) => {
+                if *taken < size {
+                    self.shorts += 1;
+                    if *taken == 0 {
+                        self.stalls += 1;
+                    }
+                }
+            }
+        }
+    }
+}

@@ -1,0 +1,33 @@
+-- The names of records that are read.
+use Rattle.std.proofs.Common.{◌≡◌, ℕ, zero, suc, ◌≤◌, List, [], ◌∷◌, length, take, drop, Bool, true, false, if◌then◌else◌, Option, Some, None, refl, sym, ◌∙◌, arith}
+use Rattle.std.specs.Prelude.{All, nat_lt}
+use Rattle.std.proofs.lemmas.Bool.{ltb-false}
+use Rattle.std.proofs.lemmas.List.{length-take-le}
+use Rattle.std.proofs.lemmas.List.Elements.{All-nil, All-cons}
+use Rattle.ps_words.specs.declared.order.Order.{Order}
+use Rattle.ps_words.specs.declared.fault.Reason.{Reason}
+use Rattle.ps_words.specs.declared.fault.Reason.TheVariants as reason
+use Rattle.ps_linkinfo.specs.declared.record.LinkRecord.{LinkRecord as Record}
+use Rattle.ps_linkinfo.specs.Records.{bad, is_eof, record_at, read_from, size_of}
+
+abbrev pub IsWhole : Record → Type 0
+IsWhole r = length r.name ≡ 8
+
+no_short : (short : Bool) (rest : Option Reason) → (if short then Some reason.RecordsTruncated else rest) ≡ None → short ≡ false
+no_short true rest h = cc
+no_short false rest h = refl
+
+-- where no fault stands there are sixteen bytes, and so eight of a name
+first_whole : (order : Order) (bytes : List ℕ) → bad order bytes ≡ None → IsWhole (record_at order bytes)
+first_whole order bytes h =
+    let long : 16 ≤ length bytes = ltb-false (length bytes) 16 (no_short (nat_lt (length bytes) 16) _ h) in
+    length-take-le 8 bytes (omega arith)
+
+pub all_whole : (n : ℕ) (order : Order) (bytes : List ℕ) → All IsWhole (read_from n order bytes).0
+all_whole zero order bytes = All-nil IsWhole
+all_whole (suc n) order bytes = by (all_whole n order (drop (size_of (record_at order bytes)) bytes)) (bad order bytes) refl (is_eof (record_at order bytes)) refl
+  where
+    by : All IsWhole (read_from n order (drop (size_of (record_at order bytes)) bytes)).0 → (o : Option Reason) → bad order bytes ≡ o → (b : Bool) → is_eof (record_at order bytes) ≡ b → All IsWhole (read_from (suc n) order bytes).0
+    by rest (Some why) e b f = rw (e, read_from) (All-nil IsWhole)
+    by rest None e true f = rw (e, read_from) (rw (f, read_from) (All-cons IsWhole (record_at order bytes) [] (first_whole order bytes e) (All-nil IsWhole)))
+    by rest None e false f = rw (e, read_from) (rw (f, read_from) (All-cons IsWhole (record_at order bytes) _ (first_whole order bytes e) rest))

@@ -1,0 +1,185 @@
+-- The names of all slots of a linked file have eight bytes each: those of the host's dictionary, and those of UNITREF records.
+use Rattle.std.proofs.Common.{◌≡◌, ℕ, zero, suc, ◌+◌, ◌*◌, ◌-◌, ◌<◌, ◌≤◌, ◌==◌, List, [], ◌∷◌, ◌++◌, length, length-append, map, drop, Bool, true, false, if◌then◌else◌, Option, Some, None, refl, sym, ◌∙◌, ap, subst, arith}
+use Rattle.std.specs.Prelude.{All}
+use Rattle.std.specs.List.{range_with_len, filter_map, cons_option, flat_map, find, slice_get}
+use Rattle.std.specs.Option.{option_map, option_map_or, option_or, option_and_then}
+use Rattle.std.specs.Result.{result_ok}
+use Rattle.std.proofs.lemmas.Option.{option_and_then_some, same_Some}
+use Rattle.std.proofs.lemmas.List.{length-take, length-drop}
+use Rattle.std.proofs.lemmas.List.Elements.{All-nil, All-cons, All-tail, All-append}
+use Rattle.ps_words.specs.declared.order.Order.{Order}
+use Rattle.ps_words.specs.declared.fault.Fault.{Fault}
+use Rattle.ps_codefile.specs.Dictionary.{slots, name_at, entry_at, role_of, code_of, information_of}
+use Rattle.ps_codefile.specs.declared.entry.Entry.{Entry}
+use Rattle.ps_codefile.specs.declared.entry.Role.{Role}
+use Rattle.ps_codefile.specs.declared.entry.Role.TheVariants.{Wanted}
+use Rattle.ps_linkinfo.specs.Records.{reading}
+use Rattle.ps_linkinfo.specs.declared.record.LinkRecord.{LinkRecord as Record}
+use Rattle.ps_resolve.specs.Sources.{Segment, own_segment, own_segments, segment_from, source_of, unit_source, units_of, records_of, file_at, is_linked, is_empty}
+use Rattle.ps_resolve.specs.Added.{Rounds, is_had, is_unit_reference, unit_references, references_in, sought_from, placed_fault, added_segment, as_added, rounds, rounds_from, empty_slots, added, segment_at, segments, slot_name, slot_names}
+use Rattle.ps_resolve.specs.Faults.{is_role}
+use Rattle.ps_resolve.specs.declared.added.UnitReference.{UnitReference}
+use Rattle.ps_resolve.proofs.ReadingKnown.{find_has}
+
+-- the law of link information
+abbrev pub ReadWhole : Type 0
+ReadWhole = (order : Order) (bytes : List ℕ) → All (λ (r : Record). length r.name ≡ 8) (reading order bytes).0
+
+abbrev IsWhole : Record → Type 0
+IsWhole r = length r.name ≡ 8
+
+abbrev IsNamed : UnitReference → Type 0
+IsNamed g = length g.name ≡ 8
+
+-- a segment whose name has eight bytes, and those of whose records have
+record HasNames (s : Segment) : Type 0 where
+  own : length s.name ≡ 8
+  records : All IsWhole s.records
+
+got : {X : Type 0} (P : X → Type 0) (xs : List X) (k : ℕ) (x : X) → slice_get xs k ≡ Some x → All P xs → P x
+got P [] k x h all = cc
+got P (y ∷ ys) zero x h all = let same : y ≡ x = same_Some _ _ h in subst P same (all 0 y (omega arith))
+got P (y ∷ ys) (suc k) x h all = got P ys k x h (All-tail P y ys all)
+
+references_named : (file slot rec : ℕ) (rs : List Record) → All IsWhole rs → All IsNamed (unit_references file slot rec rs)
+references_named file slot rec [] all = All-nil IsNamed
+references_named file slot rec (r ∷ rs) all = by (is_unit_reference r.body) (all 0 r (omega arith)) (references_named file slot (rec + 1) rs (All-tail IsWhole r rs all))
+  where
+    by : (b : Bool) → IsWhole r → All IsNamed (unit_references file slot (rec + 1) rs)
+        → All IsNamed (if b then record { name = r.name; file = file; slot = slot; rec = rec } ∷ unit_references file slot (rec + 1) rs else unit_references file slot (rec + 1) rs)
+    by true h rest = All-cons IsNamed (record { name = r.name; file = file; slot = slot; rec = rec }) (unit_references file slot (rec + 1) rs) h rest
+    by false h rest = rest
+
+all_references_named : (ss : List Segment) → All HasNames ss → All IsNamed (references_in ss)
+all_references_named [] all = All-nil IsNamed
+all_references_named (s ∷ ss) all =
+    All-append IsNamed (unit_references s.file s.slot 0 s.records) (references_in ss) (references_named s.file s.slot 0 s.records (all 0 s (omega arith)).records) (all_references_named ss (All-tail HasNames s ss all))
+
+one_more : (b : Bool) (row : List UnitReference) (g : UnitReference) → All IsNamed row → IsNamed g → All IsNamed (if b then row else row ++ g ∷ [])
+one_more true row g all h = all
+one_more false row g all h = All-append IsNamed row (g ∷ []) all (All-cons IsNamed g [] h (All-nil IsNamed))
+
+row_named : (units : List (List ℕ × ℕ)) (row gs : List UnitReference) → All IsNamed row → All IsNamed gs → All IsNamed (sought_from units row gs)
+row_named units row [] all rest = all
+row_named units row (g ∷ gs) all rest =
+    row_named units (if is_had units row g.name then row else row ++ g ∷ []) gs (one_more (is_had units row g.name) row g all (rest 0 g (omega arith))) (All-tail IsNamed g gs rest)
+
+records_whole : ReadWhole → (order : Order) (file : List ℕ) (e : Entry) (b : Bool) → All IsWhole (records_of order file e b)
+records_whole law order file e true = law order (information_of file e)
+records_whole law order file e false = All-nil IsWhole
+
+read_named : ReadWhole → (order : Order) (host : List ℕ) (libs : List (List ℕ)) (slot : ℕ) (name : List ℕ) (r : Role) (at : ℕ × ℕ) (s : Segment) → length name ≡ 8 → segment_from order host libs slot name r at ≡ Some s → HasNames s
+read_named law order host libs slot name r at s long h = by (result_ok (code_of file e)) h
+  where
+    file : List ℕ
+    file = file_at host libs at.0
+
+    e : Entry
+    e = entry_at order file at.1
+
+    made : List ℕ → Segment
+    made code = record { slot = slot; name = name; role = r; added = false; file = at.0; index = at.1; code = code; records = records_of order file e (is_linked r) }
+
+    by : (o : Option (List ℕ)) → option_map made o ≡ Some s → HasNames s
+    by None k = cc
+    by (Some code) k = let same : made code ≡ s = same_Some _ _ k in subst HasNames same (record { own = long; records = records_whole law order file e (is_linked r) })
+
+name_long : (host : List ℕ) (slot : ℕ) → 512 ≤ length host → slot < 16 → length (name_at host slot) ≡ 8
+name_long host slot long lt = omega (arith, length-take (64 + 8 * slot + 8 - (64 + 8 * slot)) (drop (64 + 8 * slot) host), length-drop (64 + 8 * slot) host)
+
+own_named : ReadWhole → (order : Order) (host : List ℕ) (libs : List (List ℕ)) (slot : ℕ) (s : Segment) → 512 ≤ length host → slot < 16 → own_segment order host libs slot ≡ Some s → HasNames s
+own_named law order host libs slot s long lt h =
+    let name = (entry_at order host slot).name in
+    option_and_then_some (λ (r : Role). option_and_then (segment_from order host libs slot name r) (source_of order host libs slot r)) (result_ok (role_of (entry_at order host slot))) s h (λ r is rest.
+    option_and_then_some (segment_from order host libs slot name r) (source_of order host libs slot r) s rest (λ place there from.
+    read_named law order host libs slot name r place s (name_long host slot long lt) from))
+
+added_named : ReadWhole → (order : Order) (host : List ℕ) (libs : List (List ℕ)) (g : UnitReference) (slot : ℕ) (s : Segment) → IsNamed g → added_segment order host libs g slot ≡ Some s → HasNames s
+added_named law order host libs g slot s long h = by (option_and_then (segment_from order host libs slot g.name Wanted) (unit_source order g.name libs)) refl h
+  where
+    by : (o : Option Segment) → option_and_then (segment_from order host libs slot g.name Wanted) (unit_source order g.name libs) ≡ o → option_map as_added o ≡ Some s → HasNames s
+    by None e k = cc
+    by (Some t) e k =
+        let same : as_added t ≡ s = same_Some _ _ k in
+        let named : HasNames t =
+        option_and_then_some (segment_from order host libs slot g.name Wanted) (unit_source order g.name libs) t e (λ place there from. read_named law order host libs slot g.name Wanted place t long from) in
+        subst HasNames same (record { own = named.own; records = named.records })
+
+rounds_named : ReadWhole → (order : Order) (host : List ℕ) (libs : List (List ℕ)) (units : List (List ℕ × ℕ)) (left : List ℕ) (k : ℕ) (row : List UnitReference) → All IsNamed row → All HasNames (rounds_from order host libs units left k row).added
+rounds_named law order host libs units [] k row all = All-nil HasNames
+rounds_named law order host libs units (slot ∷ left) k row all = by (λ next named. rounds_named law order host libs units left (k + 1) next named) (slice_get row k) refl
+  where
+    at : ((next : List UnitReference) → All IsNamed next → All HasNames (rounds_from order host libs units left (k + 1) next).added) → (g : UnitReference) (p : Option Fault) → placed_fault order host libs g slot ≡ p → (o : Option Segment) → added_segment order host libs g slot ≡ o → slice_get row k ≡ Some g
+        → All HasNames (rounds_from order host libs units (slot ∷ left) k row).added
+    at rest g (Some fault) e o f h = rw (h, rounds_from) (rw (e, rounds_from) (All-nil HasNames))
+    at rest g None e None f h = rw (h, rounds_from) (rw (e, rounds_from) (rw (f, rounds_from) (All-nil HasNames)))
+    at rest g None e (Some s) f h =
+        let named = added_named law order host libs g slot s (got IsNamed row k g h all) f in
+        let gs = unit_references s.file s.slot 0 s.records in
+        let next = sought_from units row gs in
+        let later = rest next (row_named units row gs all (references_named s.file s.slot 0 s.records named.records)) in
+        rw (h, rounds_from) (rw (e, rounds_from) (rw (f, rounds_from) (All-cons HasNames s (rounds_from order host libs units left (k + 1) next).added named later)))
+
+    by : ((next : List UnitReference) → All IsNamed next → All HasNames (rounds_from order host libs units left (k + 1) next).added) → (o : Option UnitReference) → slice_get row k ≡ o → All HasNames (rounds_from order host libs units (slot ∷ left) k row).added
+    by rest None h = rw (h, rounds_from) (All-nil HasNames)
+    by rest (Some g) h = at rest g (placed_fault order host libs g slot) refl (added_segment order host libs g slot) refl h
+
+-- what each of a row of slots gives
+row_has : (P : Segment → Type 0) (f : ℕ → Option Segment) → ((x : ℕ) (s : Segment) → x < 16 → f x ≡ Some s → P s) → (xs : List ℕ) → All (λ (x : ℕ). x < 16) xs → All P (filter_map f xs)
+row_has P f h [] all = All-nil P
+row_has P f h (x ∷ xs) all = by (f x) refl (row_has P f h xs (All-tail (λ (y : ℕ). y < 16) x xs all))
+  where
+    by : (o : Option Segment) → f x ≡ o → All P (filter_map f xs) → All P (cons_option o (filter_map f xs))
+    by None e rest = rest
+    by (Some s) e rest = All-cons P s (filter_map f xs) (h x s (all 0 x (omega arith)) e) rest
+
+-- the slots are below 16
+rising : (a n : ℕ) → a + n ≤ 16 → All (λ (x : ℕ). x < 16) (range_with_len a n)
+rising a zero h = All-nil (λ (x : ℕ). x < 16)
+rising a (suc n) h = All-cons (λ (x : ℕ). x < 16) a (range_with_len (a + 1) n) (omega arith) (rising (a + 1) n (omega arith))
+
+all_slots : All (λ (x : ℕ). x < 16) slots
+all_slots = rising 0 16 (omega arith)
+
+all_own : ReadWhole → (order : Order) (host : List ℕ) (libs : List (List ℕ)) → 512 ≤ length host → All HasNames (own_segments order host libs)
+unfolding own_segments
+all_own law order host libs long = row_has HasNames (own_segment order host libs) (λ x s lt e. own_named law order host libs x s long lt e) slots all_slots
+
+all_added : ReadWhole → (order : Order) (host : List ℕ) (libs : List (List ℕ)) → 512 ≤ length host → All HasNames (added order host libs)
+unfolding rounds
+all_added law order host libs long =
+    let own = own_segments order host libs in
+    let row = sought_from (units_of own) [] (references_in own) in
+    rounds_named law order host libs (units_of own) (empty_slots order host) 0 row (row_named (units_of own) [] (references_in own) (All-nil IsNamed) (all_references_named own (all_own law order host libs long)))
+
+slot_named : ReadWhole → (order : Order) (host : List ℕ) (libs : List (List ℕ)) → 512 ≤ length host → (slot : ℕ) (s : Segment) → slot < 16 → segment_at order host libs slot ≡ Some s → HasNames s
+slot_named law order host libs long slot s lt h = by (own_segment order host libs slot) refl (is_role is_empty order host slot) refl
+  where
+    by : (o : Option Segment) → own_segment order host libs slot ≡ o → (b : Bool) → is_role is_empty order host slot ≡ b → HasNames s
+    by (Some t) e b f = own_named law order host libs slot s long lt (e ∙ rw e at h)
+    by None e false f = let none : None ≡ Some s = rw (e, f) at h in cc
+    by None e true f = let found : find (λ (x : Segment). x.slot == slot) (added order host libs) ≡ Some s = rw (e, f) at h in (find_has HasNames (λ (x : Segment). x.slot == slot) (added order host libs) s found (all_added law order host libs long)).1
+
+all_named : ReadWhole → (order : Order) (host : List ℕ) (libs : List (List ℕ)) → 512 ≤ length host → All HasNames (segments order host libs)
+unfolding segments
+all_named law order host libs long = row_has HasNames (segment_at order host libs) (λ x s lt e. slot_named law order host libs long x s lt e) slots all_slots
+
+eight : (host : List ℕ) (ss : List Segment) → 512 ≤ length host → All HasNames ss → (slot : ℕ) → slot < 16 → length (slot_name host ss slot) ≡ 8
+eight host ss long all slot lt = by (find (λ (x : Segment). x.slot == slot) ss) refl
+  where
+    by : (o : Option Segment) → find (λ (x : Segment). x.slot == slot) ss ≡ o → length (option_map_or (λ (s : Segment). s.name) o (name_at host slot)) ≡ 8
+    by None e = name_long host slot long lt
+    by (Some s) e = (find_has HasNames (λ (x : Segment). x.slot == slot) ss s e all).1.own
+
+run : (f : ℕ → List ℕ) → (xs : List ℕ) → ((x : ℕ) → x < 16 → length (f x) ≡ 8) → All (λ (x : ℕ). x < 16) xs → length (flat_map (λ name. name) (map f xs)) ≡ 8 * length xs
+run f [] h all = refl
+run f (x ∷ xs) h all =
+    let one = h x (all 0 x (omega arith)) in
+    let rest = run f xs h (All-tail (λ (y : ℕ). y < 16) x xs all) in
+    omega (arith, length-append (f x) (flat_map (λ name. name) (map f xs)), one, rest)
+
+pub names_whole : ReadWhole → (order : Order) (host : List ℕ) (libs : List (List ℕ)) → 512 ≤ length host → length (flat_map (λ name. name) (slot_names host (segments order host libs))) ≡ 128
+unfolding slot_names
+names_whole law order host libs long =
+    let ss = segments order host libs in
+    run (slot_name host ss) slots (λ x lt. eight host ss long (all_named law order host libs long) x lt) all_slots

@@ -1,0 +1,232 @@
+//! A hundred thousand definitions, private variables and records, a record of as many references as one can have, and texts of megabytes.
+use super::answers::LITTLE;
+use super::link_growths::{Link, answers_each_call};
+use super::texts::SLOTS_OF_THE_LIBRARY;
+use crate::base::{COUNT, STATE, base_host, base_library, linked_base_pair};
+use crate::code_file::Change::{Records, Resized};
+use crate::information::Record::{End, PrivateReference, PublicDefinition, PublicReference};
+use crate::information::{Information, Name, Record};
+use ps_linkfile::show_text;
+use ps_linkinfo::{Body, read_records};
+use ps_resolve::{Allotment, Def, DefKind, Definitions, Linkage};
+use std::alloc::{AllocError, Global};
+use std::test::Fail;
+
+/// How many names are numbers.
+const NUMBERED: usize = 99_999;
+
+/// How many names there are, and how many references a record can have.
+const NAMES: usize = 100_000;
+
+const REFERENCES: u16 = 65_535;
+
+/// A length of files with room for all of them.
+const LENGTH: usize = 2_000_000;
+
+/// The name of a number: its eight digits.
+fn numbered(number: usize) -> Name {
+    let mut name = [b'0'; 8];
+    let mut rest = number;
+    for digit in name.iter_mut().rev() {
+        *digit = b'0' + (rest % 10) as u8;
+        rest /= 10;
+    }
+    name
+}
+
+/// The value of a number's definition.
+fn value_of(number: usize) -> u16 {
+    (number % 1000) as u16
+}
+
+/// References 0, 1, 2 and so on, as many as a record can have.
+pub(crate) fn references(alloc: Global) -> Result<Vec<u16>, AllocError> {
+    let mut references = Vec::new(alloc);
+    for reference in 0..REFERENCES {
+        references.push(reference)?;
+    }
+    Ok(references)
+}
+
+/// These records, definitions of numbers, and behind them that of the base host.
+fn definitions<'a>(alloc: Global, before: &[Record<'a>]) -> Result<Vec<Record<'a>>, AllocError> {
+    let mut records = Vec::from_slice(alloc, before)?;
+    for number in 0..NUMBERED {
+        records.push(PublicDefinition(numbered(number), value_of(number)))?;
+    }
+    records.push(PublicDefinition(COUNT, 3))?;
+    records.push(End(8))?;
+    Ok(records)
+}
+
+/// These records, private variables of no words named by numbers, and behind them that of the base library.
+fn private_variables<'a>(
+    alloc: Global,
+    before: &[Record<'a>],
+) -> Result<Vec<Record<'a>>, AllocError> {
+    let mut records = Vec::from_slice(alloc, before)?;
+    for number in 0..NUMBERED {
+        records.push(PrivateReference(numbered(number), 0, &[]))?;
+    }
+    records.push(PrivateReference(STATE, 4, &[4]))?;
+    records.push(End(0))?;
+    Ok(records)
+}
+
+#[test]
+fn definitions_by_name_and_by_index(rt: HostRuntime) -> Result<(), Fail> {
+    let alloc = rt.alloc();
+    let references = references(alloc)?;
+    let before = [PublicReference(STATE, references.as_slice())];
+    let records = definitions(alloc, &before)?;
+    let information = Information::new(alloc, LITTLE, records.as_slice())?;
+    let host = Linkage {
+        file: 0,
+        slot: 1,
+        order: LITTLE,
+        bytes: information.as_slice(),
+    };
+    match Definitions::build(alloc, &host) {
+        Ok(definitions) => {
+            assert_eq!(rt; definitions.len(), NAMES);
+            for i in 0..definitions.len() {
+                let (name, value) = if i < NUMBERED {
+                    (numbered(i), value_of(i))
+                } else {
+                    (COUNT, 3)
+                };
+                let kind = DefKind::Public;
+                let def = Def { kind, value };
+                assert_eq!(rt; definitions.at(i), (name, def), "{i}");
+                assert_eq!(rt; definitions.look(&name), Some(def), "{i}");
+            }
+            assert_eq!(rt; definitions.look(&numbered(NUMBERED)), None);
+        }
+        Err(_) => assert!(rt; false, "no definitions"),
+    }
+    Ok(())
+}
+
+#[test]
+fn private_variables_by_record(rt: HostRuntime) -> Result<(), Fail> {
+    let alloc = rt.alloc();
+    let references = references(alloc)?;
+    let before = [PrivateReference(COUNT, 2, references.as_slice())];
+    let records = private_variables(alloc, &before)?;
+    let information = Information::new(alloc, LITTLE, records.as_slice())?;
+    let segment = Linkage {
+        file: 1,
+        slot: 7,
+        order: LITTLE,
+        bytes: information.as_slice(),
+    };
+    match Allotment::build(alloc, 8, &[segment]) {
+        Ok(allotment) => {
+            assert_eq!(rt; allotment.privates().len(), NAMES + 1);
+            assert_eq!(rt; allotment.words(), 6);
+            assert_eq!(rt; allotment.next_free(), 14);
+            assert_eq!(rt; allotment.offset(7, 0), Some(8));
+            for rec in 1..=NAMES {
+                assert_eq!(rt; allotment.offset(7, rec), Some(10), "{rec}");
+            }
+            assert_eq!(rt; allotment.offset(7, NAMES + 1), None);
+        }
+        Err(_) => assert!(rt; false, "no allotment"),
+    }
+    Ok(())
+}
+
+#[test]
+fn records_read_into_a_list(rt: HostRuntime) -> Result<(), Fail> {
+    let alloc = rt.alloc();
+    let records = definitions(alloc, &[])?;
+    let information = Information::new(alloc, LITTLE, records.as_slice())?;
+    match read_records(alloc, LITTLE, information.as_slice()) {
+        Ok(read) => {
+            assert_eq!(rt; read.len(), NAMES + 1);
+            for (number, record) in read.iter().take(NUMBERED).enumerate() {
+                assert_eq!(rt; record.name, numbered(number));
+                match &record.body {
+                    Body::PublDef(value) => assert_eq!(rt; *value, value_of(number)),
+                    _ => assert!(rt; false, "no definition at {number}"),
+                }
+            }
+        }
+        Err(_) => assert!(rt; false, "no records"),
+    }
+    Ok(())
+}
+
+/// The map of the base pair with all of these.
+fn map(alloc: Global) -> Result<String, AllocError> {
+    let mut text = String::from_str(
+        alloc,
+        "segment 01 DEMO     file 0 entry 01 block 1 length 18
+segment 07 UTIL     file 1 entry 02 block 2 length 24
+",
+    )?;
+    for number in 0..NUMBERED {
+        let value = value_of(number);
+        writeln!(text, "public {number:08} value {value}")?;
+    }
+    text.push_str("public COUNT    value 3\n")?;
+    for number in 0..NUMBERED {
+        writeln!(text, "private 07 {number:08} offset 8 words 0")?;
+    }
+    text.push_str("private 07 STATE    offset 8 words 4\nnext 12 data 18 blocks 3\n")?;
+    Ok(text)
+}
+
+#[test]
+fn a_link_and_its_map(rt: HostRuntime) -> Result<(), Fail> {
+    let alloc = rt.alloc();
+    let definitions = definitions(alloc, &[])?;
+    let changes = [Resized(LENGTH), Records(2, definitions.as_slice())];
+    let host = base_host(alloc, LITTLE)?.with(alloc, &changes)?;
+    let private_variables = private_variables(alloc, &[PublicReference(COUNT, &[1])])?;
+    let changes = [Resized(LENGTH), Records(2, private_variables.as_slice())];
+    let library = base_library(alloc, LITTLE)?.with(alloc, &changes)?;
+    let linked = linked_base_pair(alloc, LITTLE)?;
+    let map = map(alloc)?;
+    let libraries = [library.as_slice()];
+    let link = Link {
+        host: host.as_slice(),
+        libraries: libraries.as_slice(),
+        linked: linked.as_slice(),
+    };
+    let planned = "edits 2 3 private words 4";
+    let summary = "segments 2 private words 4 blocks 3";
+    answers_each_call(&rt, link, planned, summary, map.as_str())
+}
+
+/// The show of the base library with all of these.
+fn show(alloc: Global) -> Result<String, AllocError> {
+    let mut text = String::from_str(alloc, SLOTS_OF_THE_LIBRARY)?;
+    text.push_str("links 02\n0 PUBLREF STATE    at")?;
+    for reference in 0..REFERENCES {
+        write!(text, " {reference}")?;
+    }
+    text.push_str("\n")?;
+    for number in 0..NUMBERED {
+        let record = number + 1;
+        let value = value_of(number);
+        writeln!(text, "{record} PUBLDEF {number:08} value {value}")?;
+    }
+    text.push_str("100000 PUBLDEF COUNT    value 3\n100001 EOFMARK next 8\n")?;
+    Ok(text)
+}
+
+#[test]
+fn a_show_of_megabytes(rt: HostRuntime) -> Result<(), Fail> {
+    let alloc = rt.alloc();
+    let references = references(alloc)?;
+    let before = [PublicReference(STATE, references.as_slice())];
+    let records = definitions(alloc, &before)?;
+    let changes = [Resized(LENGTH), Records(2, records.as_slice())];
+    let library = base_library(alloc, LITTLE)?.with(alloc, &changes)?;
+    let wanted = show(alloc)?;
+    let text = show_text(alloc, library.as_slice())?;
+    assert!(rt; text.as_slice() == wanted.as_bytes(), "another text");
+    assert!(rt; text.len() > 2_000_000);
+    Ok(())
+}
