@@ -265,7 +265,8 @@ fn the_base_pair(rt: HostRuntime) -> Result<(), Fail> {
                 let text = describe(alloc, &plan)?;
                 assert_eq!(rt; text.as_str(), BASE_PLAN);
                 assert_eq!(rt; plan.order(), order);
-                assert_eq!(rt; Some(plan.names()), host.as_slice().get(64..192));
+                let names = plan.names().as_flattened();
+                assert_eq!(rt; Some(names), host.as_slice().get(64..192));
                 assert_eq!(rt; Some(plan.tail()), host.as_slice().get(256..512));
             }
             Err(_) => assert!(rt; false, "no plan"),
