@@ -8,7 +8,7 @@ use Rattle.ps_words.specs.Words.{blocks}
 use Rattle.ps_words.specs.Edits.{patched, AreEdits}
 use Rattle.ps_words.specs.declared.order.Order.{Order}
 use Rattle.ps_words.specs.declared.edit.Edit.{Edit}
-use Rattle.ps_codefile.specs.Dictionary.{block_len, max_code_len}
+use Rattle.ps_codefile.specs.Dictionary.{block_len, names_of, max_code_len}
 use Rattle.ps_resolve.specs.Sources.{Segment, segments, order_of, host_records}
 use Rattle.ps_resolve.specs.Privates.{words_of, next_of, total_words}
 use Rattle.ps_resolve.specs.References.{Known}
@@ -84,10 +84,11 @@ plan_codes host libs plan h =
 pub plan_file : (host : List ℕ) (libs : List (List ℕ)) (plan : Planned) → IsPlan host libs plan → file_of plan ≡ linked_file host libs
 plan_file host libs plan h =
     let codes = padded_codes plan.order plan.origins plan.edits in
-    ap (λ (o : Order). dictionary o plan.host (extents_of plan) ++ codes) h.order
-    ∙ (ap (λ (bytes : List ℕ). dictionary (order_of host) bytes (extents_of plan) ++ codes) h.of_host
-    ∙ (ap (λ (cs : List Extent). dictionary (order_of host) host cs ++ codes) (plan_extents host libs plan h)
-    ∙ ap (λ (bs : List ℕ). dictionary (order_of host) host (extents host libs) ++ bs) (plan_codes host libs plan h)))
+    ap (λ (o : Order). dictionary o plan.names plan.host (extents_of plan) ++ codes) h.order
+    ∙ (ap (λ (names : List (List ℕ)). dictionary (order_of host) names plan.host (extents_of plan) ++ codes) h.names
+    ∙ (ap (λ (bytes : List ℕ). dictionary (order_of host) (names_of host) bytes (extents_of plan) ++ codes) h.of_host
+    ∙ (ap (λ (cs : List Extent). dictionary (order_of host) (names_of host) host cs ++ codes) (plan_extents host libs plan h)
+    ∙ ap (λ (bs : List ℕ). dictionary (order_of host) (names_of host) host (extents host libs) ++ bs) (plan_codes host libs plan h))))
 
 pub plan_ready : (host : List ℕ) (libs : List (List ℕ)) (plan : Planned) → IsPlan host libs plan → block_len ≤ length plan.host → IsReady plan
 plan_ready host libs plan h long =
@@ -96,6 +97,7 @@ plan_ready host libs plan h long =
     let is : extents_of plan ≡ map extent_at ss = plan_extents host libs plan h ∙ extents_are host libs in
     record {
       host = long;
+      names = ap (λ (names : List (List ℕ)). length names) h.names;
       slots = subst (λ (cs : List Extent). Ascend 0 cs) (sym is) (segments_ascend order host libs);
       sizes = subst (λ (cs : List Extent). All (λ c. c.size ≤ max_code_len) cs) (sym is) (segments_small order host libs);
       edits = subst (λ (os : List Origin). HaveEdits os plan.edits) (sym h.origins) (have_edits order (known_of ss) (total_words ss) (next_of (host_records ss)) ss plan.edits h.edits);

@@ -1,5 +1,5 @@
 -- The linked file is one list: where its facts stand, each byte is that of the list.
-use Rattle.std.proofs.Common.{◌≡◌, ℕ, ◌+◌, ◌-◌, ◌*◌, ◌/◌, ◌≤◌, ◌<◌, List, [], ◌∷◌, ◌++◌, length, map, get_or, take, drop, replicate, Option, Some, None, Result, Ok, Err, Bool, true, false, cond, refl, sym, ◌∙◌, ap, subst, inl, inr, arith, append_assoc, length-append, length-take, length-drop}
+use Rattle.std.proofs.Common.{◌≡◌, ℕ, zero, suc, ◌+◌, ◌-◌, ◌*◌, ◌/◌, ◌≤◌, ◌<◌, List, [], ◌∷◌, ◌++◌, length, map, get_or, take, drop, replicate, Option, Some, None, Result, Ok, Err, Bool, true, false, cond, refl, sym, ◌∙◌, ap, subst, inl, inr, arith, append_assoc, length-append, length-take, length-drop}
 use Rattle.std.specs.Prelude.{All, nat_lt, slice_range}
 use Rattle.std.specs.List.{range_with_len, flat_map}
 use Rattle.std.specs.Option.{option_or, option_map}
@@ -7,6 +7,7 @@ use Rattle.std.specs.Result.{result_err}
 use Rattle.std.proofs.lemmas.Bool.{cases_lt, ltb-false, le-ltb}
 use Rattle.std.proofs.lemmas.Bool.Decides.{nat_tests}
 use Rattle.std.proofs.lemmas.List.{append-nil, get_or-take, get_or-drop, get_or_append_left, get_or-append-add, get_or-replicate, length-replicate, take-append-drop, drop-drop, drop_all, take_at, drop_at, ext_get_or}
+use Rattle.std.proofs.Math.Seq.{take-add}
 use Rattle.std.proofs.lemmas.List.FromFn.{length-map-range_with_len, get_or-map-range_with_len}
 use Rattle.std.proofs.lemmas.List.Elements.{All-nil, All-cons, All-head, All-tail}
 use Rattle.ps_words.specs.Words.{blocks}
@@ -15,7 +16,7 @@ use Rattle.ps_words.specs.declared.fault.Fault.{Fault}
 use Rattle.ps_words.specs.declared.fault.Reason.{Reason}
 use Rattle.ps_words.specs.declared.fault.Reason.TheVariants as reason
 use Rattle.ps_words.specs.FaultPlaces.{in_file}
-use Rattle.ps_codefile.specs.Dictionary.{slots, Opened, file_order, opened_as}
+use Rattle.ps_codefile.specs.Dictionary.{slots, names_of, Opened, file_order, opened_as}
 use Rattle.ps_resolve.specs.Sources.{order_of}
 use Rattle.ps_resolve.specs.Linking.{Edited, linked_byte}
 use Rattle.ps_resolve.specs.Faults.{first_fault, reading_fault, host_fault}
@@ -230,18 +231,18 @@ unfolding all_pairs
 all_pairs_len order all = pairs_len order all
 
 -- so they are the dictionary
-pub dictionary_is : (order : Order) (host : List ℕ) (all : List Extent) (d pairs names tail : List ℕ) → d ≡ pairs ++ (names ++ (replicate 64 0 ++ tail)) → pairs ≡ all_pairs order all → names ≡ slice_range host 64 192 → tail ≡ slice_range host 256 512 → d ≡ dictionary order host all
+pub dictionary_is : (order : Order) (all_names : List (List ℕ)) (host : List ℕ) (all : List Extent) (d pairs names tail : List ℕ) → d ≡ pairs ++ (names ++ (replicate 64 0 ++ tail)) → pairs ≡ all_pairs order all → names ≡ flat_map (λ name. name) all_names → tail ≡ slice_range host 256 512 → d ≡ dictionary order all_names host all
 unfolding dictionary
-dictionary_is order host all d pairs names tail h p n t =
+dictionary_is order all_names host all d pairs names tail h p n t =
     h ∙ (ap (λ (xs : List ℕ). xs ++ (names ++ (replicate 64 0 ++ tail))) p
     ∙ (ap (λ (xs : List ℕ). all_pairs order all ++ (xs ++ (replicate 64 0 ++ tail))) n
-    ∙ ap (λ (xs : List ℕ). all_pairs order all ++ (slice_range host 64 192 ++ (replicate 64 0 ++ xs))) t))
+    ∙ ap (λ (xs : List ℕ). all_pairs order all ++ (flat_map (λ name. name) all_names ++ (replicate 64 0 ++ xs))) t))
 
 -- the facts of a linked file, of any codes
-pub record IsFile (order : Order) (host : List ℕ) (all : List Extent) (es : List Edited) (file : List ℕ) : Type 0 where
+pub record IsFile (order : Order) (names : List (List ℕ)) (host : List ℕ) (all : List Extent) (es : List Edited) (file : List ℕ) : Type 0 where
   pub size : length file ≡ 512 * (1 + all_blocks all)
   pub pairs : (slot : ℕ) → slot < 16 → slice_range file (4 * slot) (4 * slot + 4) ≡ pair_of order all slot
-  pub names : slice_range file 64 192 ≡ slice_range host 64 192
+  pub names_are : slice_range file 64 192 ≡ flat_map (λ name. name) names
   pub zeros : (p : ℕ) → 192 ≤ p → p < 256 → get_or file p 0 ≡ 0
   pub tail : slice_range file 256 512 ≡ slice_range host 256 512
   pub codes : All (HasCode order file all) es
@@ -287,18 +288,18 @@ whole_size : (head codes : List ℕ) (n : ℕ) → length head ≡ 512 → lengt
 whole_size head codes n h k = length-append head codes ∙ omega (arith, h, k)
 
 -- the list has these facts
-pub file_there : (order : Order) (host : List ℕ) (all : List Extent) (es : List Edited) → map extent_of es ≡ all → Ascend 0 all → 512 ≤ length host → IsFile order host all es (dictionary order host all ++ flat_map (padded_segment order) es)
+pub file_there : (order : Order) (all_names : List (List ℕ)) (host : List ℕ) (all : List Extent) (es : List Edited) → map extent_of es ≡ all → Ascend 0 all → length (flat_map (λ name. name) all_names) ≡ 128 → 512 ≤ length host → IsFile order all_names host all es (dictionary order all_names host all ++ flat_map (padded_segment order) es)
 unfolding dictionary all_pairs
-file_there order host all es is ascend long = made (flat_map (pair_of order all) slots) (slice_range host 64 192) (slice_range host 256 512) (flat_map (padded_segment order) es) refl refl refl refl
+file_there order all_names host all es is ascend named long = made (flat_map (pair_of order all) slots) (flat_map (λ name. name) all_names) (slice_range host 256 512) (flat_map (padded_segment order) es) refl refl refl refl
   where
     left : Left all 0 1 (map extent_of es)
     left = subst (λ (cs : List Extent). Left all 0 1 cs) (sym is) (left_start all ascend)
 
-    made : (pairs names tail codes : List ℕ) → pairs ≡ flat_map (pair_of order all) slots → names ≡ slice_range host 64 192 → tail ≡ slice_range host 256 512 → codes ≡ flat_map (padded_segment order) es → IsFile order host all es ((pairs ++ (names ++ (replicate 64 0 ++ tail))) ++ codes)
+    made : (pairs names tail codes : List ℕ) → pairs ≡ flat_map (pair_of order all) slots → names ≡ flat_map (λ name. name) all_names → tail ≡ slice_range host 256 512 → codes ≡ flat_map (padded_segment order) es → IsFile order all_names host all es ((pairs ++ (names ++ (replicate 64 0 ++ tail))) ++ codes)
     made pairs names tail codes p n t c =
         let file = (pairs ++ (names ++ (replicate 64 0 ++ tail))) ++ codes in
         let pairs_64 : length pairs ≡ 64 = ap (λ (xs : List ℕ). length xs) p ∙ pairs_len order all in
-        let names_128 : length names ≡ 128 = ap (λ (xs : List ℕ). length xs) n ∙ part_len host 64 192 (omega (arith, long)) in
+        let names_128 : length names ≡ 128 = ap (λ (xs : List ℕ). length xs) n ∙ named in
         let tail_256 : length tail ≡ 256 = ap (λ (xs : List ℕ). length xs) t ∙ part_len host 256 512 (omega (arith, long)) in
         let codes_are : length codes ≡ 512 * all_blocks all = ap (λ (xs : List ℕ). length xs) c ∙ (codes_len order es ∙ ap (λ (cs : List Extent). 512 * all_blocks cs) is) in
         let front : length (pairs ++ (names ++ (replicate 64 0 ++ tail))) ≡ 512 = head_len pairs names tail pairs_64 names_128 tail_256 in
@@ -309,7 +310,7 @@ file_there order host all es is ascend long = made (flat_map (pair_of order all)
         record {
           size = size;
           pairs = pair_part order all file room (λ j l. at.in_pairs j l ∙ ap (λ (xs : List ℕ). get_or xs j 0) p);
-          names = part_is file names 64 192 names_128 (names_room (length file) room) at.in_names ∙ n;
+          names_are = part_is file names 64 192 names_128 (names_room (length file) room) at.in_names ∙ n;
           zeros = zero_at file at.in_zeros;
           tail = part_is file tail 256 512 tail_256 room at.in_tail ∙ t;
           codes = laid_codes order file all 0 1 es left laid;
@@ -338,28 +339,48 @@ joined file pairs names zeros tail codes p n z t c =
     first ∙ sym (flat_parts pairs names zeros tail codes)
 
 -- no other list has them
-pub file_one : (order : Order) (host : List ℕ) (all : List Extent) (es : List Edited) (file : List ℕ) → map extent_of es ≡ all → Ascend 0 all → IsFile order host all es file → file ≡ dictionary order host all ++ flat_map (padded_segment order) es
+pub file_one : (order : Order) (all_names : List (List ℕ)) (host : List ℕ) (all : List Extent) (es : List Edited) (file : List ℕ) → map extent_of es ≡ all → Ascend 0 all → IsFile order all_names host all es file → file ≡ dictionary order all_names host all ++ flat_map (padded_segment order) es
 unfolding dictionary all_pairs
-file_one order host all es file is ascend h =
+file_one order all_names host all es file is ascend h =
     let left : Left all 0 1 (map extent_of es) = subst (λ (cs : List Extent). Left all 0 1 cs) (sym is) (left_start all ascend) in
     let laid : Laid order file 1 es = to_laid order file all 0 1 es left h.codes h.padding in
     let size : length file ≡ 512 * (1 + all_blocks (map extent_of es)) = h.size ∙ ap (λ (cs : List Extent). 512 * (1 + all_blocks cs)) (sym is) in
     let room : 512 ≤ length file = room_of (length file) (all_blocks all) h.size in
-    joined file (flat_map (pair_of order all) slots) (slice_range host 64 192) (replicate 64 0) (slice_range host 256 512) (flat_map (padded_segment order) es)
-    (sixteen order all file room h.pairs) h.names (zeros_part file room h.zeros) h.tail (laid_is order file 1 es size laid)
+    joined file (flat_map (pair_of order all) slots) (flat_map (λ name. name) all_names) (replicate 64 0) (slice_range host 256 512) (flat_map (padded_segment order) es)
+    (sixteen order all file room h.pairs) h.names_are (zeros_part file room h.zeros) h.tail (laid_is order file 1 es size laid)
   where
     room_of : (n b : ℕ) → n ≡ 512 * (1 + b) → 512 ≤ n
     room_of n b h = omega arith
 
+-- the names of all slots, one behind another, are those bytes of the host
+names_run : List ℕ → ℕ → ℕ → List ℕ
+names_run file zero a = []
+names_run file (suc n) a = take 8 (drop a file) ++ names_run file n (a + 8)
+
+names_taken : (file : List ℕ) (n a : ℕ) → names_run file n a ≡ take (8 * n) (drop a file)
+unfolding names_run
+names_taken file zero a = refl
+names_taken file (suc n) a =
+    ap (λ (xs : List ℕ). take 8 (drop a file) ++ xs) (names_taken file n (a + 8))
+    ∙ (ap (λ (xs : List ℕ). take 8 (drop a file) ++ take (8 * n) xs) (sym (drop-drop 8 a file))
+    ∙ (sym (take-add 8 (8 * n) (drop a file))
+    ∙ ap (λ k. take k (drop a file)) (omega arith)))
+
+names_are : (host : List ℕ) → flat_map (λ name. name) (names_of host) ≡ slice_range host 64 192
+unfolding names_run
+names_are host = names_taken host 16 64
+
 -- the linked file of a host and its libraries
 pub there : (host : List ℕ) (libs : List (List ℕ)) → first_fault host libs ≡ None → LinkedFile host libs (linked_file host libs)
 there host libs none =
-    let h = file_there (order_of host) host (extents host libs) (linked_segments host libs) refl (extents_ascend host libs) (long_host host libs none) in
+    let long = long_host host libs none in
+    let named = ap (λ (xs : List ℕ). length xs) (names_are host) ∙ part_len host 64 192 (omega (arith, long)) in
+    let h = file_there (order_of host) (names_of host) host (extents host libs) (linked_segments host libs) refl (extents_ascend host libs) named long in
     record {
       accepted = none;
       size = h.size;
       pairs = h.pairs;
-      names = h.names;
+      names = h.names_are ∙ names_are host;
       kinds_and_texts = h.zeros;
       tail = h.tail;
       codes = h.codes;
@@ -368,5 +389,5 @@ there host libs none =
 
 pub one : (host : List ℕ) (libs : List (List ℕ)) (file : List ℕ) → LinkedFile host libs file → file ≡ linked_file host libs
 one host libs file h =
-    file_one (order_of host) host (extents host libs) (linked_segments host libs) file refl (extents_ascend host libs)
-    (record { size = h.size; pairs = h.pairs; names = h.names; zeros = h.kinds_and_texts; tail = h.tail; codes = h.codes; padding = h.padding })
+    file_one (order_of host) (names_of host) host (extents host libs) (linked_segments host libs) file refl (extents_ascend host libs)
+    (record { size = h.size; pairs = h.pairs; names_are = h.names ∙ sym (names_are host); zeros = h.kinds_and_texts; tail = h.tail; codes = h.codes; padding = h.padding })

@@ -6,7 +6,7 @@ use Rattle.std.specs.Option.{option_map_or}
 use Rattle.ps_words.specs.Words.{word_bytes, blocks}
 use Rattle.ps_words.specs.declared.order.Order.{Order}
 use Rattle.ps_words.specs.declared.edit.Edit.{Edit}
-use Rattle.ps_codefile.specs.Dictionary.{slots, block_len, names_start, kinds_start, tail_start}
+use Rattle.ps_codefile.specs.Dictionary.{slots, names_of, block_len, names_start, kinds_start, tail_start}
 use Rattle.ps_resolve.specs.Sources.{segments, order_of}
 use Rattle.ps_resolve.specs.Privates.{total_words}
 use Rattle.ps_resolve.specs.Linking.{Edited, edited, linked_byte}
@@ -57,10 +57,10 @@ pub record LinkedFile (host : List ℕ) (libs : List (List ℕ)) (file : List �
 unfoldable pub all_pairs : Order → List Extent → List ℕ
 all_pairs order codes = flat_map (pair_of order codes) slots
 
--- the segment dictionary, with the names and the tail of the host's
-unfoldable pub dictionary : Order → List ℕ → List Extent → List ℕ
-dictionary order host codes =
-    all_pairs order codes ++ (slice_range host names_start kinds_start ++ (replicate 64 0 ++ slice_range host tail_start block_len))
+-- the segment dictionary, with these names of the slots and the tail of the host's
+unfoldable pub dictionary : Order → List (List ℕ) → List ℕ → List Extent → List ℕ
+dictionary order names host codes =
+    all_pairs order codes ++ (flat_map (λ name. name) names ++ (replicate 64 0 ++ slice_range host tail_start block_len))
 
 -- a code with its edits, and zeros to its last block's end
 abbrev pub padded : Order → List ℕ → List Edit → List ℕ
@@ -71,7 +71,7 @@ padded_segment order e = padded order e.segment.code e.edits
 
 -- the one list that is the linked file where no fault stands
 abbrev pub linked_file : List ℕ → List (List ℕ) → List ℕ
-linked_file host libs = dictionary (order_of host) host (extents host libs) ++ flat_map (padded_segment (order_of host)) (linked_segments host libs)
+linked_file host libs = dictionary (order_of host) (names_of host) host (extents host libs) ++ flat_map (padded_segment (order_of host)) (linked_segments host libs)
 
 -- its segments, the words of all privates, and its blocks, the dictionary's counted
 abbrev pub summary_of : List ℕ → List (List ℕ) → Summary

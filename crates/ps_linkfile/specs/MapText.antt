@@ -1,8 +1,7 @@
 -- The map of a link: its segments by slot, the definitions in record order, the privates by slot and then by record, and what is free behind them.
 -- Source: this project's profile.
-use Rattle.std.specs.Prelude.{ℕ, ◌+◌, List, [], ◌∷◌, ◌++◌, length, map, codes, decimal}
+use Rattle.std.specs.Prelude.{ℕ, ◌+◌, List, [], ◌∷◌, ◌++◌, length, map, codes, decimal, slice_get, unwrap_or}
 use Rattle.std.specs.List.{flat_map}
-use Rattle.ps_codefile.specs.Dictionary.{name_at}
 use Rattle.ps_resolve.specs.Sources.{Segment, segments, order_of, host_records}
 use Rattle.ps_resolve.specs.Symbols.{definitions}
 use Rattle.ps_resolve.specs.Privates.{all_allotted, owner_of, next_of, total_words}
@@ -51,14 +50,18 @@ map_of host libs =
     ++ flat_map private_line (all_allotted (next_of (host_records segs)) (map owner_of segs))
     ++ last_line (next_of (host_records segs) + total_words segs) (data_size order segs) (1 + all_blocks codes_of)
 
--- the line of a plan's source, whose name the host's dictionary has
-abbrev pub source_line : List ℕ → List Extent → Origin → List ℕ
-source_line host codes_of o = code_line o.slot (name_at host o.slot) o.file o.index (block_of codes_of o.slot) (length o.code)
+-- the name of a slot, among those of all slots
+abbrev pub name_in : List (List ℕ) → ℕ → List ℕ
+name_in names slot = unwrap_or (slice_get names slot) []
+
+-- the line of a plan's source, by the names of all slots
+abbrev pub source_line : List (List ℕ) → List Extent → Origin → List ℕ
+source_line names codes_of o = code_line o.slot (name_in names o.slot) o.file o.index (block_of codes_of o.slot) (length o.code)
 
 -- the map that a plan stands for
 abbrev pub map_in : Planned → List ℕ
 map_in plan =
-    flat_map (source_line plan.host (extents_of plan)) plan.origins
+    flat_map (source_line plan.names (extents_of plan)) plan.origins
     ++ flat_map definition_line plan.definitions
     ++ flat_map private_line plan.privates
     ++ last_line plan.next_free plan.data_size (1 + all_blocks (extents_of plan))

@@ -23,7 +23,7 @@ padded_codes order (o ∷ os) (edits ∷ rest) = padded order o.code edits ++ pa
 
 -- the file that is written
 abbrev pub file_of : Planned → List ℕ
-file_of plan = dictionary plan.order plan.host (extents_of plan) ++ padded_codes plan.order plan.origins plan.edits
+file_of plan = dictionary plan.order plan.names plan.host (extents_of plan) ++ padded_codes plan.order plan.origins plan.edits
 
 abbrev pub summary_in : Planned → Summary
 summary_in plan = record {
@@ -49,9 +49,10 @@ HaveEdits [] (edits ∷ rest) = ⊥
 HaveEdits (o ∷ os) [] = ⊥
 HaveEdits (o ∷ os) (edits ∷ rest) = AreEdits (length o.code) edits × HaveEdits os rest
 
--- a plan that can be written: a whole dictionary, each slot once, codes of at most 32767 bytes, and edits inside them
+-- a plan that can be written: a whole dictionary, sixteen names, each slot once, codes of at most 32767 bytes, and edits inside them
 pub record IsReady (plan : Planned) : Type 0 where
   pub host : block_len ≤ length plan.host
+  pub names : length plan.names ≡ 16
   pub slots : Ascend 0 (extents_of plan)
   pub sizes : All (λ c. c.size ≤ max_code_len) (extents_of plan)
   pub edits : HaveEdits plan.origins plan.edits

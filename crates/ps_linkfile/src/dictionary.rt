@@ -48,11 +48,11 @@ fn store(dictionary: &mut [u8], place: usize, part: &[u8])
 /// The segment dictionary of the linked file, which is its block 0.
 pub(crate) fn dictionary_of<A: Allocator + Copy>(plan: &Plan<'_, A>) -> [u8; 512]
     requires { IsReady plan.now }
-    ensures { result ≡ dictionary plan.now.order plan.now.host (extents_of plan.now) }
+    ensures { result ≡ dictionary plan.now.order plan.now.names plan.now.host (extents_of plan.now) }
 {
     let mut dictionary = [0; BLOCK_SIZE];
     store(&mut dictionary, 0, &pairs_of(plan.order(), plan.sources()));
-    store(&mut dictionary, NAMES, plan.names());
+    store(&mut dictionary, NAMES, plan.names().as_flattened());
     store(&mut dictionary, TAIL, plan.tail());
     dictionary
 }

@@ -1,5 +1,5 @@
 //! The map of a link, as text.
-ghost use Rattle.std.specs.Prelude.{◌≡◌, ◌+◌, ◌*◌, ◌≤◌, ◌++◌, None, IfOk, IfErr, OnOk, length, map, slice_range, string_bytes};
+ghost use Rattle.std.specs.Prelude.{◌≡◌, ◌+◌, ◌++◌, None, IfOk, IfErr, OnOk, length, map, string_bytes};
 ghost use Rattle.std.specs.List.{flat_map};
 ghost use Rattle.ps_resolve.specs.Faults.{first_fault};
 ghost use Rattle.ps_linkfile.specs.LinkedFile.{all_blocks};
@@ -14,20 +14,6 @@ use ps_resolve::{Def, DefKind, Definitions, Plan, Private, Source, resolve};
 use ps_words::blocks_of;
 use std::alloc::{AllocError, Allocator};
 use std::fmt::Write as _;
-
-/// The length of a name in bytes.
-const NAME: usize = 8;
-
-/// The name of a slot, from the names of all slots.
-fn name_of(names: &[u8], slot: u8) -> [u8; 8]
-    requires { 8 * slot + 8 ≤ length names.now }
-    ensures { result ≡ slice_range names.now (8 * slot) (8 * slot + 8) }
-{
-    let at = NAME * slot as usize;
-    let mut name = [0; NAME];
-    name.copy_from_slice(&names[at..at + NAME]);
-    name
-}
 
 /// Adds the line of a segment of this name, whose code begins in this block.
 fn add_segment<A: Allocator>(
@@ -55,13 +41,13 @@ fn add_segments<A: Allocator + Copy>(
     plan: &Plan<'_, A>,
 ) -> Result<usize, AllocError>
     requires { IsReady plan.now }
-    ensures lines { OnOk result (string_bytes text.new ≡ string_bytes text.old ++ flat_map (source_line plan.now.host (extents_of plan.now)) plan.now.origins) }
+    ensures lines { OnOk result (string_bytes text.new ≡ string_bytes text.old ++ flat_map (source_line plan.now.names (extents_of plan.now)) plan.now.origins) }
     ensures blocks { IfOk result (λ blocks. blocks ≡ 1 + all_blocks (extents_of plan.now)) }
 {
     let names = plan.names();
     let mut block = 1;
     for source in plan.sources() {
-        add_segment(text, source, name_of(names, source.slot), block)?;
+        add_segment(text, source, names[source.slot as usize], block)?;
         block += blocks_of(source.code.len());
     }
     Ok(block)

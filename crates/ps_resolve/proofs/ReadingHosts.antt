@@ -1,7 +1,8 @@
 -- The host, read by itself, and what is known of the segments of a link once the files were read without a fault.
-use Rattle.std.proofs.Common.{◌≡◌, ℕ, ◌≤◌, List, length, Bool, true, false, if◌then◌else◌, Option, Some, Ok, Err, refl, arith}
+use Rattle.std.proofs.Common.{◌≡◌, ℕ, ◌≤◌, List, length, Bool, true, false, if◌then◌else◌, Option, Some, None, Ok, Err, refl, arith}
 use Rattle.std.proofs.Math.Dec.{ltb}
 use Rattle.std.specs.Option.{option_or}
+use Rattle.std.specs.Result.{result_err}
 use Rattle.std.proofs.lemmas.Bool.Decides.{nat_tests}
 use Rattle.ps_words.specs.FaultPlaces.{in_file}
 use Rattle.ps_words.specs.declared.order.Order.{Order}
@@ -10,7 +11,8 @@ use Rattle.ps_words.specs.declared.fault.Reason.TheVariants as reason
 use Rattle.ps_words.specs.declared.fault.Fault.{Fault}
 use Rattle.ps_codefile.specs.Dictionary.{Opened, FileOrder, Zero, Ordered, Mixed, file_order, opened, opened_as}
 use Rattle.ps_resolve.specs.Sources.{known_order, order_of}
-use Rattle.ps_resolve.specs.Faults.{slots_fault, no_host_fault, libraries_fault, sources_fault, reading_fault}
+use Rattle.ps_resolve.specs.Faults.{slots_fault, no_host_fault, libraries_fault, sources_fault, reading_fault, host_fault}
+use Rattle.ps_resolve.proofs.Once.{or_none, map_none}
 
 -- a host that is read is read in its own byte order
 read_as : (short : Bool) (of : FileOrder) (file : List ℕ) (o : Opened) → (if short then Err reason.ShortFile else opened_as file of) ≡ Ok o → o ≡ record { order = known_order of; file = file }
@@ -44,3 +46,8 @@ pub host_read : (host : List ℕ) (libs : List (List ℕ)) (o : Opened) → open
 unfolding reading_fault
 host_read host libs o h =
     rw (h, host_is host o h)
+
+-- where no fault of reading stands the host is read
+pub host_opened : (host : List ℕ) (libs : List (List ℕ)) → reading_fault host libs ≡ None → result_err (opened host) ≡ None
+unfolding reading_fault
+host_opened host libs h = map_none (in_file 0) (result_err (opened host)) (or_none (host_fault host) (rest_of (order_of host) host libs) h).0

@@ -4,6 +4,7 @@ use Rattle.std.specs.Prelude.{◌≡◌, ℕ, ◌+◌, ◌<◌, List, [], ◌∷
 use Rattle.ps_words.specs.Edits.{AreEdits, patched}
 use Rattle.ps_words.specs.declared.order.Order.{Order}
 use Rattle.ps_words.specs.declared.edit.Edit.{Edit}
+use Rattle.ps_codefile.specs.Dictionary.{names_of}
 use Rattle.ps_resolve.specs.Sources.{Segment, segments, is_linked, order_of, host_records}
 use Rattle.ps_resolve.specs.Symbols.{definitions}
 use Rattle.ps_resolve.specs.Privates.{owner_of, all_allotted, next_of, total_words}
@@ -29,10 +30,11 @@ origin_of_source s = record { slot = s.slot; file = s.file; index = s.index; lin
 abbrev pub origin_of : Segment → Origin
 origin_of s = record { slot = s.slot; file = s.file; index = s.index; linked = is_linked s.role; code = s.code }
 
--- what a plan holds; the edits stand in the order of the sources
+-- what a plan holds; the names are those of all slots, by slot, and the edits stand in the order of the sources
 pub record Planned : Type 0 where
   pub order : Order
   pub host : List ℕ
+  pub names : List (List ℕ)
   pub origins : List Origin
   pub edits : List (List Edit)
   pub definitions : List (List ℕ × Def)
@@ -57,6 +59,7 @@ LinkSegments order (e ∷ es) [] = ⊥
 pub record IsPlanOf (host_order : Order) (host : List ℕ) (segs : List Segment) (plan : Planned) : Type 0 where
   pub order : plan.order ≡ host_order
   pub of_host : plan.host ≡ host
+  pub names : plan.names ≡ names_of host
   pub origins : plan.origins ≡ map origin_of segs
   pub edits : LinkSegments host_order (edited host_order segs) plan.edits
   pub definitions : plan.definitions ≡ definitions (host_records segs)

@@ -8,6 +8,8 @@ ghost use Rattle.ps_resolve.specs.Linkable.{AscendFrom, HasOneHost};
 ghost use Rattle.ps_resolve.specs.Linking.{segment_edits as segment_edits_spec, data_edits, edited_from};
 ghost use Rattle.ps_resolve.specs.Plans.{AreStopped, IsPlanOf, LinksSegment, LinkSegments, origin_of, origin_of_source};
 ghost use Rattle.ps_resolve.specs.Privates.{next_of, owner_of, owner_of_linkage, words_of, all_words};
+ghost use Rattle.std.specs.Result.{result_err};
+ghost use Rattle.ps_codefile.specs.Dictionary.{names_of as names_of_spec, opened};
 ghost use Rattle.ps_codefile.specs.Procedures.{is_reserved};
 ghost use Rattle.ps_resolve.specs.References.{FindsOne, records_fault};
 ghost use Rattle.ps_resolve.specs.Sources.{Segment as SegmentSpec, is_linked as is_linked_spec, is_host as is_host_spec, host_of as host_of_spec};
@@ -26,7 +28,7 @@ use crate::roles::{is_host, is_linked};
 use crate::segment::Segment;
 use crate::segments::RecordStop;
 use crate::slots::HOST_FILE;
-use ps_codefile::Procs;
+use ps_codefile::{Dict, Procs};
 use ps_linkinfo::{Body, Records, walk_from_start};
 use ps_words::laws::edits_patch_alike_in_any_order;
 use ps_words::{Edit, Fault, Order};
@@ -242,6 +244,17 @@ fn sources_of<'a, A: Allocator + Copy>(
     Ok(sources)
 }
 
+/// The names of all slots of a host.
+fn names_of(host: &[u8]) -> [[u8; 8]; 16]
+    requires { result_err (opened host.now) ≡ None }
+    ensures { result ≡ names_of_spec host.now }
+{
+    match Dict::read(host) {
+        Err(_) => unreachable!(),
+        Ok(dict) => dict.names(),
+    }
+}
+
 /// Plans the link of segments that were read without a fault, or names the first fault of their definitions,
 /// their privates, the host's data size and their references.
 pub(crate) fn link_segments<'a, A: Allocator + Copy>(
@@ -254,6 +267,7 @@ pub(crate) fn link_segments<'a, A: Allocator + Copy>(
     requires host { IsSome (host_of_spec (map (segment_of order) segments.now)) }
     requires one_host { HasOneHost (map (segment_of order) segments.now) }
     requires ascending { AscendFrom 0 (map (λ s. s.slot) (map (segment_of order) segments.now)) }
+    requires read { result_err (opened host.now) ≡ None }
     requires whole { 512 ≤ length host.now }
     ensures plan { IfOk result (IsPlanOf order host.now (map (segment_of order) segments.now)) }
     ensures sound { IfOk result (λ _. linking_fault order (map (segment_of order) segments.now) ≡ None) }
@@ -280,6 +294,7 @@ pub(crate) fn link_segments<'a, A: Allocator + Copy>(
             Ok(Plan {
                 order,
                 host,
+                names: names_of(host),
                 sources,
                 edits,
                 definitions,

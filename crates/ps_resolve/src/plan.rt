@@ -29,6 +29,7 @@ pub struct Source<'a> {
 pub struct Plan<'a, A: Allocator + Copy = Global> {
     pub(crate) order: Order,
     pub(crate) host: &'a [u8],
+    pub(crate) names: [[u8; 8]; 16],
     pub(crate) sources: Vec<Source<'a>, A>,
     pub(crate) edits: Vec<Vec<Edit, A>, A>,
     pub(crate) definitions: Definitions<A>,
@@ -42,7 +43,7 @@ impl<'a, A: Allocator + Copy> Model for Plan<'a, A> {
 
     ghost Value = { Planned };
 
-    ghost view = { λ p. record { order = p.order; host = p.host.now; origins = map origin_of_source p.sources.items; edits = map (λ e. e.items) p.edits.items; definitions = p.definitions; privates = p.allotment.privates; next_free = p.allotment.next_free; private_words = p.allotment.words; data_size = p.data_size } };
+    ghost view = { λ p. record { order = p.order; host = p.host.now; names = p.names; origins = map origin_of_source p.sources.items; edits = map (λ e. e.items) p.edits.items; definitions = p.definitions; privates = p.allotment.privates; next_free = p.allotment.next_free; private_words = p.allotment.words; data_size = p.data_size } };
 
     ghost invariant = { λ p. (length p.edits.items ≡ length p.sources.items) × (512 ≤ length p.host.now) };
 }
@@ -55,11 +56,11 @@ impl<'a, A: Allocator + Copy> Plan<'a, A> {
         self.order
     }
 
-    /// The sixteen names of the host's segment dictionary, of eight bytes each.
-    pub fn names(&self) -> &'a [u8]
-        ensures { result.now ≡ slice_range self.now.host 64 192 }
+    /// The names of all slots of the linked file, eight bytes each, which are those of the host's.
+    pub fn names(&self) -> &[[u8; 8]; 16]
+        ensures { result.now ≡ self.now.names }
     {
-        &self.host[64..192]
+        &self.names
     }
 
     /// The tail of the host's segment dictionary, its bytes 256 to 511.

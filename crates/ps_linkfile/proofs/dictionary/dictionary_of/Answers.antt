@@ -1,4 +1,5 @@
-use Rattle.std.proofs.Common.{◌≡◌, ◌∙◌, ℕ, List, length, map, replicate, refl, sym, ap, arith}
+use Rattle.std.proofs.Common.{◌≡◌, ◌*◌, ◌∙◌, ℕ, List, length, map, replicate, refl, sym, ap, arith}
+use Rattle.std.specs.List.{flat_map}
 use Rattle.std.proofs.lemmas.List.{length-replicate}
 use Rattle.ps_words.specs.declared.order.Order.{Order}
 use Rattle.ps_linkfile.specs.LinkedFile.{Extent, all_pairs}
@@ -15,7 +16,9 @@ pairs_of-requires-clause-sizes g c = seen_small c.sources.result.now c.args.plan
 
 pub store-requires-2 : goal.store-requires-2
 store-requires-2 g c =
-    let names_128 : length c.names.result.now ≡ 128 = ap (λ (xs : List ℕ). length xs) c.names.ensures ∙ part_len c.args.plan.now.host 64 192 (omega (arith, c.requires.host)) in
+    let flat : length c.as_flattened.result.now ≡ length c.names.result.now * 8 = c.as_flattened.ensures.len in
+    let sixteen : length c.names.result.now ≡ 16 = ap (λ (names : List (List ℕ)). length names) c.names.ensures ∙ c.requires.names in
+    let names_128 : length c.as_flattened.result.now ≡ 128 = omega (arith, flat, sixteen) in
     omega (arith, names_128, c.store.ensures.length, length-replicate {A = ℕ} 512 0)
 
 pub store-requires-3 : goal.store-requires-3
@@ -27,12 +30,15 @@ pub returns : goal.returns
 returns g c =
     let plan = c.args.plan.now in
     let pairs_64 : length c.pairs_of.result ≡ 64 = ap (λ (xs : List ℕ). length xs) c.pairs_of.ensures ∙ all_pairs_len _ _ in
-    let names_128 : length c.names.result.now ≡ 128 = ap (λ (xs : List ℕ). length xs) c.names.ensures ∙ part_len plan.host 64 192 (omega (arith, c.requires.host)) in
+    let flat : length c.as_flattened.result.now ≡ length c.names.result.now * 8 = c.as_flattened.ensures.len in
+    let sixteen : length c.names.result.now ≡ 16 = ap (λ (names : List (List ℕ)). length names) c.names.ensures ∙ c.requires.names in
+    let names_128 : length c.as_flattened.result.now ≡ 128 = omega (arith, flat, sixteen) in
+    let names_are = c.as_flattened.ensures.value ∙ ap (λ (names : List (List ℕ)). flat_map (λ name. name) names) c.names.ensures in
     let tail_256 : length c.tail.result.now ≡ 256 = ap (λ (xs : List ℕ). length xs) c.tail.ensures ∙ part_len plan.host 256 512 (omega (arith, c.requires.host)) in
     let pairs_are : c.pairs_of.result ≡ all_pairs plan.order (extents_of plan) =
     c.pairs_of.ensures
     ∙ (ap (λ (o : Order). all_pairs o (map extent_of_source c.sources.result.now)) c.order.ensures
     ∙ ap (λ (cs : List Extent). all_pairs plan.order cs) (sym (seen c.sources.result.now plan.origins c.sources.ensures.origins))) in
-    dictionary_is plan.order plan.host (extents_of plan) _ c.pairs_of.result c.names.result.now c.tail.result.now
-    (stored_parts (replicate 512 0) _ _ _ c.pairs_of.result c.names.result.now (replicate 64 0) c.tail.result.now (length-replicate {A = ℕ} 512 0) refl pairs_64 names_128 tail_256 c.store.ensures.stored c.store-2.ensures.stored c.store-3.ensures.stored)
-    pairs_are c.names.ensures c.tail.ensures
+    dictionary_is plan.order plan.names plan.host (extents_of plan) _ c.pairs_of.result c.as_flattened.result.now c.tail.result.now
+    (stored_parts (replicate 512 0) _ _ _ c.pairs_of.result c.as_flattened.result.now (replicate 64 0) c.tail.result.now (length-replicate {A = ℕ} 512 0) refl pairs_64 names_128 tail_256 c.store.ensures.stored c.store-2.ensures.stored c.store-3.ensures.stored)
+    pairs_are names_are c.tail.ensures

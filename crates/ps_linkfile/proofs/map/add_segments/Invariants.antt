@@ -5,4 +5,4 @@ use Rattle.ps_linkfile.proofs.map.add_segments.Given as goal
 
 -- the lines of the sources so far were added
 abbrev pub invariant-loop-source : goal.invariant-loop-source
-invariant-loop-source g l = (from : ℕ) × LinesSoFar l.plan.host l.plan.origins l.source-index (string_bytes l.initial.text) (string_bytes l.text) l.block from
+invariant-loop-source g l = (from : ℕ) × LinesSoFar l.plan.names l.plan.origins l.source-index (string_bytes l.initial.text) (string_bytes l.text) l.block from

@@ -190,6 +190,7 @@ returns-clause-plan g c =
     record {
       order = refl;
       of_host = refl;
+      names = c.names_of.ensures;
       origins = c.in_ok-sources-in-Some.ensures.origins order;
       edits = subst (λ (n : ℕ). LinkSegments order (edited_from order (known_of segs) (total_words segs) n segs) (map (λ e. e.items) c.in_ok-edits-in-Some.edits.items)) base_is
           (subst (λ (k : Known). LinkSegments order (edited_from order k (total_words segs) next segs) (map (λ e. e.items) c.in_ok-edits-in-Some.edits.items)) known_are links);

@@ -6,7 +6,11 @@ use Rattle.ps_resolve.specs.Faults.{first_fault, linking_fault}
 use Rattle.ps_resolve.specs.Plans.{AreStopped, IsPlanOf, IsStopped}
 use Rattle.ps_resolve.specs.Views.{segment_of}
 use Rattle.ps_resolve.proofs.FirstFaults.{if_ok, if_err, first_read, first_linked, stopped}
+use Rattle.ps_resolve.proofs.ReadingHosts.{host_opened}
 use Rattle.ps_resolve.proofs.resolving.resolve.Goals as goal
+
+pub link_segments-requires-clause-read : goal.link_segments-requires-clause-read
+link_segments-requires-clause-read g c = host_opened c.args.host.now (map (λ lib. lib.now) c.args.libs.now) c.in-Ok.ensures.faultless
 
 pub returns-in-Err-clause-stop : goal.returns-in-Err-clause-stop
 returns-in-Err-clause-stop g c = first_read c.args.host.now (map (λ lib. lib.now) c.args.libs.now) c.in-Err.fault c.in-Err.ensures.fault

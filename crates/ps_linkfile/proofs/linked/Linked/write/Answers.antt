@@ -15,7 +15,7 @@ returns-in_err-write_all_of-clause-front g c =
     let same : plan ≡ c.args.self.now = cc (c.self.view_is) in
     on_err_always c.from_residual.result
     (subst (λ (p : Planned). AppendsFront old new (file_of p)) same
-    (front_then old new (dictionary plan.order plan.host (extents_of plan)) (padded_codes plan.order plan.origins plan.edits)
+    (front_then old new (dictionary plan.order plan.names plan.host (extents_of plan)) (padded_codes plan.order plan.origins plan.edits)
     (subst (λ (bytes : List ℕ). AppendsFront old new bytes) c.dictionary_of.ensures c.in_err-write_all_of.ensures.front)))
 
 pub returns-in_err-write_codes-clause-front : goal.returns-in_err-write_codes-clause-front
@@ -27,6 +27,6 @@ returns-in_err-write_codes-clause-front g c =
     let same : plan ≡ c.args.self.now = cc (c.self.view_is) in
     on_err_always c.from_residual-in_err-write_codes.result
     (subst (λ (p : Planned). AppendsFront old new (file_of p)) same
-    (front_last old mid new (dictionary plan.order plan.host (extents_of plan)) (padded_codes plan.order plan.origins plan.edits)
+    (front_last old mid new (dictionary plan.order plan.names plan.host (extents_of plan)) (padded_codes plan.order plan.origins plan.edits)
     (subst (λ (bytes : List ℕ). Appends old mid bytes) c.dictionary_of.ensures c.in_ok-write_all_of.ensures.all)
     c.in_err-write_codes.ensures.front))
