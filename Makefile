@@ -1,4 +1,4 @@
-# `make demo` proves and builds pslink and links the sample host with the sample library, `make test` proves and tests all,
+# `make demo` proves and builds pslink and links the sample host with the sample libraries, `make test` proves and tests all,
 # `make install PREFIX=..` puts the program and its manual page in place, `make bench` times links of large files.
 PREFIX ?= /usr/local
 PROGRAM = crates/ps_linker
@@ -8,6 +8,7 @@ BINARY = $(PROGRAM)/out/ps_linker
 
 demo:
 	cd $(PROGRAM) && rt run -- link ../../samples/host.code out/demo.code ../../samples/library.code
+	cd $(PROGRAM) && rt run -- link ../../samples/host.code out/used.code ../../samples/using.code ../../samples/used.code
 
 build:
 	cd $(PROGRAM) && rt run -- --version

@@ -1,73 +1,78 @@
 -- What is written of the small files, computed.
 use Rattle.std.proofs.Common.{◌≡◌, [], ◌∷◌, ◌++◌, None, refl}
-use Rattle.ps_examples.specs.Files.{host, library, host_in, library_in, host_with, library_with, library_of_two, wanting_aux, host_in_place, host_with_tools, library_of_two_blocks, put_at, util, count, state, nobody, unit_ref, publ_ref, priv_ref, publ_def, eof_mark}
-use Rattle.ps_examples.specs.Expected.{linked_pair, linked_in_place, linked_two, linked_two_privates, linked_wide_operand, linked_unit_reference, linked_host_reference, linked_other_library, linked_plain_segment, linked_two_blocks}
+use Rattle.ps_examples.specs.Files.{host, library, host_in, library_in, host_with, library_with, library_of_two, wanting_aux, host_in_place, host_with_tools, library_of_two_blocks, library_of_used, put_at, util, count, state, nobody, unit_ref, publ_ref, priv_ref, publ_def, eof_mark, util_information}
+use Rattle.ps_examples.specs.Expected.{linked_pair, linked_in_place, linked_two, linked_two_privates, linked_wide_operand, linked_unit_reference, linked_host_reference, linked_other_library, linked_plain_segment, linked_two_blocks, linked_added}
 use Rattle.ps_linkfile.specs.LinkedFile.{linked_file, dictionary, all_pairs}
-use Rattle.ps_resolve.specs.Added.{segments}
+use Rattle.ps_resolve.specs.Sources.{own_segments}
+use Rattle.ps_resolve.specs.Added.{empty_slots, rounds, segments, slot_names}
 use Rattle.ps_resolve.specs.Faults.{slots_fault, no_host_fault, libraries_fault, sources_fault, linking_fault, definitions_fault, privates_fault, data_fault, references_fault}
 use Rattle.ps_resolve.specs.AllFaults.{first_fault, reading_fault}
 use Rattle.ps_words.specs.declared.order.Order.TheVariants.{Little, Big}
 
 pub a_host_and_its_library : linked_file host (library ∷ []) ≡ linked_pair Little
-unfolding segments dictionary all_pairs
+unfolding own_segments empty_slots rounds segments slot_names dictionary all_pairs
 a_host_and_its_library = refl
 
 pub the_same_big_endian : linked_file (host_in Big) (library_in Big ∷ []) ≡ linked_pair Big
-unfolding segments dictionary all_pairs
+unfolding own_segments empty_slots rounds segments slot_names dictionary all_pairs
 the_same_big_endian = refl
 
 pub no_fault_big_endian : first_fault (host_in Big) (library_in Big ∷ []) ≡ None
-unfolding first_fault reading_fault slots_fault no_host_fault libraries_fault sources_fault linking_fault definitions_fault privates_fault data_fault references_fault segments
+unfolding first_fault reading_fault slots_fault no_host_fault libraries_fault sources_fault linking_fault definitions_fault privates_fault data_fault references_fault own_segments empty_slots rounds segments
 no_fault_big_endian = refl
 
 pub a_unit_in_place : linked_file (host_in_place Little (publ_ref Little count (1 ∷ []) ++ eof_mark Little 0)) [] ≡ linked_in_place
-unfolding segments dictionary all_pairs
+unfolding own_segments empty_slots rounds segments slot_names dictionary all_pairs
 a_unit_in_place = refl
 
 pub no_fault_in_place : first_fault (host_in_place Little (publ_ref Little count (1 ∷ []) ++ eof_mark Little 0)) [] ≡ None
-unfolding first_fault reading_fault slots_fault no_host_fault libraries_fault sources_fault linking_fault definitions_fault privates_fault data_fault references_fault segments
+unfolding first_fault reading_fault slots_fault no_host_fault libraries_fault sources_fault linking_fault definitions_fault privates_fault data_fault references_fault own_segments empty_slots rounds segments
 no_fault_in_place = refl
 
 pub a_private_in_place : linked_file (host_in_place Little (publ_ref Little count (1 ∷ []) ++ priv_ref Little state 4 (4 ∷ []) ++ eof_mark Little 0)) [] ≡ linked_pair Little
-unfolding segments dictionary all_pairs
+unfolding own_segments empty_slots rounds segments slot_names dictionary all_pairs
 a_private_in_place = refl
 
 pub two_units : linked_file (wanting_aux host) (library_of_two ∷ []) ≡ linked_two
-unfolding segments dictionary all_pairs
+unfolding own_segments empty_slots rounds segments slot_names dictionary all_pairs
 two_units = refl
 
 pub two_privates_of_a_unit : linked_file host (library_with Little (priv_ref Little state 4 [] ++ priv_ref Little nobody 4 (4 ∷ []) ++ eof_mark Little 0) ∷ []) ≡ linked_two_privates
-unfolding segments dictionary all_pairs
+unfolding own_segments empty_slots rounds segments slot_names dictionary all_pairs
 two_privates_of_a_unit = refl
 
 pub a_displacement_of_two_bytes : linked_file host (put_at 513 (129 ∷ []) library ∷ []) ≡ linked_wide_operand
-unfolding segments dictionary all_pairs
+unfolding own_segments empty_slots rounds segments slot_names dictionary all_pairs
 a_displacement_of_two_bytes = refl
 
 pub a_unit_that_names_itself : linked_file host (library_with Little (unit_ref Little util (2 ∷ []) ++ eof_mark Little 0) ∷ []) ≡ linked_unit_reference
-unfolding segments dictionary all_pairs
+unfolding own_segments empty_slots rounds segments slot_names dictionary all_pairs
 a_unit_that_names_itself = refl
 
 pub a_reference_of_the_host : linked_file (host_with Little (publ_def Little count 3 ++ publ_ref Little count (2 ∷ []) ++ eof_mark Little 8)) (library_with Little (eof_mark Little 0) ∷ []) ≡ linked_host_reference
-unfolding segments dictionary all_pairs
+unfolding own_segments empty_slots rounds segments slot_names dictionary all_pairs
 a_reference_of_the_host = refl
 
 pub a_definition_and_an_end_mark_of_a_unit_are_not_used : linked_file host (library_with Little (publ_def Little count 9 ++ publ_ref Little count (1 ∷ []) ++ priv_ref Little state 4 (4 ∷ []) ++ eof_mark Little 100) ∷ []) ≡ linked_pair Little
-unfolding segments dictionary all_pairs
+unfolding own_segments empty_slots rounds segments slot_names dictionary all_pairs
 a_definition_and_an_end_mark_of_a_unit_are_not_used = refl
 
 pub the_first_of_two_libraries : linked_file host (library ∷ put_at 518 (0 ∷ 0 ∷ []) library ∷ []) ≡ linked_pair Little
-unfolding segments dictionary all_pairs
+unfolding own_segments empty_slots rounds segments slot_names dictionary all_pairs
 the_first_of_two_libraries = refl
 
 pub the_libraries_exchanged : linked_file host (put_at 518 (0 ∷ 0 ∷ []) library ∷ library ∷ []) ≡ linked_other_library
-unfolding segments dictionary all_pairs
+unfolding own_segments empty_slots rounds segments slot_names dictionary all_pairs
 the_libraries_exchanged = refl
 
 pub a_plain_segment : linked_file host_with_tools (library ∷ []) ≡ linked_plain_segment
-unfolding segments dictionary all_pairs
+unfolding own_segments empty_slots rounds segments slot_names dictionary all_pairs
 a_plain_segment = refl
 
 pub a_code_of_two_blocks : linked_file host_with_tools (library_of_two_blocks (eof_mark Little 0) ∷ []) ≡ linked_two_blocks
-unfolding segments dictionary all_pairs
+unfolding own_segments empty_slots rounds segments slot_names dictionary all_pairs
 a_code_of_two_blocks = refl
+
+pub a_unit_that_only_a_unit_names : linked_file host (library_of_used (util_information Little) ∷ []) ≡ linked_added
+unfolding own_segments empty_slots rounds segments slot_names dictionary all_pairs
+a_unit_that_only_a_unit_names = refl

@@ -78,3 +78,11 @@ linked_two_blocks =
     ++ filled_to 512 (demo_code Little)
     ++ filled_to 1024 (zeros 512 ++ (7 ∷ 0 ∷ []))
     ++ filled_to 512 (1 ∷ 2 ∷ 3 ∷ 4 ∷ 5 ∷ [])
+
+-- of UTIL that names AUX alone: AUX is added in slot 8, with the private at 8
+abbrev pub linked_added : List ℕ
+linked_added =
+    put_at 300 (42 ∷ []) (with_slot Little 1 demo 0 1 18 (with_slot Little 7 util 0 2 24 (with_slot Little 8 aux 0 3 24 no_segments)))
+    ++ filled_to 512 (215 ∷ 215 ∷ 193 ∷ 0 ∷ 18 ∷ 0 ∷ 4 ∷ 0 ∷ 6 ∷ 0 ∷ 10 ∷ 0 ∷ 1 ∷ 0 ∷ 2 ∷ 0 ∷ 1 ∷ 1 ∷ [])
+    ++ filled_to 512 (util_with 128 8 128 2)
+    ++ filled_to 512 (165 ∷ 128 ∷ 3 ∷ 171 ∷ 128 ∷ 10 ∷ 215 ∷ 215 ∷ 173 ∷ 0 ∷ 0 ∷ 0 ∷ 0 ∷ 0 ∷ 6 ∷ 0 ∷ 16 ∷ 0 ∷ 1 ∷ 0 ∷ 2 ∷ 0 ∷ 8 ∷ 1 ∷ [])

@@ -1,7 +1,7 @@
 -- Small files on which the definitions are computed: a host that wants one unit, the library that has it, and what such files are changed by.
 -- Source: this project's examples.
 use Rattle.std.specs.Prelude.{ℕ, ◌+◌, ◌-◌, ◌*◌, ◌/◌, List, [], ◌∷◌, ◌++◌, length, replicate, take, drop}
-use Rattle.std.specs.List.{flat_map}
+use Rattle.std.specs.List.{flat_map, range_with_len}
 use Rattle.ps_words.specs.Words.{word_bytes}
 use Rattle.ps_words.specs.declared.order.Order.{Order}
 use Rattle.ps_words.specs.declared.order.Order.TheVariants.{Little, Big}
@@ -161,3 +161,11 @@ host_with_tools = with_slot Little 8 tools 0 3 5 host ++ (1 ∷ 2 ∷ 3 ∷ 4 �
 abbrev pub library_of_two_blocks : List ℕ → List ℕ
 library_of_two_blocks information =
     with_slot Little 2 util 3 1 514 no_segments ++ filled_to 1024 (zeros 512 ++ (2 ∷ 0 ∷ [])) ++ filled_to 512 information
+
+-- a library whose UTIL names AUX alone, which has this link information
+abbrev pub library_of_used : List ℕ → List ℕ
+library_of_used information = with_aux aux_code information (library_with Little (unit_ref Little aux (2 ∷ []) ++ eof_mark Little 0))
+
+-- the host whose slots from 8 on, n of them, have a segment that is linked already, without a name: the same five bytes in block 3
+abbrev pub filled_host : ℕ → List ℕ
+filled_host n = put_at 32 (flat_map (λ k. 3 ∷ 0 ∷ 5 ∷ 0 ∷ []) (range_with_len 0 n)) host ++ (1 ∷ 2 ∷ 3 ∷ 4 ∷ 5 ∷ [])

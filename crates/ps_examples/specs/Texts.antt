@@ -40,6 +40,16 @@ map_of_two =
     ++ codes "private 08 STATE    offset 12 words 4\n"
     ++ codes "next 16 data 26 blocks 4\n"
 
+-- the map of a unit of the library that names another one, which is added
+abbrev pub map_of_an_added_unit : List ℕ
+map_of_an_added_unit =
+    codes "segment 01 DEMO     file 0 entry 01 block 1 length 18\n"
+    ++ codes "segment 07 UTIL     file 1 entry 02 block 2 length 24\n"
+    ++ codes "segment 08 AUX      file 1 entry 03 block 3 length 24\n"
+    ++ codes "public COUNT    value 3\n"
+    ++ codes "private 08 STATE    offset 8 words 4\n"
+    ++ codes "next 12 data 18 blocks 4\n"
+
 -- the slots of the library
 abbrev pub slots_of_the_library : List ℕ
 slots_of_the_library =

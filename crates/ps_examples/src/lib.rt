@@ -1,6 +1,7 @@
 //! The definitions of a link, computed on small files: what is refused there, which fault is named where several stand, what is written, and what map and show print. Each function's contract states examples, and its body is empty.
 #![tactic(auto)]
 
+mod added_units;
 mod libraries;
 mod linked_files;
 mod orders;
@@ -19,6 +20,7 @@ mod refused_types;
 mod roles;
 mod texts;
 
+pub use added_units::{order_of_added_units, units_that_are_added};
 pub use libraries::choice_of_libraries;
 pub use linked_files::{linked_bytes, more_linked_bytes};
 pub use orders::one_order;

@@ -1,6 +1,6 @@
 ghost use Rattle.std.specs.Prelude.{◌≡◌, [], ◌∷◌, ◌++◌, None};
-ghost use Rattle.ps_examples.specs.Files.{host, library, host_in, library_in, host_with, library_with, library_of_two, wanting_aux, host_in_place, host_with_tools, library_of_two_blocks, put_at, util, count, state, nobody, unit_ref, publ_ref, priv_ref, publ_def, eof_mark};
-ghost use Rattle.ps_examples.specs.Expected.{linked_pair, linked_in_place, linked_two, linked_two_privates, linked_wide_operand, linked_unit_reference, linked_host_reference, linked_other_library, linked_plain_segment, linked_two_blocks};
+ghost use Rattle.ps_examples.specs.Files.{host, library, host_in, library_in, host_with, library_with, library_of_two, wanting_aux, host_in_place, host_with_tools, library_of_two_blocks, library_of_used, put_at, util, count, state, nobody, unit_ref, publ_ref, priv_ref, publ_def, eof_mark, util_information};
+ghost use Rattle.ps_examples.specs.Expected.{linked_pair, linked_in_place, linked_two, linked_two_privates, linked_wide_operand, linked_unit_reference, linked_host_reference, linked_other_library, linked_plain_segment, linked_two_blocks, linked_added};
 ghost use Rattle.ps_linkfile.specs.LinkedFile.{linked_file};
 ghost use Rattle.ps_resolve.specs.AllFaults.{first_fault};
 ghost use Rattle.ps_words.specs.declared.order.Order.TheVariants.{Little, Big};
@@ -27,4 +27,5 @@ pub fn more_linked_bytes()
     ensures the_libraries_exchanged { linked_file host (put_at 518 (0 ∷ 0 ∷ []) library ∷ library ∷ []) ≡ linked_other_library }
     ensures a_plain_segment { linked_file host_with_tools (library ∷ []) ≡ linked_plain_segment }
     ensures a_code_of_two_blocks { linked_file host_with_tools (library_of_two_blocks (eof_mark Little 0) ∷ []) ≡ linked_two_blocks }
+    ensures a_unit_that_only_a_unit_names { linked_file host (library_of_used (util_information Little) ∷ []) ≡ linked_added }
 {}

@@ -9,7 +9,7 @@ ghost use Rattle.ps_words.specs.declared.order.Order.TheVariants.{Little};
 pub fn faults_of_references()
     ensures a_definition_is_missing { first_fault host (library_with Little (publ_ref Little cuont (1 ∷ []) ++ priv_ref Little state 4 (4 ∷ []) ++ eof_mark Little 0) ∷ []) ≡ Some (in_record 1 7 0 reason.MissingDefinition) }
     ensures the_definition_is_a_constant { first_fault (host_with Little (const_def Little count 3 ++ eof_mark Little 8)) (library ∷ []) ≡ Some (in_record 1 7 0 reason.IllKind) }
-    ensures no_unit_has_the_name { first_fault host (library_with Little (unit_ref Little nobody (1 ∷ []) ++ priv_ref Little state 4 (4 ∷ []) ++ eof_mark Little 0) ∷ []) ≡ Some (in_record 1 7 0 reason.MissingUnitRef) }
+    ensures no_unit_has_the_name { first_fault host (library_with Little (unit_ref Little nobody (1 ∷ []) ++ priv_ref Little state 4 (4 ∷ []) ++ eof_mark Little 0) ∷ []) ≡ Some (in_record 1 7 0 reason.MissingUnit) }
     ensures the_operand_passes_the_code { first_fault host (library_with Little (publ_ref Little count (23 ∷ []) ++ priv_ref Little state 4 (4 ∷ []) ++ eof_mark Little 0) ∷ []) ≡ Some (in_reference 1 7 0 0 reason.OutsideCode) }
     ensures the_second_byte_is_reserved { first_fault host (library_with Little (publ_ref Little count (9 ∷ []) ++ priv_ref Little state 4 (4 ∷ []) ++ eof_mark Little 0) ∷ []) ≡ Some (in_reference 1 7 0 0 reason.ReservedPlace) }
     ensures two_operands_overlap { first_fault host (library_with Little (publ_ref Little count (1 ∷ []) ++ priv_ref Little state 4 (2 ∷ []) ++ eof_mark Little 0) ∷ []) ≡ Some (in_reference 1 7 1 0 reason.Overlap) }

@@ -1,6 +1,6 @@
 ghost use Rattle.std.specs.Prelude.{◌≡◌, [], ◌∷◌, ◌++◌, take, codes};
-ghost use Rattle.ps_examples.specs.Files.{host, library, host_in, host_in_place, host_with, library_with, put_at, zeros, util, count, state, limit, unit_ref, publ_ref, priv_ref, publ_def, const_def, eof_mark, wanting_aux, library_of_two};
-ghost use Rattle.ps_examples.specs.Texts.{map_of_the_pair, map_with_a_constant, map_in_place, map_of_two, show_of_the_library, show_without_an_end, show_without_a_code, show_of_the_linked_file, show_of_the_big_endian_host, slot_without_a_name, slot_with_a_text, links_of_every_kind, links_of_an_unknown_record, links_of_a_bad_length, links_of_a_bad_address};
+ghost use Rattle.ps_examples.specs.Files.{host, library, host_in, host_in_place, host_with, library_with, put_at, zeros, util, count, state, limit, unit_ref, publ_ref, priv_ref, publ_def, const_def, eof_mark, wanting_aux, library_of_two, util_information, library_of_used};
+ghost use Rattle.ps_examples.specs.Texts.{map_of_the_pair, map_with_a_constant, map_in_place, map_of_two, map_of_an_added_unit, show_of_the_library, show_without_an_end, show_without_a_code, show_of_the_linked_file, show_of_the_big_endian_host, slot_without_a_name, slot_with_a_text, links_of_every_kind, links_of_an_unknown_record, links_of_a_bad_length, links_of_a_bad_address};
 ghost use Rattle.ps_linkfile.specs.Lines.{shown};
 ghost use Rattle.ps_linkfile.specs.LinkedFile.{linked_file};
 ghost use Rattle.ps_linkfile.specs.MapText.{map_of};
@@ -13,6 +13,7 @@ pub fn map_texts()
     ensures a_constant_after_the_public_variable { map_of (host_with Little (publ_def Little count 3 ++ const_def Little limit 9 ++ eof_mark Little 8)) (library ∷ []) ≡ map_with_a_constant }
     ensures a_unit_in_place { map_of (host_in_place Little (publ_ref Little count (1 ∷ []) ++ eof_mark Little 0)) [] ≡ map_in_place }
     ensures two_units_of_one_library { map_of (wanting_aux host) (library_of_two ∷ []) ≡ map_of_two }
+    ensures a_unit_that_only_a_unit_names { map_of host (library_of_used (util_information Little) ∷ []) ≡ map_of_an_added_unit }
 {}
 
 /// What show prints of a file, of a slot, and of the link information of a slot.

@@ -1,4 +1,5 @@
 //! The tests, by what they are about.
+mod added_units;
 mod answers;
 mod changed_bytes;
 mod cuts;

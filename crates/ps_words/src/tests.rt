@@ -46,6 +46,22 @@ fn a_fault_of_an_entry_that_is_no_unit(rt: HostRuntime) -> Result<(), Fail> {
 }
 
 #[test]
+fn a_fault_of_a_unit_that_a_record_asks_for(rt: HostRuntime) -> Result<(), Fail> {
+    let fault = Fault {
+        reason: Reason::NoSlot,
+        file: 2,
+        slot: Some(8),
+        rec: Some(3),
+        reference: None,
+    };
+    let text = fault.to_string(rt.alloc())?;
+    assert_eq!(rt; text.as_str(), "refused 35 NoSlot file 2 slot 8 record 3");
+    assert_eq!(rt; fault.reason.number(), 35);
+    assert_eq!(rt; fault.reason.name(), "NoSlot");
+    Ok(())
+}
+
+#[test]
 fn a_fault_of_a_file(rt: HostRuntime) -> Result<(), Fail> {
     let fault = Fault {
         reason: Reason::ShortFile,

@@ -132,7 +132,7 @@ pub(crate) const RECORDS: [Refusal<'static>; 6] = [
 ];
 
 /// Names of private variables and of what is referred to.
-pub(crate) const NAMES: [Refusal<'static>; 6] = [
+pub(crate) const NAMES: [Refusal<'static>; 3] = [
     (
         "two private variables",
         &[Records(
@@ -159,11 +159,15 @@ pub(crate) const NAMES: [Refusal<'static>; 6] = [
         &[],
         "refused 29 IllKind file 0 slot 7 record 0",
     ),
+];
+
+/// Names of units that no slot has and no library.
+pub(crate) const UNITS: [Refusal<'static>; 3] = [
     (
         "a unit that is not there",
         &[Records(4, &[UnitReference(NOBODY, &[1]), End(0)])],
         &[],
-        "refused 30 MissingUnitRef file 0 slot 7 record 0",
+        "refused 13 MissingUnit file 0 slot 7 record 0",
     ),
     (
         "a segment that is linked already as a unit",
@@ -172,13 +176,13 @@ pub(crate) const NAMES: [Refusal<'static>; 6] = [
             Records(4, &[UnitReference(TOOLS, &[1]), End(0)]),
         ],
         &[],
-        "refused 30 MissingUnitRef file 0 slot 7 record 0",
+        "refused 13 MissingUnit file 0 slot 7 record 0",
     ),
     (
         "the host segment as a unit, and no references",
         &[Records(4, &[UnitReference(DEMO, &[]), End(0)])],
         &[],
-        "refused 30 MissingUnitRef file 0 slot 7 record 0",
+        "refused 13 MissingUnit file 0 slot 7 record 0",
     ),
 ];
 

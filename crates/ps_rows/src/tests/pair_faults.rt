@@ -163,7 +163,7 @@ pub(crate) const RECORDS: [Refusal<'static>; 7] = [
 ];
 
 /// Names of private variables and of what is referred to.
-pub(crate) const NAMES: [Refusal<'static>; 5] = [
+pub(crate) const NAMES: [Refusal<'static>; 4] = [
     (
         "two private variables",
         &[],
@@ -203,13 +203,15 @@ pub(crate) const NAMES: [Refusal<'static>; 5] = [
         )],
         "refused 28 MissingDefinition file 1 slot 7 record 1",
     ),
-    (
-        "a unit that is not there",
-        &[],
-        &[Records(2, &[UnitReference(NOBODY, &[1]), End(0)])],
-        "refused 30 MissingUnitRef file 1 slot 7 record 0",
-    ),
 ];
+
+/// The name of a unit that no slot has and no library.
+pub(crate) const UNITS: [Refusal<'static>; 1] = [(
+    "a unit that is not there",
+    &[],
+    &[Records(2, &[UnitReference(NOBODY, &[1]), End(0)])],
+    "refused 13 MissingUnit file 1 slot 7 record 0",
+)];
 
 /// Sizes.
 pub(crate) const SIZES: [Refusal<'static>; 3] = [

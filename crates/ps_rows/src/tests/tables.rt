@@ -2,6 +2,7 @@
 use super::answers::{LITTLE, links};
 use super::growths::{makes_no_growth, refuses_each_growth};
 use super::link_growths::Link;
+use crate::added::{library_of_a_used_unit, linked_used_unit};
 use crate::base::{base_host, base_library, linked_base_pair};
 use crate::code_file::{Change, CodeFile};
 use crate::in_place::{linked_unit_in_place, unit_in_place};
@@ -68,13 +69,15 @@ pub(crate) enum Base {
     HostAlone,
     /// The host and the library of two units.
     TwoUnits,
+    /// The base host, and the library whose unit uses another one.
+    UsedUnit,
 }
 
 impl Base {
     fn host(self, alloc: Global) -> Result<CodeFile, AllocError> {
         match self {
             Base::InPlace => unit_in_place(alloc, LITTLE),
-            Base::Pair | Base::HostAlone => base_host(alloc, LITTLE),
+            Base::Pair | Base::HostAlone | Base::UsedUnit => base_host(alloc, LITTLE),
             Base::TwoUnits => host_of_two_units(alloc),
         }
     }
@@ -82,6 +85,7 @@ impl Base {
     fn library(self, alloc: Global) -> Result<CodeFile, AllocError> {
         match self {
             Base::TwoUnits => library_of_two_units(alloc),
+            Base::UsedUnit => library_of_a_used_unit(alloc, LITTLE),
             Base::InPlace | Base::Pair | Base::HostAlone => base_library(alloc, LITTLE),
         }
     }
@@ -91,11 +95,12 @@ impl Base {
             Base::InPlace => linked_unit_in_place(alloc, LITTLE),
             Base::Pair | Base::HostAlone => linked_base_pair(alloc, LITTLE),
             Base::TwoUnits => linked_two_units(alloc),
+            Base::UsedUnit => linked_used_unit(alloc, LITTLE),
         }
     }
 
     fn has_library(self) -> bool {
-        matches!(self, Base::Pair | Base::TwoUnits)
+        matches!(self, Base::Pair | Base::TwoUnits | Base::UsedUnit)
     }
 
     /// Checks one link: its answer and what was written.
