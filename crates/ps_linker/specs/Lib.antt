@@ -3,3 +3,4 @@ pub mod Requests
 pub mod Statuses
 pub mod Lines
 pub mod Printed
+pub mod Reading

@@ -1,5 +1,8 @@
 //! Why a command ends without having been done.
-ghost use Rattle.std.specs.Prelude.{◌≡◌};
+ghost use Rattle.std.specs.Prelude.{◌≡◌, ◌≢◌};
+ghost use Rattle.clap.specs.Words.{kind_of};
+ghost use Rattle.clap.specs.declared.error.ErrorKind.TheVariants.{OutOfMemory};
+ghost use Rattle.ps_linker.specs.declared.error.CommandError.TheVariants.{Memory, Usage};
 ghost use Rattle.ps_linker.specs.Statuses.{status_of};
 
 use clap::error::ErrorKind;
@@ -46,6 +49,8 @@ impl<T: Drop> From<AllocFailed<T>> for CommandError<'_> {
 }
 
 impl From<clap::Error> for CommandError<'_> {
+    ghost from_gives = { λ error e. (kind_of error ≡ OutOfMemory → e ≡ Memory) × (kind_of error ≢ OutOfMemory → e ≡ Usage error) };
+
     fn from(error: clap::Error) -> Self {
         match error.kind() {
             ErrorKind::OutOfMemory => CommandError::Memory,

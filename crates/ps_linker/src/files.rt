@@ -1,12 +1,14 @@
 //! Files that are read whole.
-ghost use Rattle.std.specs.Prelude.{◌≡◌, ◌≤◌, length, IfOk, IfSome};
+ghost use Rattle.std.specs.Prelude.{◌≡◌, ◌≤◌, ℕ, List, length, map, IfOk, IfSome, ⊤};
+ghost use Rattle.std.specs.List.{AllZip};
+ghost use Rattle.ps_linker.specs.Reading.{Reads};
 
 use crate::error::CommandError;
 use crate::request::Inputs;
 use std::alloc::{AllocError, AllocFailed, Allocator};
-use std::fs;
-use std::io::Read;
+use std::io::{Read, Write};
 use std::rt::Files;
+use std::{fs, io};
 
 /// The longest file that is read, in bytes.
 const LONGEST: usize = 67_108_864;
@@ -34,6 +36,42 @@ impl From<AllocError> for ReadFault {
     }
 }
 
+/// Opens the files of a command. What runs a command is generic over it, so that contracts say of bytes at which path they
+/// were read: no contract says what a file of the system holds.
+pub trait CodeFiles {
+    /// A file that is read.
+    type Opened: Read + Drop;
+
+    /// A file that is written.
+    type Created: Write + Drop;
+
+    // Holds of a path and of what opening it gave.
+    ghost opened: { Self → List ℕ → Self.Opened → Type 0 };
+
+    /// Opens the file at `path` to be read.
+    fn open(&self, path: &str) -> io::Result<Self::Opened>
+        ensures { IfOk result (opened self.now path.now) };
+
+    /// Creates or empties the file at `path`.
+    fn create(&self, path: &str) -> io::Result<Self::Created>;
+}
+
+impl<R: Files> CodeFiles for R {
+    type Opened = R::File;
+
+    type Created = R::File;
+
+    ghost opened = { λ rt path file. ⊤ };
+
+    fn open(&self, path: &str) -> io::Result<R::File> {
+        fs::open(self, path)
+    }
+
+    fn create(&self, path: &str) -> io::Result<R::File> {
+        fs::create(self, path)
+    }
+}
+
 /// What the files of a host and of its libraries hold.
 #[derive(Drop)]
 pub struct Contents<A: Allocator> {
@@ -41,13 +79,14 @@ pub struct Contents<A: Allocator> {
     pub libraries: Vec<Vec<u8, A>, A>,
 }
 
-/// Reads the host and then each library.
-pub fn read_inputs<'a, R: Files, A: Allocator + Copy>(
+/// Reads the host and then each library, in their order.
+pub fn read_inputs<'a, R: CodeFiles, A: Allocator + Copy>(
     rt: &R,
     alloc: A,
     inputs: &Inputs<'a, A>,
 ) -> Result<Contents<A>, CommandError<'a>>
-    ensures { IfOk result (λ contents. length contents.libraries.items ≡ length inputs.now.libraries.items) }
+    ensures host { IfOk result (λ contents. Reads (R.opened rt.now) R.Opened.remaining inputs.now.host.now contents.host.items) }
+    ensures libraries { IfOk result (λ contents. AllZip (Reads (R.opened rt.now) R.Opened.remaining) (map (λ path. path.now) inputs.now.libraries.items) (map (λ library. library.items) contents.libraries.items)) }
 {
     let host = read(rt, alloc, inputs.host)?;
     let mut libraries = Vec::new(alloc);
@@ -58,14 +97,15 @@ pub fn read_inputs<'a, R: Files, A: Allocator + Copy>(
 }
 
 /// Reads the file at `path` to its end.
-pub fn read<'a, R: Files, A: Allocator + Copy>(
+pub fn read<'a, R: CodeFiles, A: Allocator + Copy>(
     rt: &R,
     alloc: A,
     path: &'a str,
 ) -> Result<Vec<u8, A>, CommandError<'a>>
-    ensures { IfOk result (λ bytes. length bytes.items ≤ 67108864) }
+    ensures bound { IfOk result (λ bytes. length bytes.items ≤ 67108864) }
+    ensures whole { IfOk result (λ bytes. Reads (R.opened rt.now) R.Opened.remaining path.entry.now bytes.items) }
 {
-    let Ok(mut file) = fs::open(rt, path) else {
+    let Ok(mut file) = rt.open(path) else {
         return Err(CommandError::Read { path });
     };
     match read_to_end(&mut file, alloc) {

@@ -1,20 +1,19 @@
 //! One command, from its words to its status.
-ghost use Rattle.std.specs.Prelude.{◌≡◌, ◌≢◌, ◌≤◌, IfErr, IfOk, OnOk, length, map, true};
+ghost use Rattle.std.specs.Prelude.{◌≡◌, ◌≢◌, ◌≤◌, IfErr, IfOk, OnOk, map, true};
 ghost use Rattle.clap.specs.Words.{subcommand_of, takes};
 ghost use Rattle.ps_linkfile.specs.Writing.{summary_in};
 ghost use Rattle.ps_linker.specs.CommandLine.{pslink_app};
 ghost use Rattle.ps_linker.specs.Printed.{Prints, PrintsLine, PrintsMap, PrintsShow};
+ghost use Rattle.ps_linker.specs.Reading.{Reads};
 ghost use Rattle.ps_linker.specs.Statuses.{status_of};
 
 use crate::error::CommandError;
-use crate::files::{self, Contents};
+use crate::files::{self, CodeFiles, Contents};
 use crate::output;
 use crate::request::{self, Inputs, Request};
 use ps_linkfile::{Counting, Linked, Summary};
 use std::alloc::{AllocError, Allocator, Global};
-use std::fs;
 use std::io::Write;
-use std::rt::Files;
 
 /// Room for the line that a link prints.
 const SUMMARY_LENGTH: usize = 128;
@@ -23,6 +22,7 @@ const SUMMARY_LENGTH: usize = 128;
 ///
 /// `link` writes the linked file to OUT, which is opened only once all is read and checked, and prints its summary to
 /// `out`; `map` prints the map of the link, and `show` what one code file has.
+/// Each file is opened at the path that is named and read to its end, the libraries in the order in which they are named.
 ///
 /// The status is 0 where the command was done, or where the help or the version was asked for; 1 where the files are
 /// refused; 2 where the words are none that the program takes; 3 where a file could not be read or written or is too
@@ -30,7 +30,7 @@ const SUMMARY_LENGTH: usize = 128;
 /// written to `err`, and whether that succeeds changes no status.
 ///
 /// Memory for the words is taken from `rt`, all other from `alloc`. Source: this project's profile.
-pub fn run<R: Files + AllocGlobal, A: Allocator + Copy, O: Write, E: Write>(
+pub fn run<R: CodeFiles + AllocGlobal, A: Allocator + Copy, O: Write, E: Write>(
     rt: &R,
     alloc: A,
     words: &[&str],
@@ -41,7 +41,7 @@ pub fn run<R: Files + AllocGlobal, A: Allocator + Copy, O: Write, E: Write>(
     ensures silent { result ≡ 0 → err.new ≡ err.old }
 
     // What was done printed what its command prints, and nothing else.
-    ensures printed { takes pslink_app (map (λ s. s.now) words.now) ≡ true → result ≡ 0 → Prints (subcommand_of pslink_app (map (λ s. s.now) words.now)) (O.contents out.old) (O.contents out.new) }
+    ensures printed { takes pslink_app (map (λ s. s.now) words.now) ≡ true → result ≡ 0 → Prints (Reads (R.opened rt.now) R.Opened.remaining) (subcommand_of pslink_app (map (λ s. s.now) words.now)) (O.contents out.old) (O.contents out.new) }
 
     // Only what was done, or a fault of standard output itself, leaves anything there.
     ensures unprinted { result ≢ 0 → result ≢ 3 → out.new ≡ out.old }
@@ -52,13 +52,13 @@ pub fn run<R: Files + AllocGlobal, A: Allocator + Copy, O: Write, E: Write>(
     }
 }
 
-fn carry_out<'a, R: Files + AllocGlobal, A: Allocator + Copy, O: Write>(
+fn carry_out<'a, R: CodeFiles + AllocGlobal, A: Allocator + Copy, O: Write>(
     rt: &R,
     alloc: A,
     words: &'a [&'a str],
     out: &mut O,
 ) -> Result<(), CommandError<'a>>
-    ensures ok { takes pslink_app (map (λ s. s.now) words.now) ≡ true → OnOk result (Prints (subcommand_of pslink_app (map (λ s. s.now) words.now)) (O.contents out.old) (O.contents out.new)) }
+    ensures ok { takes pslink_app (map (λ s. s.now) words.now) ≡ true → OnOk result (Prints (Reads (R.opened rt.now) R.Opened.remaining) (subcommand_of pslink_app (map (λ s. s.now) words.now)) (O.contents out.old) (O.contents out.new)) }
     ensures err { IfErr result (λ e. status_of e ≢ 3 → out.new ≡ out.old) }
 {
     match request::parse(rt.alloc(), alloc, words)? {
@@ -82,14 +82,14 @@ fn print_text<O: Write>(
 }
 
 /// Links, and prints the summary. All is read and checked, and the summary's line has its room, before OUT is opened.
-fn link<'a, R: Files, A: Allocator + Copy, O: Write>(
+fn link<'a, R: CodeFiles, A: Allocator + Copy, O: Write>(
     rt: &R,
     alloc: A,
     inputs: Inputs<'a, A>,
     path: &'a str,
     out: &mut O,
 ) -> Result<(), CommandError<'a>>
-    ensures ok { OnOk result (PrintsLine (length inputs.entry.libraries.items) (O.contents out.old) (O.contents out.new)) }
+    ensures ok { OnOk result (PrintsLine (Reads (R.opened rt.now) R.Opened.remaining) inputs.entry.host.now (map (λ path. path.now) inputs.entry.libraries.items) (O.contents out.old) (O.contents out.new)) }
     ensures err { IfErr result (λ e. status_of e ≢ 3 → out.new ≡ out.old) }
 {
     let mut line = String::with_capacity(alloc, SUMMARY_LENGTH)?;
@@ -102,13 +102,13 @@ fn link<'a, R: Files, A: Allocator + Copy, O: Write>(
 }
 
 /// Prints the map of a link.
-fn map<'a, R: Files, A: Allocator + Copy, O: Write>(
+fn map<'a, R: CodeFiles, A: Allocator + Copy, O: Write>(
     rt: &R,
     alloc: A,
     inputs: Inputs<'a, A>,
     out: &mut O,
 ) -> Result<(), CommandError<'a>>
-    ensures ok { OnOk result (PrintsMap (length inputs.entry.libraries.items) (O.contents out.old) (O.contents out.new)) }
+    ensures ok { OnOk result (PrintsMap (Reads (R.opened rt.now) R.Opened.remaining) inputs.entry.host.now (map (λ path. path.now) inputs.entry.libraries.items) (O.contents out.old) (O.contents out.new)) }
     ensures err { IfErr result (λ e. status_of e ≢ 3 → out.new ≡ out.old) }
 {
     let Contents { host, libraries } = files::read_inputs(rt, alloc, &inputs)?;
@@ -118,13 +118,13 @@ fn map<'a, R: Files, A: Allocator + Copy, O: Write>(
 }
 
 /// Prints what the file at `path` has.
-fn show<'a, R: Files, A: Allocator + Copy, O: Write>(
+fn show<'a, R: CodeFiles, A: Allocator + Copy, O: Write>(
     rt: &R,
     alloc: A,
     path: &'a str,
     out: &mut O,
 ) -> Result<(), CommandError<'a>>
-    ensures ok { OnOk result (PrintsShow (O.contents out.old) (O.contents out.new)) }
+    ensures ok { OnOk result (PrintsShow (Reads (R.opened rt.now) R.Opened.remaining) path.entry.now (O.contents out.old) (O.contents out.new)) }
     ensures err { IfErr result (λ e. status_of e ≢ 3 → out.new ≡ out.old) }
 {
     let file = files::read(rt, alloc, path)?;
@@ -133,14 +133,14 @@ fn show<'a, R: Files, A: Allocator + Copy, O: Write>(
 }
 
 /// Creates or empties the file at `path`, and writes the linked file to it.
-fn write_linked<'a, R: Files, A: Allocator + Copy>(
+fn write_linked<'a, R: CodeFiles, A: Allocator + Copy>(
     rt: &R,
     linked: &Linked<'_, A>,
     path: &'a str,
 ) -> Result<Summary, CommandError<'a>>
     ensures { IfOk result (λ summary. summary ≡ summary_in linked.now) }
 {
-    let Ok(file) = fs::create(rt, path) else {
+    let Ok(file) = rt.create(path) else {
         return Err(CommandError::Write { path });
     };
     match linked.write_told(&mut Counting::new(file)) {
@@ -149,12 +149,13 @@ fn write_linked<'a, R: Files, A: Allocator + Copy>(
     }
 }
 
+/// What each file has, in their order.
 // A growth that `collect` is refused may be asked for again, and then succeed.
 fn views<'c, A: Allocator + Copy>(
     alloc: A,
     contents: &'c [Vec<u8, A>],
 ) -> Result<Vec<&'c [u8], A>, AllocError>
-    ensures { IfOk result (λ views. length views.items ≡ length contents.now) }
+    ensures { IfOk result (λ views. map (λ view. view.now) views.items ≡ map (λ content. content.items) contents.now) }
 {
     let mut views = Vec::new(alloc);
     for content in contents {

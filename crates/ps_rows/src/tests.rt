@@ -22,6 +22,7 @@ mod records_growths;
 mod slots;
 mod tables;
 mod texts;
+mod told_writers;
 mod two_units;
 mod writers;
 mod writing;

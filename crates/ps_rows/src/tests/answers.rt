@@ -25,7 +25,9 @@ pub(crate) fn text_of(
         }
         Err(LinkError::Refused(fault)) => format!(in alloc; "{fault}"),
         Err(LinkError::Memory) => String::from_str(alloc, "out of memory"),
-        Err(LinkError::Write(WriteFault::Device(_))) => String::from_str(alloc, "device error"),
+        Err(LinkError::Write(WriteFault::Device(error))) => {
+            format!(in alloc; "device error {:?}", error.kind())
+        }
         Err(LinkError::Write(WriteFault::Stalled)) => String::from_str(alloc, "stalled"),
     }
 }

@@ -42,7 +42,14 @@ fn writes_little(
     writes(rt, host, libraries, &mut out, "stalled", front)?;
     let mut out = Room::new(alloc, 512, usize::MAX, Full::Fails)?;
     let front = linked.get(..512).unwrap_or(&[]);
-    writes(rt, host, libraries, &mut out, "device error", front)?;
+    writes(
+        rt,
+        host,
+        libraries,
+        &mut out,
+        "device error Interrupted",
+        front,
+    )?;
     assert_eq!(rt; out.failures(), 1, "a write that failed is not repeated");
     Ok(())
 }
@@ -119,7 +126,7 @@ fn a_writer_of_any_room(rt: HostRuntime) -> Result<(), Fail> {
             host.as_slice(),
             &libraries,
             &mut out,
-            "device error",
+            "device error Interrupted",
             front,
         )?;
     }
