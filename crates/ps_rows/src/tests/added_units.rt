@@ -108,7 +108,13 @@ const LINKS: [Row<'static>; 6] = [
         what: "a unit that an added unit names",
         host: &[],
         library: &[
-            Entry(4, named(THIRD)),
+            Entry(
+                4,
+                Slot {
+                    name: THIRD,
+                    ..LIBRARY_AUX
+                },
+            ),
             Records(4, &[UnitReference(THIRD, &[2]), End(0)]),
         ],
         linked: &[
@@ -148,7 +154,13 @@ const NAME_OF_A_LINKED_SEGMENT: [Row<'static>; 1] = [Row {
         Code(3, 0, &TOOLS_CODE),
     ],
     library: &[
-        Entry(4, named(TOOLS)),
+        Entry(
+            4,
+            Slot {
+                name: TOOLS,
+                ..LIBRARY_AUX
+            },
+        ),
         Records(4, &[UnitReference(TOOLS, &[2]), End(0)]),
     ],
     linked: &[
@@ -179,7 +191,13 @@ const FAULTS: [Refusal<'static>; 5] = [
         "a name of blanks",
         &[],
         &[
-            Entry(3, named(BLANK)),
+            Entry(
+                3,
+                Slot {
+                    name: BLANK,
+                    ..LIBRARY_AUX
+                },
+            ),
             Records(2, &[UnitReference(BLANK, &[2]), End(0)]),
         ],
         "refused 13 MissingUnit file 1 slot 7 record 0",
@@ -188,7 +206,13 @@ const FAULTS: [Refusal<'static>; 5] = [
         "a name of zeros",
         &[],
         &[
-            Entry(3, named(ZEROS)),
+            Entry(
+                3,
+                Slot {
+                    name: ZEROS,
+                    ..LIBRARY_AUX
+                },
+            ),
             Records(2, &[UnitReference(ZEROS, &[2]), End(0)]),
         ],
         "refused 13 MissingUnit file 1 slot 7 record 0",
