@@ -1,6 +1,6 @@
 -- Which faults stand, a clause for each number, step by step; their keys, and which is the first of all.
 -- Source: this project's profile.
-use Rattle.std.specs.Prelude.{map, sum_by, nat_lt, ◌==◌, ◌&&◌, ◌||◌, is_some, ◌≡◌, ◌≢◌, ◌⊎◌, ℕ, ◌+◌, ◌-◌, ◌*◌, ◌<◌, ◌≤◌, List, [], ◌∷◌, length, slice_get, slice_index, take, Bool, true, Option, Some, None, Ok, Err, unwrap_or}
+use Rattle.std.specs.Prelude.{map, sum_by, nat_lt, ◌==◌, ◌&&◌, ◌||◌, is_some, ◌≡◌, ◌≢◌, ◌⊎◌, ℕ, ◌+◌, ◌-◌, ◌*◌, ◌<◌, ◌≤◌, List, [], ◌∷◌, length, slice_get, slice_index, take, Bool, true, false, Option, Some, None, Ok, Err, unwrap_or}
 use Rattle.std.specs.List.{filter}
 use Rattle.std.specs.Option.{option_map_or}
 use Rattle.ps_codefile.specs.Dictionary.{Zero, Ordered, Mixed, file_order, entry_at, role_of, is_filled, is_nameless, code_of, information_of}
@@ -94,6 +94,19 @@ turn OfDefinitions = 7
 turn OfPrivates = 8
 turn OfDataSize = 9
 turn OfReferences = 10
+
+-- it is a step of reading: nothing is linked yet, and no memory is taken
+abbrev pub is_of_reading : Step → Bool
+is_of_reading OfHost = true
+is_of_reading OfSlots = true
+is_of_reading OfNoHost = true
+is_of_reading OfLibraries = true
+is_of_reading OfSources = true
+is_of_reading (OfAdded k) = true
+is_of_reading OfDefinitions = false
+is_of_reading OfPrivates = false
+is_of_reading OfDataSize = false
+is_of_reading OfReferences = false
 
 abbrev pub rank : Reason → ℕ
 rank reason.ShortFile = 1
@@ -372,6 +385,10 @@ StandsIn OfReferences order host libs f = InReferences order host libs f
 
 pub record FaultAt (host : List ℕ) (libs : List (List ℕ)) (step : Step) (f : Fault) : Type 0 where
   pub stands : StandsIn step (order_of host) host libs f
+
+-- no fault stands in the steps of reading
+abbrev pub NoneStandsInReading : List ℕ → List (List ℕ) → Type 0
+NoneStandsInReading host libs = (step : Step) (f : Fault) → is_of_reading step ≡ true → FaultAt host libs step f → ⊥
 
 -- it stands, and its key is less than that of each other fault that stands, in whichever step
 pub record IsFirst (host : List ℕ) (libs : List (List ℕ)) (f : Fault) : Type 0 where
