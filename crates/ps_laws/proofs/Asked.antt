@@ -16,7 +16,7 @@ use Rattle.ps_codefile.specs.Dictionary.{slots, is_nameless, entry_at, role_of, 
 use Rattle.ps_codefile.specs.declared.entry.Role.{Role}
 use Rattle.ps_codefile.specs.declared.entry.Role.TheVariants as role
 use Rattle.ps_linkinfo.specs.declared.record.LinkRecord.{LinkRecord as Record}
-use Rattle.ps_resolve.specs.Added.{is_unit_reference, unit_references, references_in, is_had, sought_from, empty_slots, is_missing, unplaced_fault, placed_fault, as_added, added_segment, Rounds, sought, rounds, added, added_fault, added_at, segment_at, segments}
+use Rattle.ps_resolve.specs.Added.{is_unit_reference, unit_references, references_in, is_had, sought_from, empty_slots, is_missing, unplaced_fault, placed_fault, as_added, added_segment, Rounds, sought, added, added_fault, added_at, segment_at, segments}
 use Rattle.ps_resolve.specs.Faults.{is_role, entry_fault, code_fault}
 use Rattle.ps_resolve.specs.Sources.{Segment, is_named, has_entry, chosen_library, unit_source, source_of, file_at, is_unit, is_empty, segment_from, own_segment, own_segments, units_of}
 use Rattle.ps_resolve.specs.Standing.{SomeItem, IsSegment}
