@@ -2,7 +2,7 @@
 use Rattle.std.proofs.Common.{◌≡◌, ℕ, zero, suc, ◌+◌, ◌<◌, ◌≤◌, List, [], ◌∷◌, ◌++◌, length, Option, Some, None, Result, Ok, Err, Bool, true, false, refl, sym, ap, subst, ◌∙◌, inl, inr, arith, append_assoc, append-nil, is_some, is_none}
 use Rattle.std.specs.Prelude.{◌⊎◌, if◌then◌else◌, ◌&&◌, ◌||◌, ◌==◌, not}
 use Rattle.std.specs.Bool.{Decides}
-use Rattle.std.specs.List.{range_with_len, enumerate_from, slice_get, list_any, filter_map, find, cons_option}
+use Rattle.std.specs.List.{enumerate_from, slice_get, list_any, find, cons_option}
 use Rattle.std.specs.Map.{lookup}
 use Rattle.std.specs.Option.{option_map, option_map_or, option_or, option_and_then}
 use Rattle.std.specs.Result.{result_ok}
@@ -13,20 +13,18 @@ use Rattle.std.proofs.lemmas.List.Folds.{list_any-append}
 use Rattle.std.proofs.lemmas.Option.{option_and_then_some, slice_get_within}
 use Rattle.std.proofs.lemmas.Slice.Eq.{bytes_eq-Decides}
 use Rattle.ps_codefile.specs.Dictionary.{slots, is_nameless, entry_at, role_of, code_of}
-use Rattle.ps_codefile.specs.Procedures.{tables_fault}
 use Rattle.ps_codefile.specs.declared.entry.Role.{Role}
 use Rattle.ps_codefile.specs.declared.entry.Role.TheVariants as role
 use Rattle.ps_linkinfo.specs.declared.record.LinkRecord.{LinkRecord as Record}
-use Rattle.ps_resolve.specs.Added.{is_unit_reference, unit_references, references_in, is_had, sought_from, empty_slots, is_missing, unplaced_fault, placed_fault, as_added, added_segment, Rounds, sought, rounds, added, added_fault, added_at, segment_at, segments}
-use Rattle.ps_resolve.specs.Faults.{is_role, entry_fault, information_fault, code_fault}
-use Rattle.ps_resolve.specs.Sources.{Segment, is_named, has_entry, chosen_library, unit_source, source_of, file_at, is_linked, is_host, is_unit, is_empty, segment_from, own_segment, own_segments, units_of}
+use Rattle.ps_resolve.specs.Added.{is_unit_reference, unit_references, references_in, is_had, sought_from, empty_slots, is_missing, unplaced_fault, placed_fault, as_added, added_segment, Rounds, sought, added, added_fault, added_at, segment_at, segments}
+use Rattle.ps_resolve.specs.Faults.{is_role, entry_fault, code_fault}
+use Rattle.ps_resolve.specs.Sources.{Segment, is_named, has_entry, chosen_library, unit_source, source_of, file_at, is_unit, is_empty, segment_from, own_segment, own_segments, units_of}
 use Rattle.ps_resolve.specs.Standing.{SomeItem, IsSegment}
 use Rattle.ps_resolve.specs.declared.added.UnitReference.{UnitReference}
 use Rattle.ps_laws.proofs.Looking.{of_test, any_of_items, none_of_items, find_none}
 use Rattle.ps_laws.proofs.Items.{In, at_left, at_seam, in_left, in_right, some_before, in_flat, in_filter_map, of_filter_map, in_range, of_range, of_filter, filter_ascends, find_passes}
 use Rattle.ps_laws.proofs.Definitions.{longer}
-use Rattle.ps_laws.proofs.Segments.{from_slot, slot_is, found_in_slot}
-use Rattle.ps_laws.proofs.Sources.{ok_is}
+use Rattle.ps_laws.proofs.Segments.{from_slot, found_in_slot}
 use Rattle.ps_laws.proofs.Rounds.{own_units, references_of, sought_rest, rest_of, of_segment, of_fault, of_name, next_slot, first_round}
 use Rattle.ps_words.specs.declared.order.Order.{Order}
 use Rattle.ps_words.specs.declared.fault.Reason.{Reason}

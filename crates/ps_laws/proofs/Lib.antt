@@ -12,3 +12,4 @@ pub mod DataSize
 pub mod Privates
 pub mod References
 pub mod Whole
+pub mod AddedUnits

@@ -1,5 +1,5 @@
 -- The first fault of the units that are added is the least that stands.
-use Rattle.std.proofs.Common.{◌≡◌, ℕ, ◌+◌, ◌<◌, ◌≤◌, List, [], ◌∷◌, ◌++◌, length, take, Option, Some, None, Bool, true, false, refl, sym, ap, subst, ◌∙◌, inl, inr, arith, append_assoc, append-nil, length-append, is_none, unwrap_or}
+use Rattle.std.proofs.Common.{◌≡◌, ℕ, ◌+◌, ◌≤◌, List, [], ◌∷◌, ◌++◌, length, take, Option, Some, None, Bool, true, false, refl, sym, ap, subst, ◌∙◌, inl, inr, arith, append_assoc, append-nil, length-append, is_none, unwrap_or}
 use Rattle.std.specs.Prelude.{◌⊎◌, if◌then◌else◌}
 use Rattle.std.specs.Bool.{Decides}
 use Rattle.std.specs.List.{slice_get}
@@ -15,12 +15,12 @@ use Rattle.ps_resolve.specs.Added.{unit_references, references_in, is_had, sough
 use Rattle.ps_resolve.specs.Faults.{entry_fault, code_fault}
 use Rattle.ps_resolve.specs.First.{Before, Least, nothing, this}
 use Rattle.ps_resolve.specs.Sources.{Segment, own_segments, units_of, unit_source, chosen_library, file_at}
-use Rattle.ps_resolve.specs.Standing.{Because, Step, OfSources, OfAdded, rank, part, record_read, key, Precedes, EntriesHave, EntryFault, CodeFault, IsMissing, PlacedFault, IsSought, InRound}
+use Rattle.ps_resolve.specs.Standing.{Because, Step, OfSources, OfAdded, rank, part, record_read, key, Precedes, EntriesHave, CodeFault, IsMissing, PlacedFault, InRound}
 use Rattle.ps_resolve.specs.declared.added.UnitReference.{UnitReference}
 use Rattle.ps_laws.proofs.Least.{least_same, least_order, least_or, least_map, least_then}
 use Rattle.ps_laws.proofs.Looking.{of_test}
 use Rattle.ps_laws.proofs.Definitions.{take_front, longer}
-use Rattle.ps_laws.proofs.Sources.{Early, Late, early_late, late, OneStop, none_has, entry_least, entry_early, code_late, code_least}
+use Rattle.ps_laws.proofs.Sources.{Late, early_late, late, OneStop, none_has, entry_least, entry_early, code_late, code_least}
 use Rattle.ps_laws.proofs.Parts.{record_somes, RoundHas}
 use Rattle.ps_words.specs.FaultPlaces.{in_slot, in_record}
 use Rattle.ps_words.specs.declared.order.Order.{Order}
@@ -84,13 +84,13 @@ within_round k x y e a b (inl h) = absurd (omega (arith, h))
 within_round k x y e a b (inr t) = elim t.1 [
   | inl h ↦ absurd (omega (arith, e, h))
   | inr u ↦ inr (
+    refl,
+    inr (
       refl,
-      inr (
-        refl,
-        subst (λ (n : ℕ). Before (n ∷ part x.reference ∷ rank x.reason ∷ []) (record_read y.reason y.rec ∷ part y.reference ∷ rank y.reason ∷ [])) (sym a)
-        (subst (λ (n : ℕ). Before (part x.rec ∷ part x.reference ∷ rank x.reason ∷ []) (n ∷ part y.reference ∷ rank y.reason ∷ [])) (sym b) u.1),
-      ),
-    )
+      subst (λ (n : ℕ). Before (n ∷ part x.reference ∷ rank x.reason ∷ []) (record_read y.reason y.rec ∷ part y.reference ∷ rank y.reason ∷ [])) (sym a)
+          (subst (λ (n : ℕ). Before (part x.rec ∷ part x.reference ∷ rank x.reason ∷ []) (n ∷ part y.reference ∷ rank y.reason ∷ [])) (sym b) u.1),
+    ),
+  )
 ]
 
 placed_least : OneStop → (order : Order) (host : List ℕ) (libs : List (List ℕ)) (k : ℕ) (name : List ℕ) (slot : ℕ)
@@ -313,7 +313,7 @@ rounds_have law order host libs (slot ∷ left) front used k row is at slots_are
     fault later g e (Some f) p is = (
       Some (OfAdded k, f),
       last_round order host libs front k (Some f) (is ∙ append-nil front) at
-      (subst (λ (o : Option Fault). Least (Precedes (OfAdded k)) (InRound order host libs k) o) p (the_round law order host libs front [] k g (Some slot) is at (named g e) slot_at)),
+          (subst (λ (o : Option Fault). Least (Precedes (OfAdded k)) (InRound order host libs k) o) p (the_round law order host libs front [] k g (Some slot) is at (named g e) slot_at)),
       refl,
     )
     fault later g e None p is =

@@ -143,10 +143,10 @@ reading law host libs =
     let last = rounds_turn law order host libs in (
       _,
       add order host libs OfHost 2 7 (λ e. omega (arith, e)) (omega arith) (omega arith) (step_1 host) (λ n.
-      add order host libs OfSlots 3 7 (λ e. omega (arith, e)) (omega arith) (omega arith) (step_2 order host) (λ n.
-      add order host libs OfNoHost 4 7 (λ e. omega (arith, e)) (omega arith) (omega arith) (step_3 order host) (λ n.
-      add order host libs OfLibraries 5 7 (λ e. omega (arith, e)) (omega arith) (omega arith) (step_4 order libs) (λ n.
-      add order host libs OfSources 6 7 (λ e. omega (arith, e)) (omega arith) (omega arith) (step_5 law order host libs) (λ n. last.1))))),
+          add order host libs OfSlots 3 7 (λ e. omega (arith, e)) (omega arith) (omega arith) (step_2 order host) (λ n.
+          add order host libs OfNoHost 4 7 (λ e. omega (arith, e)) (omega arith) (omega arith) (step_3 order host) (λ n.
+          add order host libs OfLibraries 5 7 (λ e. omega (arith, e)) (omega arith) (omega arith) (step_4 order libs) (λ n.
+          add order host libs OfSources 6 7 (λ e. omega (arith, e)) (omega arith) (omega arith) (step_5 law order host libs) (λ n. last.1))))),
       untag OfHost (host_fault host) _ _ (untag OfSlots (slots_fault order host) _ _ (untag OfNoHost (no_host_fault order host) _ _ (untag OfLibraries (libraries_fault order libs) _ _ (untag OfSources (sources_fault order host libs) last.0 (added_fault order host libs) last.2)))),
     )
 
@@ -161,9 +161,9 @@ linking host libs fine =
     let segs = segments order host libs in (
       _,
       add order host libs OfDefinitions 8 11 (λ e. omega (arith, e)) (omega arith) (omega arith) (step_7 order host libs) (λ n.
-      add order host libs OfPrivates 9 11 (λ e. omega (arith, e)) (omega arith) (omega arith) (step_8 order host libs) (λ n.
-      add order host libs OfDataSize 10 11 (λ e. omega (arith, e)) (omega arith) (omega arith) (step_9 order host libs) (λ n.
-      add order host libs OfReferences 11 11 (λ e. omega (arith, e)) (omega arith) (omega arith) (step_10 order host libs fine) (λ n. nothing (λ p t. let a = t.0 in let b = t.1 in omega (arith, a, b)))))),
+          add order host libs OfPrivates 9 11 (λ e. omega (arith, e)) (omega arith) (omega arith) (step_8 order host libs) (λ n.
+          add order host libs OfDataSize 10 11 (λ e. omega (arith, e)) (omega arith) (omega arith) (step_9 order host libs) (λ n.
+          add order host libs OfReferences 11 11 (λ e. omega (arith, e)) (omega arith) (omega arith) (step_10 order host libs fine) (λ n. nothing (λ p t. let a = t.0 in let b = t.1 in omega (arith, a, b)))))),
       untag OfDefinitions (definitions_fault segs) _ _ (untag OfPrivates (privates_fault segs) _ _ (untag OfDataSize (data_fault order segs) _ _ (untag OfReferences (references_fault order segs) None None refl)))
           ∙ last (definitions_fault segs) (privates_fault segs) (data_fault order segs) (references_fault order segs),
     )

@@ -1,6 +1,8 @@
-//! Laws of the definitions of a link: the first fault that the layers compute is the fault of least key among all that stand.
+//! Laws of the definitions of a link: the first fault that the layers compute is the fault of least key among all that stand, and the units that are added are those that are sought.
 #![tactic(auto)]
 
 mod first_fault;
+mod sought;
 
 pub use first_fault::first_of_all;
+pub use sought::added_units;

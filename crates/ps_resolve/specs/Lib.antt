@@ -18,5 +18,6 @@ pub mod Plans
 pub mod Views
 pub mod First
 pub mod Standing
+pub mod Sought
 pub mod Linkable
 pub mod Names

@@ -1,0 +1,644 @@
+-- The units that are added are those that are sought, as they are said plainly.
+use Rattle.std.proofs.Common.{◌≡◌, ℕ, zero, suc, ◌+◌, ◌<◌, ◌≤◌, List, [], ◌∷◌, ◌++◌, length, map, Option, Some, None, Result, Ok, Err, Bool, true, false, refl, sym, ap, subst, ◌∙◌, inl, inr, arith, is_some, is_none, unwrap_or, length-append}
+use Rattle.std.specs.Prelude.{◌⊎◌, ◌≢◌, if◌then◌else◌, ◌||◌}
+use Rattle.std.specs.List.{slice_get, list_any, find}
+use Rattle.std.specs.Map.{lookup}
+use Rattle.std.specs.Option.{option_map, option_or, option_and_then}
+use Rattle.std.specs.Result.{result_ok}
+use Rattle.std.specs.Str.{bytes_eq}
+use Rattle.std.proofs.lemmas.Bool.{cases_lt, false≢true}
+use Rattle.std.proofs.lemmas.List.{map-append}
+use Rattle.std.proofs.lemmas.Option.{option_and_then_some, slice_get_within, slice_get-map}
+use Rattle.std.proofs.lemmas.Slice.Eq.{bytes_eq-Decides}
+use Rattle.ps_codefile.specs.Dictionary.{slots, entry_at, role_of, code_of, information_of}
+use Rattle.ps_codefile.specs.declared.entry.Role.{Role}
+use Rattle.ps_codefile.specs.declared.entry.Role.TheVariants as role
+use Rattle.ps_linkinfo.specs.Records.{reading}
+use Rattle.ps_linkinfo.specs.declared.record.LinkRecord.{LinkRecord as Record}
+use Rattle.ps_resolve.specs.Added.{is_unit_reference, unit_references, references_in, is_had, sought_from, sought, added, added_fault, as_added, added_segment}
+use Rattle.ps_resolve.specs.Faults.{sources_fault, source_fault, unit_fault, wanted_fault, code_fault}
+use Rattle.ps_resolve.specs.First.{Before, Least, this}
+use Rattle.ps_resolve.specs.Searches.{first_of}
+use Rattle.ps_resolve.specs.Sources.{Segment, is_named, chosen_library, unit_source, source_of, file_at, is_unit, segment_from, own_segment, own_segments}
+use Rattle.ps_resolve.specs.Sought.{Asks, HasSlot, IsGiver, AreGiven, IsOfFirstLibrary, AddedUnits}
+use Rattle.ps_resolve.specs.Standing.{SomeItem, HasRole, HasEntry, IsNamed}
+use Rattle.ps_resolve.specs.declared.added.UnitReference.{UnitReference}
+use Rattle.ps_laws.proofs.Looking.{any_of_items}
+use Rattle.ps_laws.proofs.Items.{In, at_left, at_seam, in_range, of_range, find_passes}
+use Rattle.ps_laws.proofs.Segments.{from_slot}
+use Rattle.ps_laws.proofs.Sources.{named, chosen, ok_is}
+use Rattle.ps_laws.proofs.Rounds.{own_units, references_of}
+use Rattle.ps_laws.proofs.Asked.{source_made, unit_found, added_is, sought_grows, all_had, had_more, had_last, or_cases, row_of, name_placed, segment_named, in_empty, own_in, own_at, units_named}
+use Rattle.ps_words.specs.declared.order.Order.{Order}
+use Rattle.ps_words.specs.declared.fault.Reason.{Reason}
+
+-- 1. the references of a row of segments, each with the number of its segment
+abbrev Numbered : Type 0
+Numbered = ℕ × UnitReference
+
+abbrev tag : ℕ → UnitReference → Numbered
+tag i g = (i, g)
+
+abbrev numbered : ℕ → List Segment → List Numbered
+numbered i [] = []
+numbered i (s ∷ ss) = map (tag i) (references_of s) ++ numbered (i + 1) ss
+
+numbers_off : (i : ℕ) (segs : List Segment) → map (λ (n : Numbered). n.1) (numbered i segs) ≡ references_in segs
+numbers_off i [] = refl
+numbers_off i (s ∷ ss) =
+    map-append (λ (n : Numbered). n.1) (map (tag i) (references_of s)) (numbered (i + 1) ss)
+    ∙ (ap (λ (gs : List UnitReference). gs ++ map (λ (n : Numbered). n.1) (numbered (i + 1) ss)) (go (references_of s)) ∙ ap (λ (gs : List UnitReference). references_of s ++ gs) (numbers_off (i + 1) ss))
+  where
+    go : (gs : List UnitReference) → map (λ (n : Numbered). n.1) (map (tag i) gs) ≡ gs
+    go [] = refl
+    go (g ∷ gs) = ap (λ (xs : List UnitReference). g ∷ xs) (go gs)
+
+mapped : {A C : Type 0} (f : A → C) (xs : List A) (k : ℕ) (y : C) → slice_get (map f xs) k ≡ Some y → (x : A) × (slice_get xs k ≡ Some x) × (f x ≡ y)
+mapped f [] k y e = absurd (cc)
+mapped f (x ∷ xs) zero y e = (x, refl, cc)
+mapped f (x ∷ xs) (suc k) y e = mapped f xs k y e
+
+split_at : {A : Type 0} (xs ys : List A) (p : ℕ) (a : A) → slice_get (xs ++ ys) p ≡ Some a → (slice_get xs p ≡ Some a) ⊎ ((q : ℕ) × (p ≡ length xs + q) × (slice_get ys q ≡ Some a))
+split_at [] ys p a e = inr (p, omega arith, e)
+split_at (x ∷ xs) ys zero a e = inl e
+split_at {A} (x ∷ xs) ys (suc p) a e = go (split_at xs ys p a e)
+  where
+    go : (slice_get xs p ≡ Some a) ⊎ ((q : ℕ) × (p ≡ length xs + q) × (slice_get ys q ≡ Some a)) → (slice_get xs p ≡ Some a) ⊎ ((q : ℕ) × (suc p ≡ length (x ∷ xs) + q) × (slice_get ys q ≡ Some a))
+    go (inl h) = inl h
+    go (inr t) = inr (t.0, (let h = t.1 in omega (arith, h)), t.2)
+
+at_right : {A : Type 0} (xs ys : List A) (q : ℕ) (a : A) → slice_get ys q ≡ Some a → slice_get (xs ++ ys) (length xs + q) ≡ Some a
+at_right {A} [] ys q a e = let same : q ≡ length {A = A} [] + q = omega arith in subst (λ (n : ℕ). slice_get ys n ≡ Some a) same e
+at_right {A} (x ∷ xs) ys q a e = let same : suc (length xs + q) ≡ length (x ∷ xs) + q = omega arith in subst (λ (n : ℕ). slice_get (x ∷ xs ++ ys) n ≡ Some a) same (next (length xs + q) (at_right xs ys q a e))
+  where
+    next : (n : ℕ) → slice_get (xs ++ ys) n ≡ Some a → slice_get (x ∷ xs ++ ys) (suc n) ≡ Some a
+    next n h = h
+
+-- those of one segment
+abbrev IsOf : ℕ → ℕ → ℕ → List Record → UnitReference → ℕ → Type 0
+IsOf file slot n rs g j = (r : Record) × (slice_get rs j ≡ Some r) × (is_unit_reference r.body ≡ true) × (r.name ≡ g.name) × (g.rec ≡ n + j) × (g.file ≡ file) × (g.slot ≡ slot)
+
+reference_is : (file slot n : ℕ) (rs : List Record) (p : ℕ) (g : UnitReference) → slice_get (unit_references file slot n rs) p ≡ Some g → (j : ℕ) × IsOf file slot n rs g j
+reference_is file slot n [] p g e = absurd (cc)
+reference_is file slot n (q ∷ rs) p g e = go (is_unit_reference q.body) refl p e (λ k h. reference_is file slot (n + 1) rs k g h)
+  where
+    Q : UnitReference
+    Q = record { name = q.name; file = file; slot = slot; rec = n }
+
+    rest : List UnitReference
+    rest = unit_references file slot (n + 1) rs
+
+    step : ((j : ℕ) × IsOf file slot (n + 1) rs g j) → (j : ℕ) × IsOf file slot n (q ∷ rs) g j
+    step t = (suc t.0, (t.1.0, t.1.1, t.1.2, t.1.3, (let h = t.1.4 in omega (arith, h)), t.1.5, t.1.6))
+
+    go : (b : Bool) → is_unit_reference q.body ≡ b → (p : ℕ) → slice_get (if b then record { name = q.name; file = file; slot = slot; rec = n } ∷ unit_references file slot (n + 1) rs else unit_references file slot (n + 1) rs) p ≡ Some g
+        → ((k : ℕ) → slice_get (unit_references file slot (n + 1) rs) k ≡ Some g → (j : ℕ) × IsOf file slot (n + 1) rs g j) → (j : ℕ) × IsOf file slot n (q ∷ rs) g j
+    go true is zero e later =
+        let same : Q ≡ g = cc in
+        (zero, (q, refl, is, ap (λ (x : UnitReference). x.name) same, (let h = ap (λ (x : UnitReference). x.rec) same in omega (arith, h)), sym (ap (λ (x : UnitReference). x.file) same), sym (ap (λ (x : UnitReference). x.slot) same)))
+    go true is (suc k) e later = step (later k e)
+    go false is k e later = step (later k e)
+
+reference_of : (file slot n : ℕ) (rs : List Record) (j : ℕ) (r : Record) → slice_get rs j ≡ Some r → is_unit_reference r.body ≡ true → (p : ℕ) × (g : UnitReference) × (slice_get (unit_references file slot n rs) p ≡ Some g) × (g.name ≡ r.name) × (g.rec ≡ n + j)
+reference_of file slot n [] j r e u = absurd (cc)
+reference_of file slot n (q ∷ rs) j r e u = go (is_unit_reference q.body) refl j e (λ k h. reference_of file slot (n + 1) rs k r h u)
+  where
+    Q : UnitReference
+    Q = record { name = q.name; file = file; slot = slot; rec = n }
+
+    Found : ℕ → ℕ → List UnitReference → Type 0
+    Found m j gs = (p : ℕ) × (g : UnitReference) × (slice_get gs p ≡ Some g) × (g.name ≡ r.name) × (g.rec ≡ m + j)
+
+    go : (b : Bool) → is_unit_reference q.body ≡ b → (j : ℕ) → slice_get (q ∷ rs) j ≡ Some r → ((k : ℕ) → slice_get rs k ≡ Some r → Found (n + 1) k (unit_references file slot (n + 1) rs))
+        → Found n j (if b then record { name = q.name; file = file; slot = slot; rec = n } ∷ unit_references file slot (n + 1) rs else unit_references file slot (n + 1) rs)
+    go true is zero e later = let same : q ≡ r = cc in (zero, Q, refl, ap (λ (x : Record). x.name) same, omega arith)
+    go true is (suc k) e later = let t = later k e in (suc t.0, t.1, t.2, t.3, (let h = t.4 in omega (arith, h)))
+    go false is zero e later = let same : q ≡ r = cc in absurd (false≢true (sym is ∙ (ap (λ (x : Record). is_unit_reference x.body) same ∙ u)))
+    go false is (suc k) e later = let t = later k e in (t.0, t.1, t.2, t.3, (let h = t.4 in omega (arith, h)))
+
+references_ascend : (file slot n : ℕ) (rs : List Record) (p q : ℕ) (g h : UnitReference) → p < q → slice_get (unit_references file slot n rs) p ≡ Some g → slice_get (unit_references file slot n rs) q ≡ Some h → g.rec < h.rec
+references_ascend file slot n [] p q g h l e u = absurd (cc)
+references_ascend file slot n (x ∷ rs) p q g h l e u = go (is_unit_reference x.body) p q l e u (λ i j m a b. references_ascend file slot (n + 1) rs i j g h m a b)
+  where
+    rest : List UnitReference
+    rest = unit_references file slot (n + 1) rs
+
+    X : UnitReference
+    X = record { name = x.name; file = file; slot = slot; rec = n }
+
+    go : (b : Bool) (p q : ℕ) → p < q → slice_get (if b then X ∷ rest else rest) p ≡ Some g → slice_get (if b then X ∷ rest else rest) q ≡ Some h
+        → ((i j : ℕ) → i < j → slice_get rest i ≡ Some g → slice_get rest j ≡ Some h → g.rec < h.rec) → g.rec < h.rec
+    go false p q l e u later = later p q l e u
+    go true p zero l e u later = absurd (omega (arith, l))
+    go true zero (suc q) l e u later =
+        let same : X ≡ g = cc in
+        let a = ap (λ (y : UnitReference). y.rec) same in
+        let t = (reference_is file slot (n + 1) rs q h u).1.4 in
+        omega (arith, a, t)
+    go true (suc p) (suc q) l e u later = later p q (omega (arith, l)) e u
+
+-- those of all
+numbered_is : (i : ℕ) (segs : List Segment) (p m : ℕ) (g : UnitReference) → slice_get (numbered i segs) p ≡ Some (m, g) → (j : ℕ) × (m ≡ i + j) × (s : Segment) × (slice_get segs j ≡ Some s) × (d : ℕ) × IsOf s.file s.slot 0 s.records g d
+numbered_is i [] p m g e = absurd (cc)
+numbered_is i (s ∷ ss) p m g e = elim (split_at (map (tag i) (references_of s)) (numbered (i + 1) ss) p (m, g) e) [
+  | inl h ↦
+      let t = mapped (tag i) (references_of s) p (m, g) h in
+      let a : i ≡ m = ap (λ (n : Numbered). n.0) t.2 in
+      let b : t.0 ≡ g = ap (λ (n : Numbered). n.1) t.2 in
+      let r = reference_is s.file s.slot 0 s.records p g (t.1 ∙ ap (λ (x : UnitReference). Some x) b) in
+      (zero, omega (arith, a), s, refl, r.0, r.1)
+  | inr t ↦
+      let r = numbered_is (i + 1) ss t.0 m g t.2 in
+      (suc r.0, (let h = r.1 in omega (arith, h)), r.2, r.3, r.4, r.5)
+]
+
+map_at : {A C : Type 0} (f : A → C) (xs : List A) (k : ℕ) (x : A) → slice_get xs k ≡ Some x → slice_get (map f xs) k ≡ Some (f x)
+map_at f [] k x e = absurd (cc)
+map_at {A} f (y ∷ xs) zero x e = let same : y ≡ x = cc in ap (λ (z : A). Some (f z)) same
+map_at f (y ∷ xs) (suc k) x e = map_at f xs k x e
+
+renumbered : (xs : List Numbered) (p m n : ℕ) (g : UnitReference) → m ≡ n → slice_get xs p ≡ Some (m, g) → slice_get xs p ≡ Some (n, g)
+renumbered xs p m n g h e = subst (λ (k : ℕ). slice_get xs p ≡ Some (tag k g)) h e
+
+numbered_of : (i : ℕ) (segs : List Segment) (j : ℕ) (s : Segment) (rec : ℕ) (r : Record) → slice_get segs j ≡ Some s → slice_get s.records rec ≡ Some r → is_unit_reference r.body ≡ true
+    → (p : ℕ) × (g : UnitReference) × (slice_get (numbered i segs) p ≡ Some (i + j, g)) × (g.name ≡ r.name) × (g.rec ≡ rec)
+numbered_of i [] j s rec r e a u = absurd (cc)
+numbered_of i (q ∷ ss) zero s rec r e a u =
+    let same : q ≡ s = cc in
+    let t = reference_of q.file q.slot 0 q.records rec r (subst (λ (x : Segment). slice_get x.records rec ≡ Some r) (sym same) a) u in (
+      t.0,
+      t.1,
+      at_left (map (tag i) (references_of q)) (numbered (i + 1) ss) t.0 (i + 0, t.1)
+          (renumbered (map (tag i) (references_of q)) t.0 i (i + 0) t.1 (omega arith) (map_at (tag i) (references_of q) t.0 t.1 t.2)),
+      t.3,
+      (let h = t.4 in omega (arith, h)),
+    )
+numbered_of i (q ∷ ss) (suc j) s rec r e a u =
+    let t = numbered_of (i + 1) ss j s rec r e a u in (
+      length (map (tag i) (references_of q)) + t.0,
+      t.1,
+      at_right (map (tag i) (references_of q)) (numbered (i + 1) ss) t.0 (i + suc j, t.1) (renumbered (numbered (i + 1) ss) t.0 (i + 1 + j) (i + suc j) t.1 (omega arith) t.2),
+      t.3,
+      t.4,
+    )
+
+numbered_ascend : (i : ℕ) (segs : List Segment) (p q m n : ℕ) (g h : UnitReference) → p < q → slice_get (numbered i segs) p ≡ Some (m, g) → slice_get (numbered i segs) q ≡ Some (n, h) → Before (m ∷ g.rec ∷ []) (n ∷ h.rec ∷ [])
+numbered_ascend i [] p q m n g h l e u = absurd (cc)
+numbered_ascend i (s ∷ ss) p q m n g h l e u = go (λ a b x y z. numbered_ascend (i + 1) ss a b m n g h x y z) (split_at front (numbered (i + 1) ss) p (m, g) e) (split_at front (numbered (i + 1) ss) q (n, h) u)
+  where
+    front : List Numbered
+    front = map (tag i) (references_of s)
+
+    Behind : ℕ → ℕ → UnitReference → Type 0
+    Behind p m g = (d : ℕ) × (p ≡ length front + d) × (slice_get (numbered (i + 1) ss) d ≡ Some (m, g))
+
+    here : (p m : ℕ) (g : UnitReference) → slice_get front p ≡ Some (m, g) → (i ≡ m) × (slice_get (references_of s) p ≡ Some g)
+    here p m g e =
+        let t = mapped (tag i) (references_of s) p (m, g) e in
+        (ap (λ (x : Numbered). x.0) t.2, t.1 ∙ ap (λ (x : UnitReference). Some x) (ap (λ (y : Numbered). y.1) t.2))
+
+    go : ((a b : ℕ) → a < b → slice_get (numbered (i + 1) ss) a ≡ Some (m, g) → slice_get (numbered (i + 1) ss) b ≡ Some (n, h) → Before (m ∷ g.rec ∷ []) (n ∷ h.rec ∷ []))
+        → (slice_get front p ≡ Some (m, g)) ⊎ Behind p m g → (slice_get front q ≡ Some (n, h)) ⊎ Behind q n h → Before (m ∷ g.rec ∷ []) (n ∷ h.rec ∷ [])
+    go later (inl a) (inl b) =
+        let x = here p m g a in
+        let y = here q n h b in
+        inr (sym x.0 ∙ y.0, inl (references_ascend s.file s.slot 0 s.records p q g h l x.1 y.1))
+    go later (inl a) (inr t) =
+        let x = (here p m g a).0 in
+        let y = (numbered_is (i + 1) ss t.0 n h t.2).1 in
+        inl (omega (arith, x, y))
+    go later (inr t) (inl b) = let w = slice_get_within front q (n, h) b in let a = t.1 in absurd (omega (arith, a, w, l))
+    go later (inr t) (inr v) = later t.0 v.0 (let a = t.1 in let b = v.1 in omega (arith, a, b, l)) t.2 v.2
+
+-- 2. the row: each name at the first of its references that are neither had nor behind another
+abbrev IsEarliest : List (List ℕ × ℕ) → List UnitReference → List UnitReference → ℕ → UnitReference → Type 0
+IsEarliest units row gs p g =
+    (slice_get gs p ≡ Some g) × (is_had units row g.name ≡ false) × ((q : ℕ) (h : UnitReference) → q < p → slice_get gs q ≡ Some h → h.name ≢ g.name)
+
+had_by : (units : List (List ℕ × ℕ)) (row : List UnitReference) (h : UnitReference) (name : List ℕ) → is_had units (row ++ h ∷ []) name ≡ false → (is_had units row name ≡ false) × (h.name ≢ name)
+had_by units row h name e = (fewer (is_had units row name) refl, other)
+  where
+    fewer : (b : Bool) → is_had units row name ≡ b → is_had units row name ≡ false
+    fewer true is = absurd (false≢true (sym e ∙ had_more units row (h ∷ []) name is))
+    fewer false is = is
+
+    other : h.name ≢ name
+    other same = false≢true (sym e ∙ ap (λ (n : List ℕ). is_had units (row ++ h ∷ []) n) (sym same) ∙ had_last units row h)
+
+-- behind one more reference
+past_had : (units : List (List ℕ × ℕ)) (row gs : List UnitReference) (x : UnitReference) (p : ℕ) (g : UnitReference) → is_had units row x.name ≡ true → IsEarliest units row gs p g → IsEarliest units row (x ∷ gs) (suc p) g
+past_had units row gs x p g had t = (t.0, t.1, first)
+  where
+    first : (q : ℕ) (h : UnitReference) → q < suc p → slice_get (x ∷ gs) q ≡ Some h → h.name ≢ g.name
+    first zero h l e same = let it : x ≡ h = cc in false≢true (sym t.1 ∙ ap (λ (n : List ℕ). is_had units row n) (sym same ∙ sym (ap (λ (y : UnitReference). y.name) it)) ∙ had)
+    first (suc q) h l e same = t.2 q h (omega (arith, l)) e same
+
+past_new : (units : List (List ℕ × ℕ)) (row gs : List UnitReference) (x : UnitReference) (p : ℕ) (g : UnitReference) → IsEarliest units (row ++ x ∷ []) gs p g → IsEarliest units row (x ∷ gs) (suc p) g
+past_new units row gs x p g t = (t.0, by.0, first)
+  where
+    by : (is_had units row g.name ≡ false) × (x.name ≢ g.name)
+    by = had_by units row x g.name t.1
+
+    first : (q : ℕ) (h : UnitReference) → q < suc p → slice_get (x ∷ gs) q ≡ Some h → h.name ≢ g.name
+    first zero h l e same = let it : x ≡ h = cc in by.1 (ap (λ (y : UnitReference). y.name) it ∙ same)
+    first (suc q) h l e same = t.2 q h (omega (arith, l)) e same
+
+new_here : (units : List (List ℕ × ℕ)) (row gs : List UnitReference) (x : UnitReference) → is_had units row x.name ≡ false → IsEarliest units row (x ∷ gs) zero x
+new_here units row gs x none = (refl, none, λ q h l e same. omega (arith, l))
+
+-- the name that a new one of the row is
+new_name : (units : List (List ℕ × ℕ)) (row gs : List UnitReference) (x : UnitReference) (k : ℕ) (g : UnitReference) → k ≡ length row → slice_get (sought_from units (row ++ x ∷ []) gs) k ≡ Some g → x ≡ g
+new_name units row gs x k g at e =
+    let grown = sought_grows units (row ++ x ∷ []) gs in
+    let there : slice_get (sought_from units (row ++ x ∷ []) gs) k ≡ Some x = ap (λ (r : List UnitReference). slice_get r k) grown.1 ∙ at_left (row ++ x ∷ []) grown.0 k x (at_seam row x [] k at) in
+    cc
+
+sought_at : (units : List (List ℕ × ℕ)) (row gs : List UnitReference) (k : ℕ) (g : UnitReference) → length row ≤ k → slice_get (sought_from units row gs) k ≡ Some g → (p : ℕ) × IsEarliest units row gs p g
+sought_at units row [] k g low e = let h = slice_get_within row k g e in absurd (omega (arith, h, low))
+sought_at units row (x ∷ gs) k g low e = go (is_had units row x.name) refl e (λ r h u. sought_at units r gs k g h u)
+  where
+    go : (b : Bool) → is_had units row x.name ≡ b → slice_get (sought_from units (if b then row else row ++ x ∷ []) gs) k ≡ Some g
+        → ((r : List UnitReference) → length r ≤ k → slice_get (sought_from units r gs) k ≡ Some g → (p : ℕ) × IsEarliest units r gs p g) → (p : ℕ) × IsEarliest units row (x ∷ gs) p g
+    go true had e later = let t = later row low e in (suc t.0, past_had units row gs x t.0 g had t.1)
+    go false none e later = elim (cases_lt (length row) k) [
+      | inl h ↦
+          let l = length-append row (x ∷ []) in
+          let t = later (row ++ x ∷ []) (omega (arith, h, l)) e in
+          (suc t.0, past_new units row gs x t.0 g t.1)
+      | inr h ↦
+          let same = new_name units row gs x k g (omega (arith, h, low)) e in
+          (zero, subst (λ (y : UnitReference). IsEarliest units row (x ∷ gs) zero y) same (new_here units row gs x none))
+    ]
+
+-- two of them, in order
+abbrev InOrder : List (List ℕ × ℕ) → List UnitReference → List UnitReference → UnitReference → UnitReference → Type 0
+InOrder units row gs g h = (p : ℕ) × (q : ℕ) × (p < q) × IsEarliest units row gs p g × IsEarliest units row gs q h
+
+sought_pair : (units : List (List ℕ × ℕ)) (row gs : List UnitReference) (j k : ℕ) (g h : UnitReference) → length row ≤ j → j < k → slice_get (sought_from units row gs) j ≡ Some g → slice_get (sought_from units row gs) k ≡ Some h → InOrder units row gs g h
+sought_pair units row [] j k g h low l e u = let w = slice_get_within row j g e in absurd (omega (arith, w, low))
+sought_pair units row (x ∷ gs) j k g h low l e u = go (is_had units row x.name) refl e u (λ r m a b. sought_pair units r gs j k g h m l a b)
+  where
+    go : (b : Bool) → is_had units row x.name ≡ b → slice_get (sought_from units (if b then row else row ++ x ∷ []) gs) j ≡ Some g → slice_get (sought_from units (if b then row else row ++ x ∷ []) gs) k ≡ Some h
+        → ((r : List UnitReference) → length r ≤ j → slice_get (sought_from units r gs) j ≡ Some g → slice_get (sought_from units r gs) k ≡ Some h → InOrder units r gs g h) → InOrder units row (x ∷ gs) g h
+    go true had e u later = let t = later row low e u in (suc t.0, suc t.1, (let a = t.2 in omega (arith, a)), past_had units row gs x t.0 g had t.3, past_had units row gs x t.1 h had t.4)
+    go false none e u later = elim (cases_lt (length row) j) [
+      | inl m ↦
+          let n = length-append row (x ∷ []) in
+          let t = later (row ++ x ∷ []) (omega (arith, m, n)) e u in
+          (suc t.0, suc t.1, (let a = t.2 in omega (arith, a)), past_new units row gs x t.0 g t.3, past_new units row gs x t.1 h t.4)
+      | inr m ↦
+          let same = new_name units row gs x j g (omega (arith, m, low)) e in
+          let n = length-append row (x ∷ []) in
+          let t = sought_at units (row ++ x ∷ []) gs k h (omega (arith, m, l, n)) u in
+          (zero, suc t.0, omega arith, subst (λ (y : UnitReference). IsEarliest units row (x ∷ gs) zero y) same (new_here units row gs x none), past_new units row gs x t.0 h t.1)
+    ]
+
+-- 3. givers
+not_both : (a b : List ℕ) → Before a b → Before b a → ⊥
+not_both [] b h k = h
+not_both (x ∷ a) [] h k = h
+not_both (x ∷ a) (y ∷ b) (inl h) (inl k) = omega (arith, h, k)
+not_both (x ∷ a) (y ∷ b) (inl h) (inr k) = let e = k.0 in omega (arith, h, e)
+not_both (x ∷ a) (y ∷ b) (inr h) (inl k) = let e = h.0 in omega (arith, e, k)
+not_both (x ∷ a) (y ∷ b) (inr h) (inr k) = not_both a b h.1 k.1
+
+-- where a reference stands
+place_of : (segs : List Segment) (p : ℕ) (g : UnitReference) → slice_get (references_in segs) p ≡ Some g → (m : ℕ) × (slice_get (numbered 0 segs) p ≡ Some (m, g))
+place_of segs p g e =
+    let t = mapped (λ (n : Numbered). n.1) (numbered 0 segs) p g (ap (λ (gs : List UnitReference). slice_get gs p) (numbers_off 0 segs) ∙ e) in
+    (t.0.0, t.1 ∙ ap (λ (h : UnitReference). Some (tag t.0.0 h)) t.2)
+
+asks_at : (segs : List Segment) (j rec : ℕ) (name : List ℕ) → Asks segs j rec name → (q : ℕ) × (h : UnitReference) × (slice_get (numbered 0 segs) q ≡ Some (j, h)) × (slice_get (references_in segs) q ≡ Some h) × (h.name ≡ name) × (h.rec ≡ rec)
+asks_at segs j rec name t =
+    let r = numbered_of 0 segs j t.0 rec t.2 t.1 t.3 t.4 in (
+      r.0,
+      r.1,
+      r.2 ∙ ap (λ (n : ℕ). Some (tag n r.1)) (omega arith),
+      sym (ap (λ (gs : List UnitReference). slice_get gs r.0) (numbers_off 0 segs)) ∙ map_at (λ (n : Numbered). n.1) (numbered 0 segs) r.0 (0 + j, r.1) r.2,
+      r.3 ∙ t.5,
+      r.4,
+    )
+
+giver : (units : List (List ℕ × ℕ)) (segs : List Segment) (p m : ℕ) (g : UnitReference) → IsEarliest units [] (references_in segs) p g → slice_get (numbered 0 segs) p ≡ Some (m, g) → IsGiver segs m g
+giver units segs p m g t at = ((s, there, of.5, of.6), (s, there, of.0, subst (λ (n : ℕ). slice_get s.records n ≡ Some of.0) rec of.1, of.2, of.3), first)
+  where
+    r : (j : ℕ) × (m ≡ 0 + j) × (s : Segment) × (slice_get segs j ≡ Some s) × (d : ℕ) × IsOf s.file s.slot 0 s.records g d
+    r = numbered_is 0 segs p m g at
+
+    s : Segment
+    s = r.2
+
+    there : slice_get segs m ≡ Some s
+    there = subst (λ (n : ℕ). slice_get segs n ≡ Some s) (let a = r.1 in omega (arith, a)) r.3
+
+    of : IsOf s.file s.slot 0 s.records g r.4
+    of = r.5
+
+    rec : r.4 ≡ g.rec
+    rec = let a = of.4 in omega (arith, a)
+
+    first : (j k : ℕ) → Before (j ∷ k ∷ []) (m ∷ g.rec ∷ []) → Asks segs j k g.name → ⊥
+    first j k b asks =
+        let a = asks_at segs j k g.name asks in
+        let before : Before (j ∷ a.1.rec ∷ []) (m ∷ g.rec ∷ []) = subst (λ (n : ℕ). Before (j ∷ n ∷ []) (m ∷ g.rec ∷ [])) (sym a.5) b in
+        elim (cases_lt a.0 p) [
+          | inl l ↦ t.2 a.0 a.1 l a.3 a.4
+          | inr l ↦ elim (cases_lt p a.0) [
+            | inl n ↦ not_both (j ∷ a.1.rec ∷ []) (m ∷ g.rec ∷ []) before (numbered_ascend 0 segs p a.0 m j g a.1 n at a.2)
+            | inr n ↦
+                let same : a.0 ≡ p = omega (arith, l, n) in
+                let here : slice_get (numbered 0 segs) p ≡ Some (j, a.1) = subst (λ (i : ℕ). slice_get (numbered 0 segs) i ≡ Some (j, a.1)) same a.2 in
+                let one : tag j a.1 ≡ tag m g = cc in
+                let x : j ≡ m = ap (λ (n : Numbered). n.0) one in
+                let y : a.1 ≡ g = ap (λ (n : Numbered). n.1) one in
+                itself m g.rec (subst (λ (i : ℕ). Before (i ∷ g.rec ∷ []) (m ∷ g.rec ∷ [])) x (subst (λ (h : UnitReference). Before (j ∷ h.rec ∷ []) (m ∷ g.rec ∷ [])) y before))
+          ]
+        ]
+      where
+        itself : (a b : ℕ) → Before (a ∷ b ∷ []) (a ∷ b ∷ []) → ⊥
+        itself a b h = not_both (a ∷ b ∷ []) (a ∷ b ∷ []) h h
+
+-- 4. what the host's own slots have
+unit_role : (r : Role) → is_unit r ≡ true → (r ≡ role.Unit) ⊎ (r ≡ role.Wanted)
+unit_role role.Unit e = inl refl
+unit_role role.Wanted e = inr refl
+unit_role other e = absurd (false≢true e)
+
+own_is : (order : Order) (host : List ℕ) (libs : List (List ℕ)) (slot : ℕ) (s : Segment) → own_segment order host libs slot ≡ Some s → (r : Role) × HasRole order host slot r × (s.role ≡ r) × (s.name ≡ (entry_at order host slot).name)
+own_is order host libs slot s e =
+    option_and_then_some (λ r. option_and_then (segment_from order host libs slot (entry_at order host slot).name r) (source_of order host libs slot r)) (result_ok (role_of (entry_at order host slot))) s e (λ r e1 h.
+    option_and_then_some (segment_from order host libs slot (entry_at order host slot).name r) (source_of order host libs slot r) s h (λ at e2 k.
+    let t = from_slot order host libs slot (entry_at order host slot).name r at s k in (r, ok_is (role_of (entry_at order host slot)) r e1, t.2, t.1)))
+
+slot_of_unit : (order : Order) (host : List ℕ) (libs : List (List ℕ)) (name : List ℕ) → is_some (lookup (bytes_eq name) (own_units order host libs)) ≡ true → HasSlot order host name
+slot_of_unit order host libs name e =
+    let t = (units_named name (own_segments order host libs)).0 e in
+    let o = own_at order host libs t.1 (t.0, t.2) in
+    let r = own_is order host libs o.0 t.1 o.2 in
+    let same = sym r.3 ∙ t.3.1 in
+    elim (unit_role r.0 (sym (ap is_unit r.2) ∙ t.3.0)) [
+      | inl u ↦ (o.0, o.1, (inl (subst (λ (x : Role). HasRole order host o.0 x) u r.1), same))
+      | inr u ↦ (o.0, o.1, (inr (subst (λ (x : Role). HasRole order host o.0 x) u r.1), same))
+    ]
+
+first_none : {A X : Type 0} (f : A → Option X) (xs : List A) (i : ℕ) (x : A) → first_of f xs ≡ None → slice_get xs i ≡ Some x → f x ≡ None
+first_none f [] i x e u = absurd (cc)
+first_none {A} {X} f (y ∷ xs) i x e u = go (λ n k h. first_none f xs k x n h) (f y) refl e i u
+  where
+    go : (first_of f xs ≡ None → (k : ℕ) → slice_get xs k ≡ Some x → f x ≡ None) → (o : Option X) → f y ≡ o → option_or o (first_of f xs) ≡ None → (i : ℕ) → slice_get (y ∷ xs) i ≡ Some x → f x ≡ None
+    go later (Some a) is e i u = absurd (cc)
+    go later None is e zero u = let same : y ≡ x = cc in sym (ap f same) ∙ is
+    go later None is e (suc i) u = later e i u
+
+both_none : {X : Type 0} (o p : Option X) → option_or o p ≡ None → (o ≡ None) × (p ≡ None)
+both_none None p e = (refl, e)
+both_none (Some x) p e = absurd (cc)
+
+source_none : (order : Order) (host : List ℕ) (libs : List (List ℕ)) → sources_fault order host libs ≡ None → (slot : ℕ) → slot < 16 → source_fault order host libs slot ≡ None
+unfolding sources_fault
+source_none order host libs fine slot h = let i = in_range 0 16 slot (omega arith) (omega (arith, h)) in first_none (source_fault order host libs) slots i.0 slot fine i.1
+
+of_role : (order : Order) (host : List ℕ) (libs : List (List ℕ)) (slot : ℕ) (r : Role) → source_fault order host libs slot ≡ None → HasRole order host slot r
+    → (wanted_fault order host libs slot r ≡ None) × (option_and_then (code_fault order host libs slot r) (source_of order host libs slot r) ≡ None)
+of_role order host libs slot r fine has = both_none (wanted_fault order host libs slot r) (option_and_then (code_fault order host libs slot r) (source_of order host libs slot r))
+    (sym (ap (option_and_then (λ (x : Role). option_or (wanted_fault order host libs slot x) (option_and_then (code_fault order host libs slot x) (source_of order host libs slot x)))) (ap result_ok has)) ∙ fine)
+
+own_made : (order : Order) (host : List ℕ) (libs : List (List ℕ)) (slot : ℕ) (r : Role) (at : ℕ × ℕ) → HasRole order host slot r → source_of order host libs slot r ≡ Some at → code_fault order host libs slot r at ≡ None → (s : Segment) × (own_segment order host libs slot ≡ Some s)
+own_made order host libs slot r at has is fine = go (segment_from order host libs slot (entry_at order host slot).name r at) refl
+  where
+    go : (o : Option Segment) → segment_from order host libs slot (entry_at order host slot).name r at ≡ o → (s : Segment) × (own_segment order host libs slot ≡ Some s)
+    go None e = absurd (source_made order host libs slot (entry_at order host slot).name r at fine e)
+    go (Some s) e = (
+      s,
+      ap (option_and_then (λ (x : Role). option_and_then (segment_from order host libs slot (entry_at order host slot).name x) (source_of order host libs slot x))) (ap result_ok has)
+          ∙ (ap (option_and_then (segment_from order host libs slot (entry_at order host slot).name r)) is ∙ e),
+    )
+
+wanted_source : (order : Order) (host : List ℕ) (libs : List (List ℕ)) (slot : ℕ) → wanted_fault order host libs slot role.Wanted ≡ None → unit_source order (entry_at order host slot).name libs ≡ None → ⊥
+wanted_source order host libs slot fine none = go (chosen_library order (entry_at order host slot).name libs) refl (unit_found order (entry_at order host slot).name libs none)
+  where
+    go : (o : Option (ℕ × List ℕ)) → chosen_library order (entry_at order host slot).name libs ≡ o → is_none o ≡ true → ⊥
+    go None is e = let a = rw (is, wanted_fault, unit_fault) at fine in cc
+    go (Some lib) is e = false≢true e
+
+unit_of_slot : (order : Order) (host : List ℕ) (libs : List (List ℕ)) → sources_fault order host libs ≡ None → (name : List ℕ) → HasSlot order host name → is_some (lookup (bytes_eq name) (own_units order host libs)) ≡ true
+unit_of_slot order host libs fine name t = elim t.2.0 [
+  | inl has ↦
+      let f = of_role order host libs t.0 role.Unit (source_none order host libs fine t.0 t.1) has in
+      known role.Unit has refl (own_made order host libs t.0 role.Unit (0, t.0) has refl f.1)
+  | inr has ↦ wanted has (unit_source order (entry_at order host t.0).name libs) refl
+]
+  where
+    known : (r : Role) → HasRole order host t.0 r → is_unit r ≡ true → ((s : Segment) × (own_segment order host libs t.0 ≡ Some s)) → is_some (lookup (bytes_eq name) (own_units order host libs)) ≡ true
+    known r has unit m =
+        let i = own_in order host libs t.0 m.0 t.1 m.1 in
+        let o = own_is order host libs t.0 m.0 m.1 in
+        let same : o.0 ≡ r = (let a = o.1 in cc) in
+        (units_named name (own_segments order host libs)).1 (i.0, m.0, i.1, (ap is_unit (o.2 ∙ same) ∙ unit, o.3 ∙ t.2.1))
+
+    wanted : HasRole order host t.0 role.Wanted → (o : Option (ℕ × ℕ)) → unit_source order (entry_at order host t.0).name libs ≡ o → is_some (lookup (bytes_eq name) (own_units order host libs)) ≡ true
+    wanted has None is = absurd (wanted_source order host libs t.0 (of_role order host libs t.0 role.Wanted (source_none order host libs fine t.0 t.1) has).0 is)
+    wanted has (Some at) is =
+        let f = of_role order host libs t.0 role.Wanted (source_none order host libs fine t.0 t.1) has in
+        known role.Wanted has refl (own_made order host libs t.0 role.Wanted at has is (sym (ap (option_and_then (code_fault order host libs t.0 role.Wanted)) is) ∙ f.1))
+
+-- 5. where an added segment comes from
+made_is : (order : Order) (host : List ℕ) (libs : List (List ℕ)) (slot : ℕ) (name : List ℕ) (at : ℕ × ℕ) (s : Segment) → segment_from order host libs slot name role.Wanted at ≡ Some s
+    → (s.file ≡ at.0) × (s.index ≡ at.1) × (code_of (file_at host libs at.0) (entry_at order (file_at host libs at.0) at.1) ≡ Ok s.code) × (s.records ≡ (reading order (information_of (file_at host libs at.0) (entry_at order (file_at host libs at.0) at.1))).0)
+made_is order host libs slot name at s e = go (code_of file (entry_at order file at.1)) refl e
+  where
+    file : List ℕ
+    file = file_at host libs at.0
+
+    Made : List ℕ → Segment
+    Made c = record { slot = slot; name = name; role = role.Wanted; added = false; file = at.0; index = at.1; code = c; records = (reading order (information_of (file_at host libs at.0) (entry_at order (file_at host libs at.0) at.1))).0 }
+
+    go : (o : Result (List ℕ) Reason) → code_of (file_at host libs at.0) (entry_at order (file_at host libs at.0) at.1) ≡ o → option_map Made (result_ok o) ≡ Some s
+        → (s.file ≡ at.0) × (s.index ≡ at.1) × (code_of (file_at host libs at.0) (entry_at order (file_at host libs at.0) at.1) ≡ Ok s.code) × (s.records ≡ (reading order (information_of (file_at host libs at.0) (entry_at order (file_at host libs at.0) at.1))).0)
+    go (Err why) is e = absurd (cc)
+    go (Ok c) is e =
+        let x : Made c ≡ s = cc in
+        (sym (ap (λ (q : Segment). q.file) x), sym (ap (λ (q : Segment). q.index) x), is ∙ ap (λ (q : Segment). Ok q.code) x, sym (ap (λ (q : Segment). q.records) x))
+
+find_in : {A : Type 0} (test : A → Bool) (xs : List A) (x : A) → find test xs ≡ Some x → In x xs
+find_in test [] x e = absurd (cc)
+find_in {A} test (y ∷ xs) x e = go (test y) e (λ h. find_in test xs x h)
+  where
+    go : (b : Bool) → (if b then Some y else find test xs) ≡ Some x → (find test xs ≡ Some x → In x xs) → In x (y ∷ xs)
+    go true e later = (zero, e)
+    go false e later = let t = later e in (suc t.0, t.1)
+
+-- it is marked as added
+marked : (order : Order) (host : List ℕ) (libs : List (List ℕ)) (g : UnitReference) (slot : ℕ) (s : Segment) → added_segment order host libs g slot ≡ Some s → s.added ≡ true
+marked order host libs g slot s e = go (option_and_then (segment_from order host libs slot g.name role.Wanted) (unit_source order g.name libs)) e
+  where
+    go : (o : Option Segment) → option_map as_added o ≡ Some s → s.added ≡ true
+    go None e = absurd (cc)
+    go (Some q) e = let x : as_added q ≡ s = cc in sym (ap (λ (y : Segment). y.added) x)
+
+-- the first library that has the name, and that there is no lesser one
+abbrev IsFirstLibrary : Order → List ℕ → List (List ℕ) → ℕ × List ℕ → Type 0
+IsFirstLibrary order name libs p = (slice_get libs p.0 ≡ Some p.1) × ((lesser : ℕ) (other : List ℕ) → lesser < p.0 → slice_get libs lesser ≡ Some other → HasEntry order name other → ⊥)
+
+first_library : (order : Order) (name : List ℕ) (libs : List (List ℕ)) (p : ℕ × List ℕ) → chosen_library order name libs ≡ Some p → IsFirstLibrary order name libs p
+first_library order name libs p e = go (subst (λ (o : Option (ℕ × List ℕ)). Least (λ a b. a.0 < b.0) (λ q. SomeItem libs (λ k lib. HasEntry order name lib × (q ≡ (k, lib)))) o) e (chosen order name libs))
+  where
+    go : Least (λ a b. a.0 < b.0) (λ q. SomeItem libs (λ k lib. HasEntry order name lib × (q ≡ (k, lib)))) (Some p) → IsFirstLibrary order name libs p
+    go (this q s l) = (
+      subst (λ (z : ℕ × List ℕ). slice_get libs z.0 ≡ Some z.1) (sym s.3.1) s.2,
+      λ m other h u k. elim (l (m, other) (m, other, u, (k, refl))) [ inl x ↦ (let y = ap (λ (z : ℕ × List ℕ). z.0) x in omega (arith, y, h)) | inr x ↦ omega (arith, x, h) ],
+    )
+
+library_at : (host : List ℕ) (libs : List (List ℕ)) (k : ℕ) (lib : List ℕ) → slice_get libs k ≡ Some lib → file_at host libs (k + 1) ≡ lib
+library_at host libs k lib e = at (k + 1) (omega arith)
+  where
+    at : (n : ℕ) → n ≡ suc k → file_at host libs n ≡ lib
+    at zero h = absurd (omega (arith, h))
+    at (suc m) h = let same : m ≡ k = omega (arith, h) in rw same (ap (λ (o : Option (List ℕ)). unwrap_or o []) e)
+
+of_first_library : (order : Order) (host : List ℕ) (libs : List (List ℕ)) (g : UnitReference) (slot : ℕ) (s : Segment) → added_segment order host libs g slot ≡ Some s → IsOfFirstLibrary order libs s
+of_first_library order host libs g slot s e = go (option_and_then (segment_from order host libs slot g.name role.Wanted) (unit_source order g.name libs)) refl e
+  where
+    found : (p : ℕ × List ℕ) → chosen_library order g.name libs ≡ Some p → (i : ℕ) → find (is_named order g.name p.1) slots ≡ Some i → (q : Segment) → segment_from order host libs slot g.name role.Wanted (p.0 + 1, i) ≡ Some q → as_added q ≡ s → IsOfFirstLibrary order libs s
+    found p is i entry q from it =
+        let first = first_library order g.name libs p is in
+        let file : file_at host libs (p.0 + 1) ≡ p.1 = library_at host libs p.0 p.1 first.0 in
+        let made = made_is order host libs slot g.name (p.0 + 1, i) q from in
+        let name : g.name ≡ s.name = sym (from_slot order host libs slot g.name role.Wanted (p.0 + 1, i) q from).1 ∙ ap (λ (x : Segment). x.name) it in
+        let index : i ≡ s.index = sym made.1 ∙ ap (λ (x : Segment). x.index) it in
+        let within = find_in (is_named order g.name p.1) slots i entry in
+        let below = (of_range 0 16 i within.0 within.1).1 in
+        let is_it : IsNamed order g.name p.1 i = (named order g.name p.1 i).0 (find_passes (is_named order g.name p.1) slots i entry) in
+        let code : code_of p.1 (entry_at order p.1 i) ≡ Ok q.code = subst (λ (f : List ℕ). code_of f (entry_at order f i) ≡ Ok q.code) file made.2 in
+        let records : q.records ≡ (reading order (information_of p.1 (entry_at order p.1 i))).0 = subst (λ (f : List ℕ). q.records ≡ (reading order (information_of f (entry_at order f i))).0) file made.3 in (
+          p.0,
+          p.1,
+          first.0,
+          (
+            subst (λ (n : List ℕ). (lesser : ℕ) (other : List ℕ) → lesser < p.0 → slice_get libs lesser ≡ Some other → HasEntry order n other → ⊥) name first.1,
+            sym (ap (λ (x : Segment). x.file) it) ∙ made.0,
+            omega (arith, below, index),
+            subst (λ (n : List ℕ). IsNamed order n p.1 s.index) name (subst (λ (j : ℕ). IsNamed order g.name p.1 j) index is_it),
+            subst (λ (j : ℕ). code_of p.1 (entry_at order p.1 j) ≡ Ok s.code) index (code ∙ ap (λ (x : Segment). Ok x.code) it),
+            subst (λ (j : ℕ). s.records ≡ (reading order (information_of p.1 (entry_at order p.1 j))).0) index (sym (ap (λ (x : Segment). x.records) it) ∙ records),
+          ),
+        )
+
+    go : (o : Option Segment) → option_and_then (segment_from order host libs slot g.name role.Wanted) (unit_source order g.name libs) ≡ o → option_map as_added o ≡ Some s → IsOfFirstLibrary order libs s
+    go None is e = absurd (cc)
+    go (Some q) is e =
+        let it : as_added q ≡ s = cc in
+        option_and_then_some (segment_from order host libs slot g.name role.Wanted) (unit_source order g.name libs) q is (λ at e1 h.
+        option_and_then_some (λ (lib : ℕ × List ℕ). option_map {U = ℕ × ℕ} (λ (i : ℕ). (lib.0 + 1, i)) (find (is_named order g.name lib.1) slots)) (chosen_library order g.name libs) at e1 (λ p e2 k.
+        inner p e2 (find (is_named order g.name p.1) slots) refl at k q h it))
+      where
+        inner : (p : ℕ × List ℕ) → chosen_library order g.name libs ≡ Some p → (o : Option ℕ) → find (is_named order g.name p.1) slots ≡ o → (at : ℕ × ℕ) → option_map {U = ℕ × ℕ} (λ (i : ℕ). (p.0 + 1, i)) o ≡ Some at → (q : Segment) → segment_from order host libs slot g.name role.Wanted at ≡ Some q → as_added q ≡ s → IsOfFirstLibrary order libs s
+        inner p is None entry at k q h it = absurd (cc)
+        inner p is (Some i) entry at k q h it = let same : at ≡ (p.0 + 1, i) = cc in found p is i entry q (subst (λ (a : ℕ × ℕ). segment_from order host libs slot g.name role.Wanted a ≡ Some q) same h) it
+
+-- 6. all of it
+same_items : {A : Type 0} (xs ys : List A) → ((k : ℕ) → slice_get xs k ≡ slice_get ys k) → xs ≡ ys
+same_items [] [] e = refl
+same_items [] (y ∷ ys) e = let h = e 0 in absurd (cc)
+same_items (x ∷ xs) [] e = let h = e 0 in absurd (cc)
+same_items {A} (x ∷ xs) (y ∷ ys) e =
+    let h : x ≡ y = (let g = e 0 in cc) in
+    let t : xs ≡ ys = same_items xs ys (λ k. e (suc k)) in
+    cc
+
+some_of : {A : Type 0} (o : Option A) (P : Type 0) → ((a : A) → o ≡ Some a → P) → (o ≡ None → P) → P
+some_of None P f g = g refl
+some_of (Some a) P f g = f a refl
+
+module _ (order : Order) (host : List ℕ) (libs : List (List ℕ)) (fine : sources_fault order host libs ≡ None) (ended : added_fault order host libs ≡ None) where
+  row_is : row_of order host libs ≡ sought_from (own_units order host libs) [] (references_in (own_segments order host libs ++ added order host libs))
+  unfolding sought
+  row_is = refl
+
+  at_row : (k : ℕ) (g : UnitReference) → slice_get (row_of order host libs) k ≡ Some g → slice_get (sought_from (own_units order host libs) [] (references_in (own_segments order host libs ++ added order host libs))) k ≡ Some g
+  at_row k g e = sym (ap (λ (r : List UnitReference). slice_get r k) row_is) ∙ e
+
+  not_slot : (name : List ℕ) → is_had (own_units order host libs) [] name ≡ false → HasSlot order host name → ⊥
+  not_slot name none has = go (is_some (lookup (bytes_eq name) (own_units order host libs))) (unit_of_slot order host libs fine name has) none
+    where
+      go : (b : Bool) → b ≡ true → (b || false) ≡ false → ⊥
+      go true e n = absurd (cc)
+      go false e n = false≢true e
+
+  is_sought : (k : ℕ) (g : UnitReference) → slice_get (row_of order host libs) k ≡ Some g → ((i : ℕ) × IsGiver (own_segments order host libs ++ added order host libs) i g) × (HasSlot order host g.name → ⊥)
+  is_sought k g e =
+      let segs = own_segments order host libs ++ added order host libs in
+      let t = sought_at (own_units order host libs) [] (references_in segs) k g (omega arith) (at_row k g e) in
+      let p = place_of segs t.0 g t.1.0 in
+      ((p.0, giver (own_units order host libs) segs t.0 p.0 g t.1 p.1), not_slot g.name t.1.1)
+
+  is_complete : (i rec : ℕ) (name : List ℕ) → Asks (own_segments order host libs ++ added order host libs) i rec name → HasSlot order host name ⊎ SomeItem (row_of order host libs) (λ k g. g.name ≡ name)
+  is_complete i rec name asks =
+      let segs = own_segments order host libs ++ added order host libs in
+      let a = asks_at segs i rec name asks in
+      let had : is_had (own_units order host libs) (row_of order host libs) name ≡ true =
+      ap (λ (r : List UnitReference). is_had (own_units order host libs) r name) row_is
+      ∙ (ap (λ (n : List ℕ). is_had (own_units order host libs) (sought_from (own_units order host libs) [] (references_in segs)) n) (sym a.4) ∙ all_had (own_units order host libs) [] (references_in segs) a.1 a.0 a.3) in
+      elim (or_cases (is_some (lookup (bytes_eq name) (own_units order host libs))) (list_any (λ (g : UnitReference). bytes_eq g.name name) (row_of order host libs)) had) [
+        | inl e ↦ inl (slot_of_unit order host libs name e)
+        | inr e ↦ inr ((any_of_items (λ (g : UnitReference). bytes_eq g.name name) (λ (g : UnitReference). g.name ≡ name) (λ g. bytes_eq-Decides g.name name) (row_of order host libs)).0 e)
+      ]
+
+  are_given : (j k : ℕ) (g h : UnitReference) → j < k → slice_get (row_of order host libs) j ≡ Some g → slice_get (row_of order host libs) k ≡ Some h → AreGiven (own_segments order host libs ++ added order host libs) g h
+  are_given j k g h l e u =
+      let segs = own_segments order host libs ++ added order host libs in
+      let t = sought_pair (own_units order host libs) [] (references_in segs) j k g h (omega arith) l (at_row j g e) (at_row k h u) in
+      let p = place_of segs t.0 g t.3.0 in
+      let q = place_of segs t.1 h t.4.0 in
+      (p.0, q.0, giver (own_units order host libs) segs t.0 p.0 g t.3 p.1, giver (own_units order host libs) segs t.1 q.0 h t.4 q.1, numbered_ascend 0 segs t.0 t.1 p.0 q.0 g h t.2 p.1 q.1)
+
+  apart : (j k : ℕ) (g h : UnitReference) → j < k → slice_get (row_of order host libs) j ≡ Some g → slice_get (row_of order host libs) k ≡ Some h → g.name ≡ h.name → ⊥
+  apart j k g h l e u same =
+      let t = are_given j k g h l e u in
+      t.3.2 t.0 g.rec t.4 (subst (λ (n : List ℕ). Asks (own_segments order host libs ++ added order host libs) t.0 g.rec n) same t.2.1)
+
+  is_once : (j k : ℕ) (g h : UnitReference) → slice_get (row_of order host libs) j ≡ Some g → slice_get (row_of order host libs) k ≡ Some h → g.name ≡ h.name → j ≡ k
+  is_once j k g h e u same = elim (cases_lt j k) [
+    | inl l ↦ absurd (apart j k g h l e u same)
+    | inr l ↦ elim (cases_lt k j) [ inl m ↦ absurd (apart k j h g m u e (sym same)) | inr m ↦ omega (arith, l, m) ]
+  ]
+
+  same_names : map (λ (s : Segment). s.name) (added order host libs) ≡ map (λ (g : UnitReference). g.name) (row_of order host libs)
+  same_names = same_items _ _ each
+    where
+      each : (k : ℕ) → slice_get (map (λ (s : Segment). s.name) (added order host libs)) k ≡ slice_get (map (λ (g : UnitReference). g.name) (row_of order host libs)) k
+      each k =
+          slice_get-map (λ (s : Segment). s.name) (added order host libs) k
+          ∙ (some_of (slice_get (row_of order host libs) k) (option_map (λ (s : Segment). s.name) (slice_get (added order host libs) k) ≡ option_map (λ (g : UnitReference). g.name) (slice_get (row_of order host libs) k))
+          (λ g e. let p = name_placed order host libs ended k g e in
+          ap (option_map (λ (s : Segment). s.name)) p.3 ∙ (ap (λ (n : List ℕ). Some n) (added_is order host libs g p.0 p.1 p.4).1 ∙ sym (ap (option_map (λ (x : UnitReference). x.name)) e)))
+          (λ e. some_of (slice_get (added order host libs) k) (option_map (λ (s : Segment). s.name) (slice_get (added order host libs) k) ≡ option_map (λ (g : UnitReference). g.name) (slice_get (row_of order host libs) k))
+          (λ s u. let t = (segment_named order host libs ended k s u).1 in absurd (cc))
+          (λ u. ap (option_map (λ (s : Segment). s.name)) u ∙ sym (ap (option_map (λ (x : UnitReference). x.name)) e)))
+          ∙ sym (slice_get-map (λ (g : UnitReference). g.name) (row_of order host libs) k))
+
+  is_found : (k : ℕ) (s : Segment) → slice_get (added order host libs) k ≡ Some s → IsOfFirstLibrary order libs s
+  is_found k s e =
+      let g = segment_named order host libs ended k s e in
+      let p = name_placed order host libs ended k g.0 g.1 in
+      let same : p.1 ≡ s = (let a = p.3 in cc) in
+      subst (λ (x : Segment). IsOfFirstLibrary order libs x) same (of_first_library order host libs g.0 p.0 p.1 p.4)
+
+  is_wanted : (k : ℕ) (s : Segment) → slice_get (added order host libs) k ≡ Some s → (s.role ≡ role.Wanted) × (s.added ≡ true)
+  is_wanted k s e =
+      let g = segment_named order host libs ended k s e in
+      let p = name_placed order host libs ended k g.0 g.1 in
+      let same : p.1 ≡ s = (let a = p.3 in cc) in
+      subst (λ (x : Segment). (x.role ≡ role.Wanted) × (x.added ≡ true)) same ((added_is order host libs g.0 p.0 p.1 p.4).2, marked order host libs g.0 p.0 p.1 p.4)
+
+  pub units_are : AddedUnits order host libs (row_of order host libs) (added order host libs)
+  units_are = record {
+    sought = is_sought;
+    complete = is_complete;
+    once = is_once;
+    ordered = are_given;
+    names = same_names;
+    slots = in_empty order host libs ended;
+    roles = is_wanted;
+    found = is_found;
+  }
