@@ -1,6 +1,6 @@
 -- What a request asks for, by the command and the files that clap finds named in the words.
 -- Source: this project's profile.
-use Rattle.std.specs.Prelude.{◌≡◌, ◌⊎◌, List, [], Option, Some, codes, map, unwrap_or}
+use Rattle.std.specs.Prelude.{◌≡◌, ◌⊎◌, List, [], Option, Some, None, codes, map, unwrap_or}
 use Rattle.clap.specs.Words.{Row, Text, all_of, first_of, kind_of}
 use Rattle.clap.specs.declared.error.ErrorKind.TheVariants.{DisplayHelp, DisplayVersion}
 use Rattle.ps_linker.specs.declared.request.Inputs.{Inputs}
@@ -29,3 +29,9 @@ AsksFor {A} (request.Text text) named = (kind_of text ≡ DisplayHelp) ⊎ (kind
 AsksFor {A} (request.Link inputs out) named = IsNamed {A = A} (request.Link inputs out) named
 AsksFor {A} (request.Map inputs) named = IsNamed {A = A} (request.Map inputs) named
 AsksFor {A} (request.Show file) named = IsNamed {A = A} (request.Show file) named
+
+-- the command that is named leaves out a file that it needs, or no command is named
+abbrev pub LeavesOut : Option (Text × List Row) → Type 0
+LeavesOut named = (rows : List Row) → (named ≡ Some (codes "link", rows) → (first_of (codes "HOST") rows ≡ None) ⊎ (first_of (codes "OUT") rows ≡ None))
+    × (named ≡ Some (codes "map", rows) → first_of (codes "HOST") rows ≡ None)
+    × (named ≡ Some (codes "show", rows) → first_of (codes "FILE") rows ≡ None)

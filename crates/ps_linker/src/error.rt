@@ -37,6 +37,8 @@ pub enum CommandError<'a> {
 }
 
 impl From<AllocError> for CommandError<'_> {
+    ghost from_gives = { λ _ e. e ≡ Memory };
+
     fn from(_error: AllocError) -> Self {
         CommandError::Memory
     }

@@ -1,9 +1,9 @@
 //! What the words of a command line ask for.
-ghost use Rattle.std.specs.Prelude.{◌≡◌, IfErr, IfOk, Some, codes, map, true, false};
+ghost use Rattle.std.specs.Prelude.{◌≡◌, ◌≢◌, IfErr, IfOk, Some, None, codes, map, true, false};
 ghost use Rattle.clap.specs.Words.{app_of, first_of, found_of, kind_of, rows_of, rule_of, subcommand_of, subcommand_rows_of, takes};
 ghost use Rattle.clap.specs.declared.Command.TheViews.{out-Command};
 ghost use Rattle.ps_linker.specs.CommandLine.{file_rule, libraries_rule, link_app, map_app, show_app, pslink_app};
-ghost use Rattle.ps_linker.specs.Requests.{AsksFor, IsNamed, NamesInputs, libraries_of};
+ghost use Rattle.ps_linker.specs.Requests.{AsksFor, IsNamed, LeavesOut, NamesInputs, libraries_of};
 
 use crate::error::CommandError;
 use clap::error::ErrorKind;
@@ -40,6 +40,9 @@ pub fn parse<'a, A: Allocator + Copy>(
 
     // Words that clap takes name a command, and ask for no help.
     ensures named { takes pslink_app (map (λ s. s.now) words.now) ≡ true → IfOk result (λ r. IsNamed r (subcommand_of pslink_app (map (λ s. s.now) words.now))) }
+
+    // Words that clap takes are refused only where they leave out a file or the command.
+    ensures refused { takes pslink_app (map (λ s. s.now) words.now) ≡ true → IfErr result (λ e. e ≢ CommandError.Memory → LeavesOut (subcommand_of pslink_app (map (λ s. s.now) words.now))) }
 {
     match matches(heap, words) {
         Ok(matches) => request_of(heap, alloc, &matches),
@@ -64,7 +67,8 @@ fn request_of<'a, A: Allocator + Copy>(
     alloc: A,
     matches: &ArgMatches<'a>,
 ) -> Result<Request<'a, A>, CommandError<'a>>
-    ensures { IfOk result (λ r. IsNamed r (subcommand_rows_of matches.now)) }
+    ensures named { IfOk result (λ r. IsNamed r (subcommand_rows_of matches.now)) }
+    ensures refused { IfErr result (λ e. e ≢ CommandError.Memory → LeavesOut (subcommand_rows_of matches.now)) }
 {
     match matches.subcommand() {
         Some(("link", found)) => link_of(heap, alloc, found),
@@ -79,7 +83,8 @@ fn link_of<'a, A: Allocator + Copy>(
     alloc: A,
     found: &ArgMatches<'a>,
 ) -> Result<Request<'a, A>, CommandError<'a>>
-    ensures { IfOk result (λ r. IsNamed r (Some (codes "link", rows_of (found_of found.now)))) }
+    ensures named { IfOk result (λ r. IsNamed r (Some (codes "link", rows_of (found_of found.now)))) }
+    ensures refused { IfErr result (λ e. e ≢ CommandError.Memory → LeavesOut (Some (codes "link", rows_of (found_of found.now)))) }
 {
     let inputs = inputs_of(heap, alloc, found)?;
     let out = file_of(heap, found, "OUT")?;
@@ -91,7 +96,8 @@ fn map_of<'a, A: Allocator + Copy>(
     alloc: A,
     found: &ArgMatches<'a>,
 ) -> Result<Request<'a, A>, CommandError<'a>>
-    ensures { IfOk result (λ r. IsNamed r (Some (codes "map", rows_of (found_of found.now)))) }
+    ensures named { IfOk result (λ r. IsNamed r (Some (codes "map", rows_of (found_of found.now)))) }
+    ensures refused { IfErr result (λ e. e ≢ CommandError.Memory → LeavesOut (Some (codes "map", rows_of (found_of found.now)))) }
 {
     let inputs = inputs_of(heap, alloc, found)?;
     Ok(Request::Map { inputs })
@@ -101,7 +107,8 @@ fn show_of<'a, A: Allocator + Copy>(
     heap: Global,
     found: &ArgMatches<'a>,
 ) -> Result<Request<'a, A>, CommandError<'a>>
-    ensures { IfOk result (λ r. IsNamed r (Some (codes "show", rows_of (found_of found.now)))) }
+    ensures named { IfOk result (λ r. IsNamed r (Some (codes "show", rows_of (found_of found.now)))) }
+    ensures refused { IfErr result (λ e. e ≢ CommandError.Memory → LeavesOut (Some (codes "show", rows_of (found_of found.now)))) }
 {
     let file = file_of(heap, found, "FILE")?;
     Ok(Request::Show { file })
@@ -112,7 +119,8 @@ fn inputs_of<'a, A: Allocator + Copy>(
     alloc: A,
     found: &ArgMatches<'a>,
 ) -> Result<Inputs<'a, A>, CommandError<'a>>
-    ensures { IfOk result (λ inputs. NamesInputs inputs (rows_of (found_of found.now))) }
+    ensures named { IfOk result (λ inputs. NamesInputs inputs (rows_of (found_of found.now))) }
+    ensures refused { IfErr result (λ e. e ≢ CommandError.Memory → first_of (codes "HOST") (rows_of (found_of found.now)) ≡ None) }
 {
     let host = file_of(heap, found, "HOST")?;
     let libraries = libraries(alloc, found)?;
@@ -125,7 +133,8 @@ fn file_of<'a>(
     found: &ArgMatches<'a>,
     argument: &str,
 ) -> Result<&'a str, CommandError<'a>>
-    ensures { IfOk result (λ path. first_of argument.now (rows_of (found_of found.now)) ≡ Some path.now) }
+    ensures named { IfOk result (λ path. first_of argument.now (rows_of (found_of found.now)) ≡ Some path.now) }
+    ensures refused { IfErr result (λ _. first_of argument.now (rows_of (found_of found.now)) ≡ None) }
 {
     match found.get_str(argument) {
         Some(path) => Ok(path),

@@ -11,7 +11,7 @@ use crate::error::CommandError;
 use crate::files::{self, CodeFiles, Contents};
 use crate::output;
 use crate::request::{self, Inputs, Request};
-use ps_linkfile::{Counting, Linked, Summary};
+use ps_linkfile::{Counting, Linked, Summary, linked_file_is_one};
 use std::alloc::{AllocError, Allocator, Global};
 use std::io::Write;
 
@@ -111,6 +111,7 @@ fn map<'a, R: CodeFiles, A: Allocator + Copy, O: Write>(
     ensures ok { OnOk result (PrintsMap (Reads (R.opened rt.now) R.Opened.remaining) inputs.entry.host.now (map (λ path. path.now) inputs.entry.libraries.items) (O.contents out.old) (O.contents out.new)) }
     ensures err { IfErr result (λ e. status_of e ≢ 3 → out.new ≡ out.old) }
 {
+    linked_file_is_one();
     let Contents { host, libraries } = files::read_inputs(rt, alloc, &inputs)?;
     let views = views(alloc, libraries.as_slice())?;
     let text = ps_linkfile::map_text(alloc, host.as_slice(), views.as_slice())?;

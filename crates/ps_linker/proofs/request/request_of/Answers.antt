@@ -1,27 +1,48 @@
 use Rattle.std.proofs.Common.{◌≡◌, ◌∙◌, ap, sym, subst, codes, Some}
-use Rattle.std.proofs.lemmas.Result.{IfOk-weaker}
+use Rattle.std.proofs.lemmas.Result.{IfErr-weaker, IfOk-weaker}
 use Rattle.clap.specs.Words.{found_of, rows_of, subcommand_rows_of}
-use Rattle.ps_linker.specs.Requests.{IsNamed}
+use Rattle.ps_linker.specs.Requests.{IsNamed, LeavesOut}
 use Rattle.ps_linker.proofs.Named.{both}
 use Rattle.ps_linker.proofs.request.request_of.Goals as goal
 
-pub returns-in-Some-link-default : goal.returns-in-Some-link-default
-returns-in-Some-link-default g c =
+pub returns-in-Some-link-default-clause-named : goal.returns-in-Some-link-default-clause-named
+returns-in-Some-link-default-clause-named g c =
     let met = c.in-Some-link-default in
     let named : Some (codes "link") ≡ _ = ap Some (sym met.is-link) ∙ met.ensures.name in
     let is : subcommand_rows_of c.args.matches.now ≡ Some (codes "link", rows_of (found_of met.found.now)) = both _ _ _ _ _ named met.ensures.rows in
-    IfOk-weaker c.link_of.result _ _ (λ r names. subst (IsNamed r) (sym is) names) c.link_of.ensures
+    IfOk-weaker c.link_of.result _ _ (λ r names. subst (IsNamed r) (sym is) names) c.link_of.ensures.named
 
-pub returns-in-Some-map-default : goal.returns-in-Some-map-default
-returns-in-Some-map-default g c =
+pub returns-in-Some-map-default-clause-named : goal.returns-in-Some-map-default-clause-named
+returns-in-Some-map-default-clause-named g c =
     let met = c.in-Some-map-default in
     let named : Some (codes "map") ≡ _ = ap Some (sym met.is-map) ∙ met.ensures.name in
     let is : subcommand_rows_of c.args.matches.now ≡ Some (codes "map", rows_of (found_of met.found.now)) = both _ _ _ _ _ named met.ensures.rows in
-    IfOk-weaker c.map_of.result _ _ (λ r names. subst (IsNamed r) (sym is) names) c.map_of.ensures
+    IfOk-weaker c.map_of.result _ _ (λ r names. subst (IsNamed r) (sym is) names) c.map_of.ensures.named
 
-pub returns-in-Some-show-default : goal.returns-in-Some-show-default
-returns-in-Some-show-default g c =
+pub returns-in-Some-show-default-clause-named : goal.returns-in-Some-show-default-clause-named
+returns-in-Some-show-default-clause-named g c =
     let met = c.in-Some-show-default in
     let named : Some (codes "show") ≡ _ = ap Some (sym met.is-show) ∙ met.ensures.name in
     let is : subcommand_rows_of c.args.matches.now ≡ Some (codes "show", rows_of (found_of met.found.now)) = both _ _ _ _ _ named met.ensures.rows in
-    IfOk-weaker c.show_of.result _ _ (λ r names. subst (IsNamed r) (sym is) names) c.show_of.ensures
+    IfOk-weaker c.show_of.result _ _ (λ r names. subst (IsNamed r) (sym is) names) c.show_of.ensures.named
+
+pub returns-in-Some-link-default-clause-refused : goal.returns-in-Some-link-default-clause-refused
+returns-in-Some-link-default-clause-refused g c =
+    let met = c.in-Some-link-default in
+    let named : Some (codes "link") ≡ _ = ap Some (sym met.is-link) ∙ met.ensures.name in
+    let is : subcommand_rows_of c.args.matches.now ≡ Some (codes "link", rows_of (found_of met.found.now)) = both _ _ _ _ _ named met.ensures.rows in
+    IfErr-weaker c.link_of.result _ _ (λ e leaves other. subst LeavesOut (sym is) (leaves other)) c.link_of.ensures.refused
+
+pub returns-in-Some-map-default-clause-refused : goal.returns-in-Some-map-default-clause-refused
+returns-in-Some-map-default-clause-refused g c =
+    let met = c.in-Some-map-default in
+    let named : Some (codes "map") ≡ _ = ap Some (sym met.is-map) ∙ met.ensures.name in
+    let is : subcommand_rows_of c.args.matches.now ≡ Some (codes "map", rows_of (found_of met.found.now)) = both _ _ _ _ _ named met.ensures.rows in
+    IfErr-weaker c.map_of.result _ _ (λ e leaves other. subst LeavesOut (sym is) (leaves other)) c.map_of.ensures.refused
+
+pub returns-in-Some-show-default-clause-refused : goal.returns-in-Some-show-default-clause-refused
+returns-in-Some-show-default-clause-refused g c =
+    let met = c.in-Some-show-default in
+    let named : Some (codes "show") ≡ _ = ap Some (sym met.is-show) ∙ met.ensures.name in
+    let is : subcommand_rows_of c.args.matches.now ≡ Some (codes "show", rows_of (found_of met.found.now)) = both _ _ _ _ _ named met.ensures.rows in
+    IfErr-weaker c.show_of.result _ _ (λ e leaves other. subst LeavesOut (sym is) (leaves other)) c.show_of.ensures.refused

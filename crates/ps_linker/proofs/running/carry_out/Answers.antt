@@ -1,4 +1,4 @@
-use Rattle.std.proofs.Common.{◌≡◌, ℕ, List, map, subst, inl, inr}
+use Rattle.std.proofs.Common.{ℕ, List, subst, inl, inr}
 use Rattle.std.proofs.lemmas.Result.{on_ok_weaker}
 use Rattle.clap.specs.Words.{Text}
 use Rattle.ps_linker.specs.Printed.{PrintsLine, PrintsMap}

@@ -3,7 +3,6 @@ use Rattle.std.proofs.lemmas.Result.{on_ok_weaker}
 use Rattle.std.specs.Io.KnownBytes.{Appends}
 use Rattle.ps_linkfile.specs.LinkedFile.{linked_file}
 use Rattle.ps_linkfile.specs.MapText.{map_of}
-use Rattle.ps_linkfile.proofs.Whole.{there}
 use Rattle.std.specs.List.{AllZip}
 use Rattle.ps_linker.specs.Reading.{Reads}
 use Rattle.ps_linker.proofs.running.map.Goals as goal
@@ -25,6 +24,6 @@ returns-clause-ok g c =
       linked_file host libs,
       host_read,
       libs_read,
-      there host libs c.in_ok-text.ensures.sound,
+      c.linked_file_is_one.ensures.there host libs c.in_ok-text.ensures.sound,
       subst (λ (bytes : List ℕ). Appends (g.O.Write.contents c.args.out.now) (g.O.Write.contents c.print.new.out) bytes) text printed,
     )) c.print.ensures.ok
