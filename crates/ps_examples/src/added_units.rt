@@ -1,5 +1,5 @@
 ghost use Rattle.std.specs.Prelude.{◌≡◌, [], ◌∷◌, ◌++◌, Some, None};
-ghost use Rattle.ps_examples.specs.Files.{host, library_with, host_with, host_in_place, host_with_tools, put_at, with_slot, blank, util, aux, tools, count, cuont, nobody, unit_ref, publ_ref, publ_def, eof_mark, util_information, with_aux, aux_code, library_of_used, filled_host};
+ghost use Rattle.ps_examples.specs.Files.{host, library_with, host_with, host_in_place, host_with_tools, put_at, with_slot, zeros, blank, util, aux, tools, count, cuont, nobody, unit_ref, publ_ref, publ_def, eof_mark, util_information, with_aux, aux_code, library_of_used, filled_host};
 ghost use Rattle.ps_resolve.specs.AllFaults.{first_fault};
 ghost use Rattle.ps_words.specs.FaultPlaces.{in_slot, in_record};
 ghost use Rattle.ps_words.specs.declared.fault.Reason.TheVariants as reason;
@@ -8,11 +8,13 @@ ghost use Rattle.ps_words.specs.declared.order.Order.TheVariants.{Little};
 /// Which names are sought in the libraries, and which slots their units take.
 pub fn units_that_are_added()
     ensures a_unit_that_only_a_unit_names { first_fault host (library_of_used (util_information Little) ∷ []) ≡ None }
+    ensures each_name_of_its_records_is_sought { first_fault host (with_aux aux_code (util_information Little) (library_with Little (unit_ref Little aux (2 ∷ []) ++ unit_ref Little nobody [] ++ eof_mark Little 0)) ∷ []) ≡ Some (in_record 1 7 1 reason.MissingUnit) }
     ensures its_own_records_are_looked_at { first_fault host (library_of_used (unit_ref Little aux (2 ∷ []) ++ unit_ref Little nobody [] ++ eof_mark Little 0) ∷ []) ≡ Some (in_record 1 8 1 reason.MissingUnit) }
     ensures the_first_empty_slot_is_below_the_unit { first_fault (with_slot Little 7 blank 0 0 0 (with_slot Little 9 util 3 0 0 host)) (put_at 198 (5 ∷ []) (library_of_used (util_information Little)) ∷ []) ≡ Some (in_slot 1 7 (reason.NotAUnit 5)) }
     ensures one_slot_is_enough_for_one_name { first_fault (filled_host 7) (library_of_used (unit_ref Little aux (2 ∷ []) ++ unit_ref Little util (5 ∷ []) ++ eof_mark Little 0) ∷ []) ≡ None }
     ensures one_slot_is_not_enough_for_two { first_fault (filled_host 7) (with_slot Little 4 tools 3 3 24 (library_of_used (publ_ref Little count (1 ∷ []) ++ unit_ref Little tools [] ++ eof_mark Little 0)) ∷ []) ≡ Some (in_record 1 15 1 reason.NoSlot) }
     ensures no_slot_is_left { first_fault (filled_host 8) (library_of_used (util_information Little) ∷ []) ≡ Some (in_record 1 7 0 reason.NoSlot) }
+    ensures there_is_no_slot_behind_the_last { first_fault (put_at 64 (zeros 8) (filled_host 8)) (library_of_used (util_information Little) ∷ []) ≡ Some (in_record 1 7 0 reason.NoSlot) }
     ensures a_linked_segment_of_the_name_is_no_unit { first_fault host_with_tools (library_with Little (unit_ref Little tools (2 ∷ []) ++ eof_mark Little 0) ∷ []) ≡ Some (in_record 1 7 0 reason.MissingUnit) }
     ensures a_name_of_blanks_is_missing { first_fault host (with_slot Little 3 blank 3 1 24 (library_with Little (unit_ref Little blank (2 ∷ []) ++ eof_mark Little 0)) ∷ []) ≡ Some (in_record 1 7 0 reason.MissingUnit) }
     ensures a_unit_in_place_may_be_named_by_blanks { first_fault (put_at 120 blank (host_in_place Little (unit_ref Little blank (2 ∷ []) ++ eof_mark Little 0))) [] ≡ None }
