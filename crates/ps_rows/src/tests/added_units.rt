@@ -48,13 +48,26 @@ const LINKED_TOOLS: Slot = Slot {
 
 const TOOLS_CODE: [u8; 5] = [1, 2, 3, 4, 5];
 
-/// An entry of the second unit's code that has this name.
-const fn named(name: Name) -> Slot {
-    Slot {
-        name,
-        ..LIBRARY_AUX
-    }
-}
+/// Entries of the second unit's code that have other names.
+const LIBRARY_THIRD: Slot = Slot {
+    name: THIRD,
+    ..LIBRARY_AUX
+};
+
+const LIBRARY_TOOLS: Slot = Slot {
+    name: TOOLS,
+    ..LIBRARY_AUX
+};
+
+const NAMED_BY_BLANKS: Slot = Slot {
+    name: BLANK,
+    ..LIBRARY_AUX
+};
+
+const NAMED_BY_ZEROS: Slot = Slot {
+    name: ZEROS,
+    ..LIBRARY_AUX
+};
 
 const ONE_ADDED: &str = "segments 3 private words 4 blocks 4";
 
@@ -108,13 +121,7 @@ const LINKS: [Row<'static>; 6] = [
         what: "a unit that an added unit names",
         host: &[],
         library: &[
-            Entry(
-                4,
-                Slot {
-                    name: THIRD,
-                    ..LIBRARY_AUX
-                },
-            ),
+            Entry(4, LIBRARY_THIRD),
             Records(4, &[UnitReference(THIRD, &[2]), End(0)]),
         ],
         linked: &[
@@ -154,13 +161,7 @@ const NAME_OF_A_LINKED_SEGMENT: [Row<'static>; 1] = [Row {
         Code(3, 0, &TOOLS_CODE),
     ],
     library: &[
-        Entry(
-            4,
-            Slot {
-                name: TOOLS,
-                ..LIBRARY_AUX
-            },
-        ),
+        Entry(4, LIBRARY_TOOLS),
         Records(4, &[UnitReference(TOOLS, &[2]), End(0)]),
     ],
     linked: &[
@@ -191,13 +192,7 @@ const FAULTS: [Refusal<'static>; 5] = [
         "a name of blanks",
         &[],
         &[
-            Entry(
-                3,
-                Slot {
-                    name: BLANK,
-                    ..LIBRARY_AUX
-                },
-            ),
+            Entry(3, NAMED_BY_BLANKS),
             Records(2, &[UnitReference(BLANK, &[2]), End(0)]),
         ],
         "refused 13 MissingUnit file 1 slot 7 record 0",
@@ -206,13 +201,7 @@ const FAULTS: [Refusal<'static>; 5] = [
         "a name of zeros",
         &[],
         &[
-            Entry(
-                3,
-                Slot {
-                    name: ZEROS,
-                    ..LIBRARY_AUX
-                },
-            ),
+            Entry(3, NAMED_BY_ZEROS),
             Records(2, &[UnitReference(ZEROS, &[2]), End(0)]),
         ],
         "refused 13 MissingUnit file 1 slot 7 record 0",
@@ -401,8 +390,9 @@ fn library_of_letters(alloc: Global, count: u8) -> Result<CodeFile, AllocError> 
     let mut library = CodeFile::new(alloc, LITTLE, 1536)?.with(alloc, &changes)?;
     for (entry, name) in (0..count).zip(NAMES) {
         let unit = Slot {
+            name,
             address: 1,
-            ..named(name)
+            ..LIBRARY_AUX
         };
         library = library.with(alloc, &[Entry(entry, unit)])?;
     }
@@ -420,9 +410,9 @@ fn linked_nine(alloc: Global) -> Result<CodeFile, AllocError> {
     for (slot, name) in (7..16).zip(NAMES) {
         let block = u16::from(slot).saturating_sub(5);
         let unit = Slot {
+            name,
             address: block,
-            kind: LINKED,
-            ..named(name)
+            ..LINKED_AUX
         };
         let changes = [Entry(slot, unit), Code(block, 0, &util_code(LITTLE, slot))];
         linked = linked.with(alloc, &changes)?;
