@@ -5,6 +5,7 @@ mod files;
 mod inputs;
 mod linking;
 mod mapping;
+mod marks;
 mod memory;
 mod outcome;
 mod printing;

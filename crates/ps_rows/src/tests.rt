@@ -8,6 +8,7 @@ mod host_faults;
 mod in_place;
 mod in_place_faults;
 mod link_growths;
+mod marks;
 mod order_of_faults;
 mod pair_faults;
 mod pairs;

@@ -26,7 +26,7 @@ private 07 STATE    offset 8 words 4
 next 12 data 18 blocks 3
 ";
 
-static SLOTS_OF_THE_LIBRARY: &str = "order little
+pub(crate) static SLOTS_OF_THE_LIBRARY: &str = "order little
 slot 00          kind 0 address 0 length 0 text 0
 slot 01          kind 0 address 0 length 0 text 0
 slot 02 UTIL     kind 3 address 1 length 24 text 0
@@ -60,9 +60,9 @@ fn text_of<A: Allocator + Copy>(
 
 /// `map_text` of these files.
 #[derive(Clone, Copy)]
-struct Map<'a> {
-    host: &'a [u8],
-    libraries: &'a [&'a [u8]],
+pub(crate) struct Map<'a> {
+    pub host: &'a [u8],
+    pub libraries: &'a [&'a [u8]],
 }
 
 impl<'a> Growing for Map<'a> {
@@ -73,8 +73,8 @@ impl<'a> Growing for Map<'a> {
 
 /// `show_text` of this file.
 #[derive(Clone, Copy)]
-struct Show<'a> {
-    file: &'a [u8],
+pub(crate) struct Show<'a> {
+    pub file: &'a [u8],
 }
 
 impl<'a> Growing for Show<'a> {
