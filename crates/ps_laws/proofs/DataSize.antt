@@ -17,9 +17,9 @@ use Rattle.ps_words.specs.FaultPlaces.{in_slot}
 use Rattle.ps_words.specs.declared.order.Order.{Order}
 use Rattle.ps_words.specs.declared.fault.Reason.TheVariants as reason
 
-pub step_8 : (order : Order) (host : List ℕ) (libs : List (List ℕ)) → Least (Precedes OfDataSize) (InDataSize order host libs) (data_fault order (segments order host libs))
+pub step_9 : (order : Order) (host : List ℕ) (libs : List (List ℕ)) → Least (Precedes OfDataSize) (InDataSize order host libs) (data_fault order (segments order host libs))
 unfolding data_fault
-step_8 order host libs =
+step_9 order host libs =
     let total = total_words (segments order host libs) in
     least_then (λ s. option_and_then (λ t. fault_if (nat_lt 65535 (grown_data_size order s.code total t)) (in_slot 0 s.slot reason.DataTooLarge)) (table_of order s.code 1)) (host_of (segments order host libs))
     (λ s is_it. least_then (λ t. fault_if (nat_lt 65535 (grown_data_size order s.code total t)) (in_slot 0 s.slot reason.DataTooLarge)) (table_of order s.code 1)

@@ -107,9 +107,9 @@ carried h front (r ∷ rs) rec e = go (def_in r.body) refl (carried h (front ++ 
             let found : list_any (defined r.name) front ≡ false = sym (known r.name front) ∙ known_is in
             rw (defines, doubled_from, is_again) (rw (known_is, front_is, found) step)
 
-pub step_6 : (order : Order) (host : List ℕ) (libs : List (List ℕ)) → Least (Precedes OfDefinitions) (InDefinitions order host libs) (definitions_fault (segments order host libs))
+pub step_7 : (order : Order) (host : List ℕ) (libs : List (List ℕ)) → Least (Precedes OfDefinitions) (InDefinitions order host libs) (definitions_fault (segments order host libs))
 unfolding definitions_fault
-step_6 order host libs =
+step_7 order host libs =
     least_then (λ s. option_map (λ rec. in_record 0 s.slot rec reason.DoubledDefinition) (doubled s.records)) (host_of (segments order host libs))
     (λ s is_it. subst (λ (o : Option Fault). Least (Precedes OfDefinitions) (λ f. SomeItem s.records (λ rec r. (f ≡ in_record 0 s.slot rec reason.DoubledDefinition) × IsAgain is_definition s.records rec r)) o)
     (sym (carried (λ rec. in_record 0 s.slot rec reason.DoubledDefinition) [] s.records 0 refl))

@@ -25,6 +25,11 @@ least_or (nothing n) (nothing m) apart = nothing (λ y. elim [ inl s ↦ n y s |
 least_or (nothing n) (this x t l) apart = this x (inr t) (λ y. elim [ inl s ↦ absurd (n y s) | inr u ↦ l y u ])
 least_or (this x s l) p apart = this x (inl s) (λ y. elim [ inl u ↦ l y u | inr t ↦ inr (apart x y s t) ])
 
+-- the same, where the second part is only looked at if the first has nothing
+pub least_or_then : {X : Type 0} {B : X → X → Type 0} {S T : X → Type 0} {o p : Option X} → Least B S o → (o ≡ None → Least B T p) → ((x y : X) → S x → T y → B x y) → Least B (λ x. S x ⊎ T x) (option_or o p)
+least_or_then (nothing n) next apart = least_or (nothing n) (next refl) apart
+least_or_then (this x s l) next apart = this x (inl s) (λ y. elim [ inl u ↦ l y u | inr t ↦ inr (apart x y s t) ])
+
 -- one thing, where a test passes
 pub least_if : {X : Type 0} {B : X → X → Type 0} {P : Type 0} (b : Bool) (x : X) → Decides b P → Least B (λ y. (y ≡ x) × P) (fault_if b x)
 least_if true x d = this x (refl, d.0 refl) (λ y t. inl t.0)
@@ -41,13 +46,16 @@ least_then f None each = nothing (λ y t. absurd (let e = t.1 in cc))
 least_then {S} f (Some a) each = least_same (λ x s. (a, refl, s)) (λ x t. subst (λ b. S b x) (let e = t.1 in cc) t.2) (each a refl)
 
 -- each number of a range, in order
-pub least_range : {X : Type 0} {B : X → X → Type 0} {S : ℕ → X → Type 0} (f : ℕ → Option X) → ((i : ℕ) → Least B (S i) (f i)) → ((i j : ℕ) (x y : X) → i < j → S i x → S j y → B x y) → (n m : ℕ) → Least B (λ x. (i : ℕ) × (n ≤ i) × (i < n + m) × S i x) (first_of f (range_with_len n m))
-least_range f each apart n zero = nothing (λ y t. absurd (omega (arith, t.1, t.2)))
-least_range {S} f each apart n (suc m) =
+pub least_within : {X : Type 0} {B : X → X → Type 0} {S : ℕ → X → Type 0} (f : ℕ → Option X) (n m : ℕ) → ((i : ℕ) → n ≤ i → i < n + m → Least B (S i) (f i)) → ((i j : ℕ) (x y : X) → i < j → S i x → S j y → B x y) → Least B (λ x. (i : ℕ) × (n ≤ i) × (i < n + m) × S i x) (first_of f (range_with_len n m))
+least_within f n zero each apart = nothing (λ y t. absurd (omega (arith, t.1, t.2)))
+least_within {S} f n (suc m) each apart =
     least_same
     (λ x. elim [ inl s ↦ (n, omega arith, omega arith, s) | inr t ↦ (t.0, omega (arith, t.1), omega (arith, t.2), t.3) ])
     (λ x t. elim (cases_lt n t.0) [ inl h ↦ inr (t.0, omega (arith, h), omega (arith, t.2), t.3) | inr h ↦ inl (subst (λ i. S i x) (omega (arith, h, t.1)) t.3) ])
-    (least_or (each n) (least_range f each apart (n + 1) m) (λ x y s t. apart n t.0 x y (omega (arith, t.1)) s t.3))
+    (least_or (each n (omega arith) (omega arith)) (least_within f (n + 1) m (λ i low high. each i (omega (arith, low)) (omega (arith, high))) apart) (λ x y s t. apart n t.0 x y (omega (arith, t.1)) s t.3))
+
+pub least_range : {X : Type 0} {B : X → X → Type 0} {S : ℕ → X → Type 0} (f : ℕ → Option X) → ((i : ℕ) → Least B (S i) (f i)) → ((i j : ℕ) (x y : X) → i < j → S i x → S j y → B x y) → (n m : ℕ) → Least B (λ x. (i : ℕ) × (n ≤ i) × (i < n + m) × S i x) (first_of f (range_with_len n m))
+least_range f each apart n m = least_within f n m (λ i low high. each i) apart
 
 -- each item of a list with its number, in order
 pub least_each : {A X : Type 0} {B : X → X → Type 0} {S : ℕ → A → X → Type 0} (f : ℕ × A → Option X) (n : ℕ) (items : List A) → ((i k : ℕ) (a : A) → k ≡ n + i → slice_get items i ≡ Some a → Least B (S k a) (f (k, a))) → ((i j : ℕ) (a b : A) (x y : X) → i < j → S i a x → S j b y → B x y) → Least B (λ x. (i : ℕ) × (k : ℕ) × (a : A) × (k ≡ n + i) × (slice_get items i ≡ Some a) × S k a x) (first_of f (enumerate_from n items))

@@ -1,11 +1,14 @@
 pub mod Least
 pub mod Looking
+pub mod Items
 pub mod Steps
 pub mod Segments
 pub mod Sources
+pub mod Parts
 pub mod Definitions
+pub mod Rounds
+pub mod Asked
 pub mod DataSize
 pub mod Privates
 pub mod References
-pub mod Parts
 pub mod Whole

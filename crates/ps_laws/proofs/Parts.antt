@@ -1,7 +1,10 @@
 -- A fault that stands has just the parts of its number.
 use Rattle.std.proofs.Common.{◌≡◌, ℕ, ◌+◌, ◌*◌, List, length, Option, Some, None, Result, Ok, Err, Bool, true, false, refl, sym, subst, inl, inr, arith}
-use Rattle.std.specs.Prelude.{if◌then◌else◌, ◌==◌, ◌&&◌, ◌||◌, not, nat_le, nat_lt}
+use Rattle.std.specs.Prelude.{if◌then◌else◌, ◌==◌, ◌&&◌, ◌||◌, ◌⊎◌, not, nat_le, nat_lt}
+use Rattle.std.specs.List.{slice_get}
 use Rattle.std.specs.Option.{option_or}
+use Rattle.ps_codefile.specs.declared.entry.Role.TheVariants as role
+use Rattle.ps_resolve.specs.declared.added.UnitReference.{UnitReference}
 use Rattle.ps_words.specs.FaultText.{number_of}
 use Rattle.ps_words.specs.FaultPlaces.{in_file, in_slot, in_record, in_reference, has_slot, has_record, has_reference, is_of_host, is_of_library, HasItsParts}
 use Rattle.ps_words.specs.Words.{word_at}
@@ -14,11 +17,11 @@ use Rattle.ps_codefile.specs.declared.entry.Entry.{Entry}
 use Rattle.ps_codefile.specs.declared.entry.Role.{Role}
 use Rattle.ps_linkinfo.specs.Records.{bad, bad_format, type_fault, format_of, list_len}
 use Rattle.ps_linkinfo.specs.declared.record.Body.{Body}
-use Rattle.ps_linkinfo.specs.declared.record.Body.TheVariants.{UnitRef, PublRef}
+use Rattle.ps_linkinfo.specs.declared.record.Body.TheVariants.{PublRef}
 use Rattle.ps_linkinfo.specs.declared.record.LinkRecord.{LinkRecord as Record}
 use Rattle.ps_resolve.specs.Sources.{Segment, file_at, is_host}
-use Rattle.ps_resolve.specs.Added.{segments}
-use Rattle.ps_resolve.specs.Standing.{Because, HostHas, SlotHas, LibraryHas, EntriesHave, UnitFault, TablesHave, CodeFault, PrivateHas, RecordHas, ReferenceHas, InHost, InSlots, InNoHost, InLibraries, InSources, InDefinitions, InPrivates, InDataSize, InReferences, StandsIn, Step, OfHost, OfSlots, OfNoHost, OfLibraries, OfSources, OfDefinitions, OfPrivates, OfDataSize, OfReferences}
+use Rattle.ps_resolve.specs.Added.{empty_slots, segments}
+use Rattle.ps_resolve.specs.Standing.{Because, HostHas, SlotHas, LibraryHas, EntriesHave, EntryFault, UnitFault, TablesHave, CodeFault, IsMissing, PlacedFault, PrivateHas, RecordHas, ReferenceHas, InHost, InSlots, InNoHost, InLibraries, InSources, InRound, InDefinitions, InPrivates, InDataSize, InReferences, StandsIn, Step, OfHost, OfSlots, OfNoHost, OfLibraries, OfSources, OfAdded, OfDefinitions, OfPrivates, OfDataSize, OfReferences}
 
 -- what is because of a reason has what all such have
 because_parts : {Has : Reason → Type 0} (h : Reason → Fault) → ((why : Reason) → Has why → HasItsParts (h why)) → (f : Fault) → Because h Has f → HasItsParts f
@@ -35,10 +38,10 @@ library_slot : (k slot : ℕ) (why : Reason) → has_slot (number_of why) ≡ tr
 library_slot k slot why a b c d = record { slot = sym a; rec = sym b; reference = sym c; of_host = λ g. absurd (cc); of_library = λ g. omega arith }
 
 -- a fault of a record and of a reference, of any file
-any_record : (file slot rec : ℕ) (why : Reason) → has_slot (number_of why) ≡ true → has_record (number_of why) ≡ true → has_reference (number_of why) ≡ false → is_of_host (number_of why) ≡ false → is_of_library (number_of why) ≡ false → HasItsParts (in_record file slot rec why)
+any_record : (file slot rec : ℕ) (why : Reason) → has_slot (number_of why) ≡ true → (number_of why == 13 || has_record (number_of why)) ≡ true → has_reference (number_of why) ≡ false → (not (number_of why == 13) && is_of_host (number_of why)) ≡ false → is_of_library (number_of why) ≡ false → HasItsParts (in_record file slot rec why)
 any_record file slot rec why a b c d e = record { slot = sym a; rec = sym b; reference = sym c; of_host = λ g. absurd (cc); of_library = λ g. absurd (cc) }
 
-any_reference : (file slot rec i : ℕ) (why : Reason) → has_slot (number_of why) ≡ true → has_record (number_of why) ≡ true → has_reference (number_of why) ≡ true → is_of_host (number_of why) ≡ false → is_of_library (number_of why) ≡ false → HasItsParts (in_reference file slot rec i why)
+any_reference : (file slot rec i : ℕ) (why : Reason) → has_slot (number_of why) ≡ true → (number_of why == 13 || has_record (number_of why)) ≡ true → has_reference (number_of why) ≡ true → (not (number_of why == 13) && is_of_host (number_of why)) ≡ false → is_of_library (number_of why) ≡ false → HasItsParts (in_reference file slot rec i why)
 any_reference file slot rec i why a b c d e = record { slot = sym a; rec = sym b; reference = sym c; of_host = λ g. absurd (cc); of_library = λ g. absurd (cc) }
 
 -- each reason of an answer has P
@@ -55,8 +58,8 @@ errs_ok x = record { held = λ why e. absurd (cc) }
 errs_err : {X : Type 0} {P : Reason → Type 0} (why : Reason) → P why → Errs {X = X} P (Err why)
 errs_err {X} {P} why h = record { held = λ other e. subst P (cc) h }
 
-record Somes (P : Reason → Type 0) (o : Option Reason) : Type 0 where
-  held : (why : Reason) → o ≡ Some why → P why
+pub record Somes (P : Reason → Type 0) (o : Option Reason) : Type 0 where
+  pub held : (why : Reason) → o ≡ Some why → P why
 
 somes_if : {P : Reason → Type 0} (b : Bool) {x y : Option Reason} → Somes P x → Somes P y → Somes P (if b then x else y)
 somes_if true p q = p
@@ -127,7 +130,7 @@ code_errs P a b c file e =
     errs_if (has_bad_length e) (errs_err reason.BadLength a) (errs_if (e.address == 0) (errs_err reason.BadAddress b) (errs_if (nat_lt (length file) (block_len * e.address + e.length)) (errs_err reason.Truncated c) (errs_ok _)))
 
 -- a record is refused for a reason of 19 to 23
-record_somes : (P : Reason → Type 0) → P reason.RecordsTruncated → P reason.UnknownRecord → P reason.NativeRecord → P reason.SeparateRecord → P reason.BadFormat → (order : Order) (bytes : List ℕ) → Somes P (bad order bytes)
+pub record_somes : (P : Reason → Type 0) → P reason.RecordsTruncated → P reason.UnknownRecord → P reason.NativeRecord → P reason.SeparateRecord → P reason.BadFormat → (order : Order) (bytes : List ℕ) → Somes P (bad order bytes)
 record_somes P a b c d e order bytes =
     somes_if (nat_lt (length bytes) 16) (somes_some reason.RecordsTruncated a)
     (somes_or (type_fault kind) _
@@ -164,14 +167,17 @@ of_code order file k e slot role f (inr t) = elim t.2.1 [
     at reason.NativeProcedure h = any_slot k slot reason.NativeProcedure refl refl refl refl refl
     at other h = absurd h
 
-of_unit : (order : Order) (name : List ℕ) (libs : List (List ℕ)) (slot : ℕ) (f : Fault) → UnitFault order name libs slot f → HasItsParts f
-of_unit order name libs slot f (inl t) = subst HasItsParts (sym t.0) (host_slot slot reason.MissingUnit refl refl refl refl)
-of_unit order name libs slot f (inr t) = because_parts (in_slot (t.0 + 1) slot) at f t.3.1
+of_entries : (order : Order) (name : List ℕ) (libs : List (List ℕ)) (slot : ℕ) (f : Fault) → EntryFault order name libs slot f → HasItsParts f
+of_entries order name libs slot f t = because_parts (in_slot (t.0 + 1) slot) at f t.3.1
   where
     at : (why : Reason) → EntriesHave order name t.1 why → HasItsParts (in_slot (t.0 + 1) slot why)
     at reason.DoubledUnit h = library_slot t.0 slot reason.DoubledUnit refl refl refl refl
     at (reason.NotAUnit kind) h = library_slot t.0 slot (reason.NotAUnit kind) refl refl refl refl
     at other h = absurd h
+
+of_unit : (order : Order) (name : List ℕ) (libs : List (List ℕ)) (slot : ℕ) (f : Fault) → UnitFault order name libs slot f → HasItsParts f
+of_unit order name libs slot f (inl t) = subst HasItsParts (sym t.0) (host_slot slot reason.MissingUnit refl refl refl refl)
+of_unit order name libs slot f (inr t) = of_entries order name libs slot f t
 
 in_sources : (order : Order) (host : List ℕ) (libs : List (List ℕ)) (f : Fault) → InSources order host libs f → HasItsParts f
 in_sources order host libs f t = elim t.2.2 [
@@ -180,10 +186,29 @@ in_sources order host libs f t = elim t.2.2 [
 ]
 
 -- 6
+-- what is wrong with the unit of a reference, where this slot, or none, is left for it
+abbrev pub RoundHas : Order → List ℕ → List (List ℕ) → UnitReference → Option ℕ → Fault → Type 0
+RoundHas order host libs g left f =
+    ((f ≡ in_record g.file g.slot g.rec reason.MissingUnit) × IsMissing order libs g.name)
+    ⊎ (((f ≡ in_record g.file g.slot g.rec reason.NoSlot) × (left ≡ None))
+    ⊎ ((slot : ℕ) × (left ≡ Some slot) × PlacedFault order host libs g.name slot f))
+
+in_round : (order : Order) (host : List ℕ) (libs : List (List ℕ)) (k : ℕ) (f : Fault) → InRound order host libs k f → HasItsParts f
+in_round order host libs k f t = go t.0 t.2
+  where
+    go : (g : UnitReference) → RoundHas order host libs g (slice_get (empty_slots order host) k) f → HasItsParts f
+    go g (inl m) = subst HasItsParts (sym m.0) (any_record g.file g.slot g.rec reason.MissingUnit refl refl refl refl refl)
+    go g (inr (inl n)) = subst HasItsParts (sym n.0) (any_record g.file g.slot g.rec reason.NoSlot refl refl refl refl refl)
+    go g (inr (inr p)) = elim p.2 [
+      | inl e ↦ of_entries order g.name libs p.0 f e
+      | inr c ↦ of_code order (file_at host libs c.0.0) c.0.0 (entry_at order (file_at host libs c.0.0) c.0.1) p.0 role.Wanted f c.2
+    ]
+
+-- 7
 in_definitions : (order : Order) (host : List ℕ) (libs : List (List ℕ)) (f : Fault) → InDefinitions order host libs f → HasItsParts f
 in_definitions order host libs f t = subst HasItsParts (sym t.2.3.0) (record { slot = refl; rec = refl; reference = refl; of_host = λ e. refl; of_library = λ e. absurd (cc) })
 
--- 7
+-- 8
 in_privates : (order : Order) (host : List ℕ) (libs : List (List ℕ)) (f : Fault) → InPrivates order host libs f → HasItsParts f
 in_privates order host libs f t = because_parts (in_record t.0.file t.0.slot t.2.0) at f t.2.3
   where
@@ -192,15 +217,14 @@ in_privates order host libs f t = because_parts (in_record t.0.file t.0.slot t.2
     at reason.NoRoom h = any_record t.0.file t.0.slot t.2.0 reason.NoRoom refl refl refl refl refl
     at other h = absurd h
 
--- 8
+-- 9
 in_data_size : (order : Order) (host : List ℕ) (libs : List (List ℕ)) (f : Fault) → InDataSize order host libs f → HasItsParts f
 in_data_size order host libs f t = subst HasItsParts (sym t.2.2.0) (host_slot t.0.slot reason.DataTooLarge refl refl refl refl)
 
--- 9
+-- 10
 of_record : (segs : List Segment) (file slot rec : ℕ) (name : List ℕ) (body : Body) (why : Reason) → RecordHas segs name body why → HasItsParts (in_record file slot rec why)
 of_record segs file slot rec name (PublRef refs) reason.MissingDefinition h = any_record file slot rec reason.MissingDefinition refl refl refl refl refl
 of_record segs file slot rec name (PublRef refs) reason.IllKind h = any_record file slot rec reason.IllKind refl refl refl refl refl
-of_record segs file slot rec name (UnitRef refs) reason.MissingUnitRef h = any_record file slot rec reason.MissingUnitRef refl refl refl refl refl
 of_record segs file slot rec name body other h = absurd h
 
 of_reference : (order : Order) (segs : List Segment) (s : Segment) (rec : ℕ) (r : Record) (i x : ℕ) (why : Reason) → ReferenceHas order segs s rec r i x why → HasItsParts (in_reference s.file s.slot rec i why)
@@ -222,6 +246,7 @@ parts order host libs OfSlots f h = in_slots order host f h
 parts order host libs OfNoHost f h = in_no_host order host f h
 parts order host libs OfLibraries f h = in_libraries order libs f h
 parts order host libs OfSources f h = in_sources order host libs f h
+parts order host libs (OfAdded k) f h = in_round order host libs k f h
 parts order host libs OfDefinitions f h = in_definitions order host libs f h
 parts order host libs OfPrivates f h = in_privates order host libs f h
 parts order host libs OfDataSize f h = in_data_size order host libs f h

@@ -291,15 +291,15 @@ private_rows segs s rec r =
     from reason.NoRoom h = inr (refl, h)
     from other h = absurd h
 
-pub step_7 : (order : Order) (host : List ℕ) (libs : List (List ℕ)) → Least (Precedes OfPrivates) (InPrivates order host libs) (privates_fault (segments order host libs))
+pub step_8 : (order : Order) (host : List ℕ) (libs : List (List ℕ)) → Least (Precedes OfPrivates) (InPrivates order host libs) (privates_fault (segments order host libs))
 unfolding privates_fault
-step_7 order host libs =
+step_8 order host libs =
     let segs = segments order host libs in
     let e : first_private_fault (next_of (host_records segs)) (map owner_of segs) ≡ first_of (segment_fault segs) segs =
     ap (λ (n : ℕ). first_private_fault n (map owner_of segs)) (omega arith) ∙ carried_all segs [] segs 0 refl tt (ascend order host libs) in
     subst (λ (o : Option Fault). Least (Precedes OfPrivates) (InPrivates order host libs) o) (sym e)
     (over_segments order host libs (segment_fault segs)
-    (λ s. least_items (record_fault (λ why rec. in_record s.file s.slot rec why) (λ n. offset_of segs s.slot n) s.records) s.records
+    (λ s is. least_items (record_fault (λ why rec. in_record s.file s.slot rec why) (λ n. offset_of segs s.slot n) s.records) s.records
     (λ k r e. because OfPrivates (in_record s.file s.slot k) (λ a b h. inr (refl, inr (refl, inr (refl, inr (refl, inl h))))) (private_rows segs s k r))
     (λ i j a b x y h. because_apart OfPrivates (in_record s.file s.slot i) (in_record s.file s.slot j) (λ q p. inr (refl, inr (refl, inl (omega (arith, h))))) x y))
     (λ s t x y h a b. because_apart OfPrivates (in_record s.file s.slot a.0) (in_record t.file t.slot b.0) (λ q p. inr (refl, inl h)) x y a.3 b.3))

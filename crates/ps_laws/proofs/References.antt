@@ -20,8 +20,8 @@ use Rattle.ps_linkinfo.specs.declared.record.Body.TheVariants.{UnitRef, PublRef,
 use Rattle.ps_linkinfo.specs.declared.record.LinkRecord.{LinkRecord as Record}
 use Rattle.ps_resolve.specs.First.{Before, Least, nothing, this}
 use Rattle.ps_resolve.specs.Searches.{first_of, fault_if}
-use Rattle.ps_resolve.specs.Sources.{Segment, host_records, is_unit, units_of}
-use Rattle.ps_resolve.specs.Added.{segments}
+use Rattle.ps_resolve.specs.Sources.{Segment, host_records, units_of}
+use Rattle.ps_resolve.specs.Added.{is_unit_reference, added_fault, segments}
 use Rattle.ps_resolve.specs.Symbols.{definitions, definition_of}
 use Rattle.ps_resolve.specs.Privates.{words_of, owner_of, all_words, next_of}
 use Rattle.ps_resolve.specs.Operands.{width_of, value_of, is_in, reference_reason, operands, refs_fault}
@@ -35,6 +35,7 @@ use Rattle.ps_resolve.specs.declared.definitions.DefKind.TheVariants.{Public, Co
 use Rattle.ps_resolve.specs.declared.references.Target.{Target}
 use Rattle.ps_resolve.specs.declared.references.Target.TheVariants.{Slot, Base}
 use Rattle.ps_laws.proofs.Least.{least_same, least_or, least_if, least_items, at_apart}
+use Rattle.ps_laws.proofs.Asked.{HasUnit, units_named, asked_is_there}
 use Rattle.ps_laws.proofs.Steps.{Ranked, because, because_apart, any_of_range}
 use Rattle.ps_laws.proofs.Looking.{of_test, any_of_take, any_of_items}
 use Rattle.ps_laws.proofs.Segments.{over_segments, Ascends, ascend}
@@ -94,28 +95,6 @@ named_some {D} name (x ∷ ds) d e = go (bytes_eq name x.0) (bytes_eq-Decides na
     go true h rest e = (zero, x, refl, ((sym (h.0 refl), cc), λ lesser other l g q. omega (arith, l)))
     go false h rest e = let r = rest e in (suc r.0, r.1, r.2, (r.3.0, later r.0 (λ same. false≢true (h.1 same)) r.3.1))
 
-abbrev unit_named : List ℕ → Segment → Bool
-unit_named name q = is_unit q.role && bytes_eq name q.name
-
-units_known : (name : List ℕ) (segs : List Segment) → is_some (lookup (bytes_eq name) (units_of segs)) ≡ list_any (unit_named name) segs
-units_known name [] = refl
-units_known name (s ∷ segs) = go (is_unit s.role) (units_known name segs)
-  where
-    go : (b : Bool) → is_some (lookup (bytes_eq name) (units_of segs)) ≡ list_any (unit_named name) segs
-        → is_some (lookup (bytes_eq name) (cons_option (if b then Some (s.name, s.slot) else None) (units_of segs))) ≡ ((b && bytes_eq name s.name) || list_any (unit_named name) segs)
-    go false e = e
-    go true e = at (bytes_eq name s.name)
-      where
-        at : (b : Bool) → is_some (if b then Some s.slot else lookup (bytes_eq name) (units_of segs)) ≡ (b || list_any (unit_named name) segs)
-        at true = refl
-        at false = e
-
-units_named : (name : List ℕ) (segs : List Segment) → Decides (is_some (lookup (bytes_eq name) (units_of segs))) (SomeItem segs (λ k q. (is_unit q.role ≡ true) × (q.name ≡ name)))
-units_named name segs =
-    Decides-at (is_some (lookup (bytes_eq name) (units_of segs))) (list_any (unit_named name) segs) (units_known name segs)
-    (any_of_items (unit_named name) (λ q. (is_unit q.role ≡ true) × (q.name ≡ name))
-    (λ q. Decides-and (is_unit q.role) (bytes_eq name q.name) (of_test (is_unit q.role)) (Decides-like (bytes_eq name q.name) (λ e. sym e) (λ e. sym e) (bytes_eq-Decides name q.name))) segs)
-
 one_definition : (ds : List (List ℕ × Def)) (name : List ℕ) (d e : Def) → Defines ds name d → Defines ds name e → d ≡ e
 one_definition ds name d e a b = elim (cases_lt a.0 b.0) [
   | inl h ↦ absurd (b.3.1 a.0 a.1 h a.2 a.3.0.0)
@@ -128,25 +107,21 @@ one_definition ds name d e a b = elim (cases_lt a.0 b.0) [
   ]
 ]
 
-record_rows : (segs : List Segment) (off : ℕ) (name : List ℕ) (body : Body) → Least Ranked (RecordHas segs name body) (result_err (target_in (known_of segs) off name body))
-record_rows segs off name (PrivRef words refs) = nothing (λ y h. h)
-record_rows segs off name (PublDef value) = nothing (λ y h. h)
-record_rows segs off name (ConstDef value) = nothing (λ y h. h)
-record_rows segs off name (Eof next) = nothing (λ y h. h)
-record_rows segs off name (UnitRef refs) = go (lookup (bytes_eq name) (units_of segs)) refl
+-- each unit that the record asks for has its segment
+abbrev UnitIsThere : List Segment → List ℕ → Body → Type 0
+UnitIsThere segs name body = is_unit_reference body ≡ true → HasUnit segs name
+
+record_rows : (segs : List Segment) (off : ℕ) (name : List ℕ) (body : Body) → UnitIsThere segs name body → Least Ranked (RecordHas segs name body) (result_err (target_in (known_of segs) off name body))
+record_rows segs off name (PrivRef words refs) there = nothing (λ y h. h)
+record_rows segs off name (PublDef value) there = nothing (λ y h. h)
+record_rows segs off name (ConstDef value) there = nothing (λ y h. h)
+record_rows segs off name (Eof next) there = nothing (λ y h. h)
+record_rows segs off name (UnitRef refs) there = go (lookup (bytes_eq name) (units_of segs)) refl
   where
     go : (o : Option ℕ) → lookup (bytes_eq name) (units_of segs) ≡ o → Least Ranked (RecordHas segs name (UnitRef refs)) (result_err (unit_slot o))
-    go None e = this reason.MissingUnitRef (λ t. false≢true (sym (ap is_some e) ∙ (units_named name segs).1 t)) least
-      where
-        least : (y : Reason) → RecordHas segs name (UnitRef refs) y → (y ≡ reason.MissingUnitRef) ⊎ Ranked reason.MissingUnitRef y
-        least reason.MissingUnitRef h = inl refl
-        least other h = absurd h
-    go (Some slot) e = nothing none
-      where
-        none : (y : Reason) → RecordHas segs name (UnitRef refs) y → ⊥
-        none reason.MissingUnitRef h = h ((units_named name segs).0 (ap is_some e))
-        none other h = h
-record_rows segs off name (PublRef refs) = go (definition_of name ds) refl
+    go None e = absurd (false≢true (sym (ap is_some e) ∙ (units_named name segs).1 (there refl)))
+    go (Some slot) e = nothing (λ y h. h)
+record_rows segs off name (PublRef refs) there = go (definition_of name ds) refl
   where
     ds : List (List ℕ × Def)
     ds = definitions (host_records segs)
@@ -322,10 +297,10 @@ record_fault order segs s r =
     option_or (option_map (in_record s.file s.slot r.0) (result_err (target_of (known_of segs) (offset_of segs s.slot r.0) r.1)))
     (first_of (references_of order segs s r.0 r.1) (enumerate_from 0 (refs_of r.1.body)))
 
-of_record : (order : Order) (segs : List Segment) (s : Segment) (rec : ℕ) (r : Record) → slice_get s.records rec ≡ Some r → Least (Precedes OfReferences) (RecordFaults order segs s rec r) (record_fault order segs s (rec, r))
-of_record order segs s rec r er =
+of_record : (order : Order) (segs : List Segment) (s : Segment) (rec : ℕ) (r : Record) → slice_get s.records rec ≡ Some r → UnitIsThere segs r.name r.body → Least (Precedes OfReferences) (RecordFaults order segs s rec r) (record_fault order segs s (rec, r))
+of_record order segs s rec r er there =
     least_or
-    (because OfReferences (in_record s.file s.slot rec) (λ a b h. inr (refl, inr (refl, inr (refl, inr (refl, inl h))))) (record_rows segs (offset_of segs s.slot rec) r.name r.body))
+    (because OfReferences (in_record s.file s.slot rec) (λ a b h. inr (refl, inr (refl, inr (refl, inr (refl, inl h))))) (record_rows segs (offset_of segs s.slot rec) r.name r.body there))
     (least_items (references_of order segs s rec r) (refs_of r.body)
     (λ i x ex. because OfReferences (in_reference s.file s.slot rec i) (λ a b h. inr (refl, inr (refl, inr (refl, inr (refl, inl h))))) (reference_rows order segs s rec r i x er ex))
     (λ i j a b x y h. because_apart OfReferences (in_reference s.file s.slot rec i) (in_reference s.file s.slot rec j) (λ q p. inr (refl, inr (refl, inr (refl, inl (omega (arith, h)))))) x y))
@@ -488,16 +463,17 @@ carried_all order all front (s ∷ rest) from is below ascends =
     ∙ carried_all order all (front ++ s ∷ []) rest (s.slot + 1) (is ∙ sym (append_assoc front (s ∷ []) rest)) (below_more (s.slot + 1) front s (below_from from s.slot front ascends.0 below) (omega arith)) ascends.1 in
     ap (λ (o : Option Fault). option_or o (references_fault_from order (known_of all) (start + words_of s.records) rest)) mine ∙ ap (option_or (all_records order all s)) later
 
-pub step_9 : (order : Order) (host : List ℕ) (libs : List (List ℕ)) → Least (Precedes OfReferences) (InReferences order host libs) (references_fault order (segments order host libs))
+-- where the rounds have no fault, so that each unit that is asked for has its segment
+pub step_10 : (order : Order) (host : List ℕ) (libs : List (List ℕ)) → added_fault order host libs ≡ None → Least (Precedes OfReferences) (InReferences order host libs) (references_fault order (segments order host libs))
 unfolding references_fault
-step_9 order host libs =
+step_10 order host libs fine =
     let segs = segments order host libs in
     let e : references_fault_from order (known_of segs) (next_of (host_records segs)) segs ≡ first_of (all_records order segs) segs =
     ap (λ (n : ℕ). references_fault_from order (known_of segs) n segs) (omega arith) ∙ carried_all order segs [] segs 0 refl tt (ascend order host libs) in
     subst (λ (o : Option Fault). Least (Precedes OfReferences) (InReferences order host libs) o) (sym e)
     (over_segments {S = λ s f. SomeItem s.records (λ rec r. RecordFaults order segs s rec r f)} order host libs (all_records order segs)
-    (λ s. least_items (record_fault order segs s) s.records
-    (λ rec r e. of_record order segs s rec r e)
+    (λ s is. least_items (record_fault order segs s) s.records
+    (λ rec r e. of_record order segs s rec r e (asked_is_there order host libs fine s is rec r e))
     (λ i j a b x y h m n. let p = at_record order segs s i a x m in let q = at_record order segs s j b y n in
     inr (refl, inr (p.0 ∙ sym q.0, inl (let u = p.1 in let v = q.1 in omega (arith, u, v, h))))))
     (λ s t x y h m n. let p = at_record order segs s m.0 m.1 x m.3 in let q = at_record order segs t n.0 n.1 y n.3 in

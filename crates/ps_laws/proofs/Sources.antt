@@ -7,7 +7,7 @@ use Rattle.std.specs.Option.{option_or, option_map, option_and_then, option_map_
 use Rattle.std.specs.Result.{result_ok}
 use Rattle.std.specs.Str.{bytes_eq}
 use Rattle.std.proofs.lemmas.Bool.{cases_lt, false≢true}
-use Rattle.std.proofs.Common.{leb-true, le-leb, unwrap_or}
+use Rattle.std.proofs.Common.{leb-true, le-leb, unwrap_or, is_none}
 use Rattle.std.proofs.lemmas.Bool.Decides.{Decides-at, Decides-ltb, Decides-and, Decides-or, Decides-not, Decides-like, Decides-eqb}
 use Rattle.std.proofs.lemmas.Slice.Eq.{bytes_eq-Decides}
 use Rattle.ps_codefile.specs.Dictionary.{slots, entry_at, role_of, code_of, information_of, is_filled}
@@ -16,11 +16,11 @@ use Rattle.ps_codefile.specs.declared.entry.Entry.{Entry}
 use Rattle.ps_codefile.specs.declared.entry.Role.{Role}
 use Rattle.ps_linkinfo.specs.Records.{reading, Stops}
 use Rattle.ps_linkinfo.specs.declared.record.LinkRecord.{LinkRecord as Record}
-use Rattle.ps_resolve.specs.Faults.{entries_reason, unit_fault, wanted_fault, information_fault, code_fault, source_fault, sources_fault}
+use Rattle.ps_resolve.specs.Faults.{entries_reason, entry_fault, unit_fault, wanted_fault, information_fault, code_fault, source_fault, sources_fault}
 use Rattle.ps_resolve.specs.First.{Least, nothing, this}
 use Rattle.ps_resolve.specs.Searches.{first_of, fault_if}
 use Rattle.ps_resolve.specs.Sources.{is_host, is_wanted, is_named, has_entry, chosen_library, source_of, file_at, is_linked}
-use Rattle.ps_resolve.specs.Standing.{Because, Lesser, SomeItem, OfSources, rank, part, Precedes, IsNamed, HasEntry, EntriesHave, UnitFault, HasBadTable, AreBad, TablesHave, CodeFault, InSources}
+use Rattle.ps_resolve.specs.Standing.{Because, Lesser, SomeItem, OfSources, rank, part, Precedes, IsNamed, HasEntry, EntriesHave, NoneHas, EntryFault, UnitFault, HasBadTable, AreBad, TablesHave, CodeFault, InSources}
 use Rattle.ps_words.specs.FaultPlaces.{in_slot, in_record}
 use Rattle.ps_laws.proofs.Least.{least_same, least_or, least_if, least_then, least_range, least_items, least_guard}
 use Rattle.ps_laws.proofs.Steps.{Ranked, because, any_of_range, any_lesser}
@@ -38,13 +38,13 @@ at_most : (a b : ℕ) → Decides (nat_le a b) (a ≤ b)
 at_most a b = (λ e. leb-true a b e, λ h. le-leb a b h)
 
 -- before rank n in the slot's own faults, or from it on, or in a record
-abbrev Early : ℕ → ℕ → Fault → Type 0
+abbrev pub Early : ℕ → ℕ → Fault → Type 0
 Early slot n f = (unwrap_or f.slot f.file ≡ slot) × (part f.rec ≡ 0) × (part f.reference ≡ 0) × (rank f.reason < n)
 
-abbrev Late : ℕ → ℕ → Fault → Type 0
+abbrev pub Late : ℕ → ℕ → Fault → Type 0
 Late slot n f = (unwrap_or f.slot f.file ≡ slot) × (((part f.rec ≡ 0) × (part f.reference ≡ 0) × (n ≤ rank f.reason)) ⊎ (0 < part f.rec))
 
-early_late : (slot n : ℕ) (x y : Fault) → Early slot n x → Late slot n y → Precedes OfSources x y
+pub early_late : (slot n : ℕ) (x y : Fault) → Early slot n x → Late slot n y → Precedes OfSources x y
 early_late slot n x y a b =
     inr (
       refl,
@@ -65,7 +65,7 @@ early k slot n f low t = (
   let a = ap (λ (g : Fault). rank g.reason) t.1 in let b = low t.0 t.2 in omega (arith, a, b),
 )
 
-late : {P : Reason → Type 0} (k slot n : ℕ) (f : Fault) → ((why : Reason) → P why → n ≤ rank why) → Because (in_slot k slot) P f → Late slot n f
+pub late : {P : Reason → Type 0} (k slot n : ℕ) (f : Fault) → ((why : Reason) → P why → n ≤ rank why) → Because (in_slot k slot) P f → Late slot n f
 late k slot n f high t = (
   ap (λ (g : Fault). unwrap_or g.slot g.file) t.1,
   inl (
@@ -85,10 +85,10 @@ find_first {X} p (x ∷ xs) = go (p x) (find_first p xs)
     go false e = e
 
 -- the library's entries
-named : (order : Order) (name file : List ℕ) (i : ℕ) → Decides (is_named order name file i) (IsNamed order name file i)
+pub named : (order : Order) (name file : List ℕ) (i : ℕ) → Decides (is_named order name file i) (IsNamed order name file i)
 named order name file i = Decides-and (is_filled (entry_at order file i)) (bytes_eq (entry_at order file i).name name) (of_test (is_filled (entry_at order file i))) (bytes_eq-Decides (entry_at order file i).name name)
 
-has : (order : Order) (name file : List ℕ) → Decides (has_entry order name file) (HasEntry order name file)
+pub has : (order : Order) (name file : List ℕ) → Decides (has_entry order name file) (HasEntry order name file)
 has order name file = any_lesser (is_named order name file) (λ i. IsNamed order name file i) (named order name file) 16
 
 abbrev Doubled : Order → List ℕ → List ℕ → Type 0
@@ -154,23 +154,29 @@ entries_rows order name lib = go (list_any (λ i. is_named order name lib i && l
         from other h = absurd h
 
 -- the library
-chosen : (order : Order) (name : List ℕ) (libs : List (List ℕ)) → Least (λ p q. p.0 < q.0) (λ p. SomeItem libs (λ k lib. HasEntry order name lib × (p ≡ (k, lib)))) (chosen_library order name libs)
+pub chosen : (order : Order) (name : List ℕ) (libs : List (List ℕ)) → Least (λ p q. p.0 < q.0) (λ p. SomeItem libs (λ k lib. HasEntry order name lib × (p ≡ (k, lib)))) (chosen_library order name libs)
 chosen order name libs =
     subst (λ o. Least (λ p q. p.0 < q.0) (λ p. SomeItem libs (λ k lib. HasEntry order name lib × (p ≡ (k, lib)))) o) (sym (find_first (λ lib. has_entry order name lib.1) (enumerate_from 0 libs)))
     (least_items (λ lib. if has_entry order name lib.1 then Some lib else None) libs
     (λ k lib e. least_guard (has_entry order name lib) (has order name lib) (this (k, lib) refl (λ y q. inl q)))
     (λ i j a b x y h s t. let p = ap (λ (z : ℕ × List ℕ). z.0) s.1 in let q = ap (λ (z : ℕ × List ℕ). z.0) t.1 in omega (arith, p, q, h)))
 
-unit_least : (order : Order) (name : List ℕ) (libs : List (List ℕ)) (slot : ℕ) → Least (Precedes OfSources) (UnitFault order name libs slot) (unit_fault order name libs slot)
-unit_least order name libs slot = go (chosen_library order name libs) (chosen order name libs)
-  where
-    Found : (ℕ × List ℕ) → Type 0
-    Found p = SomeItem libs (λ k lib. HasEntry order name lib × (p ≡ (k, lib)))
+-- the library's entries of a name
+abbrev Found : Order → List ℕ → List (List ℕ) → ℕ × List ℕ → Type 0
+Found order name libs p = SomeItem libs (λ k lib. HasEntry order name lib × (p ≡ (k, lib)))
 
-    go : (o : Option (ℕ × List ℕ)) → Least (λ p q. p.0 < q.0) Found o → Least (Precedes OfSources) (UnitFault order name libs slot) (option_map_or (λ lib. option_map (in_slot (lib.0 + 1) slot) (entries_reason order name lib.1)) o (Some (in_slot 0 slot reason.MissingUnit)))
-    go None (nothing n) =
-        this (in_slot 0 slot reason.MissingUnit) (inl (refl, λ t. n (t.0, t.1) (t.0, t.1, t.2, (t.3, refl))))
-        (λ f. elim [ inl t ↦ inl t.0 | inr t ↦ absurd (n (t.0, t.1) (t.0, t.1, t.2, (t.3.0.0, refl))) ])
+pub none_has : (order : Order) (name : List ℕ) (libs : List (List ℕ)) → Decides (is_none (chosen_library order name libs)) (NoneHas order name libs)
+none_has order name libs = go (chosen_library order name libs) (chosen order name libs)
+  where
+    go : (o : Option (ℕ × List ℕ)) → Least (λ p q. p.0 < q.0) (Found order name libs) o → Decides (is_none o) (NoneHas order name libs)
+    go None (nothing n) = (λ e t. n (t.0, t.1) (t.0, t.1, t.2, (t.3, refl)), λ h. refl)
+    go (Some p) (this q s l) = (λ e. absurd (false≢true e), λ h. absurd (h (s.0, s.1, s.2, s.3.0)))
+
+pub entry_least : (order : Order) (name : List ℕ) (libs : List (List ℕ)) (slot : ℕ) → Least (Precedes OfSources) (EntryFault order name libs slot) (entry_fault order name libs slot)
+entry_least order name libs slot = go (chosen_library order name libs) (chosen order name libs)
+  where
+    go : (o : Option (ℕ × List ℕ)) → Least (λ p q. p.0 < q.0) (Found order name libs) o → Least (Precedes OfSources) (EntryFault order name libs slot) (option_and_then (λ lib. option_map (in_slot (lib.0 + 1) slot) (entries_reason order name lib.1)) o)
+    go None (nothing n) = nothing (λ f t. n (t.0, t.1) (t.0, t.1, t.2, (t.3.0.0, refl)))
     go (Some p) (this q s l) =
         least_same to from (because OfSources (in_slot (p.0 + 1) slot) (λ a b h. inr (refl, inr (refl, inr (refl, inr (refl, inl h))))) (entries_rows order name p.1))
       where
@@ -183,15 +189,25 @@ unit_least order name libs slot = go (chosen_library order name libs) (chosen or
         lesser : (m : ℕ) (other : List ℕ) → m < p.0 → slice_get libs m ≡ Some other → HasEntry order name other → ⊥
         lesser m other h e k = elim (l (m, other) (m, other, e, (k, refl))) [ inl x ↦ (let y = ap (λ (z : ℕ × List ℕ). z.0) x in omega (arith, y, h)) | inr x ↦ omega (arith, x, h) ]
 
-        to : (f : Fault) → Because (in_slot (p.0 + 1) slot) (EntriesHave order name p.1) f → UnitFault order name libs slot f
-        to f b = inr (p.0, p.1, get, ((does, lesser), b))
+        to : (f : Fault) → Because (in_slot (p.0 + 1) slot) (EntriesHave order name p.1) f → EntryFault order name libs slot f
+        to f b = (p.0, p.1, get, ((does, lesser), b))
 
-        from : (f : Fault) → UnitFault order name libs slot f → Because (in_slot (p.0 + 1) slot) (EntriesHave order name p.1) f
-        from f (inl t) = absurd (t.1 (p.0, p.1, get, does))
-        from f (inr t) = elim (l (t.0, t.1) (t.0, t.1, t.2, (t.3.0.0, refl))) [
+        from : (f : Fault) → EntryFault order name libs slot f → Because (in_slot (p.0 + 1) slot) (EntriesHave order name p.1) f
+        from f t = elim (l (t.0, t.1) (t.0, t.1, t.2, (t.3.0.0, refl))) [
           | inl e ↦ subst (λ (z : ℕ × List ℕ). Because (in_slot (z.0 + 1) slot) (EntriesHave order name z.1) f) e t.3.1
           | inr h ↦ absurd (t.3.0.1 p.0 p.1 h get does)
         ]
+
+unit_least : (order : Order) (name : List ℕ) (libs : List (List ℕ)) (slot : ℕ) → Least (Precedes OfSources) (UnitFault order name libs slot) (unit_fault order name libs slot)
+unit_least order name libs slot = go (chosen_library order name libs) (none_has order name libs) (entry_least order name libs slot)
+  where
+    go : (o : Option (ℕ × List ℕ)) → Decides (is_none o) (NoneHas order name libs)
+        → Least (Precedes OfSources) (EntryFault order name libs slot) (option_and_then (λ lib. option_map (in_slot (lib.0 + 1) slot) (entries_reason order name lib.1)) o)
+        → Least (Precedes OfSources) (UnitFault order name libs slot) (option_map_or (λ lib. option_map (in_slot (lib.0 + 1) slot) (entries_reason order name lib.1)) o (Some (in_slot 0 slot reason.MissingUnit)))
+    go None d l =
+        this (in_slot 0 slot reason.MissingUnit) (inl (refl, d.0 refl))
+        (λ f. elim [ inl t ↦ inl t.0 | inr t ↦ absurd (d.0 refl (t.0, t.1, t.2, t.3.0.0)) ])
+    go (Some p) d l = least_same (λ f t. inr t) (λ f. elim [ inl t ↦ absurd (false≢true (d.1 t.1)) | inr t ↦ t ]) l
 
 -- the tables
 any_of_filter : {X Y : Type 0} (p : Y → Bool) (g : X → Option Y) (xs : List X) → list_any p (filter_map g xs) ≡ list_any (λ x. option_map_or p (g x) false) xs
@@ -311,14 +327,14 @@ records_least law order file e k slot = go (reading order bytes) refl
 
 -- a code
 record Mid (r : Result (List ℕ) Reason) : Type 0 where
-  mid : (why : Reason) → r ≡ Err why → (14 ≤ rank why) × (rank why < 17)
+  mid : (why : Reason) → r ≡ Err why → (15 ≤ rank why) × (rank why < 18)
 
 mid_if : (b : Bool) {x y : Result (List ℕ) Reason} → Mid x → Mid y → Mid (if b then x else y)
 mid_if true p q = p
 mid_if false p q = q
 
-mid_err : (why : Reason) → (14 ≤ rank why) × (rank why < 17) → Mid (Err why)
-mid_err why h = record { mid = λ other e. subst (λ w. (14 ≤ rank w) × (rank w < 17)) (cc) h }
+mid_err : (why : Reason) → (15 ≤ rank why) × (rank why < 18) → Mid (Err why)
+mid_err why h = record { mid = λ other e. subst (λ w. (15 ≤ rank w) × (rank w < 18)) (cc) h }
 
 mid_ok : {code : List ℕ} → Mid (Ok code)
 mid_ok {code} = record { mid = λ why e. absurd (cc) }
@@ -329,31 +345,34 @@ code_mid file e =
     (mid_if (e.address == 0) (mid_err reason.BadAddress (omega arith, omega arith))
     (mid_if (nat_lt (length file) (512 * e.address + e.length)) (mid_err reason.Truncated (omega arith, omega arith)) mid_ok))
 
-tables_mid : (order : Order) (code : List ℕ) (host : Bool) (why : Reason) → TablesHave order code host why → (17 ≤ rank why) × (rank why < 19)
+tables_mid : (order : Order) (code : List ℕ) (host : Bool) (why : Reason) → TablesHave order code host why → (18 ≤ rank why) × (rank why < 20)
 tables_mid order code host reason.BadProcDict h = (omega arith, omega arith)
 tables_mid order code host reason.NativeProcedure h = (omega arith, omega arith)
 tables_mid order code host other h = absurd h
 
-entries_low : (order : Order) (name lib : List ℕ) (why : Reason) → EntriesHave order name lib why → rank why < 14
+entries_low : (order : Order) (name lib : List ℕ) (why : Reason) → EntriesHave order name lib why → rank why < 15
 entries_low order name lib reason.DoubledUnit h = omega arith
 entries_low order name lib (reason.NotAUnit kind) h = omega arith
 entries_low order name lib other h = absurd h
 
-unit_early : (order : Order) (name : List ℕ) (libs : List (List ℕ)) (slot : ℕ) (f : Fault) → UnitFault order name libs slot f → Early slot 14 f
-unit_early order name libs slot f (inl t) = early {P = λ y. y ≡ reason.MissingUnit} 0 slot 14 f (λ y e. subst (λ z. rank z < 14) (sym e) (omega arith)) (reason.MissingUnit, t.0, refl)
-unit_early order name libs slot f (inr t) = early (t.0 + 1) slot 14 f (entries_low order name t.1) t.3.1
+pub entry_early : (order : Order) (name : List ℕ) (libs : List (List ℕ)) (slot : ℕ) (f : Fault) → EntryFault order name libs slot f → Early slot 15 f
+entry_early order name libs slot f t = early (t.0 + 1) slot 15 f (entries_low order name t.1) t.3.1
+
+unit_early : (order : Order) (name : List ℕ) (libs : List (List ℕ)) (slot : ℕ) (f : Fault) → UnitFault order name libs slot f → Early slot 15 f
+unit_early order name libs slot f (inl t) = early {P = λ y. y ≡ reason.MissingUnit} 0 slot 15 f (λ y e. subst (λ z. rank z < 15) (sym e) (omega arith)) (reason.MissingUnit, t.0, refl)
+unit_early order name libs slot f (inr t) = entry_early order name libs slot f t
 
 late_record : (k slot n rec : ℕ) (why : Reason) (f : Fault) → f ≡ in_record k slot rec why → Late slot n f
 late_record k slot n rec why f e = (ap (λ (g : Fault). unwrap_or g.slot g.file) e, inr (let a : part f.rec ≡ rec + 1 = ap (λ (g : Fault). part g.rec) e in omega (arith, a)))
 
-code_late : (order : Order) (file : List ℕ) (k : ℕ) (e : Entry) (slot : ℕ) (r : Role) (f : Fault) → CodeFault order file k e slot r f → Late slot 14 f
-code_late order file k e slot r f (inl t) = late k slot 14 f (λ why h. ((code_mid file e).mid why h).0) t
+pub code_late : (order : Order) (file : List ℕ) (k : ℕ) (e : Entry) (slot : ℕ) (r : Role) (f : Fault) → CodeFault order file k e slot r f → Late slot 15 f
+code_late order file k e slot r f (inl t) = late k slot 15 f (λ why h. ((code_mid file e).mid why h).0) t
 code_late order file k e slot r f (inr t) = elim t.2.1 [
-  | inl b ↦ late k slot 14 f (λ why h. let a = (tables_mid order t.0 (is_host r) why h).0 in omega (arith, a)) b
-  | inr b ↦ late_record k slot 14 (length b.0) b.1 f b.2
+  | inl b ↦ late k slot 15 f (λ why h. let a = (tables_mid order t.0 (is_host r) why h).0 in omega (arith, a)) b
+  | inr b ↦ late_record k slot 15 (length b.0) b.1 f b.2
 ]
 
-code_least : OneStop → (order : Order) (slot : ℕ) (r : Role) (host : List ℕ) (libs : List (List ℕ)) (at : ℕ × ℕ) → Least (Precedes OfSources) (CodeFault order (file_at host libs at.0) at.0 (entry_at order (file_at host libs at.0) at.1) slot r) (code_fault order host libs slot r at)
+pub code_least : OneStop → (order : Order) (slot : ℕ) (r : Role) (host : List ℕ) (libs : List (List ℕ)) (at : ℕ × ℕ) → Least (Precedes OfSources) (CodeFault order (file_at host libs at.0) at.0 (entry_at order (file_at host libs at.0) at.1) slot r) (code_fault order host libs slot r at)
 code_least law order slot r host libs at = go (code_of file e) refl
   where
     file : List ℕ
@@ -373,7 +392,7 @@ code_least law order slot r host libs at = go (code_of file e) refl
         least_same to from
         (least_guard (is_linked r) (of_test (is_linked r))
         (least_or (because OfSources (in_slot at.0 slot) (λ a b h. inr (refl, inr (refl, inr (refl, inr (refl, inl h))))) (tables_rows order code (is_host r))) (records_least law order file e at.0 slot)
-        (λ x y a b. early_late slot 19 x y (early at.0 slot 19 x (λ why h. (tables_mid order code (is_host r) why h).1) a) (late_record at.0 slot 19 (length b.0) b.1 y b.2))))
+        (λ x y a b. early_late slot 20 x y (early at.0 slot 20 x (λ why h. (tables_mid order code (is_host r) why h).1) a) (late_record at.0 slot 20 (length b.0) b.1 y b.2))))
       where
         Linked : Fault → Type 0
         Linked f = (is_linked r ≡ true) × (Because (in_slot at.0 slot) (TablesHave order code (is_host r)) f ⊎ Records f)
@@ -393,11 +412,11 @@ is_wanted_role role.Host = (λ e. absurd (false≢true e), λ p. absurd (cc))
 is_wanted_role role.Plain = (λ e. absurd (false≢true e), λ p. absurd (cc))
 is_wanted_role role.Unit = (λ e. absurd (false≢true e), λ p. absurd (cc))
 
-ok_is : {X E : Type 0} (o : Result X E) (x : X) → result_ok o ≡ Some x → o ≡ Ok x
+pub ok_is : {X E : Type 0} (o : Result X E) (x : X) → result_ok o ≡ Some x → o ≡ Ok x
 ok_is (Ok y) x e = cc
 ok_is (Err y) x e = absurd (cc)
 
-is_ok : {X E : Type 0} (o : Result X E) (x : X) → o ≡ Ok x → result_ok o ≡ Some x
+pub is_ok : {X E : Type 0} (o : Result X E) (x : X) → o ≡ Ok x → result_ok o ≡ Some x
 is_ok (Ok y) x e = cc
 is_ok (Err y) x e = absurd (cc)
 
@@ -412,7 +431,7 @@ of_role law order host libs slot r =
     least_or
     (least_guard (is_wanted r) (is_wanted_role r) (unit_least order (entry_at order host slot).name libs slot))
     (least_then (code_fault order host libs slot r) (source_of order host libs slot r) (λ at e. code_least law order slot r host libs at))
-    (λ x y s t. early_late slot 14 x y (unit_early order (entry_at order host slot).name libs slot x s.1) (code_late order (file_at host libs t.0.0) t.0.0 (entry_at order (file_at host libs t.0.0) t.0.1) slot r y t.2))
+    (λ x y s t. early_late slot 15 x y (unit_early order (entry_at order host slot).name libs slot x s.1) (code_late order (file_at host libs t.0.0) t.0.0 (entry_at order (file_at host libs t.0.0) t.0.1) slot r y t.2))
 
 in_place : (order : Order) (host : List ℕ) (libs : List (List ℕ)) (slot : ℕ) (r : Role) (f : Fault) → SourceFaults order host libs slot r f → unwrap_or f.slot f.file ≡ slot
 in_place order host libs slot r f (inl t) = (unit_early order (entry_at order host slot).name libs slot f t.1).0

@@ -1,6 +1,6 @@
 -- The first fault of all is the least that stands.
-use Rattle.std.proofs.Common.{◌≡◌, ℕ, ◌+◌, ◌≤◌, List, [], ◌∷◌, Option, Some, None, true, refl, sym, ap, subst, ◌∙◌, inl, inr, arith}
-use Rattle.std.specs.Prelude.{◌⊎◌}
+use Rattle.std.proofs.Common.{◌≡◌, ℕ, ◌+◌, ◌<◌, ◌≤◌, List, [], ◌∷◌, Option, Some, None, true, refl, sym, ap, subst, ◌∙◌, inl, inr, arith}
+use Rattle.std.specs.Prelude.{◌⊎◌, ◌≢◌}
 use Rattle.std.specs.List.{slice_get}
 use Rattle.std.proofs.lemmas.Bool.{cases_lt}
 use Rattle.std.specs.Option.{option_or, option_map}
@@ -8,142 +8,234 @@ use Rattle.ps_resolve.specs.Faults.{host_fault, slots_fault, no_host_fault, libr
 use Rattle.ps_resolve.specs.AllFaults.{first_fault, reading_fault}
 use Rattle.ps_resolve.specs.First.{Before, Least, nothing, this}
 use Rattle.ps_resolve.specs.Sources.{order_of}
-use Rattle.ps_resolve.specs.Added.{segments}
-use Rattle.ps_resolve.specs.Standing.{Step, OfHost, OfSlots, OfNoHost, OfLibraries, OfSources, OfDefinitions, OfPrivates, OfDataSize, OfReferences, turn, is_of_reading, key, Precedes, StandsIn, FaultAt, NoneStandsInReading, IsFirst}
-use Rattle.ps_laws.proofs.Least.{least_same, least_or, least_map}
+use Rattle.ps_resolve.specs.Added.{added_fault, segments}
+use Rattle.ps_resolve.specs.Standing.{Step, OfHost, OfSlots, OfNoHost, OfLibraries, OfSources, OfAdded, OfDefinitions, OfPrivates, OfDataSize, OfReferences, turn, is_of_reading, key, Precedes, StandsIn, InRound, FaultAt, NoneStandsInReading, IsFirst}
+use Rattle.ps_laws.proofs.Least.{least_same, least_or_then}
 use Rattle.ps_laws.proofs.Steps.{step_1, step_2, step_3, step_4}
 use Rattle.ps_laws.proofs.Sources.{OneStop, step_5}
-use Rattle.ps_laws.proofs.Definitions.{step_6}
-use Rattle.ps_laws.proofs.DataSize.{step_8}
-use Rattle.ps_laws.proofs.Privates.{step_7}
-use Rattle.ps_laws.proofs.References.{step_9}
+use Rattle.ps_laws.proofs.Rounds.{Place, Earlier, tagged, step_6}
+use Rattle.ps_laws.proofs.Definitions.{step_7}
+use Rattle.ps_laws.proofs.Privates.{step_8}
+use Rattle.ps_laws.proofs.DataSize.{step_9}
+use Rattle.ps_laws.proofs.References.{step_10}
 use Rattle.ps_words.specs.declared.order.Order.{Order}
 use Rattle.ps_words.specs.declared.fault.Fault.{Fault}
 
-abbrev Place : Type 0
-Place = Step × Fault
+-- what stands from a turn on, and before another
+abbrev Between : Order → List ℕ → List (List ℕ) → ℕ → ℕ → Place → Type 0
+Between order host libs n m p = (n ≤ turn p.0) × (turn p.0 < m) × StandsIn p.0 order host libs p.1
 
-abbrev Earlier : Place → Place → Type 0
-Earlier p q = Before (key p.0 p.1) (key q.0 q.1)
-
--- the faults of one step, with the step
-tagged : (step : Step) {S : Fault → Type 0} {o : Option Fault} → Least (Precedes step) S o → Least Earlier (λ p. (f : Fault) × (p ≡ (step, f)) × S f) (option_map (λ f. (step, f)) o)
-tagged step l = least_map (λ f. (step, f)) l
-
--- what stands from a step on
-abbrev From : Order → List ℕ → List (List ℕ) → ℕ → Place → Type 0
-From order host libs n p = (n ≤ turn p.0) × StandsIn p.0 order host libs p.1
-
+-- a step by its turn, which each round has alike
 steps : List Step
-steps = OfHost ∷ OfHost ∷ OfSlots ∷ OfNoHost ∷ OfLibraries ∷ OfSources ∷ OfDefinitions ∷ OfPrivates ∷ OfDataSize ∷ OfReferences ∷ []
+steps = OfHost ∷ OfHost ∷ OfSlots ∷ OfNoHost ∷ OfLibraries ∷ OfSources ∷ OfAdded 0 ∷ OfDefinitions ∷ OfPrivates ∷ OfDataSize ∷ OfReferences ∷ []
 
-turn_back : (s : Step) → slice_get steps (turn s) ≡ Some s
+turn_back : (s : Step) → turn s ≢ 6 → slice_get steps (turn s) ≡ Some s
 unfolding steps
-turn_back OfHost = refl
-turn_back OfSlots = refl
-turn_back OfNoHost = refl
-turn_back OfLibraries = refl
-turn_back OfSources = refl
-turn_back OfDefinitions = refl
-turn_back OfPrivates = refl
-turn_back OfDataSize = refl
-turn_back OfReferences = refl
+turn_back OfHost h = refl
+turn_back OfSlots h = refl
+turn_back OfNoHost h = refl
+turn_back OfLibraries h = refl
+turn_back OfSources h = refl
+turn_back (OfAdded k) h = absurd (h refl)
+turn_back OfDefinitions h = refl
+turn_back OfPrivates h = refl
+turn_back OfDataSize h = refl
+turn_back OfReferences h = refl
 
-turn_bounds : (s : Step) → (1 ≤ turn s) × (turn s ≤ 9)
+turn_bounds : (s : Step) → (1 ≤ turn s) × (turn s < 11)
 turn_bounds OfHost = (omega arith, omega arith)
 turn_bounds OfSlots = (omega arith, omega arith)
 turn_bounds OfNoHost = (omega arith, omega arith)
 turn_bounds OfLibraries = (omega arith, omega arith)
 turn_bounds OfSources = (omega arith, omega arith)
+turn_bounds (OfAdded k) = (omega arith, omega arith)
 turn_bounds OfDefinitions = (omega arith, omega arith)
 turn_bounds OfPrivates = (omega arith, omega arith)
 turn_bounds OfDataSize = (omega arith, omega arith)
 turn_bounds OfReferences = (omega arith, omega arith)
 
-same_turn : (s t : Step) → turn s ≡ turn t → s ≡ t
-same_turn s t e = let a = turn_back s in let b = turn_back t in cc
+same_turn : (s t : Step) → turn s ≡ turn t → turn t ≢ 6 → s ≡ t
+same_turn s t e h = let a = turn_back s (λ x. h (sym e ∙ x)) in let b = turn_back t h in cc
 
--- one more step before those that are later
-add : (order : Order) (host : List ℕ) (libs : List (List ℕ)) (step : Step) (next : ℕ) {o : Option Fault} {p : Option Place} → turn step + 1 ≡ next → Least (Precedes step) (StandsIn step order host libs) o → Least Earlier (From order host libs next) p → Least Earlier (From order host libs (turn step)) (option_or (option_map (λ f. (step, f)) o) p)
-add order host libs step next e l m =
-    least_same to from (least_or (tagged step l) m (λ x y s t. inl (let a : turn x.0 ≡ turn step = ap (λ (q : Place). turn q.0) s.1 in let b = t.0 in omega (arith, a, b, e))))
+round_of : (s : Step) → turn s ≡ 6 → (k : ℕ) × (s ≡ OfAdded k)
+round_of (OfAdded k) e = (k, refl)
+round_of OfHost e = absurd (omega (arith, e))
+round_of OfSlots e = absurd (omega (arith, e))
+round_of OfNoHost e = absurd (omega (arith, e))
+round_of OfLibraries e = absurd (omega (arith, e))
+round_of OfSources e = absurd (omega (arith, e))
+round_of OfDefinitions e = absurd (omega (arith, e))
+round_of OfPrivates e = absurd (omega (arith, e))
+round_of OfDataSize e = absurd (omega (arith, e))
+round_of OfReferences e = absurd (omega (arith, e))
+
+-- a key begins with its step's turn
+key_turn : (s : Step) (f : Fault) → (rest : List ℕ) × (key s f ≡ turn s ∷ rest)
+key_turn OfHost f = (_, refl)
+key_turn OfSlots f = (_, refl)
+key_turn OfNoHost f = (_, refl)
+key_turn OfLibraries f = (_, refl)
+key_turn OfSources f = (_, refl)
+key_turn (OfAdded k) f = (_, refl)
+key_turn OfDefinitions f = (_, refl)
+key_turn OfPrivates f = (_, refl)
+key_turn OfDataSize f = (_, refl)
+key_turn OfReferences f = (_, refl)
+
+earlier_turn : (x y : Place) → turn x.0 < turn y.0 → Earlier x y
+earlier_turn x y h =
+    let a = key_turn x.0 x.1 in
+    let b = key_turn y.0 y.1 in
+    subst (λ (k : List ℕ). Before k (key y.0 y.1)) (sym a.1) (subst (λ (k : List ℕ). Before (turn x.0 ∷ a.0) k) (sym b.1) (inl h))
+
+-- one more step before those that are later, which are looked at only if it has no fault
+add : (order : Order) (host : List ℕ) (libs : List (List ℕ)) (step : Step) (next end : ℕ) {o : Option Fault} {p : Option Place} → turn step ≢ 6 → turn step + 1 ≡ next → next ≤ end → Least (Precedes step) (StandsIn step order host libs) o
+    → (o ≡ None → Least Earlier (Between order host libs next end) p) → Least Earlier (Between order host libs (turn step) end) (option_or (option_map (λ f. (step, f)) o) p)
+add order host libs step next end {o} {p} alone e low l m =
+    least_same to from (least_or_then (tagged step l) (λ n. m (untagged o n)) (λ x y s t. earlier_turn x y (let a : turn x.0 ≡ turn step = ap (λ (q : Place). turn q.0) s.1 in let b = t.0 in omega (arith, a, b, e))))
   where
+    untagged : (o : Option Fault) → option_map {U = Place} (λ (f : Fault). (step, f)) o ≡ None → o ≡ None
+    untagged None n = refl
+    untagged (Some f) n = absurd (cc)
+
     Own : Place → Type 0
-    Own p = (f : Fault) × (p ≡ (step, f)) × StandsIn step order host libs f
+    Own q = (f : Fault) × (q ≡ (step, f)) × StandsIn step order host libs f
 
-    to : (p : Place) → Own p ⊎ From order host libs next p → From order host libs (turn step) p
-    to p (inl t) = (let a : turn p.0 ≡ turn step = ap (λ (q : Place). turn q.0) t.1 in omega (arith, a), subst (λ (q : Place). StandsIn q.0 order host libs q.1) (sym t.1) t.2)
-    to p (inr t) = (let a = t.0 in omega (arith, a, e), t.1)
+    to : (q : Place) → Own q ⊎ Between order host libs next end q → Between order host libs (turn step) end q
+    to q (inl t) = let a : turn q.0 ≡ turn step = ap (λ (r : Place). turn r.0) t.1 in (omega (arith, a), omega (arith, a, e, low), subst (λ (r : Place). StandsIn r.0 order host libs r.1) (sym t.1) t.2)
+    to q (inr t) = (let a = t.0 in omega (arith, a, e), t.1, t.2)
 
-    from : (p : Place) → From order host libs (turn step) p → Own p ⊎ From order host libs next p
-    from p t = elim (cases_lt (turn step) (turn p.0)) [
-      | inl h ↦ inr (omega (arith, h, e), t.1)
+    from : (q : Place) → Between order host libs (turn step) end q → Own q ⊎ Between order host libs next end q
+    from q t = elim (cases_lt (turn step) (turn q.0)) [
+      | inl h ↦ inr (omega (arith, h, e), t.1, t.2)
       | inr h ↦
-          let same : p.0 ≡ step = same_turn p.0 step (let a = t.0 in omega (arith, a, h)) in
-          inl (p.1, ap (λ (s : Step). (s, p.1)) same, subst (λ (s : Step). StandsIn s order host libs p.1) same t.1)
+          let same : q.0 ≡ step = same_turn q.0 step (let a = t.0 in omega (arith, a, h)) alone in
+          inl (q.1, ap (λ (s : Step). (s, q.1)) same, subst (λ (s : Step). StandsIn s order host libs q.1) same t.2)
     ]
 
-tag : Step → Option Fault → Option Place
-tag step o = option_map (λ f. (step, f)) o
+-- the rounds are one turn
+rounds_turn : OneStop → (order : Order) (host : List ℕ) (libs : List (List ℕ)) → (o : Option Place) × Least Earlier (Between order host libs 6 7) o × (option_map (λ (x : Place). x.1) o ≡ added_fault order host libs)
+rounds_turn law order host libs = let r = step_6 law order host libs in (r.0, least_same to from r.1, r.2)
+  where
+    Rounds : Place → Type 0
+    Rounds p = (k : ℕ) × (f : Fault) × (p ≡ (OfAdded k, f)) × InRound order host libs k f
+
+    to : (p : Place) → Rounds p → Between order host libs 6 7 p
+    to p t = let a : turn p.0 ≡ 6 = ap (λ (q : Place). turn q.0) t.2 in (omega (arith, a), omega (arith, a), subst (λ (q : Place). StandsIn q.0 order host libs q.1) (sym t.2) t.3)
+
+    from : (p : Place) → Between order host libs 6 7 p → Rounds p
+    from p t =
+        let r = round_of p.0 (let a = t.0 in let b = t.1 in omega (arith, a, b)) in
+        (r.0, p.1, ap (λ (s : Step). (s, p.1)) r.1, subst (λ (s : Step). StandsIn s order host libs p.1) r.1 t.2)
 
 untag : (step : Step) (o : Option Fault) (p : Option Place) (q : Option Fault) → option_map (λ (x : Place). x.1) p ≡ q → option_map (λ (x : Place). x.1) (option_or (option_map (λ f. (step, f)) o) p) ≡ option_or o q
 untag step None p q e = e
 untag step (Some f) p q e = refl
 
-flat : (a b c d e f : Option Fault) → option_or a (option_or b (option_or c (option_or d (option_or e f)))) ≡ option_or (option_or a (option_or b (option_or c (option_or d e)))) f
-flat None None None None e f = refl
-flat None None None (Some d) e f = refl
-flat None None (Some c) d e f = refl
-flat None (Some b) c d e f = refl
-flat (Some a) b c d e f = refl
+-- the faults of a row of turns, with their steps, and that they are these
+abbrev Turns : List ℕ → List (List ℕ) → ℕ → ℕ → Option Fault → Type 0
+Turns host libs n m fault = (o : Option Place) × Least Earlier (Between (order_of host) host libs n m) o × (option_map (λ (x : Place). x.1) o ≡ fault)
+
+reading : OneStop → (host : List ℕ) (libs : List (List ℕ)) → Turns host libs 1 7 (reading_fault host libs)
+unfolding reading_fault
+reading law host libs =
+    let order = order_of host in
+    let last = rounds_turn law order host libs in (
+      _,
+      add order host libs OfHost 2 7 (λ e. omega (arith, e)) (omega arith) (omega arith) (step_1 host) (λ n.
+      add order host libs OfSlots 3 7 (λ e. omega (arith, e)) (omega arith) (omega arith) (step_2 order host) (λ n.
+      add order host libs OfNoHost 4 7 (λ e. omega (arith, e)) (omega arith) (omega arith) (step_3 order host) (λ n.
+      add order host libs OfLibraries 5 7 (λ e. omega (arith, e)) (omega arith) (omega arith) (step_4 order libs) (λ n.
+      add order host libs OfSources 6 7 (λ e. omega (arith, e)) (omega arith) (omega arith) (step_5 law order host libs) (λ n. last.1))))),
+      untag OfHost (host_fault host) _ _ (untag OfSlots (slots_fault order host) _ _ (untag OfNoHost (no_host_fault order host) _ _ (untag OfLibraries (libraries_fault order libs) _ _ (untag OfSources (sources_fault order host libs) last.0 (added_fault order host libs) last.2)))),
+    )
 
 last : (a b c d : Option Fault) → option_or a (option_or b (option_or c (option_or d None))) ≡ option_or a (option_or b (option_or c d))
 last a b c None = refl
 last a b c (Some d) = refl
 
--- the faults of all steps, with their steps, and that they are those of first_fault
-whole : OneStop → (host : List ℕ) (libs : List (List ℕ)) → (o : Option Place) × Least Earlier (From (order_of host) host libs 1) o × (option_map (λ (x : Place). x.1) o ≡ first_fault host libs)
-unfolding first_fault reading_fault linking_fault
-whole law host libs =
+linking : (host : List ℕ) (libs : List (List ℕ)) → added_fault (order_of host) host libs ≡ None → Turns host libs 7 11 (linking_fault (order_of host) (segments (order_of host) host libs))
+unfolding linking_fault
+linking host libs fine =
     let order = order_of host in
     let segs = segments order host libs in (
       _,
-      add order host libs OfHost 2 (omega arith) (step_1 host)
-          (add order host libs OfSlots 3 (omega arith) (step_2 order host)
-          (add order host libs OfNoHost 4 (omega arith) (step_3 order host)
-          (add order host libs OfLibraries 5 (omega arith) (step_4 order libs)
-          (add order host libs OfSources 6 (omega arith) (step_5 law order host libs)
-          (add order host libs OfDefinitions 7 (omega arith) (step_6 order host libs)
-          (add order host libs OfPrivates 8 (omega arith) (step_7 order host libs)
-          (add order host libs OfDataSize 9 (omega arith) (step_8 order host libs)
-          (add order host libs OfReferences 10 (omega arith) (step_9 order host libs)
-          (nothing (λ p t. let a = t.0 in let b = (turn_bounds p.0).1 in omega (arith, a, b))))))))))),
-      untag OfHost (host_fault host) _ _ (untag OfSlots (slots_fault order host) _ _ (untag OfNoHost (no_host_fault order host) _ _ (untag OfLibraries (libraries_fault order libs) _ _ (untag OfSources (sources_fault order host libs) _ _
-          (untag OfDefinitions (definitions_fault segs) _ _ (untag OfPrivates (privates_fault segs) _ _ (untag OfDataSize (data_fault order segs) _ _ (untag OfReferences (references_fault order segs) None None refl))))))))
-          ∙ (flat (host_fault host) (slots_fault order host) (no_host_fault order host) (libraries_fault order libs) (sources_fault order host libs) (option_or (definitions_fault segs) (option_or (privates_fault segs) (option_or (data_fault order segs) (option_or (references_fault order segs) None))))
-          ∙ ap (option_or (option_or (host_fault host) (option_or (slots_fault order host) (option_or (no_host_fault order host) (option_or (libraries_fault order libs) (sources_fault order host libs)))))) (last (definitions_fault segs) (privates_fault segs) (data_fault order segs) (references_fault order segs))),
+      add order host libs OfDefinitions 8 11 (λ e. omega (arith, e)) (omega arith) (omega arith) (step_7 order host libs) (λ n.
+      add order host libs OfPrivates 9 11 (λ e. omega (arith, e)) (omega arith) (omega arith) (step_8 order host libs) (λ n.
+      add order host libs OfDataSize 10 11 (λ e. omega (arith, e)) (omega arith) (omega arith) (step_9 order host libs) (λ n.
+      add order host libs OfReferences 11 11 (λ e. omega (arith, e)) (omega arith) (omega arith) (step_10 order host libs fine) (λ n. nothing (λ p t. let a = t.0 in let b = t.1 in omega (arith, a, b)))))),
+      untag OfDefinitions (definitions_fault segs) _ _ (untag OfPrivates (privates_fault segs) _ _ (untag OfDataSize (data_fault order segs) _ _ (untag OfReferences (references_fault order segs) None None refl)))
+          ∙ last (definitions_fault segs) (privates_fault segs) (data_fault order segs) (references_fault order segs),
     )
 
-first_place : (host : List ℕ) (libs : List (List ℕ)) (o : Option Place) (f : Fault) → Least Earlier (From (order_of host) host libs 1) o → option_map (λ (x : Place). x.1) o ≡ Some f → IsFirst host libs f
+-- where nothing is wrong with what is read, nothing is with the sources of the slots, nor with the units that are added
+pub none_read : (host : List ℕ) (libs : List (List ℕ)) → reading_fault host libs ≡ None → (sources_fault (order_of host) host libs ≡ None) × (added_fault (order_of host) host libs ≡ None)
+unfolding reading_fault
+none_read host libs e =
+    let order = order_of host in
+    both (sources_fault order host libs) (added_fault order host libs)
+    ((both (libraries_fault order libs) _ (both (no_host_fault order host) _ (both (slots_fault order host) _ (both (host_fault host) _ e).1).1).1).1)
+  where
+    both : (a b : Option Fault) → option_or a b ≡ None → (a ≡ None) × (b ≡ None)
+    both None b e = (refl, e)
+    both (Some f) b e = absurd (cc)
+
+-- the faults of all steps
+whole : OneStop → (host : List ℕ) (libs : List (List ℕ)) → Turns host libs 1 11 (first_fault host libs)
+unfolding first_fault
+whole law host libs = go (reading_fault host libs) refl (reading law host libs)
+  where
+    order : Order
+    order = order_of host
+
+    later : Option Fault
+    later = linking_fault order (segments order host libs)
+
+    to : (p : Place) → Between order host libs 1 7 p ⊎ Between order host libs 7 11 p → Between order host libs 1 11 p
+    to p (inl t) = (t.0, (let a = t.1 in omega (arith, a)), t.2)
+    to p (inr t) = ((let a = t.0 in omega (arith, a)), t.1, t.2)
+
+    from : (p : Place) → Between order host libs 1 11 p → Between order host libs 1 7 p ⊎ Between order host libs 7 11 p
+    from p t = elim (cases_lt (turn p.0) 7) [ inl h ↦ inl (t.0, h, t.2) | inr h ↦ inr (h, t.1, t.2) ]
+
+    apart : (x y : Place) → Between order host libs 1 7 x → Between order host libs 7 11 y → Earlier x y
+    apart x y s t = earlier_turn x y (let a = s.1 in let b = t.0 in omega (arith, a, b))
+
+    go : (f : Option Fault) → reading_fault host libs ≡ f → Turns host libs 1 7 f → Turns host libs 1 11 (option_or f (linking_fault (order_of host) (segments (order_of host) host libs)))
+    go (Some f) e t = at t.0 t.1 t.2
+      where
+        at : (o : Option Place) → Least Earlier (Between order host libs 1 7) o → option_map (λ (x : Place). x.1) o ≡ Some f → Turns host libs 1 11 (Some f)
+        at None l is = absurd (cc)
+        at (Some p) l is = (Some p, least_same to from (least_or_then {p = None} l (λ n. absurd (cc)) apart), is)
+    go None e t = at t.0 t.1 t.2
+      where
+        rest : Turns host libs 7 11 (linking_fault (order_of host) (segments (order_of host) host libs))
+        rest = linking host libs (none_read host libs e).1
+
+        at : (o : Option Place) → Least Earlier (Between order host libs 1 7) o → option_map (λ (x : Place). x.1) o ≡ None → Turns host libs 1 11 (linking_fault (order_of host) (segments (order_of host) host libs))
+        at (Some p) l is = absurd (cc)
+        at None l is = (rest.0, least_same to from (least_or_then l (λ n. rest.1) apart), rest.2)
+
+first_place : (host : List ℕ) (libs : List (List ℕ)) (o : Option Place) (f : Fault) → Least Earlier (Between (order_of host) host libs 1 11) o → option_map (λ (x : Place). x.1) o ≡ Some f → IsFirst host libs f
 first_place host libs None f l e = absurd (cc)
 first_place host libs (Some p) f l e = go l
   where
     same : p.1 ≡ f
     same = cc
 
-    lower : (q : Place) → From (order_of host) host libs 1 p → ((y : Place) → From (order_of host) host libs 1 y → (y ≡ p) ⊎ Earlier p y) → IsFirst host libs p.1
+    lower : (q : Place) → Between (order_of host) host libs 1 11 p → ((y : Place) → Between (order_of host) host libs 1 11 y → (y ≡ p) ⊎ Earlier p y) → IsFirst host libs p.1
     lower q s l = record {
       step = p.0;
-      stands = record { stands = s.1 };
-      least = λ t g h. elim (l (t, g) ((turn_bounds t).0, h.stands)) [ inl e ↦ inl (ap (λ (x : Place). x.0) e, ap (λ (x : Place). x.1) e) | inr b ↦ inr b ];
+      stands = record { stands = s.2 };
+      least = λ t g h. elim (l (t, g) ((turn_bounds t).0, (turn_bounds t).1, h.stands)) [ inl e ↦ inl (ap (λ (x : Place). x.0) e, ap (λ (x : Place). x.1) e) | inr b ↦ inr b ];
     }
 
-    go : Least Earlier (From (order_of host) host libs 1) (Some p) → IsFirst host libs f
+    go : Least Earlier (Between (order_of host) host libs 1 11) (Some p) → IsFirst host libs f
     go (this x s l) = subst (IsFirst host libs) same (lower p s l)
 
-no_place : (host : List ℕ) (libs : List (List ℕ)) (o : Option Place) → Least Earlier (From (order_of host) host libs 1) o → option_map (λ (x : Place). x.1) o ≡ None → (step : Step) (f : Fault) → FaultAt host libs step f → ⊥
+no_place : (host : List ℕ) (libs : List (List ℕ)) (o : Option Place) → Least Earlier (Between (order_of host) host libs 1 11) o → option_map (λ (x : Place). x.1) o ≡ None → (step : Step) (f : Fault) → FaultAt host libs step f → ⊥
 no_place host libs (Some p) l e step f h = absurd (cc)
-no_place host libs None (nothing n) e step f h = n (step, f) ((turn_bounds step).0, h.stands)
+no_place host libs None (nothing n) e step f h = n (step, f) ((turn_bounds step).0, (turn_bounds step).1, h.stands)
 
 pub some : OneStop → (host : List ℕ) (libs : List (List ℕ)) (f : Fault) → first_fault host libs ≡ Some f → IsFirst host libs f
 some law host libs f e = let w = whole law host libs in first_place host libs w.0 f w.1 (w.2 ∙ e)
@@ -172,48 +264,41 @@ only law host libs f a = go (first_fault host libs) refl
     go None e = absurd (none law host libs e a.step f a.stands)
     go (Some g) e = ap (λ (x : Fault). Some x) (one law host libs g f (some law host libs g e) a)
 
--- what is computed for a step, and what stands in it
-no_or : (o p : Option Fault) → option_or o p ≡ None → (o ≡ None) × (p ≡ None)
-no_or None p e = (refl, e)
-no_or (Some f) p e = absurd (cc)
+-- what is computed for the steps of reading, and what stands in them
+turn_read : (s : Step) → is_of_reading s ≡ true → turn s < 7
+turn_read OfHost e = omega arith
+turn_read OfSlots e = omega arith
+turn_read OfNoHost e = omega arith
+turn_read OfLibraries e = omega arith
+turn_read OfSources e = omega arith
+turn_read (OfAdded k) e = omega arith
+turn_read OfDefinitions e = absurd (cc)
+turn_read OfPrivates e = absurd (cc)
+turn_read OfDataSize e = absurd (cc)
+turn_read OfReferences e = absurd (cc)
 
-none_stands : {B : Fault → Fault → Type 0} {S : Fault → Type 0} {o : Option Fault} → Least B S o → o ≡ None → (f : Fault) → S f → ⊥
-none_stands (nothing n) e = n
-none_stands (this x s l) e = absurd (cc)
-
-none_found : {B : Fault → Fault → Type 0} {S : Fault → Type 0} {o : Option Fault} → Least B S o → ((f : Fault) → S f → ⊥) → o ≡ None
-none_found (nothing n) h = refl
-none_found (this x s l) h = absurd (h x s)
+read_turn : (s : Step) → turn s < 7 → is_of_reading s ≡ true
+read_turn OfHost h = refl
+read_turn OfSlots h = refl
+read_turn OfNoHost h = refl
+read_turn OfLibraries h = refl
+read_turn OfSources h = refl
+read_turn (OfAdded k) h = refl
+read_turn OfDefinitions h = absurd (omega (arith, h))
+read_turn OfPrivates h = absurd (omega (arith, h))
+read_turn OfDataSize h = absurd (omega (arith, h))
+read_turn OfReferences h = absurd (omega (arith, h))
 
 pub read : OneStop → (host : List ℕ) (libs : List (List ℕ)) → reading_fault host libs ≡ None → NoneStandsInReading host libs
-unfolding reading_fault
-read law host libs e =
-    let order = order_of host in
-    let of_host = no_or (host_fault host) _ e in
-    let of_slots = no_or (slots_fault order host) _ of_host.1 in
-    let of_no_host = no_or (no_host_fault order host) _ of_slots.1 in
-    let of_libraries = no_or (libraries_fault order libs) (sources_fault order host libs) of_no_host.1 in
-    λ step f. elim step as (λ s. is_of_reading s ≡ true → FaultAt host libs s f → ⊥) [
-      | OfHost ↦ λ r h. none_stands (step_1 host) of_host.0 f h.stands
-      | OfSlots ↦ λ r h. none_stands (step_2 order host) of_slots.0 f h.stands
-      | OfNoHost ↦ λ r h. none_stands (step_3 order host) of_no_host.0 f h.stands
-      | OfLibraries ↦ λ r h. none_stands (step_4 order libs) of_libraries.0 f h.stands
-      | OfSources ↦ λ r h. none_stands (step_5 law order host libs) of_libraries.1 f h.stands
-      | OfDefinitions ↦ λ r h. cc
-      | OfPrivates ↦ λ r h. cc
-      | OfDataSize ↦ λ r h. cc
-      | OfReferences ↦ λ r h. cc
-    ]
+read law host libs e step f r h = let w = reading law host libs in go w.0 w.1 (w.2 ∙ e)
+  where
+    go : (o : Option Place) → Least Earlier (Between (order_of host) host libs 1 7) o → option_map (λ (x : Place). x.1) o ≡ None → ⊥
+    go None (nothing n) is = n (step, f) ((turn_bounds step).0, turn_read step r, h.stands)
+    go (Some p) l is = absurd (cc)
 
 pub unread : OneStop → (host : List ℕ) (libs : List (List ℕ)) → NoneStandsInReading host libs → reading_fault host libs ≡ None
-unfolding reading_fault
-unread law host libs none_in =
-    let order = order_of host in
-    let absent = λ (step : Step) (r : is_of_reading step ≡ true) (f : Fault) (s : StandsIn step order host libs f). none_in step f r (record { stands = s }) in
-    rw (
-      none_found (step_1 host) (absent OfHost refl),
-      none_found (step_2 order host) (absent OfSlots refl),
-      none_found (step_3 order host) (absent OfNoHost refl),
-      none_found (step_4 order libs) (absent OfLibraries refl),
-      none_found (step_5 law order host libs) (absent OfSources refl),
-    )
+unread law host libs none_in = let w = reading law host libs in sym w.2 ∙ go w.0 w.1
+  where
+    go : (o : Option Place) → Least Earlier (Between (order_of host) host libs 1 7) o → option_map (λ (x : Place). x.1) o ≡ None
+    go None l = refl
+    go (Some p) (this q s l) = absurd (none_in p.0 p.1 (read_turn p.0 s.1) (record { stands = s.2 }))

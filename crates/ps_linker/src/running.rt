@@ -10,7 +10,7 @@ use crate::error::CommandError;
 use crate::files::{self, Contents};
 use crate::output;
 use crate::request::{self, Inputs, Request};
-use ps_linkfile::{Linked, Summary};
+use ps_linkfile::{Counting, Linked, Summary};
 use std::alloc::{AllocError, Allocator, Global};
 use std::fs;
 use std::io::Write;
@@ -140,10 +140,10 @@ fn write_linked<'a, R: Files, A: Allocator + Copy>(
 ) -> Result<Summary, CommandError<'a>>
     ensures { IfOk result (λ summary. summary ≡ summary_in linked.now) }
 {
-    let Ok(mut file) = fs::create(rt, path) else {
+    let Ok(file) = fs::create(rt, path) else {
         return Err(CommandError::Write { path });
     };
-    match linked.write(&mut file) {
+    match linked.write_told(&mut Counting::new(file)) {
         Ok(summary) => Ok(summary),
         Err(_) => Err(CommandError::Write { path }),
     }

@@ -10,5 +10,6 @@ mod memory;
 mod outcome;
 mod printing;
 mod showing;
+mod told_writes;
 mod words;
 mod writers;

@@ -18,7 +18,7 @@ extent_of_source s = extent_of_origin (origin_of_source s)
 
 -- what a read past the end would give
 abbrev pub no_source : Source
-no_source = record { slot = 0; file = 0; index = 0; linked = false; code = record { ref_ptr = (0, 0); now = [] } }
+no_source = record { slot = 0; file = 0; index = 0; linked = false; added = false; code = record { ref_ptr = (0, 0); now = [] } }
 
 -- the item at a place of a list that f views
 pub view_at : {X Y : Type 0} (f : X → Y) (xs : List X) (i : ℕ) (d : X) → i < length xs → drop i (map f xs) ≡ f (get_or xs i d) ∷ drop (i + 1) (map f xs)

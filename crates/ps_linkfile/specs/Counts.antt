@@ -60,17 +60,17 @@ pub record OneStall (old new : Counts) : Type 0 where
   pub errors : new.errors ≡ old.errors
   pub stalls : new.stalls ≡ old.stalls + 1
 
--- a fault says what the one write that failed did
+-- one write failed, in the way that the fault says
 abbrev pub OneFailed : WriteFault → Counts → Counts → Type 0
 OneFailed (Device error) old new = OneError old new
 OneFailed Stalled old new = OneStall old new
 
--- what it says where a write answered an error
+-- it holds where a write answered an error
 abbrev pub IfDevice : WriteFault → Type 0 → Type 0
 IfDevice (Device error) P = P
 IfDevice Stalled P = ⊤
 
--- what it says where a write took none
+-- it holds where a write stalled
 abbrev pub IfStalled : WriteFault → Type 0 → Type 0
 IfStalled (Device error) P = ⊤
 IfStalled Stalled P = P

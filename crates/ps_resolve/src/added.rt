@@ -32,15 +32,15 @@ const MAX_SOUGHT: usize = 10;
 
 /// A UNITREF record: the name that it asks for, and where it stands.
 #[derive(Clone, Copy)]
-pub(crate) struct UnitReference {
+pub struct UnitReference {
     /// The name of a unit.
-    pub(crate) name: [u8; 8],
+    pub name: [u8; 8],
     /// The file that the record's segment comes from: 0 for the host, k for the k-th library.
-    pub(crate) file: usize,
+    pub file: usize,
     /// The slot of the record's segment, 0 to 15.
-    pub(crate) slot: u8,
+    pub slot: u8,
     /// The index of the record in its segment's link information, from 0.
-    pub(crate) rec: usize,
+    pub rec: usize,
 }
 
 impl Default for UnitReference {

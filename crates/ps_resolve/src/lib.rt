@@ -25,6 +25,7 @@ mod sorting;
 mod sources;
 mod units;
 
+pub use added::UnitReference;
 pub use allotment::{Allotment, Private};
 pub use definitions::{Def, DefKind, Definitions};
 pub use laws::slot_names_are_whole;

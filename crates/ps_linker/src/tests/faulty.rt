@@ -7,21 +7,29 @@ use std::io::{Read, Seek, SeekFrom, Write};
 use std::rt::Files;
 
 /// The files of `inner`, of which the one that is opened as the `nth`, from 1, fails after so many reads and writes. A read
-/// gives 500 bytes at most, and a write takes three.
+/// gives 500 bytes at most, and a write takes so many.
 pub struct Faulty<R: Files> {
     inner: R,
     nth: u64,
     calls: u64,
+    per_write: usize,
     opened: Cell<u64>,
     created: Cell<u64>,
 }
 
 impl<R: Files> Faulty<R> {
+    /// A write takes three bytes at most.
     pub fn new(inner: R, nth: u64, calls: u64) -> Faulty<R> {
+        Faulty::taking(inner, nth, calls, 3)
+    }
+
+    /// A write takes so many bytes at most.
+    pub fn taking(inner: R, nth: u64, calls: u64, per_write: usize) -> Faulty<R> {
         Faulty {
             inner,
             nth,
             calls,
+            per_write,
             opened: Cell::new(0),
             created: Cell::new(0),
         }
@@ -39,6 +47,7 @@ impl<R: Files + Drop> Drop for Faulty<R> {
             inner: _,
             nth: _,
             calls: _,
+            per_write: _,
             opened: _,
             created: _,
         } = self;
@@ -49,6 +58,7 @@ impl<R: Files + Drop> Drop for Faulty<R> {
 pub struct FaultyFile<F> {
     inner: F,
     calls: u64,
+    per_write: usize,
 }
 
 impl<F> FaultyFile<F> {
@@ -73,8 +83,8 @@ impl<F: Read> Read for FaultyFile<F> {
 impl<F: Write> Write for FaultyFile<F> {
     fn write(&mut self, buf: &[u8]) -> io::Result<usize> {
         self.call()?;
-        let part = if buf.len() > 3 { &buf[..3] } else { buf };
-        self.inner.write(part)
+        let most = buf.len().min(self.per_write);
+        self.inner.write(&buf[..most])
     }
 
     fn flush(&mut self) -> io::Result<()> {
@@ -122,7 +132,11 @@ impl<R: Files> Files for Faulty<R> {
         } else {
             u64::MAX
         };
-        Ok(FaultyFile { inner, calls })
+        Ok(FaultyFile {
+            inner,
+            calls,
+            per_write: self.per_write,
+        })
     }
 
     fn open_dir(&self, path: &str) -> io::Result<R::Dir> {

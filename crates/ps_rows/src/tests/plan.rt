@@ -251,7 +251,10 @@ fn the_base_pair(rt: HostRuntime) -> Result<(), Fail> {
                 let text = describe(alloc, &plan)?;
                 assert_eq!(rt; text.as_str(), BASE_PLAN);
                 assert_eq!(rt; plan.order(), order);
-                assert_eq!(rt; Some(plan.names()), host.as_slice().get(64..192));
+                assert_eq!(rt;
+                    Some(plan.names().as_flattened()),
+                    host.as_slice().get(64..192)
+                );
                 assert_eq!(rt; Some(plan.tail()), host.as_slice().get(256..512));
             }
             Err(_) => assert!(rt; false, "no plan"),

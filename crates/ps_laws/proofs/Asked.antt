@@ -1,0 +1,425 @@
+-- Each unit that a record of the link asks for has its segment there, where the rounds end without a fault.
+use Rattle.std.proofs.Common.{◌≡◌, ℕ, zero, suc, ◌+◌, ◌<◌, ◌≤◌, List, [], ◌∷◌, ◌++◌, length, Option, Some, None, Result, Ok, Err, Bool, true, false, refl, sym, ap, subst, ◌∙◌, inl, inr, arith, append_assoc, append-nil, is_some, is_none}
+use Rattle.std.specs.Prelude.{◌⊎◌, if◌then◌else◌, ◌&&◌, ◌||◌, ◌==◌, not}
+use Rattle.std.specs.Bool.{Decides}
+use Rattle.std.specs.List.{range_with_len, enumerate_from, slice_get, list_any, filter_map, find, cons_option}
+use Rattle.std.specs.Map.{lookup}
+use Rattle.std.specs.Option.{option_map, option_map_or, option_or, option_and_then}
+use Rattle.std.specs.Result.{result_ok}
+use Rattle.std.specs.Str.{bytes_eq}
+use Rattle.std.proofs.lemmas.Bool.{cases_lt, false≢true}
+use Rattle.std.proofs.lemmas.Bool.Decides.{Decides-at, Decides-and, Decides-like, Decides-eqb}
+use Rattle.std.proofs.lemmas.List.Folds.{list_any-append}
+use Rattle.std.proofs.lemmas.Option.{option_and_then_some, slice_get_within}
+use Rattle.std.proofs.lemmas.Slice.Eq.{bytes_eq-Decides}
+use Rattle.ps_codefile.specs.Dictionary.{slots, is_nameless, entry_at, role_of, code_of}
+use Rattle.ps_codefile.specs.Procedures.{tables_fault}
+use Rattle.ps_codefile.specs.declared.entry.Role.{Role}
+use Rattle.ps_codefile.specs.declared.entry.Role.TheVariants as role
+use Rattle.ps_linkinfo.specs.declared.record.LinkRecord.{LinkRecord as Record}
+use Rattle.ps_resolve.specs.Added.{is_unit_reference, unit_references, references_in, is_had, sought_from, empty_slots, is_missing, unplaced_fault, placed_fault, as_added, added_segment, Rounds, sought, rounds, added, added_fault, added_at, segment_at, segments}
+use Rattle.ps_resolve.specs.Faults.{is_role, entry_fault, information_fault, code_fault}
+use Rattle.ps_resolve.specs.Sources.{Segment, is_named, has_entry, chosen_library, unit_source, source_of, file_at, is_linked, is_host, is_unit, is_empty, segment_from, own_segment, own_segments, units_of}
+use Rattle.ps_resolve.specs.Standing.{SomeItem, IsSegment}
+use Rattle.ps_resolve.specs.declared.added.UnitReference.{UnitReference}
+use Rattle.ps_laws.proofs.Looking.{of_test, any_of_items, none_of_items, find_none}
+use Rattle.ps_laws.proofs.Items.{In, at_left, at_seam, in_left, in_right, some_before, in_flat, in_filter_map, of_filter_map, in_range, of_range, of_filter, filter_ascends, find_passes}
+use Rattle.ps_laws.proofs.Definitions.{longer}
+use Rattle.ps_laws.proofs.Segments.{from_slot, slot_is, found_in_slot}
+use Rattle.ps_laws.proofs.Sources.{ok_is}
+use Rattle.ps_laws.proofs.Rounds.{own_units, references_of, sought_rest, rest_of, of_segment, of_fault, of_name, next_slot, first_round}
+use Rattle.ps_words.specs.declared.order.Order.{Order}
+use Rattle.ps_words.specs.declared.fault.Reason.{Reason}
+use Rattle.ps_words.specs.declared.fault.Fault.{Fault}
+
+-- 1. what is known of a unit's source where there is no fault
+pub source_made : (order : Order) (host : List ℕ) (libs : List (List ℕ)) (slot : ℕ) (name : List ℕ) (r : Role) (at : ℕ × ℕ) → code_fault order host libs slot r at ≡ None → segment_from order host libs slot name r at ≡ None → ⊥
+source_made order host libs slot name r at e n = go (code_of (file_at host libs at.0) (entry_at order (file_at host libs at.0) at.1)) refl
+  where
+    go : (o : Result (List ℕ) Reason) → code_of (file_at host libs at.0) (entry_at order (file_at host libs at.0) at.1) ≡ o → ⊥
+    go (Err why) is = let a = rw (is, code_fault) at e in cc
+    go (Ok code) is = let a = rw (is, segment_from) at n in cc
+
+pub unit_found : (order : Order) (name : List ℕ) (libs : List (List ℕ)) → unit_source order name libs ≡ None → is_none (chosen_library order name libs) ≡ true
+unit_found order name libs n = go (chosen_library order name libs) refl n
+  where
+    go : (o : Option (ℕ × List ℕ)) → chosen_library order name libs ≡ o → option_and_then {U = ℕ × ℕ} (λ (lib : ℕ × List ℕ). option_map {U = ℕ × ℕ} (λ i. (lib.0 + 1, i)) (find (is_named order name lib.1) slots)) o ≡ None → is_none o ≡ true
+    go None is n = refl
+    go (Some lib) is n = inner (find (is_named order name lib.1) slots) refl n
+      where
+        inner : (o : Option ℕ) → find (is_named order name lib.1) slots ≡ o → option_map {U = ℕ × ℕ} (λ (i : ℕ). (lib.0 + 1, i)) o ≡ None → is_none (Some lib) ≡ true
+        inner (Some i) is_it n = absurd (cc)
+        inner None is_it n =
+            let a : has_entry order name lib.1 ≡ true = find_passes (λ (l : ℕ × List ℕ). has_entry order name l.1) (enumerate_from 0 libs) lib is in
+            let b = none_of_items (is_named order name lib.1) slots in
+            absurd (false≢true (sym (ap not a) ∙ (sym b ∙ ap is_none is_it)))
+
+option_or_none : {X : Type 0} (o p : Option X) → option_or o p ≡ None → p ≡ None
+option_or_none None p e = e
+option_or_none (Some x) p e = absurd (cc)
+
+-- a name that has no fault in its slot brings its segment there
+brought : (order : Order) (host : List ℕ) (libs : List (List ℕ)) (g : UnitReference) (slot : ℕ) → placed_fault order host libs g slot ≡ None → added_segment order host libs g slot ≡ None → ⊥
+brought order host libs g slot e n = go (is_missing order libs g.name) refl e
+  where
+    made : (o : Option (ℕ × ℕ)) → unit_source order g.name libs ≡ o → option_and_then (code_fault order host libs slot role.Wanted) o ≡ None → option_map as_added (option_and_then (segment_from order host libs slot g.name role.Wanted) o) ≡ None → is_none (chosen_library order g.name libs) ≡ false → ⊥
+    made None is e n found = false≢true (sym found ∙ unit_found order g.name libs is)
+    made (Some at) is e n found = inner (segment_from order host libs slot g.name role.Wanted at) refl n
+      where
+        inner : (o : Option Segment) → segment_from order host libs slot g.name role.Wanted at ≡ o → option_map as_added o ≡ None → ⊥
+        inner None is n = source_made order host libs slot g.name role.Wanted at e is
+        inner (Some s) is n = absurd (cc)
+
+    or_false : (a b : Bool) → (a || b) ≡ false → b ≡ false
+    or_false true b e = absurd (cc)
+    or_false false b e = e
+
+    go : (b : Bool) → is_missing order libs g.name ≡ b → placed_fault order host libs g slot ≡ None → ⊥
+    go true is e = let a = rw (is, placed_fault) at e in cc
+    go false is e =
+        made (unit_source order g.name libs) refl (option_or_none (entry_fault order g.name libs slot) (option_and_then (code_fault order host libs slot role.Wanted) (unit_source order g.name libs)) (rw (is, placed_fault) at e)) n
+        (or_false (is_nameless g.name) (is_none (chosen_library order g.name libs)) is)
+
+-- an added segment, as it was sought
+pub added_is : (order : Order) (host : List ℕ) (libs : List (List ℕ)) (g : UnitReference) (slot : ℕ) (s : Segment) → added_segment order host libs g slot ≡ Some s → (s.slot ≡ slot) × (s.name ≡ g.name) × (s.role ≡ role.Wanted)
+added_is order host libs g slot s e = go (option_and_then (segment_from order host libs slot g.name role.Wanted) (unit_source order g.name libs)) refl e
+  where
+    go : (o : Option Segment) → option_and_then (segment_from order host libs slot g.name role.Wanted) (unit_source order g.name libs) ≡ o → option_map as_added o ≡ Some s → (s.slot ≡ slot) × (s.name ≡ g.name) × (s.role ≡ role.Wanted)
+    go None is e = absurd (cc)
+    go (Some q) is e =
+        option_and_then_some (segment_from order host libs slot g.name role.Wanted) (unit_source order g.name libs) q is (λ at e1 h.
+        let t = from_slot order host libs slot g.name role.Wanted at q h in
+        let x : as_added q ≡ s = cc in
+        (sym (ap (λ (y : Segment). y.slot) x) ∙ t.0, sym (ap (λ (y : Segment). y.name) x) ∙ t.1, sym (ap (λ (y : Segment). y.role) x) ∙ t.2))
+
+-- 2. the row of names grows, and has each name that is asked for
+pub sought_grows : (units : List (List ℕ × ℕ)) (row gs : List UnitReference) → (more : List UnitReference) × (sought_from units row gs ≡ row ++ more)
+sought_grows units row [] = ([], sym (append-nil row))
+sought_grows units row (g ∷ gs) = go (is_had units row g.name) (λ xs. sought_grows units xs gs)
+  where
+    go : (b : Bool) → ((xs : List UnitReference) → (more : List UnitReference) × (sought_from units xs gs ≡ xs ++ more)) → (more : List UnitReference) × (sought_from units (if b then row else row ++ g ∷ []) gs ≡ row ++ more)
+    go true later = later row
+    go false later = let r = later (row ++ g ∷ []) in (g ∷ r.0, r.1 ∙ append_assoc row (g ∷ []) r.0)
+
+pub had_more : (units : List (List ℕ × ℕ)) (row more : List UnitReference) (name : List ℕ) → is_had units row name ≡ true → is_had units (row ++ more) name ≡ true
+had_more units row more name = go (is_some (lookup (bytes_eq name) units))
+  where
+    test : UnitReference → Bool
+    test g = bytes_eq g.name name
+
+    or_true : (a b : Bool) → a ≡ true → (a || b) ≡ true
+    or_true true b e = refl
+    or_true false b e = absurd (cc)
+
+    go : (b : Bool) → (b || list_any (λ (g : UnitReference). bytes_eq g.name name) row) ≡ true → (b || list_any (λ (g : UnitReference). bytes_eq g.name name) (row ++ more)) ≡ true
+    go true e = refl
+    go false e = list_any-append test row more ∙ or_true (list_any test row) (list_any test more) e
+
+pub had_last : (units : List (List ℕ × ℕ)) (row : List UnitReference) (g : UnitReference) → is_had units (row ++ g ∷ []) g.name ≡ true
+had_last units row g = go (is_some (lookup (bytes_eq g.name) units))
+  where
+    test : UnitReference → Bool
+    test h = bytes_eq h.name g.name
+
+    itself : test g ≡ true
+    itself = (bytes_eq-Decides g.name g.name).1 refl
+
+    or_last : (a b : Bool) → b ≡ true → (a || (b || false)) ≡ true
+    or_last true b e = refl
+    or_last false true e = refl
+    or_last false false e = absurd (cc)
+
+    go : (b : Bool) → (b || list_any (λ (h : UnitReference). bytes_eq h.name g.name) (row ++ g ∷ [])) ≡ true
+    go true = refl
+    go false = list_any-append test row (g ∷ []) ∙ or_last (list_any test row) (test g) itself
+
+pub all_had : (units : List (List ℕ × ℕ)) (row gs : List UnitReference) (g : UnitReference) (i : ℕ) → slice_get gs i ≡ Some g → is_had units (sought_from units row gs) g.name ≡ true
+all_had units row [] g i e = absurd (cc)
+all_had units row (h ∷ gs) g zero e =
+    let same : h ≡ g = cc in
+    let grown = sought_grows units (if is_had units row h.name then row else row ++ h ∷ []) gs in
+    subst (λ (x : UnitReference). is_had units (sought_from units (if is_had units row h.name then row else row ++ h ∷ []) gs) x.name ≡ true) same
+    (subst (λ (r : List UnitReference). is_had units r h.name ≡ true) (sym grown.1) (had_more units (if is_had units row h.name then row else row ++ h ∷ []) grown.0 h.name (first (is_had units row h.name) refl)))
+  where
+    first : (b : Bool) → is_had units row h.name ≡ b → is_had units (if b then row else row ++ h ∷ []) h.name ≡ true
+    first true is = is
+    first false is = had_last units row h
+all_had units row (h ∷ gs) g (suc i) e = all_had units (if is_had units row h.name then row else row ++ h ∷ []) gs g i e
+
+-- 3. where the rounds end without a fault, each name of the row has its slot and its segment
+abbrev pub IsPlaced : Order → List ℕ → List (List ℕ) → ℕ → UnitReference → Type 0
+IsPlaced order host libs j g =
+    (slot : ℕ) × (s : Segment) × (slice_get (empty_slots order host) j ≡ Some slot) × (slice_get (added order host libs) j ≡ Some s) × (added_segment order host libs g slot ≡ Some s)
+
+abbrev pub row_of : Order → List ℕ → List (List ℕ) → List UnitReference
+row_of order host libs = sought order host libs (added order host libs)
+
+abbrev RoundsPlace : Order → List ℕ → List (List ℕ) → List ℕ → Type 0
+RoundsPlace order host libs left =
+    (front : List Segment) (used : List ℕ) (k : ℕ) (row : List UnitReference)
+    → added order host libs ≡ front ++ (rest_of order host libs left k row).added → k ≡ length front → empty_slots order host ≡ used ++ left → k ≡ length used → sought order host libs front ≡ row
+    → (rest_of order host libs left k row).fault ≡ None
+    → ((j : ℕ) (g : UnitReference) → k ≤ j → slice_get (row_of order host libs) j ≡ Some g → IsPlaced order host libs j g)
+    × ((j : ℕ) (s : Segment) → k ≤ j → slice_get (added order host libs) j ≡ Some s → (g : UnitReference) × (slice_get (row_of order host libs) j ≡ Some g))
+
+-- the rounds ended: no name is left, and no segment
+ended : (order : Order) (host : List ℕ) (libs : List (List ℕ)) (front : List Segment) (k : ℕ) (row : List UnitReference) → added order host libs ≡ front → k ≡ length front → sought order host libs front ≡ row → slice_get row k ≡ None
+    → ((j : ℕ) (g : UnitReference) → k ≤ j → slice_get (row_of order host libs) j ≡ Some g → IsPlaced order host libs j g)
+    × ((j : ℕ) (s : Segment) → k ≤ j → slice_get (added order host libs) j ≡ Some s → (g : UnitReference) × (slice_get (row_of order host libs) j ≡ Some g))
+ended order host libs front k row is at row_is none = (names, segs)
+  where
+    same : row_of order host libs ≡ row
+    same = ap (λ (ss : List Segment). sought order host libs ss) is ∙ row_is
+
+    names : (j : ℕ) (g : UnitReference) → k ≤ j → slice_get (row_of order host libs) j ≡ Some g → IsPlaced order host libs j g
+    names j g h e = absurd (some_before row k j g h (sym (ap (λ (r : List UnitReference). slice_get r j) same) ∙ e) none)
+
+    segs : (j : ℕ) (s : Segment) → k ≤ j → slice_get (added order host libs) j ≡ Some s → (g : UnitReference) × (slice_get (row_of order host libs) j ≡ Some g)
+    segs j s h e = let m = slice_get_within front j s (sym (ap (λ (ss : List Segment). slice_get ss j) is) ∙ e) in absurd (omega (arith, m, h, at))
+
+rounds_place : (order : Order) (host : List ℕ) (libs : List (List ℕ)) (left : List ℕ) → RoundsPlace order host libs left
+rounds_place order host libs [] front used k row is at slots_are used_at row_is fine = go (slice_get row k) refl fine
+  where
+    go : (x : Option UnitReference) → slice_get row k ≡ x → option_map (unplaced_fault order libs) x ≡ None
+        → ((j : ℕ) (g : UnitReference) → k ≤ j → slice_get (row_of order host libs) j ≡ Some g → IsPlaced order host libs j g)
+        × ((j : ℕ) (s : Segment) → k ≤ j → slice_get (added order host libs) j ≡ Some s → (g : UnitReference) × (slice_get (row_of order host libs) j ≡ Some g))
+    go None e fine = ended order host libs front k row (is ∙ append-nil front) at row_is e
+    go (Some g) e fine = absurd (cc)
+rounds_place order host libs (slot ∷ left) front used k row is at slots_are used_at row_is fine = go (rounds_place order host libs left) (slice_get row k) refl is fine
+  where
+    Have : Type 0
+    Have = ((j : ℕ) (g : UnitReference) → k ≤ j → slice_get (row_of order host libs) j ≡ Some g → IsPlaced order host libs j g)
+        × ((j : ℕ) (s : Segment) → k ≤ j → slice_get (added order host libs) j ≡ Some s → (g : UnitReference) × (slice_get (row_of order host libs) j ≡ Some g))
+
+    slot_at : slice_get (empty_slots order host) k ≡ Some slot
+    slot_at = ap (λ (xs : List ℕ). slice_get xs k) slots_are ∙ next_slot used (slot ∷ left) k used_at
+
+    -- the row's name at k stays there
+    stays : (g : UnitReference) (rest : List Segment) → slice_get row k ≡ Some g → added order host libs ≡ front ++ rest → slice_get (row_of order host libs) k ≡ Some g
+    stays g rest e is =
+        let grown = sought_grows (own_units order host libs) row (references_in rest) in
+        let whole : row_of order host libs ≡ row ++ grown.0 =
+        ap (λ (ss : List Segment). sought order host libs ss) is ∙ (sought_rest order host libs front rest ∙ (ap (λ (r : List UnitReference). sought_from (own_units order host libs) r (references_in rest)) row_is ∙ grown.1)) in
+        ap (λ (r : List UnitReference). slice_get r k) whole ∙ at_left row grown.0 k g e
+
+    segment : RoundsPlace order host libs left → (g : UnitReference) → slice_get row k ≡ Some g → placed_fault order host libs g slot ≡ None → (o : Option Segment) → added_segment order host libs g slot ≡ o → added order host libs ≡ front ++ (of_segment order host libs left k row o).added → (of_segment order host libs left k row o).fault ≡ None → Have
+    segment later g e p None q is fine = absurd (brought order host libs g slot p q)
+    segment later g e p (Some s) q is fine = (names, segs)
+      where
+        row' : List UnitReference
+        row' = sought_from (own_units order host libs) row (references_of s)
+
+        rest : List Segment
+        rest = (rest_of order host libs left (k + 1) row').added
+
+        more : ((j : ℕ) (g : UnitReference) → k + 1 ≤ j → slice_get (row_of order host libs) j ≡ Some g → IsPlaced order host libs j g)
+            × ((j : ℕ) (s : Segment) → k + 1 ≤ j → slice_get (added order host libs) j ≡ Some s → (g : UnitReference) × (slice_get (row_of order host libs) j ≡ Some g))
+        more =
+            later (front ++ s ∷ []) (used ++ slot ∷ []) (k + 1) row'
+            (is ∙ sym (append_assoc front (s ∷ []) rest))
+            (let l = longer front s in omega (arith, l, at))
+            (slots_are ∙ sym (append_assoc used (slot ∷ []) left))
+            (let l = longer used slot in omega (arith, l, used_at))
+            (sought_rest order host libs front (s ∷ [])
+            ∙ (ap (λ (gs : List UnitReference). sought_from (own_units order host libs) (sought order host libs front) gs) (append-nil (references_of s))
+            ∙ ap (λ (xs : List UnitReference). sought_from (own_units order host libs) xs (references_of s)) row_is))
+            fine
+
+        here : slice_get (added order host libs) k ≡ Some s
+        here = ap (λ (ss : List Segment). slice_get ss k) is ∙ at_seam front s rest k at
+
+        names : (j : ℕ) (h : UnitReference) → k ≤ j → slice_get (row_of order host libs) j ≡ Some h → IsPlaced order host libs j h
+        names j h low u = elim (cases_lt k j) [
+          | inl x ↦ more.0 j h (omega (arith, x)) u
+          | inr x ↦
+              let same : k ≡ j = omega (arith, x, low) in
+              let named : slice_get (row_of order host libs) j ≡ Some g = subst (λ (n : ℕ). slice_get (row_of order host libs) n ≡ Some g) same (stays g (s ∷ rest) e is) in
+              let it : g ≡ h = cc in
+              subst (λ (n : ℕ). IsPlaced order host libs n h) same (slot, s, slot_at, here, subst (λ (y : UnitReference). added_segment order host libs y slot ≡ Some s) it q)
+        ]
+
+        segs : (j : ℕ) (t : Segment) → k ≤ j → slice_get (added order host libs) j ≡ Some t → (h : UnitReference) × (slice_get (row_of order host libs) j ≡ Some h)
+        segs j t low u = elim (cases_lt k j) [
+          | inl x ↦ more.1 j t (omega (arith, x)) u
+          | inr x ↦ (g, subst (λ (n : ℕ). slice_get (row_of order host libs) n ≡ Some g) (omega (arith, x, low)) (stays g (s ∷ rest) e is))
+        ]
+
+    fault : RoundsPlace order host libs left → (g : UnitReference) → slice_get row k ≡ Some g → (o : Option Fault) → placed_fault order host libs g slot ≡ o
+        → added order host libs ≡ front ++ (of_fault order host libs left k row (added_segment order host libs g slot) o).added → (of_fault order host libs left k row (added_segment order host libs g slot) o).fault ≡ None → Have
+    fault later g e (Some f) p is fine = absurd (cc)
+    fault later g e None p is fine = segment later g e p (added_segment order host libs g slot) refl is fine
+
+    go : RoundsPlace order host libs left → (x : Option UnitReference) → slice_get row k ≡ x → added order host libs ≡ front ++ (of_name order host libs slot left k row x).added → (of_name order host libs slot left k row x).fault ≡ None → Have
+    go later None e is fine = ended order host libs front k row (is ∙ append-nil front) at row_is e
+    go later (Some g) e is fine = fault later g e (placed_fault order host libs g slot) refl is fine
+
+-- from the first round on
+all_placed : (order : Order) (host : List ℕ) (libs : List (List ℕ)) → added_fault order host libs ≡ None
+    → ((j : ℕ) (g : UnitReference) → 0 ≤ j → slice_get (row_of order host libs) j ≡ Some g → IsPlaced order host libs j g)
+    × ((j : ℕ) (s : Segment) → 0 ≤ j → slice_get (added order host libs) j ≡ Some s → (g : UnitReference) × (slice_get (row_of order host libs) j ≡ Some g))
+all_placed order host libs fine =
+    let same = first_round order host libs in
+    rounds_place order host libs (empty_slots order host) [] [] 0 (sought order host libs []) (ap (λ (x : Rounds). x.added) same) refl refl refl refl (sym (ap (λ (x : Rounds). x.fault) same) ∙ fine)
+
+pub name_placed : (order : Order) (host : List ℕ) (libs : List (List ℕ)) → added_fault order host libs ≡ None → (j : ℕ) (g : UnitReference) → slice_get (row_of order host libs) j ≡ Some g → IsPlaced order host libs j g
+name_placed order host libs fine j g e = (all_placed order host libs fine).0 j g (omega arith) e
+
+pub segment_named : (order : Order) (host : List ℕ) (libs : List (List ℕ)) → added_fault order host libs ≡ None → (j : ℕ) (s : Segment) → slice_get (added order host libs) j ≡ Some s → (g : UnitReference) × (slice_get (row_of order host libs) j ≡ Some g)
+segment_named order host libs fine j s e = (all_placed order host libs fine).1 j s (omega arith) e
+
+-- an added segment stands in its empty slot
+pub in_empty : (order : Order) (host : List ℕ) (libs : List (List ℕ)) → added_fault order host libs ≡ None → (j : ℕ) (s : Segment) → slice_get (added order host libs) j ≡ Some s → slice_get (empty_slots order host) j ≡ Some s.slot
+in_empty order host libs fine j s e =
+    let g = segment_named order host libs fine j s e in
+    let p = name_placed order host libs fine j g.0 g.1 in
+    let same : p.1 ≡ s = (let a = p.3 in cc) in
+    p.2 ∙ ap (λ (n : ℕ). Some n) (sym (added_is order host libs g.0 p.0 p.1 p.4).0 ∙ ap (λ (q : Segment). q.slot) same)
+
+pub empty_slot : (order : Order) (host : List ℕ) (j slot : ℕ) → slice_get (empty_slots order host) j ≡ Some slot → (7 ≤ slot) × (slot < 7 + 9) × (is_role is_empty order host slot ≡ true)
+unfolding empty_slots
+empty_slot order host j slot e = of_filter (is_role is_empty order host) 7 9 slot j e
+
+empty_ascend : (order : Order) (host : List ℕ) (i j x y : ℕ) → i < j → slice_get (empty_slots order host) i ≡ Some x → slice_get (empty_slots order host) j ≡ Some y → x < y
+unfolding empty_slots
+empty_ascend order host i j x y h e u = filter_ascends (is_role is_empty order host) 7 9 i j x y h e u
+
+-- an empty slot has no segment of its own
+not_own : (order : Order) (host : List ℕ) (libs : List (List ℕ)) (slot : ℕ) → is_role is_empty order host slot ≡ true → own_segment order host libs slot ≡ None
+not_own order host libs slot e = go (result_ok (role_of (entry_at order host slot))) e
+  where
+    go : (o : Option Role) → option_map_or is_empty o false ≡ true → option_and_then (λ (r : Role). option_and_then (segment_from order host libs slot (entry_at order host slot).name r) (source_of order host libs slot r)) o ≡ None
+    go None e = refl
+    go (Some role.Empty) e = refl
+    go (Some other) e = absurd (false≢true e)
+
+-- it is found there
+pub found_added : (order : Order) (host : List ℕ) (libs : List (List ℕ)) → added_fault order host libs ≡ None → (j : ℕ) (s : Segment) → slice_get (added order host libs) j ≡ Some s → segment_at order host libs s.slot ≡ Some s
+found_added order host libs fine j s e =
+    ap (λ (o : Option Segment). option_or o (added_at order host libs s.slot)) (not_own order host libs s.slot empty)
+    ∙ (ap (λ (b : Bool). if b then find (λ (q : Segment). q.slot == s.slot) (added order host libs) else None) empty ∙ go (find (λ (q : Segment). q.slot == s.slot) (added order host libs)) refl)
+  where
+    at : slice_get (empty_slots order host) j ≡ Some s.slot
+    at = in_empty order host libs fine j s e
+
+    empty : is_role is_empty order host s.slot ≡ true
+    empty = (empty_slot order host j s.slot at).2
+
+    one : (i : ℕ) (q : Segment) → slice_get (added order host libs) i ≡ Some q → q.slot ≡ s.slot → i ≡ j
+    one i q u same = elim (cases_lt i j) [
+      | inl h ↦ (let a = empty_ascend order host i j q.slot s.slot h (in_empty order host libs fine i q u) at in absurd (omega (arith, a, same)))
+      | inr h ↦ elim (cases_lt j i) [
+        | inl k ↦ (let a = empty_ascend order host j i s.slot q.slot k at (in_empty order host libs fine i q u) in absurd (omega (arith, a, same)))
+        | inr k ↦ omega (arith, h, k)
+      ]
+    ]
+
+    go : (o : Option Segment) → find (λ (q : Segment). q.slot == s.slot) (added order host libs) ≡ o → o ≡ Some s
+    go None is = absurd (find_none (λ (q : Segment). q.slot == s.slot) (λ (q : Segment). q.slot ≡ s.slot) (λ q. Decides-eqb q.slot s.slot) (added order host libs) is (j, s, e, refl))
+    go (Some q) is =
+        let t = found_in_slot s.slot (added order host libs) q is in
+        let i_is_j : t.0 ≡ j = one t.0 t.1 t.2 t.3.1 in
+        let there : slice_get (added order host libs) j ≡ Some t.1 = subst (λ (n : ℕ). slice_get (added order host libs) n ≡ Some t.1) i_is_j t.2 in
+        let a = t.3.0 in
+        cc
+
+-- 4. all segments
+pub in_segments : (order : Order) (host : List ℕ) (libs : List (List ℕ)) (slot : ℕ) (s : Segment) → slot < 16 → segment_at order host libs slot ≡ Some s → In s (segments order host libs)
+unfolding segments
+in_segments order host libs slot s h e = in_filter_map (segment_at order host libs) slots slot s (in_range 0 16 slot (omega arith) (omega (arith, h))) e
+
+pub own_in : (order : Order) (host : List ℕ) (libs : List (List ℕ)) (slot : ℕ) (s : Segment) → slot < 16 → own_segment order host libs slot ≡ Some s → In s (own_segments order host libs)
+unfolding own_segments
+own_in order host libs slot s h e = in_filter_map (own_segment order host libs) slots slot s (in_range 0 16 slot (omega arith) (omega (arith, h))) e
+
+pub own_at : (order : Order) (host : List ℕ) (libs : List (List ℕ)) (s : Segment) → In s (own_segments order host libs) → (slot : ℕ) × (slot < 16) × (own_segment order host libs slot ≡ Some s)
+unfolding own_segments
+own_at order host libs s t =
+    let r = of_filter_map (own_segment order host libs) slots s t in
+    (r.0, (let a = (of_range 0 16 r.0 r.1.0 r.1.1).1 in omega (arith, a)), r.2)
+
+-- a segment of the link is one of the host's own, or one that was added
+own_or_added : (order : Order) (host : List ℕ) (libs : List (List ℕ)) (s : Segment) → IsSegment order host libs s → In s (own_segments order host libs ++ added order host libs)
+own_or_added order host libs s t = go (own_segment order host libs s.slot) refl (is_role is_empty order host s.slot) t.1
+  where
+    go : (o : Option Segment) → own_segment order host libs s.slot ≡ o → (b : Bool) → option_or o (if b then find (λ (q : Segment). q.slot == s.slot) (added order host libs) else None) ≡ Some s → In s (own_segments order host libs ++ added order host libs)
+    go (Some q) is b e = in_left (own_segments order host libs) (added order host libs) s (own_in order host libs s.slot s t.0 (is ∙ e))
+    go None is false e = absurd (cc)
+    go None is true e =
+        let u = found_in_slot s.slot (added order host libs) s e in
+        in_right (own_segments order host libs) (added order host libs) s (u.0, u.2 ∙ ap (λ (q : Segment). Some q) u.3.0)
+
+-- the references of a segment
+pub in_references : (file slot n : ℕ) (rs : List Record) (i : ℕ) (r : Record) → slice_get rs i ≡ Some r → is_unit_reference r.body ≡ true → (g : UnitReference) × In g (unit_references file slot n rs) × (g.name ≡ r.name)
+in_references file slot n [] i r e u = absurd (cc)
+in_references file slot n (q ∷ rs) i r e u = go (is_unit_reference q.body) refl i e (λ j h. in_references file slot (n + 1) rs j r h u)
+  where
+    Found : List UnitReference → Type 0
+    Found gs = (g : UnitReference) × In g gs × (g.name ≡ r.name)
+
+    Q : UnitReference
+    Q = record { name = q.name; file = file; slot = slot; rec = n }
+
+    go : (b : Bool) → is_unit_reference q.body ≡ b → (i : ℕ) → slice_get (q ∷ rs) i ≡ Some r → ((j : ℕ) → slice_get rs j ≡ Some r → Found (unit_references file slot (n + 1) rs))
+        → Found (if b then record { name = q.name; file = file; slot = slot; rec = n } ∷ unit_references file slot (n + 1) rs else unit_references file slot (n + 1) rs)
+    go true is zero e later = let same : q ≡ r = cc in (Q, (zero, refl), ap (λ (x : Record). x.name) same)
+    go true is (suc j) e later = let t = later j e in (t.0, (suc t.1.0, t.1.1), t.2)
+    go false is zero e later = let same : q ≡ r = cc in absurd (false≢true (sym is ∙ (ap (λ (x : Record). is_unit_reference x.body) same ∙ u)))
+    go false is (suc j) e later = later j e
+
+-- a unit by its name
+abbrev unit_named : List ℕ → Segment → Bool
+unit_named name q = is_unit q.role && bytes_eq name q.name
+
+units_known : (name : List ℕ) (segs : List Segment) → is_some (lookup (bytes_eq name) (units_of segs)) ≡ list_any (unit_named name) segs
+units_known name [] = refl
+units_known name (s ∷ segs) = go (is_unit s.role) (units_known name segs)
+  where
+    go : (b : Bool) → is_some (lookup (bytes_eq name) (units_of segs)) ≡ list_any (unit_named name) segs
+        → is_some (lookup (bytes_eq name) (cons_option (if b then Some (s.name, s.slot) else None) (units_of segs))) ≡ ((b && bytes_eq name s.name) || list_any (unit_named name) segs)
+    go false e = e
+    go true e = at (bytes_eq name s.name)
+      where
+        at : (b : Bool) → is_some (if b then Some s.slot else lookup (bytes_eq name) (units_of segs)) ≡ (b || list_any (unit_named name) segs)
+        at true = refl
+        at false = e
+
+pub units_named : (name : List ℕ) (segs : List Segment) → Decides (is_some (lookup (bytes_eq name) (units_of segs))) (SomeItem segs (λ k q. (is_unit q.role ≡ true) × (q.name ≡ name)))
+units_named name segs =
+    Decides-at (is_some (lookup (bytes_eq name) (units_of segs))) (list_any (unit_named name) segs) (units_known name segs)
+    (any_of_items (unit_named name) (λ q. (is_unit q.role ≡ true) × (q.name ≡ name))
+    (λ q. Decides-and (is_unit q.role) (bytes_eq name q.name) (of_test (is_unit q.role)) (Decides-like (bytes_eq name q.name) (λ e. sym e) (λ e. sym e) (bytes_eq-Decides name q.name))) segs)
+
+-- what is had has its segment
+abbrev pub HasUnit : List Segment → List ℕ → Type 0
+HasUnit segs name = SomeItem segs (λ k q. (is_unit q.role ≡ true) × (q.name ≡ name))
+
+pub or_cases : (a b : Bool) → (a || b) ≡ true → (a ≡ true) ⊎ (b ≡ true)
+or_cases true b e = inl refl
+or_cases false b e = inr e
+
+pub had_has_unit : (order : Order) (host : List ℕ) (libs : List (List ℕ)) → added_fault order host libs ≡ None → (name : List ℕ) → is_had (own_units order host libs) (row_of order host libs) name ≡ true → HasUnit (segments order host libs) name
+had_has_unit order host libs fine name had = elim (or_cases (is_some (lookup (bytes_eq name) (own_units order host libs))) (list_any (λ (g : UnitReference). bytes_eq g.name name) (row_of order host libs)) had) [
+  | inl e ↦
+      let t = (units_named name (own_segments order host libs)).0 e in
+      let o = own_at order host libs t.1 (t.0, t.2) in
+      let i = in_segments order host libs o.0 t.1 o.1 (ap (λ (x : Option Segment). option_or x (added_at order host libs o.0)) o.2) in
+      (i.0, t.1, i.1, t.3)
+  | inr e ↦
+      let t = (any_of_items (λ (g : UnitReference). bytes_eq g.name name) (λ (g : UnitReference). g.name ≡ name) (λ g. bytes_eq-Decides g.name name) (row_of order host libs)).0 e in
+      let p = name_placed order host libs fine t.0 t.1 t.2 in
+      let a = added_is order host libs t.1 p.0 p.1 p.4 in
+      let at = (empty_slot order host t.0 p.0 p.2).1 in
+      let slot = a.0 in
+      let i = in_segments order host libs p.1.slot p.1 (omega (arith, at, slot)) (found_added order host libs fine t.0 p.1 p.3) in
+      (i.0, p.1, i.1, (ap is_unit a.2, a.1 ∙ t.3))
+]
+
+pub is_had_there : (order : Order) (host : List ℕ) (libs : List (List ℕ)) (g : UnitReference) → In g (references_in (own_segments order host libs ++ added order host libs)) → is_had (own_units order host libs) (row_of order host libs) g.name ≡ true
+unfolding sought
+is_had_there order host libs g i = all_had (own_units order host libs) [] (references_in (own_segments order host libs ++ added order host libs)) g i.0 i.1
+
+pub asked_is_there : (order : Order) (host : List ℕ) (libs : List (List ℕ)) → added_fault order host libs ≡ None → (s : Segment) → IsSegment order host libs s → (rec : ℕ) (r : Record) → slice_get s.records rec ≡ Some r → is_unit_reference r.body ≡ true → HasUnit (segments order host libs) r.name
+asked_is_there order host libs fine s is rec r e u =
+    let g = in_references s.file s.slot 0 s.records rec r e u in
+    let i = in_flat references_of (own_segments order host libs ++ added order host libs) s g.0 (own_or_added order host libs s is) g.1 in
+    subst (λ (name : List ℕ). HasUnit (segments order host libs) name) g.2 (had_has_unit order host libs fine g.0.name (is_had_there order host libs g.0 i))

@@ -1,0 +1,129 @@
+-- What is in a list, by its place there.
+use Rattle.std.proofs.Common.{◌≡◌, ℕ, zero, suc, ◌+◌, ◌<◌, ◌≤◌, List, [], ◌∷◌, ◌++◌, length, Option, Some, None, Bool, true, false, refl, sym, ap, subst, ◌∙◌, inl, inr, arith}
+use Rattle.std.specs.Prelude.{if◌then◌else◌}
+use Rattle.std.specs.List.{range_with_len, slice_get, filter, filter_map, flat_map, cons_option, find}
+use Rattle.std.proofs.lemmas.Bool.{cases_lt}
+
+abbrev pub In : {A : Type 0} → A → List A → Type 0
+In a xs = (i : ℕ) × (slice_get xs i ≡ Some a)
+
+-- joined lists
+pub at_left : {A : Type 0} (xs ys : List A) (i : ℕ) (a : A) → slice_get xs i ≡ Some a → slice_get (xs ++ ys) i ≡ Some a
+at_left [] ys i a e = absurd (cc)
+at_left (x ∷ xs) ys zero a e = e
+at_left (x ∷ xs) ys (suc i) a e = at_left xs ys i a e
+
+pub at_seam : {A : Type 0} (xs : List A) (y : A) (ys : List A) (k : ℕ) → k ≡ length xs → slice_get (xs ++ y ∷ ys) k ≡ Some y
+at_seam {A} xs y ys k e = ap (λ (n : ℕ). slice_get (xs ++ y ∷ ys) n) e ∙ go xs
+  where
+    go : (zs : List A) → slice_get (zs ++ y ∷ ys) (length zs) ≡ Some y
+    go [] = refl
+    go (z ∷ zs) = go zs
+
+pub in_left : {A : Type 0} (xs ys : List A) (a : A) → In a xs → In a (xs ++ ys)
+in_left xs ys a t = (t.0, at_left xs ys t.0 a t.1)
+
+pub in_right : {A : Type 0} (xs ys : List A) (a : A) → In a ys → In a (xs ++ ys)
+in_right [] ys a t = t
+in_right (x ∷ xs) ys a t = let r = in_right xs ys a t in (suc r.0, r.1)
+
+-- the place before one that is taken is taken
+pub some_before : {A : Type 0} (xs : List A) (i j : ℕ) (a : A) → i ≤ j → slice_get xs j ≡ Some a → slice_get xs i ≡ None → ⊥
+some_before [] i j a h e n = absurd (cc)
+some_before (x ∷ xs) zero j a h e n = absurd (cc)
+some_before (x ∷ xs) (suc i) zero a h e n = omega (arith, h)
+some_before (x ∷ xs) (suc i) (suc j) a h e n = some_before xs i j a (omega (arith, h)) e n
+
+-- lists that are made of others
+pub in_flat : {A C : Type 0} (f : A → List C) (xs : List A) (x : A) (y : C) → In x xs → In y (f x) → In y (flat_map f xs)
+in_flat f [] x y t u = absurd (let e = t.1 in cc)
+in_flat {A} {C} f (z ∷ xs) x y t u = go (λ i e. in_flat f xs x y (i, e) u) t.0 t.1
+  where
+    go : ((i : ℕ) → slice_get xs i ≡ Some x → In y (flat_map f xs)) → (i : ℕ) → slice_get (z ∷ xs) i ≡ Some x → In y (f z ++ flat_map f xs)
+    go later zero e = let same : x ≡ z = cc in in_left (f z) (flat_map f xs) y (subst (λ (w : A). In y (f w)) same u)
+    go later (suc i) e = in_right (f z) (flat_map f xs) y (later i e)
+
+pub in_filter_map : {A C : Type 0} (f : A → Option C) (xs : List A) (x : A) (y : C) → In x xs → f x ≡ Some y → In y (filter_map f xs)
+in_filter_map f [] x y t u = absurd (let e = t.1 in cc)
+in_filter_map {A} {C} f (z ∷ xs) x y t u = go (λ i e. in_filter_map f xs x y (i, e) u) t.0 t.1
+  where
+    more : (o : Option C) → In y (filter_map f xs) → In y (cons_option o (filter_map f xs))
+    more None r = r
+    more (Some c) r = (suc r.0, r.1)
+
+    here : (o : Option C) → o ≡ Some y → In y (cons_option o (filter_map f xs))
+    here None e = absurd (cc)
+    here (Some c) e = (zero, e)
+
+    go : ((i : ℕ) → slice_get xs i ≡ Some x → In y (filter_map f xs)) → (i : ℕ) → slice_get (z ∷ xs) i ≡ Some x → In y (cons_option (f z) (filter_map f xs))
+    go later zero e = let same : z ≡ x = cc in here (f z) (ap f same ∙ u)
+    go later (suc i) e = more (f z) (later i e)
+
+pub of_filter_map : {A C : Type 0} (f : A → Option C) (xs : List A) (y : C) → In y (filter_map f xs) → (x : A) × In x xs × (f x ≡ Some y)
+of_filter_map f [] y t = absurd (let e = t.1 in cc)
+of_filter_map {A} {C} f (z ∷ xs) y t = go (λ u. of_filter_map f xs y u) (f z) refl t.0 t.1
+  where
+    Made : List A → Type 0
+    Made zs = (x : A) × In x zs × (f x ≡ Some y)
+
+    further : Made xs → Made (z ∷ xs)
+    further r = (r.0, (suc r.1.0, r.1.1), r.2)
+
+    go : (In y (filter_map f xs) → Made xs) → (o : Option C) → f z ≡ o → (i : ℕ) → slice_get (cons_option o (filter_map f xs)) i ≡ Some y → Made (z ∷ xs)
+    go later None is i e = further (later (i, e))
+    go later (Some c) is zero e = (z, (zero, refl), is ∙ e)
+    go later (Some c) is (suc i) e = further (later (i, e))
+
+-- numbers of a range
+pub in_range : (a n i : ℕ) → a ≤ i → i < a + n → In i (range_with_len a n)
+in_range a zero i low high = absurd (omega (arith, low, high))
+in_range a (suc n) i low high = elim (cases_lt a i) [
+  | inl h ↦ (let r = in_range (a + 1) n i (omega (arith, h)) (omega (arith, high)) in (suc r.0, r.1))
+  | inr h ↦ (zero, ap (λ (m : ℕ). Some m) (omega (arith, h, low)))
+]
+
+pub of_range : (a n i j : ℕ) → slice_get (range_with_len a n) j ≡ Some i → (a ≤ i) × (i < a + n)
+of_range a zero i j e = absurd (cc)
+of_range a (suc n) i zero e = let same : a ≡ i = cc in (omega (arith, same), omega (arith, same))
+of_range a (suc n) i (suc j) e = let r = of_range (a + 1) n i j e in (let h = r.0 in omega (arith, h), let h = r.1 in omega (arith, h))
+
+-- those of a range that pass a test: they are in the range, and they ascend
+pub of_filter : (test : ℕ → Bool) (a n i j : ℕ) → slice_get (filter test (range_with_len a n)) j ≡ Some i → (a ≤ i) × (i < a + n) × (test i ≡ true)
+of_filter test a zero i j e = absurd (cc)
+of_filter test a (suc n) i j e = go (λ k h. of_filter test (a + 1) n i k h) (test a) refl j e
+  where
+    rest : List ℕ
+    rest = filter test (range_with_len (a + 1) n)
+
+    Kept : ℕ → ℕ → Type 0
+    Kept low size = (low ≤ i) × (i < low + size) × (test i ≡ true)
+
+    further : Kept (a + 1) n → Kept a (suc n)
+    further r = (let h = r.0 in omega (arith, h), let h = r.1 in omega (arith, h), r.2)
+
+    go : ((k : ℕ) → slice_get rest k ≡ Some i → Kept (a + 1) n) → (b : Bool) → test a ≡ b → (j : ℕ) → slice_get (if b then a ∷ rest else rest) j ≡ Some i → Kept a (suc n)
+    go later false is j e = further (later j e)
+    go later true is zero e = let same : a ≡ i = cc in (omega (arith, same), omega (arith, same), ap test (sym same) ∙ is)
+    go later true is (suc j) e = further (later j e)
+
+pub filter_ascends : (test : ℕ → Bool) (a n i j x y : ℕ) → i < j → slice_get (filter test (range_with_len a n)) i ≡ Some x → slice_get (filter test (range_with_len a n)) j ≡ Some y → x < y
+filter_ascends test a zero i j x y h e u = absurd (cc)
+filter_ascends test a (suc n) i j x y h e u = go (λ k l m f g. filter_ascends test (a + 1) n k l x y m f g) (test a) i j h e u
+  where
+    rest : List ℕ
+    rest = filter test (range_with_len (a + 1) n)
+
+    go : ((i j : ℕ) → i < j → slice_get rest i ≡ Some x → slice_get rest j ≡ Some y → x < y) → (b : Bool) (i j : ℕ) → i < j → slice_get (if b then a ∷ rest else rest) i ≡ Some x → slice_get (if b then a ∷ rest else rest) j ≡ Some y → x < y
+    go later false i j h e u = later i j h e u
+    go later true i zero h e u = absurd (omega (arith, h))
+    go later true zero (suc j) h e u = let same : a ≡ x = cc in let r = (of_filter test (a + 1) n y j u).0 in omega (arith, same, r)
+    go later true (suc i) (suc j) h e u = later i j (omega (arith, h)) e u
+
+-- what a search finds passes its test
+pub find_passes : {A : Type 0} (test : A → Bool) (xs : List A) (x : A) → find test xs ≡ Some x → test x ≡ true
+find_passes test [] x e = absurd (cc)
+find_passes {A} test (y ∷ xs) x e = go (λ h. find_passes test xs x h) (test y) refl e
+  where
+    go : (find test xs ≡ Some x → test x ≡ true) → (b : Bool) → test y ≡ b → (if b then Some y else find test xs) ≡ Some x → test x ≡ true
+    go later true is e = let same : y ≡ x = cc in ap test (sym same) ∙ is
+    go later false is e = later e

@@ -1,0 +1,337 @@
+-- The first fault of the units that are added is the least that stands.
+use Rattle.std.proofs.Common.{◌≡◌, ℕ, ◌+◌, ◌<◌, ◌≤◌, List, [], ◌∷◌, ◌++◌, length, take, Option, Some, None, Bool, true, false, refl, sym, ap, subst, ◌∙◌, inl, inr, arith, append_assoc, append-nil, length-append, is_none, unwrap_or}
+use Rattle.std.specs.Prelude.{◌⊎◌, if◌then◌else◌}
+use Rattle.std.specs.Bool.{Decides}
+use Rattle.std.specs.List.{slice_get}
+use Rattle.std.specs.Option.{option_or, option_map, option_and_then}
+use Rattle.std.proofs.lemmas.Bool.{cases_lt, false≢true}
+use Rattle.std.proofs.lemmas.Bool.Decides.{Decides-or}
+use Rattle.std.proofs.lemmas.Grind.{flat_map-append}
+use Rattle.ps_codefile.specs.Dictionary.{is_nameless, entry_at}
+use Rattle.ps_codefile.specs.declared.entry.Entry.{Entry}
+use Rattle.ps_codefile.specs.declared.entry.Role.{Role}
+use Rattle.ps_codefile.specs.declared.entry.Role.TheVariants as role
+use Rattle.ps_resolve.specs.Added.{unit_references, references_in, is_had, sought_from, empty_slots, is_missing, unplaced_fault, placed_fault, added_segment, Rounds, after, rounds_from, sought, rounds, added, added_fault}
+use Rattle.ps_resolve.specs.Faults.{entry_fault, code_fault}
+use Rattle.ps_resolve.specs.First.{Before, Least, nothing, this}
+use Rattle.ps_resolve.specs.Sources.{Segment, own_segments, units_of, unit_source, chosen_library, file_at}
+use Rattle.ps_resolve.specs.Standing.{Because, Step, OfSources, OfAdded, rank, part, record_read, key, Precedes, EntriesHave, EntryFault, CodeFault, IsMissing, PlacedFault, IsSought, InRound}
+use Rattle.ps_resolve.specs.declared.added.UnitReference.{UnitReference}
+use Rattle.ps_laws.proofs.Least.{least_same, least_order, least_or, least_map, least_then}
+use Rattle.ps_laws.proofs.Looking.{of_test}
+use Rattle.ps_laws.proofs.Definitions.{take_front, longer}
+use Rattle.ps_laws.proofs.Sources.{Early, Late, early_late, late, OneStop, none_has, entry_least, entry_early, code_late, code_least}
+use Rattle.ps_laws.proofs.Parts.{record_somes, RoundHas}
+use Rattle.ps_words.specs.FaultPlaces.{in_slot, in_record}
+use Rattle.ps_words.specs.declared.order.Order.{Order}
+use Rattle.ps_words.specs.declared.fault.Reason.{Reason}
+use Rattle.ps_words.specs.declared.fault.Reason.TheVariants as reason
+use Rattle.ps_words.specs.declared.fault.Fault.{Fault}
+
+-- 1. one round
+-- the fault's record is one that was read
+abbrev Reads : Fault → Type 0
+Reads f = record_read f.reason f.rec ≡ part f.rec
+
+none_read : (why : Reason) → record_read why None ≡ 0
+none_read reason.MissingUnit = refl
+none_read reason.NoSlot = refl
+none_read other = refl
+
+reads_slot : {P : Reason → Type 0} (k slot : ℕ) (f : Fault) → Because (in_slot k slot) P f → Reads f
+reads_slot k slot f t = subst Reads (sym t.1) (none_read t.0)
+
+reads_code : (order : Order) (file : List ℕ) (k : ℕ) (e : Entry) (slot : ℕ) (r : Role) (f : Fault) → CodeFault order file k e slot r f → Reads f
+reads_code order file k e slot r f (inl t) = reads_slot k slot f t
+reads_code order file k e slot r f (inr t) = elim t.2.1 [
+  | inl b ↦ reads_slot k slot f b
+  | inr b ↦ subst Reads (sym b.2) ((record_somes (λ why. record_read why (Some (length b.0)) ≡ length b.0 + 1) refl refl refl refl refl order _).held b.1 b.3.stops)
+]
+
+reads_placed : (order : Order) (host : List ℕ) (libs : List (List ℕ)) (name : List ℕ) (slot : ℕ) (f : Fault) → PlacedFault order host libs name slot f → Reads f
+reads_placed order host libs name slot f (inl t) = reads_slot (t.0 + 1) slot f t.3.1
+reads_placed order host libs name slot f (inr t) = reads_code order (file_at host libs t.0.0) t.0.0 (entry_at order (file_at host libs t.0.0) t.0.1) slot role.Wanted f t.2
+
+-- the faults of a unit that was found come behind that of one that was not
+entries_high : (order : Order) (name lib : List ℕ) (why : Reason) → EntriesHave order name lib why → 13 ≤ rank why
+entries_high order name lib reason.DoubledUnit h = omega arith
+entries_high order name lib (reason.NotAUnit kind) h = omega arith
+entries_high order name lib other h = absurd h
+
+lower_late : (slot n m : ℕ) (f : Fault) → m ≤ n → Late slot n f → Late slot m f
+lower_late slot n m f h t = (t.0, elim t.1 [ inl u ↦ inl (u.0, u.1, (let a = u.2 in omega (arith, a, h))) | inr u ↦ inr u ])
+
+placed_late : (order : Order) (host : List ℕ) (libs : List (List ℕ)) (name : List ℕ) (slot : ℕ) (f : Fault) → PlacedFault order host libs name slot f → Late slot 13 f
+placed_late order host libs name slot f (inl t) = late (t.0 + 1) slot 13 f (entries_high order name t.1) t.3.1
+placed_late order host libs name slot f (inr t) = lower_late slot 15 13 f (omega arith) (code_late order (file_at host libs t.0.0) t.0.0 (entry_at order (file_at host libs t.0.0) t.0.1) slot role.Wanted f t.2)
+
+missing_first : (k slot : ℕ) (g : UnitReference) (f : Fault) → Late slot 13 f → Reads f → Precedes (OfAdded k) (in_record g.file g.slot g.rec reason.MissingUnit) f
+missing_first k slot g f l r =
+    inr (
+      refl,
+      inr (
+        refl,
+        elim l.1 [
+          | inl t ↦ inr (sym (r ∙ t.0), inr (sym t.1, inl (let a = t.2 in omega (arith, a))))
+          | inr h ↦ inl (omega (arith, r, h))
+        ],
+      ),
+    )
+
+-- what comes first in a slot comes first in its round
+within_round : (k : ℕ) (x y : Fault) → unwrap_or x.slot x.file ≡ unwrap_or y.slot y.file → Reads x → Reads y → Precedes OfSources x y → Precedes (OfAdded k) x y
+within_round k x y e a b (inl h) = absurd (omega (arith, h))
+within_round k x y e a b (inr t) = elim t.1 [
+  | inl h ↦ absurd (omega (arith, e, h))
+  | inr u ↦ inr (
+      refl,
+      inr (
+        refl,
+        subst (λ (n : ℕ). Before (n ∷ part x.reference ∷ rank x.reason ∷ []) (record_read y.reason y.rec ∷ part y.reference ∷ rank y.reason ∷ [])) (sym a)
+        (subst (λ (n : ℕ). Before (part x.rec ∷ part x.reference ∷ rank x.reason ∷ []) (n ∷ part y.reference ∷ rank y.reason ∷ [])) (sym b) u.1),
+      ),
+    )
+]
+
+placed_least : OneStop → (order : Order) (host : List ℕ) (libs : List (List ℕ)) (k : ℕ) (name : List ℕ) (slot : ℕ)
+    → Least (Precedes (OfAdded k)) (PlacedFault order host libs name slot) (option_or (entry_fault order name libs slot) (option_and_then (code_fault order host libs slot role.Wanted) (unit_source order name libs)))
+placed_least law order host libs k name slot =
+    least_order
+    (λ x y s t. within_round k x y ((placed_late order host libs name slot x s).0 ∙ sym (placed_late order host libs name slot y t).0) (reads_placed order host libs name slot x s) (reads_placed order host libs name slot y t))
+    (least_or (entry_least order name libs slot)
+    (least_then (code_fault order host libs slot role.Wanted) (unit_source order name libs) (λ at e. code_least law order slot role.Wanted host libs at))
+    (λ x y s t. early_late slot 15 x y (entry_early order name libs slot x s) (code_late order (file_at host libs t.0.0) t.0.0 (entry_at order (file_at host libs t.0.0) t.0.1) slot role.Wanted y t.2)))
+
+pub missing : (order : Order) (libs : List (List ℕ)) (name : List ℕ) → Decides (is_missing order libs name) (IsMissing order libs name)
+missing order libs name = Decides-or (is_nameless name) (is_none (chosen_library order name libs)) (of_test (is_nameless name)) (none_has order name libs)
+
+-- the first fault of a name, where this slot, or none, is left for it
+abbrev round_fault : Order → List ℕ → List (List ℕ) → UnitReference → Option ℕ → Option Fault
+round_fault order host libs g None = Some (unplaced_fault order libs g)
+round_fault order host libs g (Some slot) = placed_fault order host libs g slot
+
+round_least : OneStop → (order : Order) (host : List ℕ) (libs : List (List ℕ)) (k : ℕ) (g : UnitReference) (left : Option ℕ) → Least (Precedes (OfAdded k)) (RoundHas order host libs g left) (round_fault order host libs g left)
+round_least law order host libs k g None = go (is_missing order libs g.name) (missing order libs g.name)
+  where
+    go : (b : Bool) → Decides b (IsMissing order libs g.name) → Least (Precedes (OfAdded k)) (RoundHas order host libs g None) (Some (in_record g.file g.slot g.rec (if b then reason.MissingUnit else reason.NoSlot)))
+    go true d = this (in_record g.file g.slot g.rec reason.MissingUnit) (inl (refl, d.0 refl)) least
+      where
+        least : (f : Fault) → RoundHas order host libs g None f → (f ≡ in_record g.file g.slot g.rec reason.MissingUnit) ⊎ Precedes (OfAdded k) (in_record g.file g.slot g.rec reason.MissingUnit) f
+        least f (inl t) = inl t.0
+        least f (inr (inl t)) = inr (subst (λ (y : Fault). Precedes (OfAdded k) (in_record g.file g.slot g.rec reason.MissingUnit) y) (sym t.0) (inr (refl, inr (refl, inr (refl, inr (refl, inl (omega arith)))))))
+        least f (inr (inr t)) = absurd (let e = t.1 in cc)
+    go false d = this (in_record g.file g.slot g.rec reason.NoSlot) (inr (inl (refl, refl))) least
+      where
+        least : (f : Fault) → RoundHas order host libs g None f → (f ≡ in_record g.file g.slot g.rec reason.NoSlot) ⊎ Precedes (OfAdded k) (in_record g.file g.slot g.rec reason.NoSlot) f
+        least f (inl t) = absurd (false≢true (d.1 t.1))
+        least f (inr (inl t)) = inl t.0
+        least f (inr (inr t)) = absurd (let e = t.1 in cc)
+round_least law order host libs k g (Some slot) = go (is_missing order libs g.name) (missing order libs g.name)
+  where
+    Here : Fault → Type 0
+    Here = PlacedFault order host libs g.name slot
+
+    go : (b : Bool) → Decides b (IsMissing order libs g.name)
+        → Least (Precedes (OfAdded k)) (RoundHas order host libs g (Some slot)) (if b then Some (in_record g.file g.slot g.rec reason.MissingUnit) else option_or (entry_fault order g.name libs slot) (option_and_then (code_fault order host libs slot role.Wanted) (unit_source order g.name libs)))
+    go true d = this (in_record g.file g.slot g.rec reason.MissingUnit) (inl (refl, d.0 refl)) least
+      where
+        least : (f : Fault) → RoundHas order host libs g (Some slot) f → (f ≡ in_record g.file g.slot g.rec reason.MissingUnit) ⊎ Precedes (OfAdded k) (in_record g.file g.slot g.rec reason.MissingUnit) f
+        least f (inl t) = inl t.0
+        least f (inr (inl t)) = absurd (let e = t.1 in cc)
+        least f (inr (inr t)) = inr (missing_first k t.0 g f (placed_late order host libs g.name t.0 f t.2) (reads_placed order host libs g.name t.0 f t.2))
+    go false d = least_same (λ f p. inr (inr (slot, refl, p))) from (placed_least law order host libs k g.name slot)
+      where
+        from : (f : Fault) → RoundHas order host libs g (Some slot) f → Here f
+        from f (inl t) = absurd (false≢true (d.1 t.1))
+        from f (inr (inl t)) = absurd (let e = t.1 in cc)
+        from f (inr (inr t)) = let same : t.0 ≡ slot = (let e = t.1 in cc) in subst (λ (n : ℕ). PlacedFault order host libs g.name n f) same t.2
+
+-- 2. the row of names
+pub sought_append : (units : List (List ℕ × ℕ)) (row xs ys : List UnitReference) → sought_from units row (xs ++ ys) ≡ sought_from units (sought_from units row xs) ys
+sought_append units row [] ys = refl
+sought_append units row (g ∷ xs) ys = sought_append units (if is_had units row g.name then row else row ++ g ∷ []) xs ys
+
+abbrev pub own_units : Order → List ℕ → List (List ℕ) → List (List ℕ × ℕ)
+own_units order host libs = units_of (own_segments order host libs)
+
+abbrev pub references_of : Segment → List UnitReference
+references_of s = unit_references s.file s.slot 0 s.records
+
+pub sought_rest : (order : Order) (host : List ℕ) (libs : List (List ℕ)) (front rest : List Segment) → sought order host libs (front ++ rest) ≡ sought_from (own_units order host libs) (sought order host libs front) (references_in rest)
+unfolding sought
+sought_rest order host libs front rest =
+    ap (λ (segs : List Segment). sought_from (own_units order host libs) [] (references_in segs)) (sym (append_assoc (own_segments order host libs) front rest))
+    ∙ (ap (λ (gs : List UnitReference). sought_from (own_units order host libs) [] gs) (flat_map-append references_of (own_segments order host libs ++ front) rest)
+    ∙ sought_append (own_units order host libs) [] (references_in (own_segments order host libs ++ front)) (references_in rest))
+
+sought_more : (order : Order) (host : List ℕ) (libs : List (List ℕ)) (front : List Segment) (s : Segment) → sought order host libs (front ++ s ∷ []) ≡ sought_from (own_units order host libs) (sought order host libs front) (references_of s)
+sought_more order host libs front s =
+    sought_rest order host libs front (s ∷ []) ∙ ap (λ (gs : List UnitReference). sought_from (own_units order host libs) (sought order host libs front) gs) (append-nil (references_of s))
+
+-- 3. all rounds
+abbrev pub Place : Type 0
+Place = Step × Fault
+
+abbrev pub Earlier : Place → Place → Type 0
+Earlier p q = Before (key p.0 p.1) (key q.0 q.1)
+
+-- the faults of one step, with the step
+pub tagged : (step : Step) {S : Fault → Type 0} {o : Option Fault} → Least (Precedes step) S o → Least Earlier (λ p. (f : Fault) × (p ≡ (step, f)) × S f) (option_map (λ f. (step, f)) o)
+tagged step l = least_map (λ f. (step, f)) l
+
+-- what stands from round k on
+abbrev FromRound : Order → List ℕ → List (List ℕ) → ℕ → Place → Type 0
+FromRound order host libs k p = (j : ℕ) × (f : Fault) × (k ≤ j) × (p ≡ (OfAdded j, f)) × InRound order host libs j f
+
+abbrev pub rest_of : Order → List ℕ → List (List ℕ) → List ℕ → ℕ → List UnitReference → Rounds
+rest_of order host libs left k row = rounds_from order host libs (own_units order host libs) left k row
+
+-- the round that has this name, and this slot or none
+the_round : OneStop → (order : Order) (host : List ℕ) (libs : List (List ℕ)) (front rest : List Segment) (k : ℕ) (g : UnitReference) (left : Option ℕ)
+    → added order host libs ≡ front ++ rest → k ≡ length front → slice_get (sought order host libs front) k ≡ Some g → slice_get (empty_slots order host) k ≡ left
+    → Least (Precedes (OfAdded k)) (InRound order host libs k) (round_fault order host libs g left)
+the_round law order host libs front rest k g left is at named slot_is = least_same to from (round_least law order host libs k g left)
+  where
+    front_is : take k (added order host libs) ≡ front
+    front_is = ap (λ (ss : List Segment). take k ss) is ∙ (ap (λ (n : ℕ). take n (front ++ rest)) at ∙ take_front front rest)
+
+    first : slice_get (sought order host libs (take k (added order host libs))) k ≡ Some g
+    first = ap (λ (ss : List Segment). slice_get (sought order host libs ss) k) front_is ∙ named
+
+    within : k ≤ length (added order host libs)
+    within = let n = ap (λ (ss : List Segment). length ss) is in let m = length-append front rest in omega (arith, n, m, at)
+
+    to : (f : Fault) → RoundHas order host libs g left f → InRound order host libs k f
+    to f h = (g, (within, first), subst (λ (o : Option ℕ). RoundHas order host libs g o f) (sym slot_is) h)
+
+    from : (f : Fault) → InRound order host libs k f → RoundHas order host libs g left f
+    from f t =
+        let same : t.0 ≡ g = (let e = t.1.1 in cc (e, first)) in
+        subst (λ (o : Option ℕ). RoundHas order host libs g o f) slot_is (subst (λ (h : UnitReference). RoundHas order host libs h (slice_get (empty_slots order host) k) f) same t.2)
+
+-- no round is behind the one after the last that added a segment
+last_is : (order : Order) (host : List ℕ) (libs : List (List ℕ)) (front : List Segment) (k j : ℕ) (f : Fault) → added order host libs ≡ front → k ≡ length front → k ≤ j → InRound order host libs j f → j ≡ k
+last_is order host libs front k j f is at low t = let n = ap (λ (ss : List Segment). length ss) is in let m = t.1.0 in omega (arith, n, m, at, low)
+
+last_round : (order : Order) (host : List ℕ) (libs : List (List ℕ)) (front : List Segment) (k : ℕ) (o : Option Fault) → added order host libs ≡ front → k ≡ length front
+    → Least (Precedes (OfAdded k)) (InRound order host libs k) o → Least Earlier (FromRound order host libs k) (option_map (λ f. (OfAdded k, f)) o)
+last_round order host libs front k o is at l = least_same (λ p t. (k, t.0, omega arith, t.1, t.2)) from (tagged (OfAdded k) l)
+  where
+    from : (p : Place) → FromRound order host libs k p → (f : Fault) × (p ≡ (OfAdded k, f)) × InRound order host libs k f
+    from p t =
+        let same : t.0 ≡ k = last_is order host libs front k t.0 t.1 is at t.2 t.4 in
+        (t.1, subst (λ (n : ℕ). p ≡ (OfAdded n, t.1)) same t.3, subst (λ (n : ℕ). InRound order host libs n t.1) same t.4)
+
+-- where no name is left, nothing stands
+no_name : (order : Order) (host : List ℕ) (libs : List (List ℕ)) (front : List Segment) (k : ℕ) → added order host libs ≡ front → k ≡ length front → slice_get (sought order host libs front) k ≡ None → (p : Place) → FromRound order host libs k p → ⊥
+no_name order host libs front k is at none p t =
+    let same : t.0 ≡ k = last_is order host libs front k t.0 t.1 is at t.2 t.4 in
+    let named = (subst (λ (n : ℕ). InRound order host libs n t.1) same t.4).1.1 in
+    let front_is : take k (added order host libs) ≡ front =
+    ap (λ (ss : List Segment). take k ss) (is ∙ sym (append-nil front)) ∙ (ap (λ (n : ℕ). take n (front ++ [])) at ∙ take_front front []) in
+    let first = ap (λ (ss : List Segment). slice_get (sought order host libs ss) k) front_is ∙ none in
+    cc
+
+-- the rounds from one on, with the faults' steps
+abbrev RoundsHave : Order → List ℕ → List (List ℕ) → List ℕ → Type 0
+RoundsHave order host libs left =
+    (front : List Segment) (used : List ℕ) (k : ℕ) (row : List UnitReference)
+    → added order host libs ≡ front ++ (rest_of order host libs left k row).added → k ≡ length front → empty_slots order host ≡ used ++ left → k ≡ length used → sought order host libs front ≡ row
+    → (o : Option Place) × Least Earlier (FromRound order host libs k) o × (option_map (λ (x : Place). x.1) o ≡ (rest_of order host libs left k row).fault)
+
+-- the slot that is used next
+pub next_slot : (xs ys : List ℕ) (k : ℕ) → k ≡ length xs → slice_get (xs ++ ys) k ≡ slice_get ys 0
+next_slot xs ys k e = ap (λ (n : ℕ). slice_get (xs ++ ys) n) e ∙ go xs
+  where
+    go : (zs : List ℕ) → slice_get (zs ++ ys) (length zs) ≡ slice_get ys 0
+    go [] = refl
+    go (z ∷ zs) = go zs
+
+quiet : {S : Fault → Type 0} {B : Fault → Fault → Type 0} → Least B S None → (f : Fault) → S f → ⊥
+quiet (nothing n) f s = n f s
+
+abbrev pub of_segment : Order → List ℕ → List (List ℕ) → List ℕ → ℕ → List UnitReference → Option Segment → Rounds
+of_segment order host libs left k row None = record { added = []; fault = None }
+of_segment order host libs left k row (Some s) = after s (rest_of order host libs left (k + 1) (sought_from (own_units order host libs) row (references_of s)))
+
+abbrev pub of_fault : Order → List ℕ → List (List ℕ) → List ℕ → ℕ → List UnitReference → Option Segment → Option Fault → Rounds
+of_fault order host libs left k row segment (Some fault) = record { added = []; fault = Some fault }
+of_fault order host libs left k row segment None = of_segment order host libs left k row segment
+
+abbrev pub of_name : Order → List ℕ → List (List ℕ) → ℕ → List ℕ → ℕ → List UnitReference → Option UnitReference → Rounds
+of_name order host libs slot left k row None = record { added = []; fault = None }
+of_name order host libs slot left k row (Some g) = of_fault order host libs left k row (added_segment order host libs g slot) (placed_fault order host libs g slot)
+
+rounds_have : OneStop → (order : Order) (host : List ℕ) (libs : List (List ℕ)) (left : List ℕ) → RoundsHave order host libs left
+rounds_have law order host libs [] front used k row is at slots_are used_at row_is = go (slice_get row k) refl
+  where
+    ends : added order host libs ≡ front
+    ends = is ∙ append-nil front
+
+    go : (x : Option UnitReference) → slice_get row k ≡ x → (o : Option Place) × Least Earlier (FromRound order host libs k) o × (option_map (λ (p : Place). p.1) o ≡ option_map (unplaced_fault order libs) x)
+    go None e = (None, nothing (no_name order host libs front k ends at (ap (λ (r : List UnitReference). slice_get r k) row_is ∙ e)), refl)
+    go (Some g) e = (
+      Some (OfAdded k, unplaced_fault order libs g),
+      last_round order host libs front k (Some (unplaced_fault order libs g)) ends at (the_round law order host libs front [] k g None is at (ap (λ (r : List UnitReference). slice_get r k) row_is ∙ e) (ap (λ (xs : List ℕ). slice_get xs k) slots_are ∙ next_slot used [] k used_at)),
+      refl,
+    )
+rounds_have law order host libs (slot ∷ left) front used k row is at slots_are used_at row_is = go (rounds_have law order host libs left) (slice_get row k) refl is
+  where
+    Have : Rounds → Type 0
+    Have r = (o : Option Place) × Least Earlier (FromRound order host libs k) o × (option_map (λ (x : Place). x.1) o ≡ r.fault)
+
+    slot_at : slice_get (empty_slots order host) k ≡ Some slot
+    slot_at = ap (λ (xs : List ℕ). slice_get xs k) slots_are ∙ next_slot used (slot ∷ left) k used_at
+
+    named : (g : UnitReference) → slice_get row k ≡ Some g → slice_get (sought order host libs front) k ≡ Some g
+    named g e = ap (λ (r : List UnitReference). slice_get r k) row_is ∙ e
+
+    segment : RoundsHave order host libs left → (g : UnitReference) → slice_get row k ≡ Some g → (o : Option Segment) → added order host libs ≡ front ++ (of_segment order host libs left k row o).added → ((f : Fault) → InRound order host libs k f → ⊥) → Have (of_segment order host libs left k row o)
+    segment later g e None is none = (None, nothing (λ p t. none t.1 (subst (λ (n : ℕ). InRound order host libs n t.1) (last_is order host libs front k t.0 t.1 (is ∙ append-nil front) at t.2 t.4) t.4)), refl)
+    segment later g e (Some s) is none = (r.0, least_same to from r.1, r.2)
+      where
+        r : (o : Option Place) × Least Earlier (FromRound order host libs (k + 1)) o × (option_map (λ (x : Place). x.1) o ≡ (rest_of order host libs left (k + 1) (sought_from (own_units order host libs) row (references_of s))).fault)
+        r =
+            later (front ++ s ∷ []) (used ++ slot ∷ []) (k + 1) (sought_from (own_units order host libs) row (references_of s))
+            (is ∙ sym (append_assoc front (s ∷ []) (rest_of order host libs left (k + 1) (sought_from (own_units order host libs) row (references_of s))).added))
+            (let l = longer front s in omega (arith, l, at))
+            (slots_are ∙ sym (append_assoc used (slot ∷ []) left))
+            (let l = longer used slot in omega (arith, l, used_at))
+            (sought_more order host libs front s ∙ ap (λ (xs : List UnitReference). sought_from (own_units order host libs) xs (references_of s)) row_is)
+
+        to : (p : Place) → FromRound order host libs (k + 1) p → FromRound order host libs k p
+        to p t = (t.0, t.1, (let a = t.2 in omega (arith, a)), t.3, t.4)
+
+        from : (p : Place) → FromRound order host libs k p → FromRound order host libs (k + 1) p
+        from p t = elim (cases_lt k t.0) [
+          | inl h ↦ (t.0, t.1, omega (arith, h), t.3, t.4)
+          | inr h ↦ absurd (none t.1 (subst (λ (n : ℕ). InRound order host libs n t.1) (let a = t.2 in omega (arith, a, h)) t.4))
+        ]
+
+    fault : RoundsHave order host libs left → (g : UnitReference) → slice_get row k ≡ Some g → (o : Option Fault) → placed_fault order host libs g slot ≡ o
+        → added order host libs ≡ front ++ (of_fault order host libs left k row (added_segment order host libs g slot) o).added → Have (of_fault order host libs left k row (added_segment order host libs g slot) o)
+    fault later g e (Some f) p is = (
+      Some (OfAdded k, f),
+      last_round order host libs front k (Some f) (is ∙ append-nil front) at
+      (subst (λ (o : Option Fault). Least (Precedes (OfAdded k)) (InRound order host libs k) o) p (the_round law order host libs front [] k g (Some slot) is at (named g e) slot_at)),
+      refl,
+    )
+    fault later g e None p is =
+        segment later g e (added_segment order host libs g slot) is
+        (quiet (subst (λ (o : Option Fault). Least (Precedes (OfAdded k)) (InRound order host libs k) o) p (the_round law order host libs front _ k g (Some slot) is at (named g e) slot_at)))
+
+    go : RoundsHave order host libs left → (x : Option UnitReference) → slice_get row k ≡ x → added order host libs ≡ front ++ (of_name order host libs slot left k row x).added → Have (of_name order host libs slot left k row x)
+    go later None e is = (None, nothing (no_name order host libs front k (is ∙ append-nil front) at (ap (λ (r : List UnitReference). slice_get r k) row_is ∙ e)), refl)
+    go later (Some g) e is = fault later g e (placed_fault order host libs g slot) refl is
+
+-- the rounds begin with the names that the host's own segments seek
+pub first_round : (order : Order) (host : List ℕ) (libs : List (List ℕ)) → rounds order host libs ≡ rest_of order host libs (empty_slots order host) 0 (sought order host libs [])
+unfolding rounds sought
+first_round order host libs =
+    ap (λ (segs : List Segment). rest_of order host libs (empty_slots order host) 0 (sought_from (own_units order host libs) [] (references_in segs))) (sym (append-nil (own_segments order host libs)))
+
+pub step_6 : OneStop → (order : Order) (host : List ℕ) (libs : List (List ℕ)) → (o : Option Place) × Least Earlier (λ p. (k : ℕ) × (f : Fault) × (p ≡ (OfAdded k, f)) × InRound order host libs k f) o × (option_map (λ (x : Place). x.1) o ≡ added_fault order host libs)
+step_6 law order host libs =
+    let same = first_round order host libs in
+    let r = rounds_have law order host libs (empty_slots order host) [] [] 0 (sought order host libs []) (ap (λ (x : Rounds). x.added) same) refl refl refl refl in
+    (r.0, least_same (λ p t. (t.0, t.1, t.3, t.4)) (λ p t. (t.0, t.1, omega arith, t.2, t.3)) r.1, r.2 ∙ ap (λ (x : Rounds). x.fault) (sym same))
