@@ -110,8 +110,8 @@ pub fn prepare<'a, A: Allocator + Copy>(
     ensures first { IfErr result (NamesFirst host.now (map (λ lib. lib.now) libs.now)) }
 {
     first_of_all();
-    slot_names_are_whole();
     let plan = resolve(alloc, host, libs)?;
+    slot_names_are_whole();
     Ok(Linked { plan })
 }
 

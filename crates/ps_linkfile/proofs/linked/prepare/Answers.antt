@@ -18,3 +18,6 @@ returns-clause-linked g c =
       file = subst (λ (file : List ℕ). LinkedFile host libs file) (sym (plan_file host libs c.in_ok-plan.plan plan)) (there c.slot_names_are_whole.ensures host libs c.in_ok-plan.ensures.sound);
       summary = plan_summary host libs c.in_ok-plan.plan plan;
     }
+
+pub returns-clause-accepted : goal.returns-clause-accepted
+returns-clause-accepted g c = c.first_of_all.ensures.none _ _ c.in_ok-plan.ensures.sound
