@@ -183,12 +183,12 @@ lines_done names os count old new block from le h =
     )
 
 -- a segment's line, as it is written
-flat : (a b c d e f : List ℕ) → (a ++ (codes " file " ++ (b ++ (codes " entry " ++ (c ++ (codes " block " ++ (d ++ (codes " length " ++ (e ++ f))))))))) ++ 10 ∷ []
+flat : (a b c d e f : List ℕ) → (a ++ (codes " file " ++ (b ++ (codes " entry " ++ (c ++ (codes " block " ++ (d ++ (codes " length " ++ e)))))))) ++ (f ++ 10 ∷ [])
     ≡ ((((((a ++ (codes " file " ++ b)) ++ codes " entry ") ++ c) ++ (codes " block " ++ d)) ++ (codes " length " ++ e)) ++ f) ++ 10 ∷ []
 flat a b c d e f = simp append_assoc
 
 pub written_line : (slot : ℕ) (name : List ℕ) (file entry block size : ℕ) (added : Bool) (word : List ℕ) → word ≡ added_word added →
-    (codes "segment " ++ (two_digits slot ++ (codes " " ++ (shown name ++ (codes " file " ++ (decimal file ++ (codes " entry " ++ (two_digits entry ++ (codes " block " ++ (decimal block ++ (codes " length " ++ (decimal size ++ word)))))))))))) ++ 10 ∷ []
+    (codes "segment " ++ (two_digits slot ++ (codes " " ++ (shown name ++ (codes " file " ++ (decimal file ++ (codes " entry " ++ (two_digits entry ++ (codes " block " ++ (decimal block ++ (codes " length " ++ decimal size))))))))))) ++ (word ++ 10 ∷ [])
     ≡ code_line slot name file entry block size added
 written_line slot name file entry block size added word is =
     rw is (ap (λ (bs : List ℕ). codes "segment " ++ (two_digits slot ++ (codes " " ++ bs))) (flat (shown name) (decimal file) (two_digits entry) (decimal block) (decimal size) (added_word added)))
