@@ -6,6 +6,7 @@ mod inputs;
 mod libraries;
 mod linking;
 mod mapping;
+mod marks;
 mod memory;
 mod outcome;
 mod printing;

@@ -1,6 +1,6 @@
 -- The map of a plan is the map of its link, and the lines of its sources one after another.
 use Rattle.std.proofs.Common.{◌≡◌, ℕ, zero, suc, ◌+◌, ◌-◌, ◌*◌, ◌≤◌, ◌<◌, List, [], ◌∷◌, ◌++◌, length, map, get_or, take, drop, Option, Some, None, refl, sym, ◌∙◌, ap, subst, add-one, append_assoc, arith}
-use Rattle.std.specs.Prelude.{◌≢◌, ◌==◌, true, false, slice_get, codes, decimal}
+use Rattle.std.specs.Prelude.{◌≢◌, ◌==◌, Bool, true, false, slice_get, codes, decimal}
 use Rattle.std.specs.List.{find, flat_map}
 use Rattle.std.specs.Option.{option_map_or}
 use Rattle.std.proofs.lemmas.Bool.{ne_eqb, eq-eqb}
@@ -22,7 +22,7 @@ use Rattle.ps_resolve.specs.declared.plan.Source.{Source}
 use Rattle.ps_linkfile.specs.LinkedFile.{Extent, extents, block_of, all_blocks}
 use Rattle.ps_linkfile.specs.Writing.{extent_of_origin, extents_of, Ascend}
 use Rattle.ps_linkfile.specs.Lines.{shown, two_digits}
-use Rattle.ps_linkfile.specs.MapText.{code_line, segment_line, name_in, source_line, definition_line, private_line, last_line, map_of, map_in}
+use Rattle.ps_linkfile.specs.MapText.{added_word, code_line, segment_line, name_in, source_line, definition_line, private_line, last_line, map_of, map_in}
 use Rattle.ps_linkfile.proofs.Extents.{Left, left_start, left_more, first_block}
 use Rattle.ps_linkfile.proofs.Slots.{extent_at, segments_ascend}
 use Rattle.ps_linkfile.proofs.Plans.{plan_extents}
@@ -57,7 +57,7 @@ name_within host ss a i s h =
 lines_are : (names : List (List ℕ)) (cs : List Extent) (ss : List Segment) → ((i : ℕ) (s : Segment) → slice_get ss i ≡ Some s → name_in names s.slot ≡ s.name) → flat_map (source_line names cs) (map origin_of ss) ≡ flat_map (segment_line cs) ss
 lines_are names cs [] h = refl
 lines_are names cs (s ∷ ss) h =
-    ap (λ (name : List ℕ). code_line s.slot name s.file s.index (block_of cs s.slot) (length s.code) ++ flat_map (source_line names cs) (map origin_of ss)) (h zero s refl)
+    ap (λ (name : List ℕ). code_line s.slot name s.file s.index (block_of cs s.slot) (length s.code) s.added ++ flat_map (source_line names cs) (map origin_of ss)) (h zero s refl)
     ∙ ap (λ (bs : List ℕ). segment_line cs s ++ bs) (lines_are names cs ss (λ i t e. h (suc i) t e))
 
 four : (a b c d e f g h : List ℕ) → a ≡ e → b ≡ f → c ≡ g → d ≡ h → a ++ b ++ c ++ d ≡ e ++ f ++ g ++ h
@@ -143,7 +143,7 @@ next_line names os count old new block from o is h =
 
 pub lines_more : (names : List (List ℕ)) (os : List Origin) (count : ℕ) (old mid new : List ℕ) (block from : ℕ) (o : Origin)
     → drop count os ≡ o ∷ drop (count + 1) os → length o.code ≤ 32767 → LinesSoFar names os count old mid block from
-    → new ≡ mid ++ code_line o.slot (name_in names o.slot) o.file o.index block (length o.code)
+    → new ≡ mid ++ code_line o.slot (name_in names o.slot) o.file o.index block (length o.code) o.added
     → LinesSoFar names os (count + 1) old new (block + blocks (length o.code)) (o.slot + 1)
 lines_more names os count old mid new block from o is size h line =
     let all = map extent_of_origin os in
@@ -162,7 +162,7 @@ lines_more names os count old mid new block from o is size h line =
       small = omega arith;
       blocks = omega arith;
       text = line
-          ∙ (ap (λ b. mid ++ code_line o.slot (name_in names o.slot) o.file o.index b (length o.code)) (sym begins)
+          ∙ (ap (λ b. mid ++ code_line o.slot (name_in names o.slot) o.file o.index b (length o.code) o.added) (sym begins)
           ∙ (ap (λ (bs : List ℕ). bs ++ source_line names all o) h.text
           ∙ (flat_map_more (source_line names all) old (take count os) o
           ∙ ap (λ (ps : List Origin). old ++ flat_map (source_line names all) ps) (sym more))));
@@ -183,11 +183,12 @@ lines_done names os count old new block from le h =
     )
 
 -- a segment's line, as it is written
-flat : (a b c d e : List ℕ) → (a ++ (codes " file " ++ (b ++ (codes " entry " ++ (c ++ (codes " block " ++ (d ++ (codes " length " ++ e)))))))) ++ 10 ∷ []
-    ≡ (((((a ++ (codes " file " ++ b)) ++ codes " entry ") ++ c) ++ (codes " block " ++ d)) ++ (codes " length " ++ e)) ++ 10 ∷ []
-flat a b c d e = simp append_assoc
+flat : (a b c d e f : List ℕ) → (a ++ (codes " file " ++ (b ++ (codes " entry " ++ (c ++ (codes " block " ++ (d ++ (codes " length " ++ e)))))))) ++ (f ++ 10 ∷ [])
+    ≡ ((((((a ++ (codes " file " ++ b)) ++ codes " entry ") ++ c) ++ (codes " block " ++ d)) ++ (codes " length " ++ e)) ++ f) ++ 10 ∷ []
+flat a b c d e f = simp append_assoc
 
-pub written_line : (slot : ℕ) (name : List ℕ) (file entry block size : ℕ) →
-    (codes "segment " ++ (two_digits slot ++ (codes " " ++ (shown name ++ (codes " file " ++ (decimal file ++ (codes " entry " ++ (two_digits entry ++ (codes " block " ++ (decimal block ++ (codes " length " ++ decimal size))))))))))) ++ 10 ∷ []
-    ≡ code_line slot name file entry block size
-written_line slot name file entry block size = ap (λ (bs : List ℕ). codes "segment " ++ (two_digits slot ++ (codes " " ++ bs))) (flat (shown name) (decimal file) (two_digits entry) (decimal block) (decimal size))
+pub written_line : (slot : ℕ) (name : List ℕ) (file entry block size : ℕ) (added : Bool) (word : List ℕ) → word ≡ added_word added →
+    (codes "segment " ++ (two_digits slot ++ (codes " " ++ (shown name ++ (codes " file " ++ (decimal file ++ (codes " entry " ++ (two_digits entry ++ (codes " block " ++ (decimal block ++ (codes " length " ++ decimal size))))))))))) ++ (word ++ 10 ∷ [])
+    ≡ code_line slot name file entry block size added
+written_line slot name file entry block size added word is =
+    rw is (ap (λ (bs : List ℕ). codes "segment " ++ (two_digits slot ++ (codes " " ++ bs))) (flat (shown name) (decimal file) (two_digits entry) (decimal block) (decimal size) (added_word added)))

@@ -1,6 +1,6 @@
 -- The order of a file that is shown, and its lines: those of a row of slots, and those of a walk over records.
-use Rattle.std.proofs.Common.{◌≡◌, ℕ, suc, ◌+◌, ◌-◌, ◌<◌, ◌≤◌, List, [], ◌∷◌, ◌++◌, length, append_assoc, append-nil, Bool, true, false, if◌then◌else◌, Option, Some, None, Result, Ok, Err, refl, sym, ◌∙◌, ap, arith}
-use Rattle.std.specs.List.{flat_map, enumerate_from, range_with_len}
+use Rattle.std.proofs.Common.{◌≡◌, ℕ, suc, ◌+◌, ◌-◌, ◌<◌, ◌≤◌, List, [], ◌∷◌, ◌++◌, length, length-append, map, append_assoc, append-nil, Bool, true, false, if◌then◌else◌, Option, Some, None, Result, Ok, Err, refl, sym, ◌∙◌, ap, arith}
+use Rattle.std.specs.List.{flat_map, filter, enumerate_from, range_with_len}
 use Rattle.ps_words.specs.FaultPlaces.{in_file}
 use Rattle.ps_words.specs.declared.order.Order.TheVariants.{Little}
 use Rattle.ps_words.specs.declared.fault.Reason.{Reason}
@@ -66,40 +66,66 @@ module _ (f : ℕ → List ℕ) (text all : List ℕ) (i n : ℕ) where
       let left : n - i ≡ 0 = omega arith in
       ended text (flat_map f (range_with_len i (n - i))) all (ap (λ (k : ℕ). flat_map f (range_with_len i k)) left) h
 
--- the lines of items, the first of which has the index rec
-abbrev pub item_lines : ℕ → List (Result Record Reason) → List ℕ
-item_lines rec [] = []
-item_lines rec (Ok r ∷ items) = record_line (rec, r) ++ item_lines (rec + 1) items
-item_lines rec (Err why ∷ items) = fault_line rec (Some why) ++ item_lines rec items
+-- the names of those that pass, with one number more
+pub names_more : {X : Type 0} (test : ℕ → Bool) (name : ℕ → X) (xs new all : List X) (i n : ℕ) → i < n → xs ++ map name (filter test (range_with_len i (n - i))) ≡ all
+    → new ≡ xs ++ (if test i then name i ∷ [] else []) → new ++ map name (filter test (range_with_len (i + 1) (n - (i + 1)))) ≡ all
+names_more {X} test name xs new all i n lt h e =
+    let left : n - i ≡ suc (n - (i + 1)) = omega arith in
+    ap (λ (ys : List X). ys ++ map name (filter test rest)) e
+    ∙ (append_assoc xs (if test i then name i ∷ [] else []) (map name (filter test rest))
+    ∙ (ap (λ (ys : List X). xs ++ ys) (by (test i) refl)
+    ∙ (ap (λ (k : ℕ). xs ++ map name (filter test (range_with_len i k))) (sym left) ∙ h)))
+  where
+    rest : List ℕ
+    rest = range_with_len (i + 1) (n - (i + 1))
 
-lines_of_items : (n : ℕ) (rs : List Record) (why : Option Reason) → item_lines n (items_of (rs, why)) ≡ flat_map record_line (enumerate_from n rs) ++ fault_line (n + length rs) why
-lines_of_items n [] None = refl
-lines_of_items n [] (Some why) =
+    by : (b : Bool) → test i ≡ b → (if test i then name i ∷ [] else []) ++ map name (filter test rest) ≡ map name (filter test (i ∷ rest))
+    by true p = rw p refl
+    by false p = rw p refl
+
+pub names_over : {X : Type 0} (test : ℕ → Bool) (name : ℕ → X) (xs all : List X) (i n : ℕ) → n ≤ i → xs ++ map name (filter test (range_with_len i (n - i))) ≡ all → xs ≡ all
+names_over {X} test name xs all i n le h =
+    let left : n - i ≡ 0 = omega arith in
+    sym (append-nil xs) ∙ (ap (λ (k : ℕ). xs ++ map name (filter test (range_with_len i k))) (sym left) ∙ h)
+
+pub few_more : {X : Type 0} (b : Bool) (x : X) (xs new : List X) (i : ℕ) → length xs ≤ i → new ≡ xs ++ (if b then x ∷ [] else []) → length new ≤ i + 1
+few_more {X} true x xs new i h e = omega (arith, ap (λ (ys : List X). length ys) e, length-append xs (x ∷ []))
+few_more {X} false x xs new i h e = omega (arith, ap (λ (ys : List X). length ys) e, length-append xs [])
+
+-- the lines of items in a file with these units, the first of which has the index rec
+abbrev pub item_lines : List (List ℕ) → ℕ → List (Result Record Reason) → List ℕ
+item_lines units rec [] = []
+item_lines units rec (Ok r ∷ items) = record_line units (rec, r) ++ item_lines units (rec + 1) items
+item_lines units rec (Err why ∷ items) = fault_line rec (Some why) ++ item_lines units rec items
+
+lines_of_items : (units : List (List ℕ)) (n : ℕ) (rs : List Record) (why : Option Reason) → item_lines units n (items_of (rs, why)) ≡ flat_map (record_line units) (enumerate_from n rs) ++ fault_line (n + length rs) why
+lines_of_items units n [] None = refl
+lines_of_items units n [] (Some why) =
     let at : n ≡ n + 0 = omega arith in
     append-nil (fault_line n (Some why)) ∙ ap (λ (k : ℕ). fault_line k (Some why)) at
-lines_of_items n (r ∷ rs) why =
+lines_of_items units n (r ∷ rs) why =
     let at : n + 1 + length rs ≡ n + length (r ∷ rs) = omega arith in
-    ap (λ (xs : List ℕ). record_line (n, r) ++ xs) (lines_of_items (n + 1) rs why ∙ ap (λ (k : ℕ). flat_map record_line (enumerate_from (n + 1) rs) ++ fault_line k why) at)
-    ∙ sym (append_assoc (record_line (n, r)) (flat_map record_line (enumerate_from (n + 1) rs)) (fault_line (n + length (r ∷ rs)) why))
+    ap (λ (xs : List ℕ). record_line units (n, r) ++ xs) (lines_of_items units (n + 1) rs why ∙ ap (λ (k : ℕ). flat_map (record_line units) (enumerate_from (n + 1) rs) ++ fault_line k why) at)
+    ∙ sym (append_assoc (record_line units (n, r)) (flat_map (record_line units) (enumerate_from (n + 1) rs)) (fault_line (n + length (r ∷ rs)) why))
 
 -- the lines of a reading's items are those of its records, and of its fault
-pub lines_of_reading : (read : List Record × Option Reason) → item_lines 0 (items_of read) ≡ record_lines read
-lines_of_reading read =
+pub lines_of_reading : (units : List (List ℕ)) (read : List Record × Option Reason) → item_lines units 0 (items_of read) ≡ record_lines units read
+lines_of_reading units read =
     let at : 0 + length read.0 ≡ length read.0 = omega arith in
-    lines_of_items 0 read.0 read.1 ∙ ap (λ (k : ℕ). flat_map record_line (enumerate_from 0 read.0) ++ fault_line k read.1) at
+    lines_of_items units 0 read.0 read.1 ∙ ap (λ (k : ℕ). flat_map (record_line units) (enumerate_from 0 read.0) ++ fault_line k read.1) at
 
-module _ (text all : List ℕ) (n : ℕ) (i : Result Record Reason) (old items : List (Result Record Reason)) where
+module _ (units : List (List ℕ)) (text all : List ℕ) (n : ℕ) (i : Result Record Reason) (old items : List (Result Record Reason)) where
   -- the line of one record more
-  pub record_more : (new : List ℕ) (r : Record) → old ≡ i ∷ items → i ≡ Ok r → text ++ item_lines n old ≡ all → new ≡ text ++ record_line (n, r) → new ++ item_lines (n + 1) items ≡ all
+  pub record_more : (new : List ℕ) (r : Record) → old ≡ i ∷ items → i ≡ Ok r → text ++ item_lines units n old ≡ all → new ≡ text ++ record_line units (n, r) → new ++ item_lines units (n + 1) items ≡ all
   record_more new r p q h e =
       let is = p ∙ ap (λ (j : Result Record Reason). j ∷ items) q in
-      grown text new (record_line (n, r)) (item_lines (n + 1) items) all (ap (λ (xs : List (Result Record Reason)). text ++ item_lines n xs) (sym is) ∙ h) e
+      grown text new (record_line units (n, r)) (item_lines units (n + 1) items) all (ap (λ (xs : List (Result Record Reason)). text ++ item_lines units n xs) (sym is) ∙ h) e
 
   -- the line of a fault
-  pub fault_more : (new : List ℕ) (why : Reason) → old ≡ i ∷ items → i ≡ Err why → text ++ item_lines n old ≡ all → new ≡ text ++ fault_line n (Some why) → new ++ item_lines n items ≡ all
+  pub fault_more : (new : List ℕ) (why : Reason) → old ≡ i ∷ items → i ≡ Err why → text ++ item_lines units n old ≡ all → new ≡ text ++ fault_line n (Some why) → new ++ item_lines units n items ≡ all
   fault_more new why p q h e =
       let is = p ∙ ap (λ (j : Result Record Reason). j ∷ items) q in
-      grown text new (fault_line n (Some why)) (item_lines n items) all (ap (λ (xs : List (Result Record Reason)). text ++ item_lines n xs) (sym is) ∙ h) e
+      grown text new (fault_line n (Some why)) (item_lines units n items) all (ap (λ (xs : List (Result Record Reason)). text ++ item_lines units n xs) (sym is) ∙ h) e
 
-pub lines_over : (text all : List ℕ) (n : ℕ) (old : List (Result Record Reason)) → old ≡ [] → text ++ item_lines n old ≡ all → text ≡ all
-lines_over text all n old e h = ended text (item_lines n old) all (ap (λ (xs : List (Result Record Reason)). item_lines n xs) e) h
+pub lines_over : (units : List (List ℕ)) (text all : List ℕ) (n : ℕ) (old : List (Result Record Reason)) → old ≡ [] → text ++ item_lines units n old ≡ all → text ≡ all
+lines_over units text all n old e h = ended text (item_lines units n old) all (ap (λ (xs : List (Result Record Reason)). item_lines units n xs) e) h

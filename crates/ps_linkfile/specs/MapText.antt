@@ -1,6 +1,6 @@
 -- The map of a link: its segments by slot, the definitions in record order, the privates by slot and then by record, and what is free behind them.
 -- Source: this project's profile.
-use Rattle.std.specs.Prelude.{ℕ, ◌+◌, List, [], ◌∷◌, ◌++◌, length, map, codes, decimal, slice_get, unwrap_or}
+use Rattle.std.specs.Prelude.{ℕ, ◌+◌, if◌then◌else◌, Bool, List, [], ◌∷◌, ◌++◌, length, map, codes, decimal, slice_get, unwrap_or}
 use Rattle.std.specs.List.{flat_map}
 use Rattle.ps_resolve.specs.Sources.{Segment, order_of, host_records}
 use Rattle.ps_resolve.specs.Added.{segments}
@@ -16,14 +16,18 @@ use Rattle.ps_linkfile.specs.LinkedFile.{Extent, extents, block_of, all_blocks}
 use Rattle.ps_linkfile.specs.Lines.{line, shown, two_digits, field}
 use Rattle.ps_linkfile.specs.Writing.{extents_of}
 
--- `segment 07 UTIL     file 1 entry 02 block 2 length 24`: the slot and the name of a segment, the file and the entry that its code comes from, the code's first block and its size in bytes
-abbrev pub code_line : ℕ → List ℕ → ℕ → ℕ → ℕ → ℕ → List ℕ
-code_line slot name file entry block size =
+-- what ends the line of a segment that was added for a UNITREF record
+abbrev pub added_word : Bool → List ℕ
+added_word added = if added then codes " added" else []
+
+-- `segment 08 AUX      file 1 entry 03 block 3 length 24 added`: the slot and the name of a segment, the file and the entry that its code comes from, the code's first block and its size in bytes, and whether it was added
+abbrev pub code_line : ℕ → List ℕ → ℕ → ℕ → ℕ → ℕ → Bool → List ℕ
+code_line slot name file entry block size added =
     line (codes "segment " ++ two_digits slot ++ (32 ∷ []) ++ shown name ++ field (codes "file") file ++ codes " entry " ++ two_digits entry
-    ++ field (codes "block") block ++ field (codes "length") size)
+    ++ field (codes "block") block ++ field (codes "length") size ++ added_word added)
 
 abbrev pub segment_line : List Extent → Segment → List ℕ
-segment_line codes_of s = code_line s.slot s.name s.file s.index (block_of codes_of s.slot) (length s.code)
+segment_line codes_of s = code_line s.slot s.name s.file s.index (block_of codes_of s.slot) (length s.code) s.added
 
 abbrev pub kind_word : DefKind → List ℕ
 kind_word Public = codes "public"
@@ -57,7 +61,7 @@ name_in names slot = unwrap_or (slice_get names slot) []
 
 -- the line of a plan's source, by the names of all slots
 abbrev pub source_line : List (List ℕ) → List Extent → Origin → List ℕ
-source_line names codes_of o = code_line o.slot (name_in names o.slot) o.file o.index (block_of codes_of o.slot) (length o.code)
+source_line names codes_of o = code_line o.slot (name_in names o.slot) o.file o.index (block_of codes_of o.slot) (length o.code) o.added
 
 -- the map that a plan stands for
 abbrev pub map_in : Planned → List ℕ

@@ -1,7 +1,8 @@
 -- What a code file has: its byte order, its sixteen slots, and the link information of each segment that is to be linked, record by record.
 -- Source: this project's profile.
-use Rattle.std.specs.Prelude.{◌≡◌, ℕ, ◌==◌, ◌&&◌, ◌||◌, if◌then◌else◌, List, [], ◌∷◌, ◌++◌, length, nat_lt, codes, decimal, Bool, Option, Some, None, Ok, Err}
-use Rattle.std.specs.List.{flat_map, enumerate_from}
+use Rattle.std.specs.Prelude.{◌≡◌, ℕ, ◌==◌, ◌&&◌, ◌||◌, if◌then◌else◌, List, [], ◌∷◌, ◌++◌, length, map, nat_lt, codes, decimal, Bool, Option, Some, None, Ok, Err}
+use Rattle.std.specs.List.{flat_map, enumerate_from, filter, list_any}
+use Rattle.std.specs.Str.{bytes_eq}
 use Rattle.ps_words.specs.declared.order.Order.{Order}
 use Rattle.ps_words.specs.declared.order.Order.TheVariants.{Little, Big}
 use Rattle.ps_words.specs.FaultPlaces.{in_file}
@@ -14,7 +15,8 @@ use Rattle.ps_linkinfo.specs.Records.{reading}
 use Rattle.ps_linkinfo.specs.declared.record.Body.{Body}
 use Rattle.ps_linkinfo.specs.declared.record.Body.TheVariants.{UnitRef, PublRef, PrivRef, PublDef, ConstDef, Eof}
 use Rattle.ps_linkinfo.specs.declared.record.LinkRecord.{LinkRecord as Record}
-use Rattle.ps_resolve.specs.Sources.{known_order}
+use Rattle.ps_resolve.specs.Sources.{known_order, is_unit}
+use Rattle.ps_resolve.specs.Faults.{is_role}
 use Rattle.ps_linkfile.specs.Lines.{line, shown, two_digits, field, fault_words}
 use Rattle.ps_linkfile.specs.declared.error.LinkError.{LinkError}
 use Rattle.ps_linkfile.specs.declared.error.LinkError.TheVariants.{Refused, Memory, Write}
@@ -40,17 +42,30 @@ reference place = (32 ∷ []) ++ decimal place
 abbrev pub references : List ℕ → List ℕ
 references refs = codes " at" ++ flat_map reference refs
 
-abbrev pub record_words : List ℕ → Body → List ℕ
-record_words name (UnitRef refs) = codes " UNITREF " ++ shown name ++ references refs
-record_words name (PublRef refs) = codes " PUBLREF " ++ shown name ++ references refs
-record_words name (PrivRef words refs) = codes " PRIVREF " ++ shown name ++ field (codes "words") words ++ references refs
-record_words name (PublDef value) = codes " PUBLDEF " ++ shown name ++ field (codes "value") value
-record_words name (ConstDef value) = codes " CONSTDEF " ++ shown name ++ field (codes "value") value
-record_words name (Eof next) = codes " EOFMARK" ++ field (codes "next") next
+-- the names of the slots that have a unit, in place or wanted
+unfoldable pub unit_names : Order → List ℕ → List (List ℕ)
+unit_names order file = map (λ slot. (entry_at order file slot).name) (filter (is_role is_unit order file) slots)
+
+-- one of these units has the name
+abbrev pub is_listed : List (List ℕ) → List ℕ → Bool
+is_listed units name = list_any (λ unit. bytes_eq unit name) units
+
+-- what ends the line of a UNITREF record whose name none of these units has
+abbrev pub unlisted_word : List (List ℕ) → List ℕ → List ℕ
+unlisted_word units name = if is_listed units name then [] else codes " unlisted"
+
+-- what a record has, in a file with these units
+abbrev pub record_words : List (List ℕ) → List ℕ → Body → List ℕ
+record_words units name (UnitRef refs) = codes " UNITREF " ++ shown name ++ references refs ++ unlisted_word units name
+record_words units name (PublRef refs) = codes " PUBLREF " ++ shown name ++ references refs
+record_words units name (PrivRef words refs) = codes " PRIVREF " ++ shown name ++ field (codes "words") words ++ references refs
+record_words units name (PublDef value) = codes " PUBLDEF " ++ shown name ++ field (codes "value") value
+record_words units name (ConstDef value) = codes " CONSTDEF " ++ shown name ++ field (codes "value") value
+record_words units name (Eof next) = codes " EOFMARK" ++ field (codes "next") next
 
 -- `0 PUBLREF COUNT    at 1`
-abbrev pub record_line : ℕ × Record → List ℕ
-record_line r = line (decimal r.0 ++ record_words r.1.name r.1.body)
+abbrev pub record_line : List (List ℕ) → ℕ × Record → List ℕ
+record_line units r = line (decimal r.0 ++ record_words units r.1.name r.1.body)
 
 -- `2 fault 19 RecordsTruncated`, where a fault stands in place of a record
 abbrev pub fault_line : ℕ → Option Reason → List ℕ
@@ -58,8 +73,8 @@ fault_line rec None = []
 fault_line rec (Some why) = line (decimal rec ++ (32 ∷ []) ++ fault_words why)
 
 -- the records up to the end mark, or up to the first fault and that fault
-abbrev pub record_lines : List Record × Option Reason → List ℕ
-record_lines read = flat_map record_line (enumerate_from 0 read.0) ++ fault_line (length read.0) read.1
+abbrev pub record_lines : List (List ℕ) → List Record × Option Reason → List ℕ
+record_lines units read = flat_map (record_line units) (enumerate_from 0 read.0) ++ fault_line (length read.0) read.1
 
 -- the slot has a host segment or a unit
 abbrev pub has_links : Entry → Bool
@@ -69,7 +84,7 @@ unfoldable pub links_lines : Order → List ℕ → ℕ → List ℕ
 links_lines order file slot =
     let e = entry_at order file slot in
     if has_links e
-    then line (codes "links " ++ two_digits slot) ++ (elim (code_of file e) [ Err why ↦ line (fault_words why) | Ok code ↦ record_lines (reading order (information_of file e)) ])
+    then line (codes "links " ++ two_digits slot) ++ (elim (code_of file e) [ Err why ↦ line (fault_words why) | Ok code ↦ record_lines (unit_names order file) (reading order (information_of file e)) ])
     else []
 
 -- the text of a file that shows this order, and whose words are read in that one

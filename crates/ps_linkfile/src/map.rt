@@ -5,7 +5,7 @@ ghost use Rattle.ps_resolve.specs.AllFaults.{first_fault};
 ghost use Rattle.ps_linkfile.specs.LinkedFile.{all_blocks};
 ghost use Rattle.ps_linkfile.specs.Writing.{extents_of, IsReady};
 ghost use Rattle.ps_linkfile.specs.Outcomes.{IsUnprepared, NoneStands, NamesFirst};
-ghost use Rattle.ps_linkfile.specs.MapText.{code_line, source_line, kind_word as kind_word_spec, definition_line, private_line, map_in, map_of};
+ghost use Rattle.ps_linkfile.specs.MapText.{added_word as added_word_spec, code_line, source_line, kind_word as kind_word_spec, definition_line, private_line, map_in, map_of};
 
 use crate::error::LinkError;
 use crate::lines::{Shown, TwoDigits};
@@ -15,6 +15,13 @@ use ps_words::blocks_of;
 use std::alloc::{AllocError, Allocator};
 use std::fmt::Write as _;
 
+/// What ends the line of a segment, where it was added for a UNITREF record.
+fn added_word(added: bool) -> &'static str
+    ensures { result.now ≡ added_word_spec added }
+{
+    if added { " added" } else { "" }
+}
+
 /// Adds the line of a segment of this name, whose code begins in this block.
 fn add_segment<A: Allocator>(
     text: &mut String<A>,
@@ -22,16 +29,17 @@ fn add_segment<A: Allocator>(
     name: [u8; 8],
     block: usize,
 ) -> Result<(), AllocError>
-    ensures { OnOk result (string_bytes text.new ≡ string_bytes text.old ++ code_line source.now.slot name source.now.file source.now.index block (length source.now.code.now)) }
+    ensures { OnOk result (string_bytes text.new ≡ string_bytes text.old ++ code_line source.now.slot name source.now.file source.now.index block (length source.now.code.now) source.now.added) }
 {
     writeln!(
         text,
-        "segment {} {} file {} entry {} block {block} length {}",
+        "segment {} {} file {} entry {} block {block} length {}{}",
         TwoDigits(source.slot),
         Shown(name),
         source.file,
         TwoDigits(source.index),
-        source.code.len()
+        source.code.len(),
+        added_word(source.added),
     )
 }
 
@@ -131,10 +139,11 @@ fn map_of_plan<A: Allocator + Copy>(alloc: A, plan: &Plan<'_, A>) -> Result<Stri
 
 /// The map of a link, as lines of ASCII text, each ended by a byte 10: for each segment of the linked
 /// file, by slot, its slot and its name, the file and the entry that its code comes from, its first
-/// block and its length in bytes; for each definition of the host's segment, in record order, its
-/// name and its value; for each private variable, by slot and then by record, its slot and its name,
-/// its base offset and its size in words; and at last the next free base offset in words, the data
-/// size of the host's outer block in bytes, and how many blocks the linked file has.
+/// block and its length in bytes, and behind them `added` where it was added in an empty slot of the
+/// host, for a unit that only a UNITREF record names; for each definition of the host's segment, in
+/// record order, its name and its value; for each private variable, by slot and then by record, its
+/// slot and its name, its base offset and its size in words; and at last the next free base offset in
+/// words, the data size of the host's outer block in bytes, and how many blocks the linked file has.
 ///
 /// Numbers are decimal; slots and entries have two digits. A byte of a name that ASCII does not print
 /// is shown as `?`.

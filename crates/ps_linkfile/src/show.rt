@@ -1,15 +1,18 @@
 //! What a code file has, as text.
-ghost use Rattle.std.specs.Prelude.{◌≡◌, ◌<◌, ◌++◌, None, Some, IfOk, IfErr, OnOk, string_bytes};
+ghost use Rattle.std.specs.Prelude.{◌≡◌, ◌<◌, ◌++◌, ◌∷◌, [], if◌then◌else◌, None, Some, IfOk, IfErr, OnOk, string_bytes};
 ghost use Rattle.std.specs.List.{flat_map};
 ghost use Rattle.ps_words.specs.FaultPlaces.{in_file};
 ghost use Rattle.ps_codefile.specs.Dictionary.{slots, file_order, entry_at};
 ghost use Rattle.ps_linkinfo.specs.Records.{reading};
-ghost use Rattle.ps_resolve.specs.Sources.{known_order};
+ghost use Rattle.arrayvec.specs.ArrayVec.{array_vec_len};
+ghost use Rattle.ps_resolve.specs.Faults.{is_role};
+ghost use Rattle.ps_resolve.specs.Sources.{known_order, is_unit as is_unit_role};
 ghost use Rattle.ps_linkfile.specs.Lines.{line};
-ghost use Rattle.ps_linkfile.specs.ShowText.{order_words, slot_line, references, record_line, fault_line, record_lines, has_links as has_links_spec, links_lines, shown_file, show_of, order_shown, show_fault, IsUnshown};
+ghost use Rattle.ps_linkfile.specs.ShowText.{order_words, slot_line, references, unit_names as unit_names_spec, is_listed as is_listed_spec, unlisted_word as unlisted_word_spec, record_line, fault_line, record_lines, has_links as has_links_spec, links_lines, shown_file, show_of, order_shown, show_fault, IsUnshown};
 
 use crate::error::LinkError;
 use crate::lines::{FaultWords, Shown, TwoDigits};
+use arrayvec::ArrayVec;
 use ps_codefile::{Dict, Entry, Role};
 use ps_linkinfo::{Body, LinkRecord, Records, Refs, walk_from_start};
 use ps_words::{Fault, Order, Reason};
@@ -18,6 +21,9 @@ use std::fmt::Write as _;
 
 /// How many slots a segment dictionary has.
 const SLOTS: u8 = 16;
+
+/// How many units a file has at most: one in each slot.
+const MAX_UNITS: usize = 16;
 
 /// A fault of the file as a whole.
 fn refused(reason: Reason) -> Fault
@@ -95,39 +101,91 @@ fn add_slots<A: Allocator>(text: &mut String<A>, dict: &Dict) -> Result<(), Allo
     Ok(())
 }
 
-/// Adds the references of a record, and ends its line.
+/// The slot has a unit, in place or wanted.
+fn is_unit(dict: &Dict, slot: u8) -> bool
+    requires { slot < 16 }
+    ensures { result ≡ is_role is_unit_role dict.now.order dict.now.file slot }
+{
+    matches!(dict.role(slot), Ok(Role::Unit | Role::Wanted))
+}
+
+/// Adds the name of the slot behind the others, where it has a unit.
+fn add_unit(dict: &Dict, names: &mut ArrayVec<[u8; 8], 16>, slot: u8)
+    requires in_range { slot < 16 }
+    requires room { array_vec_len names.old < 16 }
+    ensures { names.new.items ≡ names.old.items ++ (if is_role is_unit_role dict.now.order dict.now.file slot then (entry_at dict.now.order dict.now.file slot).name ∷ [] else []) }
+{
+    if is_unit(dict, slot) {
+        names.push(dict.entry(slot).name);
+    }
+}
+
+/// The names of the units of a file, in place or wanted, by slot.
+fn unit_names(dict: &Dict) -> ArrayVec<[u8; 8], 16>
+    ensures { result.items ≡ unit_names_spec dict.now.order dict.now.file }
+{
+    let mut names: ArrayVec<[u8; 8], MAX_UNITS> = ArrayVec::new();
+    for slot in 0..SLOTS {
+        add_unit(dict, &mut names, slot);
+    }
+    names
+}
+
+/// One of these units has the name.
+fn is_listed(units: &[[u8; 8]], name: [u8; 8]) -> bool
+    ensures { result ≡ is_listed_spec units.now name }
+{
+    units.iter().any(|unit| *unit == name)
+}
+
+/// What ends the line of a UNITREF record, where none of these units has its name.
+fn unlisted_word(units: &[[u8; 8]], name: [u8; 8]) -> &'static str
+    ensures { result.now ≡ unlisted_word_spec units.now name }
+{
+    if is_listed(units, name) {
+        ""
+    } else {
+        " unlisted"
+    }
+}
+
+/// Adds the references of a record.
 fn add_references<A: Allocator>(text: &mut String<A>, refs: &Refs) -> Result<(), AllocError>
-    ensures { OnOk result (string_bytes text.new ≡ string_bytes text.old ++ line (references refs.now)) }
+    ensures { OnOk result (string_bytes text.new ≡ string_bytes text.old ++ references refs.now) }
 {
     text.push_str(" at")?;
     for index in 0..refs.len() {
         let reference = refs.get(index);
         write!(text, " {reference}")?;
     }
-    text.push('\n')
+    Ok(())
 }
 
-/// Adds the line of a record, which has the index `rec` in its segment's link information.
+/// Adds the line of a record, which has the index `rec` in its segment's link information, in a file with these units.
 fn add_record<A: Allocator>(
     text: &mut String<A>,
+    units: &[[u8; 8]],
     rec: usize,
     entry: &LinkRecord,
 ) -> Result<(), AllocError>
-    ensures { OnOk result (string_bytes text.new ≡ string_bytes text.old ++ record_line (rec, entry.now)) }
+    ensures { OnOk result (string_bytes text.new ≡ string_bytes text.old ++ record_line units.now (rec, entry.now)) }
 {
     let name = Shown(entry.name);
     match &entry.body {
         Body::UnitRef(refs) => {
             write!(text, "{rec} UNITREF {name}")?;
-            add_references(text, refs)
+            add_references(text, refs)?;
+            writeln!(text, "{}", unlisted_word(units, entry.name))
         }
         Body::PublRef(refs) => {
             write!(text, "{rec} PUBLREF {name}")?;
-            add_references(text, refs)
+            add_references(text, refs)?;
+            text.push('\n')
         }
         Body::PrivRef { words, refs } => {
             write!(text, "{rec} PRIVREF {name} words {words}")?;
-            add_references(text, refs)
+            add_references(text, refs)?;
+            text.push('\n')
         }
         Body::PublDef(value) => writeln!(text, "{rec} PUBLDEF {name} value {value}"),
         Body::ConstDef(value) => writeln!(text, "{rec} CONSTDEF {name} value {value}"),
@@ -147,21 +205,22 @@ fn add_record_fault<A: Allocator>(
     writeln!(text, "{rec} {fault}")
 }
 
-/// Adds the lines of link information: of each record up to its end, or up to the first fault and
-/// that fault.
+/// Adds the lines of link information in a file with these units: of each record up to its end, or
+/// up to the first fault and that fault.
 fn add_records<A: Allocator>(
     text: &mut String<A>,
+    units: &[[u8; 8]],
     order: Order,
     information: &[u8],
 ) -> Result<(), AllocError>
-    ensures { OnOk result (string_bytes text.new ≡ string_bytes text.old ++ record_lines (reading order information.now)) }
+    ensures { OnOk result (string_bytes text.new ≡ string_bytes text.old ++ record_lines units.now (reading order information.now)) }
 {
     walk_from_start();
     let mut rec = 0;
     for item in Records::new(order, information) {
         match item {
             Ok(entry) => {
-                add_record(text, rec, &entry)?;
+                add_record(text, units, rec, &entry)?;
                 rec += 1;
             }
             Err(reason) => add_record_fault(text, rec, reason)?,
@@ -178,10 +237,16 @@ fn has_links(dict: &Dict, slot: u8) -> bool
     matches!(dict.role(slot), Ok(Role::Host | Role::Unit))
 }
 
-/// Adds the link information of a slot, where it has a segment with one.
+/// Adds the link information of a slot, where it has a segment with one, in a file with these units.
 #[tactic(auto, unfolding(crate::specs::ShowText::links_lines))]
-fn add_links<A: Allocator>(text: &mut String<A>, dict: &Dict, slot: u8) -> Result<(), AllocError>
-    requires { slot < 16 }
+fn add_links<A: Allocator>(
+    text: &mut String<A>,
+    dict: &Dict,
+    units: &[[u8; 8]],
+    slot: u8,
+) -> Result<(), AllocError>
+    requires in_range { slot < 16 }
+    requires units { units.now ≡ unit_names_spec dict.now.order dict.now.file }
     ensures { OnOk result (string_bytes text.new ≡ string_bytes text.old ++ links_lines dict.now.order dict.now.file slot) }
 {
     if !has_links(dict, slot) {
@@ -190,7 +255,7 @@ fn add_links<A: Allocator>(text: &mut String<A>, dict: &Dict, slot: u8) -> Resul
     writeln!(text, "links {}", TwoDigits(slot))?;
     match dict.code(slot) {
         Err(reason) => writeln!(text, "{}", FaultWords(reason)),
-        Ok(_) => add_records(text, dict.order(), dict.after(slot)),
+        Ok(_) => add_records(text, units, dict.order(), dict.after(slot)),
     }
 }
 
@@ -198,8 +263,9 @@ fn add_links<A: Allocator>(text: &mut String<A>, dict: &Dict, slot: u8) -> Resul
 fn add_all_links<A: Allocator>(text: &mut String<A>, dict: &Dict) -> Result<(), AllocError>
     ensures { OnOk result (string_bytes text.new ≡ string_bytes text.old ++ flat_map (links_lines dict.now.order dict.now.file) slots) }
 {
+    let units = unit_names(dict);
     for slot in 0..SLOTS {
-        add_links(text, dict, slot)?;
+        add_links(text, dict, units.as_slice(), slot)?;
     }
     Ok(())
 }
@@ -218,7 +284,9 @@ fn add_file<A: Allocator>(
 }
 
 /// What a code file has, as ASCII lines: its byte order; its sixteen slots; and for each slot with a
-/// host segment or a unit, whose code is in the file, the records of its link information.
+/// host segment or a unit, whose code is in the file, the records of its link information. The line
+/// of a UNITREF record ends with `unlisted` where no slot of the file has a unit of its name, in place
+/// or wanted.
 ///
 /// `file` is a whole code file, of any contents. Its words are read in the byte order that its kind
 /// words show, and as little-endian where all of these are 0, which the first line then calls

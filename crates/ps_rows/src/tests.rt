@@ -10,6 +10,7 @@ mod in_place;
 mod in_place_faults;
 mod largest_codes;
 mod link_growths;
+mod marks;
 mod most_records;
 mod order_of_faults;
 mod pair_faults;

@@ -73,8 +73,8 @@ impl<'a> Growing for Map<'a> {
 
 /// `show_text` of this file.
 #[derive(Clone, Copy)]
-struct Show<'a> {
-    file: &'a [u8],
+pub(crate) struct Show<'a> {
+    pub file: &'a [u8],
 }
 
 impl<'a> Growing for Show<'a> {

@@ -27,8 +27,8 @@ loop-source-preserved g c =
     let low : o.slot < 16 = (next_line plan.names plan.origins i _ _ _ _ o at c.loop-source.invariant.1).0 in
     let name : get_or c.names-names.result.now o.slot [] ≡ name_in plan.names o.slot =
     ap (λ (names : List (List ℕ)). get_or names o.slot []) c.names-names.ensures ∙ sym (unwrap_or-slice_get plan.names o.slot []) in
-    let line : string_bytes c.add_segment.new.text ≡ string_bytes c.loop-source.text ++ code_line o.slot (name_in plan.names o.slot) o.file o.index block (length o.code) =
-    c.in_ok-add_segment.ensures ∙ ap (λ (xs : List ℕ). string_bytes c.loop-source.text ++ code_line o.slot xs o.file o.index block (length o.code)) name in
+    let line : string_bytes c.add_segment.new.text ≡ string_bytes c.loop-source.text ++ code_line o.slot (name_in plan.names o.slot) o.file o.index block (length o.code) o.added =
+    c.in_ok-add_segment.ensures ∙ ap (λ (xs : List ℕ). string_bytes c.loop-source.text ++ code_line o.slot xs o.file o.index block (length o.code) o.added) name in
     let small = size_at ss i (seen_small ss plan.origins c.sources-source-items.ensures.origins c.requires.sizes) c.loop-source-test.true in (
       o.slot + 1,
       subst (λ (b : ℕ). LinesSoFar plan.names plan.origins (i + 1) (string_bytes c.args.text.now) (string_bytes c.add_segment.new.text) (block + b) (o.slot + 1)) (sym c.blocks_of-block.ensures)

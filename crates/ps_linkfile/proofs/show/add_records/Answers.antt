@@ -16,8 +16,8 @@ loop-item-init g c =
     rw start (record {
       can = tt;
       finite = tt;
-      lines = ap (λ (xs : List (Result Record Reason)). string_bytes c.args.text.now ++ item_lines 0 xs) (c.walk_from_start.ensures.items order bytes)
-          ∙ ap (λ (xs : List ℕ). string_bytes c.args.text.now ++ xs) (lines_of_reading (reading order bytes));
+      lines = ap (λ (xs : List (Result Record Reason)). string_bytes c.args.text.now ++ item_lines c.args.units.now 0 xs) (c.walk_from_start.ensures.items order bytes)
+          ∙ ap (λ (xs : List ℕ). string_bytes c.args.text.now ++ xs) (lines_of_reading c.args.units.now (reading order bytes));
       few = omega (arith, few);
     })
 
@@ -28,7 +28,7 @@ loop-item-preserved-in-Ok g c =
     record {
       can = tt;
       finite = tt;
-      lines = record_more (string_bytes c.loop-item.text) _ c.loop-item.rec _ _ (left c.next.new.self) _ c.in-Ok.entry more c.in-Ok.is inv.lines c.in_ok-add_record-in-Ok.ensures;
+      lines = record_more c.args.units.now (string_bytes c.loop-item.text) _ c.loop-item.rec _ _ (left c.next.new.self) _ c.in-Ok.entry more c.in-Ok.is inv.lines c.in_ok-add_record-in-Ok.ensures;
       few = omega (arith, inv.few, ap length more);
     }
 
@@ -39,10 +39,10 @@ loop-item-preserved g c =
     record {
       can = tt;
       finite = tt;
-      lines = fault_more (string_bytes c.loop-item.text) _ c.loop-item.rec _ _ (left c.next.new.self) _ c.in-Err.reason more c.in-Err.is inv.lines c.in_ok-add_record_fault-in-Err.ensures;
+      lines = fault_more c.args.units.now (string_bytes c.loop-item.text) _ c.loop-item.rec _ _ (left c.next.new.self) _ c.in-Err.reason more c.in-Err.is inv.lines c.in_ok-add_record_fault-in-Err.ensures;
       few = omega (arith, inv.few, ap length more);
     }
 
 pub returns : goal.returns
 returns g c =
-    lines_over (string_bytes c.loop-item.text) _ c.loop-item.rec (left c.loop-item.item-iterator) c.in-None.ensures.steps.1.0 c.loop-item.invariant.lines
+    lines_over c.args.units.now (string_bytes c.loop-item.text) _ c.loop-item.rec (left c.loop-item.item-iterator) c.in-None.ensures.steps.1.0 c.loop-item.invariant.lines

@@ -10,6 +10,6 @@ abbrev pub invariant-loop-item : goal.invariant-loop-item
 invariant-loop-item g l = record {
   can : (goal.iterator-loop-item g).can_next l.item-iterator;
   finite : (goal.iterator-loop-item g).is_finite l.item-iterator;
-  lines : string_bytes l.text ++ item_lines l.rec (left l.item-iterator) ≡ string_bytes l.fn.text ++ record_lines (reading l.fn.order l.information);
+  lines : string_bytes l.text ++ item_lines l.units l.rec (left l.item-iterator) ≡ string_bytes l.fn.text ++ record_lines l.units (reading l.fn.order l.information);
   few : l.rec + length (left l.item-iterator) ≤ length l.information / 16 + 1;
 }

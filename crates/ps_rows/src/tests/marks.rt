@@ -1,0 +1,303 @@
+//! What map says of an added segment, and what show says of a UNITREF record whose unit the file has not.
+use super::answers::LITTLE;
+use super::growths::refuses_each_growth;
+use super::texts::{Map, SLOTS_OF_THE_LIBRARY, Show};
+use crate::base::{DEMO, LIBRARY_UTIL, NOBODY, UTIL, UTIL_ENTRY, base_host, base_library};
+use crate::code_file::Change::{Entry, Kind, Length, Records};
+use crate::code_file::{Change, CodeFile, LINKED, Slot};
+use crate::information::Name;
+use crate::information::Record::{End, PrivateReference, PublicReference, UnitReference};
+use crate::units::{
+    AUX, AUX_ENTRY, LIBRARY_AUX, WANTED_AUX, host_of_two_units, library_of_two_units,
+};
+use ps_linkfile::show_text;
+use ps_words::Order;
+use std::alloc::{AllocError, Global};
+use std::process::Abort;
+use std::str;
+use std::test::Fail;
+
+const ZEROS: Name = [0; 8];
+
+static MAP_OF_AN_ADDED_UNIT: &str = "segment 01 DEMO     file 0 entry 01 block 1 length 18
+segment 07 UTIL     file 1 entry 02 block 2 length 24
+segment 08 AUX      file 1 entry 03 block 3 length 24 added
+public COUNT    value 3
+private 08 STATE    offset 8 words 4
+next 12 data 18 blocks 4
+";
+
+static MAP_OF_TWO_UNITS: &str = "segment 01 DEMO     file 0 entry 01 block 1 length 18
+segment 07 UTIL     file 1 entry 02 block 2 length 24
+segment 08 AUX      file 1 entry 03 block 3 length 24
+public COUNT    value 3
+private 07 STATE    offset 8 words 4
+private 08 STATE    offset 12 words 4
+next 16 data 26 blocks 4
+";
+
+static SHOW_OF_THE_LIBRARY_OF_TWO: &str = "order little
+slot 00          kind 0 address 0 length 0 text 0
+slot 01          kind 0 address 0 length 0 text 0
+slot 02 UTIL     kind 3 address 1 length 24 text 0
+slot 03 AUX      kind 3 address 3 length 24 text 0
+slot 04          kind 0 address 0 length 0 text 0
+slot 05          kind 0 address 0 length 0 text 0
+slot 06          kind 0 address 0 length 0 text 0
+slot 07          kind 0 address 0 length 0 text 0
+slot 08          kind 0 address 0 length 0 text 0
+slot 09          kind 0 address 0 length 0 text 0
+slot 10          kind 0 address 0 length 0 text 0
+slot 11          kind 0 address 0 length 0 text 0
+slot 12          kind 0 address 0 length 0 text 0
+slot 13          kind 0 address 0 length 0 text 0
+slot 14          kind 0 address 0 length 0 text 0
+slot 15          kind 0 address 0 length 0 text 0
+links 02
+0 UNITREF AUX      at 2
+1 EOFMARK next 0
+links 03
+0 PUBLREF COUNT    at 1
+1 PRIVREF STATE    words 4 at 4
+2 EOFMARK next 0
+";
+
+static SHOWN_BIG_ENDIAN: &str = "order big
+slot 00          kind 0 address 0 length 0 text 0
+slot 01          kind 0 address 0 length 0 text 0
+slot 02 UTIL     kind 3 address 1 length 24 text 0
+slot 03          kind 0 address 0 length 0 text 0
+slot 04          kind 0 address 0 length 0 text 0
+slot 05          kind 0 address 0 length 0 text 0
+slot 06          kind 0 address 0 length 0 text 0
+slot 07          kind 0 address 0 length 0 text 0
+slot 08          kind 0 address 0 length 0 text 0
+slot 09          kind 0 address 0 length 0 text 0
+slot 10          kind 0 address 0 length 0 text 0
+slot 11          kind 0 address 0 length 0 text 0
+slot 12          kind 0 address 0 length 0 text 0
+slot 13          kind 0 address 0 length 0 text 0
+slot 14          kind 0 address 0 length 0 text 0
+slot 15          kind 0 address 0 length 0 text 0
+links 02
+0 UNITREF UTIL     at 2
+1 UNITREF AUX      at 2 5 unlisted
+2 EOFMARK next 0
+";
+
+/// The library of two units, the first of which uses the second.
+fn library_of_a_used_unit(alloc: Global) -> Result<CodeFile, AllocError> {
+    let records = [UnitReference(AUX, &[2]), End(0)];
+    library_of_two_units(alloc)?.with(alloc, &[Records(2, &records)])
+}
+
+#[test]
+fn the_map_marks_an_added_unit(rt: HostRuntime) -> Result<(), Fail> {
+    let alloc = rt.alloc();
+    let host = base_host(alloc, LITTLE)?;
+    let library = library_of_a_used_unit(alloc)?;
+    let libraries = [library.as_slice()];
+    let call = Map {
+        host: host.as_slice(),
+        libraries: libraries.as_slice(),
+    };
+    refuses_each_growth(&rt, "an added unit", &call, MAP_OF_AN_ADDED_UNIT)
+}
+
+#[test]
+fn the_map_marks_no_unit_that_the_host_names(rt: HostRuntime) -> Result<(), Fail> {
+    let alloc = rt.alloc();
+    let host = host_of_two_units(alloc)?;
+    let library = library_of_two_units(alloc)?;
+    let libraries = [library.as_slice()];
+    let call = Map {
+        host: host.as_slice(),
+        libraries: libraries.as_slice(),
+    };
+    refuses_each_growth(&rt, "two wanted units", &call, MAP_OF_TWO_UNITS)
+}
+
+#[test]
+fn the_show_of_a_unit_that_the_file_has(rt: HostRuntime) -> Result<(), Fail> {
+    let library = library_of_a_used_unit(rt.alloc())?;
+    let call = Show {
+        file: library.as_slice(),
+    };
+    refuses_each_growth(&rt, "both units", &call, SHOW_OF_THE_LIBRARY_OF_TWO)
+}
+
+#[test]
+fn the_show_of_a_unit_that_the_file_has_not(rt: HostRuntime) -> Result<(), Fail> {
+    let alloc = rt.alloc();
+    let shows: [(&[u16], &str); 3] = [
+        (&[2], "0 UNITREF AUX      at 2 unlisted"),
+        (&[], "0 UNITREF AUX      at unlisted"),
+        (&[2, 5], "0 UNITREF AUX      at 2 5 unlisted"),
+    ];
+    for (references, line) in shows {
+        let records = [UnitReference(AUX, references), End(0)];
+        let library = base_library(alloc, LITTLE)?.with(alloc, &[Records(2, &records)])?;
+        let text = format!(in alloc; "{SLOTS_OF_THE_LIBRARY}links 02\n{line}\n1 EOFMARK next 0\n")?;
+        let call = Show {
+            file: library.as_slice(),
+        };
+        refuses_each_growth(&rt, line, &call, text.as_str())?;
+    }
+    Ok(())
+}
+
+#[test]
+fn the_show_of_big_endian_units(rt: HostRuntime) -> Result<(), Fail> {
+    let alloc = rt.alloc();
+    let records = [
+        UnitReference(UTIL, &[2]),
+        UnitReference(AUX, &[2, 5]),
+        End(0),
+    ];
+    let library = base_library(alloc, Order::Big)?.with(alloc, &[Records(2, &records)])?;
+    let call = Show {
+        file: library.as_slice(),
+    };
+    refuses_each_growth(&rt, "a big-endian library", &call, SHOWN_BIG_ENDIAN)
+}
+
+/// What is shown, the base library's changes, and the lines of its link information.
+type Shown<'a> = (&'a str, &'a [Change<'a>], &'a str);
+
+/// A unit whose name is eight zeros.
+const UNIT_OF_ZEROS: Slot = Slot {
+    name: ZEROS,
+    ..LIBRARY_UTIL
+};
+
+/// A segment that is linked already, with the name of the second unit.
+const LINKED_UNIT: Slot = Slot {
+    kind: LINKED,
+    ..LIBRARY_AUX
+};
+
+/// UNITREF records of the base library's unit: which of them are marked.
+const RECORDS: [Shown<'static>; 9] = [
+    (
+        "the segment that it stands in",
+        &[Records(2, &[UnitReference(UTIL, &[2]), End(0)])],
+        "0 UNITREF UTIL     at 2\n1 EOFMARK next 0\n",
+    ),
+    (
+        "records of other types",
+        &[Records(
+            2,
+            &[
+                PublicReference(NOBODY, &[1]),
+                PrivateReference(NOBODY, 4, &[4]),
+                UnitReference(NOBODY, &[2]),
+                UnitReference(UTIL, &[5]),
+                End(0),
+            ],
+        )],
+        "0 PUBLREF NOBODY   at 1\n1 PRIVREF NOBODY   words 4 at 4\n2 UNITREF NOBODY   at 2 unlisted\n3 UNITREF UTIL     at 5\n4 EOFMARK next 0\n",
+    ),
+    (
+        "a segment that is linked already",
+        &[
+            Entry(AUX_ENTRY, LINKED_UNIT),
+            Records(2, &[UnitReference(AUX, &[2]), End(0)]),
+        ],
+        "0 UNITREF AUX      at 2 unlisted\n1 EOFMARK next 0\n",
+    ),
+    (
+        "a unit that the library wants, in the first slot",
+        &[
+            Entry(0, WANTED_AUX),
+            Records(2, &[UnitReference(AUX, &[2]), End(0)]),
+        ],
+        "0 UNITREF AUX      at 2\n1 EOFMARK next 0\n",
+    ),
+    (
+        "a unit in the last slot, whose code is not in the file",
+        &[
+            Entry(15, LIBRARY_AUX),
+            Records(2, &[UnitReference(AUX, &[2]), End(0)]),
+        ],
+        "0 UNITREF AUX      at 2\n1 EOFMARK next 0\nlinks 15\nfault 16 Truncated\n",
+    ),
+    (
+        "a slot of another kind",
+        &[
+            Entry(AUX_ENTRY, LIBRARY_AUX),
+            Kind(AUX_ENTRY, 5),
+            Records(2, &[UnitReference(AUX, &[2]), End(0)]),
+        ],
+        "0 UNITREF AUX      at 2 unlisted\n1 EOFMARK next 0\n",
+    ),
+    (
+        "a name of zeros that no unit has, but a slot of no code",
+        &[
+            Entry(AUX_ENTRY, UNIT_OF_ZEROS),
+            Length(AUX_ENTRY, 0),
+            Records(2, &[UnitReference(ZEROS, &[2]), End(0)]),
+        ],
+        "0 UNITREF ???????? at 2 unlisted\n1 EOFMARK next 0\n",
+    ),
+    (
+        "a unit of a name of zeros",
+        &[
+            Entry(UTIL_ENTRY, UNIT_OF_ZEROS),
+            Records(2, &[UnitReference(ZEROS, &[2]), End(0)]),
+        ],
+        "0 UNITREF ???????? at 2\n1 EOFMARK next 0\n",
+    ),
+    (
+        "another name that is shown alike",
+        &[
+            Entry(UTIL_ENTRY, UNIT_OF_ZEROS),
+            Records(2, &[UnitReference([1; 8], &[2]), End(0)]),
+        ],
+        "0 UNITREF ???????? at 2 unlisted\n1 EOFMARK next 0\n",
+    ),
+];
+
+/// Checks that the show of a file ends with these lines, behind the first line of its link information.
+fn shows(
+    rt: &(impl Abort + AllocGlobal),
+    what: &str,
+    file: &CodeFile,
+    links: &str,
+    lines: &str,
+) -> Result<(), Fail> {
+    let text = show_text(rt.alloc(), file.as_slice());
+    match text {
+        Ok(bytes) => {
+            let text = str::from_utf8(bytes.as_slice()).unwrap_or("no text");
+            let shown = text.split_once(links).map(|(_, shown)| shown);
+            assert_eq!(rt; shown, Some(lines), "{what}");
+        }
+        Err(_) => assert!(rt; false, "{what}: no text"),
+    }
+    Ok(())
+}
+
+#[test]
+fn the_show_of_records_by_their_names(rt: HostRuntime) -> Result<(), Fail> {
+    let alloc = rt.alloc();
+    for (what, changes, lines) in RECORDS {
+        let library = base_library(alloc, LITTLE)?.with(alloc, changes)?;
+        shows(&rt, what, &library, "links 02\n", lines)?;
+    }
+    Ok(())
+}
+
+#[test]
+fn the_show_of_a_host_that_names_units(rt: HostRuntime) -> Result<(), Fail> {
+    let alloc = rt.alloc();
+    let records = [
+        UnitReference(UTIL, &[2]),
+        UnitReference(AUX, &[4]),
+        UnitReference(DEMO, &[6]),
+        End(8),
+    ];
+    let host = base_host(alloc, LITTLE)?.with(alloc, &[Records(2, &records)])?;
+    let lines =
+        "0 UNITREF UTIL     at 2\n1 UNITREF AUX      at 4 unlisted\n2 UNITREF DEMO     at 6 unlisted\n3 EOFMARK next 8\n";
+    shows(&rt, "a host", &host, "links 01\n", lines)
+}
