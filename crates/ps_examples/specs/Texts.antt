@@ -45,7 +45,7 @@ abbrev pub map_of_an_added_unit : List ℕ
 map_of_an_added_unit =
     codes "segment 01 DEMO     file 0 entry 01 block 1 length 18\n"
     ++ codes "segment 07 UTIL     file 1 entry 02 block 2 length 24\n"
-    ++ codes "segment 08 AUX      file 1 entry 03 block 3 length 24\n"
+    ++ codes "segment 08 AUX      file 1 entry 03 block 3 length 24 added\n"
     ++ codes "public COUNT    value 3\n"
     ++ codes "private 08 STATE    offset 8 words 4\n"
     ++ codes "next 12 data 18 blocks 4\n"
@@ -171,6 +171,13 @@ links_of_every_kind =
     ++ codes "2 PRIVREF STATE    words 4 at\n"
     ++ codes "3 CONSTDEF LIMIT    value 9\n"
     ++ codes "4 EOFMARK next 0\n"
+
+-- that of a UNITREF whose unit the library has not
+abbrev pub links_of_an_unlisted_unit : List ℕ
+links_of_an_unlisted_unit =
+    codes "links 02\n"
+    ++ codes "0 UNITREF AUX      at 2 unlisted\n"
+    ++ codes "1 EOFMARK next 0\n"
 
 -- link information whose first record is of an unknown type
 abbrev pub links_of_an_unknown_record : List ℕ

@@ -1,6 +1,6 @@
 ghost use Rattle.std.specs.Prelude.{◌≡◌, [], ◌∷◌, ◌++◌, take, codes};
-ghost use Rattle.ps_examples.specs.Files.{host, library, host_in, host_in_place, host_with, library_with, put_at, zeros, util, count, state, limit, unit_ref, publ_ref, priv_ref, publ_def, const_def, eof_mark, wanting_aux, library_of_two, util_information, library_of_used};
-ghost use Rattle.ps_examples.specs.Texts.{map_of_the_pair, map_with_a_constant, map_in_place, map_of_two, map_of_an_added_unit, show_of_the_library, show_without_an_end, show_without_a_code, show_of_the_linked_file, show_of_the_big_endian_host, slot_without_a_name, slot_with_a_text, links_of_every_kind, links_of_an_unknown_record, links_of_a_bad_length, links_of_a_bad_address};
+ghost use Rattle.ps_examples.specs.Files.{host, library, host_in, host_in_place, host_with, library_with, put_at, zeros, util, aux, count, state, limit, unit_ref, publ_ref, priv_ref, publ_def, const_def, eof_mark, wanting_aux, library_of_two, util_information, library_of_used};
+ghost use Rattle.ps_examples.specs.Texts.{map_of_the_pair, map_with_a_constant, map_in_place, map_of_two, map_of_an_added_unit, show_of_the_library, show_without_an_end, show_without_a_code, show_of_the_linked_file, show_of_the_big_endian_host, slot_without_a_name, slot_with_a_text, links_of_every_kind, links_of_an_unlisted_unit, links_of_an_unknown_record, links_of_a_bad_length, links_of_a_bad_address};
 ghost use Rattle.ps_linkfile.specs.Lines.{shown};
 ghost use Rattle.ps_linkfile.specs.LinkedFile.{linked_file};
 ghost use Rattle.ps_linkfile.specs.MapText.{map_of};
@@ -28,6 +28,7 @@ pub fn show_texts()
     ensures a_slot_named_by_zero_bytes { slot_line Little (put_at 88 (zeros 8) library) 3 ≡ slot_without_a_name }
     ensures a_slot_with_interface_text { slot_line Little (put_at 228 (5 ∷ []) library) 2 ≡ slot_with_a_text }
     ensures a_record_of_every_kind { links_lines Little (library_with Little (unit_ref Little util (2 ∷ []) ++ publ_ref Little count (1 ∷ 4 ∷ []) ++ priv_ref Little state 4 [] ++ const_def Little limit 9 ++ eof_mark Little 0)) 2 ≡ links_of_every_kind }
+    ensures a_unit_that_the_file_has_not { links_lines Little (library_with Little (unit_ref Little aux (2 ∷ []) ++ eof_mark Little 0)) 2 ≡ links_of_an_unlisted_unit }
     ensures an_unknown_record { links_lines Little (put_at 1032 (15 ∷ []) library) 2 ≡ links_of_an_unknown_record }
     ensures a_code_of_odd_length { links_lines Little (put_at 10 (23 ∷ []) library) 2 ≡ links_of_a_bad_length }
     ensures a_host_segment_at_address_0 { links_lines Little (put_at 4 (0 ∷ []) host) 1 ≡ links_of_a_bad_address }

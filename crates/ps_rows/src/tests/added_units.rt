@@ -477,7 +477,7 @@ fn nine_ten_and_eleven_names(rt: HostRuntime) -> Result<(), Fail> {
 
 static MAP: &str = "segment 01 DEMO     file 0 entry 01 block 1 length 18
 segment 07 UTIL     file 1 entry 02 block 2 length 24
-segment 08 AUX      file 1 entry 03 block 3 length 24
+segment 08 AUX      file 1 entry 03 block 3 length 24 added
 public COUNT    value 3
 private 08 STATE    offset 8 words 4
 next 12 data 18 blocks 4
@@ -499,11 +499,11 @@ fn the_map_of_a_used_unit(rt: HostRuntime) -> Result<(), Fail> {
 static MAP_OF_FIRST_NAMES: &str = "segment 00 TOOLS    file 0 entry 00 block 1 length 24
 segment 01 DEMO     file 0 entry 01 block 2 length 18
 segment 02 UTIL     file 1 entry 02 block 3 length 24
-segment 07 B        file 2 entry 01 block 4 length 24
-segment 08 C        file 2 entry 02 block 5 length 24
-segment 09 A        file 2 entry 00 block 6 length 24
-segment 10 E        file 2 entry 04 block 7 length 24
-segment 11 AUX      file 1 entry 03 block 8 length 24
+segment 07 B        file 2 entry 01 block 4 length 24 added
+segment 08 C        file 2 entry 02 block 5 length 24 added
+segment 09 A        file 2 entry 00 block 6 length 24 added
+segment 10 E        file 2 entry 04 block 7 length 24 added
+segment 11 AUX      file 1 entry 03 block 8 length 24 added
 public COUNT    value 3
 private 11 STATE    offset 8 words 4
 next 12 data 18 blocks 9
