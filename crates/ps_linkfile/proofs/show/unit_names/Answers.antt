@@ -1,4 +1,4 @@
-use Rattle.std.proofs.Common.{ℕ, List, refl, arith}
+use Rattle.std.proofs.Common.{ℕ, refl, arith}
 use Rattle.ps_codefile.specs.Dictionary.{entry_at}
 use Rattle.ps_resolve.specs.Faults.{is_role}
 use Rattle.ps_resolve.specs.Sources.{is_unit}

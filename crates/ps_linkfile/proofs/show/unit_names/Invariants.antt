@@ -1,4 +1,4 @@
-use Rattle.std.proofs.Common.{◌≡◌, ◌<◌, ◌≤◌, ◌-◌, ◌++◌, length, map}
+use Rattle.std.proofs.Common.{◌≡◌, ◌≤◌, ◌-◌, ◌++◌, length, map}
 use Rattle.std.specs.List.{filter, range_with_len}
 use Rattle.ps_codefile.specs.Dictionary.{entry_at}
 use Rattle.ps_resolve.specs.Faults.{is_role}
