@@ -161,7 +161,8 @@ fn add_references<A: Allocator>(text: &mut String<A>, refs: &Refs) -> Result<(),
     Ok(())
 }
 
-/// Adds the line of a record, which has the index `rec` in its segment's link information, in a file with these units.
+/// Adds the line of a record, which has the index `rec` in its segment's link information, in a file
+/// with these units.
 fn add_record<A: Allocator>(
     text: &mut String<A>,
     units: &[[u8; 8]],
