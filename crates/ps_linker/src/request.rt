@@ -41,8 +41,8 @@ pub fn parse<'a, A: Allocator + Copy>(
     // Words that clap takes name a command, and ask for no help.
     ensures named { takes pslink_app (map (λ s. s.now) words.now) ≡ true → IfOk result (λ r. IsNamed r (subcommand_of pslink_app (map (λ s. s.now) words.now))) }
 
-    // Words that clap takes are refused only where they leave out a file or the command.
-    ensures refused { takes pslink_app (map (λ s. s.now) words.now) ≡ true → IfErr result (λ e. e ≢ CommandError.Memory → LeavesOut (subcommand_of pslink_app (map (λ s. s.now) words.now))) }
+    // Words that clap takes are refused only for want of memory.
+    ensures memory { takes pslink_app (map (λ s. s.now) words.now) ≡ true → IfErr result (λ e. e ≡ CommandError.Memory) }
 {
     match matches(heap, words) {
         Ok(matches) => request_of(heap, alloc, &matches),

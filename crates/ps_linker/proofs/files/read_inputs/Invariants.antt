@@ -1,5 +1,5 @@
 -- A library was read for each path so far.
-use Rattle.std.proofs.Common.{◌≡◌, map, take}
+use Rattle.std.proofs.Common.{map, take}
 use Rattle.std.specs.List.{AllZip}
 use Rattle.ps_linker.specs.Reading.{Reads}
 use Rattle.ps_linker.proofs.files.read_inputs.Given as goal
