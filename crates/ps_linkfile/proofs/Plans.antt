@@ -1,11 +1,11 @@
 -- A plan of a link can be written, and its file is the linked file.
-use Rattle.std.proofs.Common.{◌≡◌, ℕ, ◌+◌, ◌*◌, ◌≤◌, ◌<◌, List, [], ◌∷◌, ◌++◌, length, map, Bool, true, false, cond, refl, sym, ◌∙◌, ap, subst, arith}
+use Rattle.std.proofs.Common.{◌≡◌, ℕ, ◌+◌, ◌*◌, ◌≤◌, ◌<◌, List, [], ◌∷◌, ◌++◌, length, map, Bool, true, false, cond, refl, sym, ◌∙◌, ap, subst}
 use Rattle.std.proofs.lemmas.List.{length-map}
 use Rattle.std.specs.Prelude.{All, nat_lt}
 use Rattle.std.specs.List.{range_with_len, flat_map}
 use Rattle.std.proofs.lemmas.Bool.{ltb-true}
 use Rattle.ps_words.specs.Words.{blocks}
-use Rattle.ps_words.specs.Edits.{patched, AreEdits}
+use Rattle.ps_words.specs.Edits.{patched}
 use Rattle.ps_words.specs.declared.order.Order.{Order}
 use Rattle.ps_words.specs.declared.edit.Edit.{Edit}
 use Rattle.ps_codefile.specs.Dictionary.{block_len, max_code_len}
@@ -13,7 +13,7 @@ use Rattle.ps_resolve.specs.Sources.{Segment, order_of, host_records}
 use Rattle.ps_resolve.specs.Added.{segments, slot_names}
 use Rattle.ps_resolve.specs.Privates.{words_of, next_of, total_words}
 use Rattle.ps_resolve.specs.References.{Known}
-use Rattle.ps_resolve.specs.Linking.{Edited, edited, edited_from, known_of, linked_byte, segment_edits}
+use Rattle.ps_resolve.specs.Linking.{edited_from, known_of, segment_edits}
 use Rattle.ps_resolve.specs.Plans.{Planned, Origin, origin_of, LinkSegments, IsPlan}
 use Rattle.ps_patch.specs.Patched.{patched_or_zero}
 use Rattle.ps_linkfile.specs.declared.summary.Summary.{Summary}

@@ -1,5 +1,5 @@
 -- The segments of a link stand by slot, and no code is longer than 32767 bytes.
-use Rattle.std.proofs.Common.{◌≡◌, ℕ, zero, suc, ◌+◌, ◌-◌, ◌*◌, ◌≤◌, ◌<◌, List, [], ◌∷◌, length, map, take, drop, Option, Some, None, Result, Ok, Err, Bool, true, false, cond, refl, sym, ◌∙◌, ap, subst, arith, length-take}
+use Rattle.std.proofs.Common.{◌≡◌, ℕ, zero, suc, ◌+◌, ◌-◌, ◌*◌, ◌≤◌, List, [], ◌∷◌, length, map, drop, Option, Some, None, Ok, Err, Bool, true, false, cond, refl, sym, ◌∙◌, ap, subst, arith, length-take}
 use Rattle.std.specs.Prelude.{All, nat_lt, ◌||◌, ◌==◌, option_and_then, slice_range}
 use Rattle.std.specs.List.{range_with_len, filter_map, cons_option, find, slice_get}
 use Rattle.std.specs.Option.{option_map}
@@ -10,11 +10,11 @@ use Rattle.std.proofs.lemmas.List.Elements.{All-nil, All-cons, All-tail}
 use Rattle.ps_words.specs.declared.order.Order.{Order}
 use Rattle.ps_words.specs.declared.fault.Reason.{Reason}
 use Rattle.ps_words.specs.declared.fault.Reason.TheVariants as reason
-use Rattle.ps_codefile.specs.Dictionary.{slots, block_len, max_code_len, code_of, has_bad_length, is_linked_kind, entry_at, role_of}
+use Rattle.ps_codefile.specs.Dictionary.{slots, block_len, max_code_len, code_of, has_bad_length, entry_at, role_of}
 use Rattle.ps_codefile.specs.declared.entry.Entry.{Entry}
 use Rattle.ps_codefile.specs.declared.entry.Role.{Role}
 use Rattle.ps_resolve.specs.Sources.{Segment, own_segment, own_segments, segment_from, source_of, unit_source, units_of, file_at, is_empty}
-use Rattle.ps_resolve.specs.Added.{Rounds, segments, segment_at, added, added_segment, as_added, placed_fault, rounds, rounds_from, sought_from, unit_references, references_in, empty_slots}
+use Rattle.ps_resolve.specs.Added.{segments, segment_at, added, added_segment, as_added, placed_fault, rounds, rounds_from, sought_from, unit_references, references_in, empty_slots}
 use Rattle.ps_resolve.specs.Faults.{is_role}
 use Rattle.ps_resolve.specs.declared.added.UnitReference.{UnitReference}
 use Rattle.ps_words.specs.declared.fault.Fault.{Fault}

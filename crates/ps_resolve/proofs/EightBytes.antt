@@ -1,8 +1,8 @@
 -- The names of all slots of a linked file have eight bytes each: those of the host's dictionary, and those of UNITREF records.
-use Rattle.std.proofs.Common.{◌≡◌, ℕ, zero, suc, ◌+◌, ◌*◌, ◌-◌, ◌<◌, ◌≤◌, ◌==◌, List, [], ◌∷◌, ◌++◌, length, length-append, map, drop, Bool, true, false, if◌then◌else◌, Option, Some, None, refl, sym, ◌∙◌, ap, subst, arith}
+use Rattle.std.proofs.Common.{◌≡◌, ℕ, zero, suc, ◌+◌, ◌*◌, ◌-◌, ◌<◌, ◌≤◌, ◌==◌, List, [], ◌∷◌, ◌++◌, length, length-append, map, drop, Bool, true, false, if◌then◌else◌, Option, Some, None, refl, ◌∙◌, subst, arith}
 use Rattle.std.specs.Prelude.{All}
 use Rattle.std.specs.List.{range_with_len, filter_map, cons_option, flat_map, find, slice_get}
-use Rattle.std.specs.Option.{option_map, option_map_or, option_or, option_and_then}
+use Rattle.std.specs.Option.{option_map, option_map_or, option_and_then}
 use Rattle.std.specs.Result.{result_ok}
 use Rattle.std.proofs.lemmas.Option.{option_and_then_some, same_Some}
 use Rattle.std.proofs.lemmas.List.{length-take, length-drop}
@@ -16,7 +16,7 @@ use Rattle.ps_codefile.specs.declared.entry.Role.TheVariants.{Wanted}
 use Rattle.ps_linkinfo.specs.Records.{reading}
 use Rattle.ps_linkinfo.specs.declared.record.LinkRecord.{LinkRecord as Record}
 use Rattle.ps_resolve.specs.Sources.{Segment, own_segment, own_segments, segment_from, source_of, unit_source, units_of, records_of, file_at, is_linked, is_empty}
-use Rattle.ps_resolve.specs.Added.{Rounds, is_had, is_unit_reference, unit_references, references_in, sought_from, placed_fault, added_segment, as_added, rounds, rounds_from, empty_slots, added, segment_at, segments, slot_name, slot_names}
+use Rattle.ps_resolve.specs.Added.{is_had, is_unit_reference, unit_references, references_in, sought_from, placed_fault, added_segment, as_added, rounds, rounds_from, empty_slots, added, segment_at, segments, slot_name, slot_names}
 use Rattle.ps_resolve.specs.Faults.{is_role}
 use Rattle.ps_resolve.specs.declared.added.UnitReference.{UnitReference}
 use Rattle.ps_resolve.proofs.ReadingKnown.{find_has}

@@ -1,5 +1,5 @@
 -- What is known of the segments of a link once the files were read without a fault: they rise by slot, and one of them is the host's own.
-use Rattle.std.proofs.Common.{◌≡◌, ℕ, zero, suc, ◌+◌, ◌≤◌, List, [], ◌∷◌, map, Bool, true, false, ◌||◌, ◌&&◌, not, Option, Some, None, is_some, Result, Ok, Err, refl, sym, ◌∙◌, ap, subst, ◌<◌, ◌==◌, arith, add-zero}
+use Rattle.std.proofs.Common.{◌≡◌, ℕ, zero, suc, ◌+◌, ◌≤◌, List, [], ◌∷◌, map, Bool, true, false, ◌||◌, ◌&&◌, not, Option, Some, None, is_some, Result, Ok, Err, refl, sym, ◌∙◌, ap, subst, ◌==◌, arith, add-zero}
 use Rattle.std.specs.List.{range_with_len, filter_map, find, list_any, slice_get}
 use Rattle.std.specs.Prelude.{All}
 use Rattle.std.specs.Option.{option_or, option_map, option_and_then, option_map_or}
@@ -18,7 +18,7 @@ use Rattle.ps_codefile.specs.Dictionary.{entry_at, role_of, code_of, slots}
 use Rattle.ps_codefile.specs.Procedures.{tables_fault}
 use Rattle.ps_resolve.specs.Searches.{first_of, fault_if}
 use Rattle.ps_resolve.specs.Sources.{Segment, own_segment, segment_from, source_of, unit_source, units_of, own_segments, is_host, is_empty, is_linked, host_of, records_of, file_at}
-use Rattle.ps_resolve.specs.Added.{Rounds, segment_at, segments, added, rounds, rounds_from, added_segment, as_added, placed_fault, sought_from, unit_references, references_in, empty_slots}
+use Rattle.ps_resolve.specs.Added.{segment_at, segments, added, rounds, rounds_from, added_segment, as_added, placed_fault, sought_from, unit_references, references_in, empty_slots}
 use Rattle.ps_resolve.specs.declared.added.UnitReference.{UnitReference}
 use Rattle.ps_resolve.specs.Faults.{is_role, slot_reason, slots_fault, no_host_fault, sources_fault, source_fault, information_fault}
 use Rattle.ps_resolve.specs.Linkable.{AscendFrom, HasOneHost}

@@ -1,4 +1,4 @@
-use Rattle.std.proofs.Common.{◌≡◌, ◌+◌, ◌*◌, ◌≤◌, ◌<◌, ℕ, length, map, get_or, sym, ◌∙◌, subst, arith}
+use Rattle.std.proofs.Common.{◌≡◌, ◌+◌, ◌*◌, ◌<◌, ℕ, length, map, get_or, sym, ◌∙◌, subst, arith}
 use Rattle.std.proofs.lemmas.List.{length-map}
 use Rattle.ps_linkfile.proofs.Pairs.{IsPut, PairsSoFar, pairs_none, pairs_more, pairs_done, next_slot}
 use Rattle.ps_linkfile.proofs.Views.{extent_of_source, no_source, view_at, size_at}

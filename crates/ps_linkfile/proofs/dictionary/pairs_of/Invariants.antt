@@ -1,4 +1,4 @@
-use Rattle.std.proofs.Common.{ℕ, length, map}
+use Rattle.std.proofs.Common.{ℕ, map}
 use Rattle.ps_resolve.specs.Plans.{origin_of_source}
 use Rattle.ps_linkfile.specs.Writing.{extent_of_origin}
 use Rattle.ps_linkfile.proofs.Pairs.{PairsSoFar}

@@ -1,4 +1,4 @@
-use Rattle.std.proofs.Common.{◌≡◌, ◌≤◌, List, ℕ, length, map, sym, subst}
+use Rattle.std.proofs.Common.{◌≤◌, List, ℕ, length, map, sym, subst}
 use Rattle.ps_linkfile.specs.LinkedFile.{LinkedFile}
 use Rattle.ps_linkfile.proofs.Plans.{plan_ready, plan_file, plan_summary}
 use Rattle.ps_linkfile.proofs.Whole.{there, long_host}

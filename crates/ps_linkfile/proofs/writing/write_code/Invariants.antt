@@ -1,4 +1,4 @@
-use Rattle.std.proofs.Common.{◌≡◌, ◌*◌, ◌<◌, ◌≤◌, length, map}
+use Rattle.std.proofs.Common.{◌≡◌, ◌*◌, length, map}
 use Rattle.std.specs.Prelude.{min}
 use Rattle.std.specs.List.{range_with_len}
 use Rattle.std.specs.Io.KnownBytes.{Appends}

@@ -1,12 +1,9 @@
-use Rattle.std.proofs.Common.{◌≡◌, ◌∙◌, ◌+◌, ◌++◌, ◌<◌, ◌∷◌, [], ℕ, List, length, length-append, map, take, drop, get_or, append-nil, Option, Some, None, refl, sym, ap, arith}
-use Rattle.std.specs.List.{slice_get}
-use Rattle.std.specs.Prelude.{All}
+use Rattle.std.proofs.Common.{◌≡◌, ◌∙◌, ◌+◌, ◌++◌, ◌<◌, ◌∷◌, [], ℕ, List, length, length-append, map, take, drop, get_or, append-nil, Some, None, refl, sym, ap, arith}
 use Rattle.std.proofs.lemmas.List.{get_or_default, map-append, drop_all}
 use Rattle.std.proofs.lemmas.List.Elements.{All-nil}
-use Rattle.ps_words.specs.declared.order.Order.{Order}
 use Rattle.ps_words.specs.declared.fault.Fault.{Fault}
 use Rattle.ps_resolve.specs.Sources.{Segment, units_of}
-use Rattle.ps_resolve.specs.Added.{Rounds, after, sought_from, unit_references, references_in, rounds_from}
+use Rattle.ps_resolve.specs.Added.{Rounds, sought_from, unit_references, references_in, rounds_from}
 use Rattle.ps_resolve.specs.Names.{units_in}
 use Rattle.ps_resolve.specs.Views.{segment_of, IsSound}
 use Rattle.ps_resolve.specs.declared.added.UnitReference.{UnitReference}

@@ -1,4 +1,4 @@
-use Rattle.std.proofs.Common.{◌≡◌, ◌≤◌, ℕ, List, length, take, drop, map}
+use Rattle.std.proofs.Common.{◌≡◌, ℕ, List, length, take, drop, map}
 use Rattle.std.specs.Prelude.{All}
 use Rattle.ps_resolve.specs.Sources.{units_of}
 use Rattle.ps_resolve.specs.Added.{rounds_from, rounds_in}

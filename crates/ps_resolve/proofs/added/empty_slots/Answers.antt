@@ -1,4 +1,4 @@
-use Rattle.std.proofs.Common.{◌≡◌, ◌∙◌, ◌+◌, ◌<◌, ◌++◌, ◌∷◌, [], List, ℕ, length, length-append, refl, sym, ap, append_assoc, arith, Bool, true, false, if◌then◌else◌}
+use Rattle.std.proofs.Common.{◌∙◌, ◌+◌, ◌<◌, ℕ, refl, arith, Bool}
 use Rattle.std.proofs.lemmas.List.Elements.{All-nil}
 use Rattle.ps_resolve.specs.Sources.{is_empty}
 use Rattle.ps_resolve.specs.Added.{empty_slots}

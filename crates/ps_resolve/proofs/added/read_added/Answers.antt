@@ -1,13 +1,12 @@
-use Rattle.std.proofs.Common.{◌≡◌, ◌∙◌, ◌+◌, ℕ, List, Bool, false, Option, Some, None, refl, sym, ap, subst, is_none}
+use Rattle.std.proofs.Common.{◌∙◌, ◌+◌, Some, sym, ap, subst}
 use Rattle.std.specs.List.{find}
 use Rattle.std.specs.Option.{option_map}
 use Rattle.ps_words.specs.declared.order.Order.{Order}
 use Rattle.ps_words.specs.declared.fault.Fault.{Fault}
-use Rattle.ps_words.specs.declared.fault.Reason.{Reason}
-use Rattle.ps_codefile.specs.Dictionary.{slots, entry_at, is_linked_kind}
+use Rattle.ps_codefile.specs.Dictionary.{slots, is_linked_kind}
 use Rattle.ps_codefile.specs.declared.entry.Role.TheVariants.{Wanted}
-use Rattle.ps_resolve.specs.Sources.{Segment, is_named, chosen_library, segment_from, file_at}
-use Rattle.ps_resolve.specs.Added.{is_missing, as_added}
+use Rattle.ps_resolve.specs.Sources.{is_named, segment_from}
+use Rattle.ps_resolve.specs.Added.{as_added}
 use Rattle.ps_resolve.specs.Faults.{entries_reason, code_fault}
 use Rattle.ps_resolve.specs.Views.{segment_of, IsSound}
 use Rattle.ps_resolve.proofs.Adding.{placed_refused, placed_by, added_by}

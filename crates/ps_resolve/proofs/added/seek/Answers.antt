@@ -1,7 +1,7 @@
-use Rattle.std.proofs.Common.{◌≡◌, ◌∙◌, ◌<◌, length, sym, arith}
+use Rattle.std.proofs.Common.{◌≡◌, ◌∙◌, length, sym, arith}
 use Rattle.std.proofs.lemmas.Bool.Decides.{nat_tests}
 use Rattle.ps_resolve.specs.Names.{units_in}
-use Rattle.ps_resolve.proofs.Adding.{kept_had, kept_full, kept_new}
+use Rattle.ps_resolve.proofs.Adding.{kept_had, kept_full}
 use Rattle.ps_resolve.proofs.added.seek.Goals as goal
 
 pub returns-then-is_had : goal.returns-then-is_had

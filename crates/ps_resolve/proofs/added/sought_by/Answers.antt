@@ -1,6 +1,5 @@
-use Rattle.std.proofs.Common.{◌≡◌, ◌∙◌, ◌+◌, ◌++◌, ◌<◌, ◌≤◌, ℕ, List, ◌∷◌, length, map, take, drop, get_or, ap, arith}
-use Rattle.std.specs.List.{flat_map}
-use Rattle.std.proofs.lemmas.List.{length-take, get_or_default}
+use Rattle.std.proofs.Common.{◌≡◌, ◌∙◌, ◌+◌, ◌++◌, ◌<◌, ℕ, List, length, map, drop, get_or, ap, arith}
+use Rattle.std.proofs.lemmas.List.{get_or_default}
 use Rattle.ps_resolve.specs.Sources.{Segment}
 use Rattle.ps_resolve.specs.Added.{sought_from, unit_references, references_in}
 use Rattle.ps_resolve.specs.Names.{units_in}

@@ -1,11 +1,8 @@
-use Rattle.std.proofs.Common.{◌≡◌, ◌∙◌, ℕ, List, map, Option, Some, None, refl, sym, ap}
-use Rattle.std.specs.Option.{option_or}
-use Rattle.ps_words.specs.declared.fault.Fault.{Fault}
+use Rattle.std.proofs.Common.{◌≡◌, ◌∙◌, List, map, sym, ap}
 use Rattle.ps_resolve.specs.Sources.{Segment, own_segments}
-use Rattle.ps_resolve.specs.Added.{Rounds, added, added_fault, rounds, rounds_of}
+use Rattle.ps_resolve.specs.Added.{added, added_fault, rounds, rounds_of}
 use Rattle.ps_resolve.specs.Faults.{sources_fault}
 use Rattle.ps_resolve.specs.Views.{segment_of, in_slots}
-use Rattle.ps_resolve.specs.declared.segment.Segment.{Segment as SegmentView}
 use Rattle.ps_resolve.proofs.InSlots.{in_slots_are}
 use Rattle.ps_resolve.proofs.ReadingLibraries.{files}
 use Rattle.ps_resolve.proofs.Stages.{skip, keep}
