@@ -71,15 +71,17 @@ const NAMED_BY_ZEROS: Slot = Slot {
 
 const ONE_ADDED: &str = "segments 3 private words 4 blocks 4";
 
+/// The link in which the unit that another one uses is added.
+const USED_UNIT: [Row<'static>; 1] = [Row {
+    what: "a unit that only a unit names",
+    host: &[],
+    library: &[],
+    linked: &[],
+    summary: ONE_ADDED,
+}];
+
 /// Links in which the second unit is added.
-const LINKS: [Row<'static>; 6] = [
-    Row {
-        what: "a unit that only a unit names",
-        host: &[],
-        library: &[],
-        linked: &[],
-        summary: ONE_ADDED,
-    },
+const LINKS: [Row<'static>; 5] = [
     Row {
         what: "units that name each other and themselves",
         host: &[],
@@ -237,6 +239,7 @@ const NAMELESS_UNIT: [Row<'static>; 1] = [Row {
 
 #[test]
 fn added_units(rt: HostRuntime) -> Result<(), Fail> {
+    link_rows(&rt, Base::UsedUnit, &USED_UNIT)?;
     link_rows(&rt, Base::UsedUnit, &LINKS)?;
     link_rows(&rt, Base::UsedUnit, &NAME_OF_A_LINKED_SEGMENT)?;
     link_rows(&rt, Base::InPlace, &NAMELESS_UNIT)
@@ -244,9 +247,7 @@ fn added_units(rt: HostRuntime) -> Result<(), Fail> {
 
 #[test]
 fn each_growth_refused(rt: HostRuntime) -> Result<(), Fail> {
-    let rows = LINKS.get(..1).unwrap_or(&[]);
-    assert_eq!(rt; rows.len(), 1);
-    link_rows_in(&rt, Base::UsedUnit, Memory::EachGrowthRefused, rows)
+    link_rows_in(&rt, Base::UsedUnit, Memory::EachGrowthRefused, &USED_UNIT)
 }
 
 #[test]
