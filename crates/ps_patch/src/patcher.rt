@@ -32,17 +32,6 @@ impl<'a> Model for Patcher<'a> {
         p.next };
 }
 
-fn place_and_width(edit: Edit) -> (usize, usize)
-    ensures place { result.0 ≡ place_of edit }
-    ensures width { result.1 ≡ width edit }
-{
-    match edit {
-        Edit::Big { place, .. } => (place, 2),
-        Edit::Byte { place, .. } => (place, 1),
-        Edit::Word { place, .. } => (place, 2),
-    }
-}
-
 /// The bytes that an edit stores, as many as it is wide.
 fn stored_bytes(order: Order, edit: Edit) -> [u8; 2]
     requires { IsStorable edit }
@@ -86,10 +75,10 @@ impl<'a> Patcher<'a> {
         self.position += 1;
         if self.next < self.edits.len() {
             let edit = self.edits[self.next];
-            let (place, width) = place_and_width(edit);
+            let place = edit.place();
             if place <= position {
                 let at = position - place;
-                if at + 1 == width {
+                if at + 1 == edit.width() {
                     self.next += 1;
                 }
                 return stored_bytes(self.order, edit)[at];

@@ -1,3 +1,6 @@
+ghost use Rattle.std.specs.Prelude.{◌≡◌};
+ghost use Rattle.ps_words.specs.Edits.{place_of, width as width_spec};
+
 /// What is to be stored at a place of a segment's code.
 ///
 /// `place` is the byte offset, from 0, of the first byte to be stored from the segment's first
@@ -28,4 +31,25 @@ pub enum Edit {
         /// The word that will stand there.
         value: u16,
     },
+}
+
+impl Edit {
+    /// The byte offset, from 0, of the first byte that it stores.
+    pub fn place(&self) -> usize
+        ensures { result ≡ place_of self.now }
+    {
+        match *self {
+            Edit::Big { place, .. } | Edit::Byte { place, .. } | Edit::Word { place, .. } => place,
+        }
+    }
+
+    /// How many bytes it stores: 1 or 2.
+    pub fn width(&self) -> usize
+        ensures { result ≡ width_spec self.now }
+    {
+        match self {
+            Edit::Byte { .. } => 1,
+            Edit::Big { .. } | Edit::Word { .. } => 2,
+        }
+    }
 }

@@ -1,4 +1,5 @@
 ghost use Rattle.std.specs.Prelude.{◌≡◌, Some};
+ghost use Rattle.ps_words.specs.FaultPlaces.{in_file as in_file_spec, in_record as in_record_spec, in_reference as in_reference_spec, in_slot as in_slot_spec};
 ghost use Rattle.ps_words.specs.FaultText.{fault_text, kind_of, name_of, number_of, part_text};
 
 use std::fmt;
@@ -214,6 +215,57 @@ pub struct Fault {
     pub rec: Option<usize>,
     /// The index, from 0, of the reference in its record, where the reason is of a reference.
     pub reference: Option<usize>,
+}
+
+impl Fault {
+    /// A fault of a file as a whole: 0 is the host file, k the k-th library, from 1.
+    pub fn in_file(file: usize, reason: Reason) -> Fault
+        ensures { result ≡ in_file_spec file reason }
+    {
+        Fault {
+            reason,
+            file,
+            slot: None,
+            rec: None,
+            reference: None,
+        }
+    }
+
+    /// A fault of a segment of the file, by its slot in the host's segment dictionary, 0 to 15.
+    pub fn in_slot(file: usize, slot: u8, reason: Reason) -> Fault
+        ensures { result ≡ in_slot_spec file slot reason }
+    {
+        Fault {
+            slot: Some(slot),
+            ..Fault::in_file(file, reason)
+        }
+    }
+
+    /// A fault of the record of this index, from 0, in the link information of the slot's segment.
+    pub fn in_record(file: usize, slot: u8, rec: usize, reason: Reason) -> Fault
+        ensures { result ≡ in_record_spec file slot rec reason }
+    {
+        Fault {
+            rec: Some(rec),
+            ..Fault::in_slot(file, slot, reason)
+        }
+    }
+
+    /// A fault of the reference of this index, from 0, of a record.
+    pub fn in_reference(
+        file: usize,
+        slot: u8,
+        rec: usize,
+        reference: usize,
+        reason: Reason,
+    ) -> Fault
+        ensures { result ≡ in_reference_spec file slot rec reference reason }
+    {
+        Fault {
+            reference: Some(reference),
+            ..Fault::in_record(file, slot, rec, reason)
+        }
+    }
 }
 
 impl fmt::Display for Fault {

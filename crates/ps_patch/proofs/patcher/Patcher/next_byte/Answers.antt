@@ -7,8 +7,8 @@ use Rattle.ps_patch.proofs.patcher.Patcher.next_byte.Goals.{then-at-width, else-
 pub invariant_of-self : goal.invariant_of-self
 invariant_of-self c =
     let inside : c.self.inside.position < length c.self.inside.code.now = rw (← c.self.view_is) at c.requires in
-    let place = c.place_and_width-place.ensures.place in
-    let width = c.place_and_width-place.ensures.width in
+    let place = c.place-place.ensures in
+    let width = c.width.ensures in
     let ends = next_ends_behind _ _ (Big 0 0) c.self.invariant c.if-self.true in
     elim c.if-at-width.branch [
       | then-at-width w ↦ rw w.self-inside-is (one_over _ _ (Big 0 0) c.self.invariant inside c.if-self.true (omega (arith, place, width)))
@@ -18,6 +18,6 @@ invariant_of-self c =
 pub returns-clause-byte : goal.returns-clause-byte
 returns-clause-byte c =
     rw (← c.self.view_is) (elim c.if-self.branch [
-      | then-self+else-place-position w ↦ sym (kept_before _ _ (Big 0 0) c.self.invariant w.if-self.true (omega (arith, w.place_and_width-place.ensures.place)))
+      | then-self+else-place-position w ↦ sym (kept_before _ _ (Big 0 0) c.self.invariant w.if-self.true (omega (arith, w.place-place.ensures)))
       | else-self w ↦ sym (kept_behind_all _ _ c.self.invariant w.if-self.false)
     ])
