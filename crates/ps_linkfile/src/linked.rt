@@ -1,4 +1,5 @@
 ghost use Rattle.std.specs.Prelude.{◌≡◌, ◌+◌, map, length, IfOk, IfErr, OnOk, OnErr};
+ghost use Rattle.ps_resolve.specs.Sources.{contents};
 ghost use Rattle.std.specs.Io.KnownBytes.{Appends};
 ghost use Rattle.ps_linkfile.specs.LinkedFile.{all_blocks, summary_of};
 ghost use Rattle.ps_linkfile.specs.Writing.{extents_of, file_of, summary_in, StandsFor};
@@ -104,10 +105,10 @@ pub fn prepare<'a, A: Allocator + Copy>(
     host: &'a [u8],
     libs: &'a [&'a [u8]],
 ) -> Result<Linked<'a, A>, LinkError>
-    ensures linked { IfOk result (StandsFor host.now (map (λ lib. lib.now) libs.now)) }
-    ensures accepted { IfOk result (λ _. NoneStands host.now (map (λ lib. lib.now) libs.now)) }
-    ensures error { IfErr result (IsUnprepared host.now (map (λ lib. lib.now) libs.now)) }
-    ensures first { IfErr result (NamesFirst host.now (map (λ lib. lib.now) libs.now)) }
+    ensures linked { IfOk result (StandsFor host.now (contents libs.now)) }
+    ensures accepted { IfOk result (λ _. NoneStands host.now (contents libs.now)) }
+    ensures error { IfErr result (IsUnprepared host.now (contents libs.now)) }
+    ensures first { IfErr result (NamesFirst host.now (contents libs.now)) }
 {
     first_of_all();
     let plan = resolve(alloc, host, libs)?;
@@ -134,13 +135,13 @@ pub fn link<'a, A: Allocator + Copy, W: Write>(
     libs: &'a [&'a [u8]],
     out: &mut W,
 ) -> Result<Summary, LinkError>
-    ensures written { OnOk result (AppendsLinkedFile host.now (map (λ lib. lib.now) libs.now) (W.contents out.old) (W.contents out.new)) }
-    ensures summary { IfOk result (λ s. s ≡ summary_of host.now (map (λ lib. lib.now) libs.now)) }
-    ensures accepted { IfOk result (λ _. NoneStands host.now (map (λ lib. lib.now) libs.now)) }
-    ensures error { IfErr result (IsUnlinked host.now (map (λ lib. lib.now) libs.now)) }
-    ensures first { IfErr result (NamesFirst host.now (map (λ lib. lib.now) libs.now)) }
+    ensures written { OnOk result (AppendsLinkedFile host.now (contents libs.now) (W.contents out.old) (W.contents out.new)) }
+    ensures summary { IfOk result (λ s. s ≡ summary_of host.now (contents libs.now)) }
+    ensures accepted { IfOk result (λ _. NoneStands host.now (contents libs.now)) }
+    ensures error { IfErr result (IsUnlinked host.now (contents libs.now)) }
+    ensures first { IfErr result (NamesFirst host.now (contents libs.now)) }
     ensures untouched { IfErr result (λ e. LeavesUntouched e out.old out.new) }
-    ensures front { IfErr result (λ e. LeavesFront host.now (map (λ lib. lib.now) libs.now) e (W.contents out.old) (W.contents out.new)) }
+    ensures front { IfErr result (λ e. LeavesFront host.now (contents libs.now) e (W.contents out.old) (W.contents out.new)) }
 {
     let linked = prepare(alloc, host, libs)?;
     Ok(linked.write(out)?)

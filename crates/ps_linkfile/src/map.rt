@@ -1,5 +1,6 @@
 //! The map of a link, as text.
 ghost use Rattle.std.specs.Prelude.{◌≡◌, ◌+◌, ◌++◌, None, IfOk, IfErr, OnOk, length, map, string_bytes};
+ghost use Rattle.ps_resolve.specs.Sources.{contents};
 ghost use Rattle.std.specs.List.{flat_map};
 ghost use Rattle.ps_resolve.specs.AllFaults.{first_fault};
 ghost use Rattle.ps_linkfile.specs.LinkedFile.{all_blocks};
@@ -157,11 +158,11 @@ pub fn map_text<'a, A: Allocator + Copy>(
     host: &'a [u8],
     libs: &'a [&'a [u8]],
 ) -> Result<Vec<u8, A>, LinkError>
-    ensures text { IfOk result (λ text. text.items ≡ map_of host.now (map (λ lib. lib.now) libs.now)) }
-    ensures sound { IfOk result (λ _. first_fault host.now (map (λ lib. lib.now) libs.now) ≡ None) }
-    ensures accepted { IfOk result (λ _. NoneStands host.now (map (λ lib. lib.now) libs.now)) }
-    ensures error { IfErr result (IsUnprepared host.now (map (λ lib. lib.now) libs.now)) }
-    ensures first { IfErr result (NamesFirst host.now (map (λ lib. lib.now) libs.now)) }
+    ensures text { IfOk result (λ text. text.items ≡ map_of host.now (contents libs.now)) }
+    ensures sound { IfOk result (λ _. first_fault host.now (contents libs.now) ≡ None) }
+    ensures accepted { IfOk result (λ _. NoneStands host.now (contents libs.now)) }
+    ensures error { IfErr result (IsUnprepared host.now (contents libs.now)) }
+    ensures first { IfErr result (NamesFirst host.now (contents libs.now)) }
 {
     first_of_all();
     let plan = resolve(alloc, host, libs)?;

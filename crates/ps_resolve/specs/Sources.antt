@@ -1,6 +1,7 @@
 -- The segments that the host's own slots have in a linked file, and where each comes from: the host file, and for a wanted unit the first library that has a filled entry of its name.
 -- Source: this project's profile.
-use Rattle.std.specs.Prelude.{ℕ, ◌+◌, ◌&&◌, if◌then◌else◌, List, [], ◌∷◌, slice_get, Bool, true, false, Option, Some, None, unwrap_or, option_and_then}
+use Rattle.std.specs.Prelude.{ℕ, ◌+◌, ◌&&◌, if◌then◌else◌, List, [], ◌∷◌, slice_get, map, Bool, true, false, Option, Some, None, unwrap_or, option_and_then}
+use Rattle.std.specs.Borrow.{Bor}
 use Rattle.std.specs.List.{list_any, filter_map, find, enumerate_from}
 use Rattle.std.specs.Option.{option_map, option_map_or}
 use Rattle.std.specs.Result.{result_ok}
@@ -13,6 +14,10 @@ use Rattle.ps_linkinfo.specs.Records.{reading}
 use Rattle.ps_linkinfo.specs.declared.record.LinkRecord.{LinkRecord as Record}
 use Rattle.ps_words.specs.declared.order.Order.{Order}
 use Rattle.ps_words.specs.declared.order.Order.TheVariants.{Little}
+
+-- what files hold, that are lent
+abbrev pub contents : List (Bor (List ℕ)) → List (List ℕ)
+contents files = map (λ file. file.now) files
 
 -- the order that all files of a link are read in: the host's
 abbrev pub known_order : FileOrder → Order

@@ -5,7 +5,7 @@ ghost use Rattle.std.specs.Result.{result_err};
 ghost use Rattle.std.specs.Str.{bytes_eq};
 ghost use Rattle.arrayvec.specs.ArrayVec.{array_vec_len};
 ghost use Rattle.ps_codefile.specs.Dictionary.{slots, is_nameless as is_nameless_spec};
-ghost use Rattle.ps_resolve.specs.Sources.{is_named, is_empty as is_empty_role, chosen_library as chosen_library_spec};
+ghost use Rattle.ps_resolve.specs.Sources.{is_named, is_empty as is_empty_role, chosen_library as chosen_library_spec, contents};
 ghost use Rattle.ps_resolve.specs.Added.{unit_references, references_in, is_had as is_had_spec, is_missing, sought_from, empty_slots as empty_slots_spec, unplaced_fault, placed_fault, added_segment, rounds_in, rounds_of};
 ghost use Rattle.ps_resolve.specs.Faults.{is_role, libraries_fault};
 ghost use Rattle.ps_resolve.specs.Names.{units_in};
@@ -13,7 +13,7 @@ ghost use Rattle.ps_resolve.specs.Views.{segment_of, IsSound};
 
 use crate::names::slot_of;
 use crate::segment::{Segment, linkage_of};
-use crate::slots::{SLOTS, in_record, in_slot, is_empty};
+use crate::slots::{SLOTS, is_empty};
 use crate::sources::read_segment;
 use crate::units::{UnitSource, chosen_library, entries_reason};
 use arrayvec::ArrayVec;
@@ -172,9 +172,9 @@ fn sought_by(order: Order, own: &[Segment]) -> ArrayVec<UnitReference, 10>
 
 /// The first library with a filled entry of this name, and the first such entry there.
 fn unit_named<'a>(order: Order, name: [u8; 8], libs: &'a [&'a [u8]]) -> Option<UnitSource<'a>>
-    requires { libraries_fault order (map (λ lib. lib.now) libs.now) ≡ None }
-    ensures missing { is_none result ≡ is_missing order (map (λ lib. lib.now) libs.now) name }
-    ensures library { IfSome result (λ u. chosen_library_spec order name (map (λ lib. lib.now) libs.now) ≡ Some (u.library, u.dict.file)) }
+    requires { libraries_fault order (contents libs.now) ≡ None }
+    ensures missing { is_none result ≡ is_missing order (contents libs.now) name }
+    ensures library { IfSome result (λ u. chosen_library_spec order name (contents libs.now) ≡ Some (u.library, u.dict.file)) }
     ensures entry { IfSome result (λ u. find (is_named order name u.dict.file) slots ≡ Some u.index) }
     ensures order { IfSome result (λ u. u.dict.order ≡ order) }
     ensures in_range { IfSome result (λ u. u.index < 16) }
@@ -188,14 +188,14 @@ fn unit_named<'a>(order: Order, name: [u8; 8], libs: &'a [&'a [u8]]) -> Option<U
 
 /// The fault of a name for which no slot is left.
 fn no_slot(order: Order, libs: &[&[u8]], sought: &UnitReference) -> Fault
-    requires { libraries_fault order (map (λ lib. lib.now) libs.now) ≡ None }
-    ensures { result ≡ unplaced_fault order (map (λ lib. lib.now) libs.now) sought.now }
+    requires { libraries_fault order (contents libs.now) ≡ None }
+    ensures { result ≡ unplaced_fault order (contents libs.now) sought.now }
 {
     let reason = match unit_named(order, sought.name, libs) {
         None => Reason::MissingUnit,
         Some(_) => Reason::NoSlot,
     };
-    in_record(sought.file, sought.slot, sought.rec, reason)
+    Fault::in_record(sought.file, sought.slot, sought.rec, reason)
 }
 
 /// The segment that a name brings into a slot, or the first fault of its unit.
@@ -206,15 +206,15 @@ fn read_added<'a>(
     slot: u8,
 ) -> Result<Segment<'a>, Fault>
     requires slots { slot < 16 }
-    requires libraries { libraries_fault order (map (λ lib. lib.now) libs.now) ≡ None }
-    ensures fault { (host : List ℕ) → result_err result ≡ placed_fault order host (map (λ lib. lib.now) libs.now) sought.now slot }
-    ensures segment { (host : List ℕ) → IfOk result (λ s. added_segment order host (map (λ lib. lib.now) libs.now) sought.now slot ≡ Some (segment_of order s)) }
+    requires libraries { libraries_fault order (contents libs.now) ≡ None }
+    ensures fault { (host : List ℕ) → result_err result ≡ placed_fault order host (contents libs.now) sought.now slot }
+    ensures segment { (host : List ℕ) → IfOk result (λ s. added_segment order host (contents libs.now) sought.now slot ≡ Some (segment_of order s)) }
     ensures sound { IfOk result (λ s. IsSound order (segment_of order s)) }
 {
     match unit_named(order, sought.name, libs) {
-        None => Err(in_record(sought.file, sought.slot, sought.rec, Reason::MissingUnit)),
+        None => Err(Fault::in_record(sought.file, sought.slot, sought.rec, Reason::MissingUnit)),
         Some(unit) => match entries_reason(&unit.dict, sought.name, unit.index) {
-            Some(reason) => Err(in_slot(unit.library + 1, slot, reason)),
+            Some(reason) => Err(Fault::in_slot(unit.library + 1, slot, reason)),
             None => {
                 match read_segment(
                     slot,
@@ -249,11 +249,11 @@ fn add_in<'a>(
     own: &[Segment<'a>],
     slots: &[u8],
 ) -> Result<ArrayVec<Segment<'a>, 9>, Fault>
-    requires libraries { libraries_fault order (map (λ lib. lib.now) libs.now) ≡ None }
+    requires libraries { libraries_fault order (contents libs.now) ≡ None }
     requires few { length slots.now ≤ 9 }
     requires in_range { All (λ slot. slot < 16) slots.now }
-    ensures fault { (host : List ℕ) → result_err result ≡ (rounds_in order host (map (λ lib. lib.now) libs.now) (map (segment_of order) own.now) slots.now).fault }
-    ensures added { (host : List ℕ) → IfOk result (λ added. map (segment_of order) added.items ≡ (rounds_in order host (map (λ lib. lib.now) libs.now) (map (segment_of order) own.now) slots.now).added) }
+    ensures fault { (host : List ℕ) → result_err result ≡ (rounds_in order host (contents libs.now) (map (segment_of order) own.now) slots.now).fault }
+    ensures added { (host : List ℕ) → IfOk result (λ added. map (segment_of order) added.items ≡ (rounds_in order host (contents libs.now) (map (segment_of order) own.now) slots.now).added) }
     ensures sound { IfOk result (λ added. All (IsSound order) (map (segment_of order) added.items)) }
 {
     let mut row = sought_by(order, own);
@@ -287,9 +287,9 @@ pub(crate) fn add_units<'a>(
     libs: &'a [&'a [u8]],
     own: &[Segment<'a>],
 ) -> Result<ArrayVec<Segment<'a>, 9>, Fault>
-    requires { libraries_fault host.now.order (map (λ lib. lib.now) libs.now) ≡ None }
-    ensures fault { result_err result ≡ (rounds_of host.now.order host.now.file (map (λ lib. lib.now) libs.now) (map (segment_of host.now.order) own.now)).fault }
-    ensures added { IfOk result (λ added. map (segment_of host.now.order) added.items ≡ (rounds_of host.now.order host.now.file (map (λ lib. lib.now) libs.now) (map (segment_of host.now.order) own.now)).added) }
+    requires { libraries_fault host.now.order (contents libs.now) ≡ None }
+    ensures fault { result_err result ≡ (rounds_of host.now.order host.now.file (contents libs.now) (map (segment_of host.now.order) own.now)).fault }
+    ensures added { IfOk result (λ added. map (segment_of host.now.order) added.items ≡ (rounds_of host.now.order host.now.file (contents libs.now) (map (segment_of host.now.order) own.now)).added) }
     ensures sound { IfOk result (λ added. All (IsSound host.now.order) (map (segment_of host.now.order) added.items)) }
 {
     let slots = empty_slots(host);

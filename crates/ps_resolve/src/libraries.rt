@@ -1,17 +1,17 @@
 ghost use Rattle.std.specs.Prelude.{◌≡◌, map};
+ghost use Rattle.ps_resolve.specs.Sources.{contents};
 ghost use Rattle.ps_resolve.specs.Faults.{libraries_fault as libraries_fault_spec};
 
-use crate::slots::in_file;
 use ps_codefile::Dict;
 use ps_words::{Fault, Order};
 
 /// The first fault of the libraries, each of which is read in the host's byte order.
 pub(crate) fn libraries_fault(order: Order, libs: &[&[u8]]) -> Option<Fault>
-    ensures { result ≡ libraries_fault_spec order (map (λ lib. lib.now) libs.now) }
+    ensures { result ≡ libraries_fault_spec order (contents libs.now) }
 {
     for (i, lib) in libs.iter().enumerate() {
         if let Err(reason) = Dict::read_beside(lib, order) {
-            return Some(in_file(i + 1, reason));
+            return Some(Fault::in_file(i + 1, reason));
         }
     }
     None

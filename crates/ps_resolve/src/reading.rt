@@ -3,7 +3,7 @@ ghost use Rattle.std.specs.List.{find};
 ghost use Rattle.std.specs.Option.{option_map, option_or};
 ghost use Rattle.std.specs.Result.{result_err};
 ghost use Rattle.ps_words.specs.declared.order.Order.{Order as ByteOrder};
-ghost use Rattle.ps_resolve.specs.Sources.{order_of, host_of};
+ghost use Rattle.ps_resolve.specs.Sources.{order_of, host_of, contents};
 ghost use Rattle.ps_resolve.specs.Added.{segments, slot_name as slot_name_spec, slot_names as slot_names_spec};
 ghost use Rattle.ps_resolve.specs.Faults.{slots_fault as slots_fault_spec, no_host_fault as no_host_fault_spec, libraries_fault as libraries_fault_spec};
 ghost use Rattle.ps_resolve.specs.AllFaults.{reading_fault, reading_rest};
@@ -13,7 +13,7 @@ ghost use Rattle.ps_resolve.specs.Views.{segment_of, IsSound, is_in_slot, in_slo
 use crate::added::add_units;
 use crate::libraries::libraries_fault;
 use crate::segment::Segment;
-use crate::slots::{HOST_FILE, SLOTS, in_file, is_empty, no_host_fault, slots_fault};
+use crate::slots::{HOST_FILE, SLOTS, is_empty, no_host_fault, slots_fault};
 use crate::sources::{add, read_slots};
 use arrayvec::ArrayVec;
 use ps_codefile::Dict;
@@ -92,9 +92,9 @@ fn slot_names(host: &Dict, segments: &[Segment]) -> [[u8; 8]; 16]
 
 /// The segments of a host whose slots and libraries have no fault of their own, or the first fault of their sources.
 fn read_all<'a>(host: &Dict<'a>, libs: &'a [&'a [u8]]) -> Result<ArrayVec<Segment<'a>, 16>, Fault>
-    requires { libraries_fault_spec host.now.order (map (λ lib. lib.now) libs.now) ≡ None }
-    ensures fault { result_err result ≡ reading_rest host.now.order host.now.file (map (λ lib. lib.now) libs.now) }
-    ensures segments { IfOk result (λ s. map (segment_of host.now.order) s.items ≡ segments host.now.order host.now.file (map (λ lib. lib.now) libs.now)) }
+    requires { libraries_fault_spec host.now.order (contents libs.now) ≡ None }
+    ensures fault { result_err result ≡ reading_rest host.now.order host.now.file (contents libs.now) }
+    ensures segments { IfOk result (λ s. map (segment_of host.now.order) s.items ≡ segments host.now.order host.now.file (contents libs.now)) }
     ensures sound { IfOk result (λ s. All (IsSound host.now.order) (map (segment_of host.now.order) s.items)) }
 {
     match read_slots(host, libs) {
@@ -114,7 +114,7 @@ fn read_all<'a>(host: &Dict<'a>, libs: &'a [&'a [u8]]) -> Result<ArrayVec<Segmen
 
 /// The first fault of the slots of the host, of its want of a host segment, or of the libraries.
 fn files_fault(host: &Dict, libs: &[&[u8]]) -> Option<Fault>
-    ensures { result ≡ option_or (slots_fault_spec host.now.order host.now.file) (option_or (no_host_fault_spec host.now.order host.now.file) (libraries_fault_spec host.now.order (map (λ lib. lib.now) libs.now))) }
+    ensures { result ≡ option_or (slots_fault_spec host.now.order host.now.file) (option_or (no_host_fault_spec host.now.order host.now.file) (libraries_fault_spec host.now.order (contents libs.now))) }
 {
     if let Some(fault) = slots_fault(host) {
         return Some(fault);
@@ -131,8 +131,8 @@ fn read_sources<'a>(
     libs: &'a [&'a [u8]],
 ) -> Result<ArrayVec<Segment<'a>, 16>, Fault>
     ensures fault { result_err result ≡ option_or (slots_fault_spec host.now.order host.now.file) (option_or (no_host_fault_spec host.now.order host.now.file)
-        (option_or (libraries_fault_spec host.now.order (map (λ lib. lib.now) libs.now)) (reading_rest host.now.order host.now.file (map (λ lib. lib.now) libs.now)))) }
-    ensures segments { IfOk result (λ s. map (segment_of host.now.order) s.items ≡ segments host.now.order host.now.file (map (λ lib. lib.now) libs.now)) }
+        (option_or (libraries_fault_spec host.now.order (contents libs.now)) (reading_rest host.now.order host.now.file (contents libs.now)))) }
+    ensures segments { IfOk result (λ s. map (segment_of host.now.order) s.items ≡ segments host.now.order host.now.file (contents libs.now)) }
     ensures sound { IfOk result (λ s. All (IsSound host.now.order) (map (segment_of host.now.order) s.items)) }
 {
     match files_fault(host, libs) {
@@ -156,17 +156,17 @@ pub(crate) struct Reading<'a> {
 pub(crate) fn read_segments<'a>(host: &'a [u8], libs: &'a [&'a [u8]]) -> Result<Reading<'a>, Fault>
     ensures whole { IfOk result (λ _. 512 ≤ length host.now) }
     ensures order { IfOk result (λ r. r.order ≡ order_of host.now) }
-    ensures segments { IfOk result (λ r. map (segment_of r.order) r.segments.items ≡ segments (order_of host.now) host.now (map (λ lib. lib.now) libs.now)) }
+    ensures segments { IfOk result (λ r. map (segment_of r.order) r.segments.items ≡ segments (order_of host.now) host.now (contents libs.now)) }
     ensures names { IfOk result (λ r. (order : ByteOrder) → r.names ≡ slot_names_spec host.now (map (segment_of order) r.segments.items)) }
     ensures sound { IfOk result (λ r. All (IsSound r.order) (map (segment_of r.order) r.segments.items)) }
     ensures ascending { IfOk result (λ r. AscendFrom 0 (map (λ s. s.slot) (map (segment_of r.order) r.segments.items))) }
     ensures host { IfOk result (λ r. IsSome (host_of (map (segment_of r.order) r.segments.items))) }
     ensures one_host { IfOk result (λ r. HasOneHost (map (segment_of r.order) r.segments.items)) }
-    ensures faultless { IfOk result (λ _. reading_fault host.now (map (λ lib. lib.now) libs.now) ≡ None) }
-    ensures fault { IfErr result (λ f. reading_fault host.now (map (λ lib. lib.now) libs.now) ≡ Some f) }
+    ensures faultless { IfOk result (λ _. reading_fault host.now (contents libs.now) ≡ None) }
+    ensures fault { IfErr result (λ f. reading_fault host.now (contents libs.now) ≡ Some f) }
 {
     match Dict::read(host) {
-        Err(reason) => Err(in_file(HOST_FILE, reason)),
+        Err(reason) => Err(Fault::in_file(HOST_FILE, reason)),
         Ok(dict) => match read_sources(&dict, libs) {
             Err(fault) => Err(fault),
             Ok(segments) => Ok(Reading {

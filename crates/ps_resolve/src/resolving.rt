@@ -1,4 +1,5 @@
 ghost use Rattle.std.specs.Prelude.{◌≡◌, map, IfOk, IfErr, None};
+ghost use Rattle.ps_resolve.specs.Sources.{contents};
 ghost use Rattle.ps_resolve.specs.Plans.{IsPlan, IsStopped};
 ghost use Rattle.ps_resolve.specs.AllFaults.{first_fault};
 
@@ -22,9 +23,9 @@ pub fn resolve<'a, A: Allocator + Copy>(
     host: &'a [u8],
     libs: &'a [&'a [u8]],
 ) -> Result<Plan<'a, A>, Stop>
-    ensures plan { IfOk result (IsPlan host.now (map (λ lib. lib.now) libs.now)) }
-    ensures sound { IfOk result (λ _. first_fault host.now (map (λ lib. lib.now) libs.now) ≡ None) }
-    ensures stop { IfErr result (IsStopped host.now (map (λ lib. lib.now) libs.now)) }
+    ensures plan { IfOk result (IsPlan host.now (contents libs.now)) }
+    ensures sound { IfOk result (λ _. first_fault host.now (contents libs.now) ≡ None) }
+    ensures stop { IfErr result (IsStopped host.now (contents libs.now)) }
 {
     match read_segments(host, libs) {
         Err(fault) => Err(Stop::Refused(fault)),

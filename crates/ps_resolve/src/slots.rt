@@ -1,7 +1,6 @@
 ghost use Rattle.std.specs.Prelude.{◌≡◌, ◌<◌, ◌≤◌, ◌&&◌, List, ℕ};
 ghost use Rattle.std.specs.List.{list_any, range_with_len};
 ghost use Rattle.std.specs.Str.{bytes_eq};
-ghost use Rattle.ps_words.specs.FaultPlaces.{in_file as in_file_spec, in_slot as in_slot_spec, in_record as in_record_spec};
 ghost use Rattle.ps_codefile.specs.Dictionary.{entry_at};
 ghost use Rattle.ps_resolve.specs.Sources.{is_host as is_host_role, is_unit as is_unit_role, is_empty as is_empty_role};
 ghost use Rattle.ps_resolve.specs.Faults.{is_role, slot_reason as slot_reason_spec, slots_fault as slots_fault_spec, no_host_fault as no_host_fault_spec};
@@ -14,45 +13,6 @@ pub(crate) const SLOTS: u8 = 16;
 
 /// The number of the host among the files of a link.
 pub(crate) const HOST_FILE: usize = 0;
-
-/// A fault of a file as a whole.
-pub(crate) fn in_file(file: usize, reason: Reason) -> Fault
-    ensures { result ≡ in_file_spec file reason }
-{
-    Fault {
-        reason,
-        file,
-        slot: None,
-        rec: None,
-        reference: None,
-    }
-}
-
-/// A fault at a slot of the host.
-pub(crate) fn in_slot(file: usize, slot: u8, reason: Reason) -> Fault
-    ensures { result ≡ in_slot_spec file slot reason }
-{
-    Fault {
-        reason,
-        file,
-        slot: Some(slot),
-        rec: None,
-        reference: None,
-    }
-}
-
-/// A fault at a record of a slot's link information.
-pub(crate) fn in_record(file: usize, slot: u8, rec: usize, reason: Reason) -> Fault
-    ensures { result ≡ in_record_spec file slot rec reason }
-{
-    Fault {
-        reason,
-        file,
-        slot: Some(slot),
-        rec: Some(rec),
-        reference: None,
-    }
-}
 
 /// The slot has no segment of its own.
 pub(crate) fn is_empty(host: &Dict, slot: u8) -> bool
@@ -125,7 +85,7 @@ pub(crate) fn slots_fault(host: &Dict) -> Option<Fault>
 {
     for slot in 0..SLOTS {
         if let Some(reason) = slot_reason(host, slot) {
-            return Some(in_slot(HOST_FILE, slot, reason));
+            return Some(Fault::in_slot(HOST_FILE, slot, reason));
         }
     }
     None
@@ -138,5 +98,5 @@ pub(crate) fn no_host_fault(host: &Dict) -> Option<Fault>
     if has_host_below(host, SLOTS) {
         return None;
     }
-    Some(in_file(HOST_FILE, Reason::NoHost))
+    Some(Fault::in_file(HOST_FILE, Reason::NoHost))
 }

@@ -6,13 +6,13 @@ ghost use Rattle.ps_words.specs.FaultPlaces.{in_record, in_slot as in_slot_spec}
 ghost use Rattle.ps_codefile.specs.Dictionary.{entry_at, role_of, is_linked_kind};
 ghost use Rattle.ps_codefile.specs.Procedures.{tables_fault as tables_fault_spec};
 ghost use Rattle.ps_linkinfo.specs.Records.{reading};
-ghost use Rattle.ps_resolve.specs.Sources.{is_linked as is_linked_spec, is_host as is_host_spec, own_segment, own_segments, file_at, segment_from};
+ghost use Rattle.ps_resolve.specs.Sources.{is_linked as is_linked_spec, is_host as is_host_spec, own_segment, own_segments, file_at, segment_from, contents};
 ghost use Rattle.ps_resolve.specs.Faults.{code_fault, libraries_fault as libraries_fault_spec, source_fault, sources_fault};
 ghost use Rattle.ps_resolve.specs.Views.{segment_of, IsSound};
 
 use crate::roles::{is_host, is_linked};
 use crate::segment::Segment;
-use crate::slots::{HOST_FILE, SLOTS, in_slot};
+use crate::slots::{HOST_FILE, SLOTS};
 use crate::units::unit_source;
 use arrayvec::ArrayVec;
 use ps_codefile::{Dict, Procs, Role};
@@ -44,13 +44,7 @@ fn information_fault(order: Order, information: &[u8], file: usize, slot: u8) ->
         match item {
             Ok(_) => rec += 1,
             Err(reason) => {
-                return Some(Fault {
-                    reason,
-                    file,
-                    slot: Some(slot),
-                    rec: Some(rec),
-                    reference: None,
-                });
+                return Some(Fault::in_record(file, slot, rec, reason));
             }
         }
     }
@@ -84,7 +78,7 @@ fn linked_fault(
         return None;
     }
     if let Some(reason) = tables_reason(order, code, is_host(role)) {
-        return Some(in_slot(file, slot, reason));
+        return Some(Fault::in_slot(file, slot, reason));
     }
     information_fault(order, information, file, slot)
 }
@@ -108,7 +102,7 @@ pub(crate) fn read_segment<'a>(
     ensures sound { IfOk result (λ s. IsSound from.now.order (segment_of from.now.order s)) }
 {
     match from.code(index) {
-        Err(reason) => Err(in_slot(file, slot, reason)),
+        Err(reason) => Err(Fault::in_slot(file, slot, reason)),
         Ok(code) => {
             let information = from.after(index);
             match linked_fault(from.order(), code, information, role, file, slot) {
@@ -137,9 +131,9 @@ fn read_role<'a>(
 ) -> Result<Option<Segment<'a>>, Fault>
     requires slots { slot < 16 }
     requires role { role_of (entry_at host.now.order host.now.file slot) ≡ Ok role }
-    requires libraries { libraries_fault_spec host.now.order (map (λ lib. lib.now) libs.now) ≡ None }
-    ensures fault { result_err result ≡ source_fault host.now.order host.now.file (map (λ lib. lib.now) libs.now) slot }
-    ensures segment { IfOk result (λ s. option_map (segment_of host.now.order) s ≡ own_segment host.now.order host.now.file (map (λ lib. lib.now) libs.now) slot) }
+    requires libraries { libraries_fault_spec host.now.order (contents libs.now) ≡ None }
+    ensures fault { result_err result ≡ source_fault host.now.order host.now.file (contents libs.now) slot }
+    ensures segment { IfOk result (λ s. option_map (segment_of host.now.order) s ≡ own_segment host.now.order host.now.file (contents libs.now) slot) }
     ensures sound { IfOk result (λ s. IfSome s (λ s. IsSound host.now.order (segment_of host.now.order s))) }
 {
     let name = host.entry(slot).name;
@@ -170,9 +164,9 @@ fn read_slot<'a>(
     slot: u8,
 ) -> Result<Option<Segment<'a>>, Fault>
     requires slots { slot < 16 }
-    requires libraries { libraries_fault_spec host.now.order (map (λ lib. lib.now) libs.now) ≡ None }
-    ensures fault { result_err result ≡ source_fault host.now.order host.now.file (map (λ lib. lib.now) libs.now) slot }
-    ensures segment { IfOk result (λ s. option_map (segment_of host.now.order) s ≡ own_segment host.now.order host.now.file (map (λ lib. lib.now) libs.now) slot) }
+    requires libraries { libraries_fault_spec host.now.order (contents libs.now) ≡ None }
+    ensures fault { result_err result ≡ source_fault host.now.order host.now.file (contents libs.now) slot }
+    ensures segment { IfOk result (λ s. option_map (segment_of host.now.order) s ≡ own_segment host.now.order host.now.file (contents libs.now) slot) }
     ensures sound { IfOk result (λ s. IfSome s (λ s. IsSound host.now.order (segment_of host.now.order s))) }
 {
     match host.role(slot) {
@@ -196,9 +190,9 @@ pub(crate) fn read_slots<'a>(
     host: &Dict<'a>,
     libs: &'a [&'a [u8]],
 ) -> Result<ArrayVec<Segment<'a>, 16>, Fault>
-    requires { libraries_fault_spec host.now.order (map (λ lib. lib.now) libs.now) ≡ None }
-    ensures fault { result_err result ≡ sources_fault host.now.order host.now.file (map (λ lib. lib.now) libs.now) }
-    ensures segments { IfOk result (λ s. map (segment_of host.now.order) s.items ≡ own_segments host.now.order host.now.file (map (λ lib. lib.now) libs.now)) }
+    requires { libraries_fault_spec host.now.order (contents libs.now) ≡ None }
+    ensures fault { result_err result ≡ sources_fault host.now.order host.now.file (contents libs.now) }
+    ensures segments { IfOk result (λ s. map (segment_of host.now.order) s.items ≡ own_segments host.now.order host.now.file (contents libs.now)) }
     ensures sound { IfOk result (λ s. All (IsSound host.now.order) (map (segment_of host.now.order) s.items)) }
 {
     let mut segments = ArrayVec::new();

@@ -3,10 +3,10 @@ ghost use Rattle.std.specs.List.{find, list_any, range_with_len};
 ghost use Rattle.std.specs.Option.{option_map};
 ghost use Rattle.std.specs.Result.{result_err};
 ghost use Rattle.ps_codefile.specs.Dictionary.{slots, entry_at};
-ghost use Rattle.ps_resolve.specs.Sources.{is_named as is_named_spec, chosen_library as chosen_library_spec, unit_source as unit_source_spec, file_at};
+ghost use Rattle.ps_resolve.specs.Sources.{is_named as is_named_spec, chosen_library as chosen_library_spec, unit_source as unit_source_spec, file_at, contents};
 ghost use Rattle.ps_resolve.specs.Faults.{library_reason, libraries_fault, entries_reason as entries_reason_spec, unit_fault};
 
-use crate::slots::{HOST_FILE, SLOTS, in_slot};
+use crate::slots::{HOST_FILE, SLOTS};
 use ps_codefile::Dict;
 use ps_words::{Fault, Order, Reason};
 
@@ -90,8 +90,8 @@ pub(crate) fn chosen_library<'a>(
     name: [u8; 8],
     libs: &'a [&'a [u8]],
 ) -> Option<UnitSource<'a>>
-    requires { libraries_fault order (map (λ lib. lib.now) libs.now) ≡ None }
-    ensures library { option_map (λ u. (u.library, u.dict.file)) result ≡ chosen_library_spec order name (map (λ lib. lib.now) libs.now) }
+    requires { libraries_fault order (contents libs.now) ≡ None }
+    ensures library { option_map (λ u. (u.library, u.dict.file)) result ≡ chosen_library_spec order name (contents libs.now) }
     ensures entry { IfSome result (λ u. find (is_named_spec order name u.dict.file) slots ≡ Some u.index) }
     ensures order { IfSome result (λ u. u.dict.order ≡ order) }
     ensures in_range { IfSome result (λ u. u.index < 16) }
@@ -132,19 +132,19 @@ pub(crate) fn unit_source<'a>(
     libs: &'a [&'a [u8]],
     slot: u8,
 ) -> Result<UnitSource<'a>, Fault>
-    requires { libraries_fault order (map (λ lib. lib.now) libs.now) ≡ None }
-    ensures fault { result_err result ≡ unit_fault order name (map (λ lib. lib.now) libs.now) slot }
-    ensures source { IfOk result (λ u. unit_source_spec order name (map (λ lib. lib.now) libs.now) ≡ Some (u.library + 1, u.index)) }
-    ensures file { (host : List ℕ) → IfOk result (λ u. file_at host (map (λ lib. lib.now) libs.now) (u.library + 1) ≡ u.dict.file) }
+    requires { libraries_fault order (contents libs.now) ≡ None }
+    ensures fault { result_err result ≡ unit_fault order name (contents libs.now) slot }
+    ensures source { IfOk result (λ u. unit_source_spec order name (contents libs.now) ≡ Some (u.library + 1, u.index)) }
+    ensures file { (host : List ℕ) → IfOk result (λ u. file_at host (contents libs.now) (u.library + 1) ≡ u.dict.file) }
     ensures order { IfOk result (λ u. u.dict.order ≡ order) }
     ensures unit { IfOk result (λ u. (entry_at order u.dict.file u.index).kind ≡ 3) }
     ensures in_range { IfOk result (λ u. u.index < 16) }
     ensures number { IfOk result (λ u. u.library < length libs.now) }
 {
     match chosen_library(order, name, libs) {
-        None => Err(in_slot(HOST_FILE, slot, Reason::MissingUnit)),
+        None => Err(Fault::in_slot(HOST_FILE, slot, Reason::MissingUnit)),
         Some(source) => match entries_reason(&source.dict, name, source.index) {
-            Some(reason) => Err(in_slot(source.library + 1, slot, reason)),
+            Some(reason) => Err(Fault::in_slot(source.library + 1, slot, reason)),
             None => Ok(source),
         },
     }

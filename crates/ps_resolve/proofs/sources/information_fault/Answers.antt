@@ -1,4 +1,5 @@
-use Rattle.std.proofs.Common.{refl, ◌≡◌, ◌∙◌, ◌∷◌, [], List, length, Result, Ok, Err, sym, ap, arith}
+use Rattle.std.proofs.Common.{refl, Some, ◌≡◌, ◌∙◌, ◌∷◌, [], List, length, Result, Ok, Err, sym, ap, arith}
+use Rattle.ps_words.specs.declared.fault.Fault.{Fault}
 use Rattle.ps_words.specs.declared.fault.Reason.{Reason}
 use Rattle.ps_linkinfo.specs.Records.{reading}
 use Rattle.ps_linkinfo.specs.Left.{left, records_left}
@@ -40,7 +41,7 @@ returns-in-Err c =
     let read = reading c.args.order c.args.information.now in
     let now : left c.loop-item.item-iterator ≡ Err c.in-Err.reason ∷ left c.next.new.self = c.in-Some.ensures.steps.1 ∙ ap (λ (i : Result Record Reason). i ∷ left c.next.new.self) c.in-Err.is in
     let found = sym c.loop-item.invariant.first ∙ ap (numbered c.loop-item.rec) now in
-    sym (sym (fault_of c.args.file c.args.slot read) ∙ ap (as_fault c.args.file c.args.slot) found)
+    ap (λ (f : Fault). Some f) c.in_record.ensures ∙ sym (sym (fault_of c.args.file c.args.slot read) ∙ ap (as_fault c.args.file c.args.slot) found)
 
 pub returns : goal.returns
 returns c =
