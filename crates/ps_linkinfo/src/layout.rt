@@ -5,6 +5,8 @@ ghost use Rattle.ps_linkinfo.specs.Records.{list_len as list_len_spec};
 
 /// How many bytes a record has, without its list.
 pub(crate) const RECORD_LEN: usize = 16;
+/// How many bytes a name has.
+pub(crate) const NAME_LEN: usize = 8;
 /// The place of the type's number, behind the name of eight bytes.
 pub(crate) const TYPE_PLACE: usize = 8;
 /// The place of the format of a reference record, of the value of a definition, and of the next free base offset of an EOFMARK.

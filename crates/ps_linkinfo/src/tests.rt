@@ -2,6 +2,7 @@
 use super::*;
 use ps_words::{Order, Reason};
 use std::alloc::{AllocError, Global};
+use std::hash::{DefaultHasher, Hasher};
 use std::test::*;
 
 const BLANK: [u8; 8] = *b"        ";
@@ -338,4 +339,115 @@ fn definitions_and_a_unit(rt: HostRuntime) {
     assert!(rt; matches!(walk.next(), Some(Ok(record)) if is_unit(&record, UTIL)));
     assert!(rt; matches!(walk.next(), Some(Ok(record)) if is_end(&record, 8)));
     assert!(rt; walk.next().is_none());
+}
+
+/// What the link information comes to: its records, definitions, privates, publics, units, references, and the value of its end.
+fn counts(info: &LinkInformation) -> [usize; 7] {
+    [
+        info.len(),
+        info.definitions(),
+        info.privates(),
+        info.publics(),
+        info.units(),
+        info.references(),
+        usize::from(info.next()),
+    ]
+}
+
+/// Where and why the bytes are refused by a reading in one pass.
+fn read_fault(order: Order, bytes: &[u8]) -> Option<ReadFault> {
+    LinkInformation::read(order, bytes).err()
+}
+
+fn fault(rec: usize, reason: Reason) -> Option<ReadFault> {
+    Some(ReadFault { rec, reason })
+}
+
+#[test]
+fn the_information_of_a_unit_is_read_once(rt: HostRuntime) -> Result<(), Fail> {
+    for (order, bytes) in [(Order::Little, &LITTLE), (Order::Big, &BIG)] {
+        let info = LinkInformation::read(order, bytes)
+            .ok()
+            .ok_or("the information is whole")?;
+        assert!(rt; !info.is_empty());
+        assert_eq!(rt; counts(&info), [3, 0, 1, 1, 0, 2, 0]);
+        let mut walk = info.records();
+        assert!(rt; matches!(walk.next(), Some((0, record)) if is_public(&record, COUNT, &[1])));
+        assert!(rt;
+            matches!(walk.next(), Some((1, record)) if is_private(&record, STATE, 4, &[4]))
+        );
+        assert!(rt; matches!(walk.next(), Some((2, record)) if is_end(&record, 0)));
+        assert!(rt; walk.next().is_none());
+        assert!(rt; walk.next().is_none());
+
+        let mut names = DefaultHasher::new();
+        names.write(&STATE);
+        assert_eq!(rt; info.digest().finish(), names.finish());
+    }
+    Ok(())
+}
+
+#[test]
+fn definitions_and_a_unit_are_counted(rt: HostRuntime) -> Result<(), Fail> {
+    let bytes = [
+        0x4C, 0x49, 0x4D, 0x49, 0x54, 0x20, 0x20, 0x20, 8, 0, 9, 0, 0xFF, 0xFF, 0xFF, 0xFF, //
+        0x43, 0x4F, 0x55, 0x4E, 0x54, 0x20, 0x20, 0x20, 7, 0, 3, 1, 0xFF, 0xFF, 0xFF, 0xFF, //
+        0x55, 0x54, 0x49, 0x4C, 0x20, 0x20, 0x20, 0x20, 1, 0, 1, 0, 0, 0, 0xFF, 0xFF, //
+        0x00, 0x00, 0x00, 0x00, 0x00, 0x00, 0x00, 0x00, 0, 0, 8, 1, 0, 0, 0, 0, //
+        0x20, 0x20, 0x20, 0x20, 0x20, 0x20, 0x20, 0x20, 99, 0, 0, 0, 0, 0, 0, 0,
+    ];
+    let info = LinkInformation::read(Order::Little, &bytes)
+        .ok()
+        .ok_or("the information ends")?;
+    assert_eq!(rt; counts(&info), [4, 2, 0, 0, 1, 0, 264]);
+    let mut walk = info.records();
+    assert!(rt;
+        matches!(walk.next(), Some((0, record)) if is_definition(&record, LIMIT, None, Some(9)))
+    );
+    assert!(rt;
+        matches!(walk.next(), Some((1, record)) if is_definition(&record, COUNT, Some(259), None))
+    );
+    assert!(rt; matches!(walk.next(), Some((2, record)) if is_unit(&record, UTIL)));
+    assert!(rt; matches!(walk.next(), Some((3, record)) if is_end(&record, 264)));
+    assert!(rt; walk.next().is_none());
+
+    let mut names = DefaultHasher::new();
+    names.write(&LIMIT);
+    names.write(&COUNT);
+    assert_eq!(rt; info.digest().finish(), names.finish());
+    Ok(())
+}
+
+#[test]
+fn the_first_fault_is_found_in_one_pass(rt: HostRuntime) -> Result<(), Fail> {
+    for (order, bytes) in [(Order::Little, &LITTLE), (Order::Big, &BIG)] {
+        for (len, rec) in [(79, 2), (64, 2), (63, 1), (31, 0), (0, 0)] {
+            let cut = bytes.get(..len).unwrap_or(&[]);
+            assert_eq!(rt;
+                read_fault(order, cut),
+                fault(rec, Reason::RecordsTruncated),
+                "of {len} bytes"
+            );
+        }
+        assert_eq!(rt; read_fault(order, bytes), None);
+
+        let mut separate = information(rt.alloc(), order, [4, 2, 1, 3], &[7])?;
+        separate.truncate(32);
+        let rest = information(rt.alloc(), order, [11, 2, 0, 0], &[])?;
+        separate.extend_from_slice(&rest)?;
+        assert_eq!(rt;
+            read_fault(order, &separate),
+            fault(1, Reason::SeparateRecord)
+        );
+    }
+    Ok(())
+}
+
+#[test]
+fn no_records_at_all(rt: HostRuntime) {
+    let none = LinkInformation::none();
+    assert!(rt; none.is_empty());
+    assert_eq!(rt; counts(&none), [0; 7]);
+    assert!(rt; none.records().next().is_none());
+    assert_eq!(rt; none.digest().finish(), DefaultHasher::new().finish());
 }

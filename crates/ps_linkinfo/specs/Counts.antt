@@ -1,0 +1,103 @@
+-- What the records of link information come to: how many there are of each type, all their references, the value of their end, and a hash of their names.
+-- Source: the types are those of the published II.0 Linker source; the hash is this project's profile.
+use Rattle.std.specs.Prelude.{ℕ, ◌||◌, if◌then◌else◌, List, length, Bool, true, false, Option, Some, None, fold, count_by, sum_by, slice_get, unwrap_or, filter_map}
+use Rattle.std.specs.Hash.DefaultHasher as sip
+use Rattle.std.specs.declared.hash.DefaultHasher.{DefaultHasher}
+use Rattle.ps_linkinfo.specs.Records.{refs_of}
+use Rattle.ps_linkinfo.specs.declared.record.Body.{Body}
+use Rattle.ps_linkinfo.specs.declared.record.Body.TheVariants.{UnitRef, PublRef, PrivRef, PublDef, ConstDef, Eof}
+use Rattle.ps_linkinfo.specs.declared.record.LinkRecord.{LinkRecord as Record}
+use Rattle.ps_linkinfo.specs.declared.tally.Tally.{Tally}
+
+-- the body defines a name of the host: PUBLDEF and CONSTDEF
+abbrev pub is_definition : Body → Bool
+is_definition (PublDef value) = true
+is_definition (ConstDef value) = true
+is_definition (UnitRef refs) = false
+is_definition (PublRef refs) = false
+is_definition (PrivRef words refs) = false
+is_definition (Eof next) = false
+
+-- the body asks for a private variable: PRIVREF
+abbrev pub is_private : Body → Bool
+is_private (PrivRef words refs) = true
+is_private (UnitRef refs) = false
+is_private (PublRef refs) = false
+is_private (PublDef value) = false
+is_private (ConstDef value) = false
+is_private (Eof next) = false
+
+-- the body asks for a public variable: PUBLREF
+abbrev pub is_public : Body → Bool
+is_public (PublRef refs) = true
+is_public (UnitRef refs) = false
+is_public (PrivRef words refs) = false
+is_public (PublDef value) = false
+is_public (ConstDef value) = false
+is_public (Eof next) = false
+
+-- the body asks for a unit: UNITREF
+abbrev pub is_unit : Body → Bool
+is_unit (UnitRef refs) = true
+is_unit (PublRef refs) = false
+is_unit (PrivRef words refs) = false
+is_unit (PublDef value) = false
+is_unit (ConstDef value) = false
+is_unit (Eof next) = false
+
+-- how many records define a name
+abbrev pub definitions_in : List Record → ℕ
+definitions_in rs = count_by (λ r. is_definition r.body) rs
+
+-- how many records ask for a private
+abbrev pub privates_in : List Record → ℕ
+privates_in rs = count_by (λ r. is_private r.body) rs
+
+-- how many records ask for a public variable
+abbrev pub publics_in : List Record → ℕ
+publics_in rs = count_by (λ r. is_public r.body) rs
+
+-- how many records ask for a unit
+abbrev pub units_in : List Record → ℕ
+units_in rs = count_by (λ r. is_unit r.body) rs
+
+-- how many references all records have together
+abbrev pub references_in : List Record → ℕ
+references_in rs = sum_by (λ r. length (refs_of r.body)) rs
+
+-- the next free base offset, which an EOFMARK alone gives
+abbrev pub next_in : Body → Option ℕ
+next_in (Eof next) = Some next
+next_in (UnitRef refs) = None
+next_in (PublRef refs) = None
+next_in (PrivRef words refs) = None
+next_in (PublDef value) = None
+next_in (ConstDef value) = None
+
+-- the next free base offset of the first EOFMARK, 0 where there is none
+abbrev pub next_of : List Record → ℕ
+next_of rs = unwrap_or (slice_get (filter_map (λ r. next_in r.body) rs) 0) 0
+
+-- the record gives its own name to something: a definition's, or a private's
+abbrev pub names_its_own : Record → Bool
+names_its_own r = is_definition r.body || is_private r.body
+
+-- the state of a hash with the name of a record, if it is a definition's or a private's
+abbrev pub with_own_name : DefaultHasher → Record → DefaultHasher
+with_own_name s r = if names_its_own r then sip.write s r.name else s
+
+-- the state that has taken in nothing but the names of the definitions and the privates, in their order
+abbrev pub digest_of : List Record → DefaultHasher
+digest_of rs = fold with_own_name sip.initial rs
+
+-- all of these together
+abbrev pub tally_of : List Record → Tally
+tally_of rs = record {
+  records = length rs;
+  definitions = definitions_in rs;
+  privates = privates_in rs;
+  publics = publics_in rs;
+  units = units_in rs;
+  references = references_in rs;
+  digest = digest_of rs;
+}
