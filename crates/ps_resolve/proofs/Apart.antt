@@ -13,12 +13,12 @@ use Rattle.ps_words.specs.Edits.{AreApart}
 pub one_more : {X : Type 0} (test : X → Bool) (x : X) (xs : List X) → count_by test (x ∷ xs) ≡ cond (test x) 1 0 + count_by test xs
 one_more test x xs = sum_by-cons (λ y. cond (test y) 1 0) x xs
 
-wide : (e : Edit) → 0 < width e
+pub wide : (e : Edit) → 0 < width e
 wide (Big place value) = omega arith
 wide (Byte place value) = omega arith
 wide (Word place value) = omega arith
 
-in_it : (e : Edit) (p : ℕ) → place_of e ≤ p → p < place_of e + width e → covers p e ≡ true
+pub in_it : (e : Edit) (p : ℕ) → place_of e ≤ p → p < place_of e + width e → covers p e ≡ true
 in_it e p h k = grind (arith, nat_tests)
 
 -- the second does not begin within the first

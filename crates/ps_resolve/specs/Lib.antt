@@ -21,3 +21,4 @@ pub mod Standing
 pub mod Sought
 pub mod Linkable
 pub mod Names
+pub mod Starts
