@@ -1,9 +1,46 @@
 //! What the lines of text that map and show print are made of.
-ghost use Rattle.std.specs.Prelude.{◌≡◌};
-ghost use Rattle.ps_linkfile.specs.Lines.{shown_byte};
+ghost use Rattle.std.specs.Prelude.{◌≡◌, ◌++◌, ◌∷◌, [], OnOk, string_bytes};
+ghost use Rattle.ps_linkfile.specs.Lines.{shown, shown_byte, two_digits};
 
+use itoa::{Buffer, Integer};
 use ps_words::Reason;
+use std::alloc::{AllocError, Allocator};
 use std::fmt;
+
+/// Adds a number behind this text.
+pub(crate) fn add_number<A: Allocator, I: Integer>(
+    text: &mut String<A>,
+    before: &str,
+    number: I,
+) -> Result<(), AllocError>
+    ensures { OnOk result (string_bytes text.new ≡ string_bytes text.old ++ before.now ++ I.text number) }
+{
+    text.push_str(before)?;
+    text.push_str(Buffer::new().format(number))
+}
+
+/// Adds a name as a line shows it, in eight characters.
+pub(crate) fn add_name<A: Allocator>(text: &mut String<A>, name: [u8; 8]) -> Result<(), AllocError>
+    ensures { OnOk result (string_bytes text.new ≡ string_bytes text.old ++ shown name) }
+{
+    for byte in &name {
+        text.push(shown_char(*byte))?;
+    }
+    Ok(())
+}
+
+/// Adds the number of a slot, which is below 100, in two digits behind this text.
+pub(crate) fn add_two_digits<A: Allocator>(
+    text: &mut String<A>,
+    before: &str,
+    number: u8,
+) -> Result<(), AllocError>
+    ensures { OnOk result (string_bytes text.new ≡ string_bytes text.old ++ before.now ++ two_digits number) }
+{
+    text.push_str(before)?;
+    text.push((b'0' + number / 10) as char)?;
+    text.push((b'0' + number % 10) as char)
+}
 
 /// A byte of a name as a line shows it: itself where ASCII prints it, and otherwise a question mark.
 fn shown_char(byte: u8) -> char
@@ -13,6 +50,20 @@ fn shown_char(byte: u8) -> char
         b' '..=b'~' => byte as char,
         _ => '?',
     }
+}
+
+/// Adds a slot and a name behind this text.
+pub(crate) fn add_slot_name<A: Allocator>(
+    text: &mut String<A>,
+    before: &str,
+    slot: u8,
+    name: [u8; 8],
+) -> Result<(), AllocError>
+    ensures { OnOk result (string_bytes text.new ≡ string_bytes text.old ++ before.now ++ two_digits slot ++ (32 ∷ []) ++ shown name) }
+{
+    add_two_digits(text, before, slot)?;
+    text.push_str(" ")?;
+    add_name(text, name)
 }
 
 /// A name as a line shows it, in eight characters.

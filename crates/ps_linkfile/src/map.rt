@@ -9,7 +9,7 @@ ghost use Rattle.ps_linkfile.specs.Outcomes.{IsUnprepared, NoneStands, NamesFirs
 ghost use Rattle.ps_linkfile.specs.MapText.{added_word as added_word_spec, code_line, source_line, kind_word as kind_word_spec, definition_line, private_line, map_in, map_of};
 
 use crate::error::LinkError;
-use crate::lines::{Shown, TwoDigits};
+use crate::lines::{Shown, TwoDigits, add_name, add_number, add_slot_name};
 use ps_laws::first_of_all;
 use ps_resolve::{Def, DefKind, Definitions, Plan, Private, Source, resolve};
 use ps_words::blocks_of;
@@ -80,8 +80,11 @@ fn add_definition<A: Allocator>(
 ) -> Result<(), AllocError>
     ensures { OnOk result (string_bytes text.new ≡ string_bytes text.old ++ definition_line (name, def)) }
 {
-    let kind = kind_word(def.kind);
-    writeln!(text, "{kind} {} value {}", Shown(name), def.value)
+    text.push_str(kind_word(def.kind))?;
+    text.push_str(" ")?;
+    add_name(text, name)?;
+    add_number(text, " value ", def.value)?;
+    text.push_str("\n")
 }
 
 /// Adds a line for each definition, in record order.
@@ -103,14 +106,10 @@ fn add_definitions<A: Allocator + Copy>(
 fn add_private<A: Allocator>(text: &mut String<A>, private: &Private) -> Result<(), AllocError>
     ensures { OnOk result (string_bytes text.new ≡ string_bytes text.old ++ private_line private.now) }
 {
-    writeln!(
-        text,
-        "private {} {} offset {} words {}",
-        TwoDigits(private.slot),
-        Shown(private.name),
-        private.offset,
-        private.words
-    )
+    add_slot_name(text, "private ", private.slot, private.name)?;
+    add_number(text, " offset ", private.offset)?;
+    add_number(text, " words ", private.words)?;
+    text.push_str("\n")
 }
 
 /// Adds a line for each private variable, by slot and then by record.

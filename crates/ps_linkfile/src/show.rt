@@ -1,5 +1,5 @@
 //! What a code file has, as text.
-ghost use Rattle.std.specs.Prelude.{◌≡◌, ◌<◌, ◌++◌, ◌∷◌, [], if◌then◌else◌, None, Some, IfOk, IfErr, OnOk, string_bytes};
+ghost use Rattle.std.specs.Prelude.{◌≡◌, ◌<◌, ◌++◌, ◌∷◌, [], if◌then◌else◌, None, Some, IfOk, IfErr, OnOk, decimal, string_bytes};
 ghost use Rattle.std.specs.List.{flat_map};
 ghost use Rattle.ps_words.specs.FaultPlaces.{in_file};
 ghost use Rattle.ps_codefile.specs.Dictionary.{slots, file_order, entry_at};
@@ -7,11 +7,11 @@ ghost use Rattle.ps_linkinfo.specs.Records.{reading};
 ghost use Rattle.arrayvec.specs.ArrayVec.{array_vec_len};
 ghost use Rattle.ps_resolve.specs.Faults.{is_role};
 ghost use Rattle.ps_resolve.specs.Sources.{known_order, is_unit as is_unit_role};
-ghost use Rattle.ps_linkfile.specs.Lines.{line};
+ghost use Rattle.ps_linkfile.specs.Lines.{line, shown};
 ghost use Rattle.ps_linkfile.specs.ShowText.{order_words, slot_line, references, unit_names as unit_names_spec, is_listed as is_listed_spec, unlisted_word as unlisted_word_spec, record_line, fault_line, record_lines, has_links as has_links_spec, links_lines, shown_file, show_of, order_shown, show_fault, IsUnshown};
 
 use crate::error::LinkError;
-use crate::lines::{FaultWords, Shown, TwoDigits};
+use crate::lines::{FaultWords, Shown, TwoDigits, add_name, add_number};
 use arrayvec::ArrayVec;
 use ps_codefile::{Dict, Entry, Role};
 use ps_linkinfo::{Body, LinkRecord, Records, Refs, walk_from_start};
@@ -155,10 +155,23 @@ fn add_references<A: Allocator>(text: &mut String<A>, refs: &Refs) -> Result<(),
 {
     text.push_str(" at")?;
     for index in 0..refs.len() {
-        let reference = refs.get(index);
-        write!(text, " {reference}")?;
+        add_number(text, " ", refs.get(index))?;
     }
     Ok(())
+}
+
+/// Adds what the line of a record begins with: its index, the word of its kind and its name.
+fn add_head<A: Allocator>(
+    text: &mut String<A>,
+    rec: usize,
+    kind: &str,
+    name: [u8; 8],
+) -> Result<(), AllocError>
+    ensures { OnOk result (string_bytes text.new ≡ string_bytes text.old ++ decimal rec ++ kind.now ++ shown name) }
+{
+    add_number(text, "", rec)?;
+    text.push_str(kind)?;
+    add_name(text, name)
 }
 
 /// Adds the line of a record, which has the index `rec` in its segment's link information, in a file
@@ -171,25 +184,34 @@ fn add_record<A: Allocator>(
 ) -> Result<(), AllocError>
     ensures { OnOk result (string_bytes text.new ≡ string_bytes text.old ++ record_line units.now (rec, entry.now)) }
 {
-    let name = Shown(entry.name);
     match &entry.body {
         Body::UnitRef(refs) => {
-            write!(text, "{rec} UNITREF {name}")?;
+            add_head(text, rec, " UNITREF ", entry.name)?;
             add_references(text, refs)?;
-            writeln!(text, "{}", unlisted_word(units, entry.name))
+            text.push_str(unlisted_word(units, entry.name))?;
+            text.push_str("\n")
         }
         Body::PublRef(refs) => {
-            write!(text, "{rec} PUBLREF {name}")?;
+            add_head(text, rec, " PUBLREF ", entry.name)?;
             add_references(text, refs)?;
-            text.push('\n')
+            text.push_str("\n")
         }
         Body::PrivRef { words, refs } => {
-            write!(text, "{rec} PRIVREF {name} words {words}")?;
+            add_head(text, rec, " PRIVREF ", entry.name)?;
+            add_number(text, " words ", *words)?;
             add_references(text, refs)?;
-            text.push('\n')
+            text.push_str("\n")
         }
-        Body::PublDef(value) => writeln!(text, "{rec} PUBLDEF {name} value {value}"),
-        Body::ConstDef(value) => writeln!(text, "{rec} CONSTDEF {name} value {value}"),
+        Body::PublDef(value) => {
+            add_head(text, rec, " PUBLDEF ", entry.name)?;
+            add_number(text, " value ", *value)?;
+            text.push_str("\n")
+        }
+        Body::ConstDef(value) => {
+            add_head(text, rec, " CONSTDEF ", entry.name)?;
+            add_number(text, " value ", *value)?;
+            text.push_str("\n")
+        }
         Body::Eof(next) => writeln!(text, "{rec} EOFMARK next {next}"),
     }
 }
