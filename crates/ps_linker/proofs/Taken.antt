@@ -1,5 +1,5 @@
--- Words that clap takes name a command, and each file that it has to have. Along the walk over the words each row has a value, since an argument that is used without one is a flag that prints a text.
-use Rattle.std.proofs.Common.{◌≡◌, ◌++◌, ◌∷◌, ◌&&◌, ◌||◌, ℕ, zero, suc, Bool, true, false, not, cond, List, [], length, Option, Some, None, is_some, inl, inr, refl, sym, subst, true≢false, option_map, option_and_then}
+-- Words that clap takes name a command, and each file that it has to have. Along the walk over the words each row has a value, since an argument that is used without one is a flag that prints a text; and the command that stops it is not the one that prints help.
+use Rattle.std.proofs.Common.{◌≡◌, ◌++◌, ◌∷◌, ◌&&◌, ◌||◌, ℕ, zero, suc, Bool, true, false, not, cond, List, [], length, Option, Some, None, is_some, inl, inr, refl, sym, subst, ◌∙◌, true≢false, option_map, option_and_then}
 use Rattle.std.specs.Prelude.{⊤, codes, drop, encode_utf8, find, fold, slice_get}
 use Rattle.std.specs.List.{list_all, slice_index_or}
 use Rattle.std.specs.Option.{option_map_or}
@@ -14,7 +14,8 @@ use Rattle.clap.specs.declared.parser.matches.ValueSource.TheVariants.{CommandLi
 use Rattle.clap.specs.Lexer.{long_of, short_of}
 use Rattle.clap.specs.Walk.{Held, Names, Outcome, Row, Rule, Step, Text, Waiting, Walk, action_of, after_flag, after_step, answers_to, arg_by_id, arg_by_index, arg_by_long, arg_by_short, at_row, attached_value, bundle, bundle_met, bundle_step, default_rows, done, first_of, flag_met, has_long, has_short, has_row, idle, is_pending, long_met, long_or_other, more_values, next, nothing_held, option, option_met, option_word, plain, plain_word, positional, pushed, reacted, reading_by, refused, rows_after, settled, settled_rows, short_met, short_or_plain, started, subcommand, subcommand_met, subcommand_or_other, takes_several, takes_values, to_positional, trailing, used, used_as, used_by_id, value, waits, walk, walk_from, walked, walked_from, with_default, with_values, without, word_met}
 use Rattle.clap.specs.Simple.{Shape, argument_words, built, entered, is_simple, label_of, names_of, rows_at, subcommand_of}
-use Rattle.clap.specs.Takes.{default_passes, entered_passes, is_given, level_passes, settle_passes, takes, walk_passes}
+use Rattle.std.proofs.lemmas.Slice.Eq.{bytes_eq-Decides}
+use Rattle.clap.specs.Takes.{default_passes, entered_passes, is_given, level_passes, other_passes, settle_passes, step_passes, takes, turn_passes, walk_passes, word_passes}
 use Rattle.ps_linker.specs.CommandLine.{pslink_app}
 use Rattle.ps_linker.specs.Requests.{LeavesOut}
 
@@ -294,6 +295,102 @@ given_first (Some r) f given none = full_first r.values f none
 named : (id : Text) (rows : List Row) → HaveValues rows → is_given id rows ≡ true → first_of id rows ≡ None → ⊥
 named id rows h given none = given_first (find (λ r. bytes_eq r.id id) rows) (found_full id rows h) given none
 
+-- ---- a walk that clap takes is not stopped by the command that prints help
+
+abbrev is_help : Text → Bool
+is_help name = bytes_eq name (codes "help")
+
+-- it is no step into that command
+abbrev Enters : Step → Type 0
+Enters (subcommand name) = is_help name ≡ false
+Enters _ = ⊤
+
+-- no walk that stopped there
+abbrev Stops : Option (Text × List Text) → Type 0
+Stops None = ⊤
+Stops (Some p) = is_help p.0 ≡ false
+
+-- no step into a command at all
+abbrev Stays : Step → Type 0
+Stays (subcommand name) = ⊥
+Stays _ = ⊤
+
+stays_enters : (step : Step) → Stays step → Enters step
+stays_enters (next waiting) s = tt
+stays_enters (trailing position) s = tt
+stays_enters (subcommand name) s = absurd s
+stays_enters value s = tt
+
+not_false : (a b : Bool) → b ≡ false → (not a || b) ≡ true → a ≡ false
+not_false true b off e = absurd (true≢false (sym e ∙ off))
+not_false false b off e = refl
+
+module _ (shape : Shape) (helps : shape.disable_help_subcommand ≡ false) where
+  plain_word_stays : (waiting : Waiting) (word : Text) (h : Held) → Stays (plain_word shape.rules waiting word h).1
+  plain_word_stays idle word h = tt
+  plain_word_stays (option id) word h = tt
+  plain_word_stays positional word h = tt
+
+  after_flag_stays : (waiting : Waiting) (word : Text) (h : Held) (o : Outcome) → Stays (after_flag shape.rules waiting word h o).1
+  after_flag_stays waiting word h done = tt
+  after_flag_stays waiting word h (waits id) = tt
+  after_flag_stays waiting word h plain = plain_word_stays waiting word h
+  after_flag_stays waiting word h refused = plain_word_stays waiting word h
+
+  short_stays : (waiting : Waiting) (word : Text) (o : Option Text) (h : Held) → Stays (short_or_plain shape.rules waiting word o h).1
+  short_stays waiting word (Some flags) h = after_flag_stays waiting word (bundle shape.rules flags h).0 (bundle shape.rules flags h).1
+  short_stays waiting word None h = plain_word_stays waiting word h
+
+  long_stays : (waiting : Waiting) (word : Text) (o : Option (Text × Option Text)) (h : Held) → Stays (long_or_other shape.rules waiting word o h).1
+  long_stays waiting word (Some p) h = let met = long_met shape.rules (arg_by_long shape.rules p.0) p.1 h in after_flag_stays waiting word met.0 met.1
+  long_stays waiting word None h = short_stays waiting word (short_of word) h
+
+  other_enters : (name : Option Text) (waiting : Waiting) (position : ℕ) (word : Text) (h : Held) → other_passes shape name word h ≡ true
+      → Enters (subcommand_or_other shape.rules name waiting position word h).1
+  other_enters (Some name) waiting position word h passes = not_false (is_help name) shape.disable_help_subcommand helps passes
+  other_enters None waiting position word h passes = go (bytes_eq word (45 ∷ 45 ∷ []))
+    where
+      go : (t : Bool) → Enters (cond t (h, trailing position) (long_or_other shape.rules waiting word (long_of word) h)).1
+      go true = tt
+      go false = stays_enters (long_or_other shape.rules waiting word (long_of word) h).1 (long_stays waiting word (long_of word) h)
+
+  word_enters : (names : Names) (is_trailing : Bool) (waiting : Waiting) (position : ℕ) (word : Text) (h : Held) → word_passes shape names is_trailing waiting word h ≡ true
+      → Enters (word_met shape.rules names is_trailing waiting position word h).1
+  word_enters names true waiting position word h passes = tt
+  word_enters names false waiting position word h passes = other_enters (subcommand_met names waiting word) waiting position word h passes
+
+  positional_stops : (o : Option Rule) (word : Text) (w : Walk) (h : Held) → Stops w.stopped → Stops (to_positional shape.rules o word w h).stopped
+  positional_stops None word w h s = s
+  positional_stops (Some a) word w h s = tt
+
+  step_stops : (word : Text) (w : Walk) (h : Held) (step : Step) → Enters step → Stops w.stopped → Stops (after_step shape.rules word w h step).stopped
+  step_stops word w h (next waiting) e s = s
+  step_stops word w h (trailing position) e s = s
+  step_stops word w h (subcommand name) e s = e
+  step_stops word w h value e s = positional_stops (arg_by_index shape.rules w.position) word w h s
+
+  walked_from_stops : (names : Names) (stopped : Option (Text × List Text)) (w : Walk) (word : Text)
+      → (is_some stopped || (word_passes shape names w.is_trailing w.waiting word w.held
+      && step_passes shape w.position (word_met shape.rules names w.is_trailing w.waiting w.position word w.held).0
+      (word_met shape.rules names w.is_trailing w.waiting w.position word w.held).1)) ≡ true
+      → Stops stopped → Stops w.stopped → Stops (walked_from shape.rules names stopped w word).stopped
+  walked_from_stops names (Some p) w word passes s kept = s
+  walked_from_stops names None w word passes s kept =
+      let met = word_met shape.rules names w.is_trailing w.waiting w.position word w.held in
+      let enters = both (word_passes shape names w.is_trailing w.waiting word w.held) (step_passes shape w.position met.0 met.1) passes in
+      step_stops word w met.0 met.1 (word_enters names w.is_trailing w.waiting w.position word w.held enters.0) kept
+
+  walked_stops : (names : Names) (w : Walk) (word : Text) → turn_passes shape names w word ≡ true → Stops w.stopped → Stops (walked shape.rules names w word).stopped
+  unfolding walked
+  walked_stops names w word passes s = walked_from_stops names w.stopped w word passes s s
+
+  walk_stops : (names : Names) (w : Walk) (words : List Text) → walk_passes shape names w words ≡ true → Stops w.stopped → Stops (fold (walked shape.rules names) w words).stopped
+  unfolding walk_passes
+  walk_stops names w [] passes s = s
+  walk_stops names w (word ∷ words) passes s =
+      let parts = both (turn_passes shape names w word) (walk_passes shape names (walked shape.rules names w word) words) passes in
+      walk_stops names (walked shape.rules names w word) words parts.1 (walked_stops names w word parts.0 s)
+
 -- ---- a command with no command of its own
 
 either_right : (a b : Bool) → ((a && false) || b) ≡ true → b ≡ true
@@ -313,17 +410,17 @@ leaf_given s words e =
     either_right s.subcommand_negates_reqs _ free.1
 
 -- of the commands, the one that is found
-abbrev Each : (Option Shape → Type 0) → List Shape → Type 0
-Each P [] = ⊤
-Each P (s ∷ rest) = P (Some s) × Each P rest
+abbrev Each : (Option Shape → Type 0) → (Shape → Bool) → List Shape → Type 0
+Each P q [] = ⊤
+Each P q (s ∷ rest) = (q s ≡ true → P (Some s)) × Each P q rest
 
-each_found : (P : Option Shape → Type 0) (q : Shape → Bool) (subs : List Shape) → P None → Each P subs → P (find q subs)
+each_found : (P : Option Shape → Type 0) (q : Shape → Bool) (subs : List Shape) → P None → Each P q subs → P (find q subs)
 each_found P q [] none each = none
-each_found P q (s ∷ rest) none each = go (q s) (each_found P q rest none each.1)
+each_found P q (s ∷ rest) none each = go (q s) refl (each_found P q rest none each.1)
   where
-    go : (t : Bool) → P (find q rest) → P (cond t (Some s) (find q rest))
-    go true found = each.0
-    go false found = found
+    go : (t : Bool) → q s ≡ t → P (find q rest) → P (cond t (Some s) (find q rest))
+    go true e found = each.0 e
+    go false e found = found
 
 -- the words name all of the command that was met
 abbrev NamesAll : List Text → Option Shape → Type 0
@@ -365,14 +462,24 @@ show_named words level some leaves =
     let file = both (is_given (codes "FILE") rows) _ (leaf_given (command_at 2) words level) in
     named (codes "FILE") rows full file.0 ((leaves rows).2 refl)
 
-each_named : (words : List Text) → Each (NamesAll words) (built pslink_app).subs
-each_named words = (link_named words, (map_named words, (show_named words, tt)))
+or_false : (a : Bool) → (a || false) ≡ true → a ≡ true
+or_false true e = refl
+or_false false e = absurd (true≢false (sym e))
 
-entered_named : (stop : Option (Text × List Text)) → entered_passes (built pslink_app) stop ≡ true → is_some (entered (built pslink_app) stop) ≡ true
+-- the command that prints help has another name
+other_name : (name : Text) → is_help name ≡ false → answers_to name (label_of (command_at 3)) ≡ true → ⊥
+other_name name other answers =
+    let same : codes "help" ≡ name = (bytes_eq-Decides (codes "help") name).0 (or_false _ answers) in
+    true≢false (sym ((bytes_eq-Decides name (codes "help")).1 (sym same)) ∙ other)
+
+each_named : (name : Text) (words : List Text) → is_help name ≡ false → Each (NamesAll words) (λ s. answers_to name (label_of s)) (built pslink_app).subs
+each_named name words other = ((λ _. link_named words), ((λ _. map_named words), ((λ _. show_named words), ((λ answers. absurd (other_name name other answers)), tt))))
+
+entered_named : (stop : Option (Text × List Text)) → Stops stop → entered_passes (built pslink_app) stop ≡ true → is_some (entered (built pslink_app) stop) ≡ true
     → LeavesOut (entered (built pslink_app) stop) → ⊥
-entered_named None passes some leaves = true≢false (sym some)
-entered_named (Some p) passes some leaves =
-    each_found (NamesAll p.1) (λ s. answers_to p.0 (label_of s)) (built pslink_app).subs (none_named p.1) (each_named p.1) passes some leaves
+entered_named None other passes some leaves = true≢false (sym some)
+entered_named (Some p) other passes some leaves =
+    each_found (NamesAll p.1) (λ s. answers_to p.0 (label_of s)) (built pslink_app).subs (none_named p.1) (each_named p.0 p.1 other) passes some leaves
 
 -- words that clap takes leave out nothing that they have to name
 pub taken_leaves_nothing_out : (words : List Text) → takes pslink_app words ≡ true → LeavesOut (subcommand_of pslink_app words) → ⊥
@@ -386,4 +493,5 @@ taken_leaves_nothing_out words taken leaves =
     let settles = both (settle_passes a.top.rules a.top.args_override_self end) _ after.1 in
     let valid = both (list_all default_passes a.top.rules) _ settles.1 in
     let commanded = both (is_some (entered a stop)) _ valid.1 in
-    entered_named stop enters.0 commanded.0 leaves
+    let other = walk_stops a.top refl (names_of a) (walk_from nothing_held) (argument_words pslink_app words) after.0 tt in
+    entered_named stop other enters.0 commanded.0 leaves

@@ -27,7 +27,7 @@ show_app = with_rule (new_app (codes "show")) (file_rule (codes "FILE"))
 -- `pslink`, of which a command is required
 abbrev pub bare_app : App
 bare_app = record (new_app (codes "pslink")) {
-  top = record (new_app (codes "pslink")).top { has_version = true; subcommand_required = true; disable_help_subcommand = true };
+  top = record (new_app (codes "pslink")).top { has_version = true; subcommand_required = true };
 }
 
 abbrev pub pslink_app : App

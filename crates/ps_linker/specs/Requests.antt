@@ -1,6 +1,8 @@
 -- What a request asks for, by the command and the files that clap finds named in the words.
 -- Source: this project's profile.
-use Rattle.std.specs.Prelude.{◌≡◌, ◌⊎◌, List, [], Option, Some, None, codes, map, unwrap_or}
+use Rattle.std.specs.Prelude.{◌≡◌, ◌⊎◌, Bool, true, false, List, [], Option, Some, None, codes, map, unwrap_or}
+use Rattle.std.specs.List.{list_any}
+use Rattle.std.specs.Str.{bytes_eq}
 use Rattle.clap.specs.Words.{Row, Text, all_of, first_of, kind_of}
 use Rattle.clap.specs.declared.error.ErrorKind.TheVariants.{DisplayHelp, DisplayVersion}
 use Rattle.ps_linker.specs.declared.request.Inputs.{Inputs}
@@ -16,10 +18,15 @@ abbrev pub NamesInputs : {A : Type 0} → Inputs A → List Row → Type 0
 NamesInputs inputs rows = (first_of (codes "HOST") rows ≡ Some inputs.host.now)
     × (map (λ path. path.now) inputs.libraries.items ≡ libraries_of rows)
 
--- the command that is named, with the files that are named for it
+-- the path is one of these, byte for byte
+abbrev pub is_library : Text → List Text → Bool
+is_library path libraries = list_any (λ library. bytes_eq library path) libraries
+
+-- the command that is named, with the files that are named for it; a link writes no file that is named as a library
 abbrev pub IsNamed : {A : Type 0} → Request A → Option (Text × List Row) → Type 0
 IsNamed (request.Text text) named = ⊥
 IsNamed (request.Link inputs out) named = (rows : List Row) × (named ≡ Some (codes "link", rows)) × NamesInputs inputs rows × (first_of (codes "OUT") rows ≡ Some out.now)
+    × (is_library out.now (libraries_of rows) ≡ false)
 IsNamed (request.Map inputs) named = (rows : List Row) × (named ≡ Some (codes "map", rows)) × NamesInputs inputs rows
 IsNamed (request.Show file) named = (rows : List Row) × (named ≡ Some (codes "show", rows)) × (first_of (codes "FILE") rows ≡ Some file.now)
 
@@ -35,3 +42,7 @@ abbrev pub LeavesOut : Option (Text × List Row) → Type 0
 LeavesOut named = (rows : List Row) → (named ≡ Some (codes "link", rows) → (first_of (codes "HOST") rows ≡ None) ⊎ (first_of (codes "OUT") rows ≡ None))
     × (named ≡ Some (codes "map", rows) → first_of (codes "HOST") rows ≡ None)
     × (named ≡ Some (codes "show", rows) → first_of (codes "FILE") rows ≡ None)
+
+-- a link is named that would write a file which is named as a library too
+abbrev pub WritesLibrary : Option (Text × List Row) → Type 0
+WritesLibrary named = (rows : List Row) × (out : Text) × (named ≡ Some (codes "link", rows)) × (first_of (codes "OUT") rows ≡ Some out) × (is_library out (libraries_of rows) ≡ true)

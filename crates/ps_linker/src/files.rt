@@ -6,6 +6,7 @@ ghost use Rattle.ps_linker.specs.Reading.{Reads};
 use crate::error::CommandError;
 use crate::request::Inputs;
 use std::alloc::{AllocError, AllocFailed, Allocator};
+use std::fs::OpenFile;
 use std::io::{Read, Write};
 use std::rt::Files;
 use std::{fs, io};
@@ -54,6 +55,9 @@ pub trait CodeFiles {
 
     /// Creates or empties the file at `path`.
     fn create(&self, path: &str) -> io::Result<Self::Created>;
+
+    /// How many bytes `file` is said to have, and 0 where nothing is said of it. A read may give more bytes than that, or less.
+    fn length_hint(file: &Self::Opened) -> usize;
 }
 
 impl<R: Files> CodeFiles for R {
@@ -69,6 +73,16 @@ impl<R: Files> CodeFiles for R {
 
     fn create(&self, path: &str) -> io::Result<R::File> {
         fs::create(self, path)
+    }
+
+    // The length of what is no regular file says nothing of what it gives.
+    fn length_hint(file: &R::File) -> usize {
+        match file.metadata() {
+            Ok(metadata) if metadata.is_file() => {
+                usize::try_from(metadata.len()).unwrap_or(usize::MAX)
+            }
+            _ => 0,
+        }
     }
 }
 
@@ -108,7 +122,8 @@ pub fn read<'a, R: CodeFiles, A: Allocator + Copy>(
     let Ok(mut file) = rt.open(path) else {
         return Err(CommandError::Read { path });
     };
-    match read_to_end(&mut file, alloc) {
+    let hint = R::length_hint(&file);
+    match read_to_end(&mut file, alloc, hint) {
         Ok(bytes) => Ok(bytes),
         Err(ReadFault::Device) => Err(CommandError::Read { path }),
         Err(ReadFault::TooLong) => Err(CommandError::TooLong { path }),
@@ -116,15 +131,17 @@ pub fn read<'a, R: CodeFiles, A: Allocator + Copy>(
     }
 }
 
-/// Reads what is left, in at most `LONGEST + 1` reads. No read is repeated after an error.
+/// Reads what is left, in at most `LONGEST + 1` reads. No read is repeated after an error. There is room for `hint` bytes from
+/// the start, so that no more memory is taken where so many are left: a read that finds the end takes none.
 fn read_to_end<F: Read, A: Allocator + Copy>(
     file: &mut F,
     alloc: A,
+    hint: usize,
 ) -> Result<Vec<u8, A>, ReadFault>
     ensures bound { IfOk result (λ bytes. length bytes.items ≤ 67108864) }
     ensures whole { IfOk result (λ bytes. IfSome (F.remaining file.old) (λ left. bytes.items ≡ left)) }
 {
-    let mut all = Vec::new(alloc);
+    let mut all = Vec::with_capacity(alloc, hint.min(LONGEST))?;
     let mut chunk = [0u8; CHUNK];
     'read: for _ in 0..=LONGEST {
         let Ok(n) = file.read(&mut chunk) else {

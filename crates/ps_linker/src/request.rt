@@ -1,14 +1,54 @@
 //! What the words of a command line ask for.
-ghost use Rattle.std.specs.Prelude.{◌≡◌, ◌≢◌, IfErr, IfOk, Some, None, codes, map, true, false};
+ghost use Rattle.std.specs.Prelude.{◌≡◌, ◌≢◌, ◌⊎◌, IfErr, IfOk, Some, None, codes, map, true, false};
 ghost use Rattle.clap.specs.Words.{app_of, first_of, found_of, kind_of, rows_of, rule_of, subcommand_of, subcommand_rows_of, takes};
 ghost use Rattle.clap.specs.declared.Command.TheViews.{out-Command};
 ghost use Rattle.ps_linker.specs.CommandLine.{file_rule, libraries_rule, link_app, map_app, show_app, pslink_app};
-ghost use Rattle.ps_linker.specs.Requests.{AsksFor, IsNamed, LeavesOut, NamesInputs, libraries_of};
+ghost use Rattle.ps_linker.specs.Requests.{AsksFor, IsNamed, LeavesOut, NamesInputs, WritesLibrary, libraries_of};
+ghost use Rattle.ps_linker.specs.Statuses.{status_of};
 
 use crate::error::CommandError;
 use clap::error::ErrorKind;
 use clap::{Arg, ArgAction, ArgMatches, Command};
 use std::alloc::{AllocError, Allocator, Global};
+
+/// What the help of the program and of `link` ends with.
+const LINK_ENDING: &str = "Example:
+  pslink link host.code linked.code library.code
+
+Exit status:
+  0  the command was done
+  1  the files are refused
+  2  wrong usage
+  3  a file could not be read or written, or standard output failed
+  4  out of memory
+
+A name that begins with a dash is given as ./-name, or after --. See pslink(1).";
+
+/// What the help of `map` ends with.
+const MAP_ENDING: &str = "Example:
+  pslink map host.code library.code
+
+Exit status:
+  0  the map was printed
+  1  the files are refused
+  2  wrong usage
+  3  a file could not be read, or standard output failed
+  4  out of memory
+
+A name that begins with a dash is given as ./-name, or after --. See pslink(1).";
+
+/// What the help of `show` ends with.
+const SHOW_ENDING: &str = "Example:
+  pslink show library.code
+
+Exit status:
+  0  the segments were printed
+  1  the file is refused
+  2  wrong usage
+  3  the file could not be read, or standard output failed
+  4  out of memory
+
+A name that begins with a dash is given as ./-name, or after --. See pslink(1).";
 
 /// What the words of a command line ask for.
 #[derive(Drop)]
@@ -41,8 +81,8 @@ pub fn parse<'a, A: Allocator + Copy>(
     // Words that clap takes name a command, and ask for no help.
     ensures named { takes pslink_app (map (λ s. s.now) words.now) ≡ true → IfOk result (λ r. IsNamed r (subcommand_of pslink_app (map (λ s. s.now) words.now))) }
 
-    // Words that clap takes are refused only for want of memory.
-    ensures memory { takes pslink_app (map (λ s. s.now) words.now) ≡ true → IfErr result (λ e. e ≡ CommandError.Memory) }
+    // Words that clap takes are refused for want of memory, or as wrong usage where OUT is named as a library too.
+    ensures refused { takes pslink_app (map (λ s. s.now) words.now) ≡ true → IfErr result (λ e. e ≢ CommandError.Memory → (status_of e ≡ 2) × WritesLibrary (subcommand_of pslink_app (map (λ s. s.now) words.now))) }
 {
     match matches(heap, words) {
         Ok(matches) => request_of(heap, alloc, &matches),
@@ -68,7 +108,7 @@ fn request_of<'a, A: Allocator + Copy>(
     matches: &ArgMatches<'a>,
 ) -> Result<Request<'a, A>, CommandError<'a>>
     ensures named { IfOk result (λ r. IsNamed r (subcommand_rows_of matches.now)) }
-    ensures refused { IfErr result (λ e. e ≢ CommandError.Memory → LeavesOut (subcommand_rows_of matches.now)) }
+    ensures refused { IfErr result (λ e. e ≢ CommandError.Memory → LeavesOut (subcommand_rows_of matches.now) ⊎ ((status_of e ≡ 2) × WritesLibrary (subcommand_rows_of matches.now))) }
 {
     match matches.subcommand() {
         Some(("link", found)) => link_of(heap, alloc, found),
@@ -84,10 +124,13 @@ fn link_of<'a, A: Allocator + Copy>(
     found: &ArgMatches<'a>,
 ) -> Result<Request<'a, A>, CommandError<'a>>
     ensures named { IfOk result (λ r. IsNamed r (Some (codes "link", rows_of (found_of found.now)))) }
-    ensures refused { IfErr result (λ e. e ≢ CommandError.Memory → LeavesOut (Some (codes "link", rows_of (found_of found.now)))) }
+    ensures refused { IfErr result (λ e. e ≢ CommandError.Memory → LeavesOut (Some (codes "link", rows_of (found_of found.now))) ⊎ ((status_of e ≡ 2) × WritesLibrary (Some (codes "link", rows_of (found_of found.now))))) }
 {
     let inputs = inputs_of(heap, alloc, found)?;
     let out = file_of(heap, found, "OUT")?;
+    if inputs.libraries.contains(&out) {
+        return Err(written_library(heap, out));
+    }
     Ok(Request::Link { inputs, out })
 }
 
@@ -156,6 +199,26 @@ fn unnamed(heap: Global) -> CommandError<'static> {
     }
 }
 
+/// What is said of words that name the file to write as a library too.
+fn written_library(heap: Global, out: &str) -> CommandError<'static>
+    ensures { result ≢ CommandError.Memory → status_of result ≡ 2 }
+{
+    match written_library_error(heap, out) {
+        Ok(error) => CommandError::from(error),
+        Err(_) => CommandError::Memory,
+    }
+}
+
+fn written_library_error(heap: Global, out: &str) -> Result<clap::Error, AllocError>
+    ensures { IfOk result (λ e. kind_of e ≡ ErrorKind.ValueValidation) }
+{
+    let message = format!(in heap;
+        "invalid value '{out}' for '<OUT>': it is named as a library too"
+    )?;
+    let mut link = link_command(heap)?.bin_name("pslink link")?;
+    link.error(ErrorKind::ValueValidation, message.as_str())
+}
+
 fn libraries<'a, A: Allocator + Copy>(
     alloc: A,
     found: &ArgMatches<'a>,
@@ -178,8 +241,8 @@ fn command<'a>(heap: Global) -> Result<Command<'a>, AllocError>
     Command::new(heap, "pslink")
         .version("0.1.0")
         .about("The Linker of UCSD Pascal II.0 for Pascal hosts and units")
+        .after_help(LINK_ENDING)
         .subcommand_required(true)
-        .disable_help_subcommand(true)
         .subcommand(link)?
         .subcommand(map)?
         .subcommand(show)
@@ -190,6 +253,7 @@ fn link_command<'a>(heap: Global) -> Result<Command<'a>, AllocError>
 {
     Command::new(heap, "link")
         .about("Links a host with the units that it names, and writes the linked file")
+        .after_help(LINK_ENDING)
         .arg(file(heap, "HOST", "The code file that holds the host program"))?
         .arg(file(heap, "OUT", "The code file to write; it may be HOST"))?
         .arg(libraries_argument(heap))
@@ -200,6 +264,7 @@ fn map_command<'a>(heap: Global) -> Result<Command<'a>, AllocError>
 {
     Command::new(heap, "map")
         .about("Prints where a link would put each segment and private, and writes no file")
+        .after_help(MAP_ENDING)
         .arg(file(heap, "HOST", "The code file that holds the host program"))?
         .arg(libraries_argument(heap))
 }
@@ -209,6 +274,7 @@ fn show_command<'a>(heap: Global) -> Result<Command<'a>, AllocError>
 {
     Command::new(heap, "show")
         .about("Prints the segments of one code file and the link information of each")
+        .after_help(SHOW_ENDING)
         .arg(file(
             heap,
             "FILE",

@@ -4,7 +4,7 @@ use Rattle.std.proofs.KnownBytes.{Consumes-nil, Consumes-trans, Consumes-whole}
 use Rattle.ps_linker.proofs.files.read_to_end.Goals as goal
 
 pub read-init : goal.read-init
-read-init g c = (search rules, subst (Consumes _ _) (sym c.new-all.ensures.items) (Consumes-nil _))
+read-init g c = (search rules, subst (Consumes _ _) (sym c.in_ok-all.ensures.items) (Consumes-nil _))
 
 pub returns-then-n-eq0-clause-whole : goal.returns-then-n-eq0-clause-whole
 returns-then-n-eq0-clause-whole g c =

@@ -6,7 +6,7 @@ use Rattle.ps_linker.proofs.request.command.Goals as goal
 
 pub returns : goal.returns
 returns c =
-    let bare_is : app_of c.disable_help_subcommand.result ≡ bare_app = search rules in
+    let bare_is : app_of c.subcommand_required.result ≡ bare_app = search rules in
     let with_link : app_of c.in_ok-subcommand.field-0 ≡ with_subcommand bare_app link_app.top =
     c.in_ok-subcommand.ensures.shape c.in_ok-link.ensures.1 ∙ ap₂ with_subcommand bare_is (ap (λ (a : App). a.top) c.in_ok-link.ensures.0) in
     let with_map : app_of c.in_ok-subcommand-2.field-0 ≡ with_subcommand (with_subcommand bare_app link_app.top) map_app.top =

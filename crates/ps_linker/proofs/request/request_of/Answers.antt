@@ -1,7 +1,8 @@
-use Rattle.std.proofs.Common.{◌≡◌, ◌∙◌, ap, sym, subst, codes, Some}
+use Rattle.std.proofs.Common.{◌≡◌, ◌⊎◌, ◌∙◌, ap, sym, subst, codes, Some, inl}
 use Rattle.std.proofs.lemmas.Result.{IfErr-weaker, IfOk-weaker}
 use Rattle.clap.specs.Words.{found_of, rows_of, subcommand_rows_of}
-use Rattle.ps_linker.specs.Requests.{IsNamed, LeavesOut}
+use Rattle.ps_linker.specs.Requests.{IsNamed, LeavesOut, WritesLibrary}
+use Rattle.ps_linker.specs.Statuses.{status_of}
 use Rattle.ps_linker.proofs.Named.{both}
 use Rattle.ps_linker.proofs.request.request_of.Goals as goal
 
@@ -31,18 +32,18 @@ returns-in-Some-link-default-clause-refused g c =
     let met = c.in-Some-link-default in
     let named : Some (codes "link") ≡ _ = ap Some (sym met.is-link) ∙ met.ensures.name in
     let is : subcommand_rows_of c.args.matches.now ≡ Some (codes "link", rows_of (found_of met.found.now)) = both _ _ _ _ _ named met.ensures.rows in
-    IfErr-weaker c.link_of.result _ _ (λ e leaves other. subst LeavesOut (sym is) (leaves other)) c.link_of.ensures.refused
+    IfErr-weaker c.link_of.result _ _ (λ e why other. subst (λ named. LeavesOut named ⊎ ((status_of e ≡ 2) × WritesLibrary named)) (sym is) (why other)) c.link_of.ensures.refused
 
 pub returns-in-Some-map-default-clause-refused : goal.returns-in-Some-map-default-clause-refused
 returns-in-Some-map-default-clause-refused g c =
     let met = c.in-Some-map-default in
     let named : Some (codes "map") ≡ _ = ap Some (sym met.is-map) ∙ met.ensures.name in
     let is : subcommand_rows_of c.args.matches.now ≡ Some (codes "map", rows_of (found_of met.found.now)) = both _ _ _ _ _ named met.ensures.rows in
-    IfErr-weaker c.map_of.result _ _ (λ e leaves other. subst LeavesOut (sym is) (leaves other)) c.map_of.ensures.refused
+    IfErr-weaker c.map_of.result _ _ (λ e leaves other. inl (subst LeavesOut (sym is) (leaves other))) c.map_of.ensures.refused
 
 pub returns-in-Some-show-default-clause-refused : goal.returns-in-Some-show-default-clause-refused
 returns-in-Some-show-default-clause-refused g c =
     let met = c.in-Some-show-default in
     let named : Some (codes "show") ≡ _ = ap Some (sym met.is-show) ∙ met.ensures.name in
     let is : subcommand_rows_of c.args.matches.now ≡ Some (codes "show", rows_of (found_of met.found.now)) = both _ _ _ _ _ named met.ensures.rows in
-    IfErr-weaker c.show_of.result _ _ (λ e leaves other. subst LeavesOut (sym is) (leaves other)) c.show_of.ensures.refused
+    IfErr-weaker c.show_of.result _ _ (λ e leaves other. inl (subst LeavesOut (sym is) (leaves other))) c.show_of.ensures.refused
