@@ -1,3 +1,4 @@
 pub mod LinkedBytes
 pub mod MapTexts
 pub mod ShowTexts
+pub mod ByteFacts

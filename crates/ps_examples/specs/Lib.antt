@@ -1,3 +1,4 @@
 pub mod Files
 pub mod Expected
 pub mod Texts
+pub mod Segments

@@ -2,6 +2,7 @@
 #![tactic(auto)]
 
 mod added_units;
+mod byte_facts;
 mod libraries;
 mod linked_files;
 mod orders;
@@ -21,6 +22,7 @@ mod roles;
 mod texts;
 
 pub use added_units::{order_of_added_units, units_that_are_added};
+pub use byte_facts::facts_of_bytes;
 pub use libraries::choice_of_libraries;
 pub use linked_files::{linked_bytes, more_linked_bytes};
 pub use orders::one_order;

@@ -53,12 +53,12 @@ numbers_off i (s ∷ ss) =
     go [] = refl
     go (g ∷ gs) = ap (λ (xs : List UnitReference). g ∷ xs) (go gs)
 
-mapped : {A C : Type 0} (f : A → C) (xs : List A) (k : ℕ) (y : C) → slice_get (map f xs) k ≡ Some y → (x : A) × (slice_get xs k ≡ Some x) × (f x ≡ y)
+pub mapped : {A C : Type 0} (f : A → C) (xs : List A) (k : ℕ) (y : C) → slice_get (map f xs) k ≡ Some y → (x : A) × (slice_get xs k ≡ Some x) × (f x ≡ y)
 mapped f [] k y e = absurd (cc)
 mapped f (x ∷ xs) zero y e = (x, refl, cc)
 mapped f (x ∷ xs) (suc k) y e = mapped f xs k y e
 
-split_at : {A : Type 0} (xs ys : List A) (p : ℕ) (a : A) → slice_get (xs ++ ys) p ≡ Some a → (slice_get xs p ≡ Some a) ⊎ ((q : ℕ) × (p ≡ length xs + q) × (slice_get ys q ≡ Some a))
+pub split_at : {A : Type 0} (xs ys : List A) (p : ℕ) (a : A) → slice_get (xs ++ ys) p ≡ Some a → (slice_get xs p ≡ Some a) ⊎ ((q : ℕ) × (p ≡ length xs + q) × (slice_get ys q ≡ Some a))
 split_at [] ys p a e = inr (p, omega arith, e)
 split_at (x ∷ xs) ys zero a e = inl e
 split_at {A} (x ∷ xs) ys (suc p) a e = go (split_at xs ys p a e)
@@ -67,7 +67,7 @@ split_at {A} (x ∷ xs) ys (suc p) a e = go (split_at xs ys p a e)
     go (inl h) = inl h
     go (inr t) = inr (t.0, (let h = t.1 in omega (arith, h)), t.2)
 
-at_right : {A : Type 0} (xs ys : List A) (q : ℕ) (a : A) → slice_get ys q ≡ Some a → slice_get (xs ++ ys) (length xs + q) ≡ Some a
+pub at_right : {A : Type 0} (xs ys : List A) (q : ℕ) (a : A) → slice_get ys q ≡ Some a → slice_get (xs ++ ys) (length xs + q) ≡ Some a
 at_right {A} [] ys q a e = let same : q ≡ length {A = A} [] + q = omega arith in subst (λ (n : ℕ). slice_get ys n ≡ Some a) same e
 at_right {A} (x ∷ xs) ys q a e = let same : suc (length xs + q) ≡ length (x ∷ xs) + q = omega arith in subst (λ (n : ℕ). slice_get (x ∷ xs ++ ys) n ≡ Some a) same (next (length xs + q) (at_right xs ys q a e))
   where
@@ -152,7 +152,7 @@ numbered_is i (s ∷ ss) p m g e = elim (split_at (map (tag i) (references_of s)
       (suc r.0, (let h = r.1 in omega (arith, h)), r.2, r.3, r.4, r.5)
 ]
 
-map_at : {A C : Type 0} (f : A → C) (xs : List A) (k : ℕ) (x : A) → slice_get xs k ≡ Some x → slice_get (map f xs) k ≡ Some (f x)
+pub map_at : {A C : Type 0} (f : A → C) (xs : List A) (k : ℕ) (x : A) → slice_get xs k ≡ Some x → slice_get (map f xs) k ≡ Some (f x)
 map_at f [] k x e = absurd (cc)
 map_at {A} f (y ∷ xs) zero x e = let same : y ≡ x = cc in ap (λ (z : A). Some (f z)) same
 map_at f (y ∷ xs) (suc k) x e = map_at f xs k x e
@@ -359,12 +359,12 @@ giver units segs p m g t at = ((s, there, of.5, of.6), (s, there, of.0, subst (�
         itself a b h = not_both (a ∷ b ∷ []) (a ∷ b ∷ []) h h
 
 -- 4. what the host's own slots have
-unit_role : (r : Role) → is_unit r ≡ true → (r ≡ role.Unit) ⊎ (r ≡ role.Wanted)
+pub unit_role : (r : Role) → is_unit r ≡ true → (r ≡ role.Unit) ⊎ (r ≡ role.Wanted)
 unit_role role.Unit e = inl refl
 unit_role role.Wanted e = inr refl
 unit_role other e = absurd (false≢true e)
 
-own_is : (order : Order) (host : List ℕ) (libs : List (List ℕ)) (slot : ℕ) (s : Segment) → own_segment order host libs slot ≡ Some s → (r : Role) × HasRole order host slot r × (s.role ≡ r) × (s.name ≡ (entry_at order host slot).name)
+pub own_is : (order : Order) (host : List ℕ) (libs : List (List ℕ)) (slot : ℕ) (s : Segment) → own_segment order host libs slot ≡ Some s → (r : Role) × HasRole order host slot r × (s.role ≡ r) × (s.name ≡ (entry_at order host slot).name)
 own_is order host libs slot s e =
     option_and_then_some (λ r. option_and_then (segment_from order host libs slot (entry_at order host slot).name r) (source_of order host libs slot r)) (result_ok (role_of (entry_at order host slot))) s e (λ r e1 h.
     option_and_then_some (segment_from order host libs slot (entry_at order host slot).name r) (source_of order host libs slot r) s h (λ at e2 k.
@@ -381,7 +381,7 @@ slot_of_unit order host libs name e =
       | inr u ↦ (o.0, o.1, (inr (subst (λ (x : Role). HasRole order host o.0 x) u r.1), same))
     ]
 
-first_none : {A X : Type 0} (f : A → Option X) (xs : List A) (i : ℕ) (x : A) → first_of f xs ≡ None → slice_get xs i ≡ Some x → f x ≡ None
+pub first_none : {A X : Type 0} (f : A → Option X) (xs : List A) (i : ℕ) (x : A) → first_of f xs ≡ None → slice_get xs i ≡ Some x → f x ≡ None
 first_none f [] i x e u = absurd (cc)
 first_none {A} {X} f (y ∷ xs) i x e u = go (λ n k h. first_none f xs k x n h) (f y) refl e i u
   where
@@ -390,15 +390,15 @@ first_none {A} {X} f (y ∷ xs) i x e u = go (λ n k h. first_none f xs k x n h)
     go later None is e zero u = let same : y ≡ x = cc in sym (ap f same) ∙ is
     go later None is e (suc i) u = later e i u
 
-both_none : {X : Type 0} (o p : Option X) → option_or o p ≡ None → (o ≡ None) × (p ≡ None)
+pub both_none : {X : Type 0} (o p : Option X) → option_or o p ≡ None → (o ≡ None) × (p ≡ None)
 both_none None p e = (refl, e)
 both_none (Some x) p e = absurd (cc)
 
-source_none : (order : Order) (host : List ℕ) (libs : List (List ℕ)) → sources_fault order host libs ≡ None → (slot : ℕ) → slot < 16 → source_fault order host libs slot ≡ None
+pub source_none : (order : Order) (host : List ℕ) (libs : List (List ℕ)) → sources_fault order host libs ≡ None → (slot : ℕ) → slot < 16 → source_fault order host libs slot ≡ None
 unfolding sources_fault
 source_none order host libs fine slot h = let i = in_range 0 16 slot (omega arith) (omega (arith, h)) in first_none (source_fault order host libs) slots i.0 slot fine i.1
 
-of_role : (order : Order) (host : List ℕ) (libs : List (List ℕ)) (slot : ℕ) (r : Role) → source_fault order host libs slot ≡ None → HasRole order host slot r
+pub of_role : (order : Order) (host : List ℕ) (libs : List (List ℕ)) (slot : ℕ) (r : Role) → source_fault order host libs slot ≡ None → HasRole order host slot r
     → (wanted_fault order host libs slot r ≡ None) × (option_and_then (code_fault order host libs slot r) (source_of order host libs slot r) ≡ None)
 of_role order host libs slot r fine has = both_none (wanted_fault order host libs slot r) (option_and_then (code_fault order host libs slot r) (source_of order host libs slot r))
     (sym (ap (option_and_then (λ (x : Role). option_or (wanted_fault order host libs slot x) (option_and_then (code_fault order host libs slot x) (source_of order host libs slot x)))) (ap result_ok has)) ∙ fine)
@@ -460,7 +460,7 @@ made_is order host libs slot name at s e = go (code_of file (entry_at order file
         let x : Made c ≡ s = cc in
         (sym (ap (λ (q : Segment). q.file) x), sym (ap (λ (q : Segment). q.index) x), is ∙ ap (λ (q : Segment). Ok q.code) x, sym (ap (λ (q : Segment). q.records) x))
 
-find_in : {A : Type 0} (test : A → Bool) (xs : List A) (x : A) → find test xs ≡ Some x → In x xs
+pub find_in : {A : Type 0} (test : A → Bool) (xs : List A) (x : A) → find test xs ≡ Some x → In x xs
 find_in test [] x e = absurd (cc)
 find_in {A} test (y ∷ xs) x e = go (test y) e (λ h. find_in test xs x h)
   where

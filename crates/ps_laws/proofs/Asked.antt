@@ -147,7 +147,7 @@ all_had units row (h ∷ gs) g (suc i) e = all_had units (if is_had units row h.
 -- 3. where the rounds end without a fault, each name of the row has its slot and its segment
 abbrev pub IsPlaced : Order → List ℕ → List (List ℕ) → ℕ → UnitReference → Type 0
 IsPlaced order host libs j g =
-    (slot : ℕ) × (s : Segment) × (slice_get (empty_slots order host) j ≡ Some slot) × (slice_get (added order host libs) j ≡ Some s) × (added_segment order host libs g slot ≡ Some s)
+    (slot : ℕ) × (s : Segment) × (slice_get (empty_slots order host) j ≡ Some slot) × (slice_get (added order host libs) j ≡ Some s) × (added_segment order host libs g slot ≡ Some s) × (placed_fault order host libs g slot ≡ None)
 
 abbrev pub row_of : Order → List ℕ → List (List ℕ) → List UnitReference
 row_of order host libs = sought order host libs (added order host libs)
@@ -233,7 +233,7 @@ rounds_place order host libs (slot ∷ left) front used k row is at slots_are us
               let same : k ≡ j = omega (arith, x, low) in
               let named : slice_get (row_of order host libs) j ≡ Some g = subst (λ (n : ℕ). slice_get (row_of order host libs) n ≡ Some g) same (stays g (s ∷ rest) e is) in
               let it : g ≡ h = cc in
-              subst (λ (n : ℕ). IsPlaced order host libs n h) same (slot, s, slot_at, here, subst (λ (y : UnitReference). added_segment order host libs y slot ≡ Some s) it q)
+              subst (λ (n : ℕ). IsPlaced order host libs n h) same (slot, s, slot_at, here, subst (λ (y : UnitReference). added_segment order host libs y slot ≡ Some s) it q, subst (λ (y : UnitReference). placed_fault order host libs y slot ≡ None) it p)
         ]
 
         segs : (j : ℕ) (t : Segment) → k ≤ j → slice_get (added order host libs) j ≡ Some t → (h : UnitReference) × (slice_get (row_of order host libs) j ≡ Some h)

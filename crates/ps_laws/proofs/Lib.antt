@@ -13,3 +13,10 @@ pub mod Privates
 pub mod References
 pub mod Whole
 pub mod AddedUnits
+pub mod SummedOffsets
+pub mod SoundCodes
+pub mod OnePlace
+pub mod OneName
+pub mod EditsAt
+pub mod ByteFacts
+pub mod LinkedBytes

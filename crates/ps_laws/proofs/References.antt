@@ -111,7 +111,7 @@ one_definition ds name d e a b = elim (cases_lt a.0 b.0) [
 abbrev UnitIsThere : List Segment → List ℕ → Body → Type 0
 UnitIsThere segs name body = is_unit_reference body ≡ true → HasUnit segs name
 
-record_rows : (segs : List Segment) (off : ℕ) (name : List ℕ) (body : Body) → UnitIsThere segs name body → Least Ranked (RecordHas segs name body) (result_err (target_in (known_of segs) off name body))
+pub record_rows : (segs : List Segment) (off : ℕ) (name : List ℕ) (body : Body) → UnitIsThere segs name body → Least Ranked (RecordHas segs name body) (result_err (target_in (known_of segs) off name body))
 record_rows segs off name (PrivRef words refs) there = nothing (λ y h. h)
 record_rows segs off name (PublDef value) there = nothing (λ y h. h)
 record_rows segs off name (ConstDef value) there = nothing (λ y h. h)
@@ -214,7 +214,7 @@ overlapping records rec i r x er =
           | inr u ↦ absurd u.1
         ]
 
-wide : (body : Body) (i x : ℕ) → slice_get (refs_of body) i ≡ Some x → 0 < operand_width body
+pub wide : (body : Body) (i x : ℕ) → slice_get (refs_of body) i ≡ Some x → 0 < operand_width body
 wide (UnitRef refs) i x e = omega arith
 wide (PublRef refs) i x e = omega arith
 wide (PrivRef words refs) i x e = omega arith

@@ -263,7 +263,7 @@ native_table order code =
     (any_of_range (λ p. option_map_or (λ t. slice_index code t == 0) (table_of order code p) false) (λ p. (t : ℕ) × (table_of order code p ≡ Some t) × (slice_index code t ≡ 0))
     (λ p. is_at (λ t. slice_index code t == 0) (λ t. slice_index code t ≡ 0) (λ t. Decides-eqb (slice_index code t) 0) (table_of order code p)) 1 (procedures code)))
 
-tables_rows : (order : Order) (code : List ℕ) (host : Bool) → Least Ranked (TablesHave order code host) (tables_fault order code host)
+pub tables_rows : (order : Order) (code : List ℕ) (host : Bool) → Least Ranked (TablesHave order code host) (tables_fault order code host)
 tables_rows order code host = go (nat_lt (length code) (dictionary_len code) || not (list_all (is_placed order code) (numbers code)) || (host && (procedures code == 0 || content_of order code 1 == 0))) (are_bad order code host)
   where
     Has : Reason → Type 0

@@ -2,7 +2,9 @@
 #![tactic(auto)]
 
 mod first_fault;
+mod linked_bytes;
 mod sought;
 
 pub use first_fault::first_of_all;
+pub use linked_bytes::{bytes_are_linked, offsets_are_sums};
 pub use sought::added_units;

@@ -4,6 +4,7 @@ use Rattle.std.proofs.lemmas.List.{length-map}
 use Rattle.std.specs.Prelude.{All, nat_lt}
 use Rattle.std.specs.List.{range_with_len, flat_map}
 use Rattle.std.proofs.lemmas.Bool.{ltb-true}
+use Rattle.std.proofs.lemmas.List.Elements.{All-nil, All-cons, All-head, All-tail}
 use Rattle.ps_words.specs.Words.{blocks}
 use Rattle.ps_words.specs.Edits.{patched}
 use Rattle.ps_words.specs.declared.order.Order.{Order}
@@ -13,7 +14,7 @@ use Rattle.ps_resolve.specs.Sources.{Segment, order_of, host_records}
 use Rattle.ps_resolve.specs.Added.{segments, slot_names}
 use Rattle.ps_resolve.specs.Privates.{words_of, next_of, total_words}
 use Rattle.ps_resolve.specs.References.{Known}
-use Rattle.ps_resolve.specs.Linking.{edited_from, known_of, segment_edits}
+use Rattle.ps_resolve.specs.Linking.{Edited, edited_from, known_of, segment_edits}
 use Rattle.ps_resolve.specs.Plans.{Planned, Origin, origin_of, LinkSegments, IsPlan}
 use Rattle.ps_patch.specs.Patched.{patched_or_zero}
 use Rattle.ps_linkfile.specs.declared.summary.Summary.{Summary}
@@ -26,15 +27,35 @@ of_origins : (ss : List Segment) → map extent_of_origin (map origin_of ss) ≡
 of_origins [] = refl
 of_origins (s ∷ ss) = ap (λ (cs : List Extent). extent_at s ∷ cs) (of_origins ss)
 
-of_edited : (order : Order) (known : Known) (words free : ℕ) (ss : List Segment) → map extent_of (edited_from order known words free ss) ≡ map extent_at ss
+abbrev pub extent_of_edited : Edited → Extent
+extent_of_edited e = extent_of e.segment
+
+of_edited : (order : Order) (known : Known) (words free : ℕ) (ss : List Segment) → map extent_of_edited (edited_from order known words free ss) ≡ map extent_at ss
 of_edited order known words free [] = refl
 of_edited order known words free (s ∷ ss) = ap (λ (cs : List Extent). extent_at s ∷ cs) (of_edited order known words (free + words_of s.records) ss)
 
 pub extents_are : (host : List ℕ) (libs : List (List ℕ)) → extents host libs ≡ map extent_at (segments (order_of host) host libs)
-extents_are host libs =
+extents_are host libs = refl
+
+pub edited_extents : (host : List ℕ) (libs : List (List ℕ)) → map extent_of_edited (linked_segments host libs) ≡ extents host libs
+edited_extents host libs =
     let order = order_of host in
     let ss = segments order host libs in
     of_edited order (known_of ss) (total_words ss) (next_of (host_records ss)) ss
+
+-- what holds of each segment with its edits holds of each segment, and the other way round
+pub of_all_edited : (P : Segment → Type 0) (order : Order) (known : Known) (words free : ℕ) (ss : List Segment) → All (λ (e : Edited). P e.segment) (edited_from order known words free ss) → All P ss
+of_all_edited P order known words free [] h = All-nil P
+of_all_edited P order known words free (s ∷ ss) h =
+    let e : Edited = record { segment = s; edits = segment_edits order known words free s } in
+    let rest = edited_from order known words (free + words_of s.records) ss in
+    All-cons P s ss (All-head (λ (e : Edited). P e.segment) e rest h) (of_all_edited P order known words (free + words_of s.records) ss (All-tail (λ (e : Edited). P e.segment) e rest h))
+
+pub to_all_edited : (P : Segment → Type 0) (order : Order) (known : Known) (words free : ℕ) (ss : List Segment) → All P ss → All (λ (e : Edited). P e.segment) (edited_from order known words free ss)
+to_all_edited P order known words free [] h = All-nil (λ (e : Edited). P e.segment)
+to_all_edited P order known words free (s ∷ ss) h =
+    All-cons (λ (e : Edited). P e.segment) (record { segment = s; edits = segment_edits order known words free s }) (edited_from order known words (free + words_of s.records) ss)
+    (All-head P s ss h) (to_all_edited P order known words (free + words_of s.records) ss (All-tail P s ss h))
 
 pub extents_ascend : (host : List ℕ) (libs : List (List ℕ)) → Ascend 0 (extents host libs)
 extents_ascend host libs = subst (λ (cs : List Extent). Ascend 0 cs) (sym (extents_are host libs)) (segments_ascend (order_of host) host libs)

@@ -13,20 +13,24 @@ use Rattle.ps_words.specs.Words.{blocks}
 use Rattle.ps_words.specs.declared.order.Order.{Order}
 use Rattle.ps_words.specs.declared.fault.Reason.{Reason}
 use Rattle.ps_words.specs.declared.fault.Reason.TheVariants as reason
+use Rattle.ps_words.specs.declared.fault.Fault.{Fault}
 use Rattle.ps_words.specs.FaultPlaces.{in_file}
 use Rattle.ps_codefile.specs.Dictionary.{slots, Opened, file_order, opened_as}
-use Rattle.ps_resolve.specs.Sources.{order_of}
+use Rattle.ps_resolve.specs.Sources.{Segment, order_of, host_records}
+use Rattle.ps_resolve.specs.Privates.{next_of, total_words}
+use Rattle.ps_resolve.specs.LinkedBytes.{IsLinkedByte, NoneStands, segments_of, HaveLinkedBytes, HaveOneLinkedByte}
 use Rattle.ps_resolve.specs.Added.{segments, slot_names}
-use Rattle.ps_resolve.specs.Linking.{Edited, linked_byte}
+use Rattle.ps_resolve.specs.Linking.{Edited, known_of, linked_byte}
 use Rattle.ps_resolve.specs.Faults.{host_fault}
 use Rattle.ps_resolve.specs.AllFaults.{first_fault, reading_fault}
+use Rattle.ps_resolve.specs.Standing.{IsFirst}
 use Rattle.ps_patch.specs.Patched.{patched_or_zero}
-use Rattle.ps_linkfile.specs.LinkedFile.{Extent, all_blocks, block_of, pair_of, linked_segments, extent_of, extents, LinkedFile, all_pairs, dictionary, padded_segment, linked_file}
+use Rattle.ps_linkfile.specs.LinkedFile.{Extent, all_blocks, block_of, pair_of, linked_segments, extents, LinkedFile, all_pairs, dictionary, padded_segment, linked_file}
 use Rattle.ps_linkfile.specs.Writing.{Ascend}
 use Rattle.ps_linkfile.proofs.Extents.{Left, left_start, left_more, first_block, all_blocks-cons}
 use Rattle.ps_linkfile.proofs.Pairs.{pair_four, pairs_at, pairs_len, pairs_are}
 use Rattle.ps_linkfile.proofs.Fronts.{image_is}
-use Rattle.ps_linkfile.proofs.Plans.{extents_ascend}
+use Rattle.ps_linkfile.proofs.Plans.{extent_of_edited, extents_ascend, edited_extents, of_all_edited, to_all_edited}
 
 -- a part of a list, by its places
 part_at : (xs ys : List ℕ) (a b j : ℕ) → slice_range xs a b ≡ ys → j < b - a → get_or xs (a + j) 0 ≡ get_or ys j 0
@@ -64,10 +68,10 @@ inside order e p lt = let yes : nat_lt p (length e.segment.code) ≡ true = grin
 past : (order : Order) (e : Edited) (p : ℕ) → length e.segment.code ≤ p → patched_or_zero order e.segment.code e.edits p ≡ 0
 past order e p le = let no : nat_lt p (length e.segment.code) ≡ false = le-ltb p (length e.segment.code) le in rw no
 
-to_laid : (order : Order) (file : List ℕ) (all : List Extent) (from block : ℕ) (es : List Edited) → Left all from block (map extent_of es) → All (HasCode order file all) es → All (HasPadding file all) es → Laid order file block es
+to_laid : (order : Order) (file : List ℕ) (all : List Extent) (from block : ℕ) (es : List Edited) → Left all from block (map extent_of_edited es) → All (HasCode order file all) es → All (HasPadding file all) es → Laid order file block es
 to_laid order file all from block [] h codes zeros = tt
 to_laid order file all from block (e ∷ es) h codes zeros =
-    let at : block_of all e.segment.slot ≡ block = first_block all from block (extent_of e) (map extent_of es) h in
+    let at : block_of all e.segment.slot ≡ block = first_block all from block (extent_of_edited e) (map extent_of_edited es) h in
     let code = All-head (HasCode order file all) e es codes in
     let zero = All-head (HasPadding file all) e es zeros in (
       (λ p lt.
@@ -77,25 +81,25 @@ to_laid order file all from block (e ∷ es) h codes zeros =
             | inr beyond ↦ zero p beyond lt ∙ sym (past order e p beyond)
           ]),
       to_laid order file all (e.segment.slot + 1) (block + blocks (length e.segment.code)) es
-          (left_more all from block (extent_of e) (map extent_of es) h)
+          (left_more all from block (extent_of_edited e) (map extent_of_edited es) h)
           (All-tail (HasCode order file all) e es codes) (All-tail (HasPadding file all) e es zeros),
     )
 
-laid_codes : (order : Order) (file : List ℕ) (all : List Extent) (from block : ℕ) (es : List Edited) → Left all from block (map extent_of es) → Laid order file block es → All (HasCode order file all) es
+laid_codes : (order : Order) (file : List ℕ) (all : List Extent) (from block : ℕ) (es : List Edited) → Left all from block (map extent_of_edited es) → Laid order file block es → All (HasCode order file all) es
 laid_codes order file all from block [] h laid = All-nil (HasCode order file all)
 laid_codes order file all from block (e ∷ es) h laid =
-    let at : block_of all e.segment.slot ≡ block = first_block all from block (extent_of e) (map extent_of es) h in
+    let at : block_of all e.segment.slot ≡ block = first_block all from block (extent_of_edited e) (map extent_of_edited es) h in
     All-cons (HasCode order file all) e es
     (λ p within. ap (λ b. get_or file (512 * b + p) 0) at ∙ (laid.0 p (omega arith) ∙ inside order e p within))
-    (laid_codes order file all (e.segment.slot + 1) (block + blocks (length e.segment.code)) es (left_more all from block (extent_of e) (map extent_of es) h) laid.1)
+    (laid_codes order file all (e.segment.slot + 1) (block + blocks (length e.segment.code)) es (left_more all from block (extent_of_edited e) (map extent_of_edited es) h) laid.1)
 
-laid_padding : (order : Order) (file : List ℕ) (all : List Extent) (from block : ℕ) (es : List Edited) → Left all from block (map extent_of es) → Laid order file block es → All (HasPadding file all) es
+laid_padding : (order : Order) (file : List ℕ) (all : List Extent) (from block : ℕ) (es : List Edited) → Left all from block (map extent_of_edited es) → Laid order file block es → All (HasPadding file all) es
 laid_padding order file all from block [] h laid = All-nil (HasPadding file all)
 laid_padding order file all from block (e ∷ es) h laid =
-    let at : block_of all e.segment.slot ≡ block = first_block all from block (extent_of e) (map extent_of es) h in
+    let at : block_of all e.segment.slot ≡ block = first_block all from block (extent_of_edited e) (map extent_of_edited es) h in
     All-cons (HasPadding file all) e es
     (λ p beyond lt. ap (λ b. get_or file (512 * b + p) 0) at ∙ (laid.0 p lt ∙ past order e p beyond))
-    (laid_padding order file all (e.segment.slot + 1) (block + blocks (length e.segment.code)) es (left_more all from block (extent_of e) (map extent_of es) h) laid.1)
+    (laid_padding order file all (e.segment.slot + 1) (block + blocks (length e.segment.code)) es (left_more all from block (extent_of_edited e) (map extent_of_edited es) h) laid.1)
 
 padded_len : (order : Order) (e : Edited) → length (padded_segment order e) ≡ 512 * blocks (length e.segment.code)
 padded_len order e = length-map-range_with_len (patched_or_zero order e.segment.code e.edits) 0 (512 * blocks (length e.segment.code))
@@ -103,21 +107,21 @@ padded_len order e = length-map-range_with_len (patched_or_zero order e.segment.
 padded_at : (order : Order) (e : Edited) (p : ℕ) → p < 512 * blocks (length e.segment.code) → get_or (padded_segment order e) p 0 ≡ patched_or_zero order e.segment.code e.edits p
 padded_at order e p lt = get_or-map-range_with_len (patched_or_zero order e.segment.code e.edits) 0 (512 * blocks (length e.segment.code)) p p 0 lt (omega arith)
 
-codes_len : (order : Order) (es : List Edited) → length (flat_map (padded_segment order) es) ≡ 512 * all_blocks (map extent_of es)
+codes_len : (order : Order) (es : List Edited) → length (flat_map (padded_segment order) es) ≡ 512 * all_blocks (map extent_of_edited es)
 codes_len order [] = omega arith
 codes_len order (e ∷ es) =
     length-append (padded_segment order e) (flat_map (padded_segment order) es)
-    ∙ omega (arith, padded_len order e, codes_len order es, all_blocks-cons (extent_of e) (map extent_of es))
+    ∙ omega (arith, padded_len order e, codes_len order es, all_blocks-cons (extent_of_edited e) (map extent_of_edited es))
 
 -- what stands behind a block is the codes
-laid_is : (order : Order) (file : List ℕ) (block : ℕ) (es : List Edited) → length file ≡ 512 * (block + all_blocks (map extent_of es)) → Laid order file block es → drop (512 * block) file ≡ flat_map (padded_segment order) es
+laid_is : (order : Order) (file : List ℕ) (block : ℕ) (es : List Edited) → length file ≡ 512 * (block + all_blocks (map extent_of_edited es)) → Laid order file block es → drop (512 * block) file ≡ flat_map (padded_segment order) es
 laid_is order file block [] len laid = drop_all (512 * block) file (omega (arith, len))
 laid_is order file block (e ∷ es) len laid =
     let n = blocks (length e.segment.code) in
     let f = patched_or_zero order e.segment.code e.edits in
     let rest = drop (512 * block) file in
-    let blocks_are : all_blocks (extent_of e ∷ map extent_of es) ≡ n + all_blocks (map extent_of es) = all_blocks-cons (extent_of e) (map extent_of es) in
-    let room : length rest ≡ 512 * (n + all_blocks (map extent_of es)) = length-drop (512 * block) file ∙ omega (arith, len, blocks_are) in
+    let blocks_are : all_blocks (extent_of_edited e ∷ map extent_of_edited es) ≡ n + all_blocks (map extent_of_edited es) = all_blocks-cons (extent_of_edited e) (map extent_of_edited es) in
+    let room : length rest ≡ 512 * (n + all_blocks (map extent_of_edited es)) = length-drop (512 * block) file ∙ omega (arith, len, blocks_are) in
     let first : take (512 * n) rest ≡ padded_segment order e =
     image_is f 0 (512 * n) (take (512 * n) rest) (length-take (512 * n) rest ∙ omega (arith, room))
     (λ k lt. let at : k ≡ 0 + k = omega arith in get_or-take (512 * n) rest k 0 lt ∙ (get_or-drop (512 * block) file k 0 ∙ (laid.0 k lt ∙ ap f at))) in
@@ -288,11 +292,11 @@ whole_size : (head codes : List ℕ) (n : ℕ) → length head ≡ 512 → lengt
 whole_size head codes n h k = length-append head codes ∙ omega (arith, h, k)
 
 -- the list has these facts
-pub file_there : (order : Order) (all_names : List (List ℕ)) (host : List ℕ) (all : List Extent) (es : List Edited) → map extent_of es ≡ all → Ascend 0 all → length (flat_map (λ name. name) all_names) ≡ 128 → 512 ≤ length host → IsFile order all_names host all es (dictionary order all_names host all ++ flat_map (padded_segment order) es)
+pub file_there : (order : Order) (all_names : List (List ℕ)) (host : List ℕ) (all : List Extent) (es : List Edited) → map extent_of_edited es ≡ all → Ascend 0 all → length (flat_map (λ name. name) all_names) ≡ 128 → 512 ≤ length host → IsFile order all_names host all es (dictionary order all_names host all ++ flat_map (padded_segment order) es)
 unfolding dictionary all_pairs
 file_there order all_names host all es is ascend named long = made (flat_map (pair_of order all) slots) (flat_map (λ name. name) all_names) (slice_range host 256 512) (flat_map (padded_segment order) es) refl refl refl refl
   where
-    left : Left all 0 1 (map extent_of es)
+    left : Left all 0 1 (map extent_of_edited es)
     left = subst (λ (cs : List Extent). Left all 0 1 cs) (sym is) (left_start all ascend)
 
     made : (pairs names tail codes : List ℕ) → pairs ≡ flat_map (pair_of order all) slots → names ≡ flat_map (λ name. name) all_names → tail ≡ slice_range host 256 512 → codes ≡ flat_map (padded_segment order) es → IsFile order all_names host all es ((pairs ++ (names ++ (replicate 64 0 ++ tail))) ++ codes)
@@ -339,12 +343,12 @@ joined file pairs names zeros tail codes p n z t c =
     first ∙ sym (flat_parts pairs names zeros tail codes)
 
 -- no other list has them
-pub file_one : (order : Order) (all_names : List (List ℕ)) (host : List ℕ) (all : List Extent) (es : List Edited) (file : List ℕ) → map extent_of es ≡ all → Ascend 0 all → IsFile order all_names host all es file → file ≡ dictionary order all_names host all ++ flat_map (padded_segment order) es
+pub file_one : (order : Order) (all_names : List (List ℕ)) (host : List ℕ) (all : List Extent) (es : List Edited) (file : List ℕ) → map extent_of_edited es ≡ all → Ascend 0 all → IsFile order all_names host all es file → file ≡ dictionary order all_names host all ++ flat_map (padded_segment order) es
 unfolding dictionary all_pairs
 file_one order all_names host all es file is ascend h =
-    let left : Left all 0 1 (map extent_of es) = subst (λ (cs : List Extent). Left all 0 1 cs) (sym is) (left_start all ascend) in
+    let left : Left all 0 1 (map extent_of_edited es) = subst (λ (cs : List Extent). Left all 0 1 cs) (sym is) (left_start all ascend) in
     let laid : Laid order file 1 es = to_laid order file all 0 1 es left h.codes h.padding in
-    let size : length file ≡ 512 * (1 + all_blocks (map extent_of es)) = h.size ∙ ap (λ (cs : List Extent). 512 * (1 + all_blocks cs)) (sym is) in
+    let size : length file ≡ 512 * (1 + all_blocks (map extent_of_edited es)) = h.size ∙ ap (λ (cs : List Extent). 512 * (1 + all_blocks cs)) (sym is) in
     let room : 512 ≤ length file = room_of (length file) (all_blocks all) h.size in
     joined file (flat_map (pair_of order all) slots) (flat_map (λ name. name) all_names) (replicate 64 0) (slice_range host 256 512) (flat_map (padded_segment order) es)
     (sixteen order all file room h.pairs) h.names_are (zeros_part file room h.zeros) h.tail (laid_is order file 1 es size laid)
@@ -356,24 +360,69 @@ file_one order all_names host all es file is ascend h =
 abbrev pub NamesWhole : Type 0
 NamesWhole = (order : Order) (host : List ℕ) (libs : List (List ℕ)) → 512 ≤ length host → length (flat_map (λ name. name) (slot_names host (segments order host libs))) ≡ 128
 
--- the linked file of a host and its libraries
-pub there : NamesWhole → (host : List ℕ) (libs : List (List ℕ)) → first_fault host libs ≡ None → LinkedFile host libs (linked_file host libs)
-there law host libs none =
-    let long = long_host host libs none in
-    let named = law (order_of host) host libs long in
-    let h = file_there (order_of host) (slot_names host (segments (order_of host) host libs)) host (extents host libs) (linked_segments host libs) refl (extents_ascend host libs) named long in
-    record {
-      accepted = none;
-      size = h.size;
-      pairs = h.pairs;
-      names = h.names_are;
-      kinds_and_texts = h.zeros;
-      tail = h.tail;
-      codes = h.codes;
-      padding = h.padding;
-    }
+-- the laws of linked bytes: where no fault stands the edits make them, and there is one at each place
+abbrev pub AreMade : Type 0
+AreMade = (host : List ℕ) (libs : List (List ℕ)) → NoneStands host libs → HaveLinkedBytes host libs
 
-pub one : (host : List ℕ) (libs : List (List ℕ)) (file : List ℕ) → LinkedFile host libs file → file ≡ linked_file host libs
-one host libs file h =
-    file_one (order_of host) (slot_names host (segments (order_of host) host libs)) host (extents host libs) (linked_segments host libs) file refl (extents_ascend host libs)
-    (record { size = h.size; pairs = h.pairs; names_are = h.names; zeros = h.kinds_and_texts; tail = h.tail; codes = h.codes; padding = h.padding })
+abbrev pub AreOne : Type 0
+AreOne = (host : List ℕ) (libs : List (List ℕ)) → NoneStands host libs → HaveOneLinkedByte host libs
+
+-- where no first fault is computed none stands
+abbrev pub NoneFound : Type 0
+NoneFound = (host : List ℕ) (libs : List (List ℕ)) → first_fault host libs ≡ None → NoneStands host libs
+
+-- where none stands, no first fault is computed
+pub none_found : ((host : List ℕ) (libs : List (List ℕ)) (f : Fault) → first_fault host libs ≡ Some f → IsFirst host libs f) → (host : List ℕ) (libs : List (List ℕ)) → NoneStands host libs → first_fault host libs ≡ None
+none_found first host libs none = go (first_fault host libs) refl
+  where
+    go : (o : Option Fault) → first_fault host libs ≡ o → o ≡ None
+    go None e = refl
+    go (Some f) e = let w = first host libs f e in absurd (none w.step f w.stands)
+
+-- the linked file of a host and its libraries
+module _ (host : List ℕ) (libs : List (List ℕ)) where
+  abbrev IsLinked : List ℕ → Segment → Type 0
+  IsLinked file s = (p : ℕ) → p < length s.code → IsLinkedByte (order_of host) (segments_of host libs) s p (get_or file (512 * block_of (extents host libs) s.slot + p) 0)
+
+  abbrev IsPadded : List ℕ → Segment → Type 0
+  IsPadded file s = (p : ℕ) → length s.code ≤ p → p < 512 * blocks (length s.code) → get_or file (512 * block_of (extents host libs) s.slot + p) 0 ≡ 0
+
+  of_all : (P : Segment → Type 0) → All (λ (e : Edited). P e.segment) (linked_segments host libs) → All P (segments_of host libs)
+  of_all P = let ss = segments_of host libs in of_all_edited P (order_of host) (known_of ss) (total_words ss) (next_of (host_records ss)) ss
+
+  to_all : (P : Segment → Type 0) → All P (segments_of host libs) → All (λ (e : Edited). P e.segment) (linked_segments host libs)
+  to_all P = let ss = segments_of host libs in to_all_edited P (order_of host) (known_of ss) (total_words ss) (next_of (host_records ss)) ss
+
+  -- the codes with their edits have the linked bytes
+  codes_linked : (file : List ℕ) → HaveLinkedBytes host libs → All (HasCode (order_of host) file (extents host libs)) (linked_segments host libs) → All (IsLinked file) (segments_of host libs)
+  codes_linked file made codes =
+      of_all (IsLinked file) (λ k d lt p within. subst (λ (b : ℕ). IsLinkedByte (order_of host) (segments_of host libs) (get_or (linked_segments host libs) k d).segment p b) (sym (codes k d lt p within)) (made k d lt p within))
+
+  -- and what has the linked bytes has the codes with their edits
+  linked_codes : (file : List ℕ) → HaveLinkedBytes host libs → HaveOneLinkedByte host libs → All (IsLinked file) (segments_of host libs) → All (HasCode (order_of host) file (extents host libs)) (linked_segments host libs)
+  linked_codes file made one linked = λ k d lt p within. to_all IsOne one k d lt p _ _ (to_all (IsLinked file) linked k d lt p within) (made k d lt p within)
+    where
+      IsOne : Segment → Type 0
+      IsOne s = (p b c : ℕ) → IsLinkedByte (order_of host) (segments_of host libs) s p b → IsLinkedByte (order_of host) (segments_of host libs) s p c → b ≡ c
+
+  pub there : NamesWhole → NoneFound → AreMade → first_fault host libs ≡ None → LinkedFile host libs (linked_file host libs)
+  there law found made none =
+      let long = long_host host libs none in
+      let named = law (order_of host) host libs long in
+      let stands = found host libs none in
+      let h = file_there (order_of host) (slot_names host (segments (order_of host) host libs)) host (extents host libs) (linked_segments host libs) (edited_extents host libs) (extents_ascend host libs) named long in
+      record {
+        accepted = stands;
+        size = h.size;
+        pairs = h.pairs;
+        names = h.names_are;
+        kinds_and_texts = h.zeros;
+        tail = h.tail;
+        codes = codes_linked (linked_file host libs) (made host libs stands) h.codes;
+        padding = of_all (IsPadded (linked_file host libs)) h.padding;
+      }
+
+  pub one : AreMade → AreOne → (file : List ℕ) → LinkedFile host libs file → file ≡ linked_file host libs
+  one made single file h =
+      file_one (order_of host) (slot_names host (segments (order_of host) host libs)) host (extents host libs) (linked_segments host libs) file (edited_extents host libs) (extents_ascend host libs)
+      (record { size = h.size; pairs = h.pairs; names_are = h.names; zeros = h.kinds_and_texts; tail = h.tail; codes = linked_codes file (made host libs h.accepted) (single host libs h.accepted) h.codes; padding = to_all (IsPadded file) h.padding })

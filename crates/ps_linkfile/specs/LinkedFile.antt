@@ -1,17 +1,17 @@
 -- The linked file: block 0 has its segment dictionary, and the blocks behind it have the code of each segment, by slot, each padded with zeros to its last block's end.
 -- Source: UCSD Pascal II.0 manual, code file format; the layout is this project's profile.
-use Rattle.std.specs.Prelude.{◌≡◌, ℕ, ◌+◌, ◌*◌, ◌<◌, ◌≤◌, ◌==◌, List, [], ◌∷◌, ◌++◌, length, map, replicate, slice_index, slice_range, nat_lt, None, All, sum_by}
+use Rattle.std.specs.Prelude.{◌≡◌, ℕ, ◌+◌, ◌*◌, ◌<◌, ◌≤◌, ◌==◌, List, [], ◌∷◌, ◌++◌, length, map, replicate, slice_index, slice_range, nat_lt, All, sum_by}
 use Rattle.std.specs.List.{range_with_len, filter, find, flat_map}
 use Rattle.std.specs.Option.{option_map_or}
 use Rattle.ps_words.specs.Words.{word_bytes, blocks}
 use Rattle.ps_words.specs.declared.order.Order.{Order}
 use Rattle.ps_words.specs.declared.edit.Edit.{Edit}
 use Rattle.ps_codefile.specs.Dictionary.{slots, block_len, names_start, kinds_start, tail_start}
-use Rattle.ps_resolve.specs.Sources.{order_of}
+use Rattle.ps_resolve.specs.Sources.{Segment, order_of}
 use Rattle.ps_resolve.specs.Added.{segments, slot_names}
 use Rattle.ps_resolve.specs.Privates.{total_words}
-use Rattle.ps_resolve.specs.Linking.{Edited, edited, linked_byte}
-use Rattle.ps_resolve.specs.AllFaults.{first_fault}
+use Rattle.ps_resolve.specs.Linking.{Edited, edited}
+use Rattle.ps_resolve.specs.LinkedBytes.{IsLinkedByte, NoneStands, segments_of}
 use Rattle.ps_patch.specs.Patched.{patched_or_zero}
 use Rattle.ps_linkfile.specs.declared.summary.Summary.{Summary}
 
@@ -33,26 +33,26 @@ abbrev pub pair_of : Order → List Extent → ℕ → List ℕ
 pair_of order codes slot =
     option_map_or (λ c. word_bytes order (block_of codes slot) ++ word_bytes order c.size) (find (λ c. c.slot == slot) codes) (0 ∷ 0 ∷ 0 ∷ 0 ∷ [])
 
--- the segments of a link, by slot, each with its edits
-abbrev pub linked_segments : List ℕ → List (List ℕ) → List Edited
-linked_segments host libs = edited (order_of host) (segments (order_of host) host libs)
-
-abbrev pub extent_of : Edited → Extent
-extent_of e = record { slot = e.segment.slot; size = length e.segment.code }
+abbrev pub extent_of : Segment → Extent
+extent_of s = record { slot = s.slot; size = length s.code }
 
 abbrev pub extents : List ℕ → List (List ℕ) → List Extent
-extents host libs = map extent_of (linked_segments host libs)
+extents host libs = map extent_of (segments_of host libs)
 
--- The file is the linked file of the host and the libraries, which no fault refuses.
+-- The file is the linked file of the host and the libraries, of which no fault stands: each byte of each code is the linked byte there.
 pub record LinkedFile (host : List ℕ) (libs : List (List ℕ)) (file : List ℕ) : Type 0 where
-  pub accepted : first_fault host libs ≡ None
+  pub accepted : NoneStands host libs
   pub size : length file ≡ block_len * (1 + all_blocks (extents host libs))
   pub pairs : (slot : ℕ) → slot < 16 → slice_range file (4 * slot) (4 * slot + 4) ≡ pair_of (order_of host) (extents host libs) slot
   pub names : slice_range file names_start kinds_start ≡ flat_map (λ name. name) (slot_names host (segments (order_of host) host libs))
   pub kinds_and_texts : (p : ℕ) → kinds_start ≤ p → p < tail_start → slice_index file p ≡ 0
   pub tail : slice_range file tail_start block_len ≡ slice_range host tail_start block_len
-  pub codes : All (λ e. (p : ℕ) → p < length e.segment.code → slice_index file (block_len * block_of (extents host libs) e.segment.slot + p) ≡ linked_byte (order_of host) e p) (linked_segments host libs)
-  pub padding : All (λ e. (p : ℕ) → length e.segment.code ≤ p → p < block_len * blocks (length e.segment.code) → slice_index file (block_len * block_of (extents host libs) e.segment.slot + p) ≡ 0) (linked_segments host libs)
+  pub codes : All (λ s. (p : ℕ) → p < length s.code → IsLinkedByte (order_of host) (segments_of host libs) s p (slice_index file (block_len * block_of (extents host libs) s.slot + p))) (segments_of host libs)
+  pub padding : All (λ s. (p : ℕ) → length s.code ≤ p → p < block_len * blocks (length s.code) → slice_index file (block_len * block_of (extents host libs) s.slot + p) ≡ 0) (segments_of host libs)
+
+-- the segments of a link, by slot, each with its edits
+abbrev pub linked_segments : List ℕ → List (List ℕ) → List Edited
+linked_segments host libs = edited (order_of host) (segments (order_of host) host libs)
 
 -- the pairs of all slots
 unfoldable pub all_pairs : Order → List Extent → List ℕ

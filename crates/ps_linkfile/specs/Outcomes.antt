@@ -2,10 +2,10 @@
 -- Source: this project's profile.
 use Rattle.std.specs.Prelude.{◌≡◌, ℕ, List, Option, Some, None, take, ⊤}
 use Rattle.std.specs.Io.KnownBytes.{Appends}
-use Rattle.ps_words.specs.declared.fault.Fault.{Fault}
 use Rattle.ps_words.specs.FaultPlaces.{HasItsParts}
 use Rattle.ps_resolve.specs.AllFaults.{first_fault, reading_fault}
-use Rattle.ps_resolve.specs.Standing.{Step, FaultAt, NoneStandsInReading, IsFirst}
+use Rattle.ps_resolve.specs.Standing.{NoneStandsInReading, IsFirst}
+use Rattle.ps_resolve.specs.LinkedBytes.{NoneStands}
 use Rattle.ps_resolve.specs.declared.linkage.Stop.{Stop}
 use Rattle.ps_resolve.specs.declared.linkage.Stop.TheVariants as stop
 use Rattle.ps_linkfile.specs.LinkedFile.{LinkedFile}
@@ -36,10 +36,6 @@ abbrev pub IsUnlinked : List ℕ → List (List ℕ) → LinkError → Type 0
 IsUnlinked host libs (Refused fault) = first_fault host libs ≡ Some fault
 IsUnlinked host libs Memory = reading_fault host libs ≡ None
 IsUnlinked host libs (Write fault) = first_fault host libs ≡ None
-
--- no fault stands, in whichever step
-abbrev pub NoneStands : List ℕ → List (List ℕ) → Type 0
-NoneStands host libs = (step : Step) (f : Fault) → FaultAt host libs step f → ⊥
 
 -- the fault that a refusal names is the first of all that stand, and has just the parts of its number; memory runs out only where no fault stands in the steps of reading, and a write fails only where none stands
 abbrev pub NamesFirst : List ℕ → List (List ℕ) → LinkError → Type 0

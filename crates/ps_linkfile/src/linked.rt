@@ -1,9 +1,10 @@
 ghost use Rattle.std.specs.Prelude.{◌≡◌, ◌+◌, map, length, IfOk, IfErr, OnOk, OnErr};
 ghost use Rattle.ps_resolve.specs.Sources.{contents};
 ghost use Rattle.std.specs.Io.KnownBytes.{Appends};
+ghost use Rattle.ps_resolve.specs.LinkedBytes.{NoneStands};
 ghost use Rattle.ps_linkfile.specs.LinkedFile.{all_blocks, summary_of};
 ghost use Rattle.ps_linkfile.specs.Writing.{extents_of, file_of, summary_in, StandsFor};
-ghost use Rattle.ps_linkfile.specs.Outcomes.{AppendsFront, AppendsLinkedFile, NoneStands, NamesFirst, IsUnprepared, IsUnlinked, LeavesUntouched, LeavesFront};
+ghost use Rattle.ps_linkfile.specs.Outcomes.{AppendsFront, AppendsLinkedFile, NamesFirst, IsUnprepared, IsUnlinked, LeavesUntouched, LeavesFront};
 ghost use Rattle.ps_linkfile.specs.Counts.{AreAtMost, IfDevice, IfStalled, NoneFailed, OneError, OneStall, RisesByBytes, RisesByPieces};
 
 use crate::counts::Counts;
@@ -12,7 +13,7 @@ use crate::summary::Summary;
 use crate::tally::ByWriter;
 use crate::told::ToldWriter;
 use crate::writing::write_file;
-use ps_laws::first_of_all;
+use ps_laws::{bytes_are_linked, first_of_all};
 use ps_resolve::{Plan, resolve, slot_names_are_whole};
 use ps_words::blocks_of;
 use std::alloc::{Allocator, Global};
@@ -112,6 +113,7 @@ pub fn prepare<'a, A: Allocator + Copy>(
 {
     first_of_all();
     let plan = resolve(alloc, host, libs)?;
+    bytes_are_linked();
     slot_names_are_whole();
     Ok(Linked { plan })
 }
@@ -143,6 +145,7 @@ pub fn link<'a, A: Allocator + Copy, W: Write>(
     ensures untouched { IfErr result (λ e. LeavesUntouched e out.old out.new) }
     ensures front { IfErr result (λ e. LeavesFront host.now (contents libs.now) e (W.contents out.old) (W.contents out.new)) }
 {
+    first_of_all();
     let linked = prepare(alloc, host, libs)?;
     Ok(linked.write(out)?)
 }

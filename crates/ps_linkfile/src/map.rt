@@ -3,9 +3,10 @@ ghost use Rattle.std.specs.Prelude.{◌≡◌, ◌+◌, ◌++◌, None, IfOk, If
 ghost use Rattle.ps_resolve.specs.Sources.{contents};
 ghost use Rattle.std.specs.List.{flat_map};
 ghost use Rattle.ps_resolve.specs.AllFaults.{first_fault};
+ghost use Rattle.ps_resolve.specs.LinkedBytes.{NoneStands};
 ghost use Rattle.ps_linkfile.specs.LinkedFile.{all_blocks};
 ghost use Rattle.ps_linkfile.specs.Writing.{extents_of, IsReady};
-ghost use Rattle.ps_linkfile.specs.Outcomes.{IsUnprepared, NoneStands, NamesFirst};
+ghost use Rattle.ps_linkfile.specs.Outcomes.{IsUnprepared, NamesFirst};
 ghost use Rattle.ps_linkfile.specs.MapText.{added_word as added_word_spec, code_line, source_line, kind_word as kind_word_spec, definition_line, private_line, map_in, map_of};
 
 use crate::error::LinkError;

@@ -15,7 +15,7 @@ returns-clause-linked g c =
     let libs = map (λ lib. lib.now) c.args.libs.now in
     let plan = c.in_ok-plan.ensures.plan in
     record {
-      file = subst (λ (file : List ℕ). LinkedFile host libs file) (sym (plan_file host libs c.in_ok-plan.plan plan)) (there c.slot_names_are_whole.ensures host libs c.in_ok-plan.ensures.sound);
+      file = subst (λ (file : List ℕ). LinkedFile host libs file) (sym (plan_file host libs c.in_ok-plan.plan plan)) (there host libs c.slot_names_are_whole.ensures c.first_of_all.ensures.none c.bytes_are_linked.ensures.made c.in_ok-plan.ensures.sound);
       summary = plan_summary host libs c.in_ok-plan.plan plan;
     }
 

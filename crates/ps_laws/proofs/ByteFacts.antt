@@ -1,0 +1,254 @@
+-- The byte that the edits of a segment make is its linked byte, and no other byte is.
+use Rattle.std.proofs.Common.{◌≡◌, ℕ, zero, suc, ◌+◌, ◌-◌, ◌≤◌, List, [], ◌∷◌, length, Option, Some, None, Result, Ok, Err, Bool, true, false, refl, sym, ap, subst, ◌∙◌, inl, inr, arith}
+use Rattle.std.specs.Prelude.{◌⊎◌, if◌then◌else◌, slice_index}
+use Rattle.std.specs.List.{slice_get, find, cons_option}
+use Rattle.std.specs.Map.{lookup}
+use Rattle.std.specs.Option.{option_map_or}
+use Rattle.std.specs.Str.{bytes_eq}
+use Rattle.std.proofs.lemmas.Slice.Eq.{bytes_eq-Decides}
+use Rattle.std.specs.Bool.{Decides}
+use Rattle.ps_codefile.specs.Procedures.{table_of}
+use Rattle.ps_linkinfo.specs.Records.{refs_of}
+use Rattle.ps_linkinfo.specs.declared.record.Body.{Body}
+use Rattle.ps_linkinfo.specs.declared.record.Body.TheVariants.{UnitRef, PublRef, PrivRef, PublDef, ConstDef, Eof}
+use Rattle.ps_linkinfo.specs.declared.record.LinkRecord.{LinkRecord as Record}
+use Rattle.ps_resolve.specs.Sources.{Segment, is_linked, is_host, is_unit, host_records, units_of}
+use Rattle.ps_resolve.specs.Symbols.{def_in, definitions, definition_of}
+use Rattle.ps_resolve.specs.Privates.{total_words}
+use Rattle.ps_resolve.specs.Operands.{edit_of}
+use Rattle.ps_resolve.specs.References.{unit_slot, public_base, target_in, target_of}
+use Rattle.ps_resolve.specs.Linking.{known_of, grown_data_size, linked_byte}
+use Rattle.ps_resolve.specs.LinkedBytes.{private_offset, IsReference, Reaches, IsSlotOf, IsPublic, Becomes, IsNumberPlace, IsSizePlace, IsLinkedByte, IsOnePlace, summed_edits, summed}
+use Rattle.ps_resolve.specs.declared.definitions.Def.{Def}
+use Rattle.ps_resolve.specs.declared.definitions.DefKind.{DefKind}
+use Rattle.ps_resolve.specs.declared.definitions.DefKind.TheVariants.{Public, Constant}
+use Rattle.ps_resolve.specs.declared.references.Target.{Target}
+use Rattle.ps_resolve.specs.declared.references.Target.TheVariants.{Slot, Base}
+use Rattle.ps_laws.proofs.Items.{In, find_passes}
+use Rattle.ps_laws.proofs.Looking.{of_test, find_none}
+use Rattle.ps_laws.proofs.AddedUnits.{find_in}
+use Rattle.ps_laws.proofs.SoundCodes.{HasOuter}
+use Rattle.ps_laws.proofs.EditsAt.{edit_place, IsNumber, IsSize, IsOfReference, same_item, what_covers, number_covers, size_covers, reference_covers}
+use Rattle.ps_words.specs.Words.{word_bytes, operand_bytes, displacement_at}
+use Rattle.ps_words.specs.Edits.{place_of, stored, covers}
+use Rattle.ps_words.specs.declared.order.Order.{Order}
+use Rattle.ps_words.specs.declared.edit.Edit.{Edit}
+use Rattle.ps_words.specs.declared.edit.Edit.TheVariants.{Byte, Word}
+use Rattle.ps_words.specs.declared.fault.Reason.{Reason}
+use Rattle.ps_words.specs.declared.fault.Reason.TheVariants as reason
+
+-- 1. what a reference becomes
+unit_slot_is : (name : List ℕ) (segs : List Segment) (slot : ℕ) → lookup (bytes_eq name) (units_of segs) ≡ Some slot → IsSlotOf segs name slot
+unit_slot_is name [] slot e = absurd (cc)
+unit_slot_is name (s ∷ segs) slot e = go (is_unit s.role) refl e (unit_slot_is name segs slot)
+  where
+    further : IsSlotOf segs name slot → IsSlotOf (s ∷ segs) name slot
+    further t = (suc t.0, t.1, t.2, t.3)
+
+    go : (b : Bool) → is_unit s.role ≡ b → lookup (bytes_eq name) (cons_option (if b then Some (s.name, s.slot) else None) (units_of segs)) ≡ Some slot → (lookup (bytes_eq name) (units_of segs) ≡ Some slot → IsSlotOf segs name slot) → IsSlotOf (s ∷ segs) name slot
+    go false unit e later = further (later e)
+    go true unit e later = at (bytes_eq name s.name) (bytes_eq-Decides name s.name) e
+      where
+        at : (b : Bool) → Decides b (name ≡ s.name) → (if b then Some s.slot else lookup (bytes_eq name) (units_of segs)) ≡ Some slot → IsSlotOf (s ∷ segs) name slot
+        at true d e = (zero, s, refl, (unit, sym (d.0 refl), same_item s.slot slot e))
+        at false d e = further (later e)
+
+abbrev IsGiven : List Record → List ℕ → ℕ → Type 0
+IsGiven rs name value = (k : ℕ) × (d : Record) × (slice_get rs k ≡ Some d) × ((d.name ≡ name) × (d.body ≡ PublDef value))
+
+public_in : (body : Body) (d : Def) → def_in body ≡ Some d → d.kind ≡ Public → body ≡ PublDef d.value
+public_in (PublDef value) d e k = ap (λ (x : Def). PublDef x.value) (same_item _ d e)
+public_in (ConstDef value) d e k = absurd (let same = ap (λ (x : Def). x.kind) (same_item _ d e) in cc)
+public_in (UnitRef refs) d e k = absurd (cc)
+public_in (PublRef refs) d e k = absurd (cc)
+public_in (PrivRef words refs) d e k = absurd (cc)
+public_in (Eof next) d e k = absurd (cc)
+
+given : (name : List ℕ) (rs : List Record) (d : Def) → definition_of name (definitions rs) ≡ Some d → d.kind ≡ Public → IsGiven rs name d.value
+given name [] d e k = absurd (cc)
+given name (r ∷ rs) d e k = go (def_in r.body) refl e (λ h. given name rs d h k)
+  where
+    further : IsGiven rs name d.value → IsGiven (r ∷ rs) name d.value
+    further t = (suc t.0, t.1, t.2, t.3)
+
+    go : (o : Option Def) → def_in r.body ≡ o → definition_of name (cons_option (elim o [ None ↦ None | Some d ↦ Some (r.name, d) ]) (definitions rs)) ≡ Some d → (definition_of name (definitions rs) ≡ Some d → IsGiven rs name d.value) → IsGiven (r ∷ rs) name d.value
+    go None is e later = further (later e)
+    go (Some c) is e later = at (bytes_eq name r.name) (bytes_eq-Decides name r.name) e
+      where
+        at : (b : Bool) → Decides b (name ≡ r.name) → (if b then Some c else definition_of name (definitions rs)) ≡ Some d → IsGiven (r ∷ rs) name d.value
+        at true t e = (zero, r, refl, (sym (t.0 refl), public_in r.body d (is ∙ e) k))
+        at false t e = further (later e)
+
+becomes : (order : Order) (segs : List Segment) (s : Segment) (rec : ℕ) (name : List ℕ) (body : Body) (i x : ℕ) (t : Target) → slice_get (refs_of body) i ≡ Some x → target_in (known_of segs) (private_offset segs s.slot rec) name body ≡ Ok t
+    → Becomes segs s rec name body x (stored order (edit_of s.code t x))
+becomes order segs s rec name (PublDef value) i x t g e = absurd (cc)
+becomes order segs s rec name (ConstDef value) i x t g e = absurd (cc)
+becomes order segs s rec name (Eof next) i x t g e = absurd (cc)
+becomes order segs s rec name (PrivRef words refs) i x t g e = let is : Base (private_offset segs s.slot rec) ≡ t = cc in ap (λ (u : Target). stored order (edit_of s.code u x)) (sym is)
+becomes order segs s rec name (UnitRef refs) i x t g e = go (lookup (bytes_eq name) (units_of segs)) refl e
+  where
+    go : (o : Option ℕ) → lookup (bytes_eq name) (units_of segs) ≡ o → unit_slot o ≡ Ok t → Becomes segs s rec name (UnitRef refs) x (stored order (edit_of s.code t x))
+    go None is e = absurd (cc)
+    go (Some slot) is e = let same : Slot slot ≡ t = cc in (slot, unit_slot_is name segs slot is, ap (λ (u : Target). stored order (edit_of s.code u x)) (sym same))
+becomes order segs s rec name (PublRef refs) i x t g e = go (definition_of name (definitions (host_records segs))) refl e
+  where
+    go : (o : Option Def) → definition_of name (definitions (host_records segs)) ≡ o → public_base o ≡ Ok t → Becomes segs s rec name (PublRef refs) x (stored order (edit_of s.code t x))
+    go None is e = absurd (cc)
+    go (Some d) is e = at d.kind refl e
+      where
+        at : (k : DefKind) → d.kind ≡ k → (elim k as (λ _. Result Target Reason) [ Public ↦ Ok (Base d.value) | Constant ↦ Err reason.IllKind ]) ≡ Ok t → Becomes segs s rec name (PublRef refs) x (stored order (edit_of s.code t x))
+        at Constant k e = absurd (cc)
+        at Public k e = let same : Base d.value ≡ t = cc in (d.value, given name (host_records segs) d is k, ap (λ (u : Target). stored order (edit_of s.code u x)) (sym same))
+
+-- what names one thing becomes one
+abbrev pub OneUnit : List Segment → Type 0
+OneUnit segs = (name : List ℕ) (a b : ℕ) → IsSlotOf segs name a → IsSlotOf segs name b → a ≡ b
+
+abbrev pub OnePublic : List Segment → Type 0
+OnePublic segs = (name : List ℕ) (a b : ℕ) → IsPublic segs name a → IsPublic segs name b → a ≡ b
+
+one_becomes : (segs : List Segment) → OneUnit segs → OnePublic segs → (s : Segment) (rec : ℕ) (name : List ℕ) (body : Body) (x : ℕ) (b c : List ℕ) → Becomes segs s rec name body x b → Becomes segs s rec name body x c → b ≡ c
+one_becomes segs units publics s rec name (UnitRef refs) x b c t u = t.2 ∙ (ap (λ (n : ℕ). n ∷ []) (units name t.0 u.0 t.1 u.1) ∙ sym u.2)
+one_becomes segs units publics s rec name (PublRef refs) x b c t u = t.2 ∙ (ap (λ (n : ℕ). operand_bytes (displacement_at s.code x + n)) (publics name t.0 u.0 t.1 u.1) ∙ sym u.2)
+one_becomes segs units publics s rec name (PrivRef words refs) x b c t u = t ∙ sym u
+one_becomes segs units publics s rec name (PublDef value) x b c t u = absurd t
+one_becomes segs units publics s rec name (ConstDef value) x b c t u = absurd t
+one_becomes segs units publics s rec name (Eof next) x b c t u = absurd t
+
+-- 2. the byte
+module _ (order : Order) (segs : List Segment) (s : Segment) (long : is_linked s.role ≡ true → 2 ≤ length s.code) (outer : (t : ℕ) → is_host s.role ≡ true → table_of order s.code 1 ≡ Some t → HasOuter order s.code t)
+    (hosts : is_host s.role ≡ true → is_linked s.role ≡ true) (plain : is_linked s.role ≡ false → s.records ≡ [])
+    (targets : (rec i x : ℕ) (r : Record) → IsReference s rec r i x → (t : Target) × (target_of (known_of segs) (private_offset segs s.slot rec) r ≡ Ok t)) (p : ℕ) (apart : IsOnePlace order s p) where
+  abbrev pub edits : List Edit
+  edits = summed_edits order segs s
+
+  -- a segment with a reference is linked
+  linked_by : (rec i x : ℕ) (r : Record) → IsReference s rec r i x → is_linked s.role ≡ true
+  linked_by rec i x r t = go (is_linked s.role) refl
+    where
+      go : (b : Bool) → is_linked s.role ≡ b → b ≡ true
+      go true e = refl
+      go false e = absurd (let none = sym (ap (λ (rs : List Record). slice_get rs rec) (plain e)) ∙ t.0 in cc)
+
+  abbrev pub Uncovered : Type 0
+  Uncovered = find (covers p) edits ≡ None
+
+  no_edit : Uncovered → (f : Edit) → In f edits → covers p f ≡ true → ⊥
+  no_edit e f t on = find_none (covers p) (λ (g : Edit). covers p g ≡ true) (λ g. of_test (covers p g)) edits e (t.0, f, t.1, on)
+
+  no_number : Uncovered → IsNumberPlace s p → ⊥
+  no_number e n = let c = number_covers order segs s long outer p n in no_edit e (Byte (length s.code - 2) s.slot) c.0 c.1
+
+  no_size : Uncovered → (t j : ℕ) → IsSizePlace order s t j p → ⊥
+  no_size e t j z = let c = size_covers order segs s long outer p t j (hosts z.0) z in no_edit e (Word (t - 8) (grown_data_size order s.code (total_words segs) t)) c.0 c.1
+
+  no_reference : Uncovered → (rec i x : ℕ) (r : Record) → Reaches s rec r i x p → ⊥
+  no_reference e rec i x r u =
+      let t = targets rec i x r u.0 in
+      let c = reference_covers order segs s long outer p rec i x r t.0 (linked_by rec i x r u.0) u t.1 in
+      no_edit e (edit_of s.code t.0 x) c.0 c.1
+
+  abbrev pub byte_at : Option Edit → ℕ
+  byte_at o = option_map_or (λ (edit : Edit). slice_index (stored order edit) (p - place_of edit)) o (slice_index s.code p)
+
+  abbrev pub Facts : ℕ → Type 0
+  Facts b = IsLinkedByte order segs s p b
+
+  uncovered : Uncovered → Facts (slice_index s.code p)
+  uncovered e = record {
+    number = λ n. absurd (no_number e n);
+    size = λ t j z. absurd (no_size e t j z);
+    reference = λ rec i x r u. absurd (no_reference e rec i x r u);
+    kept = λ n z u. refl;
+  }
+
+  of_number : (f : Edit) → IsNumber s p f → Facts (byte_at (Some f))
+  of_number f h = record {
+    number = λ n. is_it;
+    size = λ t j z. absurd (apart.own t j h.0 z);
+    reference = λ rec i x r u. absurd (apart.number rec i x r u h.0);
+    kept = λ n z u. absurd (n h.0);
+  }
+    where
+      at : p - (length s.code - 2) ≡ 0
+      at = let e = h.0.1 in omega (arith, e)
+
+      is_it : byte_at (Some f) ≡ s.slot
+      is_it = ap (λ (g : Edit). byte_at (Some g)) h.1 ∙ ap (λ (n : ℕ). slice_index (s.slot ∷ []) n) at
+
+  of_size : (f : Edit) → IsSize order segs s p f → Facts (byte_at (Some f))
+  of_size f h = record {
+    number = λ n. absurd (apart.own h.0 h.1 n h.2);
+    size = λ t j z. is_it t j z;
+    reference = λ rec i x r u. absurd (apart.size rec i x h.0 h.1 r u h.2);
+    kept = λ n z u. absurd (z h.0 h.1 h.2);
+  }
+    where
+      is_it : (t j : ℕ) → IsSizePlace order s t j p → byte_at (Some f) ≡ slice_index (word_bytes order (grown_data_size order s.code (total_words segs) t)) j
+      is_it t j z =
+          let same : h.0 ≡ t = same_item h.0 t (sym h.2.1 ∙ z.1) in
+          let low = (outer t z.0 z.1).low in
+          let at : p - (t - 8) ≡ j = (let e = z.3 in omega (arith, e, low)) in
+          ap (λ (g : Edit). byte_at (Some g)) h.3
+          ∙ (ap (λ (n : ℕ). byte_at (Some (Word (n - 8) (grown_data_size order s.code (total_words segs) n)))) same
+          ∙ ap (λ (n : ℕ). slice_index (word_bytes order (grown_data_size order s.code (total_words segs) t)) n) at)
+
+  of_reference : (f : Edit) → IsOfReference segs s p f → Facts (byte_at (Some f))
+  of_reference f h = record {
+    number = λ n. absurd (apart.number h.0 h.1 h.2 h.3 h.4 n);
+    size = λ t j z. absurd (apart.size h.0 h.1 h.2 t j h.3 h.4 z);
+    reference = λ rec i x r u. is_it rec i x r u;
+    kept = λ n z u. absurd (u h.0 h.1 h.2 h.3 h.4);
+  }
+    where
+      t : Target
+      t = h.5.0
+
+      whole : Edit
+      whole = edit_of s.code t h.2
+
+      mine : (bytes : List ℕ) × Becomes segs s h.0 h.3.name h.3.body h.2 bytes × (byte_at (Some f) ≡ slice_index bytes (p - h.2))
+      mine = (
+        stored order whole,
+        becomes order segs s h.0 h.3.name h.3.body h.1 h.2 t h.4.0.1 h.5.1,
+        ap (λ (g : Edit). byte_at (Some g)) h.5.2 ∙ ap (λ (n : ℕ). slice_index (stored order whole) (p - n)) (edit_place s.code t h.2),
+      )
+
+      is_it : (rec i x : ℕ) (r : Record) → Reaches s rec r i x p → (bytes : List ℕ) × Becomes segs s rec r.name r.body x bytes × (byte_at (Some f) ≡ slice_index bytes (p - x))
+      is_it rec i x r u =
+          let one = apart.references h.0 h.1 h.2 rec i x h.3 r h.4 u in
+          let er : h.3 ≡ r = same_item h.3 r (sym h.4.0.0 ∙ (ap (λ (n : ℕ). slice_get s.records n) one.0 ∙ u.0.0)) in
+          let ex : h.2 ≡ x = same_item h.2 x (sym h.4.0.1 ∙ (ap (λ (n : ℕ). slice_get (refs_of h.3.body) n) one.1 ∙ (ap (λ (q : Record). slice_get (refs_of q.body) i) er ∙ u.0.1))) in
+          moved rec x r one.0 er ex mine
+        where
+          Fact : ℕ → Record → ℕ → Type 0
+          Fact rec r x = (bytes : List ℕ) × Becomes segs s rec r.name r.body x bytes × (byte_at (Some f) ≡ slice_index bytes (p - x))
+
+          moved : (rec x : ℕ) (r : Record) → h.0 ≡ rec → h.3 ≡ r → h.2 ≡ x → Fact h.0 h.3 h.2 → Fact rec r x
+          moved rec x r a b c fact = subst (λ (n : ℕ). Fact n r x) a (subst (λ (q : Record). Fact h.0 q x) b (subst (λ (n : ℕ). Fact h.0 h.3 n) c fact))
+
+  covered_by : (f : Edit) → find (covers p) edits ≡ Some f → IsNumber s p f ⊎ (IsSize order segs s p f ⊎ IsOfReference segs s p f)
+  covered_by f e = what_covers order segs s long outer p f (find_in (covers p) edits f e) (find_passes (covers p) edits f e)
+
+  pub facts : Facts (linked_byte order (summed order segs s) p)
+  facts = go (find (covers p) edits) refl
+    where
+      go : (o : Option Edit) → find (covers p) edits ≡ o → Facts (byte_at o)
+      go None e = uncovered e
+      go (Some f) e = elim (covered_by f e) [ inl h ↦ of_number f h | inr u ↦ elim u [ inl h ↦ of_size f h | inr h ↦ of_reference f h ] ]
+
+  pub one_byte : OneUnit segs → OnePublic segs → (b c : ℕ) → Facts b → Facts c → b ≡ c
+  one_byte units publics b c x y = go (find (covers p) edits) refl
+    where
+      go : (o : Option Edit) → find (covers p) edits ≡ o → b ≡ c
+      go None e = x.kept (no_number e) (no_size e) (no_reference e) ∙ sym (y.kept (no_number e) (no_size e) (no_reference e))
+      go (Some f) e = elim (covered_by f e) [
+        | inl h ↦ x.number h.0 ∙ sym (y.number h.0)
+        | inr u ↦ elim u [
+          | inl h ↦ x.size h.0 h.1 h.2 ∙ sym (y.size h.0 h.1 h.2)
+          | inr h ↦
+              let v = x.reference h.0 h.1 h.2 h.3 h.4 in
+              let w = y.reference h.0 h.1 h.2 h.3 h.4 in
+              v.2 ∙ (ap (λ (bytes : List ℕ). slice_index bytes (p - h.2)) (one_becomes segs units publics s h.0 h.3.name h.3.body h.2 v.0 w.0 v.1 w.1) ∙ sym w.2)
+        ]
+      ]

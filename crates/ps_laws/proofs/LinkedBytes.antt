@@ -1,0 +1,90 @@
+-- Where no fault stands, the edits of a link make the linked bytes, and each place has one.
+use Rattle.std.proofs.Common.{◌≡◌, ℕ, suc, ◌<◌, ◌≤◌, List, [], ◌∷◌, length, map, Some, None, Result, Ok, Err, Bool, true, refl, sym, subst, inl}
+use Rattle.std.specs.Prelude.{All}
+use Rattle.std.specs.List.{slice_get}
+use Rattle.std.specs.Result.{result_err}
+use Rattle.std.proofs.lemmas.List.Elements.{All-nil, All-cons, All-same, All-map}
+use Rattle.ps_codefile.specs.Procedures.{table_of}
+use Rattle.ps_linkinfo.specs.declared.record.LinkRecord.{LinkRecord as Record}
+use Rattle.ps_resolve.specs.First.{Least, this}
+use Rattle.ps_resolve.specs.Sources.{Segment, order_of, is_linked, is_host}
+use Rattle.ps_resolve.specs.Faults.{sources_fault}
+use Rattle.ps_resolve.specs.Added.{added_fault}
+use Rattle.ps_resolve.specs.References.{target_of}
+use Rattle.ps_resolve.specs.Linking.{Edited, edited, known_of, linked_byte}
+use Rattle.ps_resolve.specs.Standing.{OfReferences, IsSegment, AreBad, RecordHas}
+use Rattle.ps_resolve.specs.LinkedBytes.{private_offset, IsReference, IsLinkedByte, IsOnePlace, NoneStands, segments_of, summed, HaveLinkedBytes, HaveOneLinkedByte, HaveApartPlaces}
+use Rattle.ps_resolve.specs.declared.references.Target.{Target}
+use Rattle.ps_laws.proofs.Steps.{Ranked}
+use Rattle.ps_laws.proofs.Sources.{OneStop}
+use Rattle.ps_laws.proofs.Asked.{asked_is_there}
+use Rattle.ps_laws.proofs.References.{record_rows}
+use Rattle.ps_laws.proofs.Whole.{unread, none_read}
+use Rattle.ps_laws.proofs.SummedOffsets.{offsets}
+use Rattle.ps_laws.proofs.SoundCodes.{IsSound, HasOuter, long, outer, all_sound}
+use Rattle.ps_laws.proofs.OnePlace.{host_linked, one_place}
+use Rattle.ps_laws.proofs.OneName.{of_segments, one_unit, one_public}
+use Rattle.ps_laws.proofs.ByteFacts.{facts, one_byte}
+use Rattle.ps_words.specs.FaultPlaces.{in_record}
+use Rattle.ps_words.specs.declared.fault.Reason.{Reason}
+
+all_items : {A : Type 0} (P : A → Type 0) (xs : List A) → ((k : ℕ) (x : A) → slice_get xs k ≡ Some x → P x) → All P xs
+all_items P [] h = All-nil P
+all_items P (x ∷ xs) h = All-cons P x xs (h 0 x refl) (all_items P xs (λ k y e. h (suc k) y e))
+
+module _ (law : OneStop) (host : List ℕ) (libs : List (List ℕ)) (none : NoneStands host libs) where
+  read : (sources_fault (order_of host) host libs ≡ None) × (added_fault (order_of host) host libs ≡ None)
+  read = none_read host libs (unread law host libs (λ step f r h. none step f h))
+
+  sound : (s : Segment) → IsSegment (order_of host) host libs s → IsSound (order_of host) s
+  sound s is = all_sound (order_of host) host libs read.0 read.1 s is
+
+  apart : (s : Segment) → IsSegment (order_of host) host libs s → (p : ℕ) → IsOnePlace (order_of host) s p
+  apart s is p = one_place host libs none s is (sound s is) p
+
+  pub places : HaveApartPlaces host libs
+  places = all_items (λ (s : Segment). (p : ℕ) → IsOnePlace (order_of host) s p) (segments_of host libs) (λ k s e p. apart s (of_segments (order_of host) host libs k s e) p)
+
+  module _ (s : Segment) (is : IsSegment (order_of host) host libs s) where
+    long_code : is_linked s.role ≡ true → 2 ≤ length s.code
+    long_code h = long (order_of host) s.code (is_host s.role) ((sound s is).tables h)
+
+    outer_block : (t : ℕ) → is_host s.role ≡ true → table_of (order_of host) s.code 1 ≡ Some t → HasOuter (order_of host) s.code t
+    outer_block t h table = outer (order_of host) s.code t (λ bad. (sound s is).tables (host_linked s.role h) (subst (λ (b : Bool). AreBad (order_of host) s.code b) (sym h) bad)) table
+
+    -- each reference of a record has what its operand becomes
+    targets : (rec i x : ℕ) (r : Record) → IsReference s rec r i x → (t : Target) × (target_of (known_of (segments_of host libs)) (private_offset (segments_of host libs) s.slot rec) r ≡ Ok t)
+    targets rec i x r u =
+        go (target_of (known_of (segments_of host libs)) (private_offset (segments_of host libs) s.slot rec) r) refl
+        (record_rows (segments_of host libs) (private_offset (segments_of host libs) s.slot rec) r.name r.body (asked_is_there (order_of host) host libs read.1 s is rec r u.0))
+      where
+        bad : (why : Reason) → Least Ranked (RecordHas (segments_of host libs) r.name r.body) (Some why) → ⊥
+        bad why (this y h l) = none OfReferences (in_record s.file s.slot rec why) (record { stands = (s, is, (rec, r, u.0, inl (why, refl, h))) })
+
+        go : (o : Result Target Reason) → target_of (known_of (segments_of host libs)) (private_offset (segments_of host libs) s.slot rec) r ≡ o → Least Ranked (RecordHas (segments_of host libs) r.name r.body) (result_err o)
+            → (t : Target) × (target_of (known_of (segments_of host libs)) (private_offset (segments_of host libs) s.slot rec) r ≡ Ok t)
+        go (Ok t) e l = (t, e)
+        go (Err why) e l = absurd (bad why l)
+
+    is_byte : (p : ℕ) → IsLinkedByte (order_of host) (segments_of host libs) s p (linked_byte (order_of host) (summed (order_of host) (segments_of host libs) s) p)
+    is_byte p = facts (order_of host) (segments_of host libs) s long_code outer_block (host_linked s.role) (sound s is).plain targets p (apart s is p)
+
+    one_at : (p b c : ℕ) → IsLinkedByte (order_of host) (segments_of host libs) s p b → IsLinkedByte (order_of host) (segments_of host libs) s p c → b ≡ c
+    one_at p b c x y =
+        one_byte (order_of host) (segments_of host libs) s long_code outer_block (host_linked s.role) (sound s is).plain targets p (apart s is p)
+        (one_unit host libs none read.0 read.1) (one_public host libs none read.0 read.1) b c x y
+
+  abbrev IsMade : Edited → Type 0
+  IsMade e = (p : ℕ) → p < length e.segment.code → IsLinkedByte (order_of host) (segments_of host libs) e.segment p (linked_byte (order_of host) e p)
+
+  pub bytes : HaveLinkedBytes host libs
+  bytes =
+      All-same IsMade (edited (order_of host) (segments_of host libs)) (map (summed (order_of host) (segments_of host libs)) (segments_of host libs)) (offsets host libs)
+      (All-map IsMade (summed (order_of host) (segments_of host libs)) (segments_of host libs)
+      (all_items (λ (s : Segment). IsMade (summed (order_of host) (segments_of host libs) s)) (segments_of host libs) (λ k s e p lt. is_byte s (of_segments (order_of host) host libs k s e) p)))
+
+  abbrev IsOne : Segment → Type 0
+  IsOne s = (p b c : ℕ) → IsLinkedByte (order_of host) (segments_of host libs) s p b → IsLinkedByte (order_of host) (segments_of host libs) s p c → b ≡ c
+
+  pub one_linked : HaveOneLinkedByte host libs
+  one_linked = all_items IsOne (segments_of host libs) (λ k s e p b c x y. one_at s (of_segments (order_of host) host libs k s e) p b c x y)

@@ -1,0 +1,145 @@
+-- Where no fault stands, no two units of a link have a name in common, and no two definitions of the host.
+use Rattle.std.proofs.Common.{◌≡◌, ℕ, ◌<◌, List, [], Option, Some, None, Bool, true, false, refl, sym, ap, subst, ◌∙◌, inl, inr, arith}
+use Rattle.std.specs.Prelude.{◌⊎◌, if◌then◌else◌, ◌==◌}
+use Rattle.std.specs.List.{find, slice_get}
+use Rattle.std.specs.Option.{option_or, option_map_or}
+use Rattle.std.proofs.lemmas.Bool.{cases_lt}
+use Rattle.ps_codefile.specs.Dictionary.{slots, entry_at}
+use Rattle.ps_codefile.specs.declared.entry.Role.{Role}
+use Rattle.ps_linkinfo.specs.declared.record.Body.{Body}
+use Rattle.ps_linkinfo.specs.declared.record.Body.TheVariants.{PublDef}
+use Rattle.ps_linkinfo.specs.declared.record.LinkRecord.{LinkRecord as Record}
+use Rattle.ps_resolve.specs.Sources.{Segment, order_of, is_unit, is_empty, own_segment, host_of}
+use Rattle.ps_resolve.specs.Faults.{is_role, sources_fault}
+use Rattle.ps_resolve.specs.Added.{added, added_fault, segment_at, segments}
+use Rattle.ps_resolve.specs.Standing.{OfSlots, OfDefinitions, HasRole, IsUnitSlot, IsSegment, is_definition}
+use Rattle.ps_resolve.specs.LinkedBytes.{IsSlotOf, IsPublic, NoneStands, segments_of}
+use Rattle.ps_resolve.specs.declared.added.UnitReference.{UnitReference}
+use Rattle.ps_laws.proofs.Items.{of_filter_map, of_range}
+use Rattle.ps_laws.proofs.Segments.{found_in_slot, slot_is}
+use Rattle.ps_laws.proofs.Asked.{row_of, segment_named, name_placed, added_is}
+use Rattle.ps_laws.proofs.AddedUnits.{unit_role, own_is, units_are}
+use Rattle.ps_words.specs.FaultPlaces.{in_slot, in_record}
+use Rattle.ps_words.specs.declared.order.Order.{Order}
+use Rattle.ps_words.specs.declared.fault.Reason.TheVariants as reason
+
+-- a segment of the list of all is one of the link
+pub of_segments : (order : Order) (host : List ℕ) (libs : List (List ℕ)) (k : ℕ) (s : Segment) → slice_get (segments order host libs) k ≡ Some s → IsSegment order host libs s
+unfolding segments
+of_segments order host libs k s e =
+    let r = of_filter_map (segment_at order host libs) slots s (k, e) in
+    let lt = (of_range 0 16 r.0 r.1.0 r.1.1).1 in
+    let at : s.slot ≡ r.0 = slot_is order host libs r.0 s r.2 in
+    (omega (arith, lt, at), subst (λ (n : ℕ). segment_at order host libs n ≡ Some s) (sym at) r.2)
+
+module _ (host : List ℕ) (libs : List (List ℕ)) (none : NoneStands host libs) (fine : sources_fault (order_of host) host libs ≡ None) (ended : added_fault (order_of host) host libs ≡ None) where
+  -- a unit that is the host's own has its slot there; one that was added has its name in the row
+  abbrev IsOwn : Segment → Type 0
+  IsOwn s = (s.slot < 16) × IsUnitSlot (order_of host) host s.slot × ((entry_at (order_of host) host s.slot).name ≡ s.name)
+
+  abbrev IsAdded : Segment → Type 0
+  IsAdded s = (j : ℕ) × (slice_get (added (order_of host) host libs) j ≡ Some s)
+
+  kind_of : (s : Segment) → IsSegment (order_of host) host libs s → is_unit s.role ≡ true → IsOwn s ⊎ IsAdded s
+  kind_of s t unit = go (own_segment (order_of host) host libs s.slot) refl (is_role is_empty (order_of host) host s.slot) t.1
+    where
+      own : own_segment (order_of host) host libs s.slot ≡ Some s → IsOwn s
+      own e =
+          let r = own_is (order_of host) host libs s.slot s e in
+          elim (unit_role r.0 (sym (ap is_unit r.2) ∙ unit)) [
+            | inl u ↦ (t.0, inl (subst (λ (x : Role). HasRole (order_of host) host s.slot x) u r.1), sym r.3)
+            | inr u ↦ (t.0, inr (subst (λ (x : Role). HasRole (order_of host) host s.slot x) u r.1), sym r.3)
+          ]
+
+      go : (o : Option Segment) → own_segment (order_of host) host libs s.slot ≡ o → (b : Bool) → option_or o (if b then find (λ (q : Segment). q.slot == s.slot) (added (order_of host) host libs) else None) ≡ Some s → IsOwn s ⊎ IsAdded s
+      go (Some q) is b e = inl (own (is ∙ e))
+      go None is false e = absurd (cc)
+      go None is true e = let u = found_in_slot s.slot (added (order_of host) host libs) s e in inr (u.0, u.2 ∙ ap (λ (q : Segment). Some q) u.3.0)
+
+  -- two of the host's own
+  before_own : (s q : Segment) → IsOwn s → IsOwn q → s.name ≡ q.name → s.slot < q.slot → ⊥
+  before_own s q a b same lt = none OfSlots (in_slot 0 q.slot reason.DoubledSegment) (record { stands = (q.slot, b.0, (reason.DoubledSegment, refl, (b.1, (s.slot, lt, (a.1, a.2 ∙ (same ∙ sym b.2)))))) })
+
+  -- an added one has the name of the row
+  name_of : (s : Segment) (a : IsAdded s) (g : UnitReference) → slice_get (row_of (order_of host) host libs) a.0 ≡ Some g → s.name ≡ g.name
+  name_of s a g e =
+      let p = name_placed (order_of host) host libs ended a.0 g e in
+      let it : p.1 ≡ s = one p.1 s (sym p.3 ∙ a.1) in
+      sym (ap (λ (x : Segment). x.name) it) ∙ (added_is (order_of host) host libs g p.0 p.1 p.4).1
+    where
+      one : (x y : Segment) → ◌≡◌ {A = Option Segment} (Some x) (Some y) → x ≡ y
+      one x y e = cc
+
+  -- an added one has no name that the host has
+  not_both : (s q : Segment) → IsOwn s → IsAdded q → s.name ≡ q.name → ⊥
+  not_both s q a b same =
+      let g = segment_named (order_of host) host libs ended b.0 q b.1 in
+      let named : q.name ≡ g.0.name = name_of q b g.0 g.1 in
+      ((units_are (order_of host) host libs fine ended).sought b.0 g.0 g.1).1 (s.slot, a.0, (a.1, a.2 ∙ (same ∙ named)))
+
+  -- two added ones
+  same_added : (s q : Segment) → IsAdded s → IsAdded q → s.name ≡ q.name → s ≡ q
+  same_added s q a b same =
+      let g = segment_named (order_of host) host libs ended a.0 s a.1 in
+      let h = segment_named (order_of host) host libs ended b.0 q b.1 in
+      let at = (units_are (order_of host) host libs fine ended).once a.0 b.0 g.0 h.0 g.1 h.1 (sym (name_of s a g.0 g.1) ∙ (same ∙ name_of q b h.0 h.1)) in
+      let there : slice_get (added (order_of host) host libs) a.0 ≡ Some q = subst (λ (n : ℕ). slice_get (added (order_of host) host libs) n ≡ Some q) (sym at) b.1 in
+      one s q (sym a.1 ∙ there)
+    where
+      one : (x y : Segment) → ◌≡◌ {A = Option Segment} (Some x) (Some y) → x ≡ y
+      one x y e = cc
+
+  one_slot : (s q : Segment) → IsSegment (order_of host) host libs s → IsSegment (order_of host) host libs q → is_unit s.role ≡ true → is_unit q.role ≡ true → s.name ≡ q.name → s.slot ≡ q.slot
+  one_slot s q a b u v same = elim (kind_of s a u) [
+    | inl x ↦ elim (kind_of q b v) [
+      | inl y ↦ elim (cases_lt s.slot q.slot) [
+        | inl h ↦ absurd (before_own s q x y same h)
+        | inr h ↦ elim (cases_lt q.slot s.slot) [ inl k ↦ absurd (before_own q s y x (sym same) k) | inr k ↦ omega (arith, h, k) ]
+      ]
+      | inr y ↦ absurd (not_both s q x y same)
+    ]
+    | inr x ↦ elim (kind_of q b v) [
+      | inl y ↦ absurd (not_both q s y x (sym same))
+      | inr y ↦ ap (λ (z : Segment). z.slot) (same_added s q x y same)
+    ]
+  ]
+
+  pub one_unit : (name : List ℕ) (a b : ℕ) → IsSlotOf (segments_of host libs) name a → IsSlotOf (segments_of host libs) name b → a ≡ b
+  one_unit name a b t u =
+      let s = of_segments (order_of host) host libs t.0 t.1 t.2 in
+      let q = of_segments (order_of host) host libs u.0 u.1 u.2 in
+      sym t.3.2 ∙ (one_slot t.1 u.1 s q t.3.0 u.3.0 (t.3.1 ∙ sym u.3.1) ∙ u.3.2)
+
+  -- two definitions of the host
+  pub one_public : (name : List ℕ) (a b : ℕ) → IsPublic (segments_of host libs) name a → IsPublic (segments_of host libs) name b → a ≡ b
+  one_public name a b = go (host_of (segments_of host libs)) refl
+    where
+      Defined : List Record → ℕ → Type 0
+      Defined rs value = (k : ℕ) × (d : Record) × (slice_get rs k ≡ Some d) × ((d.name ≡ name) × (d.body ≡ PublDef value))
+
+      defines : (body : Body) (value : ℕ) → body ≡ PublDef value → is_definition body ≡ true
+      defines body value e = ap is_definition e
+
+      again : (s : Segment) → host_of (segments_of host libs) ≡ Some s → (k l : ℕ) (d e : Record) (v w : ℕ) → slice_get s.records k ≡ Some d → slice_get s.records l ≡ Some e → d.name ≡ e.name → d.body ≡ PublDef v → e.body ≡ PublDef w → k < l → ⊥
+      again s is k l d e v w x y same p q lt =
+          none OfDefinitions (in_record 0 s.slot l reason.DoubledDefinition)
+          (record { stands = (s, is, (l, e, y, (refl, (defines e.body w q, (k, lt, (d, x, (defines d.body v p, same))))))) })
+
+      one : (x y : Record) → ◌≡◌ {A = Option Record} (Some x) (Some y) → x ≡ y
+      one x y e = cc
+
+      value : (v w : ℕ) → ◌≡◌ {A = Body} (PublDef v) (PublDef w) → v ≡ w
+      value v w e = cc
+
+      go : (o : Option Segment) → host_of (segments_of host libs) ≡ o → Defined (option_map_or (λ (s : Segment). s.records) o []) a → Defined (option_map_or (λ (s : Segment). s.records) o []) b → a ≡ b
+      go None is t u = absurd (let e = t.2 in cc)
+      go (Some s) is t u = elim (cases_lt t.0 u.0) [
+        | inl h ↦ absurd (again s is t.0 u.0 t.1 u.1 a b t.2 u.2 (t.3.0 ∙ sym u.3.0) t.3.1 u.3.1 h)
+        | inr h ↦ elim (cases_lt u.0 t.0) [
+          | inl k ↦ absurd (again s is u.0 t.0 u.1 t.1 b a u.2 t.2 (u.3.0 ∙ sym t.3.0) u.3.1 t.3.1 k)
+          | inr k ↦
+              let at : u.0 ≡ t.0 = omega (arith, h, k) in
+              let there : slice_get s.records t.0 ≡ Some u.1 = subst (λ (n : ℕ). slice_get s.records n ≡ Some u.1) at u.2 in
+              value a b (sym t.3.1 ∙ (ap (λ (d : Record). d.body) (one t.1 u.1 (sym t.2 ∙ there)) ∙ u.3.1))
+        ]
+      ]
