@@ -1,11 +1,19 @@
 -- One record more of the privates.
-use Rattle.std.proofs.Common.{◌≡◌, ℕ, ◌+◌, ◌<◌, ◌≤◌, ◌++◌, List, [], ◌∷◌, length, length-append, false, Some, None, refl, sym, arith, append_assoc}
-use Rattle.std.specs.Prelude.{nat_lt}
+use Rattle.std.proofs.Common.{◌≡◌, ℕ, ◌+◌, ◌<◌, ◌≤◌, ◌++◌, List, [], ◌∷◌, length, length-append, Bool, true, false, cond, is_some, Option, Some, None, refl, sym, ◌∙◌, ap, arith, append_assoc}
+use Rattle.std.specs.Prelude.{nat_lt, not}
 use Rattle.std.specs.List.{list_any}
 use Rattle.std.specs.Str.{bytes_eq}
 use Rattle.std.proofs.lemmas.Bool.Decides.{nat_tests}
+use Rattle.ps_words.specs.declared.fault.Reason.TheVariants as reason
+use Rattle.ps_linkinfo.specs.Counts.{is_private, privates_in}
+use Rattle.ps_linkinfo.specs.declared.record.Body.{Body}
+use Rattle.ps_linkinfo.specs.declared.record.Body.TheVariants.{UnitRef, PublRef, PrivRef, PublDef, ConstDef, Eof}
 use Rattle.ps_linkinfo.specs.declared.record.LinkRecord.{LinkRecord as Record}
-use Rattle.ps_resolve.specs.Privates.{words_in, allotted, words_of, private_fault}
+use Rattle.ps_resolve.proofs.Apart.{one_more}
+use Rattle.ps_resolve.specs.Privates.{Owner, words_in, allotted, words_of, private_fault, all_allotted, first_private_fault, IsUnallotted, AreUnallotted}
+use Rattle.ps_resolve.specs.declared.linkage.Stop.{Stop}
+use Rattle.ps_resolve.specs.declared.linkage.Stop.TheVariants.{Refused, Memory}
+use Rattle.ps_words.specs.declared.fault.Fault.{Fault}
 use Rattle.ps_resolve.specs.declared.allotment.Private.{Private}
 
 fits_test : (n : ℕ) → n ≤ 32767 → nat_lt 32767 n ≡ false
@@ -34,3 +42,80 @@ module _ (slot rec next : ℕ) (seen : List (List ℕ)) (ps : List Private) (r :
 
   pub more_length : (w : ℕ) → words_in r.body ≡ Some w → length ps < length (ps ++ allotted slot rec next (r ∷ rs))
   more_length w h = rw (more_privates w h, append_assoc) (omega (arith, length-append ps (record { slot = slot; rec = rec; name = r.name; offset = next; words = w } ∷ allotted slot (rec + 1) (next + w) rs)))
+
+-- with the privates so far, those of the records from this index on are all, and so with words and faults
+pub record Allots (slot next : ℕ) (before : List Private) (all : List Record) (ps : List Private) (seen : List (List ℕ)) (free n : ℕ) (rs : List Record) : Type 0 where
+  pub privates : ps ++ allotted slot n free rs ≡ before ++ allotted slot 0 next all
+  pub words : free + words_of rs ≡ next + words_of all
+  pub first : private_fault n free seen rs ≡ private_fault 0 next [] all
+
+-- what asks for a private is counted
+asks_is : (b : Body) → is_private b ≡ is_some (words_in b)
+asks_is (UnitRef refs) = refl
+asks_is (PublRef refs) = refl
+asks_is (PrivRef words refs) = refl
+asks_is (PublDef value) = refl
+asks_is (ConstDef value) = refl
+asks_is (Eof next) = refl
+
+pub privates_counted : (slot n next : ℕ) (rs : List Record) → length (allotted slot n next rs) ≡ privates_in rs
+privates_counted slot n next [] = refl
+privates_counted slot n next (r ∷ rs) = at (λ m free. privates_counted slot m free rs) (words_in r.body) refl
+  where
+    one : (b : Bool) → is_private r.body ≡ b → privates_in (r ∷ rs) ≡ cond b 1 0 + privates_in rs
+    one b h = one_more (λ s. is_private s.body) r rs ∙ ap (λ (c : Bool). cond {A = ℕ} c 1 0 + privates_in rs) h
+
+    at : ((m free : ℕ) → length (allotted slot m free rs) ≡ privates_in rs) → (o : Option ℕ) → words_in r.body ≡ o → length (allotted slot n next (r ∷ rs)) ≡ privates_in (r ∷ rs)
+    at rest None h = let a = one false (asks_is r.body ∙ ap is_some h) in let b = ap length (skip_privates slot n next [] [] r rs h) in omega (arith, rest (n + 1) next)
+    at rest (Some w) h = let a = one true (asks_is r.body ∙ ap is_some h) in let b = ap length (more_privates slot n next [] [] r rs w h) in omega (arith, rest (n + 1) (next + w))
+
+-- where none asks for one, there is none
+pub record NoPrivates (slot next : ℕ) (rs : List Record) : Type 0 where
+  pub privates : allotted slot 0 next rs ≡ []
+  pub words : words_of rs ≡ 0
+  pub first : private_fault 0 next [] rs ≡ None
+
+no_asks : (slot next : ℕ) (rs : List Record) (n : ℕ) → privates_in rs ≡ 0 → (allotted slot n next rs ≡ []) × (words_of rs ≡ 0) × (private_fault n next [] rs ≡ None)
+no_asks slot next [] n h = (refl, refl, refl)
+no_asks slot next (r ∷ rs) n h = at (λ e. no_asks slot next rs (n + 1) e) (words_in r.body) refl
+  where
+    one : (b : Bool) → is_private r.body ≡ b → privates_in (r ∷ rs) ≡ cond b 1 0 + privates_in rs
+    one b e = one_more (λ s. is_private s.body) r rs ∙ ap (λ (c : Bool). cond {A = ℕ} c 1 0 + privates_in rs) e
+
+    at : (privates_in rs ≡ 0 → (allotted slot (n + 1) next rs ≡ []) × (words_of rs ≡ 0) × (private_fault (n + 1) next [] rs ≡ None))
+        → (o : Option ℕ) → words_in r.body ≡ o → (allotted slot n next (r ∷ rs) ≡ []) × (words_of (r ∷ rs) ≡ 0) × (private_fault n next [] (r ∷ rs) ≡ None)
+    at rest None e =
+        let a = one false (asks_is r.body ∙ ap is_some e) in
+        let more = rest (omega arith) in
+        (skip_privates slot n next [] [] r rs e ∙ more.0, skip_words slot n next [] [] r rs e ∙ more.1, skip_fault slot n next [] [] r rs e ∙ more.2)
+    at rest (Some w) e = let a = one true (asks_is r.body ∙ ap is_some e) in absurd (omega arith)
+
+pub no_privates : (slot next : ℕ) (rs : List Record) → privates_in rs ≡ 0 → NoPrivates slot next rs
+no_privates slot next rs h = let all = no_asks slot next rs 0 h in record { privates = all.0; words = all.1; first = all.2 }
+
+-- a name that is there already, and a private that ends too far
+module _ (n next : ℕ) (seen : List (List ℕ)) (r : Record) (rs : List Record) (w : ℕ) (asks : words_in r.body ≡ Some w) where
+  pub again_fault : list_any (bytes_eq r.name) seen ≡ true → private_fault n next seen (r ∷ rs) ≡ Some (n, reason.DoubledPrivate)
+  again_fault k = rw (asks, private_fault) (rw k refl)
+
+  pub far_fault : list_any (bytes_eq r.name) seen ≡ false → 32767 < next + w → private_fault n next seen (r ∷ rs) ≡ Some (n, reason.NoRoom)
+  far_fault k lt = rw (asks, private_fault) (rw (k, far_test (next + w) lt) refl)
+    where
+      far_test : (m : ℕ) → 32767 < m → nat_lt 32767 m ≡ true
+      far_test m h = grind (arith, nat_tests)
+
+pub not_false : (b : Bool) → not b ≡ false → b ≡ true
+not_false true h = refl
+not_false false h = cc
+
+pub not_true : (b : Bool) → not b ≡ true → b ≡ false
+not_true true h = cc
+not_true false h = refl
+
+-- a stop at the first segment that is left is one at all
+module _ (o : Owner) (rest all : List Owner) (next free : ℕ) where
+  pub stopped_in : (before : List Private) (stop : Stop) → before ++ all_allotted free (o ∷ rest) ≡ all_allotted next all
+      → first_private_fault free (o ∷ rest) ≡ first_private_fault next all → IsUnallotted o.file o.slot free o.records stop → AreUnallotted next all stop
+  stopped_in before (Refused fault) privates first d = sym first ∙ rw d.1 (ap (λ (f : Fault). Some f) (sym d.2))
+  stopped_in before Memory privates first d =
+      omega (arith, ap length privates, length-append before (allotted o.slot 0 free o.records ++ all_allotted (free + words_of o.records) rest), length-append (allotted o.slot 0 free o.records) (all_allotted (free + words_of o.records) rest))

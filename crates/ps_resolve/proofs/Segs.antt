@@ -5,6 +5,8 @@ use Rattle.std.proofs.lemmas.List.{map-append}
 use Rattle.std.proofs.lemmas.List.Elements.{All-tail}
 use Rattle.ps_words.specs.declared.order.Order.{Order}
 use Rattle.ps_linkinfo.specs.Records.{reading}
+use Rattle.ps_words.specs.declared.order.Order.TheVariants.{Little}
+use Rattle.ps_resolve.specs.declared.linkage.Linkage.{Linkage}
 use Rattle.ps_resolve.specs.Names.{units_in}
 use Rattle.ps_codefile.specs.declared.entry.Role.TheVariants.{Empty}
 use Rattle.ps_resolve.specs.Privates.{owner_of}
@@ -40,3 +42,7 @@ slots_are (s ∷ ss) = rw (slots_are ss) refl
 -- a segment of none of the files, which is read past the end of a list
 abbrev pub blank : SegmentView
 blank = record { slot = 0; name = []; role = Empty; added = false; file = 0; index = 0; code = record { ref_ptr = (0, 0); now = [] }; information = record { ref_ptr = (0, 0); now = [] } }
+
+-- the link information of none of the files, which is read past the end of a list
+abbrev pub blank_linkage : Linkage
+blank_linkage = record { file = 0; slot = 0; order = Little; bytes = record { ref_ptr = (0, 0); now = [] } }

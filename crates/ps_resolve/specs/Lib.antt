@@ -8,7 +8,6 @@ pub mod Marks
 pub mod References
 pub mod Edits
 pub mod Privates
-pub mod Keys
 pub mod Offsets
 pub mod Linking
 pub mod Faults

@@ -2,14 +2,16 @@ ghost use Rattle.std.specs.Prelude.{◌≡◌, ◌<◌, ◌≤◌, ◌+◌, ◌+
 ghost use Rattle.ps_resolve.specs.Linkable.{AscendFrom};
 ghost use Rattle.ps_resolve.specs.Offsets.{FollowOn, offset_of};
 ghost use Rattle.ps_words.specs.FaultPlaces.{in_record};
-ghost use Rattle.ps_resolve.specs.declared.linkage.Stop.TheVariants.{Refused};
+ghost use Rattle.indexmap.specs.IndexSet.{hasher_of};
+ghost use Rattle.ps_linkinfo.specs.Counts.{digest_of, privates_in};
+ghost use Rattle.ps_resolve.specs.declared.linkage.Stop.TheVariants.{Refused, Memory};
 ghost use Rattle.ps_linkinfo.specs.Records.{reading};
 ghost use Rattle.ps_resolve.specs.Privates.{words_in, allotted, words_of, private_fault, all_allotted, all_words, first_private_fault, owner_of_linkage, allotment_of, IsUnallotted, AreUnallotted, Owner};
 
-use crate::keyed::Keyed;
 use crate::linkage::{Linkage, Stop};
+use crate::name_hasher::NameHasher;
 use indexmap::IndexSet;
-use ps_linkinfo::{Body, Records, walk_from_start};
+use ps_linkinfo::{Body, LinkInformation, Records, walk_from_start};
 use ps_words::{Fault, Reason};
 use std::alloc::{Allocator, Global};
 use std::marker::Model;
@@ -45,24 +47,34 @@ fn words_of_private(body: &Body) -> Option<u16>
     }
 }
 
+/// A set for the names of the privates of these records, by hashes that are keyed by them.
+fn private_names<A: Allocator + Copy>(
+    alloc: A,
+    records: &LinkInformation,
+) -> Result<IndexSet<[u8; 8], NameHasher, A>, Stop>
+    ensures empty { IfOk result (λ names. names.keys ≡ []) }
+    ensures keyed { IfOk result (λ names. hasher_of names ≡ digest_of records.now) }
+    ensures stop { IfErr result (λ stop. (stop ≡ Memory) × (0 < privates_in records.now)) }
+{
+    let names = IndexSet::with_capacity_and_hasher(
+        alloc,
+        records.privates(),
+        NameHasher::of(records),
+    )?;
+    Ok(names)
+}
+
 /// A fault of a record.
 fn refused(segment: &Linkage, rec: usize, reason: Reason) -> Stop
     ensures { result ≡ Refused (in_record segment.now.file segment.now.slot rec reason) }
 {
-    Stop::Refused(Fault {
-        reason,
-        file: segment.file,
-        slot: Some(segment.slot),
-        rec: Some(rec),
-        reference: None,
-    })
+    Stop::Refused(Fault::in_record(segment.file, segment.slot, rec, reason))
 }
 
 /// Allots the privates of a segment from `next` on, and answers the next free offset.
 fn allot<A: Allocator + Copy>(
     alloc: A,
     segment: &Linkage,
-    keyed: Keyed,
     next: u16,
     privates: &mut Vec<Private, A>,
 ) -> Result<u16, Stop>
@@ -72,7 +84,11 @@ fn allot<A: Allocator + Copy>(
     ensures stop { IfErr result (IsUnallotted segment.now.file segment.now.slot next (reading segment.now.order segment.now.bytes.now).0) }
 {
     walk_from_start();
-    let mut names = IndexSet::with_hasher(alloc, keyed);
+    let records = LinkInformation::up_to_fault(segment.order, segment.bytes);
+    if records.privates() == 0 {
+        return Ok(next);
+    }
+    let mut names = private_names(alloc, &records)?;
     let mut rec = 0;
     let mut free = next;
     for item in Records::new(segment.order, segment.bytes) {
@@ -131,11 +147,10 @@ fn allot_all<A: Allocator + Copy>(
     ensures once { IfOk result (λ _. first_private_fault next (map owner_of_linkage segments.now) ≡ None) }
     ensures stop { IfErr result (AreUnallotted next (map owner_of_linkage segments.now)) }
 {
-    let keyed = Keyed::by_names(segments);
     let mut privates = Vec::new(alloc);
     let mut free = next;
     for segment in segments {
-        match allot(alloc, segment, keyed, free, &mut privates) {
+        match allot(alloc, segment, free, &mut privates) {
             Err(stop) => return Err(stop),
             Ok(end) => free = end,
         }

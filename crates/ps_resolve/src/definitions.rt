@@ -1,15 +1,14 @@
 ghost use Rattle.std.specs.Prelude.{◌≡◌, ◌<◌, ◌==◌, ◌∷◌, [], length, slice_get, Some, None, IfOk, IfErr};
 ghost use Rattle.indexmap.specs.IndexMap.{hasher_of};
+ghost use Rattle.ps_linkinfo.specs.Counts.{digest_of};
 ghost use Rattle.ps_linkinfo.specs.Records.{reading};
-ghost use Rattle.ps_resolve.specs.Keys.{key_of};
-ghost use Rattle.ps_resolve.specs.Privates.{owner_of_linkage};
 ghost use Rattle.ps_resolve.specs.Symbols.{definitions, definition_of, def_in, doubled};
 ghost use Rattle.ps_resolve.specs.Stops.{IsDoubled};
 
-use crate::keyed::Keyed;
 use crate::linkage::{Linkage, Stop};
+use crate::name_hasher::NameHasher;
 use indexmap::IndexMap;
-use ps_linkinfo::{Body, LinkRecord, Records, walk_from_start};
+use ps_linkinfo::{Body, LinkInformation, LinkRecord};
 use ps_words::{Fault, Reason};
 use std::alloc::{Allocator, Global};
 use std::marker::Model;
@@ -40,7 +39,7 @@ pub struct Def {
 /// be prepared for it.
 #[derive(Drop)]
 pub struct Definitions<A: Allocator + Copy = Global> {
-    by_name: IndexMap<[u8; 8], Def, Keyed, A>,
+    by_name: IndexMap<[u8; 8], Def, NameHasher, A>,
 }
 
 impl<A: Allocator + Copy> Model for Definitions<A> {
@@ -69,34 +68,29 @@ fn def_of(entry: &LinkRecord) -> Option<Def>
     }
 }
 
-/// The definitions of a segment, by hashes that are keyed by its records.
+/// The definitions of a segment in this slot, by hashes that are keyed by their names.
 fn table_of<A: Allocator + Copy>(
     alloc: A,
-    host: &Linkage,
-) -> Result<IndexMap<[u8; 8], Def, Keyed, A>, Stop>
-    ensures entries { IfOk result (λ m. m.entries ≡ definitions (reading host.now.order host.now.bytes.now).0) }
-    ensures once { IfOk result (λ _. doubled (reading host.now.order host.now.bytes.now).0 ≡ None) }
-    ensures keyed { IfOk result (λ m. hasher_of m ≡ key_of (owner_of_linkage host.now ∷ [])) }
-    ensures stop { IfErr result (IsDoubled host.now.file host.now.slot (reading host.now.order host.now.bytes.now).0) }
+    file: usize,
+    slot: u8,
+    records: &LinkInformation,
+) -> Result<IndexMap<[u8; 8], Def, NameHasher, A>, Stop>
+    ensures entries { IfOk result (λ m. m.entries ≡ definitions records.now) }
+    ensures once { IfOk result (λ _. doubled records.now ≡ None) }
+    ensures keyed { IfOk result (λ m. hasher_of m ≡ digest_of records.now) }
+    ensures stop { IfErr result (IsDoubled file slot records.now) }
 {
-    walk_from_start();
-    let mut by_name = IndexMap::with_hasher(alloc, Keyed::by_names(&[*host]));
-    let mut rec = 0;
-    for item in Records::new(host.order, host.bytes) {
-        if let Ok(record) = item {
-            if let Some(def) = def_of(&record) {
-                if by_name.contains_key(&record.name) {
-                    return Err(Stop::Refused(Fault {
-                        reason: Reason::DoubledDefinition,
-                        file: host.file,
-                        slot: Some(host.slot),
-                        rec: Some(rec),
-                        reference: None,
-                    }));
-                }
-                by_name.insert(record.name, def)?;
+    let count = records.definitions();
+    let mut by_name = IndexMap::with_capacity_and_hasher(alloc, count, NameHasher::of(records))?;
+    if count == 0 {
+        return Ok(by_name);
+    }
+    for (rec, record) in records.records() {
+        if let Some(def) = def_of(&record) {
+            if by_name.insert(record.name, def)?.is_some() {
+                let reason = Reason::DoubledDefinition;
+                return Err(Stop::Refused(Fault::in_record(file, slot, rec, reason)));
             }
-            rec += 1;
         }
     }
     Ok(by_name)
@@ -115,7 +109,22 @@ impl<A: Allocator + Copy> Definitions<A> {
         ensures once { IfOk result (λ _. doubled (reading host.now.order host.now.bytes.now).0 ≡ None) }
         ensures stop { IfErr result (IsDoubled host.now.file host.now.slot (reading host.now.order host.now.bytes.now).0) }
     {
-        let by_name = table_of(alloc, host)?;
+        let records = LinkInformation::up_to_fault(host.order, host.bytes);
+        Definitions::of_records(alloc, host.file, host.slot, &records)
+    }
+
+    /// The definitions of the records of a segment, for `build`.
+    pub(crate) fn of_records(
+        alloc: A,
+        file: usize,
+        slot: u8,
+        records: &LinkInformation,
+    ) -> Result<Self, Stop>
+        ensures found { IfOk result (λ d. d ≡ definitions records.now) }
+        ensures once { IfOk result (λ _. doubled records.now ≡ None) }
+        ensures stop { IfErr result (IsDoubled file slot records.now) }
+    {
+        let by_name = table_of(alloc, file, slot, records)?;
         Ok(Definitions { by_name })
     }
 

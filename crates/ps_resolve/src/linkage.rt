@@ -2,7 +2,7 @@ ghost use Rattle.std.specs.Prelude.{◌≡◌};
 ghost use Rattle.ps_resolve.specs.declared.linkage.Stop.TheVariants.{Memory};
 
 use ps_words::{Fault, Order};
-use std::alloc::AllocFailed;
+use std::alloc::{AllocError, AllocFailed};
 
 /// The link information of a segment, and where a fault of it stands.
 #[derive(Clone, Copy)]
@@ -24,6 +24,14 @@ pub enum Stop {
     Refused(Fault),
     /// Memory ran out.
     Memory,
+}
+
+impl From<AllocError> for Stop {
+    ghost from_gives = { λ _ e. e ≡ Memory };
+
+    fn from(_e: AllocError) -> Stop {
+        Stop::Memory
+    }
 }
 
 impl<T: Drop> From<AllocFailed<T>> for Stop {

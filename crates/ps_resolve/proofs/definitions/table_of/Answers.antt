@@ -1,66 +1,83 @@
-use Rattle.std.proofs.Common.{◌≡◌, ◌<◌, ◌+◌, ◌∙◌, length, List, ℕ, [], ◌∷◌, ◌++◌, ap, sym, arith, subst, Result, Ok}
+use Rattle.std.proofs.Common.{◌≡◌, ◌<◌, ◌+◌, ◌∙◌, length, List, ℕ, [], ◌∷◌, ◌++◌, ap, sym, refl, arith, subst, append-nil, is_some, true≢false}
 use Rattle.std.proofs.lemmas.Result.{err_from_is_err_and}
-use Rattle.ps_resolve.specs.declared.definitions.Def.{Def}
-use Rattle.std.specs.List.{filter_map}
-use Rattle.std.specs.Result.{result_ok}
 use Rattle.std.specs.Str.{bytes_eq}
-use Rattle.ps_linkinfo.specs.Records.{reading}
-use Rattle.ps_linkinfo.specs.Left.{left, records_left}
-use Rattle.ps_words.specs.declared.fault.Reason.{Reason}
-use Rattle.ps_linkinfo.specs.declared.record.LinkRecord.{LinkRecord as Record}
 use Rattle.indexmap.specs.IndexMap.{hasher_of}
 use Rattle.indexmap.proofs.CallerLemmas.{insert_entry-new}
-use Rattle.ps_resolve.specs.Symbols.{definitions, doubled, doubled_from}
-use Rattle.ps_resolve.proofs.Doubles.{none_is, none_entries, none_first, new_entries, new_first, some_there}
+use Rattle.ps_linkinfo.specs.Counts.{definitions_in}
+use Rattle.ps_resolve.specs.declared.definitions.Def.{Def}
+use Rattle.ps_resolve.proofs.Doubles.{Defines, again_first, definitions_counted, new_entries, new_first, no_definitions, none_entries, none_first, none_is, positive, some_there}
+use Rattle.ps_resolve.proofs.Numbers.{one, none}
 use Rattle.ps_resolve.proofs.definitions.table_of.Goals as goal
-use Rattle.ps_resolve.proofs.definitions.table_of.Goals.{in-Some-def_of+else-contains_key+in_ok-insert, in_default-def_of}
 
-pub loop-item-init : goal.loop-item-init
-loop-item-init g c =
-    let all = ap records_left (c.into_iter-item-iterator.ensures.into_iter_gives ∙ c.new-item-items.ensures) ∙ c.walk_from_start.ensures.records c.args.host.now.order c.args.host.now.bytes.now in
+pub loop-rec-init : goal.loop-rec-init
+loop-rec-init g c = record {
+  left = (0, c.args.records.now, c.into_iter-rec-iterator.ensures.into_iter_gives ∙ c.records-rec-items.ensures, rw c.in_ok-by_name.ensures.empty (record { entries = refl; first = refl }));
+  keyed = c.in_ok-by_name.ensures.hasher ∙ c.of.ensures;
+}
+
+pub loop-rec-preserved : goal.loop-rec-preserved
+loop-rec-preserved g c =
+    let old = c.loop-rec.by_name.entries in
+    let rec = c.in-Some.rec in
+    let r = c.in-Some.record in
+    let step = one (Defines c.args.records.now old) c.loop-rec.rec-iterator c.next.new.self rec r c.loop-rec.invariant.left c.in-Some.ensures.steps in
+    let none = sym c.def_of.ensures ∙ c.in_default.is in
     record {
-      can = tt;
-      finite = tt;
-      entries = rw c.with_hasher-by_name.ensures.empty (ap definitions all);
-      first = rw c.with_hasher-by_name.ensures.empty (ap doubled all);
-      keyed = c.with_hasher-by_name.ensures.hasher ∙ c.by_names.ensures;
-      count = omega (arith, ap length all);
+      left = (rec + 1, step.0, step.1, record { entries = sym (none_entries rec old r step.0 none) ∙ step.2.entries; first = sym (none_first rec old r step.0 none) ∙ step.2.first });
+      keyed = c.loop-rec.invariant.keyed;
     }
 
-pub overflow_add-rec : goal.overflow_add-rec
-overflow_add-rec g c = omega (arith, c.walk_from_start.ensures.few_records c.args.host.now.order c.args.host.now.bytes.now)
+pub returns-in_err-by_name-clause-stop : goal.returns-in_err-by_name-clause-stop
+returns-in_err-by_name-clause-stop g c =
+    let p = err_from_is_err_and c.from_residual.result c.from_residual.ensures.1 in
+    let rs = c.args.records.now in
+    let some : definitions_in rs ≡ 0 → ⊥ = λ e. true≢false (sym (c.in_err-by_name.ensures.succeeds (c.definitions-count.ensures ∙ e))) in
+    rw (p.1, p.2) (subst (λ (n : ℕ). 0 < n) (sym (definitions_counted rs)) (positive (definitions_in rs) some))
 
-pub loop-item-preserved-in-Ok : goal.loop-item-preserved-in-Ok
-loop-item-preserved-in-Ok g c =
-    let bytes = c.args.host.now.bytes.now in
-    let rs = (reading c.args.host.now.order bytes).0 in
-    let r = c.in-Ok.record in
-    let old = c.loop-item.by_name.entries in
-    let rest = records_left c.next.new.self in
-    let now : left c.loop-item.item-iterator ≡ Ok r ∷ left c.next.new.self = c.in-Some.ensures.steps.1 ∙ ap (λ (i : Result Record Reason). i ∷ left c.next.new.self) c.in-Ok.is in
-    let records : records_left c.loop-item.item-iterator ≡ r ∷ rest = ap (λ (xs : List (Result Record Reason)). filter_map result_ok xs) now in
-    let inv = c.loop-item.invariant in
-    let entries : old ++ definitions (r ∷ rest) ≡ definitions rs = ap (λ (xs : List Record). old ++ definitions xs) (sym records) ∙ inv.entries in
-    let first : doubled_from c.loop-item.rec old (r ∷ rest) ≡ doubled rs = ap (λ (xs : List Record). doubled_from c.loop-item.rec old xs) (sym records) ∙ inv.first in
-    let count : c.loop-item.rec + 1 + length rest ≡ length rs = omega (arith, ap length records, inv.count) in
-    elim c.match-def_of.branch [
-      | in_default-def_of w ↦
-          let none = sym c.def_of.ensures ∙ w.in_default-def_of.is in
-          rw (ap (λ m. m.entries) w.by_name-is, ap hasher_of w.by_name-is) (record { can = tt; finite = tt; entries = sym (none_entries c.loop-item.rec old r rest none) ∙ entries; first = sym (none_first c.loop-item.rec old r rest none) ∙ first; keyed = inv.keyed; count = count })
-      | in-Some-def_of+else-contains_key+in_ok-insert w ↦
-          let some = sym c.def_of.ensures ∙ w.in-Some-def_of.is in
-          let absent = sym w.contains_key.ensures ∙ w.if-contains_key.false in
-          let put : w.insert.new.self.entries ≡ old ++ (r.name, w.in-Some-def_of.def) ∷ [] = w.in_ok-insert.ensures.entries ∙ insert_entry-new bytes_eq c.loop-item.by_name r.name w.in-Some-def_of.def (none_is _ absent) in
-          rw (ap (λ m. m.entries) w.by_name-is ∙ put, ap hasher_of w.by_name-is ∙ w.insert.ensures.hasher) (record { can = tt; finite = tt; entries = sym (new_entries c.loop-item.rec old r rest w.in-Some-def_of.def some) ∙ entries; first = sym (new_first c.loop-item.rec old r rest w.in-Some-def_of.def some absent) ∙ first; keyed = inv.keyed; count = count })
-    ]
+pub returns-then-count-eq0-clause-entries : goal.returns-then-count-eq0-clause-entries
+returns-then-count-eq0-clause-entries g c =
+    rw c.in_ok-by_name.ensures.empty (sym (no_definitions c.args.records.now (sym c.definitions-count.ensures ∙ c.if-count-eq0.true)).0)
+
+pub returns-then-count-eq0-clause-once : goal.returns-then-count-eq0-clause-once
+returns-then-count-eq0-clause-once g c = (no_definitions c.args.records.now (sym c.definitions-count.ensures ∙ c.if-count-eq0.true)).1
 
 pub returns-in_err-insert-clause-stop : goal.returns-in_err-insert-clause-stop
 returns-in_err-insert-clause-stop g c =
-    let p = err_from_is_err_and c.from_residual.result c.from_residual.ensures.1 in
-    let rs = (reading c.args.host.now.order c.args.host.now.bytes.now).0 in
-    let r = c.in-Ok.record in
-    let old = c.loop-item.by_name.entries in
-    let now : left c.loop-item.item-iterator ≡ Ok r ∷ left c.next.new.self = c.in-Some.ensures.steps.1 ∙ ap (λ (i : Result Record Reason). i ∷ left c.next.new.self) c.in-Ok.is in
-    let records : records_left c.loop-item.item-iterator ≡ r ∷ records_left c.next.new.self = ap (λ (xs : List (Result Record Reason)). filter_map result_ok xs) now in
-    let entries : old ++ definitions (r ∷ records_left c.next.new.self) ≡ definitions rs = ap (λ (xs : List Record). old ++ definitions xs) (sym records) ∙ c.loop-item.invariant.entries in
-    rw (p.1, p.2) (subst (λ (ds : List (List ℕ × Def)). 0 < length ds) entries (some_there old r (records_left c.next.new.self) c.in-Some-def_of.def (sym c.def_of.ensures ∙ c.in-Some-def_of.is)))
+    let p = err_from_is_err_and c.from_residual-in_err-insert.result c.from_residual-in_err-insert.ensures.1 in
+    let old = c.loop-rec.by_name.entries in
+    let r = c.in-Some.record in
+    let step = one (Defines c.args.records.now old) c.loop-rec.rec-iterator c.next.new.self c.in-Some.rec r c.loop-rec.invariant.left c.in-Some.ensures.steps in
+    rw (p.1, p.2) (subst (λ (ds : List (List ℕ × Def)). 0 < length ds) step.2.entries (some_there old r step.0 c.in-Some-def_of.def (sym c.def_of.ensures ∙ c.in-Some-def_of.is)))
+
+pub returns-then-is_some-clause-stop : goal.returns-then-is_some-clause-stop
+returns-then-is_some-clause-stop g c =
+    let old = c.loop-rec.by_name.entries in
+    let r = c.in-Some.record in
+    let step = one (Defines c.args.records.now old) c.loop-rec.rec-iterator c.next.new.self c.in-Some.rec r c.loop-rec.invariant.left c.in-Some.ensures.steps in
+    let present = ap is_some (sym c.in_ok-insert.ensures.old) ∙ (sym c.is_some.ensures ∙ c.if-is_some.true) in
+    (c.in-Some.rec, sym step.2.first ∙ again_first c.in-Some.rec old r step.0 c.in-Some-def_of.def (sym c.def_of.ensures ∙ c.in-Some-def_of.is) present, c.in_record.ensures)
+
+pub loop-rec-preserved-else-is_some : goal.loop-rec-preserved-else-is_some
+loop-rec-preserved-else-is_some g c =
+    let old = c.loop-rec.by_name.entries in
+    let rec = c.in-Some.rec in
+    let r = c.in-Some.record in
+    let d = c.in-Some-def_of.def in
+    let step = one (Defines c.args.records.now old) c.loop-rec.rec-iterator c.next.new.self rec r c.loop-rec.invariant.left c.in-Some.ensures.steps in
+    let some = sym c.def_of.ensures ∙ c.in-Some-def_of.is in
+    let absent = ap is_some (sym c.in_ok-insert.ensures.old) ∙ (sym c.is_some.ensures ∙ c.if-is_some.false) in
+    let put : c.insert.new.self.entries ≡ old ++ (r.name, d) ∷ [] = c.in_ok-insert.ensures.entries ∙ insert_entry-new bytes_eq c.loop-rec.by_name r.name d (none_is _ absent) in
+    rw put (record {
+      left = (rec + 1, step.0, step.1, record { entries = sym (new_entries rec old r step.0 d some) ∙ step.2.entries; first = sym (new_first rec old r step.0 d some absent) ∙ step.2.first });
+      keyed = c.insert.ensures.hasher ∙ c.loop-rec.invariant.keyed;
+    })
+
+pub returns-clause-entries : goal.returns-clause-entries
+returns-clause-entries g c =
+    let end = none (Defines c.args.records.now c.loop-rec.by_name.entries) c.loop-rec.rec-iterator c.loop-rec.invariant.left c.in-None.ensures.steps.0 in
+    sym (append-nil c.loop-rec.by_name.entries) ∙ end.1.entries
+
+pub returns-clause-once : goal.returns-clause-once
+returns-clause-once g c =
+    let end = none (Defines c.args.records.now c.loop-rec.by_name.entries) c.loop-rec.rec-iterator c.loop-rec.invariant.left c.in-None.ensures.steps.0 in
+    sym end.1.first

@@ -1,21 +1,13 @@
-use Rattle.std.proofs.Common.{◌≡◌, ◌+◌, ◌++◌, [], ◌∷◌, length}
+use Rattle.std.proofs.Common.{◌≡◌}
 use Rattle.indexmap.specs.IndexMap.{hasher_of}
-use Rattle.ps_linkinfo.specs.Records.{reading}
-use Rattle.ps_linkinfo.specs.Left.{records_left}
-use Rattle.ps_resolve.specs.Keys.{key_of}
-use Rattle.ps_resolve.specs.Privates.{owner_of_linkage}
-use Rattle.ps_resolve.specs.Symbols.{definitions, doubled, doubled_from}
+use Rattle.ps_linkinfo.specs.Counts.{digest_of}
+use Rattle.ps_resolve.proofs.Doubles.{Defines}
+use Rattle.ps_resolve.proofs.Numbers.{IsLeft}
 use Rattle.ps_resolve.proofs.definitions.table_of.Given as goal
 
 -- what the map has and what is left are all; so is the first of what is left
-abbrev pub invariant-loop-item : goal.invariant-loop-item
-invariant-loop-item g l =
-    let rs = (reading l.host.order l.host.bytes.now).0 in
-    record {
-      can : (goal.iterator-loop-item g).can_next l.item-iterator;
-      finite : (goal.iterator-loop-item g).is_finite l.item-iterator;
-      entries : l.by_name.entries ++ definitions (records_left l.item-iterator) ≡ definitions rs;
-      first : doubled_from l.rec l.by_name.entries (records_left l.item-iterator) ≡ doubled rs;
-      keyed : hasher_of l.by_name ≡ key_of (owner_of_linkage l.host ∷ []);
-      count : l.rec + length (records_left l.item-iterator) ≡ length rs;
-    }
+abbrev pub invariant-loop-rec : goal.invariant-loop-rec
+invariant-loop-rec g l = record {
+  left : IsLeft (Defines l.records l.by_name.entries) l.rec-iterator;
+  keyed : hasher_of l.by_name ≡ digest_of l.records;
+}
