@@ -76,13 +76,15 @@ pub one_read : (order : Order) (bytes rest : List ℕ) (t u : Tally) (r : Record
 one_read order bytes rest t u r h good is on more =
     let rs = h.0 in
     let s = h.1 in
-    let begins : BeginsWith order (drop (used_by rs) bytes) r = subst (λ (y : List ℕ). BeginsWith order y r) s.behind (subst (λ (q : Record). BeginsWith order rest q) (sym is) (begins_at order rest good)) in
-    (rs ++ r ∷ [], record {
-      spelled = spelled_more order bytes rs r s.spelled begins;
-      goes_on = on_more rs r s.goes_on on;
-      behind = ap (λ (y : List ℕ). drop (size_of r) y) s.behind ∙ drop-drop (size_of r) (used_by rs) bytes ∙ ap (λ (n : ℕ). drop n bytes) (sym (used_more rs r));
-      counted = more rs s.counted;
-    })
+    let begins : BeginsWith order (drop (used_by rs) bytes) r = subst (λ (y : List ℕ). BeginsWith order y r) s.behind (subst (λ (q : Record). BeginsWith order rest q) (sym is) (begins_at order rest good)) in (
+      rs ++ r ∷ [],
+      record {
+        spelled = spelled_more order bytes rs r s.spelled begins;
+        goes_on = on_more rs r s.goes_on on;
+        behind = ap (λ (y : List ℕ). drop (size_of r) y) s.behind ∙ drop-drop (size_of r) (used_by rs) bytes ∙ ap (λ (n : ℕ). drop n bytes) (sym (used_more rs r));
+        counted = more rs s.counted;
+      },
+    )
 
 -- they are the reading, with this value of the end and this fault
 pub record IsRead (order : Order) (bytes : List ℕ) (u : Tally) (next : ℕ) (fault : Option Reason) : Type 0 where

@@ -107,13 +107,23 @@ impl<'a> LinkInformation<'a> {
         let mut rest = bytes;
         loop {
             if let Some(reason) = fault_at(order, rest) {
-                let records = LinkInformation { order, bytes, tally, next: 0 };
+                let records = LinkInformation {
+                    order,
+                    bytes,
+                    tally,
+                    next: 0,
+                };
                 return (records, Some(reason));
             }
             let record = record_at(order, rest);
             tally.add(&record);
             if let Body::Eof(next) = record.body {
-                let records = LinkInformation { order, bytes, tally, next };
+                let records = LinkInformation {
+                    order,
+                    bytes,
+                    tally,
+                    next,
+                };
                 return (records, None);
             }
             rest = &rest[record.size()..];
