@@ -1,4 +1,4 @@
--- What the process ends with, by the error of its command: 1 refused, 2 usage, 3 a file or standard output, 4 want of memory.
+-- What the process ends with, by the error of its command: 1 refused, 2 usage, 3 a file or standard output, 4 out of memory.
 -- Source: this project's profile.
 use Rattle.std.specs.Prelude.{ℕ}
 use Rattle.ps_linker.specs.declared.error.CommandError.{CommandError}

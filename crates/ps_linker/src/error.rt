@@ -62,7 +62,7 @@ impl From<clap::Error> for CommandError<'_> {
 }
 
 impl From<LinkError> for CommandError<'_> {
-    /// The calls that check files and make texts answer no `Write`; a file that is written is named where it is written.
+    /// The calls that check files and make texts return no `Write`; a file that is written is named where it is written.
     fn from(error: LinkError) -> Self {
         match error {
             LinkError::Refused(fault) => CommandError::Refused(fault),
@@ -88,7 +88,7 @@ impl CommandError<'_> {
         }
     }
 
-    /// Writes the text, and answers the status. A text that cannot be written is let go.
+    /// Writes the text, and returns the status. A text that cannot be written is let go.
     pub fn report<E: Write>(&self, err: &mut E) -> u8
         ensures { result ≡ status_of self.now }
     {

@@ -60,7 +60,7 @@ fn words_fault(kind: ErrorKind) -> CommandError<'static>
     }
 }
 
-/// Runs the command of these words, as `run` does, and answers its status.
+/// Runs the command of these words, as `run` does, and returns its status.
 fn run_words<R: CodeFiles + AllocGlobal, O: Write, E: Write>(
     rt: &R,
     given: &[String],

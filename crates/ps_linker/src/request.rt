@@ -81,7 +81,7 @@ pub fn parse<'a, A: Allocator + Copy>(
     // Words that clap takes name a command, and ask for no help.
     ensures named { takes pslink_app (map (λ s. s.now) words.now) ≡ true → IfOk result (λ r. IsNamed r (subcommand_of pslink_app (map (λ s. s.now) words.now))) }
 
-    // Words that clap takes are refused for want of memory, or as wrong usage where OUT is named as a library too.
+    // Words that clap takes are refused because memory runs out, or as wrong usage where OUT is named as a library too.
     ensures refused { takes pslink_app (map (λ s. s.now) words.now) ≡ true → IfErr result (λ e. e ≢ CommandError.Memory → (status_of e ≡ 2) × WritesLibrary (subcommand_of pslink_app (map (λ s. s.now) words.now))) }
 {
     match matches(heap, words) {

@@ -18,7 +18,7 @@ use std::io::Write;
 /// Room for the line that a link prints.
 const SUMMARY_LENGTH: usize = 128;
 
-/// Does the command that `words` name, of which the first is the program's name, and answers the status of the process.
+/// Does the command that `words` name, of which the first is the program's name, and returns the status of the process.
 ///
 /// `link` writes the linked file to OUT, which is opened only once all is read and checked, and prints its summary to
 /// `out`; `map` prints the map of the link, and `show` what one code file has.
@@ -151,7 +151,7 @@ fn write_linked<'a, R: CodeFiles, A: Allocator + Copy>(
 }
 
 /// What each file has, in their order.
-// A growth that `collect` is refused may be asked for again, and then succeed.
+// An allocation that `collect` is refused may be asked for again, and then succeed.
 fn views<'c, A: Allocator + Copy>(
     alloc: A,
     contents: &'c [Vec<u8, A>],

@@ -21,7 +21,7 @@ pub record HasRoom (counts : Counts) (n : ℕ) : Type 0 where
   pub stalls : counts.stalls + n < 2 ^ 64
   pub shorts : counts.shorts + n < 2 ^ 64
 
--- the counts after a write of so many bytes that gave this answer
+-- the counts after a write of so many bytes that gave this result
 abbrev pub counted : {E : Type 0} → Counts → ℕ → Result ℕ E → Counts
 counted old size (Ok taken) = record {
   writes = old.writes + 1;
@@ -45,17 +45,17 @@ pub record Rises (old new : Counts) (size pieces : ℕ) : Type 0 where
   pub by_pieces : RisesByPieces old new pieces
   pub shorts : new.shorts ≤ old.shorts + size
 
--- no write answered an error, and none stalled
+-- no write returned an error, and none stalled
 pub record NoneFailed (old new : Counts) : Type 0 where
   pub errors : new.errors ≡ old.errors
   pub stalls : new.stalls ≡ old.stalls
 
--- one write answered an error, and none stalled
+-- one write returned an error, and none stalled
 pub record OneError (old new : Counts) : Type 0 where
   pub errors : new.errors ≡ old.errors + 1
   pub stalls : new.stalls ≡ old.stalls
 
--- one write stalled, and none answered an error
+-- one write stalled, and none returned an error
 pub record OneStall (old new : Counts) : Type 0 where
   pub errors : new.errors ≡ old.errors
   pub stalls : new.stalls ≡ old.stalls + 1
@@ -65,7 +65,7 @@ abbrev pub OneFailed : WriteFault → Counts → Counts → Type 0
 OneFailed (Device error) old new = OneError old new
 OneFailed Stalled old new = OneStall old new
 
--- it holds where a write answered an error
+-- it holds where a write returned an error
 abbrev pub IfDevice : WriteFault → Type 0 → Type 0
 IfDevice (Device error) P = P
 IfDevice Stalled P = ⊤

@@ -12,7 +12,7 @@ use Rattle.ps_linkfile.specs.LinkedFile.{LinkedFile}
 use Rattle.ps_linkfile.specs.declared.error.LinkError.{LinkError}
 use Rattle.ps_linkfile.specs.declared.error.LinkError.TheVariants.{Refused, Memory, Write}
 
--- known bytes grow by a front of these
+-- known bytes grow by a prefix of these
 abbrev pub AppendsFront : Option (List ℕ) → Option (List ℕ) → List ℕ → Type 0
 AppendsFront old new bytes = (n : ℕ) × Appends old new (take n bytes)
 
@@ -49,7 +49,7 @@ LeavesUntouched (Refused fault) old new = new ≡ old
 LeavesUntouched Memory old new = new ≡ old
 LeavesUntouched (Write fault) old new = ⊤
 
--- where a write failed, known bytes grew by a front of the linked file
+-- where a write failed, known bytes grew by a prefix of the linked file
 abbrev pub LeavesFront : List ℕ → List (List ℕ) → LinkError → Option (List ℕ) → Option (List ℕ) → Type 0
 LeavesFront host libs (Refused fault) old new = ⊤
 LeavesFront host libs Memory old new = ⊤

@@ -1,13 +1,13 @@
 use std::io;
 
-/// How often a writer was called, and with what answers.
+/// How often a writer was called, and with what results.
 ///
 /// Source: this project's profile.
 #[derive(Clone, Copy, Debug, PartialEq, Eq)]
 pub struct Counts {
     /// How many writes there were.
     pub writes: u64,
-    /// How many of them answered an error.
+    /// How many of them returned an error.
     pub errors: u64,
     /// How many of them stalled: they took none of at least one byte.
     pub stalls: u64,
@@ -31,7 +31,7 @@ impl Counts {
         }
     }
 
-    /// Counts a write of so many bytes, by its answer.
+    /// Counts a write of so many bytes, by its result.
     pub(crate) fn count(&mut self, size: usize, answer: &io::Result<usize>)
         requires { HasRoom self.old 1 }
         ensures { self.new ≡ counted self.old size answer.now }

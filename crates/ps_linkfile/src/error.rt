@@ -13,7 +13,7 @@ use thiserror::Error;
 /// Source: this project's profile.
 #[derive(Debug, Drop, Error)]
 pub enum WriteFault {
-    /// A write answered this error, of whatever kind. It was not repeated.
+    /// A write returned this error, of whatever kind. It was not repeated.
     #[error("{0}")]
     Device(io::Error),
     /// A write of at least one byte took none.
@@ -21,7 +21,7 @@ pub enum WriteFault {
     Stalled,
 }
 
-/// Why there is no linked file, or only a front of it.
+/// Why there is no linked file, or only a prefix of it.
 ///
 /// Source: this project's profile.
 #[derive(Debug, Drop, Error)]
@@ -32,7 +32,7 @@ pub enum LinkError {
     /// Memory was refused. Nothing was written.
     #[error("out of memory")]
     Memory,
-    /// The writer failed. It has a front of the linked file.
+    /// The writer failed. It has a prefix of the linked file.
     #[error("{0}")]
     Write(WriteFault),
 }

@@ -55,10 +55,10 @@ impl<'a, A: Allocator + Copy> Linked<'a, A> {
         }
     }
 
-    /// Writes the linked file, and answers what it has. It takes no memory.
+    /// Writes the linked file, and returns what it has. It takes no memory.
     ///
-    /// Refuses `Device` where a write answered an error, which is not repeated, and `Stalled` where a
-    /// write of at least one byte took none. The writer then has a front of the linked file.
+    /// Refuses `Device` where a write returned an error, which is not repeated, and `Stalled` where a
+    /// write of at least one byte took none. The writer then has a prefix of the linked file.
     /// Source: this project's profile.
     pub fn write<W: Write>(&self, out: &mut W) -> Result<Summary, WriteFault>
         ensures file { OnOk result (Appends (W.contents out.old) (W.contents out.new) (file_of self.now)) }
@@ -73,10 +73,10 @@ impl<'a, A: Allocator + Copy> Linked<'a, A> {
     ///
     /// Each count of `out` is at most 4294967296 before. `writes` rises by no more than the bytes of
     /// the linked file, and by no more than its blocks and the rise of `shorts` together. After Ok
-    /// neither `errors` nor `stalls` has risen. Refuses `Device` where a write answered an error,
+    /// neither `errors` nor `stalls` has risen. Refuses `Device` where a write returned an error,
     /// which is not repeated: `errors` has then risen by one, and `stalls` not. Refuses `Stalled`
     /// where a write of at least one byte took none: `stalls` has then risen by one, and `errors`
-    /// not. The writer then has a front of the linked file.
+    /// not. The writer then has a prefix of the linked file.
     /// Source: this project's profile.
     pub fn write_told<W: ToldWriter>(&self, out: &mut W) -> Result<Summary, WriteFault>
         requires { AreAtMost (W.counts out.old) 4294967296 }
@@ -127,7 +127,7 @@ pub fn prepare<'a, A: Allocator + Copy>(
 ///
 /// `host` and each of `libs` are whole code files; of the libraries that have a unit, the first is
 /// used. Refuses `Refused` with the first fault of all, and `Memory` where memory was refused, which
-/// is asked for only once the files are read and no fault stands in them; nothing was written then. Refuses `Write` where the writer failed, which then has a front of the
+/// is asked for only once the files are read and no fault stands in them; nothing was written then. Refuses `Write` where the writer failed, which then has a prefix of the
 /// linked file.
 /// Source: UCSD Pascal II.0 manual, code file format; the published II.0 Linker source; the layout
 /// is this project's profile.

@@ -45,7 +45,7 @@ fn add_segment<A: Allocator>(
     )
 }
 
-/// Adds a line for each segment, by slot. Answers how many blocks the linked file has.
+/// Adds a line for each segment, by slot. Returns how many blocks the linked file has.
 fn add_segments<A: Allocator + Copy>(
     text: &mut String<A>,
     plan: &Plan<'_, A>,

@@ -320,7 +320,7 @@ fn add_file<A: Allocator>(
 ///
 /// Refuses `Refused` with `ShortFile` for a file of fewer than 512 bytes, and with `NoOrder` where the
 /// kind words fit neither byte order, each of file 0, also where there is no memory; and `Memory`
-/// where memory was refused. Never answers `Write`.
+/// where memory was refused. Never returns `Write`.
 /// Source: UCSD Pascal II.0 manual, code file format; the text is this project's profile.
 pub fn show_text<A: Allocator + Copy>(alloc: A, file: &[u8]) -> Result<Vec<u8, A>, LinkError>
     ensures text { IfOk result (λ text. text.items ≡ show_of file.now) }

@@ -20,7 +20,7 @@ pub trait ToldWriter: Write {
     fn writes(&self) -> u64
         ensures { result ≡ (counts self.now).writes };
 
-    /// How many of them answered an error.
+    /// How many of them returned an error.
     fn errors(&self) -> u64
         ensures { result ≡ (counts self.now).errors };
 
@@ -29,13 +29,13 @@ pub trait ToldWriter: Write {
         ensures { result ≡ (counts self.now).stalls };
 
     /// How many of them took fewer bytes than they were handed, those of `stalls` among them. A
-    /// write that answered an error is none of these.
+    /// write that returned an error is none of these.
     fn shorts(&self) -> u64
         ensures { result ≡ (counts self.now).shorts };
 
-    /// Writes `bytes` as `write` does, and counts the write by what it answers.
+    /// Writes `bytes` as `write` does, and counts the write by what it returns.
     ///
-    /// Each count is below `u64::MAX` before. Answers how many of the bytes, from the first on, were
+    /// Each count is below `u64::MAX` before. Returns how many of the bytes, from the first on, were
     /// taken, or the error of the write.
     fn told_write(&mut self, bytes: &[u8]) -> io::Result<usize>
         requires { HasRoom (counts self.old) 1 }

@@ -12,7 +12,7 @@ use std::alloc::{AllocFailed, Allocator};
 pub enum ReadStop {
     /// In place of a record stands a fault. `rec` records stand before it, so it is the index, from 0, of the record that could not be read. `reason` is `RecordsTruncated`, `UnknownRecord`, `NativeRecord`, `SeparateRecord` or `BadFormat`.
     Refused { rec: usize, reason: Reason },
-    /// A growth of the list was refused.
+    /// An allocation of the list was refused.
     Memory,
 }
 
@@ -32,7 +32,7 @@ impl<T: Drop> From<AllocFailed<T>> for ReadStop {
 /// - `NativeRecord` for format 0, WORD, of a reference record, and `BadFormat` for another that is not its own: 1, BYTE, of a UNITREF, 2, BIG, of a PUBLREF and a PRIVREF;
 /// - `RecordsTruncated` where its list is not whole.
 ///
-/// `Memory` where a growth of the list was refused, which happens only where a record stands. Nothing is reserved from a count that a record claims: the list grows by a record that was read.
+/// `Memory` where an allocation of the list was refused, which happens only where a record stands. Nothing is reserved from a count that a record claims: the list grows by a record that was read.
 ///
 /// Source: the published II.0 Linker source; the reasons and the pieces of a list are this project's profile.
 pub fn read_records<A: Allocator + Copy>(

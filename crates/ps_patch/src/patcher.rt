@@ -88,7 +88,7 @@ impl<'a> Patcher<'a> {
     }
 
     /// Puts the next 512 bytes of the patched code in the block, with zeros past the code's end,
-    /// and answers how many of them are code: 512, or fewer at the end, and 0 when none is left.
+    /// and returns how many of them are code: 512, or fewer at the end, and 0 when none is left.
     ///
     /// The position moves on by that number. An operand or a word across two blocks is stored in
     /// both.

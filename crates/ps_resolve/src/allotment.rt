@@ -71,7 +71,7 @@ fn refused(segment: &Linkage, rec: usize, reason: Reason) -> Stop
     Stop::Refused(Fault::in_record(segment.file, segment.slot, rec, reason))
 }
 
-/// Allots the privates of a segment from `next` on, and answers the next free offset.
+/// Allots the privates of a segment from `next` on, and returns the next free offset.
 fn allot<A: Allocator + Copy>(
     alloc: A,
     segment: &Linkage,
@@ -165,7 +165,7 @@ impl<A: Allocator + Copy> Allotment<A> {
     /// The link information has to read without a fault: up to the first fault its records are taken.
     /// Refuses, at the first private where one of them stands, `DoubledPrivate` where an earlier one of
     /// its segment has its name, and then `NoRoom` where the offset behind it is over 32767, with the
-    /// file and the slot of its segment. Answers `Memory` only where there is a private.
+    /// file and the slot of its segment. Returns `Memory` only where there is a private.
     ///
     /// Source: this project's profile.
     pub fn build(alloc: A, next: u16, segments: &[Linkage]) -> Result<Self, Stop>

@@ -101,7 +101,7 @@ impl<A: Allocator + Copy> Definitions<A> {
     ///
     /// The link information has to read without a fault: up to the first fault its records are taken.
     /// Refuses `DoubledDefinition` at the first record that defines a name again, with the file and
-    /// the slot of `host`. Answers `Memory` only where there is a definition.
+    /// the slot of `host`. Returns `Memory` only where there is a definition.
     ///
     /// Source: the published II.0 Linker source; that a name is defined once is this project's profile.
     pub fn build(alloc: A, host: &Linkage) -> Result<Self, Stop>

@@ -120,7 +120,7 @@ fn in_record(rec: usize, stop: RefStop) -> RecordStop
 }
 
 /// Adds the edits of all records of a segment, the first of whose privates has the offset `free`,
-/// or finds their first fault. Answers the offset behind its last private.
+/// or finds their first fault. Returns the offset behind its last private.
 pub(crate) fn add_records<A: Allocator + Copy>(
     names: &Names<A>,
     procedures: &Procs,

@@ -74,7 +74,7 @@ pub enum Reason {
     MissingDefinition,
     /// 29: a public reference's definition is a constant.
     IllKind,
-    /// 30: no longer answered: a unit that no slot of the host has is sought in the libraries.
+    /// 30: no longer returned: a unit that no slot of the host has is sought in the libraries.
     MissingUnitRef,
     /// 31: an operand does not lie inside the code.
     OutsideCode,

@@ -1,4 +1,4 @@
-//! An allocator for tests of want of memory: it counts growths and refuses those of chosen numbers.
+//! An allocator for tests of running out of memory: it counts growths and refuses those of chosen numbers.
 //!
 //! [`Refusing`] stands over another allocator, as the runtime's, and is handed out as `&heap`. A test makes one for each number in turn and calls what it tests, until a call is made in which nothing was refused.
 #![tactic(auto)]
@@ -62,7 +62,7 @@ impl Gate {
         }
     }
 
-    /// Counts a growth, and answers whether it is refused.
+    /// Counts a growth, and returns whether it is refused.
     fn refuses(&self) -> bool {
         let growth = self.growths.get().saturating_add(1);
         self.growths.set(growth);

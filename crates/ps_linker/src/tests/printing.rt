@@ -46,7 +46,7 @@ fn standard_output_that_fails(rt: HostRuntime) -> Result<(), Fail> {
 }
 
 /// Has each write of the words' text fail in turn, until none fails: how many failed. A write takes `most` bytes. What was
-/// taken is a front of the text, and all of it only where the status is 0.
+/// taken is a prefix of the text, and all of it only where the status is 0.
 fn failing_prints<R: Files + AllocGlobal + Abort>(
     rt: &R,
     words: &[&str],

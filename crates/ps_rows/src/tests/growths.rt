@@ -12,11 +12,11 @@ pub(crate) const OUT_OF_MEMORY: &str = "out of memory";
 
 /// A call that takes memory.
 pub(crate) trait Growing {
-    /// Makes the call, which grows on `heap`, and answers its answer as text made on `alloc`.
+    /// Makes the call, which grows on `heap`, and returns its answer as text made on `alloc`.
     fn answer<A: Allocator + Copy>(&self, alloc: Global, heap: A) -> Result<String, AllocError>;
 }
 
-/// Makes a call with each growth refused in turn, until none was refused: the answer is want of memory until then, and each time a second call has the memory that it wants. Answers how many were refused.
+/// Makes a call with each growth refused in turn, until none was refused: the answer is out of memory until then, and each time a second call has the memory that it wants. Returns how many were refused.
 pub(crate) fn refused_growths(
     rt: &(impl Abort + AllocGlobal),
     what: &str,

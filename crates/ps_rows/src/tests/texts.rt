@@ -45,7 +45,7 @@ slot 14          kind 0 address 0 length 0 text 0
 slot 15          kind 0 address 0 length 0 text 0
 ";
 
-/// An answer as text: the text itself, the fault's, or a word for want of memory.
+/// An answer as text: the text itself, the fault's, or a word for out of memory.
 fn text_of<A: Allocator + Copy>(
     alloc: Global,
     answer: Result<Vec<u8, A>, LinkError>,
