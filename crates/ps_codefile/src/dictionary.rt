@@ -179,7 +179,7 @@ impl<'a> Dict<'a> {
 
     /// The slot is neither wanted nor empty, whatever its kind: its length is not 0, nor its
     /// address where its kind is 3. Whether its code can be read is another question, which
-    /// `code` returns.
+    /// `code` answers.
     pub fn filled(&self, slot: u8) -> bool
         requires { slot < 16 }
         ensures { result ≡ is_filled (entry_at self.now.order self.now.file slot) }
