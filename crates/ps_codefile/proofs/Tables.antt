@@ -6,7 +6,7 @@ use Rattle.std.proofs.lemmas.Bool.Decides.{nat_tests}
 use Rattle.std.proofs.lemmas.List.FromFn.{length-map-range_with_len, get_or-map-range_with_len, map-range_with_len_more}
 use Rattle.ps_words.specs.declared.order.Order.{Order}
 use Rattle.ps_words.specs.declared.fault.Reason.TheVariants as reason
-use Rattle.ps_codefile.specs.Procedures.{procedures, dictionary_len, start_of, content_of, table_of, is_placed, numbers, tables, tables_fault, is_in_table, is_reserved}
+use Rattle.ps_codefile.specs.Procedures.{procedures, dictionary_len, dictionary_start, content_of, table_of, is_placed, numbers, tables, tables_fault, is_in_table, is_reserved}
 use Rattle.ps_codefile.specs.Places.{span, passes, is_between, has_first, IsWhole, HasRoom}
 
 pub length_tables : (order : Order) (code : List ℕ) (tables : List (Option ℕ)) → tables ≡ map (table_of order code) (numbers code) → length tables ≡ procedures code
@@ -58,9 +58,9 @@ later_fault order code host native items fits placed listed body is =
     rw (short, placed, first, some)
 
 -- the reserved places, from the tables as a list
-pub reserved_from : (order : Order) (code : List ℕ) (items : List (Option ℕ)) (q : ℕ) → items ≡ map (table_of order code) (numbers code) → (is_between (start_of code) (length code) q || list_any (passes (is_in_table q)) items) ≡ is_reserved order code q
+pub reserved_from : (order : Order) (code : List ℕ) (items : List (Option ℕ)) (q : ℕ) → items ≡ map (table_of order code) (numbers code) → (is_between (dictionary_start code) (length code) q || list_any (passes (is_in_table q)) items) ≡ is_reserved order code q
 reserved_from order code items q listed =
-    ap (λ (b : Bool). is_between (start_of code) (length code) q || b) (ap (λ (ts : List (Option ℕ)). list_any (passes (is_in_table q)) ts) listed ∙ any_table (is_in_table q) (table_of order code) (numbers code))
+    ap (λ (b : Bool). is_between (dictionary_start code) (length code) q || b) (ap (λ (ts : List (Option ℕ)). list_any (passes (is_in_table q)) ts) listed ∙ any_table (is_in_table q) (table_of order code) (numbers code))
 
 -- one more table in the list
 pub placed_more : (order : Order) (code : List ℕ) (i : ℕ) → ((k : ℕ) → k < i → is_placed order code (1 + k) ≡ true) → is_placed order code (i + 1) ≡ true → (k : ℕ) → k < i + 1 → is_placed order code (1 + k) ≡ true

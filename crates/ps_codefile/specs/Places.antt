@@ -4,7 +4,7 @@ use Rattle.std.specs.Prelude.{ℕ, ◌+◌, ◌-◌, ◌/◌, ◌%◌, ◌^◌, 
 use Rattle.std.specs.Int.{bit_at}
 use Rattle.std.specs.Option.{option_map_or, ForSome}
 use Rattle.ps_words.specs.declared.order.Order.{Order}
-use Rattle.ps_codefile.specs.Procedures.{start_of, dictionary_len, numbers, table_of, is_reserved}
+use Rattle.ps_codefile.specs.Procedures.{dictionary_start, dictionary_len, numbers, table_of, is_reserved}
 
 -- how many places a set has room for, 64 to a word
 abbrev pub span : ℕ
@@ -29,7 +29,7 @@ passes test table = option_map_or test table false
 -- A table at this place is whole in the code before the procedure dictionary, and within the span before the code's end.
 pub record IsWhole (code : List ℕ) (t : ℕ) : Type 0 where
   pub low : 8 ≤ t
-  pub high : t + 1 < start_of code
+  pub high : t + 1 < dictionary_start code
   pub near : length code + 8 ≤ t + span
 
 -- each table that is there is so

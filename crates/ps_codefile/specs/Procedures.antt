@@ -16,8 +16,8 @@ abbrev pub dictionary_len : List ℕ → ℕ
 dictionary_len code = 2 + 2 * procedures code
 
 -- the first place of the dictionary
-abbrev pub start_of : List ℕ → ℕ
-start_of code = length code - dictionary_len code
+abbrev pub dictionary_start : List ℕ → ℕ
+dictionary_start code = length code - dictionary_len code
 
 -- the content of a procedure's word
 abbrev pub content_of : Order → List ℕ → ℕ → ℕ
@@ -34,7 +34,7 @@ abbrev pub is_placed : Order → List ℕ → ℕ → Bool
 is_placed order code p =
     let content = content_of order code p in
     let place = length code - 2 - 2 * p in
-    content == 0 || (nat_le (content + 8) place && nat_lt (place - content + 1) (start_of code))
+    content == 0 || (nat_le (content + 8) place && nat_lt (place - content + 1) (dictionary_start code))
 
 -- the numbers of the procedures
 abbrev pub numbers : List ℕ → List ℕ
@@ -57,7 +57,7 @@ is_in_table p t = nat_le (t - 8) p && nat_le p (t + 1)
 
 -- a place that no operand may cover: the procedure dictionary, and each attribute table
 abbrev pub is_reserved : Order → List ℕ → ℕ → Bool
-is_reserved order code p = (nat_le (start_of code) p && nat_lt p (length code)) || list_any (is_in_table p) (tables order code)
+is_reserved order code p = (nat_le (dictionary_start code) p && nat_lt p (length code)) || list_any (is_in_table p) (tables order code)
 
 -- A code whose words are read in this order, and whose procedure tables have no fault.
 pub record ProcedureTables : Type 0 where

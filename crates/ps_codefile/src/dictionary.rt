@@ -1,6 +1,6 @@
 ghost use Rattle.std.specs.Prelude.{◌≡◌, ◌<◌, ◌≤◌, ◌+◌, ◌*◌, ◌==◌, length, slice_index};
 ghost use Rattle.std.specs.List.{list_all};
-ghost use Rattle.ps_codefile.specs.Dictionary.{slots, Opened, opened, opened_beside, entry_at, name_at, names_of, tail_of, role_of, is_filled, code_of, information_of, Gives};
+ghost use Rattle.ps_codefile.specs.Dictionary.{slots, Opened, opened, opened_beside, entry_at, name_at, names_of, tail_of, role_of, is_filled, code_of, information_of, IsViewOf};
 
 use crate::entry::{Entry, Role};
 use ps_words::{BLOCK_SIZE, Order, Reason, blocks_of, get};
@@ -194,7 +194,7 @@ impl<'a> Dict<'a> {
     /// before the code does.
     pub fn code(&self, slot: u8) -> Result<&'a [u8], Reason>
         requires { slot < 16 }
-        ensures { Gives (λ code. code.now) result (code_of self.now.file (entry_at self.now.order self.now.file slot)) }
+        ensures { IsViewOf (λ code. code.now) result (code_of self.now.file (entry_at self.now.order self.now.file slot)) }
     {
         let entry = self.entry(slot);
         if entry.has_bad_length() {

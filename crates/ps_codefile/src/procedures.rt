@@ -1,7 +1,7 @@
 ghost use Rattle.std.specs.Prelude.{◌≡◌, ℕ, ◌<◌, ◌≤◌, ◌-◌, ◌+◌, ◌==◌, ◌||◌, ◌&&◌, not, true, false, length, map, slice_index, IfOk, IfErr};
 ghost use Rattle.std.specs.List.{list_all, list_any};
 ghost use Rattle.std.specs.Option.{ForSome};
-ghost use Rattle.ps_codefile.specs.Procedures.{procedures, dictionary_len, start_of, table_of, is_placed, numbers, is_in_table, is_reserved as is_reserved_spec, read_tables as read_tables_spec};
+ghost use Rattle.ps_codefile.specs.Procedures.{procedures, dictionary_len, dictionary_start, table_of, is_placed, numbers, is_in_table, is_reserved as is_reserved_spec, read_tables as read_tables_spec};
 ghost use Rattle.ps_codefile.specs.Places.{span, marks, is_between, passes, IsWhole, AreWhole, HasRoom, has_first};
 
 use crate::places::{Places, SPAN};
@@ -47,7 +47,7 @@ impl<'a> Model for Procs<'a> {
 /// The place of procedure `p`'s table, where it has one.
 fn read_table(order: Order, code: &[u8], start: usize, p: usize) -> Result<Option<usize>, Reason>
     requires whole { dictionary_len code.now ≤ length code.now }
-    requires starts { start ≡ start_of code.now }
+    requires starts { start ≡ dictionary_start code.now }
     requires low { 1 ≤ p }
     requires high { p ≤ procedures code.now }
     ensures ok { IfOk result (λ table. (is_placed order code.now p ≡ true) × (table ≡ table_of order code.now p) × ForSome table (IsWhole code.now)) }
@@ -75,7 +75,7 @@ fn read_tables(
     start: usize,
 ) -> Result<ArrayVec<Option<usize>, MAX_PROCEDURES>, Reason>
     requires whole { dictionary_len code.now ≤ length code.now }
-    requires starts { start ≡ start_of code.now }
+    requires starts { start ≡ dictionary_start code.now }
     ensures ok { IfOk result (λ tables. (list_all (is_placed order code.now) (numbers code.now) ≡ true) × (tables.items ≡ map (table_of order code.now) (numbers code.now)) × AreWhole code.now tables.items) }
     ensures bad { IfErr result (λ why. (list_all (is_placed order code.now) (numbers code.now) ≡ false) × (why ≡ Reason.BadProcDict)) }
 {
@@ -132,7 +132,7 @@ fn reserve(places: &mut Places, table: Option<usize>)
 /// The places of the procedure dictionary and of all tables.
 fn reserved_places(code: &[u8], start: usize, tables: &[Option<usize>]) -> Places
     requires whole { dictionary_len code.now ≤ length code.now }
-    requires starts { start ≡ start_of code.now }
+    requires starts { start ≡ dictionary_start code.now }
     requires inside { AreWhole code.now tables.now }
     ensures { (q : ℕ) → marks result.base result.words q ≡ (is_between start (length code.now) q || list_any (passes (is_in_table q)) tables.now) }
 {
@@ -195,7 +195,7 @@ impl<'a> Procs<'a> {
 
     /// The place of the procedure dictionary's first byte.
     pub fn start(&self) -> usize
-        ensures { result ≡ start_of self.now.code }
+        ensures { result ≡ dictionary_start self.now.code }
     {
         self.code.len() - NUMBERS - WORD * self.count()
     }

@@ -2,15 +2,16 @@
 use Rattle.std.proofs.Common.{◌≡◌, ℕ, zero, suc, ◌-◌, ◌≤◌, List, [], ◌∷◌, Option, Some, refl, sym, subst, inl, inr, arith}
 use Rattle.std.specs.Prelude.{◌⊎◌, slice_get, slice_index}
 use Rattle.ps_examples.specs.Files.{count, state}
+use Rattle.ps_resolve.specs.Added.{empty_slots, rounds, segments}
+use Rattle.ps_resolve.specs.Standing.References.{operand_width}
+use Rattle.ps_resolve.specs.Standing.Privates.{private_offset}
+use Rattle.ps_resolve.specs.LinkedBytes.{IsReference, Reaches, Becomes, IsNumberPlace, IsSizePlace, IsLinkedByte}
 use Rattle.ps_examples.specs.Segments.{count_reference, state_reference, end_mark, demo_segment, util_segment, pair}
 use Rattle.ps_linkinfo.specs.Records.{refs_of}
 use Rattle.ps_linkinfo.specs.declared.record.Body.{Body}
 use Rattle.ps_linkinfo.specs.declared.record.Body.TheVariants.{UnitRef, PublRef, PrivRef, PublDef, ConstDef, Eof}
 use Rattle.ps_linkinfo.specs.declared.record.LinkRecord.{LinkRecord as Record}
 use Rattle.ps_resolve.specs.Sources.{own_segments}
-use Rattle.ps_resolve.specs.Added.{empty_slots, rounds, segments}
-use Rattle.ps_resolve.specs.Standing.{operand_width}
-use Rattle.ps_resolve.specs.LinkedBytes.{private_offset, IsReference, Reaches, Becomes, IsNumberPlace, IsSizePlace, IsLinkedByte}
 use Rattle.ps_words.specs.declared.order.Order.TheVariants.{Little}
 
 pub segments_are : pair ≡ demo_segment ∷ util_segment ∷ []

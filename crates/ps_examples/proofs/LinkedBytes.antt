@@ -1,10 +1,10 @@
 -- What is written of the small files, computed.
 use Rattle.std.proofs.Common.{◌≡◌, [], ◌∷◌, ◌++◌, None, refl}
 use Rattle.ps_examples.specs.Files.{host, library, host_in, library_in, host_with, library_with, library_of_two, wanting_aux, host_in_place, host_with_tools, library_of_two_blocks, library_of_used, put_at, util, count, state, nobody, unit_ref, publ_ref, priv_ref, publ_def, eof_mark, util_information}
+use Rattle.ps_resolve.specs.Added.{empty_slots, rounds, segments, slot_names}
 use Rattle.ps_examples.specs.Expected.{linked_pair, linked_in_place, linked_two, linked_two_privates, linked_wide_operand, linked_unit_reference, linked_host_reference, linked_other_library, linked_plain_segment, linked_two_blocks, linked_added}
 use Rattle.ps_linkfile.specs.LinkedFile.{linked_file, dictionary, all_pairs}
 use Rattle.ps_resolve.specs.Sources.{own_segments}
-use Rattle.ps_resolve.specs.Added.{empty_slots, rounds, segments, slot_names}
 use Rattle.ps_resolve.specs.Faults.{slots_fault, no_host_fault, libraries_fault, sources_fault, linking_fault, definitions_fault, privates_fault, data_fault, references_fault}
 use Rattle.ps_resolve.specs.AllFaults.{first_fault, reading_fault}
 use Rattle.ps_words.specs.declared.order.Order.TheVariants.{Little, Big}

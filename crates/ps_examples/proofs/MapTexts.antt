@@ -2,10 +2,10 @@
 use Rattle.std.proofs.Common.{◌≡◌, [], ◌∷◌, ◌++◌, refl}
 use Rattle.std.specs.Fmt.{digits}
 use Rattle.ps_examples.specs.Files.{host, library, host_in_place, host_with, count, limit, publ_ref, publ_def, const_def, eof_mark, wanting_aux, library_of_two, util_information, library_of_used}
+use Rattle.ps_resolve.specs.Added.{empty_slots, rounds, segments}
 use Rattle.ps_examples.specs.Texts.{map_of_the_pair, map_with_a_constant, map_in_place, map_of_two, map_of_an_added_unit}
 use Rattle.ps_linkfile.specs.MapText.{map_of}
 use Rattle.ps_resolve.specs.Sources.{own_segments}
-use Rattle.ps_resolve.specs.Added.{empty_slots, rounds, segments}
 use Rattle.ps_words.specs.declared.order.Order.TheVariants.{Little}
 
 pub a_host_and_its_library : map_of host (library ∷ []) ≡ map_of_the_pair

@@ -93,8 +93,8 @@ util_code Little = 165 ∷ 128 ∷ 0 ∷ 171 ∷ 128 ∷ 2 ∷ 215 ∷ 215 ∷ 1
 util_code Big = 165 ∷ 128 ∷ 0 ∷ 171 ∷ 128 ∷ 2 ∷ 215 ∷ 215 ∷ 173 ∷ 0 ∷ 0 ∷ 0 ∷ 0 ∷ 0 ∷ 0 ∷ 6 ∷ 0 ∷ 16 ∷ 1 ∷ 0 ∷ 0 ∷ 2 ∷ 2 ∷ 1 ∷ []
 
 -- a dictionary, a block of code and a block of link information
-abbrev pub file_of : List ℕ → List ℕ → List ℕ → List ℕ
-file_of dictionary code information = dictionary ++ filled_to 512 code ++ filled_to 512 information
+abbrev pub code_file : List ℕ → List ℕ → List ℕ → List ℕ
+code_file dictionary code information = dictionary ++ filled_to 512 code ++ filled_to 512 information
 
 abbrev pub demo_information : Order → List ℕ
 demo_information order = publ_def order count 3 ++ eof_mark order 8
@@ -107,14 +107,14 @@ abbrev pub host_dictionary : Order → List ℕ
 host_dictionary order = put_at 300 (42 ∷ []) (with_slot order 1 demo 1 1 18 (with_slot order 7 util 3 0 0 no_segments))
 
 abbrev pub host_with : Order → List ℕ → List ℕ
-host_with order information = file_of (host_dictionary order) (demo_code order) information
+host_with order information = code_file (host_dictionary order) (demo_code order) information
 
 abbrev pub host_in : Order → List ℕ
 host_in order = host_with order (demo_information order)
 
 -- a library with UTIL in slot 2
 abbrev pub library_with : Order → List ℕ → List ℕ
-library_with order information = file_of (with_slot order 2 util 3 1 24 no_segments) (util_code order) information
+library_with order information = code_file (with_slot order 2 util 3 1 24 no_segments) (util_code order) information
 
 abbrev pub library_in : Order → List ℕ
 library_in order = library_with order (util_information order)
@@ -132,7 +132,7 @@ host_in_place order information =
 
 -- a library with UTIL in slot 2, of this code, which takes one block
 abbrev pub library_having : List ℕ → List ℕ → List ℕ
-library_having code information = file_of (with_slot Little 2 util 3 1 (length code) no_segments) code information
+library_having code information = code_file (with_slot Little 2 util 3 1 (length code) no_segments) code information
 
 -- a code with two procedures: the second has this number in its table, and its word in the procedure dictionary has this content
 abbrev pub two_procedures : ℕ → ℕ → List ℕ

@@ -6,8 +6,8 @@ use Rattle.ps_linkinfo.specs.declared.record.Body.TheVariants.{PublRef, PrivRef,
 use Rattle.ps_linkinfo.specs.declared.record.LinkRecord.{LinkRecord as Record}
 use Rattle.ps_resolve.specs.Sources.{Segment}
 use Rattle.ps_resolve.specs.LinkedBytes.{segments_of}
-use Rattle.ps_words.specs.declared.order.Order.TheVariants.{Little}
 use Rattle.ps_examples.specs.Files.{host, library, blank, demo, util, count, state, demo_code, util_code}
+use Rattle.ps_words.specs.declared.order.Order.TheVariants.{Little}
 
 -- the records of UTIL: a PUBLREF of COUNT with an operand at 1, a PRIVREF of STATE, of four words, with one at 4, and the end mark
 abbrev pub count_reference : Record

@@ -2,7 +2,8 @@ ghost use Rattle.std.specs.Prelude.{◌≡◌, [], ◌∷◌};
 ghost use Rattle.ps_examples.specs.Files.{count, state};
 ghost use Rattle.ps_examples.specs.Segments.{state_reference, demo_segment, util_segment, pair};
 ghost use Rattle.ps_linkinfo.specs.declared.record.Body.TheVariants.{PublRef, PrivRef};
-ghost use Rattle.ps_resolve.specs.LinkedBytes.{private_offset, Reaches, Becomes, IsNumberPlace, IsSizePlace, IsLinkedByte};
+ghost use Rattle.ps_resolve.specs.Standing.Privates.{private_offset};
+ghost use Rattle.ps_resolve.specs.LinkedBytes.{Reaches, Becomes, IsNumberPlace, IsSizePlace, IsLinkedByte};
 ghost use Rattle.ps_words.specs.declared.order.Order.TheVariants.{Little};
 
 /// The facts of linked bytes on a host and its library: which segments there are, what their

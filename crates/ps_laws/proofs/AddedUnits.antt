@@ -11,17 +11,20 @@ use Rattle.std.proofs.lemmas.List.{map-append}
 use Rattle.std.proofs.lemmas.Option.{option_and_then_some, slice_get_within, slice_get-map}
 use Rattle.std.proofs.lemmas.Slice.Eq.{bytes_eq-Decides}
 use Rattle.ps_codefile.specs.Dictionary.{slots, entry_at, role_of, code_of, information_of}
+use Rattle.ps_linkinfo.specs.Counts.{is_unit_reference}
+use Rattle.ps_resolve.specs.Added.{unit_references, all_unit_references, is_had, sought_from, sought, added, added_fault, as_added, added_segment}
+use Rattle.ps_resolve.specs.Standing.Phrases.{SomeItem}
+use Rattle.ps_resolve.specs.Standing.Slots.{HasRole}
+use Rattle.ps_resolve.specs.Standing.Sources.{HasEntry, IsNamed}
 use Rattle.ps_codefile.specs.declared.entry.Role.{Role}
 use Rattle.ps_codefile.specs.declared.entry.Role.TheVariants as role
 use Rattle.ps_linkinfo.specs.Records.{reading}
 use Rattle.ps_linkinfo.specs.declared.record.LinkRecord.{LinkRecord as Record}
-use Rattle.ps_resolve.specs.Added.{is_unit_reference, unit_references, references_in, is_had, sought_from, sought, added, added_fault, as_added, added_segment}
 use Rattle.ps_resolve.specs.Faults.{sources_fault, source_fault, unit_fault, wanted_fault, code_fault}
 use Rattle.ps_resolve.specs.First.{Before, Least, this}
 use Rattle.ps_resolve.specs.Searches.{first_of}
 use Rattle.ps_resolve.specs.Sources.{Segment, is_named, chosen_library, unit_source, source_of, file_at, is_unit, segment_from, own_segment, own_segments}
 use Rattle.ps_resolve.specs.Sought.{Asks, HasSlot, IsGiver, AreGiven, IsOfFirstLibrary, AddedUnits}
-use Rattle.ps_resolve.specs.Standing.{SomeItem, HasRole, HasEntry, IsNamed}
 use Rattle.ps_resolve.specs.declared.added.UnitReference.{UnitReference}
 use Rattle.ps_laws.proofs.Looking.{any_of_items}
 use Rattle.ps_laws.proofs.Items.{In, at_left, at_seam, in_range, of_range, find_passes}
@@ -43,7 +46,7 @@ abbrev numbered : ℕ → List Segment → List Numbered
 numbered i [] = []
 numbered i (s ∷ ss) = map (tag i) (references_of s) ++ numbered (i + 1) ss
 
-numbers_off : (i : ℕ) (segs : List Segment) → map (λ (n : Numbered). n.1) (numbered i segs) ≡ references_in segs
+numbers_off : (i : ℕ) (segs : List Segment) → map (λ (n : Numbered). n.1) (numbered i segs) ≡ all_unit_references segs
 numbers_off i [] = refl
 numbers_off i (s ∷ ss) =
     map-append (λ (n : Numbered). n.1) (map (tag i) (references_of s)) (numbered (i + 1) ss)
@@ -303,12 +306,12 @@ not_both (x ∷ a) (y ∷ b) (inr h) (inl k) = let e = h.0 in omega (arith, e, k
 not_both (x ∷ a) (y ∷ b) (inr h) (inr k) = not_both a b h.1 k.1
 
 -- where a reference stands
-place_of : (segs : List Segment) (p : ℕ) (g : UnitReference) → slice_get (references_in segs) p ≡ Some g → (m : ℕ) × (slice_get (numbered 0 segs) p ≡ Some (m, g))
+place_of : (segs : List Segment) (p : ℕ) (g : UnitReference) → slice_get (all_unit_references segs) p ≡ Some g → (m : ℕ) × (slice_get (numbered 0 segs) p ≡ Some (m, g))
 place_of segs p g e =
     let t = mapped (λ (n : Numbered). n.1) (numbered 0 segs) p g (ap (λ (gs : List UnitReference). slice_get gs p) (numbers_off 0 segs) ∙ e) in
     (t.0.0, t.1 ∙ ap (λ (h : UnitReference). Some (tag t.0.0 h)) t.2)
 
-asks_at : (segs : List Segment) (j rec : ℕ) (name : List ℕ) → Asks segs j rec name → (q : ℕ) × (h : UnitReference) × (slice_get (numbered 0 segs) q ≡ Some (j, h)) × (slice_get (references_in segs) q ≡ Some h) × (h.name ≡ name) × (h.rec ≡ rec)
+asks_at : (segs : List Segment) (j rec : ℕ) (name : List ℕ) → Asks segs j rec name → (q : ℕ) × (h : UnitReference) × (slice_get (numbered 0 segs) q ≡ Some (j, h)) × (slice_get (all_unit_references segs) q ≡ Some h) × (h.name ≡ name) × (h.rec ≡ rec)
 asks_at segs j rec name t =
     let r = numbered_of 0 segs j t.0 rec t.2 t.1 t.3 t.4 in (
       r.0,
@@ -319,7 +322,7 @@ asks_at segs j rec name t =
       r.4,
     )
 
-giver : (units : List (List ℕ × ℕ)) (segs : List Segment) (p m : ℕ) (g : UnitReference) → IsEarliest units [] (references_in segs) p g → slice_get (numbered 0 segs) p ≡ Some (m, g) → IsGiver segs m g
+giver : (units : List (List ℕ × ℕ)) (segs : List Segment) (p m : ℕ) (g : UnitReference) → IsEarliest units [] (all_unit_references segs) p g → slice_get (numbered 0 segs) p ≡ Some (m, g) → IsGiver segs m g
 giver units segs p m g t at = ((s, there, of.5, of.6), (s, there, of.0, subst (λ (n : ℕ). slice_get s.records n ≡ Some of.0) rec of.1, of.2, of.3), first)
   where
     r : (j : ℕ) × (m ≡ 0 + j) × (s : Segment) × (slice_get segs j ≡ Some s) × (d : ℕ) × IsOf s.file s.slot 0 s.records g d
@@ -551,11 +554,11 @@ some_of None P f g = g refl
 some_of (Some a) P f g = f a refl
 
 module _ (order : Order) (host : List ℕ) (libs : List (List ℕ)) (fine : sources_fault order host libs ≡ None) (ended : added_fault order host libs ≡ None) where
-  row_is : row_of order host libs ≡ sought_from (own_units order host libs) [] (references_in (own_segments order host libs ++ added order host libs))
+  row_is : row_of order host libs ≡ sought_from (own_units order host libs) [] (all_unit_references (own_segments order host libs ++ added order host libs))
   unfolding sought
   row_is = refl
 
-  at_row : (k : ℕ) (g : UnitReference) → slice_get (row_of order host libs) k ≡ Some g → slice_get (sought_from (own_units order host libs) [] (references_in (own_segments order host libs ++ added order host libs))) k ≡ Some g
+  at_row : (k : ℕ) (g : UnitReference) → slice_get (row_of order host libs) k ≡ Some g → slice_get (sought_from (own_units order host libs) [] (all_unit_references (own_segments order host libs ++ added order host libs))) k ≡ Some g
   at_row k g e = sym (ap (λ (r : List UnitReference). slice_get r k) row_is) ∙ e
 
   not_slot : (name : List ℕ) → is_had (own_units order host libs) [] name ≡ false → HasSlot order host name → ⊥
@@ -568,7 +571,7 @@ module _ (order : Order) (host : List ℕ) (libs : List (List ℕ)) (fine : sour
   is_sought : (k : ℕ) (g : UnitReference) → slice_get (row_of order host libs) k ≡ Some g → ((i : ℕ) × IsGiver (own_segments order host libs ++ added order host libs) i g) × (HasSlot order host g.name → ⊥)
   is_sought k g e =
       let segs = own_segments order host libs ++ added order host libs in
-      let t = sought_at (own_units order host libs) [] (references_in segs) k g (omega arith) (at_row k g e) in
+      let t = sought_at (own_units order host libs) [] (all_unit_references segs) k g (omega arith) (at_row k g e) in
       let p = place_of segs t.0 g t.1.0 in
       ((p.0, giver (own_units order host libs) segs t.0 p.0 g t.1 p.1), not_slot g.name t.1.1)
 
@@ -578,7 +581,7 @@ module _ (order : Order) (host : List ℕ) (libs : List (List ℕ)) (fine : sour
       let a = asks_at segs i rec name asks in
       let had : is_had (own_units order host libs) (row_of order host libs) name ≡ true =
       ap (λ (r : List UnitReference). is_had (own_units order host libs) r name) row_is
-      ∙ (ap (λ (n : List ℕ). is_had (own_units order host libs) (sought_from (own_units order host libs) [] (references_in segs)) n) (sym a.4) ∙ all_had (own_units order host libs) [] (references_in segs) a.1 a.0 a.3) in
+      ∙ (ap (λ (n : List ℕ). is_had (own_units order host libs) (sought_from (own_units order host libs) [] (all_unit_references segs)) n) (sym a.4) ∙ all_had (own_units order host libs) [] (all_unit_references segs) a.1 a.0 a.3) in
       elim (or_cases (is_some (lookup (bytes_eq name) (own_units order host libs))) (list_any (λ (g : UnitReference). bytes_eq g.name name) (row_of order host libs)) had) [
         | inl e ↦ inl (slot_of_unit order host libs name e)
         | inr e ↦ inr ((any_of_items (λ (g : UnitReference). bytes_eq g.name name) (λ (g : UnitReference). g.name ≡ name) (λ g. bytes_eq-Decides g.name name) (row_of order host libs)).0 e)
@@ -587,7 +590,7 @@ module _ (order : Order) (host : List ℕ) (libs : List (List ℕ)) (fine : sour
   are_given : (j k : ℕ) (g h : UnitReference) → j < k → slice_get (row_of order host libs) j ≡ Some g → slice_get (row_of order host libs) k ≡ Some h → AreGiven (own_segments order host libs ++ added order host libs) g h
   are_given j k g h l e u =
       let segs = own_segments order host libs ++ added order host libs in
-      let t = sought_pair (own_units order host libs) [] (references_in segs) j k g h (omega arith) l (at_row j g e) (at_row k h u) in
+      let t = sought_pair (own_units order host libs) [] (all_unit_references segs) j k g h (omega arith) l (at_row j g e) (at_row k h u) in
       let p = place_of segs t.0 g t.3.0 in
       let q = place_of segs t.1 h t.4.0 in
       (p.0, q.0, giver (own_units order host libs) segs t.0 p.0 g t.3 p.1, giver (own_units order host libs) segs t.1 q.0 h t.4 q.1, numbered_ascend 0 segs t.0 t.1 p.0 q.0 g h t.2 p.1 q.1)

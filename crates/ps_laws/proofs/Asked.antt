@@ -13,13 +13,15 @@ use Rattle.std.proofs.lemmas.List.Folds.{list_any-append}
 use Rattle.std.proofs.lemmas.Option.{option_and_then_some, slice_get_within}
 use Rattle.std.proofs.lemmas.Slice.Eq.{bytes_eq-Decides}
 use Rattle.ps_codefile.specs.Dictionary.{slots, is_nameless, entry_at, role_of, code_of}
+use Rattle.ps_linkinfo.specs.Counts.{is_unit_reference}
+use Rattle.ps_resolve.specs.Added.{unit_references, all_unit_references, is_had, sought_from, empty_slots, is_missing, unplaced_fault, placed_fault, as_added, added_segment, Rounds, sought, added, added_fault, added_at, segment_at, segments}
+use Rattle.ps_resolve.specs.Standing.Phrases.{SomeItem}
+use Rattle.ps_resolve.specs.Standing.Segments.{IsSegment}
 use Rattle.ps_codefile.specs.declared.entry.Role.{Role}
 use Rattle.ps_codefile.specs.declared.entry.Role.TheVariants as role
 use Rattle.ps_linkinfo.specs.declared.record.LinkRecord.{LinkRecord as Record}
-use Rattle.ps_resolve.specs.Added.{is_unit_reference, unit_references, references_in, is_had, sought_from, empty_slots, is_missing, unplaced_fault, placed_fault, as_added, added_segment, Rounds, sought, added, added_fault, added_at, segment_at, segments}
 use Rattle.ps_resolve.specs.Faults.{is_role, entry_fault, code_fault}
 use Rattle.ps_resolve.specs.Sources.{Segment, is_named, has_entry, chosen_library, unit_source, source_of, file_at, is_unit, is_empty, segment_from, own_segment, own_segments, units_of}
-use Rattle.ps_resolve.specs.Standing.{SomeItem, IsSegment}
 use Rattle.ps_resolve.specs.declared.added.UnitReference.{UnitReference}
 use Rattle.ps_laws.proofs.Looking.{of_test, any_of_items, none_of_items, find_none}
 use Rattle.ps_laws.proofs.Items.{In, at_left, at_seam, in_left, in_right, some_before, in_flat, in_filter_map, of_filter_map, in_range, of_range, of_filter, filter_ascends, find_passes}
@@ -195,9 +197,9 @@ rounds_place order host libs (slot ∷ left) front used k row is at slots_are us
     -- the row's name at k stays there
     stays : (g : UnitReference) (rest : List Segment) → slice_get row k ≡ Some g → added order host libs ≡ front ++ rest → slice_get (row_of order host libs) k ≡ Some g
     stays g rest e is =
-        let grown = sought_grows (own_units order host libs) row (references_in rest) in
+        let grown = sought_grows (own_units order host libs) row (all_unit_references rest) in
         let whole : row_of order host libs ≡ row ++ grown.0 =
-        ap (λ (ss : List Segment). sought order host libs ss) is ∙ (sought_rest order host libs front rest ∙ (ap (λ (r : List UnitReference). sought_from (own_units order host libs) r (references_in rest)) row_is ∙ grown.1)) in
+        ap (λ (ss : List Segment). sought order host libs ss) is ∙ (sought_rest order host libs front rest ∙ (ap (λ (r : List UnitReference). sought_from (own_units order host libs) r (all_unit_references rest)) row_is ∙ grown.1)) in
         ap (λ (r : List UnitReference). slice_get r k) whole ∙ at_left row grown.0 k g e
 
     segment : RoundsPlace order host libs left → (g : UnitReference) → slice_get row k ≡ Some g → placed_fault order host libs g slot ≡ None → (o : Option Segment) → added_segment order host libs g slot ≡ o → added order host libs ≡ front ++ (of_segment order host libs left k row o).added → (of_segment order host libs left k row o).fault ≡ None → Have
@@ -412,9 +414,9 @@ had_has_unit order host libs fine name had = elim (or_cases (is_some (lookup (by
       (i.0, p.1, i.1, (ap is_unit a.2, a.1 ∙ t.3))
 ]
 
-pub is_had_there : (order : Order) (host : List ℕ) (libs : List (List ℕ)) (g : UnitReference) → In g (references_in (own_segments order host libs ++ added order host libs)) → is_had (own_units order host libs) (row_of order host libs) g.name ≡ true
+pub is_had_there : (order : Order) (host : List ℕ) (libs : List (List ℕ)) (g : UnitReference) → In g (all_unit_references (own_segments order host libs ++ added order host libs)) → is_had (own_units order host libs) (row_of order host libs) g.name ≡ true
 unfolding sought
-is_had_there order host libs g i = all_had (own_units order host libs) [] (references_in (own_segments order host libs ++ added order host libs)) g i.0 i.1
+is_had_there order host libs g i = all_had (own_units order host libs) [] (all_unit_references (own_segments order host libs ++ added order host libs)) g i.0 i.1
 
 pub asked_is_there : (order : Order) (host : List ℕ) (libs : List (List ℕ)) → added_fault order host libs ≡ None → (s : Segment) → IsSegment order host libs s → (rec : ℕ) (r : Record) → slice_get s.records rec ≡ Some r → is_unit_reference r.body ≡ true → HasUnit (segments order host libs) r.name
 asked_is_there order host libs fine s is rec r e u =

@@ -8,17 +8,18 @@ use Rattle.std.specs.Str.{bytes_eq}
 use Rattle.std.proofs.lemmas.Slice.Eq.{bytes_eq-Decides}
 use Rattle.std.specs.Bool.{Decides}
 use Rattle.ps_codefile.specs.Procedures.{table_of}
+use Rattle.ps_resolve.specs.Privates.{total_words}
+use Rattle.ps_resolve.specs.Standing.Privates.{private_offset}
+use Rattle.ps_resolve.specs.LinkedBytes.{IsReference, Reaches, IsSlotOf, IsPublic, Becomes, IsNumberPlace, IsSizePlace, IsLinkedByte, IsOnePlace, summed_edits, summed}
 use Rattle.ps_linkinfo.specs.Records.{refs_of}
 use Rattle.ps_linkinfo.specs.declared.record.Body.{Body}
 use Rattle.ps_linkinfo.specs.declared.record.Body.TheVariants.{UnitRef, PublRef, PrivRef, PublDef, ConstDef, Eof}
 use Rattle.ps_linkinfo.specs.declared.record.LinkRecord.{LinkRecord as Record}
 use Rattle.ps_resolve.specs.Sources.{Segment, is_linked, is_host, is_unit, host_records, units_of}
 use Rattle.ps_resolve.specs.Symbols.{def_in, definitions, definition_of}
-use Rattle.ps_resolve.specs.Privates.{total_words}
 use Rattle.ps_resolve.specs.Operands.{edit_of}
 use Rattle.ps_resolve.specs.References.{unit_slot, public_base, target_in, target_of}
 use Rattle.ps_resolve.specs.Linking.{known_of, grown_data_size, linked_byte}
-use Rattle.ps_resolve.specs.LinkedBytes.{private_offset, IsReference, Reaches, IsSlotOf, IsPublic, Becomes, IsNumberPlace, IsSizePlace, IsLinkedByte, IsOnePlace, summed_edits, summed}
 use Rattle.ps_resolve.specs.declared.definitions.Def.{Def}
 use Rattle.ps_resolve.specs.declared.definitions.DefKind.{DefKind}
 use Rattle.ps_resolve.specs.declared.definitions.DefKind.TheVariants.{Public, Constant}

@@ -13,9 +13,12 @@ use Rattle.ps_resolve.specs.First.{Least}
 use Rattle.ps_resolve.specs.Searches.{first_of, fault_if}
 use Rattle.ps_resolve.specs.Sources.{host_of}
 use Rattle.ps_resolve.specs.Added.{segments}
+use Rattle.ps_resolve.specs.Standing.Phrases.{SomeItem}
+use Rattle.ps_resolve.specs.Standing.Keys.{OfDefinitions, Precedes}
+use Rattle.ps_resolve.specs.Standing.Definitions.{HasEarlierNamesake, InDefinitions}
+use Rattle.ps_linkinfo.specs.Counts.{is_definition}
 use Rattle.ps_resolve.specs.Symbols.{def_in, definition_in, definitions, definition_of, doubled_from, doubled}
 use Rattle.ps_resolve.specs.Faults.{definitions_fault}
-use Rattle.ps_resolve.specs.Standing.{SomeItem, OfDefinitions, Precedes, IsAgain, is_definition, InDefinitions}
 use Rattle.ps_resolve.specs.declared.definitions.Def.{Def}
 use Rattle.ps_laws.proofs.Least.{least_if, least_then, least_items, at_apart}
 use Rattle.ps_laws.proofs.Looking.{of_test, any_of_take}
@@ -28,7 +31,7 @@ use Rattle.ps_words.specs.declared.fault.Fault.{Fault}
 abbrev pub is_again : (Body → Bool) → List Record → ℕ × Record → Bool
 is_again test records r = test r.1.body && list_any (λ q. test q.body && bytes_eq r.1.name q.name) (take r.0 records)
 
-pub again : (test : Body → Bool) (records : List Record) (rec : ℕ) (r : Record) → Decides (is_again test records (rec, r)) (IsAgain test records rec r)
+pub again : (test : Body → Bool) (records : List Record) (rec : ℕ) (r : Record) → Decides (is_again test records (rec, r)) (HasEarlierNamesake test records rec r)
 again test records rec r =
     Decides-and (test r.body) (list_any (λ q. test q.body && bytes_eq r.name q.name) (take rec records)) (of_test (test r.body))
     (any_of_take (λ q. test q.body && bytes_eq r.name q.name) (λ q. (test q.body ≡ true) × (q.name ≡ r.name))
@@ -111,7 +114,7 @@ pub step_7 : (order : Order) (host : List ℕ) (libs : List (List ℕ)) → Leas
 unfolding definitions_fault
 step_7 order host libs =
     least_then (λ s. option_map (λ rec. in_record 0 s.slot rec reason.DoubledDefinition) (doubled s.records)) (host_of (segments order host libs))
-    (λ s is_it. subst (λ (o : Option Fault). Least (Precedes OfDefinitions) (λ f. SomeItem s.records (λ rec r. (f ≡ in_record 0 s.slot rec reason.DoubledDefinition) × IsAgain is_definition s.records rec r)) o)
+    (λ s is_it. subst (λ (o : Option Fault). Least (Precedes OfDefinitions) (λ f. SomeItem s.records (λ rec r. (f ≡ in_record 0 s.slot rec reason.DoubledDefinition) × HasEarlierNamesake is_definition s.records rec r)) o)
     (sym (carried (λ rec. in_record 0 s.slot rec reason.DoubledDefinition) [] s.records 0 refl))
     (least_items (λ (r : ℕ × Record). fault_if (is_again is_definition s.records r) (in_record 0 s.slot r.0 reason.DoubledDefinition)) s.records
     (λ k r e. least_if (is_again is_definition s.records (k, r)) (in_record 0 s.slot k reason.DoubledDefinition) (again is_definition s.records k r))

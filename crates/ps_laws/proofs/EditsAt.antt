@@ -7,18 +7,19 @@ use Rattle.std.specs.Option.{option_map_or}
 use Rattle.std.specs.Str.{bytes_eq}
 use Rattle.std.proofs.lemmas.Bool.Decides.{nat_tests}
 use Rattle.ps_codefile.specs.Procedures.{table_of}
+use Rattle.ps_resolve.specs.Privates.{total_words}
+use Rattle.ps_resolve.specs.Standing.References.{operand_width}
+use Rattle.ps_resolve.specs.Standing.Privates.{private_offset}
+use Rattle.ps_resolve.specs.LinkedBytes.{Reaches, IsNumberPlace, IsSizePlace, summed_edits}
 use Rattle.ps_linkinfo.specs.Records.{refs_of}
 use Rattle.ps_linkinfo.specs.declared.record.Body.{Body}
 use Rattle.ps_linkinfo.specs.declared.record.Body.TheVariants.{UnitRef, PublRef, PrivRef, PublDef, ConstDef, Eof}
 use Rattle.ps_linkinfo.specs.declared.record.LinkRecord.{LinkRecord as Record}
 use Rattle.ps_resolve.specs.Sources.{Segment, is_linked, is_host, host_records, units_of}
 use Rattle.ps_resolve.specs.Symbols.{definitions, definition_of}
-use Rattle.ps_resolve.specs.Privates.{total_words}
 use Rattle.ps_resolve.specs.Operands.{edit_of}
 use Rattle.ps_resolve.specs.References.{unit_slot, public_base, target_in, target_of, record_edits}
 use Rattle.ps_resolve.specs.Linking.{known_of, data_edits, grown_data_size}
-use Rattle.ps_resolve.specs.Standing.{operand_width}
-use Rattle.ps_resolve.specs.LinkedBytes.{private_offset, Reaches, IsNumberPlace, IsSizePlace, summed_edits}
 use Rattle.ps_resolve.specs.declared.definitions.Def.{Def}
 use Rattle.ps_resolve.specs.declared.definitions.DefKind.{DefKind}
 use Rattle.ps_resolve.specs.declared.definitions.DefKind.TheVariants.{Public, Constant}

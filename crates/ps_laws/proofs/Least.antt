@@ -7,7 +7,7 @@ use Rattle.std.specs.Option.{option_or, option_map, option_and_then}
 use Rattle.std.proofs.lemmas.Bool.{cases_lt, false≢true}
 use Rattle.ps_resolve.specs.First.{Least, nothing, this}
 use Rattle.ps_resolve.specs.Searches.{first_of, fault_if}
-use Rattle.ps_resolve.specs.Standing.{SomeItem}
+use Rattle.ps_resolve.specs.Standing.Phrases.{SomeItem}
 
 -- stands otherwise said
 pub least_same : {X : Type 0} {B : X → X → Type 0} {S T : X → Type 0} {o : Option X} → ((x : X) → S x → T x) → ((x : X) → T x → S x) → Least B S o → Least B T o

@@ -5,15 +5,20 @@ use Rattle.std.specs.List.{slice_get}
 use Rattle.std.specs.Result.{result_err}
 use Rattle.std.proofs.lemmas.List.Elements.{All-nil, All-cons, All-same, All-map}
 use Rattle.ps_codefile.specs.Procedures.{table_of}
+use Rattle.ps_resolve.specs.Added.{added_fault}
+use Rattle.ps_resolve.specs.Standing.Keys.{OfReferences}
+use Rattle.ps_resolve.specs.Standing.Segments.{IsSegment}
+use Rattle.ps_resolve.specs.Standing.Sources.{AreBad}
+use Rattle.ps_resolve.specs.Standing.References.{RecordHas}
+use Rattle.ps_resolve.specs.Standing.Privates.{private_offset}
+use Rattle.ps_resolve.specs.LinkedBytes.{IsReference, IsLinkedByte, IsOnePlace, segments_of, summed, HaveLinkedBytes, HaveOneLinkedByte, HaveApartPlaces}
+use Rattle.ps_resolve.specs.Standing.{NoneStands}
 use Rattle.ps_linkinfo.specs.declared.record.LinkRecord.{LinkRecord as Record}
 use Rattle.ps_resolve.specs.First.{Least, this}
 use Rattle.ps_resolve.specs.Sources.{Segment, order_of, is_linked, is_host}
 use Rattle.ps_resolve.specs.Faults.{sources_fault}
-use Rattle.ps_resolve.specs.Added.{added_fault}
 use Rattle.ps_resolve.specs.References.{target_of}
 use Rattle.ps_resolve.specs.Linking.{Edited, edited, known_of, linked_byte}
-use Rattle.ps_resolve.specs.Standing.{OfReferences, IsSegment, AreBad, RecordHas}
-use Rattle.ps_resolve.specs.LinkedBytes.{private_offset, IsReference, IsLinkedByte, IsOnePlace, NoneStands, segments_of, summed, HaveLinkedBytes, HaveOneLinkedByte, HaveApartPlaces}
 use Rattle.ps_resolve.specs.declared.references.Target.{Target}
 use Rattle.ps_laws.proofs.Steps.{Ranked}
 use Rattle.ps_laws.proofs.Sources.{OneStop}

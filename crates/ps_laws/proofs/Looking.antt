@@ -5,13 +5,13 @@ use Rattle.std.specs.Bool.{Decides}
 use Rattle.std.specs.List.{slice_get, list_any, find}
 use Rattle.std.proofs.lemmas.Bool.{false≢true}
 use Rattle.std.proofs.lemmas.Bool.Decides.{Decides-or, Decides-like}
-use Rattle.ps_resolve.specs.Standing.{Lesser, SomeItem}
+use Rattle.ps_resolve.specs.Standing.Phrases.{SomeBelow, SomeItem}
 
 pub of_test : (b : Bool) → Decides b (b ≡ true)
 of_test b = (λ e. e, λ e. e)
 
 -- a test of the items of a front
-pub any_of_take : {A : Type 0} (test : A → Bool) (P : A → Type 0) → ((a : A) → Decides (test a) (P a)) → (n : ℕ) (items : List A) → Decides (list_any test (take n items)) (Lesser n (λ i. (q : A) × (slice_get items i ≡ Some q) × P q))
+pub any_of_take : {A : Type 0} (test : A → Bool) (P : A → Type 0) → ((a : A) → Decides (test a) (P a)) → (n : ℕ) (items : List A) → Decides (list_any test (take n items)) (SomeBelow n (λ i. (q : A) × (slice_get items i ≡ Some q) × P q))
 any_of_take test P d zero items = (λ e. absurd (false≢true e), λ t. absurd (omega (arith, t.1)))
 any_of_take test P d (suc n) [] = (λ e. absurd (false≢true e), λ t. absurd (let e = t.2.1 in cc))
 any_of_take {A} test P d (suc n) (a ∷ items) =
@@ -20,7 +20,7 @@ any_of_take {A} test P d (suc n) (a ∷ items) =
     (λ t. go t.0 t.2.0 t.1 t.2.1 t.2.2)
     (Decides-or (test a) (list_any test (take n items)) (d a) (any_of_take test P d n items))
   where
-    go : (i : ℕ) (q : A) → i < suc n → slice_get (a ∷ items) i ≡ Some q → P q → P a ⊎ Lesser n (λ i. (q : A) × (slice_get items i ≡ Some q) × P q)
+    go : (i : ℕ) (q : A) → i < suc n → slice_get (a ∷ items) i ≡ Some q → P q → P a ⊎ SomeBelow n (λ i. (q : A) × (slice_get items i ≡ Some q) × P q)
     go zero q h e p = inl (subst P (cc) p)
     go (suc i) q h e p = inr (i, omega (arith, h), (q, e, p))
 

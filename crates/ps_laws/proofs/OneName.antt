@@ -5,15 +5,19 @@ use Rattle.std.specs.List.{find, slice_get}
 use Rattle.std.specs.Option.{option_or, option_map_or}
 use Rattle.std.proofs.lemmas.Bool.{cases_lt}
 use Rattle.ps_codefile.specs.Dictionary.{slots, entry_at}
+use Rattle.ps_resolve.specs.Added.{added, added_fault, segment_at, segments}
+use Rattle.ps_resolve.specs.Standing.Keys.{OfSlots, OfDefinitions}
+use Rattle.ps_resolve.specs.Standing.Slots.{HasRole, IsUnitSlot}
+use Rattle.ps_resolve.specs.Standing.Segments.{IsSegment}
+use Rattle.ps_linkinfo.specs.Counts.{is_definition}
+use Rattle.ps_resolve.specs.LinkedBytes.{IsSlotOf, IsPublic, segments_of}
+use Rattle.ps_resolve.specs.Standing.{NoneStands}
 use Rattle.ps_codefile.specs.declared.entry.Role.{Role}
 use Rattle.ps_linkinfo.specs.declared.record.Body.{Body}
 use Rattle.ps_linkinfo.specs.declared.record.Body.TheVariants.{PublDef}
 use Rattle.ps_linkinfo.specs.declared.record.LinkRecord.{LinkRecord as Record}
 use Rattle.ps_resolve.specs.Sources.{Segment, order_of, is_unit, is_empty, own_segment, host_of}
 use Rattle.ps_resolve.specs.Faults.{is_role, sources_fault}
-use Rattle.ps_resolve.specs.Added.{added, added_fault, segment_at, segments}
-use Rattle.ps_resolve.specs.Standing.{OfSlots, OfDefinitions, HasRole, IsUnitSlot, IsSegment, is_definition}
-use Rattle.ps_resolve.specs.LinkedBytes.{IsSlotOf, IsPublic, NoneStands, segments_of}
 use Rattle.ps_resolve.specs.declared.added.UnitReference.{UnitReference}
 use Rattle.ps_laws.proofs.Items.{of_filter_map, of_range}
 use Rattle.ps_laws.proofs.Segments.{found_in_slot, slot_is}

@@ -2,13 +2,17 @@
 use Rattle.std.proofs.Common.{◌≡◌, ℕ, List, [], ◌∷◌, true, refl, sym, subst, inl, inr, arith}
 use Rattle.std.proofs.lemmas.Bool.{cases_lt, false≢true}
 use Rattle.ps_codefile.specs.Procedures.{is_reserved}
+use Rattle.ps_resolve.specs.Standing.Keys.{OfReferences}
+use Rattle.ps_resolve.specs.Standing.Segments.{IsSegment}
+use Rattle.ps_resolve.specs.Standing.Sources.{AreBad}
+use Rattle.ps_resolve.specs.Standing.References.{ReferenceHas}
+use Rattle.ps_resolve.specs.LinkedBytes.{IsReference, Reaches, IsSizePlace, IsOnePlace, segments_of}
+use Rattle.ps_resolve.specs.Standing.{NoneStands}
 use Rattle.ps_codefile.specs.declared.entry.Role.{Role}
 use Rattle.ps_codefile.specs.declared.entry.Role.TheVariants as role
 use Rattle.ps_linkinfo.specs.declared.record.LinkRecord.{LinkRecord as Record}
 use Rattle.ps_resolve.specs.First.{Before}
 use Rattle.ps_resolve.specs.Sources.{Segment, order_of, is_linked, is_host}
-use Rattle.ps_resolve.specs.Standing.{OfReferences, IsSegment, AreBad, ReferenceHas}
-use Rattle.ps_resolve.specs.LinkedBytes.{IsReference, Reaches, IsSizePlace, IsOnePlace, NoneStands, segments_of}
 use Rattle.ps_laws.proofs.SoundCodes.{IsSound, HasOuter, outer, number_reserved, size_reserved, own_apart}
 use Rattle.ps_words.specs.FaultPlaces.{in_reference}
 use Rattle.ps_words.specs.declared.fault.Reason.{Reason}

@@ -13,6 +13,19 @@ use Rattle.ps_words.specs.declared.fault.Fault.{Fault}
 use Rattle.ps_words.specs.declared.fault.Reason.{Reason}
 use Rattle.ps_words.specs.declared.fault.Reason.TheVariants as reason
 use Rattle.ps_codefile.specs.Dictionary.{block_len, is_nameless, role_of, code_of, has_bad_length, entry_at}
+use Rattle.ps_resolve.specs.Added.{empty_slots, segments}
+use Rattle.ps_resolve.specs.Standing.Phrases.{Because}
+use Rattle.ps_resolve.specs.Standing.Hosts.{HostHas, InHost}
+use Rattle.ps_resolve.specs.Standing.Slots.{SlotHas, InSlots, InNoHost}
+use Rattle.ps_resolve.specs.Standing.Libraries.{LibraryHas, InLibraries}
+use Rattle.ps_resolve.specs.Standing.Sources.{EntriesHave, EntryFault, UnitFault, TablesHave, CodeFault, InSources}
+use Rattle.ps_resolve.specs.Standing.Rounds.{IsMissing, PlacedFault, InRound}
+use Rattle.ps_resolve.specs.Standing.Privates.{PrivateHas, InPrivates}
+use Rattle.ps_resolve.specs.Standing.References.{RecordHas, ReferenceHas, InReferences}
+use Rattle.ps_resolve.specs.Standing.Definitions.{InDefinitions}
+use Rattle.ps_resolve.specs.Standing.DataSizes.{InDataSize}
+use Rattle.ps_resolve.specs.Standing.{StandsIn}
+use Rattle.ps_resolve.specs.Standing.Keys.{Step, OfHost, OfSlots, OfNoHost, OfLibraries, OfSources, OfAdded, OfDefinitions, OfPrivates, OfDataSize, OfReferences}
 use Rattle.ps_codefile.specs.declared.entry.Entry.{Entry}
 use Rattle.ps_codefile.specs.declared.entry.Role.{Role}
 use Rattle.ps_linkinfo.specs.Records.{bad, bad_format, type_fault, format_of, list_len}
@@ -20,8 +33,6 @@ use Rattle.ps_linkinfo.specs.declared.record.Body.{Body}
 use Rattle.ps_linkinfo.specs.declared.record.Body.TheVariants.{PublRef}
 use Rattle.ps_linkinfo.specs.declared.record.LinkRecord.{LinkRecord as Record}
 use Rattle.ps_resolve.specs.Sources.{Segment, file_at, is_host}
-use Rattle.ps_resolve.specs.Added.{empty_slots, segments}
-use Rattle.ps_resolve.specs.Standing.{Because, HostHas, SlotHas, LibraryHas, EntriesHave, EntryFault, UnitFault, TablesHave, CodeFault, IsMissing, PlacedFault, PrivateHas, RecordHas, ReferenceHas, InHost, InSlots, InNoHost, InLibraries, InSources, InRound, InDefinitions, InPrivates, InDataSize, InReferences, StandsIn, Step, OfHost, OfSlots, OfNoHost, OfLibraries, OfSources, OfAdded, OfDefinitions, OfPrivates, OfDataSize, OfReferences}
 
 -- what is because of a reason has what all such have
 because_parts : {Has : Reason → Type 0} (h : Reason → Fault) → ((why : Reason) → Has why → HasItsParts (h why)) → (f : Fault) → Because h Has f → HasItsParts f

@@ -13,10 +13,13 @@ use Rattle.ps_resolve.specs.First.{Least}
 use Rattle.ps_resolve.specs.Searches.{first_of, fault_if}
 use Rattle.ps_resolve.specs.Sources.{Segment, host_records}
 use Rattle.ps_resolve.specs.Added.{segments}
-use Rattle.ps_resolve.specs.Privates.{words_in, allotted, words_of, private_fault, owner_of, all_allotted, all_words, first_private_fault, next_of}
+use Rattle.ps_resolve.specs.Privates.{words_in, allotted, private_words, private_fault, owner_of, all_allotted, all_words, first_private_fault}
+use Rattle.ps_linkinfo.specs.Counts.{next_of, is_private_reference}
+use Rattle.ps_resolve.specs.Standing.Keys.{OfPrivates, Precedes}
+use Rattle.ps_resolve.specs.Standing.{is_before}
+use Rattle.ps_resolve.specs.Standing.Privates.{private_offset, PrivateHas, InPrivates}
 use Rattle.ps_resolve.specs.References.{words_taken}
 use Rattle.ps_resolve.specs.Faults.{privates_fault}
-use Rattle.ps_resolve.specs.Standing.{OfPrivates, Precedes, is_private, is_before, offset_of, PrivateHas, InPrivates}
 use Rattle.ps_resolve.specs.declared.allotment.Private.{Private}
 use Rattle.ps_laws.proofs.Least.{least_same, least_or, least_if, least_items, at_apart}
 use Rattle.ps_laws.proofs.Steps.{Ranked, because, because_apart}
@@ -57,14 +60,14 @@ no_lesser_record : (slot rec k : ℕ) → rec ≤ k → (nat_lt slot slot || (sl
 no_lesser_record slot rec k h = grind (arith, nat_tests)
 
 -- the privates of a segment in a lesser slot, in a greater one, and in the slot itself
-of_lesser : (slot rec other : ℕ) → other < slot → (k next : ℕ) (rs : List Record) → counted slot rec (allotted other k next rs) ≡ words_of rs
+of_lesser : (slot rec other : ℕ) → other < slot → (k next : ℕ) (rs : List Record) → counted slot rec (allotted other k next rs) ≡ private_words rs
 of_lesser slot rec other h k next [] = refl
 of_lesser slot rec other h k next (r ∷ rs) = go (words_in r.body) refl (λ next. of_lesser slot rec other h (k + 1) next rs)
   where
-    go : (w : Option ℕ) → words_in r.body ≡ w → ((next : ℕ) → counted slot rec (allotted other (k + 1) next rs) ≡ words_of rs) → counted slot rec (allotted other k next (r ∷ rs)) ≡ words_of (r ∷ rs)
-    go None e rest = rw (e, allotted, words_of) (rest next)
+    go : (w : Option ℕ) → words_in r.body ≡ w → ((next : ℕ) → counted slot rec (allotted other (k + 1) next rs) ≡ private_words rs) → counted slot rec (allotted other k next (r ∷ rs)) ≡ private_words (r ∷ rs)
+    go None e rest = rw (e, allotted, private_words) (rest next)
     go (Some w) e rest =
-        rw (e, allotted, words_of)
+        rw (e, allotted, private_words)
         (counted_in slot rec (record { slot = other; rec = k; name = r.name; offset = next; words = w }) (allotted other (k + 1) (next + w) rs) (lesser_slot slot rec other k h) ∙ ap (λ (n : ℕ). w + n) (rest (next + w)))
 
 of_greater : (slot rec other : ℕ) → slot < other → (k next : ℕ) (rs : List Record) → counted slot rec (allotted other k next rs) ≡ 0
@@ -87,15 +90,15 @@ none_later slot rec k h next (r ∷ rs) = go (words_in r.body) refl (λ next. no
         rw (e, allotted)
         (counted_out slot rec (record { slot = slot; rec = k; name = r.name; offset = next; words = w }) (allotted slot (k + 1) (next + w) rs) (no_lesser_record slot rec k h) ∙ rest (next + w))
 
-of_same : (slot n k rec : ℕ) → rec ≡ k + n → (next : ℕ) (rs : List Record) → counted slot rec (allotted slot k next rs) ≡ words_of (take n rs)
+of_same : (slot n k rec : ℕ) → rec ≡ k + n → (next : ℕ) (rs : List Record) → counted slot rec (allotted slot k next rs) ≡ private_words (take n rs)
 of_same slot zero k rec h next rs = none_later slot rec k (omega arith) next rs
 of_same slot (suc n) k rec h next [] = refl
 of_same slot (suc n) k rec h next (r ∷ rs) = go (words_in r.body) refl (λ next. of_same slot n (k + 1) rec (omega arith) next rs)
   where
-    go : (w : Option ℕ) → words_in r.body ≡ w → ((next : ℕ) → counted slot rec (allotted slot (k + 1) next rs) ≡ words_of (take n rs)) → counted slot rec (allotted slot k next (r ∷ rs)) ≡ words_of (r ∷ take n rs)
-    go None e rest = rw (e, allotted, words_of) (rest next)
+    go : (w : Option ℕ) → words_in r.body ≡ w → ((next : ℕ) → counted slot rec (allotted slot (k + 1) next rs) ≡ private_words (take n rs)) → counted slot rec (allotted slot k next (r ∷ rs)) ≡ private_words (r ∷ take n rs)
+    go None e rest = rw (e, allotted, private_words) (rest next)
     go (Some w) e rest =
-        rw (e, allotted, words_of)
+        rw (e, allotted, private_words)
         (counted_in slot rec (record { slot = slot; rec = k; name = r.name; offset = next; words = w }) (allotted slot (k + 1) (next + w) rs) (lesser_record slot rec k (omega arith)) ∙ ap (λ (m : ℕ). w + m) (rest (next + w)))
 
 -- segments in lesser slots
@@ -106,22 +109,22 @@ AreBelow slot (s ∷ ss) = (s.slot < slot) × AreBelow slot ss
 all_before : (slot rec : ℕ) (ss : List Segment) → AreBelow slot ss → (next : ℕ) → counted slot rec (all_allotted next (map owner_of ss)) ≡ all_words (map owner_of ss)
 all_before slot rec [] h next = refl
 all_before slot rec (s ∷ ss) h next =
-    counted_append slot rec (allotted s.slot 0 next s.records) (all_allotted (next + words_of s.records) (map owner_of ss))
-    ∙ (let a = of_lesser slot rec s.slot h.0 0 next s.records in let b = all_before slot rec ss h.1 (next + words_of s.records) in omega (arith, a, b))
+    counted_append slot rec (allotted s.slot 0 next s.records) (all_allotted (next + private_words s.records) (map owner_of ss))
+    ∙ (let a = of_lesser slot rec s.slot h.0 0 next s.records in let b = all_before slot rec ss h.1 (next + private_words s.records) in omega (arith, a, b))
 
 none_behind : (slot rec from : ℕ) (ss : List Segment) → slot < from → Ascends from ss → (next : ℕ) → counted slot rec (all_allotted next (map owner_of ss)) ≡ 0
 none_behind slot rec from [] h a next = refl
 none_behind slot rec from (s ∷ ss) h a next =
-    counted_append slot rec (allotted s.slot 0 next s.records) (all_allotted (next + words_of s.records) (map owner_of ss))
-    ∙ (let low = a.0 in let x = of_greater slot rec s.slot (omega (arith, low, h)) 0 next s.records in let y = none_behind slot rec (s.slot + 1) ss (omega (arith, low, h)) a.1 (next + words_of s.records) in omega (arith, x, y))
+    counted_append slot rec (allotted s.slot 0 next s.records) (all_allotted (next + private_words s.records) (map owner_of ss))
+    ∙ (let low = a.0 in let x = of_greater slot rec s.slot (omega (arith, low, h)) 0 next s.records in let y = none_behind slot rec (s.slot + 1) ss (omega (arith, low, h)) a.1 (next + private_words s.records) in omega (arith, x, y))
 
 -- the privates of a row of segments
 split : (next : ℕ) (front rest : List Segment) → all_allotted next (map owner_of (front ++ rest)) ≡ all_allotted next (map owner_of front) ++ all_allotted (next + all_words (map owner_of front)) (map owner_of rest)
 split next [] rest = ap (λ (n : ℕ). all_allotted n (map owner_of rest)) (omega arith)
 split next (s ∷ front) rest =
-    ap (λ (ps : List Private). allotted s.slot 0 next s.records ++ ps) (split (next + words_of s.records) front rest)
-    ∙ (sym (append_assoc (allotted s.slot 0 next s.records) (all_allotted (next + words_of s.records) (map owner_of front)) (all_allotted ((next + words_of s.records) + all_words (map owner_of front)) (map owner_of rest)))
-    ∙ ap (λ (n : ℕ). (allotted s.slot 0 next s.records ++ all_allotted (next + words_of s.records) (map owner_of front)) ++ all_allotted n (map owner_of rest)) (omega arith))
+    ap (λ (ps : List Private). allotted s.slot 0 next s.records ++ ps) (split (next + private_words s.records) front rest)
+    ∙ (sym (append_assoc (allotted s.slot 0 next s.records) (all_allotted (next + private_words s.records) (map owner_of front)) (all_allotted ((next + private_words s.records) + all_words (map owner_of front)) (map owner_of rest)))
+    ∙ ap (λ (n : ℕ). (allotted s.slot 0 next s.records ++ all_allotted (next + private_words s.records) (map owner_of front)) ++ all_allotted n (map owner_of rest)) (omega arith))
 
 pub words_split : (front rest : List Segment) → all_words (map owner_of (front ++ rest)) ≡ all_words (map owner_of front) + all_words (map owner_of rest)
 words_split [] rest = omega arith
@@ -129,67 +132,67 @@ words_split (s ∷ front) rest = let e = words_split front rest in omega (arith,
 
 -- the offset of a private is the sum of all words before it
 pub offset_is : (front : List Segment) (s : Segment) (rest : List Segment) (rec : ℕ) → AreBelow s.slot front → Ascends (s.slot + 1) rest
-    → offset_of (front ++ s ∷ rest) s.slot rec ≡ next_of (host_records (front ++ s ∷ rest)) + all_words (map owner_of front) + words_of (take rec s.records)
+    → private_offset (front ++ s ∷ rest) s.slot rec ≡ next_of (host_records (front ++ s ∷ rest)) + all_words (map owner_of front) + private_words (take rec s.records)
 offset_is front s rest rec below ascends =
     let next = next_of (host_records (front ++ s ∷ rest)) in
     let start = next + all_words (map owner_of front) in
     let e = ap (counted s.slot rec) (split next front (s ∷ rest)) in
-    let f = counted_append s.slot rec (all_allotted next (map owner_of front)) (allotted s.slot 0 start s.records ++ all_allotted (start + words_of s.records) (map owner_of rest)) in
-    let g = counted_append s.slot rec (allotted s.slot 0 start s.records) (all_allotted (start + words_of s.records) (map owner_of rest)) in
+    let f = counted_append s.slot rec (all_allotted next (map owner_of front)) (allotted s.slot 0 start s.records ++ all_allotted (start + private_words s.records) (map owner_of rest)) in
+    let g = counted_append s.slot rec (allotted s.slot 0 start s.records) (all_allotted (start + private_words s.records) (map owner_of rest)) in
     let a = all_before s.slot rec front below next in
     let b = of_same s.slot rec 0 rec (omega arith) start s.records in
-    let c = none_behind s.slot rec (s.slot + 1) rest (omega arith) ascends (start + words_of s.records) in
+    let c = none_behind s.slot rec (s.slot + 1) rest (omega arith) ascends (start + private_words s.records) in
     omega (arith, e, f, g, a, b, c)
 
 -- the names of the privates of a front
 abbrev names : List Record → List (List ℕ)
-names rs = map (λ (q : Record). q.name) (filter (λ (q : Record). is_private q.body) rs)
+names rs = map (λ (q : Record). q.name) (filter (λ (q : Record). is_private_reference q.body) rs)
 
 abbrev private_named : List ℕ → Record → Bool
-private_named name q = is_private q.body && bytes_eq name q.name
+private_named name q = is_private_reference q.body && bytes_eq name q.name
 
 seen_is : (name : List ℕ) (front : List Record) → list_any (bytes_eq name) (names front) ≡ list_any (private_named name) front
 seen_is name [] = refl
-seen_is name (q ∷ front) = go (is_private q.body) (seen_is name front)
+seen_is name (q ∷ front) = go (is_private_reference q.body) (seen_is name front)
   where
     go : (b : Bool) → list_any (bytes_eq name) (names front) ≡ list_any (private_named name) front
-        → list_any (bytes_eq name) (map (λ (q : Record). q.name) (if b then q ∷ filter (λ (q : Record). is_private q.body) front else filter (λ (q : Record). is_private q.body) front)) ≡ ((b && bytes_eq name q.name) || list_any (private_named name) front)
+        → list_any (bytes_eq name) (map (λ (q : Record). q.name) (if b then q ∷ filter (λ (q : Record). is_private_reference q.body) front else filter (λ (q : Record). is_private_reference q.body) front)) ≡ ((b && bytes_eq name q.name) || list_any (private_named name) front)
     go true e = ap (λ (b : Bool). bytes_eq name q.name || b) e
     go false e = e
 
 more_names : (front : List Record) (r : Record) → names (front ++ r ∷ []) ≡ names front ++ names (r ∷ [])
 more_names front r =
-    ap (λ (qs : List Record). map (λ (q : Record). q.name) qs) (filter-append (λ (q : Record). is_private q.body) front (r ∷ []))
-    ∙ map-append (λ (q : Record). q.name) (filter (λ (q : Record). is_private q.body) front) (filter (λ (q : Record). is_private q.body) (r ∷ []))
+    ap (λ (qs : List Record). map (λ (q : Record). q.name) qs) (filter-append (λ (q : Record). is_private_reference q.body) front (r ∷ []))
+    ∙ map-append (λ (q : Record). q.name) (filter (λ (q : Record). is_private_reference q.body) front) (filter (λ (q : Record). is_private_reference q.body) (r ∷ []))
 
-pub more_words : (front : List Record) (r : Record) → words_of (front ++ r ∷ []) ≡ words_of front + words_taken r.body
+pub more_words : (front : List Record) (r : Record) → private_words (front ++ r ∷ []) ≡ private_words front + words_taken r.body
 more_words [] r = go (words_in r.body) refl
   where
-    go : (w : Option ℕ) → words_in r.body ≡ w → words_of (r ∷ []) ≡ words_of [] + words_taken r.body
-    go None e = rw (e, words_of, words_taken) refl
-    go (Some w) e = rw (e, words_of, words_taken) (omega arith)
+    go : (w : Option ℕ) → words_in r.body ≡ w → private_words (r ∷ []) ≡ private_words [] + words_taken r.body
+    go None e = rw (e, private_words, words_taken) refl
+    go (Some w) e = rw (e, private_words, words_taken) (omega arith)
 more_words (q ∷ front) r = go (words_in q.body) refl (more_words front r)
   where
-    go : (w : Option ℕ) → words_in q.body ≡ w → words_of (front ++ r ∷ []) ≡ words_of front + words_taken r.body → words_of (q ∷ (front ++ r ∷ [])) ≡ words_of (q ∷ front) + words_taken r.body
-    go None e h = rw (e, words_of) h
-    go (Some w) e h = rw (e, words_of) (omega (arith, h))
+    go : (w : Option ℕ) → words_in q.body ≡ w → private_words (front ++ r ∷ []) ≡ private_words front + words_taken r.body → private_words (q ∷ (front ++ r ∷ [])) ≡ private_words (q ∷ front) + words_taken r.body
+    go None e h = rw (e, private_words) h
+    go (Some w) e h = rw (e, private_words) (omega (arith, h))
 
 -- why a private cannot be allotted, by the records before it and by its offset
 abbrev reason_at : (ℕ → ℕ) → List Record → ℕ × Record → Option Reason
 reason_at offset records r =
-    option_or (fault_if (is_again is_private records r) reason.DoubledPrivate)
-    (fault_if (is_private r.1.body && nat_lt 32767 (offset r.0 + words_taken r.1.body)) reason.NoRoom)
+    option_or (fault_if (is_again is_private_reference records r) reason.DoubledPrivate)
+    (fault_if (is_private_reference r.1.body && nat_lt 32767 (offset r.0 + words_taken r.1.body)) reason.NoRoom)
 
 abbrev record_fault : (Reason → ℕ → Fault) → (ℕ → ℕ) → List Record → ℕ × Record → Option Fault
 record_fault h offset records r = option_map (λ why. h why r.0) (reason_at offset records r)
 
 -- the search that carries the names and the offset so far is the one that looks back
 carried : (h : Reason → ℕ → Fault) (offset : ℕ → ℕ) (base : ℕ) (front rs : List Record) (rec : ℕ) → rec ≡ length front
-    → ((n : ℕ) → offset n ≡ base + words_of (take n (front ++ rs)))
-    → option_map (λ (f : ℕ × Reason). h f.1 f.0) (private_fault rec (base + words_of front) (names front) rs) ≡ first_of (record_fault h offset (front ++ rs)) (enumerate_from rec rs)
+    → ((n : ℕ) → offset n ≡ base + private_words (take n (front ++ rs)))
+    → option_map (λ (f : ℕ × Reason). h f.1 f.0) (private_fault rec (base + private_words front) (names front) rs) ≡ first_of (record_fault h offset (front ++ rs)) (enumerate_from rec rs)
 carried h offset base front [] rec e offsets = refl
 carried h offset base front (r ∷ rs) rec e offsets =
-    go (words_in r.body) refl (carried h offset base (front ++ r ∷ []) rs (rec + 1) (let l = longer front r in omega (arith, l, e)) (λ n. offsets n ∙ ap (λ (records : List Record). base + words_of (take n records)) (sym (append_assoc front (r ∷ []) rs))))
+    go (words_in r.body) refl (carried h offset base (front ++ r ∷ []) rs (rec + 1) (let l = longer front r in omega (arith, l, e)) (λ n. offsets n ∙ ap (λ (records : List Record). base + private_words (take n records)) (sym (append_assoc front (r ∷ []) rs))))
   where
     all : List Record
     all = front ++ r ∷ rs
@@ -200,36 +203,36 @@ carried h offset base front (r ∷ rs) rec e offsets =
     front_is : take rec all ≡ front
     front_is = ap (λ (n : ℕ). take n all) e ∙ take_front front (r ∷ rs)
 
-    at_offset : offset rec ≡ base + words_of front
-    at_offset = offsets rec ∙ ap (λ (records : List Record). base + words_of records) front_is
+    at_offset : offset rec ≡ base + private_words front
+    at_offset = offsets rec ∙ ap (λ (records : List Record). base + private_words records) front_is
 
     Faults : ℕ → List (List ℕ) → Option Fault
     Faults free seen = option_map (λ (f : ℕ × Reason). h f.1 f.0) (private_fault (rec + 1) free seen rs)
 
     go : (w : Option ℕ) → words_in r.body ≡ w
-        → Faults (base + words_of (front ++ r ∷ [])) (names (front ++ r ∷ [])) ≡ later ((front ++ r ∷ []) ++ rs)
-        → option_map (λ (f : ℕ × Reason). h f.1 f.0) (private_fault rec (base + words_of front) (names front) (r ∷ rs)) ≡ option_or (record_fault h offset all (rec, r)) (later all)
+        → Faults (base + private_words (front ++ r ∷ [])) (names (front ++ r ∷ [])) ≡ later ((front ++ r ∷ []) ++ rs)
+        → option_map (λ (f : ℕ × Reason). h f.1 f.0) (private_fault rec (base + private_words front) (names front) (r ∷ rs)) ≡ option_or (record_fault h offset all (rec, r)) (later all)
     go None p more =
-        let same_words : words_of (front ++ r ∷ []) ≡ words_of front = more_words front r ∙ rw (p, words_taken) (omega arith) in
+        let same_words : private_words (front ++ r ∷ []) ≡ private_words front = more_words front r ∙ rw (p, words_taken) (omega arith) in
         let same_names : names (front ++ r ∷ []) ≡ names front = more_names front r ∙ rw (p, filter) (append-nil (names front)) in
-        let step : Faults (base + words_of front) (names front) ≡ later all = rw (← same_words, ← same_names) (more ∙ ap later (append_assoc front (r ∷ []) rs)) in
+        let step : Faults (base + private_words front) (names front) ≡ later all = rw (← same_words, ← same_names) (more ∙ ap later (append_assoc front (r ∷ []) rs)) in
         rw (p, private_fault, is_again) step
-    go (Some w) p more = at (list_any (bytes_eq r.name) (names front)) refl (nat_lt 32767 (base + words_of front + w)) refl
+    go (Some w) p more = at (list_any (bytes_eq r.name) (names front)) refl (nat_lt 32767 (base + private_words front + w)) refl
       where
-        same_words : words_of (front ++ r ∷ []) ≡ words_of front + w
+        same_words : private_words (front ++ r ∷ []) ≡ private_words front + w
         same_words = more_words front r ∙ rw (p, words_taken) refl
 
         same_names : names (front ++ r ∷ []) ≡ names front ++ r.name ∷ []
         same_names = more_names front r ∙ rw (p, filter) refl
 
-        again_at : (free : ℕ) → base + words_of (front ++ r ∷ []) ≡ free → Faults free (names front ++ r.name ∷ []) ≡ later all
+        again_at : (free : ℕ) → base + private_words (front ++ r ∷ []) ≡ free → Faults free (names front ++ r.name ∷ []) ≡ later all
         again_at free is = rw (← is, ← same_names) (more ∙ ap later (append_assoc front (r ∷ []) rs))
 
-        step : Faults (base + words_of front + w) (names front ++ r.name ∷ []) ≡ later all
-        step = again_at (base + words_of front + w) (omega (arith, same_words))
+        step : Faults (base + private_words front + w) (names front ++ r.name ∷ []) ≡ later all
+        step = again_at (base + private_words front + w) (omega (arith, same_words))
 
-        at : (b : Bool) → list_any (bytes_eq r.name) (names front) ≡ b → (c : Bool) → nat_lt 32767 (base + words_of front + w) ≡ c
-            → option_map (λ (f : ℕ × Reason). h f.1 f.0) (private_fault rec (base + words_of front) (names front) (r ∷ rs)) ≡ option_or (record_fault h offset all (rec, r)) (later all)
+        at : (b : Bool) → list_any (bytes_eq r.name) (names front) ≡ b → (c : Bool) → nat_lt 32767 (base + private_words front + w) ≡ c
+            → option_map (λ (f : ℕ × Reason). h f.1 f.0) (private_fault rec (base + private_words front) (names front) (r ∷ rs)) ≡ option_or (record_fault h offset all (rec, r)) (later all)
         at true seen c full =
             let found : list_any (private_named r.name) front ≡ true = sym (seen_is r.name front) ∙ seen in
             rw (p, private_fault, is_again) (rw (seen, front_is, found) refl)
@@ -242,7 +245,7 @@ carried h offset base front (r ∷ rs) rec e offsets =
 
 -- the same over all segments
 abbrev segment_fault : List Segment → Segment → Option Fault
-segment_fault segs s = first_of (record_fault (λ why rec. in_record s.file s.slot rec why) (λ n. offset_of segs s.slot n) s.records) (enumerate_from 0 s.records)
+segment_fault segs s = first_of (record_fault (λ why rec. in_record s.file s.slot rec why) (λ n. private_offset segs s.slot n) s.records) (enumerate_from 0 s.records)
 
 pub below_more : (slot : ℕ) (front : List Segment) (s : Segment) → AreBelow s.slot front → s.slot < slot → AreBelow slot (front ++ s ∷ [])
 below_more slot [] s b h = (h, tt)
@@ -254,9 +257,9 @@ below_from from slot (q ∷ front) h b = ((let x = b.0 in omega (arith, x, h)), 
 
 -- the offsets of a segment among all
 pub offset_in : (all front : List Segment) (s : Segment) (rest : List Segment) (from : ℕ) → all ≡ front ++ s ∷ rest → AreBelow from front → Ascends from (s ∷ rest)
-    → (rec : ℕ) → offset_of all s.slot rec ≡ next_of (host_records all) + all_words (map owner_of front) + words_of (take rec s.records)
+    → (rec : ℕ) → private_offset all s.slot rec ≡ next_of (host_records all) + all_words (map owner_of front) + private_words (take rec s.records)
 offset_in all front s rest from is below ascends rec =
-    subst (λ (segs : List Segment). offset_of segs s.slot rec ≡ next_of (host_records segs) + all_words (map owner_of front) + words_of (take rec s.records)) (sym is)
+    subst (λ (segs : List Segment). private_offset segs s.slot rec ≡ next_of (host_records segs) + all_words (map owner_of front) + private_words (take rec s.records)) (sym is)
     (offset_is front s rest rec (below_from from s.slot front ascends.0 below) ascends.1)
 
 carried_all : (all front rest : List Segment) (from : ℕ) → all ≡ front ++ rest → AreBelow from front → Ascends from rest
@@ -267,19 +270,19 @@ carried_all all front (s ∷ rest) from is below ascends =
     let h : Reason → ℕ → Fault = λ why rec. in_record s.file s.slot rec why in
     let mine : option_map (λ (f : ℕ × Reason). h f.1 f.0) (private_fault 0 start [] s.records) ≡ segment_fault all s =
     ap (λ (n : ℕ). option_map (λ (f : ℕ × Reason). h f.1 f.0) (private_fault 0 n [] s.records)) (omega arith)
-    ∙ carried h (λ n. offset_of all s.slot n) start [] s.records 0 refl (offset_in all front s rest from is below ascends) in
+    ∙ carried h (λ n. private_offset all s.slot n) start [] s.records 0 refl (offset_in all front s rest from is below ascends) in
     let count = words_split front (s ∷ []) in
-    let later : first_private_fault (start + words_of s.records) (map owner_of rest) ≡ first_of (segment_fault all) rest =
+    let later : first_private_fault (start + private_words s.records) (map owner_of rest) ≡ first_of (segment_fault all) rest =
     ap (λ (n : ℕ). first_private_fault n (map owner_of rest)) (omega (arith, count))
     ∙ carried_all all (front ++ s ∷ []) rest (s.slot + 1) (is ∙ sym (append_assoc front (s ∷ []) rest)) (below_more (s.slot + 1) front s (below_from from s.slot front ascends.0 below) (omega arith)) ascends.1 in
-    ap (λ (o : Option Fault). option_or o (first_private_fault (start + words_of s.records) (map owner_of rest))) mine ∙ ap (option_or (segment_fault all s)) later
+    ap (λ (o : Option Fault). option_or o (first_private_fault (start + private_words s.records) (map owner_of rest))) mine ∙ ap (option_or (segment_fault all s)) later
 
-private_rows : (segs : List Segment) (s : Segment) (rec : ℕ) (r : Record) → Least Ranked (PrivateHas segs s rec r) (reason_at (λ n. offset_of segs s.slot n) s.records (rec, r))
+private_rows : (segs : List Segment) (s : Segment) (rec : ℕ) (r : Record) → Least Ranked (PrivateHas segs s rec r) (reason_at (λ n. private_offset segs s.slot n) s.records (rec, r))
 private_rows segs s rec r =
     least_same to from
-    (least_or (least_if (is_again is_private s.records (rec, r)) reason.DoubledPrivate (again is_private s.records rec r))
-    (least_if (is_private r.body && nat_lt 32767 (offset_of segs s.slot rec + words_taken r.body)) reason.NoRoom
-    (Decides-and (is_private r.body) (nat_lt 32767 (offset_of segs s.slot rec + words_taken r.body)) (of_test (is_private r.body)) (Decides-ltb 32767 (offset_of segs s.slot rec + words_taken r.body))))
+    (least_or (least_if (is_again is_private_reference s.records (rec, r)) reason.DoubledPrivate (again is_private_reference s.records rec r))
+    (least_if (is_private_reference r.body && nat_lt 32767 (private_offset segs s.slot rec + words_taken r.body)) reason.NoRoom
+    (Decides-and (is_private_reference r.body) (nat_lt 32767 (private_offset segs s.slot rec + words_taken r.body)) (of_test (is_private_reference r.body)) (Decides-ltb 32767 (private_offset segs s.slot rec + words_taken r.body))))
     (at_apart Ranked reason.DoubledPrivate reason.NoRoom (omega arith)))
   where
     to : (x : Reason) → ((x ≡ reason.DoubledPrivate) × PrivateHas segs s rec r reason.DoubledPrivate) ⊎ ((x ≡ reason.NoRoom) × PrivateHas segs s rec r reason.NoRoom) → PrivateHas segs s rec r x
@@ -299,7 +302,7 @@ step_8 order host libs =
     ap (λ (n : ℕ). first_private_fault n (map owner_of segs)) (omega arith) ∙ carried_all segs [] segs 0 refl tt (ascend order host libs) in
     subst (λ (o : Option Fault). Least (Precedes OfPrivates) (InPrivates order host libs) o) (sym e)
     (over_segments order host libs (segment_fault segs)
-    (λ s is. least_items (record_fault (λ why rec. in_record s.file s.slot rec why) (λ n. offset_of segs s.slot n) s.records) s.records
+    (λ s is. least_items (record_fault (λ why rec. in_record s.file s.slot rec why) (λ n. private_offset segs s.slot n) s.records) s.records
     (λ k r e. because OfPrivates (in_record s.file s.slot k) (λ a b h. inr (refl, inr (refl, inr (refl, inr (refl, inl h))))) (private_rows segs s k r))
     (λ i j a b x y h. because_apart OfPrivates (in_record s.file s.slot i) (in_record s.file s.slot j) (λ q p. inr (refl, inr (refl, inl (omega (arith, h))))) x y))
     (λ s t x y h a b. because_apart OfPrivates (in_record s.file s.slot a.0) (in_record t.file t.slot b.0) (λ q p. inr (refl, inl h)) x y a.3 b.3))

@@ -14,6 +14,13 @@ use Rattle.std.proofs.lemmas.List.{map-append}
 use Rattle.std.proofs.lemmas.List.Folds.{list_any-append}
 use Rattle.std.proofs.lemmas.Slice.Eq.{bytes_eq-Decides}
 use Rattle.ps_codefile.specs.Procedures.{is_reserved}
+use Rattle.ps_linkinfo.specs.Counts.{is_unit_reference, next_of}
+use Rattle.ps_resolve.specs.Added.{added_fault, segments}
+use Rattle.ps_resolve.specs.Privates.{private_words, owner_of, all_words}
+use Rattle.ps_resolve.specs.Standing.Phrases.{Because, SomeBelow, SomeItem}
+use Rattle.ps_resolve.specs.Standing.Keys.{OfReferences, part, Precedes}
+use Rattle.ps_resolve.specs.Standing.Privates.{private_offset}
+use Rattle.ps_resolve.specs.Standing.References.{Defines, RecordHas, operand_width, operand_value, Covers, Meet, ReferenceHas, InReferences}
 use Rattle.ps_linkinfo.specs.Records.{refs_of}
 use Rattle.ps_linkinfo.specs.declared.record.Body.{Body}
 use Rattle.ps_linkinfo.specs.declared.record.Body.TheVariants.{UnitRef, PublRef, PrivRef, PublDef, ConstDef, Eof}
@@ -21,14 +28,11 @@ use Rattle.ps_linkinfo.specs.declared.record.LinkRecord.{LinkRecord as Record}
 use Rattle.ps_resolve.specs.First.{Before, Least, nothing, this}
 use Rattle.ps_resolve.specs.Searches.{first_of, fault_if}
 use Rattle.ps_resolve.specs.Sources.{Segment, host_records, units_of}
-use Rattle.ps_resolve.specs.Added.{is_unit_reference, added_fault, segments}
 use Rattle.ps_resolve.specs.Symbols.{definitions, definition_of}
-use Rattle.ps_resolve.specs.Privates.{words_of, owner_of, all_words, next_of}
 use Rattle.ps_resolve.specs.Operands.{width_of, value_of, is_in, reference_reason, operands, refs_fault}
 use Rattle.ps_resolve.specs.References.{Known, public_base, unit_slot, target_in, target_of, words_taken, records_fault}
 use Rattle.ps_resolve.specs.Linking.{known_of}
 use Rattle.ps_resolve.specs.Faults.{in_segment, segment_fault, references_fault_from, references_fault}
-use Rattle.ps_resolve.specs.Standing.{Because, Lesser, SomeItem, OfReferences, part, Precedes, offset_of, Defines, RecordHas, operand_width, operand_value, Covers, Meet, ReferenceHas, InReferences}
 use Rattle.ps_resolve.specs.declared.definitions.Def.{Def}
 use Rattle.ps_resolve.specs.declared.definitions.DefKind.{DefKind}
 use Rattle.ps_resolve.specs.declared.definitions.DefKind.TheVariants.{Public, Constant}
@@ -173,10 +177,10 @@ in_operand : (p y w : ℕ) → Decides (is_in p (y, w)) ((y ≤ p) × (p < y + w
 in_operand p y w = Decides-and (nat_le y p) (nat_lt p (y + w)) (at_most y p) (Decides-ltb p (y + w))
 
 abbrev BeforeCovers : List Record → ℕ → ℕ → Type 0
-BeforeCovers records rec p = Lesser rec (λ o. (q : Record) × (slice_get records o ≡ Some q) × SomeItem (refs_of q.body) (λ j y. Covers q.body y p))
+BeforeCovers records rec p = SomeBelow rec (λ o. (q : Record) × (slice_get records o ≡ Some q) × SomeItem (refs_of q.body) (λ j y. Covers q.body y p))
 
 abbrev OwnCovers : Body → ℕ → ℕ → Type 0
-OwnCovers body i p = Lesser i (λ j. (y : ℕ) × (slice_get (refs_of body) j ≡ Some y) × Covers body y p)
+OwnCovers body i p = SomeBelow i (λ j. (y : ℕ) × (slice_get (refs_of body) j ≡ Some y) × Covers body y p)
 
 taken_covers : (records : List Record) (rec i : ℕ) (body : Body) (p : ℕ) → Decides (list_any (is_in p) (before records rec ++ own body i)) (BeforeCovers records rec p ⊎ OwnCovers body i p)
 taken_covers records rec i body p =
@@ -294,13 +298,13 @@ references_of order segs s rec r ref = option_map (in_reference s.file s.slot re
 
 abbrev record_fault : Order → List Segment → Segment → ℕ × Record → Option Fault
 record_fault order segs s r =
-    option_or (option_map (in_record s.file s.slot r.0) (result_err (target_of (known_of segs) (offset_of segs s.slot r.0) r.1)))
+    option_or (option_map (in_record s.file s.slot r.0) (result_err (target_of (known_of segs) (private_offset segs s.slot r.0) r.1)))
     (first_of (references_of order segs s r.0 r.1) (enumerate_from 0 (refs_of r.1.body)))
 
 of_record : (order : Order) (segs : List Segment) (s : Segment) (rec : ℕ) (r : Record) → slice_get s.records rec ≡ Some r → UnitIsThere segs r.name r.body → Least (Precedes OfReferences) (RecordFaults order segs s rec r) (record_fault order segs s (rec, r))
 of_record order segs s rec r er there =
     least_or
-    (because OfReferences (in_record s.file s.slot rec) (λ a b h. inr (refl, inr (refl, inr (refl, inr (refl, inl h))))) (record_rows segs (offset_of segs s.slot rec) r.name r.body there))
+    (because OfReferences (in_record s.file s.slot rec) (λ a b h. inr (refl, inr (refl, inr (refl, inr (refl, inl h))))) (record_rows segs (private_offset segs s.slot rec) r.name r.body there))
     (least_items (references_of order segs s rec r) (refs_of r.body)
     (λ i x ex. because OfReferences (in_reference s.file s.slot rec i) (λ a b h. inr (refl, inr (refl, inr (refl, inr (refl, inl h))))) (reference_rows order segs s rec r i x er ex))
     (λ i j a b x y h. because_apart OfReferences (in_reference s.file s.slot rec i) (in_reference s.file s.slot rec j) (λ q p. inr (refl, inr (refl, inr (refl, inl (omega (arith, h)))))) x y))
@@ -349,12 +353,12 @@ refs_carried order segs s rec r t w v done (x ∷ xs) i is at =
 abbrev Fits : List Segment → Segment → ℕ → List ℕ → Body → Target → Type 0
 Fits segs s rec name body t = (refs_of body ≡ []) ⊎ ((width_of t ≡ operand_width body) × ((x : ℕ) → value_of s.code t x ≡ operand_value segs s rec name body x))
 
-fits : (segs : List Segment) (s : Segment) (rec : ℕ) (name : List ℕ) (body : Body) (t : Target) → target_in (known_of segs) (offset_of segs s.slot rec) name body ≡ Ok t → Fits segs s rec name body t
+fits : (segs : List Segment) (s : Segment) (rec : ℕ) (name : List ℕ) (body : Body) (t : Target) → target_in (known_of segs) (private_offset segs s.slot rec) name body ≡ Ok t → Fits segs s rec name body t
 fits segs s rec name (PublDef value) t e = inl refl
 fits segs s rec name (ConstDef value) t e = inl refl
 fits segs s rec name (Eof next) t e = inl refl
 fits segs s rec name (PrivRef words refs) t e =
-    let is : Base (offset_of segs s.slot rec) ≡ t = cc in
+    let is : Base (private_offset segs s.slot rec) ≡ t = cc in
     subst (Fits segs s rec name (PrivRef words refs)) is (inr (refl, λ x. refl))
 fits segs s rec name (UnitRef refs) t e = go (lookup (bytes_eq name) (units_of segs)) e
   where
@@ -387,9 +391,9 @@ operands_are : (segs : List Segment) (s : Segment) (rec : ℕ) (r : Record) (t :
 operands_are segs s rec r t (inl none) = ap (λ (xs : List ℕ). operands t xs) none ∙ sym (ap (λ (xs : List ℕ). map (λ (y : ℕ). (y, operand_width r.body)) xs) none)
 operands_are segs s rec r t (inr fit) = ap (λ (n : ℕ). map (λ (y : ℕ). (y, n)) (refs_of r.body)) fit.0
 
-carried : (order : Order) (segs : List Segment) (s : Segment) (base : ℕ) → ((n : ℕ) → offset_of segs s.slot n ≡ base + words_of (take n s.records))
+carried : (order : Order) (segs : List Segment) (s : Segment) (base : ℕ) → ((n : ℕ) → private_offset segs s.slot n ≡ base + private_words (take n s.records))
     → (front rs : List Record) (rec : ℕ) → s.records ≡ front ++ rs → rec ≡ length front
-    → option_map (in_segment s.file s.slot) (records_fault (known_of segs) (is_reserved order s.code) s.code rec (offset_of segs s.slot rec) (flat_map operands_of front) rs) ≡ first_of (record_fault order segs s) (enumerate_from rec rs)
+    → option_map (in_segment s.file s.slot) (records_fault (known_of segs) (is_reserved order s.code) s.code rec (private_offset segs s.slot rec) (flat_map operands_of front) rs) ≡ first_of (record_fault order segs s) (enumerate_from rec rs)
 carried order segs s base offsets front [] rec is at = refl
 carried order segs s base offsets front (r ∷ rs) rec is at =
     go (target_of known free r) refl (carried order segs s base offsets (front ++ r ∷ []) rs (rec + 1) (is ∙ sym (append_assoc front (r ∷ []) rs)) (let l = longer front r in omega (arith, l, at)))
@@ -398,7 +402,7 @@ carried order segs s base offsets front (r ∷ rs) rec is at =
     known = known_of segs
 
     free : ℕ
-    free = offset_of segs s.slot rec
+    free = private_offset segs s.slot rec
 
     R : ℕ → Bool
     R = is_reserved order s.code
@@ -414,17 +418,17 @@ carried order segs s base offsets front (r ∷ rs) rec is at =
         ap (λ (records : List Record). take (rec + 1) records) (is ∙ sym (append_assoc front (r ∷ []) rs))
         ∙ (ap (λ (n : ℕ). take n ((front ++ r ∷ []) ++ rs)) (let l = longer front r in omega (arith, l, at)) ∙ take_front (front ++ r ∷ []) rs)
 
-    next_free : offset_of segs s.slot (rec + 1) ≡ free + words_taken r.body
+    next_free : private_offset segs s.slot (rec + 1) ≡ free + words_taken r.body
     next_free =
         let a = offsets (rec + 1) in
         let b = offsets rec in
-        let c = ap words_of more_is in
-        let d = ap words_of front_is in
+        let c = ap private_words more_is in
+        let d = ap private_words front_is in
         let m = more_words front r in
         omega (arith, a, b, c, d, m)
 
     Later : Type 0
-    Later = option_map (in_segment s.file s.slot) (records_fault known R s.code (rec + 1) (offset_of segs s.slot (rec + 1)) (flat_map operands_of (front ++ r ∷ [])) rs) ≡ first_of (record_fault order segs s) (enumerate_from (rec + 1) rs)
+    Later = option_map (in_segment s.file s.slot) (records_fault known R s.code (rec + 1) (private_offset segs s.slot (rec + 1)) (flat_map operands_of (front ++ r ∷ [])) rs) ≡ first_of (record_fault order segs s) (enumerate_from (rec + 1) rs)
 
     go : (o : Result Target Reason) → target_of known free r ≡ o → Later
         → option_map (in_segment s.file s.slot) (records_fault known R s.code rec free taken (r ∷ rs)) ≡ option_or (record_fault order segs s (rec, r)) (first_of (record_fault order segs s) (enumerate_from (rec + 1) rs))
@@ -440,7 +444,7 @@ carried order segs s base offsets front (r ∷ rs) rec is at =
         ∙ refs_of_record order segs s rec r t taken (ap (λ (records : List Record). flat_map operands_of records) (sym front_is)) fit in
         let behind : option_map (in_segment s.file s.slot) rest ≡ first_of (record_fault order segs s) (enumerate_from (rec + 1) rs) =
         ap (λ (n : ℕ). option_map (in_segment s.file s.slot) (records_fault known R s.code (rec + 1) n (taken ++ operands t (refs_of r.body)) rs)) (sym next_free)
-        ∙ (ap (λ (os : List (ℕ × ℕ)). option_map (in_segment s.file s.slot) (records_fault known R s.code (rec + 1) (offset_of segs s.slot (rec + 1)) os rs)) (sym taken_is) ∙ later) in
+        ∙ (ap (λ (os : List (ℕ × ℕ)). option_map (in_segment s.file s.slot) (records_fault known R s.code (rec + 1) (private_offset segs s.slot (rec + 1)) os rs)) (sym taken_is) ∙ later) in
         rw (e, records_fault)
         (map_or (in_segment s.file s.slot) refs rest
         ∙ (ap (λ (o : Option Fault). option_or o (option_map (in_segment s.file s.slot) rest)) mine ∙ ap (option_or (first_of (references_of order segs s rec r) (enumerate_from 0 (refs_of r.body)))) behind))
@@ -454,14 +458,14 @@ carried_all order all front [] from is below ascends = refl
 carried_all order all front (s ∷ rest) from is below ascends =
     let start = next_of (host_records all) + all_words (map owner_of front) in
     let offsets = offset_in all front s rest from is below ascends in
-    let first : start ≡ offset_of all s.slot 0 = (let e = offsets 0 in omega (arith, e)) in
+    let first : start ≡ private_offset all s.slot 0 = (let e = offsets 0 in omega (arith, e)) in
     let mine : segment_fault order (known_of all) start s ≡ all_records order all s =
     ap (λ (n : ℕ). segment_fault order (known_of all) n s) first ∙ carried order all s start offsets [] s.records 0 refl refl in
     let count = words_split front (s ∷ []) in
-    let later : references_fault_from order (known_of all) (start + words_of s.records) rest ≡ first_of (all_records order all) rest =
+    let later : references_fault_from order (known_of all) (start + private_words s.records) rest ≡ first_of (all_records order all) rest =
     ap (λ (n : ℕ). references_fault_from order (known_of all) n rest) (omega (arith, count))
     ∙ carried_all order all (front ++ s ∷ []) rest (s.slot + 1) (is ∙ sym (append_assoc front (s ∷ []) rest)) (below_more (s.slot + 1) front s (below_from from s.slot front ascends.0 below) (omega arith)) ascends.1 in
-    ap (λ (o : Option Fault). option_or o (references_fault_from order (known_of all) (start + words_of s.records) rest)) mine ∙ ap (option_or (all_records order all s)) later
+    ap (λ (o : Option Fault). option_or o (references_fault_from order (known_of all) (start + private_words s.records) rest)) mine ∙ ap (option_or (all_records order all s)) later
 
 -- where the rounds have no fault, so that each unit that is asked for has its segment
 pub step_10 : (order : Order) (host : List ℕ) (libs : List (List ℕ)) → added_fault order host libs ≡ None → Least (Precedes OfReferences) (InReferences order host libs) (references_fault order (segments order host libs))

@@ -8,14 +8,17 @@ use Rattle.std.proofs.lemmas.Bool.{cases_lt, false≢true}
 use Rattle.std.proofs.lemmas.Bool.Decides.{Decides-or}
 use Rattle.std.proofs.lemmas.Grind.{flat_map-append}
 use Rattle.ps_codefile.specs.Dictionary.{is_nameless, entry_at}
+use Rattle.ps_resolve.specs.Added.{unit_references, all_unit_references, is_had, sought_from, empty_slots, is_missing, unplaced_fault, placed_fault, added_segment, Rounds, after, rounds_from, sought, rounds, added, added_fault}
+use Rattle.ps_resolve.specs.Standing.Phrases.{Because}
+use Rattle.ps_resolve.specs.Standing.Keys.{Step, OfSources, OfAdded, rank, part, record_read, key, Precedes}
+use Rattle.ps_resolve.specs.Standing.Sources.{EntriesHave, CodeFault}
+use Rattle.ps_resolve.specs.Standing.Rounds.{IsMissing, PlacedFault, InRound}
 use Rattle.ps_codefile.specs.declared.entry.Entry.{Entry}
 use Rattle.ps_codefile.specs.declared.entry.Role.{Role}
 use Rattle.ps_codefile.specs.declared.entry.Role.TheVariants as role
-use Rattle.ps_resolve.specs.Added.{unit_references, references_in, is_had, sought_from, empty_slots, is_missing, unplaced_fault, placed_fault, added_segment, Rounds, after, rounds_from, sought, rounds, added, added_fault}
 use Rattle.ps_resolve.specs.Faults.{entry_fault, code_fault}
 use Rattle.ps_resolve.specs.First.{Before, Least, nothing, this}
 use Rattle.ps_resolve.specs.Sources.{Segment, own_segments, units_of, unit_source, chosen_library, file_at}
-use Rattle.ps_resolve.specs.Standing.{Because, Step, OfSources, OfAdded, rank, part, record_read, key, Precedes, EntriesHave, CodeFault, IsMissing, PlacedFault, InRound}
 use Rattle.ps_resolve.specs.declared.added.UnitReference.{UnitReference}
 use Rattle.ps_laws.proofs.Least.{least_same, least_order, least_or, least_map, least_then}
 use Rattle.ps_laws.proofs.Looking.{of_test}
@@ -157,12 +160,12 @@ own_units order host libs = units_of (own_segments order host libs)
 abbrev pub references_of : Segment → List UnitReference
 references_of s = unit_references s.file s.slot 0 s.records
 
-pub sought_rest : (order : Order) (host : List ℕ) (libs : List (List ℕ)) (front rest : List Segment) → sought order host libs (front ++ rest) ≡ sought_from (own_units order host libs) (sought order host libs front) (references_in rest)
+pub sought_rest : (order : Order) (host : List ℕ) (libs : List (List ℕ)) (front rest : List Segment) → sought order host libs (front ++ rest) ≡ sought_from (own_units order host libs) (sought order host libs front) (all_unit_references rest)
 unfolding sought
 sought_rest order host libs front rest =
-    ap (λ (segs : List Segment). sought_from (own_units order host libs) [] (references_in segs)) (sym (append_assoc (own_segments order host libs) front rest))
+    ap (λ (segs : List Segment). sought_from (own_units order host libs) [] (all_unit_references segs)) (sym (append_assoc (own_segments order host libs) front rest))
     ∙ (ap (λ (gs : List UnitReference). sought_from (own_units order host libs) [] gs) (flat_map-append references_of (own_segments order host libs ++ front) rest)
-    ∙ sought_append (own_units order host libs) [] (references_in (own_segments order host libs ++ front)) (references_in rest))
+    ∙ sought_append (own_units order host libs) [] (all_unit_references (own_segments order host libs ++ front)) (all_unit_references rest))
 
 sought_more : (order : Order) (host : List ℕ) (libs : List (List ℕ)) (front : List Segment) (s : Segment) → sought order host libs (front ++ s ∷ []) ≡ sought_from (own_units order host libs) (sought order host libs front) (references_of s)
 sought_more order host libs front s =
@@ -328,7 +331,7 @@ rounds_have law order host libs (slot ∷ left) front used k row is at slots_are
 pub first_round : (order : Order) (host : List ℕ) (libs : List (List ℕ)) → rounds order host libs ≡ rest_of order host libs (empty_slots order host) 0 (sought order host libs [])
 unfolding rounds sought
 first_round order host libs =
-    ap (λ (segs : List Segment). rest_of order host libs (empty_slots order host) 0 (sought_from (own_units order host libs) [] (references_in segs))) (sym (append-nil (own_segments order host libs)))
+    ap (λ (segs : List Segment). rest_of order host libs (empty_slots order host) 0 (sought_from (own_units order host libs) [] (all_unit_references segs))) (sym (append-nil (own_segments order host libs)))
 
 pub step_6 : OneStop → (order : Order) (host : List ℕ) (libs : List (List ℕ)) → (o : Option Place) × Least Earlier (λ p. (k : ℕ) × (f : Fault) × (p ≡ (OfAdded k, f)) × InRound order host libs k f) o × (option_map (λ (x : Place). x.1) o ≡ added_fault order host libs)
 step_6 law order host libs =

@@ -7,13 +7,14 @@ use Rattle.std.specs.Result.{result_ok}
 use Rattle.std.proofs.lemmas.Bool.Decides.{Decides-eqb}
 use Rattle.std.proofs.lemmas.Option.{option_and_then_some}
 use Rattle.ps_codefile.specs.Dictionary.{slots, entry_at, role_of, code_of}
+use Rattle.ps_resolve.specs.Added.{added, segments, segment_at}
+use Rattle.ps_resolve.specs.Standing.Phrases.{SomeItem}
+use Rattle.ps_resolve.specs.Standing.Segments.{IsSegment, SomeSegment}
 use Rattle.ps_codefile.specs.declared.entry.Role.{Role}
 use Rattle.ps_resolve.specs.First.{Least}
 use Rattle.ps_resolve.specs.Searches.{first_of}
 use Rattle.ps_resolve.specs.Sources.{Segment, segment_from, own_segment, records_of, file_at, source_of, is_linked, is_empty}
 use Rattle.ps_resolve.specs.Faults.{is_role}
-use Rattle.ps_resolve.specs.Added.{added, segments, segment_at}
-use Rattle.ps_resolve.specs.Standing.{SomeItem, IsSegment, SomeSegment}
 use Rattle.ps_laws.proofs.Least.{least_same, least_then, least_within, first_of_filter_map}
 use Rattle.ps_laws.proofs.Looking.{find_some}
 use Rattle.ps_words.specs.declared.order.Order.{Order}

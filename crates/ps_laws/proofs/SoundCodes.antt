@@ -8,7 +8,10 @@ use Rattle.std.proofs.lemmas.Bool.{cases_lt, false≢true}
 use Rattle.std.proofs.lemmas.Bool.Decides.{nat_tests}
 use Rattle.std.proofs.lemmas.Option.{option_and_then_some}
 use Rattle.ps_codefile.specs.Dictionary.{entry_at, role_of, code_of, information_of}
-use Rattle.ps_codefile.specs.Procedures.{procedures, dictionary_len, start_of, content_of, table_of, is_in_table, tables_fault, is_reserved}
+use Rattle.ps_codefile.specs.Procedures.{procedures, dictionary_len, dictionary_start, content_of, table_of, is_in_table, tables_fault, is_reserved}
+use Rattle.ps_resolve.specs.Added.{is_missing, as_added, placed_fault, added_segment, added, added_fault}
+use Rattle.ps_resolve.specs.Standing.Sources.{AreBad, TablesHave}
+use Rattle.ps_resolve.specs.Standing.Segments.{IsSegment}
 use Rattle.ps_codefile.specs.declared.entry.Entry.{Entry}
 use Rattle.ps_codefile.specs.declared.entry.Role.{Role}
 use Rattle.ps_codefile.specs.declared.entry.Role.TheVariants as role
@@ -16,8 +19,6 @@ use Rattle.ps_linkinfo.specs.Records.{reading}
 use Rattle.ps_resolve.specs.First.{Least, nothing}
 use Rattle.ps_resolve.specs.Sources.{Segment, is_linked, is_host, is_empty, file_at, source_of, unit_source, segment_from, own_segment, records_of}
 use Rattle.ps_resolve.specs.Faults.{is_role, code_fault, entry_fault, information_fault, sources_fault}
-use Rattle.ps_resolve.specs.Added.{is_missing, as_added, placed_fault, added_segment, added, added_fault}
-use Rattle.ps_resolve.specs.Standing.{AreBad, TablesHave, IsSegment}
 use Rattle.ps_resolve.specs.declared.added.UnitReference.{UnitReference}
 use Rattle.ps_laws.proofs.Sources.{tables_rows, ok_is}
 use Rattle.ps_laws.proofs.Steps.{Ranked}
@@ -129,7 +130,7 @@ long order code host h = elim (cases_lt (length code) (dictionary_len code)) [
 pub record HasOuter (order : Order) (code : List ℕ) (t : ℕ) : Type 0 where
   pub procedure : 1 ≤ procedures code
   pub low : 8 ≤ t
-  pub high : t + 1 < start_of code
+  pub high : t + 1 < dictionary_start code
 
 pub outer : (order : Order) (code : List ℕ) (t : ℕ) → (AreBad order code true → ⊥) → table_of order code 1 ≡ Some t → HasOuter order code t
 outer order code t h e = go (content_of order code 1 == 0) refl e
@@ -137,7 +138,7 @@ outer order code t h e = go (content_of order code 1 == 0) refl e
     some : 1 ≤ procedures code
     some = elim (cases_lt 0 (procedures code)) [ inl lt ↦ lt | inr ge ↦ absurd (h (inr (refl, inl (omega (arith, ge))))) ]
 
-    bad : content_of order code 1 ≢ 0 → ((length code - 2 - 2 * 1 < content_of order code 1 + 8) ⊎ (start_of code ≤ length code - 2 - 2 * 1 - content_of order code 1 + 1)) → ⊥
+    bad : content_of order code 1 ≢ 0 → ((length code - 2 - 2 * 1 < content_of order code 1 + 8) ⊎ (dictionary_start code ≤ length code - 2 - 2 * 1 - content_of order code 1 + 1)) → ⊥
     bad n u = h (inl (inr (1, omega arith, some, n, u)))
 
     nonzero : (c : ℕ) → (c == 0) ≡ false → c ≢ 0
@@ -151,7 +152,7 @@ outer order code t h e = go (content_of order code 1 == 0) refl e
         record {
           procedure = some;
           low = elim (cases_lt (length code - 2 - 2 * 1) (content_of order code 1 + 8)) [ inl lt ↦ absurd (bad n (inl lt)) | inr ge ↦ omega (arith, ge, same) ];
-          high = elim (cases_lt (length code - 2 - 2 * 1 - content_of order code 1 + 1) (start_of code)) [ inl lt ↦ subst (λ (m : ℕ). m + 1 < start_of code) same lt | inr ge ↦ absurd (bad n (inr (omega (arith, ge)))) ];
+          high = elim (cases_lt (length code - 2 - 2 * 1 - content_of order code 1 + 1) (dictionary_start code)) [ inl lt ↦ subst (λ (m : ℕ). m + 1 < dictionary_start code) same lt | inr ge ↦ absurd (bad n (inr (omega (arith, ge)))) ];
         }
 
 -- the places of the number and of the data size are reserved
@@ -185,7 +186,7 @@ size_reserved order code t j p o e h k = or_right _ _ (some_table (table_of orde
 
 -- and they are apart
 pub own_apart : (order : Order) (code : List ℕ) (t j p : ℕ) → HasOuter order code t → j < 2 → p + 8 ≡ t + j → p + 2 ≡ length code → ⊥
-own_apart order code t j p o h k n = let a = o.high in let c : start_of code + 2 ≤ length code = go (procedures code) (length code) (omega (arith, n)) in omega (arith, a, c, h, k, n)
+own_apart order code t j p o h k n = let a = o.high in let c : dictionary_start code + 2 ≤ length code = go (procedures code) (length code) (omega (arith, n)) in omega (arith, a, c, h, k, n)
   where
     go : (c n : ℕ) → 2 ≤ n → n - (2 + 2 * c) + 2 ≤ n
     go c n h = omega (arith, h)

@@ -11,7 +11,10 @@ use Rattle.std.proofs.Common.{leb-true, le-leb, unwrap_or, is_none}
 use Rattle.std.proofs.lemmas.Bool.Decides.{Decides-at, Decides-ltb, Decides-and, Decides-or, Decides-not, Decides-like, Decides-eqb}
 use Rattle.std.proofs.lemmas.Slice.Eq.{bytes_eq-Decides}
 use Rattle.ps_codefile.specs.Dictionary.{slots, entry_at, role_of, code_of, information_of, is_filled}
-use Rattle.ps_codefile.specs.Procedures.{table_of, procedures, content_of, start_of, dictionary_len, is_placed, numbers, tables, tables_fault}
+use Rattle.ps_codefile.specs.Procedures.{table_of, procedures, content_of, dictionary_start, dictionary_len, is_placed, numbers, tables, tables_fault}
+use Rattle.ps_resolve.specs.Standing.Phrases.{Because, SomeBelow, SomeItem}
+use Rattle.ps_resolve.specs.Standing.Keys.{OfSources, rank, part, Precedes}
+use Rattle.ps_resolve.specs.Standing.Sources.{IsNamed, HasEntry, EntriesHave, NoneHas, EntryFault, UnitFault, HasBadTable, AreBad, TablesHave, CodeFault, InSources}
 use Rattle.ps_codefile.specs.declared.entry.Entry.{Entry}
 use Rattle.ps_codefile.specs.declared.entry.Role.{Role}
 use Rattle.ps_linkinfo.specs.Records.{reading, Stops}
@@ -20,7 +23,6 @@ use Rattle.ps_resolve.specs.Faults.{entries_reason, entry_fault, unit_fault, wan
 use Rattle.ps_resolve.specs.First.{Least, nothing, this}
 use Rattle.ps_resolve.specs.Searches.{first_of, fault_if}
 use Rattle.ps_resolve.specs.Sources.{is_host, is_wanted, is_named, has_entry, chosen_library, source_of, file_at, is_linked}
-use Rattle.ps_resolve.specs.Standing.{Because, Lesser, SomeItem, OfSources, rank, part, Precedes, IsNamed, HasEntry, EntriesHave, NoneHas, EntryFault, UnitFault, HasBadTable, AreBad, TablesHave, CodeFault, InSources}
 use Rattle.ps_words.specs.FaultPlaces.{in_slot, in_record}
 use Rattle.ps_laws.proofs.Least.{least_same, least_or, least_if, least_then, least_range, least_items, least_guard}
 use Rattle.ps_laws.proofs.Steps.{Ranked, because, any_of_range, any_lesser}
@@ -92,11 +94,11 @@ pub has : (order : Order) (name file : List ℕ) → Decides (has_entry order na
 has order name file = any_lesser (is_named order name file) (λ i. IsNamed order name file i) (named order name file) 16
 
 abbrev Doubled : Order → List ℕ → List ℕ → Type 0
-Doubled order name lib = Lesser 16 (λ i. IsNamed order name lib i × Lesser i (λ j. IsNamed order name lib j))
+Doubled order name lib = SomeBelow 16 (λ i. IsNamed order name lib i × SomeBelow i (λ j. IsNamed order name lib j))
 
 doubled : (order : Order) (name lib : List ℕ) → Decides (list_any (λ i. is_named order name lib i && list_any (is_named order name lib) (range_with_len 0 i)) slots) (Doubled order name lib)
 doubled order name lib =
-    any_lesser (λ i. is_named order name lib i && list_any (is_named order name lib) (range_with_len 0 i)) (λ i. IsNamed order name lib i × Lesser i (λ j. IsNamed order name lib j))
+    any_lesser (λ i. is_named order name lib i && list_any (is_named order name lib) (range_with_len 0 i)) (λ i. IsNamed order name lib i × SomeBelow i (λ j. IsNamed order name lib j))
     (λ i. Decides-and (is_named order name lib i) (list_any (is_named order name lib) (range_with_len 0 i)) (named order name lib i) (any_lesser (is_named order name lib) (λ j. IsNamed order name lib j) (named order name lib) i)) 16
 
 first_entry : (order : Order) (name lib : List ℕ) → Least (λ i j. i < j) (λ y. (i : ℕ) × (0 ≤ i) × (i < 0 + 16) × (IsNamed order name lib i × (y ≡ i))) (find (is_named order name lib) slots)
@@ -239,10 +241,10 @@ bad_table order code =
     Decides-at (not (list_all (is_placed order code) (numbers code))) (list_any (λ p. not (is_placed order code p)) (numbers code)) (not_all (is_placed order code) (numbers code))
     (Decides-like (list_any (λ p. not (is_placed order code p)) (numbers code))
     (λ t. (t.0, t.1, omega (arith, t.2), t.3.0, t.3.1)) (λ t. (t.0, t.1, omega (arith, t.2), (t.3, t.4)))
-    (any_of_range (λ p. not (is_placed order code p)) Misplaced (λ p. not_placed (content_of order code p) (length code - 2 - 2 * p) (length code - 2 - 2 * p - content_of order code p + 1) (start_of code)) 1 (procedures code)))
+    (any_of_range (λ p. not (is_placed order code p)) Misplaced (λ p. not_placed (content_of order code p) (length code - 2 - 2 * p) (length code - 2 - 2 * p - content_of order code p + 1) (dictionary_start code)) 1 (procedures code)))
   where
     Misplaced : ℕ → Type 0
-    Misplaced p = (content_of order code p ≢ 0) × ((length code - 2 - 2 * p < content_of order code p + 8) ⊎ (start_of code ≤ length code - 2 - 2 * p - content_of order code p + 1))
+    Misplaced p = (content_of order code p ≢ 0) × ((length code - 2 - 2 * p < content_of order code p + 8) ⊎ (dictionary_start code ≤ length code - 2 - 2 * p - content_of order code p + 1))
 
 are_bad : (order : Order) (code : List ℕ) (host : Bool) → Decides (nat_lt (length code) (dictionary_len code) || not (list_all (is_placed order code) (numbers code)) || (host && (procedures code == 0 || content_of order code 1 == 0))) (AreBad order code host)
 are_bad order code host =

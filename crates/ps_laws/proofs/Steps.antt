@@ -10,12 +10,16 @@ use Rattle.std.proofs.lemmas.Bool.{cases_lt, false≢true}
 use Rattle.std.proofs.lemmas.Bool.Decides.{Decides-ltb, Decides-and, Decides-or, Decides-not, Decides-like}
 use Rattle.std.proofs.lemmas.Slice.Eq.{bytes_eq-Decides}
 use Rattle.ps_codefile.specs.Dictionary.{slots, is_nameless, Opened, FileOrder, Zero, Ordered, Mixed, file_order, opened, opened_as, opened_beside_as, same_order, entry_at, role_of, role_of_kind}
+use Rattle.ps_resolve.specs.Standing.Phrases.{Because, SomeBelow}
+use Rattle.ps_resolve.specs.Standing.Hosts.{HostHas, InHost}
+use Rattle.ps_resolve.specs.Standing.Slots.{HasRole, IsUnitSlot, SlotHas, InSlots, InNoHost}
+use Rattle.ps_resolve.specs.Standing.Libraries.{LibraryHas, InLibraries}
+use Rattle.ps_resolve.specs.Standing.Keys.{Step, OfHost, OfSlots, OfNoHost, OfLibraries, rank, Precedes}
 use Rattle.ps_codefile.specs.declared.entry.Entry.{Entry}
 use Rattle.ps_codefile.specs.declared.entry.Role.{Role}
 use Rattle.ps_resolve.specs.Faults.{host_fault, is_role, slot_reason, slots_fault, no_host_fault, library_reason, library_fault, libraries_fault}
 use Rattle.ps_resolve.specs.First.{Least, nothing, this}
 use Rattle.ps_resolve.specs.Sources.{is_host, is_unit}
-use Rattle.ps_resolve.specs.Standing.{Because, Lesser, HostHas, HasRole, IsUnitSlot, SlotHas, LibraryHas, Step, OfHost, OfSlots, OfNoHost, OfLibraries, rank, Precedes, InHost, InSlots, InNoHost, InLibraries}
 use Rattle.ps_words.specs.FaultPlaces.{in_file, in_slot}
 use Rattle.ps_laws.proofs.Least.{least_same, least_order, least_or, least_if, least_map, least_range, least_each}
 use Rattle.ps_words.specs.declared.order.Order.{Order}
@@ -53,7 +57,7 @@ any_of_range test P d a (suc n) =
     (λ t. elim (cases_lt a t.0) [ inl h ↦ inr (t.0, omega (arith, h), omega (arith, t.2), t.3) | inr h ↦ inl (subst P (omega (arith, h, t.1)) t.3) ])
     (Decides-or (test a) (list_any test (range_with_len (a + 1) n)) (d a) (any_of_range test P d (a + 1) n))
 
-pub any_lesser : (test : ℕ → Bool) (P : ℕ → Type 0) → ((i : ℕ) → Decides (test i) (P i)) → (n : ℕ) → Decides (list_any test (range_with_len 0 n)) (Lesser n P)
+pub any_lesser : (test : ℕ → Bool) (P : ℕ → Type 0) → ((i : ℕ) → Decides (test i) (P i)) → (n : ℕ) → Decides (list_any test (range_with_len 0 n)) (SomeBelow n P)
 any_lesser test P d n = Decides-like (list_any test (range_with_len 0 n)) (λ t. (t.0, omega (arith, t.2), t.3)) (λ t. (t.0, omega arith, omega (arith, t.1), t.2)) (any_of_range test P d 0 n)
 
 -- 1
@@ -219,10 +223,10 @@ slot_rows order host slot =
     low x e = (role_low (entry_at order host slot)).low x e
 
     Second : Reason → Type 0
-    Second x = (x ≡ reason.TwoHosts) × (HasRole order host slot role.Host × Lesser slot (λ i. HasRole order host i role.Host))
+    Second x = (x ≡ reason.TwoHosts) × (HasRole order host slot role.Host × SomeBelow slot (λ i. HasRole order host i role.Host))
 
     Third : Reason → Type 0
-    Third x = (x ≡ reason.DoubledSegment) × (IsUnitSlot order host slot × Lesser slot (λ i. IsUnitSlot order host i × (name i ≡ name slot)))
+    Third x = (x ≡ reason.DoubledSegment) × (IsUnitSlot order host slot × SomeBelow slot (λ i. IsUnitSlot order host i × (name i ≡ name slot)))
 
     keep : (x : Reason) → rank x < 9 → role_of (entry_at order host slot) ≡ Err x → SlotHas order host slot x
     keep reason.TwoHosts h e = absurd (omega (arith, h))

@@ -7,10 +7,12 @@ use Rattle.std.proofs.lemmas.Grind.{flat_map-append}
 use Rattle.std.proofs.lemmas.List.Sums.{sum_by-append, sum_by-cons}
 use Rattle.ps_linkinfo.specs.declared.record.LinkRecord.{LinkRecord as Record}
 use Rattle.ps_resolve.specs.Sources.{Segment, is_linked, is_host, host_records, order_of}
-use Rattle.ps_resolve.specs.Privates.{words_in, words_of, owner_of, all_words, next_of, total_words}
+use Rattle.ps_resolve.specs.Privates.{words_in, private_words, owner_of, all_words, total_words}
+use Rattle.ps_linkinfo.specs.Counts.{next_of}
+use Rattle.ps_resolve.specs.Standing.Privates.{records_before, private_offset}
+use Rattle.ps_resolve.specs.LinkedBytes.{summed_edits, summed, HaveSummedOffsets, segments_of}
 use Rattle.ps_resolve.specs.References.{Known, words_taken, record_edits, records_edits}
 use Rattle.ps_resolve.specs.Linking.{Edited, edited_from, known_of, data_edits, segment_edits}
-use Rattle.ps_resolve.specs.LinkedBytes.{records_before, private_offset, summed_edits, summed, HaveSummedOffsets, segments_of}
 use Rattle.ps_laws.proofs.Segments.{Ascends, ascend}
 use Rattle.ps_laws.proofs.Privates.{AreBelow, below_from, below_more, words_split}
 use Rattle.ps_words.specs.declared.order.Order.{Order}
@@ -21,14 +23,14 @@ use Rattle.ps_words.specs.declared.edit.Edit.TheVariants.{Byte}
 abbrev words : List Record → ℕ
 words rs = sum_by (λ (r : Record). words_taken r.body) rs
 
-pub one_more : (r : Record) (rs : List Record) → words_of (r ∷ rs) ≡ words_taken r.body + words_of rs
+pub one_more : (r : Record) (rs : List Record) → private_words (r ∷ rs) ≡ words_taken r.body + private_words rs
 one_more r rs = go (words_in r.body) refl
   where
-    go : (w : Option ℕ) → words_in r.body ≡ w → words_of (r ∷ rs) ≡ words_taken r.body + words_of rs
-    go None e = rw (e, words_of, words_taken) (omega arith)
-    go (Some w) e = rw (e, words_of, words_taken) refl
+    go : (w : Option ℕ) → words_in r.body ≡ w → private_words (r ∷ rs) ≡ words_taken r.body + private_words rs
+    go None e = rw (e, private_words, words_taken) (omega arith)
+    go (Some w) e = rw (e, private_words, words_taken) refl
 
-words_are : (rs : List Record) → words rs ≡ words_of rs
+words_are : (rs : List Record) → words rs ≡ private_words rs
 words_are [] = refl
 words_are (r ∷ rs) =
     let a = sum_by-cons (λ (q : Record). words_taken q.body) r rs in
@@ -88,7 +90,7 @@ none_behind slot rec from (s ∷ ss) h a =
     omega (arith, x, y, z, n)
 
 offset_is : (front : List Segment) (s : Segment) (rest : List Segment) (rec : ℕ) → AreBelow s.slot front → Ascends (s.slot + 1) rest
-    → private_offset (front ++ s ∷ rest) s.slot rec ≡ next_of (host_records (front ++ s ∷ rest)) + all_words (map owner_of front) + words_of (take rec s.records)
+    → private_offset (front ++ s ∷ rest) s.slot rec ≡ next_of (host_records (front ++ s ∷ rest)) + all_words (map owner_of front) + private_words (take rec s.records)
 offset_is front s rest rec below ascends =
     let e = ap words (flat_map-append (records_before s.slot rec) front (s ∷ rest)) in
     let f = sum_by-append (λ (r : Record). words_taken r.body) (flat_map (records_before s.slot rec) front) (flat_map (records_before s.slot rec) (s ∷ rest)) in
@@ -101,13 +103,13 @@ offset_is front s rest rec below ascends =
 
 -- the offsets of a segment among all
 pub summed_in : (all front : List Segment) (s : Segment) (rest : List Segment) (from : ℕ) → all ≡ front ++ s ∷ rest → AreBelow from front → Ascends from (s ∷ rest)
-    → (rec : ℕ) → private_offset all s.slot rec ≡ next_of (host_records all) + all_words (map owner_of front) + words_of (take rec s.records)
+    → (rec : ℕ) → private_offset all s.slot rec ≡ next_of (host_records all) + all_words (map owner_of front) + private_words (take rec s.records)
 summed_in all front s rest from is below ascends rec =
-    subst (λ (segs : List Segment). private_offset segs s.slot rec ≡ next_of (host_records segs) + all_words (map owner_of front) + words_of (take rec s.records)) (sym is)
+    subst (λ (segs : List Segment). private_offset segs s.slot rec ≡ next_of (host_records segs) + all_words (map owner_of front) + private_words (take rec s.records)) (sym is)
     (offset_is front s rest rec (below_from from s.slot front ascends.0 below) ascends.1)
 
 -- the edits of records, each with its own offset
-records_summed : (known : Known) (code : List ℕ) (offset : ℕ → ℕ) (rs : List Record) (rec off : ℕ) → ((n : ℕ) → offset (rec + n) ≡ off + words_of (take n rs))
+records_summed : (known : Known) (code : List ℕ) (offset : ℕ → ℕ) (rs : List Record) (rec off : ℕ) → ((n : ℕ) → offset (rec + n) ≡ off + private_words (take n rs))
     → records_edits known code off rs ≡ flat_map (λ (r : ℕ × Record). record_edits known code (offset r.0) r.1) (enumerate_from rec rs)
 records_summed known code offset [] rec off h = refl
 records_summed known code offset (r ∷ rs) rec off h =
@@ -120,14 +122,14 @@ records_summed known code offset (r ∷ rs) rec off h =
         let e = h 0 in
         omega (arith, a, e)
 
-    later : (n : ℕ) → offset (rec + 1 + n) ≡ off + words_taken r.body + words_of (take n rs)
+    later : (n : ℕ) → offset (rec + 1 + n) ≡ off + words_taken r.body + private_words (take n rs)
     later n =
         let a : offset (rec + 1 + n) ≡ offset (rec + suc n) = ap offset (omega arith) in
         let b = h (suc n) in
         let c = one_more r (take n rs) in
         omega (arith, a, b, c)
 
-segment_summed : (order : Order) (all : List Segment) (s : Segment) (free : ℕ) → ((n : ℕ) → private_offset all s.slot n ≡ free + words_of (take n s.records))
+segment_summed : (order : Order) (all : List Segment) (s : Segment) (free : ℕ) → ((n : ℕ) → private_offset all s.slot n ≡ free + private_words (take n s.records))
     → segment_edits order (known_of all) (total_words all) free s ≡ summed_edits order all s
 segment_summed order all s free h =
     ap (λ (es : List Edit). if is_linked s.role then Byte (length s.code - 2) s.slot ∷ ((if is_host s.role then data_edits order (total_words all) s.code else []) ++ es) else [])
@@ -141,10 +143,10 @@ all_summed order all front (s ∷ rest) from is below ascends =
     let count = words_split front (s ∷ []) in
     let mine : segment_edits order (known_of all) (total_words all) start s ≡ summed_edits order all s =
     segment_summed order all s start (summed_in all front s rest from is below ascends) in
-    let later : edited_from order (known_of all) (total_words all) (start + words_of s.records) rest ≡ map (summed order all) rest =
+    let later : edited_from order (known_of all) (total_words all) (start + private_words s.records) rest ≡ map (summed order all) rest =
     ap (λ (n : ℕ). edited_from order (known_of all) (total_words all) n rest) (omega (arith, count))
     ∙ all_summed order all (front ++ s ∷ []) rest (s.slot + 1) (is ∙ sym (append_assoc front (s ∷ []) rest)) (below_more (s.slot + 1) front s (below_from from s.slot front ascends.0 below) (omega arith)) ascends.1 in
-    ap (λ (es : List Edit). made es ∷ edited_from order (known_of all) (total_words all) (start + words_of s.records) rest) mine
+    ap (λ (es : List Edit). made es ∷ edited_from order (known_of all) (total_words all) (start + private_words s.records) rest) mine
     ∙ ap (λ (es : List Edited). summed order all s ∷ es) later
   where
     made : List Edit → Edited

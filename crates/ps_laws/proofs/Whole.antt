@@ -9,7 +9,9 @@ use Rattle.ps_resolve.specs.AllFaults.{first_fault, reading_fault}
 use Rattle.ps_resolve.specs.First.{Before, Least, nothing, this}
 use Rattle.ps_resolve.specs.Sources.{order_of}
 use Rattle.ps_resolve.specs.Added.{added_fault, segments}
-use Rattle.ps_resolve.specs.Standing.{Step, OfHost, OfSlots, OfNoHost, OfLibraries, OfSources, OfAdded, OfDefinitions, OfPrivates, OfDataSize, OfReferences, turn, is_of_reading, key, Precedes, StandsIn, InRound, FaultAt, NoneStandsInReading, IsFirst}
+use Rattle.ps_resolve.specs.Standing.Keys.{Step, OfHost, OfSlots, OfNoHost, OfLibraries, OfSources, OfAdded, OfDefinitions, OfPrivates, OfDataSize, OfReferences, turn, is_of_reading, key, Precedes}
+use Rattle.ps_resolve.specs.Standing.{StandsIn, FaultAt, NoneStandsInReading, IsFirst}
+use Rattle.ps_resolve.specs.Standing.Rounds.{InRound}
 use Rattle.ps_laws.proofs.Least.{least_same, least_or_then}
 use Rattle.ps_laws.proofs.Steps.{step_1, step_2, step_3, step_4}
 use Rattle.ps_laws.proofs.Sources.{OneStop, step_5}

@@ -1,6 +1,7 @@
 ghost use Rattle.std.specs.Prelude.{◌≡◌, ℕ, List, Some, None};
 ghost use Rattle.ps_resolve.specs.AllFaults.{first_fault, reading_fault};
-ghost use Rattle.ps_resolve.specs.Standing.{IsFirst, FaultAt, NoneStandsInReading, Step};
+ghost use Rattle.ps_resolve.specs.Standing.{IsFirst, FaultAt, NoneStandsInReading};
+ghost use Rattle.ps_resolve.specs.Standing.Keys.{Step};
 ghost use Rattle.ps_words.specs.FaultPlaces.{HasItsParts};
 ghost use Rattle.ps_words.specs.declared.fault.Fault.{Fault};
 

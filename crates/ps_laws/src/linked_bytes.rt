@@ -1,5 +1,6 @@
 ghost use Rattle.std.specs.Prelude.{List, ℕ};
-ghost use Rattle.ps_resolve.specs.LinkedBytes.{HaveApartPlaces, HaveLinkedBytes, HaveOneLinkedByte, HaveSummedOffsets, NoneStands};
+ghost use Rattle.ps_resolve.specs.LinkedBytes.{HaveApartPlaces, HaveLinkedBytes, HaveOneLinkedByte, HaveSummedOffsets};
+ghost use Rattle.ps_resolve.specs.Standing.{NoneStands};
 
 use ps_linkinfo::one_reading;
 

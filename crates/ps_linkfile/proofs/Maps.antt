@@ -10,9 +10,10 @@ use Rattle.std.proofs.lemmas.Option.{same_Some, unwrap_or-slice_get}
 use Rattle.std.proofs.lemmas.List.Sums.{sum_by-cons}
 use Rattle.ps_words.specs.Words.{blocks}
 use Rattle.ps_codefile.specs.Dictionary.{slots, name_at}
-use Rattle.ps_resolve.specs.Sources.{Segment, order_of, host_records}
 use Rattle.ps_resolve.specs.Added.{segments, slot_name, slot_names}
-use Rattle.ps_resolve.specs.Privates.{next_of, total_words}
+use Rattle.ps_linkinfo.specs.Counts.{next_of}
+use Rattle.ps_resolve.specs.Privates.{total_words}
+use Rattle.ps_resolve.specs.Sources.{Segment, order_of, host_records}
 use Rattle.ps_resolve.specs.Linking.{data_size}
 use Rattle.ps_resolve.specs.Plans.{Planned, Origin, origin_of, origin_of_source, IsPlan}
 use Rattle.ps_resolve.specs.declared.definitions.Def.{Def}

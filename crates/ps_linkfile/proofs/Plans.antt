@@ -10,9 +10,10 @@ use Rattle.ps_words.specs.Edits.{patched}
 use Rattle.ps_words.specs.declared.order.Order.{Order}
 use Rattle.ps_words.specs.declared.edit.Edit.{Edit}
 use Rattle.ps_codefile.specs.Dictionary.{block_len, max_code_len}
-use Rattle.ps_resolve.specs.Sources.{Segment, order_of, host_records}
 use Rattle.ps_resolve.specs.Added.{segments, slot_names}
-use Rattle.ps_resolve.specs.Privates.{words_of, next_of, total_words}
+use Rattle.ps_resolve.specs.Privates.{private_words, total_words}
+use Rattle.ps_linkinfo.specs.Counts.{next_of}
+use Rattle.ps_resolve.specs.Sources.{Segment, order_of, host_records}
 use Rattle.ps_resolve.specs.References.{Known}
 use Rattle.ps_resolve.specs.Linking.{Edited, edited_from, known_of, segment_edits}
 use Rattle.ps_resolve.specs.Plans.{Planned, Origin, origin_of, LinkSegments, IsPlan}
@@ -32,7 +33,7 @@ extent_of_edited e = extent_of e.segment
 
 of_edited : (order : Order) (known : Known) (words free : ℕ) (ss : List Segment) → map extent_of_edited (edited_from order known words free ss) ≡ map extent_at ss
 of_edited order known words free [] = refl
-of_edited order known words free (s ∷ ss) = ap (λ (cs : List Extent). extent_at s ∷ cs) (of_edited order known words (free + words_of s.records) ss)
+of_edited order known words free (s ∷ ss) = ap (λ (cs : List Extent). extent_at s ∷ cs) (of_edited order known words (free + private_words s.records) ss)
 
 pub extents_are : (host : List ℕ) (libs : List (List ℕ)) → extents host libs ≡ map extent_at (segments (order_of host) host libs)
 extents_are host libs = refl
@@ -48,14 +49,14 @@ pub of_all_edited : (P : Segment → Type 0) (order : Order) (known : Known) (wo
 of_all_edited P order known words free [] h = All-nil P
 of_all_edited P order known words free (s ∷ ss) h =
     let e : Edited = record { segment = s; edits = segment_edits order known words free s } in
-    let rest = edited_from order known words (free + words_of s.records) ss in
-    All-cons P s ss (All-head (λ (e : Edited). P e.segment) e rest h) (of_all_edited P order known words (free + words_of s.records) ss (All-tail (λ (e : Edited). P e.segment) e rest h))
+    let rest = edited_from order known words (free + private_words s.records) ss in
+    All-cons P s ss (All-head (λ (e : Edited). P e.segment) e rest h) (of_all_edited P order known words (free + private_words s.records) ss (All-tail (λ (e : Edited). P e.segment) e rest h))
 
 pub to_all_edited : (P : Segment → Type 0) (order : Order) (known : Known) (words free : ℕ) (ss : List Segment) → All P ss → All (λ (e : Edited). P e.segment) (edited_from order known words free ss)
 to_all_edited P order known words free [] h = All-nil (λ (e : Edited). P e.segment)
 to_all_edited P order known words free (s ∷ ss) h =
-    All-cons (λ (e : Edited). P e.segment) (record { segment = s; edits = segment_edits order known words free s }) (edited_from order known words (free + words_of s.records) ss)
-    (All-head P s ss h) (to_all_edited P order known words (free + words_of s.records) ss (All-tail P s ss h))
+    All-cons (λ (e : Edited). P e.segment) (record { segment = s; edits = segment_edits order known words free s }) (edited_from order known words (free + private_words s.records) ss)
+    (All-head P s ss h) (to_all_edited P order known words (free + private_words s.records) ss (All-tail P s ss h))
 
 pub extents_ascend : (host : List ℕ) (libs : List (List ℕ)) → Ascend 0 (extents host libs)
 extents_ascend host libs = subst (λ (cs : List Extent). Ascend 0 cs) (sym (extents_are host libs)) (segments_ascend (order_of host) host libs)
@@ -65,7 +66,7 @@ have_edits : (order : Order) (known : Known) (words free : ℕ) (ss : List Segme
 have_edits order known words free [] [] h = tt
 have_edits order known words free [] (d ∷ ds) h = absurd h
 have_edits order known words free (s ∷ ss) [] h = absurd h
-have_edits order known words free (s ∷ ss) (d ∷ ds) h = (h.0.ready, have_edits order known words (free + words_of s.records) ss ds h.1)
+have_edits order known words free (s ∷ ss) (d ∷ ds) h = (h.0.ready, have_edits order known words (free + private_words s.records) ss ds h.1)
 
 -- codes that are patched alike are padded alike
 map_alike : (f g : ℕ → ℕ) → ((p : ℕ) → f p ≡ g p) → (xs : List ℕ) → map f xs ≡ map g xs
@@ -88,7 +89,7 @@ codes_are order known words free [] (d ∷ ds) h = absurd h
 codes_are order known words free (s ∷ ss) [] h = absurd h
 codes_are order known words free (s ∷ ss) (d ∷ ds) h =
     ap (λ (bs : List ℕ). bs ++ padded_codes order (map origin_of ss) ds) (padded_alike order s.code d (segment_edits order known words free s) h.0.bytes)
-    ∙ ap (λ (bs : List ℕ). padded order s.code (segment_edits order known words free s) ++ bs) (codes_are order known words (free + words_of s.records) ss ds h.1)
+    ∙ ap (λ (bs : List ℕ). padded order s.code (segment_edits order known words free s) ++ bs) (codes_are order known words (free + private_words s.records) ss ds h.1)
 
 -- of a plan of a link
 pub plan_extents : (host : List ℕ) (libs : List (List ℕ)) (plan : Planned) → IsPlan host libs plan → extents_of plan ≡ extents host libs

@@ -5,11 +5,11 @@ use Rattle.std.proofs.lemmas.Bool.Decides.{nat_tests}
 use Rattle.std.specs.declared.io.Error.{Error}
 use Rattle.ps_words.specs.Words.{blocks}
 use Rattle.ps_codefile.specs.Dictionary.{max_code_len}
+use Rattle.ps_linkfile.specs.Counts.{AreAtMost, CanCount, counted, Rises, NoneFailed, OneError, OneStall, OneFailed, IfDevice, IfStalled}
 use Rattle.ps_resolve.specs.Plans.{Origin}
 use Rattle.ps_linkfile.specs.declared.counts.Counts.{Counts}
 use Rattle.ps_linkfile.specs.declared.error.WriteFault.{WriteFault}
 use Rattle.ps_linkfile.specs.declared.error.WriteFault.TheVariants.{Device, Stalled}
-use Rattle.ps_linkfile.specs.Counts.{AreAtMost, HasRoom, counted, Rises, NoneFailed, OneError, OneStall, OneFailed, IfDevice, IfStalled}
 use Rattle.ps_linkfile.specs.LinkedFile.{Extent, all_blocks}
 use Rattle.ps_linkfile.specs.Writing.{extent_of_origin, Ascend}
 use Rattle.ps_linkfile.proofs.Extents.{all_blocks-cons, few_codes, few_blocks}
@@ -61,7 +61,7 @@ if_stalled old new (Device error) h = tt
 if_stalled old new Stalled h = h
 
 -- small counts have room for a file
-pub room_for : (c : Counts) (n : ℕ) → AreAtMost c 4294967296 → n ≤ 4294967296 → HasRoom c n
+pub room_for : (c : Counts) (n : ℕ) → AreAtMost c 4294967296 → n ≤ 4294967296 → CanCount c n
 room_for c n h le = record {
   writes = omega (arith, h.writes, le);
   errors = omega (arith, h.errors, le);
@@ -70,7 +70,7 @@ room_for c n h le = record {
 }
 
 -- room that is left after some pieces
-pub room_left : (a b : Counts) (size m x n : ℕ) → HasRoom a size → Rises a b m x → NoneFailed a b → m + n ≤ size → HasRoom b n
+pub room_left : (a b : Counts) (size m x n : ℕ) → CanCount a size → Rises a b m x → NoneFailed a b → m + n ≤ size → CanCount b n
 room_left a b size m x n room h none le = record {
   writes = omega (arith, room.writes, h.by_bytes, le);
   errors = omega (arith, room.errors, none.errors, le);
@@ -128,7 +128,7 @@ blocks_stop os count n o a b c at h k =
 
 -- there is room for the blocks of one source more
 pub blocks_room : (os : List Origin) (count n : ℕ) (o : Origin) (a b : Counts) → drop count os ≡ o ∷ drop (count + 1) os → BlocksSoFar os count n a b
-    → HasRoom a (512 * blocks_in os) → HasRoom b (512 * blocks (length o.code))
+    → CanCount a (512 * blocks_in os) → CanCount b (512 * blocks (length o.code))
 blocks_room os count n o a b at h room =
     let one = blocks (length o.code) in
     room_left a b (512 * blocks_in os) (512 * n) n (512 * one) room h.rises h.none (within n one (blocks_in (drop (count + 1) os)) (blocks_in os) (next_blocks os count n o at h.sum))

@@ -11,10 +11,10 @@ use Rattle.ps_words.specs.declared.order.Order.{Order}
 use Rattle.ps_words.specs.declared.fault.Reason.{Reason}
 use Rattle.ps_words.specs.declared.fault.Reason.TheVariants as reason
 use Rattle.ps_codefile.specs.Dictionary.{slots, block_len, max_code_len, code_of, has_bad_length, entry_at, role_of}
+use Rattle.ps_resolve.specs.Added.{segments, segment_at, added, added_segment, as_added, placed_fault, rounds, rounds_from, sought_from, unit_references, all_unit_references, empty_slots}
 use Rattle.ps_codefile.specs.declared.entry.Entry.{Entry}
 use Rattle.ps_codefile.specs.declared.entry.Role.{Role}
 use Rattle.ps_resolve.specs.Sources.{Segment, own_segment, own_segments, segment_from, source_of, unit_source, units_of, file_at, is_empty}
-use Rattle.ps_resolve.specs.Added.{segments, segment_at, added, added_segment, as_added, placed_fault, rounds, rounds_from, sought_from, unit_references, references_in, empty_slots}
 use Rattle.ps_resolve.specs.Faults.{is_role}
 use Rattle.ps_resolve.specs.declared.added.UnitReference.{UnitReference}
 use Rattle.ps_words.specs.declared.fault.Fault.{Fault}
@@ -99,7 +99,7 @@ rounds_small order host libs units (slot ∷ left) k row = by (λ next. rounds_s
 added_small : (order : Order) (host : List ℕ) (libs : List (List ℕ)) → All IsSmall (added order host libs)
 unfolding rounds
 added_small order host libs =
-    let own = own_segments order host libs in rounds_small order host libs (units_of own) (empty_slots order host) 0 (sought_from (units_of own) [] (references_in own))
+    let own = own_segments order host libs in rounds_small order host libs (units_of own) (empty_slots order host) 0 (sought_from (units_of own) [] (all_unit_references own))
 
 -- what is found passes the test, and has what all have
 find_has : (P : Segment → Type 0) (test : Segment → Bool) (xs : List Segment) (x : Segment) → find test xs ≡ Some x → All P xs → (test x ≡ true) × P x

@@ -16,14 +16,15 @@ use Rattle.ps_words.specs.declared.fault.Reason.TheVariants as reason
 use Rattle.ps_words.specs.declared.fault.Fault.{Fault}
 use Rattle.ps_words.specs.FaultPlaces.{in_file}
 use Rattle.ps_codefile.specs.Dictionary.{slots, Opened, file_order, opened_as}
-use Rattle.ps_resolve.specs.Sources.{Segment, order_of, host_records}
-use Rattle.ps_resolve.specs.Privates.{next_of, total_words}
-use Rattle.ps_resolve.specs.LinkedBytes.{IsLinkedByte, NoneStands, segments_of, HaveLinkedBytes, HaveOneLinkedByte}
+use Rattle.ps_linkinfo.specs.Counts.{next_of}
+use Rattle.ps_resolve.specs.Privates.{total_words}
+use Rattle.ps_resolve.specs.LinkedBytes.{IsLinkedByte, segments_of, HaveLinkedBytes, HaveOneLinkedByte}
+use Rattle.ps_resolve.specs.Standing.{NoneStands, IsFirst}
 use Rattle.ps_resolve.specs.Added.{segments, slot_names}
+use Rattle.ps_resolve.specs.Sources.{Segment, order_of, host_records}
 use Rattle.ps_resolve.specs.Linking.{Edited, known_of, linked_byte}
 use Rattle.ps_resolve.specs.Faults.{host_fault}
 use Rattle.ps_resolve.specs.AllFaults.{first_fault, reading_fault}
-use Rattle.ps_resolve.specs.Standing.{IsFirst}
 use Rattle.ps_patch.specs.Patched.{patched_or_zero}
 use Rattle.ps_linkfile.specs.LinkedFile.{Extent, all_blocks, block_of, pair_of, linked_segments, extents, LinkedFile, all_pairs, dictionary, padded_segment, linked_file}
 use Rattle.ps_linkfile.specs.Writing.{Ascend}

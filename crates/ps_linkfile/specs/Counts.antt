@@ -15,7 +15,7 @@ pub record AreAtMost (counts : Counts) (n : ℕ) : Type 0 where
   pub shorts : counts.shorts ≤ n
 
 -- each count may rise by n, and is then still a u64
-pub record HasRoom (counts : Counts) (n : ℕ) : Type 0 where
+pub record CanCount (counts : Counts) (n : ℕ) : Type 0 where
   pub writes : counts.writes + n < 2 ^ 64
   pub errors : counts.errors + n < 2 ^ 64
   pub stalls : counts.stalls + n < 2 ^ 64

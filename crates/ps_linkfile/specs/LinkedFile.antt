@@ -7,11 +7,12 @@ use Rattle.ps_words.specs.Words.{word_bytes, blocks}
 use Rattle.ps_words.specs.declared.order.Order.{Order}
 use Rattle.ps_words.specs.declared.edit.Edit.{Edit}
 use Rattle.ps_codefile.specs.Dictionary.{slots, block_len, names_start, kinds_start, tail_start}
-use Rattle.ps_resolve.specs.Sources.{Segment, order_of}
 use Rattle.ps_resolve.specs.Added.{segments, slot_names}
 use Rattle.ps_resolve.specs.Privates.{total_words}
+use Rattle.ps_resolve.specs.LinkedBytes.{IsLinkedByte, segments_of}
+use Rattle.ps_resolve.specs.Standing.{NoneStands}
+use Rattle.ps_resolve.specs.Sources.{Segment, order_of}
 use Rattle.ps_resolve.specs.Linking.{Edited, edited}
-use Rattle.ps_resolve.specs.LinkedBytes.{IsLinkedByte, NoneStands, segments_of}
 use Rattle.ps_patch.specs.Patched.{patched_or_zero}
 use Rattle.ps_linkfile.specs.declared.summary.Summary.{Summary}
 

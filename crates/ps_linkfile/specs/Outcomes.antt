@@ -4,8 +4,7 @@ use Rattle.std.specs.Prelude.{◌≡◌, ℕ, List, Option, Some, None, take, �
 use Rattle.std.specs.Io.KnownBytes.{Appends}
 use Rattle.ps_words.specs.FaultPlaces.{HasItsParts}
 use Rattle.ps_resolve.specs.AllFaults.{first_fault, reading_fault}
-use Rattle.ps_resolve.specs.Standing.{NoneStandsInReading, IsFirst}
-use Rattle.ps_resolve.specs.LinkedBytes.{NoneStands}
+use Rattle.ps_resolve.specs.Standing.{NoneStandsInReading, IsFirst, NoneStands}
 use Rattle.ps_resolve.specs.declared.linkage.Stop.{Stop}
 use Rattle.ps_resolve.specs.declared.linkage.Stop.TheVariants as stop
 use Rattle.ps_linkfile.specs.LinkedFile.{LinkedFile}

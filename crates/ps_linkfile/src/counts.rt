@@ -17,7 +17,7 @@ pub struct Counts {
 
 impl Counts {
     ghost use Rattle.std.specs.Prelude.{◌≡◌};
-    ghost use Rattle.ps_linkfile.specs.Counts.{no_counts, counted, HasRoom};
+    ghost use Rattle.ps_linkfile.specs.Counts.{no_counts, counted, CanCount};
 
     /// The counts before the first write.
     pub(crate) fn new() -> Counts
@@ -33,7 +33,7 @@ impl Counts {
 
     /// Counts a write of so many bytes, by its result.
     pub(crate) fn count(&mut self, size: usize, answer: &io::Result<usize>)
-        requires { HasRoom self.old 1 }
+        requires { CanCount self.old 1 }
         ensures { self.new ≡ counted self.old size answer.now }
     {
         self.writes += 1;

@@ -1,7 +1,7 @@
 ghost use Rattle.std.specs.Prelude.{◌≡◌, ◌+◌, map, length, IfOk, IfErr, OnOk, OnErr};
 ghost use Rattle.ps_resolve.specs.Sources.{contents};
 ghost use Rattle.std.specs.Io.KnownBytes.{Appends};
-ghost use Rattle.ps_resolve.specs.LinkedBytes.{NoneStands};
+ghost use Rattle.ps_resolve.specs.Standing.{NoneStands};
 ghost use Rattle.ps_linkfile.specs.LinkedFile.{all_blocks, summary_of};
 ghost use Rattle.ps_linkfile.specs.Writing.{extents_of, file_of, summary_in, StandsFor};
 ghost use Rattle.ps_linkfile.specs.Outcomes.{AppendsFront, AppendsLinkedFile, NamesFirst, IsUnprepared, IsUnlinked, LeavesUntouched, LeavesFront};

@@ -3,7 +3,7 @@ ghost use Rattle.std.specs.Prelude.{◌≡◌, ◌+◌, ◌++◌, None, IfOk, If
 ghost use Rattle.ps_resolve.specs.Sources.{contents};
 ghost use Rattle.std.specs.List.{flat_map};
 ghost use Rattle.ps_resolve.specs.AllFaults.{first_fault};
-ghost use Rattle.ps_resolve.specs.LinkedBytes.{NoneStands};
+ghost use Rattle.ps_resolve.specs.Standing.{NoneStands};
 ghost use Rattle.ps_linkfile.specs.LinkedFile.{all_blocks};
 ghost use Rattle.ps_linkfile.specs.Writing.{extents_of, IsReady};
 ghost use Rattle.ps_linkfile.specs.Outcomes.{IsUnprepared, NamesFirst};

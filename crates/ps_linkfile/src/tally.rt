@@ -2,7 +2,7 @@ ghost use Rattle.std.specs.Prelude.{◌≡◌, length};
 ghost use Rattle.std.specs.Io.{WritesAtMost};
 ghost use Rattle.std.specs.Io.KnownBytes.{WriteAppends};
 ghost use Rattle.ps_linkfile.specs.declared.counts.Counts.{Counts};
-ghost use Rattle.ps_linkfile.specs.Counts.{counted, HasRoom};
+ghost use Rattle.ps_linkfile.specs.Counts.{counted, CanCount};
 
 use crate::counts::Counts;
 use crate::told::ToldWriter;
@@ -17,7 +17,7 @@ pub(crate) trait Tally<W: Write> {
 
     /// Makes one write of these bytes, and counts it.
     fn write(&mut self, out: &mut W, bytes: &[u8]) -> io::Result<usize>
-        requires { HasRoom (counts self.old out.old) 1 }
+        requires { CanCount (counts self.old out.old) 1 }
         ensures bound { WritesAtMost result bytes.now }
         ensures bytes { WriteAppends (W.contents out.old) (W.contents out.new) result bytes.now }
         ensures counts { counts self.new out.new ≡ counted (counts self.old out.old) (length bytes.now) result };

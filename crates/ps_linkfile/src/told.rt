@@ -2,7 +2,7 @@ ghost use Rattle.std.specs.Prelude.{◌≡◌, length};
 ghost use Rattle.std.specs.Io.{WritesAtMost};
 ghost use Rattle.std.specs.Io.KnownBytes.{WriteAppends, Keeps};
 ghost use Rattle.ps_linkfile.specs.declared.counts.Counts.{Counts};
-ghost use Rattle.ps_linkfile.specs.Counts.{counted, no_counts, HasRoom};
+ghost use Rattle.ps_linkfile.specs.Counts.{counted, no_counts, CanCount};
 
 use crate::counts::Counts;
 use crate::tally::Tally;
@@ -38,7 +38,7 @@ pub trait ToldWriter: Write {
     /// Each count is below `u64::MAX` before. Returns how many of the bytes, from the first on, were
     /// taken, or the error of the write.
     fn told_write(&mut self, bytes: &[u8]) -> io::Result<usize>
-        requires { HasRoom (counts self.old) 1 }
+        requires { CanCount (counts self.old) 1 }
         ensures bound { WritesAtMost result bytes.now }
         ensures bytes { WriteAppends (Self.contents self.old) (Self.contents self.new) result bytes.now }
         ensures counts { counts self.new ≡ counted (counts self.old) (length bytes.now) result };

@@ -6,7 +6,7 @@ ghost use Rattle.ps_codefile.specs.Dictionary.{block_len};
 ghost use Rattle.ps_linkfile.specs.LinkedFile.{all_blocks, padded};
 ghost use Rattle.ps_linkfile.specs.Writing.{extents_of, file_of, padded_codes, summary_in, HaveEdits, IsReady};
 ghost use Rattle.ps_linkfile.specs.Outcomes.{AppendsFront};
-ghost use Rattle.ps_linkfile.specs.Counts.{AreAtMost, HasRoom, NoneFailed, OneFailed, Rises};
+ghost use Rattle.ps_linkfile.specs.Counts.{AreAtMost, CanCount, NoneFailed, OneFailed, Rises};
 
 use crate::dictionary::dictionary_of;
 use crate::error::WriteFault;
@@ -23,7 +23,7 @@ fn write_all_of<W: Write, T: Tally<W>>(
     tally: &mut T,
     bytes: &[u8],
 ) -> Result<(), WriteFault>
-    requires { HasRoom (T.counts tally.old out.old) (length bytes.now) }
+    requires { CanCount (T.counts tally.old out.old) (length bytes.now) }
     ensures all { OnOk result (Appends (W.contents out.old) (W.contents out.new) bytes.now) }
     ensures front { OnErr result (AppendsFront (W.contents out.old) (W.contents out.new) bytes.now) }
     ensures writes { Rises (T.counts tally.old out.old) (T.counts tally.new out.new) (length bytes.now) 1 }
@@ -50,7 +50,7 @@ fn write_code<W: Write, T: Tally<W>>(
     tally: &mut T,
 ) -> Result<(), WriteFault>
     requires edits { AreEdits (length code.now) edits.now }
-    requires room { HasRoom (T.counts tally.old out.old) (block_len * blocks (length code.now)) }
+    requires room { CanCount (T.counts tally.old out.old) (block_len * blocks (length code.now)) }
     ensures all { OnOk result (Appends (W.contents out.old) (W.contents out.new) (padded order code.now edits.now)) }
     ensures front { OnErr result (AppendsFront (W.contents out.old) (W.contents out.new) (padded order code.now edits.now)) }
     ensures writes { Rises (T.counts tally.old out.old) (T.counts tally.new out.new) (block_len * blocks (length code.now)) (blocks (length code.now)) }
@@ -74,7 +74,7 @@ fn write_codes<A: Allocator + Copy, W: Write, T: Tally<W>>(
     tally: &mut T,
 ) -> Result<(), WriteFault>
     requires edits { HaveEdits plan.now.origins plan.now.edits }
-    requires room { HasRoom (T.counts tally.old out.old) (block_len * all_blocks (extents_of plan.now)) }
+    requires room { CanCount (T.counts tally.old out.old) (block_len * all_blocks (extents_of plan.now)) }
     ensures all { OnOk result (Appends (W.contents out.old) (W.contents out.new) (padded_codes plan.now.order plan.now.origins plan.now.edits)) }
     ensures front { OnErr result (AppendsFront (W.contents out.old) (W.contents out.new) (padded_codes plan.now.order plan.now.origins plan.now.edits)) }
     ensures writes { Rises (T.counts tally.old out.old) (T.counts tally.new out.new) (block_len * all_blocks (extents_of plan.now)) (all_blocks (extents_of plan.now)) }

@@ -5,7 +5,7 @@ use Rattle.std.specs.Result.{result_ok}
 use Rattle.ps_words.specs.declared.order.Order.{Order}
 use Rattle.ps_words.specs.declared.fault.Reason.{Reason}
 use Rattle.ps_linkinfo.specs.Records.{AreSpelled, BeginsWith, reading, read_from, record_at, size_of, is_eof, bad, used_by}
-use Rattle.ps_linkinfo.specs.Walk.{Walk, Advances, HasGiven, left_of, start_of}
+use Rattle.ps_linkinfo.specs.Walk.{Walk, Advances, HasGiven, left_of, whole_walk}
 use Rattle.ps_linkinfo.specs.Left.{items_of, items_at, left, records_left, fault_in, fault_left}
 use Rattle.ps_linkinfo.proofs.Spelled.{spelled_more, used_more, used_cons}
 use Rattle.ps_linkinfo.proofs.Readings.{record_is}
@@ -28,14 +28,14 @@ fault_of_items [] (Some why) = refl
 fault_of_items (r ∷ rs) why = fault_of_items rs why
 
 -- a walk begins with all items
-pub items_first : (order : Order) (bytes : List ℕ) → left (start_of order bytes) ≡ items_of (reading order bytes)
+pub items_first : (order : Order) (bytes : List ℕ) → left (whole_walk order bytes) ≡ items_of (reading order bytes)
 unfolding items_at
 items_first order bytes = refl
 
-pub records_first : (order : Order) (bytes : List ℕ) → records_left (start_of order bytes) ≡ (reading order bytes).0
+pub records_first : (order : Order) (bytes : List ℕ) → records_left (whole_walk order bytes) ≡ (reading order bytes).0
 records_first order bytes = ap (λ (is : List (Result Record Reason)). filter_map result_ok is) (items_first order bytes) ∙ oks_of_items (reading order bytes).0 (reading order bytes).1
 
-pub fault_first : (order : Order) (bytes : List ℕ) → fault_left (start_of order bytes) ≡ (reading order bytes).1
+pub fault_first : (order : Order) (bytes : List ℕ) → fault_left (whole_walk order bytes) ≡ (reading order bytes).1
 fault_first order bytes = ap fault_in (items_first order bytes) ∙ fault_of_items (reading order bytes).0 (reading order bytes).1
 
 -- a record takes 16 bytes at least
@@ -77,7 +77,7 @@ few_left w = at w.ended refl
     at false e = rw e count
 
 -- what a walk has given
-pub given_first : (order : Order) (bytes : List ℕ) → HasGiven (start_of order bytes) []
+pub given_first : (order : Order) (bytes : List ℕ) → HasGiven (whole_walk order bytes) []
 given_first order bytes = record { spelled = tt; used = refl }
 
 pub given_more : (w v : Walk) (rs : List Record) (r : Record) → HasGiven w rs → Advances w (Some (Ok r)) v → HasGiven v (rs ++ r ∷ [])

@@ -19,31 +19,31 @@ is_definition (PrivRef words refs) = false
 is_definition (Eof next) = false
 
 -- the body asks for a private variable: PRIVREF
-abbrev pub is_private : Body → Bool
-is_private (PrivRef words refs) = true
-is_private (UnitRef refs) = false
-is_private (PublRef refs) = false
-is_private (PublDef value) = false
-is_private (ConstDef value) = false
-is_private (Eof next) = false
+abbrev pub is_private_reference : Body → Bool
+is_private_reference (PrivRef words refs) = true
+is_private_reference (UnitRef refs) = false
+is_private_reference (PublRef refs) = false
+is_private_reference (PublDef value) = false
+is_private_reference (ConstDef value) = false
+is_private_reference (Eof next) = false
 
 -- the body asks for a public variable: PUBLREF
-abbrev pub is_public : Body → Bool
-is_public (PublRef refs) = true
-is_public (UnitRef refs) = false
-is_public (PrivRef words refs) = false
-is_public (PublDef value) = false
-is_public (ConstDef value) = false
-is_public (Eof next) = false
+abbrev pub is_public_reference : Body → Bool
+is_public_reference (PublRef refs) = true
+is_public_reference (UnitRef refs) = false
+is_public_reference (PrivRef words refs) = false
+is_public_reference (PublDef value) = false
+is_public_reference (ConstDef value) = false
+is_public_reference (Eof next) = false
 
 -- the body asks for a unit: UNITREF
-abbrev pub is_unit : Body → Bool
-is_unit (UnitRef refs) = true
-is_unit (PublRef refs) = false
-is_unit (PrivRef words refs) = false
-is_unit (PublDef value) = false
-is_unit (ConstDef value) = false
-is_unit (Eof next) = false
+abbrev pub is_unit_reference : Body → Bool
+is_unit_reference (UnitRef refs) = true
+is_unit_reference (PublRef refs) = false
+is_unit_reference (PrivRef words refs) = false
+is_unit_reference (PublDef value) = false
+is_unit_reference (ConstDef value) = false
+is_unit_reference (Eof next) = false
 
 -- how many records define a name
 abbrev pub definitions_in : List Record → ℕ
@@ -51,15 +51,15 @@ definitions_in rs = count_by (λ r. is_definition r.body) rs
 
 -- how many records ask for a private
 abbrev pub privates_in : List Record → ℕ
-privates_in rs = count_by (λ r. is_private r.body) rs
+privates_in rs = count_by (λ r. is_private_reference r.body) rs
 
 -- how many records ask for a public variable
 abbrev pub publics_in : List Record → ℕ
-publics_in rs = count_by (λ r. is_public r.body) rs
+publics_in rs = count_by (λ r. is_public_reference r.body) rs
 
 -- how many records ask for a unit
 abbrev pub units_in : List Record → ℕ
-units_in rs = count_by (λ r. is_unit r.body) rs
+units_in rs = count_by (λ r. is_unit_reference r.body) rs
 
 -- how many references all records have together
 abbrev pub references_in : List Record → ℕ
@@ -80,7 +80,7 @@ next_of rs = unwrap_or (slice_get (filter_map (λ r. next_in r.body) rs) 0) 0
 
 -- the record gives its own name to something: a definition's, or a private's
 abbrev pub names_its_own : Record → Bool
-names_its_own r = is_definition r.body || is_private r.body
+names_its_own r = is_definition r.body || is_private_reference r.body
 
 -- the state of a hash with the name of a record, if it is a definition's or a private's
 abbrev pub with_own_name : DefaultHasher → Record → DefaultHasher

@@ -14,8 +14,8 @@ pub record Walk : Type 0 where
   pub ended : Bool
 
 -- a walk that has given nothing yet
-abbrev pub start_of : Order → List ℕ → Walk
-start_of order bytes = record { order = order; bytes = bytes; used = 0; ended = false }
+abbrev pub whole_walk : Order → List ℕ → Walk
+whole_walk order bytes = record { order = order; bytes = bytes; used = 0; ended = false }
 
 -- what may be given next, and where that leads: None once the walk has ended; else the fault that stands at `used`, which ends it, or the record there, which ends it where it is an EOFMARK
 abbrev pub Advances : Walk → Option (Result Record Reason) → Walk → Type 0

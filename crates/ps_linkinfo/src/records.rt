@@ -1,6 +1,6 @@
 ghost use Rattle.std.specs.Prelude.{◌≡◌, false};
 ghost use Rattle.std.specs.Iterator.{YieldsFirst};
-ghost use Rattle.ps_linkinfo.specs.Walk.{Advances, start_of};
+ghost use Rattle.ps_linkinfo.specs.Walk.{Advances, whole_walk};
 ghost use Rattle.ps_linkinfo.specs.Left.{left};
 
 use crate::front::record_from;
@@ -37,7 +37,7 @@ impl<'a> Model for Records<'a> {
 impl<'a> Records<'a> {
     /// A walk that begins at the first of the bytes.
     pub fn new(order: Order, bytes: &'a [u8]) -> Self
-        ensures { result ≡ start_of order bytes.now }
+        ensures { result ≡ whole_walk order bytes.now }
     {
         Records {
             order,

@@ -12,12 +12,13 @@ use Rattle.ps_words.specs.declared.order.Order.{Order}
 use Rattle.ps_words.specs.declared.fault.Reason.{Reason}
 use Rattle.ps_words.specs.declared.fault.Reason.TheVariants as reason
 use Rattle.ps_codefile.specs.Dictionary.{slots}
+use Rattle.ps_resolve.specs.Added.{is_missing, as_added, is_had, unit_references, sought_from, unplaced_fault, placed_fault, added_segment, Rounds, after, rounds_from}
+use Rattle.ps_linkinfo.specs.Counts.{is_unit_reference}
 use Rattle.ps_codefile.specs.declared.entry.Role.TheVariants.{Wanted}
 use Rattle.ps_words.specs.declared.fault.Fault.{Fault}
 use Rattle.ps_linkinfo.specs.declared.record.LinkRecord.{LinkRecord as Record}
 use Rattle.ps_resolve.specs.Sources.{Segment, segment_from, chosen_library, is_named}
 use Rattle.ps_resolve.specs.Faults.{code_fault, entries_reason}
-use Rattle.ps_resolve.specs.Added.{is_missing, as_added, is_had, is_unit_reference, unit_references, sought_from, unplaced_fault, placed_fault, added_segment, Rounds, after, rounds_from}
 use Rattle.ps_resolve.specs.declared.added.UnitReference.{UnitReference}
 
 -- names that are sought behind others

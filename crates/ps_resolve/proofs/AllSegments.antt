@@ -6,14 +6,14 @@ use Rattle.ps_words.specs.declared.order.Order.{Order}
 use Rattle.ps_words.specs.declared.edit.Edit.{Edit}
 use Rattle.ps_words.specs.declared.fault.Fault.{Fault}
 use Rattle.ps_codefile.specs.Procedures.{is_reserved}
+use Rattle.ps_resolve.specs.Privates.{owner_of, private_words, all_words}
+use Rattle.ps_resolve.specs.Edits.{IsOfSegment, IsOfTable, AreOfReferences}
+use Rattle.ps_resolve.specs.Views.{segment_of}
 use Rattle.ps_resolve.specs.Sources.{Segment, is_host}
-use Rattle.ps_resolve.specs.Privates.{owner_of, words_of, all_words}
 use Rattle.ps_resolve.specs.References.{Known, records_fault}
 use Rattle.ps_resolve.specs.Linking.{Edited, segment_edits, edited_from}
-use Rattle.ps_resolve.specs.Edits.{IsOfSegment, IsOfTable, AreOfReferences}
 use Rattle.ps_resolve.specs.Faults.{segment_fault, references_fault_from}
 use Rattle.ps_resolve.specs.Plans.{LinksSegment, LinkSegments}
-use Rattle.ps_resolve.specs.Views.{segment_of}
 use Rattle.ps_resolve.specs.declared.segment.Segment.{Segment as SegmentView}
 use Rattle.ps_resolve.specs.declared.linkage.Stop.{Stop}
 use Rattle.ps_resolve.specs.declared.linkage.Stop.TheVariants.{Refused, Memory}
@@ -34,10 +34,10 @@ module _ (order : Order) (known : Known) (ss : List SegmentView) (i : ℕ) (v : 
   front : map (segment_of order) (drop i ss) ≡ segment_of order v ∷ map (segment_of order) (drop (i + 1) ss)
   front = ap (map (segment_of order)) (drop_at ss i v lt is)
 
-  words_front : all_words (map owner_of (map (segment_of order) (drop i ss))) ≡ words_of (segment_of order v).records + all_words (map owner_of (map (segment_of order) (drop (i + 1) ss)))
+  words_front : all_words (map owner_of (map (segment_of order) (drop i ss))) ≡ private_words (segment_of order v).records + all_words (map owner_of (map (segment_of order) (drop (i + 1) ss)))
   words_front = ap (λ (xs : List Segment). all_words (map owner_of xs)) front
 
-  pub room_at : (total : ℕ) → free + all_words (map owner_of (map (segment_of order) (drop i ss))) ≡ total → total < 65536 → free + words_of (segment_of order v).records < 65536
+  pub room_at : (total : ℕ) → free + all_words (map owner_of (map (segment_of order) (drop i ss))) ≡ total → total < 65536 → free + private_words (segment_of order v).records < 65536
   room_at total h lt = omega (arith, words_front)
 
   pub stop_at : (base : ℕ) (stop : Stop) → references_fault_from order known free (map (segment_of order) (drop i ss)) ≡ references_fault_from order known base (map (segment_of order) ss)
@@ -45,7 +45,7 @@ module _ (order : Order) (known : Known) (ss : List SegmentView) (i : ℕ) (v : 
   stop_at base (Refused fault) h d = sym h ∙ ap (references_fault_from order known free) front ∙ keep _ _ fault d
   stop_at base Memory h d = tt
 
-  module _ (end : ℕ) (goes : end ≡ free + words_of (segment_of order v).records) where
+  module _ (end : ℕ) (goes : end ≡ free + private_words (segment_of order v).records) where
     pub words_on : (total : ℕ) → free + all_words (map owner_of (map (segment_of order) (drop i ss))) ≡ total → end + all_words (map owner_of (map (segment_of order) (drop (i + 1) ss))) ≡ total
     words_on total h = omega (arith, words_front, goes)
 

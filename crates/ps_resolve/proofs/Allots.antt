@@ -5,12 +5,12 @@ use Rattle.std.specs.List.{list_any}
 use Rattle.std.specs.Str.{bytes_eq}
 use Rattle.std.proofs.lemmas.Bool.Decides.{nat_tests}
 use Rattle.ps_words.specs.declared.fault.Reason.TheVariants as reason
-use Rattle.ps_linkinfo.specs.Counts.{is_private, privates_in}
+use Rattle.ps_linkinfo.specs.Counts.{is_private_reference, privates_in}
+use Rattle.ps_resolve.specs.Privates.{Owner, words_in, allotted, private_words, private_fault, all_allotted, first_private_fault, IsUnallotted, AreUnallotted}
 use Rattle.ps_linkinfo.specs.declared.record.Body.{Body}
 use Rattle.ps_linkinfo.specs.declared.record.Body.TheVariants.{UnitRef, PublRef, PrivRef, PublDef, ConstDef, Eof}
 use Rattle.ps_linkinfo.specs.declared.record.LinkRecord.{LinkRecord as Record}
 use Rattle.ps_resolve.proofs.Apart.{one_more}
-use Rattle.ps_resolve.specs.Privates.{Owner, words_in, allotted, words_of, private_fault, all_allotted, first_private_fault, IsUnallotted, AreUnallotted}
 use Rattle.ps_resolve.specs.declared.linkage.Stop.{Stop}
 use Rattle.ps_resolve.specs.declared.linkage.Stop.TheVariants.{Refused, Memory}
 use Rattle.ps_words.specs.declared.fault.Fault.{Fault}
@@ -23,8 +23,8 @@ module _ (slot rec next : ℕ) (seen : List (List ℕ)) (ps : List Private) (r :
   pub skip_privates : words_in r.body ≡ None → ps ++ allotted slot rec next (r ∷ rs) ≡ ps ++ allotted slot (rec + 1) next rs
   skip_privates h = rw (h, allotted) refl
 
-  pub skip_words : words_in r.body ≡ None → words_of (r ∷ rs) ≡ words_of rs
-  skip_words h = rw (h, words_of) refl
+  pub skip_words : words_in r.body ≡ None → private_words (r ∷ rs) ≡ private_words rs
+  skip_words h = rw (h, private_words) refl
 
   pub skip_fault : words_in r.body ≡ None → private_fault rec next seen (r ∷ rs) ≡ private_fault (rec + 1) next seen rs
   skip_fault h = rw (h, private_fault) refl
@@ -33,8 +33,8 @@ module _ (slot rec next : ℕ) (seen : List (List ℕ)) (ps : List Private) (r :
       → ps ++ allotted slot rec next (r ∷ rs) ≡ (ps ++ record { slot = slot; rec = rec; name = r.name; offset = next; words = w } ∷ []) ++ allotted slot (rec + 1) (next + w) rs
   more_privates w h = rw (h, allotted) (sym (append_assoc ps (record { slot = slot; rec = rec; name = r.name; offset = next; words = w } ∷ []) (allotted slot (rec + 1) (next + w) rs)))
 
-  pub more_words : (w : ℕ) → words_in r.body ≡ Some w → words_of (r ∷ rs) ≡ w + words_of rs
-  more_words w h = rw (h, words_of) refl
+  pub more_words : (w : ℕ) → words_in r.body ≡ Some w → private_words (r ∷ rs) ≡ w + private_words rs
+  more_words w h = rw (h, private_words) refl
 
   pub more_fault : (w : ℕ) → words_in r.body ≡ Some w → list_any (bytes_eq r.name) seen ≡ false → next + w ≤ 32767
       → private_fault rec next seen (r ∷ rs) ≡ private_fault (rec + 1) (next + w) (seen ++ r.name ∷ []) rs
@@ -46,11 +46,11 @@ module _ (slot rec next : ℕ) (seen : List (List ℕ)) (ps : List Private) (r :
 -- with the privates so far, those of the records from this index on are all, and so with words and faults
 pub record Allots (slot next : ℕ) (before : List Private) (all : List Record) (ps : List Private) (seen : List (List ℕ)) (free n : ℕ) (rs : List Record) : Type 0 where
   pub privates : ps ++ allotted slot n free rs ≡ before ++ allotted slot 0 next all
-  pub words : free + words_of rs ≡ next + words_of all
+  pub words : free + private_words rs ≡ next + private_words all
   pub first : private_fault n free seen rs ≡ private_fault 0 next [] all
 
 -- what asks for a private is counted
-asks_is : (b : Body) → is_private b ≡ is_some (words_in b)
+asks_is : (b : Body) → is_private_reference b ≡ is_some (words_in b)
 asks_is (UnitRef refs) = refl
 asks_is (PublRef refs) = refl
 asks_is (PrivRef words refs) = refl
@@ -62,8 +62,8 @@ pub privates_counted : (slot n next : ℕ) (rs : List Record) → length (allott
 privates_counted slot n next [] = refl
 privates_counted slot n next (r ∷ rs) = at (λ m free. privates_counted slot m free rs) (words_in r.body) refl
   where
-    one : (b : Bool) → is_private r.body ≡ b → privates_in (r ∷ rs) ≡ cond b 1 0 + privates_in rs
-    one b h = one_more (λ s. is_private s.body) r rs ∙ ap (λ (c : Bool). cond {A = ℕ} c 1 0 + privates_in rs) h
+    one : (b : Bool) → is_private_reference r.body ≡ b → privates_in (r ∷ rs) ≡ cond b 1 0 + privates_in rs
+    one b h = one_more (λ s. is_private_reference s.body) r rs ∙ ap (λ (c : Bool). cond {A = ℕ} c 1 0 + privates_in rs) h
 
     at : ((m free : ℕ) → length (allotted slot m free rs) ≡ privates_in rs) → (o : Option ℕ) → words_in r.body ≡ o → length (allotted slot n next (r ∷ rs)) ≡ privates_in (r ∷ rs)
     at rest None h = let a = one false (asks_is r.body ∙ ap is_some h) in let b = ap length (skip_privates slot n next [] [] r rs h) in omega (arith, rest (n + 1) next)
@@ -72,18 +72,18 @@ privates_counted slot n next (r ∷ rs) = at (λ m free. privates_counted slot m
 -- where none asks for one, there is none
 pub record NoPrivates (slot next : ℕ) (rs : List Record) : Type 0 where
   pub privates : allotted slot 0 next rs ≡ []
-  pub words : words_of rs ≡ 0
+  pub words : private_words rs ≡ 0
   pub first : private_fault 0 next [] rs ≡ None
 
-no_asks : (slot next : ℕ) (rs : List Record) (n : ℕ) → privates_in rs ≡ 0 → (allotted slot n next rs ≡ []) × (words_of rs ≡ 0) × (private_fault n next [] rs ≡ None)
+no_asks : (slot next : ℕ) (rs : List Record) (n : ℕ) → privates_in rs ≡ 0 → (allotted slot n next rs ≡ []) × (private_words rs ≡ 0) × (private_fault n next [] rs ≡ None)
 no_asks slot next [] n h = (refl, refl, refl)
 no_asks slot next (r ∷ rs) n h = at (λ e. no_asks slot next rs (n + 1) e) (words_in r.body) refl
   where
-    one : (b : Bool) → is_private r.body ≡ b → privates_in (r ∷ rs) ≡ cond b 1 0 + privates_in rs
-    one b e = one_more (λ s. is_private s.body) r rs ∙ ap (λ (c : Bool). cond {A = ℕ} c 1 0 + privates_in rs) e
+    one : (b : Bool) → is_private_reference r.body ≡ b → privates_in (r ∷ rs) ≡ cond b 1 0 + privates_in rs
+    one b e = one_more (λ s. is_private_reference s.body) r rs ∙ ap (λ (c : Bool). cond {A = ℕ} c 1 0 + privates_in rs) e
 
-    at : (privates_in rs ≡ 0 → (allotted slot (n + 1) next rs ≡ []) × (words_of rs ≡ 0) × (private_fault (n + 1) next [] rs ≡ None))
-        → (o : Option ℕ) → words_in r.body ≡ o → (allotted slot n next (r ∷ rs) ≡ []) × (words_of (r ∷ rs) ≡ 0) × (private_fault n next [] (r ∷ rs) ≡ None)
+    at : (privates_in rs ≡ 0 → (allotted slot (n + 1) next rs ≡ []) × (private_words rs ≡ 0) × (private_fault (n + 1) next [] rs ≡ None))
+        → (o : Option ℕ) → words_in r.body ≡ o → (allotted slot n next (r ∷ rs) ≡ []) × (private_words (r ∷ rs) ≡ 0) × (private_fault n next [] (r ∷ rs) ≡ None)
     at rest None e =
         let a = one false (asks_is r.body ∙ ap is_some e) in
         let more = rest (omega arith) in
@@ -118,4 +118,4 @@ module _ (o : Owner) (rest all : List Owner) (next free : ℕ) where
       → first_private_fault free (o ∷ rest) ≡ first_private_fault next all → IsUnallotted o.file o.slot free o.records stop → AreUnallotted next all stop
   stopped_in before (Refused fault) privates first d = sym first ∙ rw d.1 (ap (λ (f : Fault). Some f) (sym d.2))
   stopped_in before Memory privates first d =
-      omega (arith, ap length privates, length-append before (allotted o.slot 0 free o.records ++ all_allotted (free + words_of o.records) rest), length-append (allotted o.slot 0 free o.records) (all_allotted (free + words_of o.records) rest))
+      omega (arith, ap length privates, length-append before (allotted o.slot 0 free o.records ++ all_allotted (free + private_words o.records) rest), length-append (allotted o.slot 0 free o.records) (all_allotted (free + private_words o.records) rest))

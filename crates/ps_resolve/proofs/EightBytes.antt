@@ -10,13 +10,14 @@ use Rattle.std.proofs.lemmas.List.Elements.{All-nil, All-cons, All-tail, All-app
 use Rattle.ps_words.specs.declared.order.Order.{Order}
 use Rattle.ps_words.specs.declared.fault.Fault.{Fault}
 use Rattle.ps_codefile.specs.Dictionary.{slots, name_at, entry_at, role_of, code_of, information_of}
+use Rattle.ps_resolve.specs.Added.{is_had, unit_references, all_unit_references, sought_from, placed_fault, added_segment, as_added, rounds, rounds_from, empty_slots, added, segment_at, segments, slot_name, slot_names}
+use Rattle.ps_linkinfo.specs.Counts.{is_unit_reference}
 use Rattle.ps_codefile.specs.declared.entry.Entry.{Entry}
 use Rattle.ps_codefile.specs.declared.entry.Role.{Role}
 use Rattle.ps_codefile.specs.declared.entry.Role.TheVariants.{Wanted}
 use Rattle.ps_linkinfo.specs.Records.{reading}
 use Rattle.ps_linkinfo.specs.declared.record.LinkRecord.{LinkRecord as Record}
 use Rattle.ps_resolve.specs.Sources.{Segment, own_segment, own_segments, segment_from, source_of, unit_source, units_of, records_of, file_at, is_linked, is_empty}
-use Rattle.ps_resolve.specs.Added.{is_had, is_unit_reference, unit_references, references_in, sought_from, placed_fault, added_segment, as_added, rounds, rounds_from, empty_slots, added, segment_at, segments, slot_name, slot_names}
 use Rattle.ps_resolve.specs.Faults.{is_role}
 use Rattle.ps_resolve.specs.declared.added.UnitReference.{UnitReference}
 use Rattle.ps_resolve.proofs.ReadingKnown.{find_has}
@@ -50,10 +51,10 @@ references_named file slot rec (r ∷ rs) all = by (is_unit_reference r.body) (a
     by true h rest = All-cons IsNamed (record { name = r.name; file = file; slot = slot; rec = rec }) (unit_references file slot (rec + 1) rs) h rest
     by false h rest = rest
 
-all_references_named : (ss : List Segment) → All HasNames ss → All IsNamed (references_in ss)
+all_references_named : (ss : List Segment) → All HasNames ss → All IsNamed (all_unit_references ss)
 all_references_named [] all = All-nil IsNamed
 all_references_named (s ∷ ss) all =
-    All-append IsNamed (unit_references s.file s.slot 0 s.records) (references_in ss) (references_named s.file s.slot 0 s.records (all 0 s (omega arith)).records) (all_references_named ss (All-tail HasNames s ss all))
+    All-append IsNamed (unit_references s.file s.slot 0 s.records) (all_unit_references ss) (references_named s.file s.slot 0 s.records (all 0 s (omega arith)).records) (all_references_named ss (All-tail HasNames s ss all))
 
 one_more : (b : Bool) (row : List UnitReference) (g : UnitReference) → All IsNamed row → IsNamed g → All IsNamed (if b then row else row ++ g ∷ [])
 one_more true row g all h = all
@@ -149,8 +150,8 @@ all_added : ReadWhole → (order : Order) (host : List ℕ) (libs : List (List �
 unfolding rounds
 all_added law order host libs long =
     let own = own_segments order host libs in
-    let row = sought_from (units_of own) [] (references_in own) in
-    rounds_named law order host libs (units_of own) (empty_slots order host) 0 row (row_named (units_of own) [] (references_in own) (All-nil IsNamed) (all_references_named own (all_own law order host libs long)))
+    let row = sought_from (units_of own) [] (all_unit_references own) in
+    rounds_named law order host libs (units_of own) (empty_slots order host) 0 row (row_named (units_of own) [] (all_unit_references own) (All-nil IsNamed) (all_references_named own (all_own law order host libs long)))
 
 slot_named : ReadWhole → (order : Order) (host : List ℕ) (libs : List (List ℕ)) → 512 ≤ length host → (slot : ℕ) (s : Segment) → slot < 16 → segment_at order host libs slot ≡ Some s → HasNames s
 slot_named law order host libs long slot s lt h = by (own_segment order host libs slot) refl (is_role is_empty order host slot) refl

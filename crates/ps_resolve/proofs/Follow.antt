@@ -2,7 +2,7 @@
 use Rattle.std.proofs.Common.{◌≡◌, ℕ, zero, suc, ◌+◌, ◌++◌, List, [], ◌∷◌, take, Option, Some, None, refl, ◌∙◌, arith}
 use Rattle.std.proofs.lemmas.List.Sums.{sum_by-cons}
 use Rattle.ps_linkinfo.specs.declared.record.LinkRecord.{LinkRecord as Record}
-use Rattle.ps_resolve.specs.Privates.{words_in, allotted, words_of, all_allotted, Owner}
+use Rattle.ps_resolve.specs.Privates.{words_in, allotted, private_words, all_allotted, Owner}
 use Rattle.ps_resolve.specs.Offsets.{FollowOn}
 use Rattle.ps_resolve.specs.declared.allotment.Private.{Private}
 
@@ -11,17 +11,17 @@ follow_cons : (next : ℕ) (p : Private) (ps : List Private) → p.offset ≡ ne
 follow_cons next p ps e h zero d lt = omega (arith, e)
 follow_cons next p ps e h (suc k) d lt = h k d (omega arith) ∙ (let s = sum_by-cons (λ (q : Private). q.words) p (take k ps) in omega (arith, s))
 
-in_front : (slot : ℕ) (rs : List Record) (rec next : ℕ) (tail : List Private) → FollowOn (next + words_of rs) tail → FollowOn next (allotted slot rec next rs ++ tail)
+in_front : (slot : ℕ) (rs : List Record) (rec next : ℕ) (tail : List Private) → FollowOn (next + private_words rs) tail → FollowOn next (allotted slot rec next rs ++ tail)
 in_front slot [] rec next tail h = λ k d lt. h k d lt ∙ omega arith
 in_front slot (r ∷ rs) rec next tail h = at (words_in r.body) refl (λ rec next. in_front slot rs rec next tail)
   where
-    at : (w : Option ℕ) → words_in r.body ≡ w → ((rec next : ℕ) → FollowOn (next + words_of rs) tail → FollowOn next (allotted slot rec next rs ++ tail)) → FollowOn next (allotted slot rec next (r ∷ rs) ++ tail)
-    at None e again = rw (e, allotted) (again (rec + 1) next (let same : words_of (r ∷ rs) ≡ words_of rs = rw (e, words_of) refl in rw (← same) h))
+    at : (w : Option ℕ) → words_in r.body ≡ w → ((rec next : ℕ) → FollowOn (next + private_words rs) tail → FollowOn next (allotted slot rec next rs ++ tail)) → FollowOn next (allotted slot rec next (r ∷ rs) ++ tail)
+    at None e again = rw (e, allotted) (again (rec + 1) next (let same : private_words (r ∷ rs) ≡ private_words rs = rw (e, private_words) refl in rw (← same) h))
     at (Some w) e again =
-        let same : words_of (r ∷ rs) ≡ w + words_of rs = rw (e, words_of) refl in
+        let same : private_words (r ∷ rs) ≡ w + private_words rs = rw (e, private_words) refl in
         rw (e, allotted) (follow_cons next (record { slot = slot; rec = rec; name = r.name; offset = next; words = w }) (allotted slot (rec + 1) (next + w) rs ++ tail) refl
         (again (rec + 1) (next + w) (λ k d lt. h k d lt ∙ omega (arith, same))))
 
 pub follow : (next : ℕ) (ss : List Owner) → FollowOn next (all_allotted next ss)
 follow next [] = λ k d lt. absurd (omega arith)
-follow next (s ∷ ss) = in_front s.slot s.records 0 next (all_allotted (next + words_of s.records) ss) (follow (next + words_of s.records) ss)
+follow next (s ∷ ss) = in_front s.slot s.records 0 next (all_allotted (next + private_words s.records) ss) (follow (next + private_words s.records) ss)

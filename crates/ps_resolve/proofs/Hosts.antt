@@ -4,11 +4,11 @@ use Rattle.std.specs.Prelude.{All, find}
 use Rattle.std.proofs.lemmas.List.Elements.{All-head, All-tail}
 use Rattle.ps_words.specs.declared.order.Order.{Order}
 use Rattle.ps_codefile.specs.Procedures.{tables_fault}
+use Rattle.ps_resolve.specs.Views.{IsSound}
 use Rattle.ps_codefile.specs.declared.entry.Role.{Role}
 use Rattle.ps_codefile.specs.declared.entry.Role.TheVariants.{Empty, Wanted, Plain, Host, Unit}
 use Rattle.ps_resolve.specs.Sources.{Segment, is_linked, is_host, host_of}
 use Rattle.ps_resolve.specs.Linkable.{HasOneHost}
-use Rattle.ps_resolve.specs.Views.{IsSound}
 
 host_linked : (r : Role) → is_host r ≡ true → is_linked r ≡ true
 host_linked Empty h = cc

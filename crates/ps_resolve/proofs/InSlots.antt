@@ -8,8 +8,8 @@ use Rattle.std.proofs.lemmas.Bool.{cases_lt, ne_eqb, eq-eqb}
 use Rattle.ps_words.specs.declared.order.Order.{Order}
 use Rattle.ps_resolve.specs.Sources.{Segment, own_segment, own_segments, is_empty}
 use Rattle.ps_resolve.specs.Added.{added, segments, segment_at}
+use Rattle.ps_resolve.specs.Views.{segment_of, IsSound, is_in_slot, segment_in_slot, segments_in_slots}
 use Rattle.ps_resolve.specs.Faults.{is_role}
-use Rattle.ps_resolve.specs.Views.{segment_of, IsSound, is_in_slot, in_slot, in_slots}
 use Rattle.ps_resolve.specs.declared.segment.Segment.{Segment as SegmentView}
 use Rattle.ps_resolve.proofs.ReadingKnown.{own_parts, find_has}
 
@@ -53,15 +53,15 @@ same_kept f g (suc n) a same = by (g a) refl (same_kept f g n (a + 1) (λ i h. s
     by (Some s) e rest = rw (same a (omega arith), e) (ap (λ (xs : List Segment). s ∷ xs) rest)
 
 -- the own segments and the added ones, slot by slot, are those of the link
-pub in_slots_are : (order : Order) (host : List ℕ) (libs : List (List ℕ)) → in_slots order host (own_segments order host libs) (added order host libs) ≡ segments order host libs
-unfolding in_slots segments own_segments
+pub in_slots_are : (order : Order) (host : List ℕ) (libs : List (List ℕ)) → segments_in_slots order host (own_segments order host libs) (added order host libs) ≡ segments order host libs
+unfolding segments_in_slots segments own_segments
 in_slots_are order host libs =
-    same_kept (in_slot order host (own_segments order host libs) (added order host libs)) (segment_at order host libs) 16 0
+    same_kept (segment_in_slot order host (own_segments order host libs) (added order host libs)) (segment_at order host libs) 16 0
     (λ i h. ap (λ (o : Option Segment). option_or o (if is_role is_empty order host i then find (is_in_slot i) (added order host libs) else None))
     (found_there (own_segment order host libs) (λ j s e. (own_parts order host libs j s e).0) i 16 0 (omega arith) h))
 
 -- what stands in a slot is sound, where all segments are
-pub sound_in_slot : (order : Order) (host : List ℕ) (own added : List SegmentView) (slot : ℕ) (o : Option SegmentView) → option_map (segment_of order) o ≡ in_slot order host (map (segment_of order) own) (map (segment_of order) added) slot
+pub sound_in_slot : (order : Order) (host : List ℕ) (own added : List SegmentView) (slot : ℕ) (o : Option SegmentView) → option_map (segment_of order) o ≡ segment_in_slot order host (map (segment_of order) own) (map (segment_of order) added) slot
     → All (IsSound order) (map (segment_of order) own) → All (IsSound order) (map (segment_of order) added) → IfSome o (λ s. IsSound order (segment_of order s))
 sound_in_slot order host own added slot None e all rest = tt
 sound_in_slot order host own added slot (Some s) e all rest = by (find (is_in_slot slot) (map (segment_of order) own)) refl (is_role is_empty order host slot) refl

@@ -4,7 +4,7 @@ use Rattle.std.proofs.lemmas.List.{length-map}
 use Rattle.ps_words.specs.declared.order.Order.{Order}
 use Rattle.ps_words.specs.declared.edit.Edit.{Edit}
 use Rattle.ps_resolve.specs.Sources.{Segment}
-use Rattle.ps_resolve.specs.Privates.{words_of}
+use Rattle.ps_resolve.specs.Privates.{private_words}
 use Rattle.ps_resolve.specs.References.{Known}
 use Rattle.ps_resolve.specs.Linking.{Edited, edited_from}
 use Rattle.ps_resolve.specs.Plans.{LinkSegments, origin_of, origin_of_source}
@@ -18,7 +18,7 @@ linked_len order (e ∷ es) (d ∷ ds) h = let r = linked_len order es ds h.1 in
 
 edited_len : (order : Order) (known : Known) (words free : ℕ) (segs : List Segment) → length (edited_from order known words free segs) ≡ length segs
 edited_len order known words free [] = refl
-edited_len order known words free (s ∷ ss) = let r = edited_len order known words (free + words_of s.records) ss in omega (arith, r)
+edited_len order known words free (s ∷ ss) = let r = edited_len order known words (free + private_words s.records) ss in omega (arith, r)
 
 pub lengths : (order : Order) (known : Known) (words free : ℕ) (segs : List Segment) (ds : List (List Edit)) (sources : List Source) → LinkSegments order (edited_from order known words free segs) ds → map origin_of_source sources ≡ map origin_of segs
     → length ds ≡ length sources

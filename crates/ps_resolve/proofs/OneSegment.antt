@@ -10,14 +10,14 @@ use Rattle.ps_words.specs.declared.edit.Edit.{Edit}
 use Rattle.ps_words.specs.declared.edit.Edit.TheVariants.{Byte}
 use Rattle.ps_words.specs.declared.fault.Reason.{Reason}
 use Rattle.ps_codefile.specs.Procedures.{is_reserved, ProcedureTables, unless}
+use Rattle.ps_resolve.specs.Privates.{private_words}
+use Rattle.ps_resolve.specs.Views.{segment_of}
 use Rattle.ps_linkinfo.specs.declared.record.LinkRecord.{LinkRecord as Record}
 use Rattle.ps_resolve.specs.Sources.{Segment, is_linked, is_host}
-use Rattle.ps_resolve.specs.Privates.{words_of}
 use Rattle.ps_resolve.specs.References.{Known, records_edits, records_fault}
 use Rattle.ps_resolve.specs.Linking.{data_edits, segment_edits}
 use Rattle.ps_resolve.specs.Faults.{in_segment, segment_fault}
 use Rattle.ps_resolve.specs.Plans.{LinksSegment}
-use Rattle.ps_resolve.specs.Views.{segment_of}
 use Rattle.ps_resolve.specs.declared.segment.Segment.{Segment as SegmentView}
 
 pub unless_ok : (o : Option Reason) (x y : ProcedureTables) → ◌≡◌ {A = Result ProcedureTables Reason} (Ok y) (unless o x) → y ≡ x
@@ -49,8 +49,8 @@ module _ (order : Order) (known : Known) (v : SegmentView) (free : ℕ) where
     pub plain_links : (words : ℕ) → LinksSegment order (record { segment = segment_of order v; edits = segment_edits order known words free (segment_of order v) }) []
     plain_links words = none_links order (segment_of order v) (segment_edits order known words free (segment_of order v)) (if_false (is_linked v.role) _ [] h)
 
-    pub plain_end : free ≡ free + words_of (segment_of order v).records
-    plain_end = let e = ap words_of plain_records in omega (arith, e)
+    pub plain_end : free ≡ free + private_words (segment_of order v).records
+    plain_end = let e = ap private_words plain_records in omega (arith, e)
 
     pub plain_fault : segment_fault order known free (segment_of order v) ≡ None
     plain_fault = ap (λ (rs : List Record). option_map (in_segment v.file v.slot) (records_fault known (is_reserved order v.code.now) v.code.now 0 free [] rs)) plain_records

@@ -10,10 +10,10 @@ use Rattle.ps_words.specs.declared.order.Order.{Order}
 use Rattle.ps_words.specs.declared.edit.Edit.{Edit}
 use Rattle.ps_words.specs.declared.edit.Edit.TheVariants.{Byte}
 use Rattle.ps_codefile.specs.Procedures.{is_reserved, procedures}
+use Rattle.ps_resolve.specs.Edits.{IsOfTable}
 use Rattle.ps_linkinfo.specs.declared.record.LinkRecord.{LinkRecord as Record}
 use Rattle.ps_resolve.specs.Operands.{is_in}
 use Rattle.ps_resolve.specs.References.{Known, records_edits, records_fault}
-use Rattle.ps_resolve.specs.Edits.{IsOfTable}
 use Rattle.ps_resolve.proofs.Apart.{one_more}
 use Rattle.ps_resolve.proofs.Once.{IsOnce, all_operands, counts_are, records_once, none_once}
 use Rattle.ps_resolve.proofs.Inside.{records_inside}

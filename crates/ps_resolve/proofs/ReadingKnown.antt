@@ -16,9 +16,9 @@ use Rattle.ps_codefile.specs.declared.entry.Role.TheVariants as role
 use Rattle.ps_codefile.specs.declared.entry.Entry.{Entry}
 use Rattle.ps_codefile.specs.Dictionary.{entry_at, role_of, code_of, slots}
 use Rattle.ps_codefile.specs.Procedures.{tables_fault}
+use Rattle.ps_resolve.specs.Added.{segment_at, segments, added, rounds, rounds_from, added_segment, as_added, placed_fault, sought_from, unit_references, all_unit_references, empty_slots}
 use Rattle.ps_resolve.specs.Searches.{first_of, fault_if}
 use Rattle.ps_resolve.specs.Sources.{Segment, own_segment, segment_from, source_of, unit_source, units_of, own_segments, is_host, is_empty, is_linked, host_of, records_of, file_at}
-use Rattle.ps_resolve.specs.Added.{segment_at, segments, added, rounds, rounds_from, added_segment, as_added, placed_fault, sought_from, unit_references, references_in, empty_slots}
 use Rattle.ps_resolve.specs.declared.added.UnitReference.{UnitReference}
 use Rattle.ps_resolve.specs.Faults.{is_role, slot_reason, slots_fault, no_host_fault, sources_fault, source_fault, information_fault}
 use Rattle.ps_resolve.specs.Linkable.{AscendFrom, HasOneHost}
@@ -80,7 +80,7 @@ rounds_wanted order host libs units (slot ∷ left) k row = by (λ next. rounds_
 added_wanted : (order : Order) (host : List ℕ) (libs : List (List ℕ)) → All IsWanted (added order host libs)
 unfolding rounds
 added_wanted order host libs =
-    let own = own_segments order host libs in rounds_wanted order host libs (units_of own) (empty_slots order host) 0 (sought_from (units_of own) [] (references_in own))
+    let own = own_segments order host libs in rounds_wanted order host libs (units_of own) (empty_slots order host) 0 (sought_from (units_of own) [] (all_unit_references own))
 
 -- what is found passes the test, and has what all have
 pub find_has : {X : Type 0} (P : X → Type 0) (test : X → Bool) (xs : List X) (x : X) → find test xs ≡ Some x → All P xs → (test x ≡ true) × P x

@@ -6,8 +6,8 @@ use Rattle.std.specs.List.Sorted.{IsPartitionedBy, IsPartitionPoint}
 use Rattle.std.proofs.lemmas.Bool.Decides.{nat_tests}
 use Rattle.ps_linkinfo.specs.declared.record.LinkRecord.{LinkRecord as Record}
 use Rattle.ps_resolve.specs.Linkable.{AscendFrom}
-use Rattle.ps_resolve.specs.Privates.{words_in, allotted, words_of, all_allotted, Owner}
-use Rattle.ps_resolve.specs.Offsets.{is_from, RiseFrom, is_of, offset_of}
+use Rattle.ps_resolve.specs.Privates.{words_in, allotted, private_words, all_allotted, Owner}
+use Rattle.ps_resolve.specs.Offsets.{is_from, RiseFrom, is_of, offset_listed}
 use Rattle.ps_resolve.specs.declared.allotment.Private.{Private}
 
 weaker : (a b c d : ℕ) (ps : List Private) → ((p : Private) → is_from a b p ≡ true → is_from c d p ≡ true) → RiseFrom a b ps → RiseFrom c d ps
@@ -38,7 +38,7 @@ pub rise : (next from : ℕ) (ss : List Owner) → AscendFrom from (map (λ s. s
 rise next from [] h = tt
 rise next from (s ∷ ss) h =
     weaker s.slot 0 from 0 (all_allotted next (s ∷ ss)) (λ p k. slot_before from s.slot p.slot p.rec h.0 k)
-    (in_front s.slot s.records 0 next (all_allotted (next + words_of s.records) ss) (rise (next + words_of s.records) (s.slot + 1) ss h.1))
+    (in_front s.slot s.records 0 next (all_allotted (next + private_words s.records) ss) (rise (next + private_words s.records) (s.slot + 1) ss h.1))
 
 chained : (a b s r t u : ℕ) → (nat_lt a s || (a == s && nat_le b r)) ≡ true → (nat_lt s t || (s == t && nat_le (r + 1) u)) ≡ true → (nat_lt a t || (a == t && nat_le b u)) ≡ true
 chained a b s r t u h k = grind (arith, nat_tests)
@@ -117,14 +117,14 @@ module _ (slot rec a b : ℕ) (ps : List Private) (i : ℕ) (h : RiseFrom a b ps
           over k i l f = grind (arith, nat_tests)
 
 module _ (slot rec : ℕ) (xs ps : List Private) (i : ℕ) (same : xs ≡ ps) (h : RiseFrom 0 0 xs) (p : IsPartitionPoint (λ x. is_before slot rec x ≡ true) (λ x. is_before slot rec x ≡ false) xs i) where
-  all_of : offset_of slot rec xs ≡ offset_of slot rec ps
-  all_of = ap (offset_of slot rec) same
+  all_of : offset_listed slot rec xs ≡ offset_listed slot rec ps
+  all_of = ap (offset_listed slot rec) same
 
-  pub offset_found : (x : Private) → i < length xs → x ≡ get_or xs i x → x.slot ≡ slot → x.rec ≡ rec → ◌≡◌ {A = Option ℕ} (Some x.offset) (offset_of slot rec ps)
+  pub offset_found : (x : Private) → i < length xs → x ≡ get_or xs i x → x.slot ≡ slot → x.rec ≡ rec → ◌≡◌ {A = Option ℕ} (Some x.offset) (offset_listed slot rec ps)
   offset_found x lt is s r = sym (ap (option_map (λ q. q.offset)) (found_there slot rec 0 0 xs i h p x lt is (both x.slot x.rec s r))) ∙ all_of
     where
       both : (a b : ℕ) → a ≡ slot → b ≡ rec → (a == slot && b == rec) ≡ true
       both a b s r = grind (arith, nat_tests)
 
-  pub offset_none : ((d : Private) → i < length xs → is_of slot rec (get_or xs i d) ≡ false) → ◌≡◌ {A = Option ℕ} None (offset_of slot rec ps)
+  pub offset_none : ((d : Private) → i < length xs → is_of slot rec (get_or xs i d) ≡ false) → ◌≡◌ {A = Option ℕ} None (offset_listed slot rec ps)
   offset_none other = sym (ap (option_map (λ q. q.offset)) (found_nowhere slot rec 0 0 xs i h p other)) ∙ all_of

@@ -5,12 +5,12 @@ use Rattle.std.specs.List.{filter_map}
 use Rattle.std.specs.Result.{result_ok}
 use Rattle.ps_linkinfo.specs.Records.{refs_of}
 use Rattle.ps_linkinfo.specs.Walk.{Walk}
+use Rattle.ps_resolve.specs.Privates.{private_words, words_in}
 use Rattle.ps_linkinfo.specs.Left.{left, records_left}
 use Rattle.ps_linkinfo.specs.declared.record.LinkRecord.{LinkRecord as Record}
 use Rattle.ps_words.specs.declared.fault.Reason.{Reason}
 use Rattle.ps_words.specs.declared.edit.Edit.{Edit}
 use Rattle.std.proofs.Common.{arith}
-use Rattle.ps_resolve.specs.Privates.{words_of, words_in}
 use Rattle.ps_resolve.specs.Operands.{edit_of, operands, refs_fault}
 use Rattle.ps_resolve.specs.References.{Known, words_taken, FindsOne, target_of, records_fault, record_edits, records_edits}
 use Rattle.ps_resolve.specs.declared.references.Target.{Target}
@@ -29,12 +29,12 @@ pub finds_first : (stop : RecordStop) (a b : Option (ℕ × (Option ℕ × Reaso
 finds_first (Refused rec reference why) a b h = rw h refl
 finds_first Memory a b h = tt
 
-pub words_are : (r : Record) (rs : List Record) → words_of (r ∷ rs) ≡ words_taken r.body + words_of rs
+pub words_are : (r : Record) (rs : List Record) → private_words (r ∷ rs) ≡ words_taken r.body + private_words rs
 words_are r rs = at (words_in r.body) refl
   where
-    at : (w : Option ℕ) → words_in r.body ≡ w → words_of (r ∷ rs) ≡ words_taken r.body + words_of rs
-    at None e = rw (e, words_of) (omega arith)
-    at (Some w) e = rw (e, words_of) refl
+    at : (w : Option ℕ) → words_in r.body ≡ w → private_words (r ∷ rs) ≡ words_taken r.body + private_words rs
+    at None e = rw (e, private_words) (omega arith)
+    at (Some w) e = rw (e, private_words) refl
 
 module _ (known : Known) (R : ℕ → Bool) (code : List ℕ) (rec off : ℕ) (os : List (ℕ × ℕ)) (r : Record) (rs : List Record) where
   pub record_refused : (why : Reason) → target_of known off r ≡ Err why → records_fault known R code rec off os (r ∷ rs) ≡ Some (rec, (None, why))

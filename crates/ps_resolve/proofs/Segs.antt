@@ -7,11 +7,11 @@ use Rattle.ps_words.specs.declared.order.Order.{Order}
 use Rattle.ps_linkinfo.specs.Records.{reading}
 use Rattle.ps_words.specs.declared.order.Order.TheVariants.{Little}
 use Rattle.ps_resolve.specs.declared.linkage.Linkage.{Linkage}
-use Rattle.ps_resolve.specs.Names.{units_in}
-use Rattle.ps_codefile.specs.declared.entry.Role.TheVariants.{Empty}
+use Rattle.ps_resolve.specs.Names.{units_by_name}
 use Rattle.ps_resolve.specs.Privates.{owner_of}
-use Rattle.ps_resolve.specs.Sources.{Segment, units_of}
 use Rattle.ps_resolve.specs.Views.{segment_of}
+use Rattle.ps_codefile.specs.declared.entry.Role.TheVariants.{Empty}
+use Rattle.ps_resolve.specs.Sources.{Segment, units_of}
 use Rattle.ps_resolve.specs.declared.segment.Segment.{Segment as SegmentView}
 
 -- no bytes have no records
@@ -19,7 +19,7 @@ pub read_if : (order : Order) (b : Bool) (bytes : List ℕ) → (reading order (
 read_if order true bytes = refl
 read_if order false bytes = refl
 
-pub units_are : (order : Order) (ss : List SegmentView) → units_of (map (segment_of order) ss) ≡ units_in ss
+pub units_are : (order : Order) (ss : List SegmentView) → units_of (map (segment_of order) ss) ≡ units_by_name ss
 units_are order [] = refl
 units_are order (s ∷ ss) = rw (units_are order ss) refl
 

@@ -14,7 +14,7 @@ use Rattle.ps_words.specs.Edits.{covers}
 use Rattle.ps_words.specs.declared.order.Order.{Order}
 use Rattle.ps_words.specs.declared.edit.Edit.TheVariants.{Word}
 use Rattle.ps_words.specs.declared.fault.Reason.{Reason}
-use Rattle.ps_codefile.specs.Procedures.{procedures, dictionary_len, start_of, content_of, table_of, is_placed, numbers, tables, tables_fault, is_reserved}
+use Rattle.ps_codefile.specs.Procedures.{procedures, dictionary_len, dictionary_start, content_of, table_of, is_placed, numbers, tables, tables_fault, is_reserved}
 use Rattle.ps_resolve.specs.Edits.{IsOfTable}
 
 -- where the tables of a host have no fault, the outer block has a table, and these are its bounds
@@ -22,7 +22,7 @@ pub record HasOuter (order : Order) (code : List ℕ) : Type 0 where
   pub procedure : 1 ≤ procedures code
   pub content : (content_of order code 1 == 0) ≡ false
   pub low : content_of order code 1 + 8 ≤ length code - 2 - 2 * 1
-  pub high : length code - 2 - 2 * 1 - content_of order code 1 + 1 < start_of code
+  pub high : length code - 2 - 2 * 1 - content_of order code 1 + 1 < dictionary_start code
   pub whole : dictionary_len code ≤ length code
 
 no_reason : (a b : Bool) (r s : Reason) → (if a then Some r else (if b then Some s else None)) ≡ None → a ≡ false
@@ -65,12 +65,12 @@ outer order code h =
     let none = either_false (procedures code == 0) (content_of order code 1 == 0) e.2 in
     let some = nonzero (procedures code) none.0 in
     let first = first_holds (is_placed order code) (procedures code) some (not_false _ e.1) in
-    let at = placed (content_of order code 1 == 0) (nat_le (content_of order code 1 + 8) (length code - 2 - 2 * 1)) (nat_lt (length code - 2 - 2 * 1 - content_of order code 1 + 1) (start_of code)) first none.1 in
+    let at = placed (content_of order code 1 == 0) (nat_le (content_of order code 1 + 8) (length code - 2 - 2 * 1)) (nat_lt (length code - 2 - 2 * 1 - content_of order code 1 + 1) (dictionary_start code)) first none.1 in
     record {
       procedure = some;
       content = none.1;
       low = le_of (content_of order code 1 + 8) (length code - 2 - 2 * 1) at.0;
-      high = lt_of (length code - 2 - 2 * 1 - content_of order code 1 + 1) (start_of code) at.1;
+      high = lt_of (length code - 2 - 2 * 1 - content_of order code 1 + 1) (dictionary_start code) at.1;
       whole = not_lt (length code) (dictionary_len code) e.0;
     }
   where

@@ -10,6 +10,7 @@ use Rattle.ps_words.specs.declared.order.Order.{Order}
 use Rattle.ps_words.specs.declared.fault.Reason.TheVariants as reason
 use Rattle.ps_words.specs.declared.fault.Fault.{Fault}
 use Rattle.ps_codefile.specs.Dictionary.{slots, name_at, is_nameless}
+use Rattle.ps_linkinfo.specs.Counts.{is_unit_reference}
 use Rattle.ps_codefile.specs.declared.entry.Role.TheVariants.{Wanted}
 use Rattle.ps_linkinfo.specs.declared.record.Body.{Body}
 use Rattle.ps_linkinfo.specs.declared.record.Body.TheVariants.{UnitRef, PublRef, PrivRef, PublDef, ConstDef, Eof}
@@ -17,14 +18,6 @@ use Rattle.ps_linkinfo.specs.declared.record.LinkRecord.{LinkRecord as Record}
 use Rattle.ps_resolve.specs.Sources.{Segment, own_segment, own_segments, segment_from, unit_source, chosen_library, units_of, is_empty}
 use Rattle.ps_resolve.specs.Faults.{is_role, entry_fault, code_fault}
 use Rattle.ps_resolve.specs.declared.added.UnitReference.{UnitReference}
-
-abbrev pub is_unit_reference : Body → Bool
-is_unit_reference (UnitRef refs) = true
-is_unit_reference (PublRef refs) = false
-is_unit_reference (PrivRef words refs) = false
-is_unit_reference (PublDef value) = false
-is_unit_reference (ConstDef value) = false
-is_unit_reference (Eof next) = false
 
 -- the UNITREF records of a segment from this file in this slot, the first of whose records has number `rec`
 abbrev pub unit_references : ℕ → ℕ → ℕ → List Record → List UnitReference
@@ -35,8 +28,8 @@ unit_references file slot rec (r ∷ rs) =
     else unit_references file slot (rec + 1) rs
 
 -- those of all these segments, one segment after another
-abbrev pub references_in : List Segment → List UnitReference
-references_in segs = flat_map (λ s. unit_references s.file s.slot 0 s.records) segs
+abbrev pub all_unit_references : List Segment → List UnitReference
+all_unit_references segs = flat_map (λ s. unit_references s.file s.slot 0 s.records) segs
 
 -- a unit in a slot of the host has the name, or it is in the row of those that are sought
 abbrev pub is_had : List (List ℕ × ℕ) → List UnitReference → List ℕ → Bool
@@ -99,11 +92,11 @@ rounds_from order host libs units (slot ∷ left) k row =
 -- the names that are sought by the host's own segments and then by these
 unfoldable pub sought : Order → List ℕ → List (List ℕ) → List Segment → List UnitReference
 sought order host libs others =
-    let own = own_segments order host libs in sought_from (units_of own) [] (references_in (own ++ others))
+    let own = own_segments order host libs in sought_from (units_of own) [] (all_unit_references (own ++ others))
 
 -- the rounds of own segments, with these slots
 abbrev pub rounds_in : Order → List ℕ → List (List ℕ) → List Segment → List ℕ → Rounds
-rounds_in order host libs own left = rounds_from order host libs (units_of own) left 0 (sought_from (units_of own) [] (references_in own))
+rounds_in order host libs own left = rounds_from order host libs (units_of own) left 0 (sought_from (units_of own) [] (all_unit_references own))
 
 -- the rounds of a host whose own segments are these
 abbrev pub rounds_of : Order → List ℕ → List (List ℕ) → List Segment → Rounds

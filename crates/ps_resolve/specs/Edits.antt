@@ -15,9 +15,9 @@ use Rattle.ps_resolve.specs.declared.linkage.Stop.TheVariants as stop
 use Rattle.ps_resolve.specs.declared.segments.RecordStop.{RecordStop}
 
 -- the records have no fault, or this is their first, or memory ran out
-abbrev pub Gives : {X : Type 0} → Result X RecordStop → Option (ℕ × (Option ℕ × Reason)) → Type 0
-Gives (Ok x) fault = fault ≡ None
-Gives (Err stop) fault = FindsOne (Err stop) fault
+abbrev pub FindsFault : {X : Type 0} → Result X RecordStop → Option (ℕ × (Option ℕ × Reason)) → Type 0
+FindsFault (Ok x) fault = fault ≡ None
+FindsFault (Err stop) fault = FindsOne (Err stop) fault
 
 -- the first fault of the segment's records, or memory ran out
 abbrev pub IsOfSegment : ℕ → ℕ → Option (ℕ × (Option ℕ × Reason)) → Stop → Type 0

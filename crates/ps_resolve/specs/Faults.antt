@@ -12,13 +12,14 @@ use Rattle.ps_words.specs.declared.fault.Reason.TheVariants as reason
 use Rattle.ps_words.specs.declared.fault.Fault.{Fault}
 use Rattle.ps_codefile.specs.Dictionary.{slots, opened, opened_beside, entry_at, role_of, code_of, information_of}
 use Rattle.ps_codefile.specs.Procedures.{table_of, tables_fault, is_reserved}
+use Rattle.ps_resolve.specs.Privates.{owner_of, first_private_fault, private_words, total_words}
+use Rattle.ps_linkinfo.specs.Counts.{next_of}
 use Rattle.ps_codefile.specs.declared.entry.Role.{Role}
 use Rattle.ps_codefile.specs.declared.entry.Entry.{Entry}
 use Rattle.ps_linkinfo.specs.Records.{reading}
 use Rattle.ps_resolve.specs.Searches.{first_of, fault_if}
 use Rattle.ps_resolve.specs.Sources.{Segment, source_of, file_at, is_named, chosen_library, is_linked, is_host, is_unit, is_wanted, host_of, host_records}
 use Rattle.ps_resolve.specs.Symbols.{doubled}
-use Rattle.ps_resolve.specs.Privates.{owner_of, first_private_fault, next_of, words_of, total_words}
 use Rattle.ps_resolve.specs.References.{Known, records_fault}
 use Rattle.ps_resolve.specs.Linking.{known_of, grown_data_size}
 
@@ -115,7 +116,7 @@ segment_fault order known free s = option_map (in_segment s.file s.slot) (record
 
 abbrev pub references_fault_from : Order → Known → ℕ → List Segment → Option Fault
 references_fault_from order known free [] = None
-references_fault_from order known free (s ∷ ss) = option_or (segment_fault order known free s) (references_fault_from order known (free + words_of s.records) ss)
+references_fault_from order known free (s ∷ ss) = option_or (segment_fault order known free s) (references_fault_from order known (free + private_words s.records) ss)
 
 unfoldable pub references_fault : Order → List Segment → Option Fault
 references_fault order segs = references_fault_from order (known_of segs) (next_of (host_records segs)) segs

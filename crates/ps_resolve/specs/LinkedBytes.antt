@@ -8,24 +8,21 @@ use Rattle.ps_words.specs.declared.edit.Edit.{Edit}
 use Rattle.ps_words.specs.declared.edit.Edit.TheVariants.{Byte}
 use Rattle.ps_words.specs.declared.fault.Fault.{Fault}
 use Rattle.ps_codefile.specs.Procedures.{table_of}
+use Rattle.ps_resolve.specs.Added.{segments}
+use Rattle.ps_linkinfo.specs.Counts.{next_of}
+use Rattle.ps_resolve.specs.Privates.{total_words}
+use Rattle.ps_resolve.specs.Standing.Keys.{Step}
+use Rattle.ps_resolve.specs.Standing.{FaultAt}
+use Rattle.ps_resolve.specs.Standing.Phrases.{SomeItem}
+use Rattle.ps_resolve.specs.Standing.References.{Covers}
+use Rattle.ps_resolve.specs.Standing.Privates.{private_offset}
 use Rattle.ps_linkinfo.specs.Records.{refs_of}
 use Rattle.ps_linkinfo.specs.declared.record.Body.{Body}
 use Rattle.ps_linkinfo.specs.declared.record.Body.TheVariants.{UnitRef, PublRef, PrivRef, PublDef, ConstDef, Eof}
 use Rattle.ps_linkinfo.specs.declared.record.LinkRecord.{LinkRecord as Record}
 use Rattle.ps_resolve.specs.Sources.{Segment, order_of, is_linked, is_host, is_unit, host_records}
-use Rattle.ps_resolve.specs.Added.{segments}
-use Rattle.ps_resolve.specs.Privates.{next_of, total_words}
 use Rattle.ps_resolve.specs.References.{words_taken, record_edits}
 use Rattle.ps_resolve.specs.Linking.{Edited, edited, known_of, data_edits, grown_data_size, linked_byte}
-use Rattle.ps_resolve.specs.Standing.{Step, FaultAt, SomeItem, Covers}
-
--- the records of a segment that stand before record `rec` of slot `slot`: all of a lesser slot, and the first `rec` of the slot itself
-abbrev pub records_before : ℕ → ℕ → Segment → List Record
-records_before slot rec s = if nat_lt s.slot slot then s.records else (if s.slot == slot then take rec s.records else [])
-
--- the offset of the private of record `rec` in slot `slot`: the base offset of the host's end mark, and the words of all privates before it, by slot and then by record
-abbrev pub private_offset : List Segment → ℕ → ℕ → ℕ
-private_offset segs slot rec = next_of (host_records segs) + sum_by (λ r. words_taken r.body) (flat_map (records_before slot rec) segs)
 
 -- reference i of record r, the segment's record `rec`, has its operand at x
 abbrev pub IsReference : Segment → ℕ → Record → ℕ → ℕ → Type 0
@@ -81,10 +78,6 @@ pub record IsOnePlace (order : Order) (s : Segment) (p : ℕ) : Type 0 where
   pub number : (rec i x : ℕ) (r : Record) → Reaches s rec r i x p → IsNumberPlace s p → ⊥
   pub size : (rec i x t j : ℕ) (r : Record) → Reaches s rec r i x p → IsSizePlace order s t j p → ⊥
   pub own : (t j : ℕ) → IsNumberPlace s p → IsSizePlace order s t j p → ⊥
-
--- no fault stands, in any step
-abbrev pub NoneStands : List ℕ → List (List ℕ) → Type 0
-NoneStands host libs = (step : Step) (f : Fault) → FaultAt host libs step f → ⊥
 
 -- the segments of a link of these files
 abbrev pub segments_of : List ℕ → List (List ℕ) → List Segment

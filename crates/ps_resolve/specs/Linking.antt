@@ -8,9 +8,10 @@ use Rattle.ps_words.specs.declared.order.Order.{Order}
 use Rattle.ps_words.specs.declared.edit.Edit.{Edit}
 use Rattle.ps_words.specs.declared.edit.Edit.TheVariants.{Byte, Word}
 use Rattle.ps_codefile.specs.Procedures.{table_of}
+use Rattle.ps_resolve.specs.Privates.{private_words, total_words}
+use Rattle.ps_linkinfo.specs.Counts.{next_of}
 use Rattle.ps_resolve.specs.Sources.{Segment, is_linked, is_host, host_of, host_records, units_of}
 use Rattle.ps_resolve.specs.Symbols.{definitions}
-use Rattle.ps_resolve.specs.Privates.{words_of, next_of, total_words}
 use Rattle.ps_resolve.specs.References.{Known, records_edits}
 
 -- the definitions of the host's segment, and the slots of the units
@@ -57,7 +58,7 @@ pub record Edited : Type 0 where
 abbrev pub edited_from : Order → Known → ℕ → ℕ → List Segment → List Edited
 edited_from order known words free [] = []
 edited_from order known words free (s ∷ ss) =
-    record { segment = s; edits = segment_edits order known words free s } ∷ edited_from order known words (free + words_of s.records) ss
+    record { segment = s; edits = segment_edits order known words free s } ∷ edited_from order known words (free + private_words s.records) ss
 
 abbrev pub edited : Order → List Segment → List Edited
 edited order segs = edited_from order (known_of segs) (total_words segs) (next_of (host_records segs)) segs

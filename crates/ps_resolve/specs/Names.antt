@@ -9,5 +9,5 @@ abbrev pub unit_in : Segment → Option (List ℕ × ℕ)
 unit_in s = if is_unit s.role then Some (s.name, s.slot) else None
 
 -- the slot of each unit by its name
-abbrev pub units_in : List Segment → List (List ℕ × ℕ)
-units_in segs = filter_map unit_in segs
+abbrev pub units_by_name : List Segment → List (List ℕ × ℕ)
+units_by_name segs = filter_map unit_in segs

@@ -21,5 +21,5 @@ abbrev pub is_of : ℕ → ℕ → Private → Bool
 is_of slot rec p = p.slot == slot && p.rec == rec
 
 -- the offset of the private of a record
-abbrev pub offset_of : ℕ → ℕ → List Private → Option ℕ
-offset_of slot rec ps = option_map (λ p. p.offset) (find (is_of slot rec) ps)
+abbrev pub offset_listed : ℕ → ℕ → List Private → Option ℕ
+offset_listed slot rec ps = option_map (λ p. p.offset) (find (is_of slot rec) ps)

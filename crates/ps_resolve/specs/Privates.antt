@@ -37,9 +37,9 @@ allotted slot rec next (r ∷ rs) =
     ]
 
 -- the words of all of them
-abbrev pub words_of : List Record → ℕ
-words_of [] = 0
-words_of (r ∷ rs) = elim (words_in r.body) [ None ↦ words_of rs | Some words ↦ words + words_of rs ]
+abbrev pub private_words : List Record → ℕ
+private_words [] = 0
+private_words (r ∷ rs) = elim (words_in r.body) [ None ↦ private_words rs | Some words ↦ words + private_words rs ]
 
 -- the first that has the name of one before it, of the names `seen` or of the records, or that ends past 32767
 abbrev pub private_fault : ℕ → ℕ → List (List ℕ) → List Record → Option (ℕ × Reason)
@@ -73,17 +73,17 @@ owner_of s = record { slot = s.slot; file = s.file; records = s.records }
 -- the privates of all segments, by slot and then by record, from the offset `next` on
 abbrev pub all_allotted : ℕ → List Owner → List Private
 all_allotted next [] = []
-all_allotted next (s ∷ ss) = allotted s.slot 0 next s.records ++ all_allotted (next + words_of s.records) ss
+all_allotted next (s ∷ ss) = allotted s.slot 0 next s.records ++ all_allotted (next + private_words s.records) ss
 
 abbrev pub all_words : List Owner → ℕ
 all_words [] = 0
-all_words (s ∷ ss) = words_of s.records + all_words ss
+all_words (s ∷ ss) = private_words s.records + all_words ss
 
 -- the first fault of the privates
 abbrev pub first_private_fault : ℕ → List Owner → Option Fault
 first_private_fault next [] = None
 first_private_fault next (s ∷ ss) =
-    option_or (option_map (λ f. in_record s.file s.slot f.0 f.1) (private_fault 0 next [] s.records)) (first_private_fault (next + words_of s.records) ss)
+    option_or (option_map (λ f. in_record s.file s.slot f.0 f.1) (private_fault 0 next [] s.records)) (first_private_fault (next + private_words s.records) ss)
 
 -- what an allotment holds: the privates, the words of all of them, and the offset behind the last
 pub record Allotted : Type 0 where
@@ -97,18 +97,6 @@ allotment_of next ss = record { privates = all_allotted next ss; words = all_wor
 abbrev pub AreUnallotted : ℕ → List Owner → Stop → Type 0
 AreUnallotted next ss (Refused fault) = first_private_fault next ss ≡ Some fault
 AreUnallotted next ss Memory = 0 < length (all_allotted next ss)
-
--- the base offset that the end mark of the host's segment gives: the first that is free
-abbrev pub next_in : Body → Option ℕ
-next_in (Eof next) = Some next
-next_in (UnitRef refs) = None
-next_in (PublRef refs) = None
-next_in (PrivRef words refs) = None
-next_in (PublDef value) = None
-next_in (ConstDef value) = None
-
-abbrev pub next_of : List Record → ℕ
-next_of rs = unwrap_or (slice_get (filter_map (λ r. next_in r.body) rs) 0) 0
 
 -- the words of all privates of the segments
 abbrev pub total_words : List Segment → ℕ

@@ -3,13 +3,17 @@
 use Rattle.std.specs.Prelude.{◌≡◌, ◌⊎◌, ℕ, ◌+◌, ◌<◌, List, [], ◌∷◌, ◌++◌, map, slice_get, true, Ok, Some}
 use Rattle.ps_words.specs.declared.order.Order.{Order}
 use Rattle.ps_codefile.specs.Dictionary.{entry_at, code_of, information_of}
+use Rattle.ps_linkinfo.specs.Counts.{is_unit_reference}
+use Rattle.ps_resolve.specs.Added.{empty_slots, sought, added, segments}
+use Rattle.ps_resolve.specs.Standing.Phrases.{SomeBelow, SomeItem}
+use Rattle.ps_resolve.specs.Standing.Slots.{IsUnitSlot}
+use Rattle.ps_resolve.specs.Standing.Sources.{IsNamed, HasEntry}
+use Rattle.ps_resolve.specs.Standing.Segments.{IsSegment}
 use Rattle.ps_codefile.specs.declared.entry.Role.TheVariants.{Wanted}
 use Rattle.ps_linkinfo.specs.Records.{reading}
 use Rattle.ps_linkinfo.specs.declared.record.LinkRecord.{LinkRecord as Record}
 use Rattle.ps_resolve.specs.First.{Before}
 use Rattle.ps_resolve.specs.Sources.{Segment, is_unit, order_of, own_segments}
-use Rattle.ps_resolve.specs.Added.{is_unit_reference, empty_slots, sought, added, segments}
-use Rattle.ps_resolve.specs.Standing.{Lesser, SomeItem, IsUnitSlot, IsNamed, HasEntry, IsSegment}
 use Rattle.ps_resolve.specs.declared.added.UnitReference.{UnitReference}
 
 -- record `rec` of the i-th segment is a UNITREF of this name
@@ -19,7 +23,7 @@ Asks segs i rec name =
 
 -- a slot of role Unit or Wanted of the host has the name
 abbrev pub HasSlot : Order → List ℕ → List ℕ → Type 0
-HasSlot order host name = Lesser 16 (λ slot. IsUnitSlot order host slot × ((entry_at order host slot).name ≡ name))
+HasSlot order host name = SomeBelow 16 (λ slot. IsUnitSlot order host slot × ((entry_at order host slot).name ≡ name))
 
 -- the reference is of the i-th segment, and its record is the first of all that asks for the name
 abbrev pub IsGiver : List Segment → ℕ → UnitReference → Type 0

@@ -27,12 +27,12 @@ abbrev pub is_in_slot : ℕ → Segment → Bool
 is_in_slot slot s = s.slot == slot
 
 -- the own segment that stands in a slot, or in an empty slot the added one
-abbrev pub in_slot : Order → List ℕ → List Segment → List Segment → ℕ → Option Segment
-in_slot order host own added slot = option_or (find (is_in_slot slot) own) (if is_role is_empty order host slot then find (is_in_slot slot) added else None)
+abbrev pub segment_in_slot : Order → List ℕ → List Segment → List Segment → ℕ → Option Segment
+segment_in_slot order host own added slot = option_or (find (is_in_slot slot) own) (if is_role is_empty order host slot then find (is_in_slot slot) added else None)
 
 -- those of all slots
-unfoldable pub in_slots : Order → List ℕ → List Segment → List Segment → List Segment
-in_slots order host own added = filter_map (in_slot order host own added) slots
+unfoldable pub segments_in_slots : Order → List ℕ → List Segment → List Segment → List Segment
+segments_in_slots order host own added = filter_map (segment_in_slot order host own added) slots
 
 -- the length of the code is within its limits, and the procedure tables of a linked segment have no fault
 pub record IsSound (order : Order) (s : Segment) : Type 0 where

@@ -6,9 +6,9 @@ ghost use Rattle.std.specs.Str.{bytes_eq};
 ghost use Rattle.arrayvec.specs.ArrayVec.{array_vec_len};
 ghost use Rattle.ps_codefile.specs.Dictionary.{slots, is_nameless as is_nameless_spec};
 ghost use Rattle.ps_resolve.specs.Sources.{is_named, is_empty as is_empty_role, chosen_library as chosen_library_spec, contents};
-ghost use Rattle.ps_resolve.specs.Added.{unit_references, references_in, is_had as is_had_spec, is_missing, sought_from, empty_slots as empty_slots_spec, unplaced_fault, placed_fault, added_segment, rounds_in, rounds_of};
+ghost use Rattle.ps_resolve.specs.Added.{unit_references, all_unit_references, is_had as is_had_spec, is_missing, sought_from, empty_slots as empty_slots_spec, unplaced_fault, placed_fault, added_segment, rounds_in, rounds_of};
 ghost use Rattle.ps_resolve.specs.Faults.{is_role, libraries_fault};
-ghost use Rattle.ps_resolve.specs.Names.{units_in};
+ghost use Rattle.ps_resolve.specs.Names.{units_by_name};
 ghost use Rattle.ps_resolve.specs.Views.{segment_of, IsSound};
 
 use crate::names::slot_of;
@@ -87,7 +87,7 @@ fn is_in_row(row: &ArrayVec<UnitReference, 10>, name: [u8; 8]) -> bool
 
 /// A unit of the host has the name, or it is in the row.
 fn is_had(own: &[Segment], row: &ArrayVec<UnitReference, 10>, name: [u8; 8]) -> bool
-    ensures { result ≡ is_had_spec (units_in own.now) row.now.items name }
+    ensures { result ≡ is_had_spec (units_by_name own.now) row.now.items name }
 {
     match slot_of(own, name) {
         Some(_) => true,
@@ -98,7 +98,7 @@ fn is_had(own: &[Segment], row: &ArrayVec<UnitReference, 10>, name: [u8; 8]) -> 
 /// Adds the reference behind the row, where its name is not had; a full row stays as it is.
 fn seek(own: &[Segment], row: &mut ArrayVec<UnitReference, 10>, reference: UnitReference)
     requires { length row.old.items ≤ 10 }
-    ensures { row.new.items ≡ take 10 (sought_from (units_in own.now) row.old.items (reference ∷ [])) }
+    ensures { row.new.items ≡ take 10 (sought_from (units_by_name own.now) row.old.items (reference ∷ [])) }
 {
     if is_had(own, row, reference.name) {
         return;
@@ -117,7 +117,7 @@ fn seek_record(
     entry: &LinkRecord,
 )
     requires { length row.old.items ≤ 10 }
-    ensures { row.new.items ≡ take 10 (sought_from (units_in own.now) row.old.items (unit_references segment.now.file segment.now.slot rec (entry.now ∷ []))) }
+    ensures { row.new.items ≡ take 10 (sought_from (units_by_name own.now) row.old.items (unit_references segment.now.file segment.now.slot rec (entry.now ∷ []))) }
 {
     match &entry.body {
         Body::UnitRef(_) => seek(
@@ -146,7 +146,7 @@ fn seek_records(
     segment: &Segment,
 )
     requires { length row.old.items ≤ 10 }
-    ensures { row.new.items ≡ take 10 (sought_from (units_in own.now) row.old.items (unit_references segment.now.file segment.now.slot 0 (segment_of order segment.now).records)) }
+    ensures { row.new.items ≡ take 10 (sought_from (units_by_name own.now) row.old.items (unit_references segment.now.file segment.now.slot 0 (segment_of order segment.now).records)) }
 {
     walk_from_start();
     let mut rec = 0;
@@ -161,7 +161,7 @@ fn seek_records(
 
 /// The names that the host's own segments seek.
 fn sought_by(order: Order, own: &[Segment]) -> ArrayVec<UnitReference, 10>
-    ensures { result.items ≡ take 10 (sought_from (units_in own.now) [] (references_in (map (segment_of order) own.now))) }
+    ensures { result.items ≡ take 10 (sought_from (units_by_name own.now) [] (all_unit_references (map (segment_of order) own.now))) }
 {
     let mut row: ArrayVec<UnitReference, MAX_SOUGHT> = ArrayVec::new();
     for segment in own {

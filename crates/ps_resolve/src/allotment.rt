@@ -1,12 +1,12 @@
 ghost use Rattle.std.specs.Prelude.{◌≡◌, ◌<◌, ◌≤◌, ◌+◌, ◌++◌, [], IfOk, IfErr, None, ℕ, List, map};
 ghost use Rattle.ps_resolve.specs.Linkable.{AscendFrom};
-ghost use Rattle.ps_resolve.specs.Offsets.{FollowOn, offset_of};
+ghost use Rattle.ps_resolve.specs.Offsets.{FollowOn, offset_listed};
 ghost use Rattle.ps_words.specs.FaultPlaces.{in_record};
 ghost use Rattle.indexmap.specs.IndexSet.{hasher_of};
 ghost use Rattle.ps_linkinfo.specs.Counts.{digest_of, privates_in};
 ghost use Rattle.ps_resolve.specs.declared.linkage.Stop.TheVariants.{Refused, Memory};
 ghost use Rattle.ps_linkinfo.specs.Records.{reading};
-ghost use Rattle.ps_resolve.specs.Privates.{words_in, allotted, words_of, private_fault, all_allotted, all_words, first_private_fault, owner_of_linkage, allotment_of, IsUnallotted, AreUnallotted, Owner};
+ghost use Rattle.ps_resolve.specs.Privates.{words_in, allotted, private_words, private_fault, all_allotted, all_words, first_private_fault, owner_of_linkage, allotment_of, IsUnallotted, AreUnallotted, Owner};
 
 use crate::linkage::{Linkage, Stop};
 use crate::name_hasher::NameHasher;
@@ -79,7 +79,7 @@ fn allot<A: Allocator + Copy>(
     privates: &mut Vec<Private, A>,
 ) -> Result<u16, Stop>
     ensures privates { IfOk result (λ _. privates.new.items ≡ privates.old.items ++ allotted segment.now.slot 0 next (reading segment.now.order segment.now.bytes.now).0) }
-    ensures end { IfOk result (λ end. end ≡ next + words_of (reading segment.now.order segment.now.bytes.now).0) }
+    ensures end { IfOk result (λ end. end ≡ next + private_words (reading segment.now.order segment.now.bytes.now).0) }
     ensures once { IfOk result (λ _. private_fault 0 next [] (reading segment.now.order segment.now.bytes.now).0 ≡ None) }
     ensures stop { IfErr result (IsUnallotted segment.now.file segment.now.slot next (reading segment.now.order segment.now.bytes.now).0) }
 {
@@ -187,7 +187,7 @@ impl<A: Allocator + Copy> Allotment<A> {
     /// The base offset in words, 0 to 32767, of the private that a record asks for: the record of index
     /// `rec`, from 0, of the segment in slot `slot`. `None` where that is no PRIVREF record.
     pub fn offset(&self, slot: u8, rec: usize) -> Option<u16>
-        ensures { result ≡ offset_of slot rec self.now.privates }
+        ensures { result ≡ offset_listed slot rec self.now.privates }
     {
         let privates = self.privates.as_slice();
         let first = privates.partition_point(|p| p.slot < slot || p.slot == slot && p.rec < rec);

@@ -5,9 +5,9 @@ ghost use Rattle.ps_words.specs.declared.edit.Edit.TheVariants.{Byte};
 ghost use Rattle.ps_codefile.specs.Procedures.{is_reserved};
 ghost use Rattle.ps_linkinfo.specs.Records.{reading, refs_of};
 ghost use Rattle.ps_resolve.specs.References.{records_fault, records_edits};
-ghost use Rattle.ps_resolve.specs.Privates.{words_of};
+ghost use Rattle.ps_resolve.specs.Privates.{private_words};
 ghost use Rattle.ps_resolve.specs.declared.segments.RecordStop.TheVariants.{Memory};
-ghost use Rattle.ps_resolve.specs.Edits.{Gives, IsOfTable};
+ghost use Rattle.ps_resolve.specs.Edits.{FindsFault, IsOfTable};
 
 use crate::linkage::Linkage;
 use crate::names::Names;
@@ -93,7 +93,7 @@ pub(crate) fn edits_of<A: Allocator + Copy>(
 ) -> Result<(Vec<Edit, A>, u16), RecordStop>
     requires small { length code.now ≤ 32767 }
     requires large { 4 ≤ length code.now }
-    requires room { free + words_of (reading segment.now.order segment.now.bytes.now).0 < 65536 }
+    requires room { free + private_words (reading segment.now.order segment.now.bytes.now).0 < 65536 }
     requires own_code { procedures.now.code ≡ code.now }
     requires table { IfSome own (IsOfTable procedures.now.order code.now) }
     ensures same { IfOk result (λ found. IsPermutation (Byte (length code.now - 2) segment.now.slot
@@ -101,8 +101,8 @@ pub(crate) fn edits_of<A: Allocator + Copy>(
     ensures once { IfOk result (λ found. (p : ℕ) → count_by (covers p) (Byte (length code.now - 2) segment.now.slot
         ∷ (option_to_list own ++ records_edits names.now code.now free (reading segment.now.order segment.now.bytes.now).0)) ≤ 1) }
     ensures ready { IfOk result (λ found. AreEdits (length code.now) found.0.items) }
-    ensures end { IfOk result (λ found. found.1 ≡ free + words_of (reading segment.now.order segment.now.bytes.now).0) }
-    ensures fault { Gives result (records_fault names.now (is_reserved procedures.now.order procedures.now.code) code.now 0 free [] (reading segment.now.order segment.now.bytes.now).0) }
+    ensures end { IfOk result (λ found. found.1 ≡ free + private_words (reading segment.now.order segment.now.bytes.now).0) }
+    ensures fault { FindsFault result (records_fault names.now (is_reserved procedures.now.order procedures.now.code) code.now 0 free [] (reading segment.now.order segment.now.bytes.now).0) }
 {
     let mut edits = own_edits(alloc, segment.slot, code, own, references_in(segment))?;
     let end = add_records(names, procedures, segment, free, code, &mut edits)?;

@@ -8,7 +8,8 @@ ghost use Rattle.ps_resolve.specs.Added.{slot_names};
 ghost use Rattle.ps_resolve.specs.Linkable.{AscendFrom, HasOneHost};
 ghost use Rattle.ps_resolve.specs.Linking.{segment_edits as segment_edits_spec, data_edits, edited_from};
 ghost use Rattle.ps_resolve.specs.Plans.{AreStopped, IsPlanOf, LinksSegment, LinkSegments, origin_of, origin_of_source};
-ghost use Rattle.ps_resolve.specs.Privates.{next_of, owner_of, owner_of_linkage, words_of, all_words};
+ghost use Rattle.ps_linkinfo.specs.Counts.{next_of};
+ghost use Rattle.ps_resolve.specs.Privates.{owner_of, owner_of_linkage, private_words, all_words};
 ghost use Rattle.ps_codefile.specs.Procedures.{is_reserved};
 ghost use Rattle.ps_resolve.specs.References.{FindsOne, records_fault};
 ghost use Rattle.ps_resolve.specs.Sources.{Segment as SegmentSpec, is_linked as is_linked_spec, is_host as is_host_spec, host_of as host_of_spec};
@@ -108,11 +109,11 @@ fn linked_edits<A: Allocator + Copy>(
 ) -> Result<(Vec<Edit, A>, u16), Stop>
     requires linked { is_linked_spec segment.now.role ≡ true }
     requires sound { IsSound order (segment_of order segment.now) }
-    requires room { free + words_of (segment_of order segment.now).records < 65536 }
+    requires room { free + private_words (segment_of order segment.now).records < 65536 }
     requires table { IfSome own (IsOfTable order segment.now.code.now) }
     ensures links { (words : ℕ) → option_to_list own ≡ (if is_host_spec segment.now.role then data_edits order words segment.now.code.now else [])
         → IfOk result (λ found. LinksSegment order (record { segment = segment_of order segment.now; edits = segment_edits_spec order names.now words free (segment_of order segment.now) }) found.0.items) }
-    ensures end { IfOk result (λ found. found.1 ≡ free + words_of (segment_of order segment.now).records) }
+    ensures end { IfOk result (λ found. found.1 ≡ free + private_words (segment_of order segment.now).records) }
     ensures sound { IfOk result (λ _. segment_fault order names.now free (segment_of order segment.now) ≡ None) }
     ensures stop { IfErr result (IsOfSegment segment.now.file segment.now.slot (records_fault names.now (is_reserved order segment.now.code.now) segment.now.code.now 0 free [] (segment_of order segment.now).records)) }
 {
@@ -140,11 +141,11 @@ fn segment_edits<A: Allocator + Copy>(
     own: Option<Edit>,
 ) -> Result<(Vec<Edit, A>, u16), Stop>
     requires sound { IsSound order (segment_of order segment.now) }
-    requires room { free + words_of (segment_of order segment.now).records < 65536 }
+    requires room { free + private_words (segment_of order segment.now).records < 65536 }
     requires table { IfSome own (IsOfTable order segment.now.code.now) }
     ensures links { (words : ℕ) → option_to_list own ≡ (if is_host_spec segment.now.role then data_edits order words segment.now.code.now else [])
         → IfOk result (λ found. LinksSegment order (record { segment = segment_of order segment.now; edits = segment_edits_spec order names.now words free (segment_of order segment.now) }) found.0.items) }
-    ensures end { IfOk result (λ found. found.1 ≡ free + words_of (segment_of order segment.now).records) }
+    ensures end { IfOk result (λ found. found.1 ≡ free + private_words (segment_of order segment.now).records) }
     ensures sound { IfOk result (λ _. segment_fault order names.now free (segment_of order segment.now) ≡ None) }
     ensures stop { IfErr result (IsOfSegment segment.now.file segment.now.slot (records_fault names.now (is_reserved order segment.now.code.now) segment.now.code.now 0 free [] (segment_of order segment.now).records)) }
 {

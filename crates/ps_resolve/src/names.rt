@@ -1,7 +1,7 @@
 ghost use Rattle.std.specs.Prelude.{◌≡◌};
 ghost use Rattle.std.specs.Map.{lookup};
 ghost use Rattle.std.specs.Str.{bytes_eq};
-ghost use Rattle.ps_resolve.specs.Names.{units_in};
+ghost use Rattle.ps_resolve.specs.Names.{units_by_name};
 ghost use Rattle.ps_resolve.specs.Symbols.{definition_of};
 
 use crate::definitions::{Def, Definitions};
@@ -19,16 +19,16 @@ pub(crate) struct Names<'k, 'a, A: Allocator + Copy = Global> {
 
 impl<'k, 'a, A: Allocator + Copy> Model for Names<'k, 'a, A> {
     ghost use Rattle.ps_resolve.specs.References.{Known};
-    ghost use Rattle.ps_resolve.specs.Names.{units_in};
+    ghost use Rattle.ps_resolve.specs.Names.{units_by_name};
 
     ghost Value = { Known };
 
-    ghost view = { λ n. record { definitions = n.definitions.now; units = units_in n.segments.now } };
+    ghost view = { λ n. record { definitions = n.definitions.now; units = units_by_name n.segments.now } };
 }
 
 /// The slot of the unit of this name.
 pub(crate) fn slot_of(segments: &[Segment], name: [u8; 8]) -> Option<u8>
-    ensures { result ≡ lookup (bytes_eq name) (units_in segments.now) }
+    ensures { result ≡ lookup (bytes_eq name) (units_by_name segments.now) }
 {
     for segment in segments {
         if is_unit(segment.role) && name == segment.name {

@@ -8,7 +8,7 @@ ghost use Rattle.ps_resolve.specs.Added.{segments, slot_name as slot_name_spec, 
 ghost use Rattle.ps_resolve.specs.Faults.{slots_fault as slots_fault_spec, no_host_fault as no_host_fault_spec, libraries_fault as libraries_fault_spec};
 ghost use Rattle.ps_resolve.specs.AllFaults.{reading_fault, reading_rest};
 ghost use Rattle.ps_resolve.specs.Linkable.{AscendFrom, HasOneHost};
-ghost use Rattle.ps_resolve.specs.Views.{segment_of, IsSound, is_in_slot, in_slot, in_slots};
+ghost use Rattle.ps_resolve.specs.Views.{segment_of, IsSound, is_in_slot, segment_in_slot, segments_in_slots};
 
 use crate::added::add_units;
 use crate::libraries::libraries_fault;
@@ -39,7 +39,7 @@ fn segment_of_slot<'a>(
     slot: u8,
 ) -> Option<Segment<'a>>
     requires { slot < 16 }
-    ensures { option_map (segment_of host.now.order) result ≡ in_slot host.now.order host.now.file (map (segment_of host.now.order) own.now) (map (segment_of host.now.order) added.now) slot }
+    ensures { option_map (segment_of host.now.order) result ≡ segment_in_slot host.now.order host.now.file (map (segment_of host.now.order) own.now) (map (segment_of host.now.order) added.now) slot }
 {
     if let Some(segment) = segment_in(own, slot) {
         return Some(segment);
@@ -58,7 +58,7 @@ fn by_slot<'a>(
 ) -> ArrayVec<Segment<'a>, 16>
     requires own { All (IsSound host.now.order) (map (segment_of host.now.order) own.now) }
     requires added { All (IsSound host.now.order) (map (segment_of host.now.order) added.now) }
-    ensures segments { map (segment_of host.now.order) result.items ≡ in_slots host.now.order host.now.file (map (segment_of host.now.order) own.now) (map (segment_of host.now.order) added.now) }
+    ensures segments { map (segment_of host.now.order) result.items ≡ segments_in_slots host.now.order host.now.file (map (segment_of host.now.order) own.now) (map (segment_of host.now.order) added.now) }
     ensures sound { All (IsSound host.now.order) (map (segment_of host.now.order) result.items) }
 {
     let mut segments = ArrayVec::new();

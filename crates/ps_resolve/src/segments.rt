@@ -7,8 +7,8 @@ ghost use Rattle.ps_codefile.specs.Procedures.{is_reserved};
 ghost use Rattle.ps_resolve.specs.Operands.{edit_of, operands, refs_fault, is_in};
 ghost use Rattle.ps_resolve.specs.Marks.{Marks, Finds};
 ghost use Rattle.ps_resolve.specs.References.{target_of as target_of_spec, words_taken as words_taken_spec, records_fault, records_edits, FindsOne};
-ghost use Rattle.ps_resolve.specs.Edits.{Gives};
-ghost use Rattle.ps_resolve.specs.Privates.{words_of};
+ghost use Rattle.ps_resolve.specs.Edits.{FindsFault};
+ghost use Rattle.ps_resolve.specs.Privates.{private_words};
 ghost use Rattle.ps_resolve.specs.declared.segments.RecordStop.TheVariants.{Memory};
 
 use crate::definitions::DefKind;
@@ -130,11 +130,11 @@ pub(crate) fn add_records<A: Allocator + Copy>(
     edits: &mut Vec<Edit, A>,
 ) -> Result<u16, RecordStop>
     requires small { length code.now ≤ 32767 }
-    requires room { free + words_of (reading segment.now.order segment.now.bytes.now).0 < 65536 }
+    requires room { free + private_words (reading segment.now.order segment.now.bytes.now).0 < 65536 }
     ensures ok { OnOk result (edits.new.items ≡ edits.old.items
         ++ records_edits names.now code.now free (reading segment.now.order segment.now.bytes.now).0) }
-    ensures end { IfOk result (λ end. end ≡ free + words_of (reading segment.now.order segment.now.bytes.now).0) }
-    ensures fault { Gives result (records_fault names.now (is_reserved procedures.now.order procedures.now.code) code.now 0 free [] (reading segment.now.order segment.now.bytes.now).0) }
+    ensures end { IfOk result (λ end. end ≡ free + private_words (reading segment.now.order segment.now.bytes.now).0) }
+    ensures fault { FindsFault result (records_fault names.now (is_reserved procedures.now.order procedures.now.code) code.now 0 free [] (reading segment.now.order segment.now.bytes.now).0) }
 {
     walk_from_start();
     let mut taken = Places::new();

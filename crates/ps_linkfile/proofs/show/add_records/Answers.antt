@@ -1,7 +1,7 @@
 use Rattle.std.proofs.Common.{◌∙◌, ◌++◌, List, ℕ, length, string_bytes, ap, arith, Result}
 use Rattle.ps_words.specs.declared.fault.Reason.{Reason}
 use Rattle.ps_linkinfo.specs.Records.{reading}
-use Rattle.ps_linkinfo.specs.Walk.{start_of}
+use Rattle.ps_linkinfo.specs.Walk.{whole_walk}
 use Rattle.ps_linkinfo.specs.Left.{left}
 use Rattle.ps_linkinfo.specs.declared.record.LinkRecord.{LinkRecord as Record}
 use Rattle.ps_linkfile.proofs.Shows.{item_lines, lines_of_reading, record_more, fault_more, lines_over}
@@ -12,7 +12,7 @@ loop-item-init g c =
     let order = c.args.order in
     let bytes = c.args.information.now in
     let start = c.into_iter-item-iterator.ensures.into_iter_gives ∙ c.new-item-items.ensures in
-    let few = c.walk_from_start.ensures.few_items (start_of order bytes) in
+    let few = c.walk_from_start.ensures.few_items (whole_walk order bytes) in
     rw start (record {
       can = tt;
       finite = tt;

@@ -3,8 +3,8 @@ use Rattle.std.proofs.lemmas.List.{get_or_default, map-append, drop_all}
 use Rattle.std.proofs.lemmas.List.Elements.{All-nil}
 use Rattle.ps_words.specs.declared.fault.Fault.{Fault}
 use Rattle.ps_resolve.specs.Sources.{Segment, units_of}
-use Rattle.ps_resolve.specs.Added.{Rounds, sought_from, unit_references, references_in, rounds_from}
-use Rattle.ps_resolve.specs.Names.{units_in}
+use Rattle.ps_resolve.specs.Added.{Rounds, sought_from, unit_references, all_unit_references, rounds_from}
+use Rattle.ps_resolve.specs.Names.{units_by_name}
 use Rattle.ps_resolve.specs.Views.{segment_of, IsSound}
 use Rattle.ps_resolve.specs.declared.added.UnitReference.{UnitReference}
 use Rattle.ps_resolve.specs.declared.segment.Segment.{Segment as SegmentView}
@@ -17,9 +17,9 @@ use Rattle.ps_resolve.proofs.added.add_in.Goals as goal
 pub loop-slot-init : goal.loop-slot-init
 loop-slot-init c =
     let own : List Segment = map (segment_of c.args.order) c.args.own.now in
-    let row = sought_from (units_of own) [] (references_in own) in
-    let units : units_of own ≡ units_in c.args.own.now = units_are c.args.order c.args.own.now in
-    let is : c.sought_by-row.result.items ≡ take 10 row = c.sought_by-row.ensures ∙ sym (ap (λ (u : List (List ℕ × ℕ)). take 10 (sought_from u [] (references_in own))) units) in
+    let row = sought_from (units_of own) [] (all_unit_references own) in
+    let units : units_of own ≡ units_by_name c.args.own.now = units_are c.args.order c.args.own.now in
+    let is : c.sought_by-row.result.items ≡ take 10 row = c.sought_by-row.ensures ∙ sym (ap (λ (u : List (List ℕ × ℕ)). take 10 (sought_from u [] (all_unit_references own))) units) in
     rw c.new-added.ensures (record { rounds = (row, is, λ host. refl); count = refl; sound = All-nil (IsSound c.args.order) })
 
 -- all rounds are those so far, where no name is left
@@ -67,7 +67,7 @@ loop-slot-preserved c =
     let libs = files c.args.libs.now in
     let own : List Segment = map (segment_of order) c.args.own.now in
     let units = units_of own in
-    let same : units ≡ units_in c.args.own.now = units_are order c.args.own.now in
+    let same : units ≡ units_by_name c.args.own.now = units_are order c.args.own.now in
     let slots : List ℕ = c.args.slots.now in
     let i : ℕ = c.loop-slot.slot-index in
     let lt : i < length slots = c.loop-slot-test.true in

@@ -4,11 +4,11 @@ use Rattle.std.specs.Option.{option_map}
 use Rattle.ps_words.specs.declared.order.Order.{Order}
 use Rattle.ps_words.specs.declared.fault.Fault.{Fault}
 use Rattle.ps_codefile.specs.Dictionary.{slots, is_linked_kind}
+use Rattle.ps_resolve.specs.Added.{as_added}
+use Rattle.ps_resolve.specs.Views.{segment_of, IsSound}
 use Rattle.ps_codefile.specs.declared.entry.Role.TheVariants.{Wanted}
 use Rattle.ps_resolve.specs.Sources.{is_named, segment_from}
-use Rattle.ps_resolve.specs.Added.{as_added}
 use Rattle.ps_resolve.specs.Faults.{entries_reason, code_fault}
-use Rattle.ps_resolve.specs.Views.{segment_of, IsSound}
 use Rattle.ps_resolve.proofs.Adding.{placed_refused, placed_by, added_by}
 use Rattle.ps_resolve.proofs.ReadingLibraries.{files, chosen_file}
 use Rattle.ps_resolve.proofs.ReadingUnits.{kind_is}

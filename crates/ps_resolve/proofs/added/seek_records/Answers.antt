@@ -3,7 +3,7 @@ use Rattle.std.proofs.lemmas.List.{take_all}
 use Rattle.ps_linkinfo.specs.Left.{records_left}
 use Rattle.ps_linkinfo.specs.declared.record.LinkRecord.{LinkRecord as Record}
 use Rattle.ps_resolve.specs.Added.{sought_from, unit_references}
-use Rattle.ps_resolve.specs.Names.{units_in}
+use Rattle.ps_resolve.specs.Names.{units_by_name}
 use Rattle.ps_resolve.proofs.Adding.{kept_more, few_kept}
 use Rattle.ps_resolve.proofs.Rows.{given_ok, given_err}
 use Rattle.ps_resolve.proofs.added.seek_records.Goals as goal
@@ -16,7 +16,7 @@ loop-item-init c =
 
 pub loop-item-preserved-in-Ok : goal.loop-item-preserved-in-Ok
 loop-item-preserved-in-Ok c =
-    let units = units_in c.args.own.now in
+    let units = units_by_name c.args.own.now in
     let s = c.args.segment.now in
     let inv = c.loop-item.invariant in
     let r = c.in-Ok.entry in
@@ -49,7 +49,7 @@ seek_record-requires c = c.loop-item.invariant.few
 pub returns : goal.returns
 returns c =
     let s = c.args.segment.now in
-    let units = units_in c.args.own.now in
+    let units = units_by_name c.args.own.now in
     let row = c.loop-item.row.items in
     let none : records_left c.loop-item.item-iterator ≡ [] = rw c.in-None.ensures.steps.0.0 refl in
     sym (take_all 10 row c.loop-item.invariant.few)

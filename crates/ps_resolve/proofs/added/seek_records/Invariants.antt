@@ -1,7 +1,7 @@
 use Rattle.std.proofs.Common.{◌≡◌, ◌+◌, ◌≤◌, length, take}
 use Rattle.ps_linkinfo.specs.Left.{records_left}
 use Rattle.ps_resolve.specs.Added.{sought_from, unit_references}
-use Rattle.ps_resolve.specs.Names.{units_in}
+use Rattle.ps_resolve.specs.Names.{units_by_name}
 use Rattle.ps_resolve.specs.Views.{segment_of}
 use Rattle.ps_resolve.proofs.added.seek_records.Given as goal
 
@@ -9,7 +9,7 @@ use Rattle.ps_resolve.proofs.added.seek_records.Given as goal
 abbrev pub invariant-loop-item : goal.invariant-loop-item
 invariant-loop-item l =
     let rs = (segment_of l.fn.order l.segment).records in
-    let units = units_in l.own in
+    let units = units_by_name l.own in
     record {
       can : goal.iterator-loop-item.can_next l.item-iterator;
       finite : goal.iterator-loop-item.is_finite l.item-iterator;

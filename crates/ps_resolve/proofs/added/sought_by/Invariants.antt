@@ -1,14 +1,14 @@
 use Rattle.std.proofs.Common.{◌≡◌, ◌≤◌, [], length, take, drop, map}
-use Rattle.ps_resolve.specs.Added.{sought_from, references_in}
-use Rattle.ps_resolve.specs.Names.{units_in}
+use Rattle.ps_resolve.specs.Added.{sought_from, all_unit_references}
+use Rattle.ps_resolve.specs.Names.{units_by_name}
 use Rattle.ps_resolve.specs.Views.{segment_of}
 use Rattle.ps_resolve.proofs.added.sought_by.Given as goal
 
 -- the row so far and what the segments that are left seek make the whole row
 abbrev pub invariant-loop-segment : goal.invariant-loop-segment
 invariant-loop-segment l =
-    let units = units_in l.own in
+    let units = units_by_name l.own in
     record {
-      row : take 10 (sought_from units l.row.items (references_in (map (segment_of l.order) (drop l.segment-index l.own)))) ≡ take 10 (sought_from units [] (references_in (map (segment_of l.order) l.own)));
+      row : take 10 (sought_from units l.row.items (all_unit_references (map (segment_of l.order) (drop l.segment-index l.own)))) ≡ take 10 (sought_from units [] (all_unit_references (map (segment_of l.order) l.own)));
       few : length l.row.items ≤ 10;
     }

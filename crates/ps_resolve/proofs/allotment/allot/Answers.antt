@@ -4,10 +4,10 @@ use Rattle.std.proofs.lemmas.Result.{err_from_is_err_and}
 use Rattle.ps_linkinfo.specs.Records.{reading}
 use Rattle.ps_linkinfo.specs.Left.{records_left}
 use Rattle.ps_linkinfo.specs.declared.record.LinkRecord.{LinkRecord as Record}
-use Rattle.ps_resolve.specs.Privates.{allotted, words_of, private_fault}
+use Rattle.ps_resolve.specs.Privates.{allotted, private_words, private_fault}
+use Rattle.ps_linkinfo.specs.Counts.{privates_in}
 use Rattle.ps_resolve.specs.declared.allotment.Private.{Private}
 use Rattle.ps_resolve.proofs.Rows.{given_ok}
-use Rattle.ps_linkinfo.specs.Counts.{privates_in}
 use Rattle.ps_resolve.proofs.Allots.{more_fault, more_length, more_privates, more_words, no_privates, privates_counted, skip_fault, skip_privates, skip_words}
 use Rattle.ps_resolve.proofs.allotment.allot.Goals as goal
 use Rattle.ps_resolve.proofs.allotment.allot.Goals.{in-Some-words_of_private+else-contains+else-free-words-gt-MAX_NEXT_FREE+in_ok-insert+in_ok-push, in_default-words_of_private}
@@ -32,7 +32,7 @@ loop-item-preserved-in-Ok g c =
     let ps = c.loop-item.privates.items in
     let records = given_ok _ c.next.new.self _ r c.in-Some.ensures.steps.1 c.in-Ok.is in
     let privates = ap (λ (xs : List Record). ps ++ allotted slot rec free xs) (sym records) ∙ inv.privates in
-    let words = ap (λ (xs : List Record). free + words_of xs) (sym records) ∙ inv.words in
+    let words = ap (λ (xs : List Record). free + private_words xs) (sym records) ∙ inv.words in
     let first = ap (λ (xs : List Record). private_fault rec free seen xs) (sym records) ∙ inv.first in
     let count : rec + 1 + length rest ≡ length (reading c.args.segment.now.order c.args.segment.now.bytes.now).0 = omega (arith, ap length records, inv.count) in
     elim c.match-words_of_private.branch [

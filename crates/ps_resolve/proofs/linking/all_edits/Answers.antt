@@ -2,11 +2,11 @@ use Rattle.std.proofs.Common.{◌≡◌, ℕ, ◌+◌, ◌<◌, ◌∷◌, [], L
 use Rattle.std.proofs.lemmas.List.{get_or_default}
 use Rattle.ps_words.specs.declared.order.Order.{Order}
 use Rattle.ps_resolve.specs.Edits.{IsOfTable}
-use Rattle.ps_resolve.specs.Linking.{data_edits, edited_from}
 use Rattle.ps_resolve.specs.Privates.{owner_of, all_words}
+use Rattle.ps_resolve.specs.Views.{segment_of, IsSound}
+use Rattle.ps_resolve.specs.Linking.{data_edits, edited_from}
 use Rattle.ps_resolve.specs.References.{Known}
 use Rattle.ps_resolve.specs.Sources.{Segment, is_host}
-use Rattle.ps_resolve.specs.Views.{segment_of, IsSound}
 use Rattle.ps_resolve.specs.declared.segment.Segment.{Segment as SegmentView}
 use Rattle.ps_resolve.specs.Faults.{references_fault_from}
 use Rattle.ps_resolve.proofs.Segs.{at_map, map_push, blank}

@@ -1,6 +1,6 @@
 use Rattle.std.proofs.Common.{◌∙◌, ap}
 use Rattle.ps_linkinfo.specs.Left.{records_left}
-use Rattle.ps_resolve.specs.Privates.{next_of}
+use Rattle.ps_linkinfo.specs.Counts.{next_of}
 use Rattle.ps_resolve.proofs.linking.base_of.Goals as goal
 
 pub loop-item-init : goal.loop-item-init

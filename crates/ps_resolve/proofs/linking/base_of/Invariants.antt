@@ -1,7 +1,7 @@
 use Rattle.std.proofs.Common.{◌≡◌}
 use Rattle.ps_linkinfo.specs.Records.{reading}
 use Rattle.ps_linkinfo.specs.Left.{records_left}
-use Rattle.ps_resolve.specs.Privates.{next_of}
+use Rattle.ps_linkinfo.specs.Counts.{next_of}
 use Rattle.ps_resolve.proofs.linking.base_of.Given as goal
 
 -- the first end mark of what is left is that of all

@@ -1,7 +1,7 @@
 use Rattle.std.proofs.Common.{◌≡◌, ◌≤◌, ◌-◌, ◌++◌, length, map}
 use Rattle.std.specs.Prelude.{All}
 use Rattle.std.specs.List.{filter_map, range_with_len}
-use Rattle.ps_resolve.specs.Views.{segment_of, IsSound, in_slots, in_slot}
+use Rattle.ps_resolve.specs.Views.{segment_of, IsSound, segments_in_slots, segment_in_slot}
 use Rattle.ps_resolve.proofs.reading.by_slot.Given as goal
 
 -- the segments so far and those of the slots that are left are all
@@ -11,7 +11,7 @@ invariant-loop-slot l =
     let own = map (segment_of order) l.own in
     let added = map (segment_of order) l.added in
     record {
-      all : in_slots order l.host.file own added ≡ map (segment_of order) l.segments.items ++ filter_map (in_slot order l.host.file own added) (range_with_len l.slot (16 - l.slot));
+      all : segments_in_slots order l.host.file own added ≡ map (segment_of order) l.segments.items ++ filter_map (segment_in_slot order l.host.file own added) (range_with_len l.slot (16 - l.slot));
       sound : All (IsSound order) (map (segment_of order) l.segments.items);
       few : length l.segments.items ≤ l.slot;
     }

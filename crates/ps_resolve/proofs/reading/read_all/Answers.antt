@@ -1,8 +1,8 @@
 use Rattle.std.proofs.Common.{◌≡◌, ◌∙◌, List, map, sym, ap}
 use Rattle.ps_resolve.specs.Sources.{Segment, own_segments}
 use Rattle.ps_resolve.specs.Added.{added, added_fault, rounds, rounds_of}
+use Rattle.ps_resolve.specs.Views.{segment_of, segments_in_slots}
 use Rattle.ps_resolve.specs.Faults.{sources_fault}
-use Rattle.ps_resolve.specs.Views.{segment_of, in_slots}
 use Rattle.ps_resolve.proofs.InSlots.{in_slots_are}
 use Rattle.ps_resolve.proofs.ReadingLibraries.{files}
 use Rattle.ps_resolve.proofs.Stages.{skip, keep}
@@ -36,7 +36,7 @@ returns-in-Ok-add_units c =
       fault = sym (skip (sources_fault host.order host.file libs) (added_fault host.order host.file libs) (sym c.in-Ok.ensures.fault)
           ∙ (sym (ap (λ (segs : List Segment). (rounds_of host.order host.file libs segs).fault) own) ∙ sym c.in-Ok-add_units.ensures.fault));
       segments = c.by_slot.ensures.segments
-          ∙ (ap (λ (segs : List Segment). in_slots host.order host.file segs (map (segment_of host.order) c.as_slice-added.result.now)) own
-          ∙ (ap (in_slots host.order host.file (own_segments host.order host.file libs)) others ∙ in_slots_are host.order host.file libs));
+          ∙ (ap (λ (segs : List Segment). segments_in_slots host.order host.file segs (map (segment_of host.order) c.as_slice-added.result.now)) own
+          ∙ (ap (segments_in_slots host.order host.file (own_segments host.order host.file libs)) others ∙ in_slots_are host.order host.file libs));
       sound = c.by_slot.ensures.sound;
     }

@@ -3,11 +3,11 @@ use Rattle.std.specs.Prelude.{IfOk}
 use Rattle.ps_words.specs.declared.order.Order.{Order}
 use Rattle.ps_resolve.specs.Sources.{Segment, order_of}
 use Rattle.ps_resolve.specs.Added.{segments, slot_names}
+use Rattle.ps_resolve.specs.Views.{segment_of}
 use Rattle.ps_resolve.specs.declared.segment.Segment.{Segment as SegmentView}
 use Rattle.ps_resolve.specs.Faults.{linking_fault}
 use Rattle.ps_resolve.specs.AllFaults.{first_fault}
 use Rattle.ps_resolve.specs.Plans.{AreStopped, IsPlanOf, IsStopped}
-use Rattle.ps_resolve.specs.Views.{segment_of}
 use Rattle.ps_resolve.proofs.FirstFaults.{if_ok, if_err, first_read, first_linked, stopped}
 use Rattle.ps_resolve.proofs.resolving.resolve.Goals as goal
 

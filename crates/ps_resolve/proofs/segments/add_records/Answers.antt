@@ -5,7 +5,7 @@ use Rattle.ps_linkinfo.specs.Left.{records_left}
 use Rattle.ps_linkinfo.specs.declared.record.LinkRecord.{LinkRecord as Record}
 use Rattle.ps_resolve.specs.Operands.{operands, refs_fault}
 use Rattle.ps_codefile.specs.Procedures.{is_reserved}
-use Rattle.ps_resolve.specs.Privates.{words_of}
+use Rattle.ps_resolve.specs.Privates.{private_words}
 use Rattle.ps_resolve.specs.References.{Known, FindsOne, records_fault, records_edits}
 use Rattle.ps_resolve.proofs.Rows.{given_ok, given_err, record_refused, references_refused, record_stands, edits_more, words_are}
 use Rattle.ps_resolve.proofs.segments.add_records.Goals as goal
@@ -68,6 +68,6 @@ loop-item-preserved-in-Ok-add_body g c =
             sym (record_stands known R code c.loop-item.rec c.loop-item.next f.0 r rest t is_t (c.in-Ok-add_body.ensures.fault f.0 f.1))
                 ∙ ap (λ (xs : List Record). records_fault known R code c.loop-item.rec c.loop-item.next f.0 xs) (sym records) ∙ f.2,
           ));
-      words = let a = words_are r rest in let b = c.words_taken-next.ensures in omega (arith, ap words_of records, inv.words);
+      words = let a = words_are r rest in let b = c.words_taken-next.ensures in omega (arith, ap private_words records, inv.words);
       count = omega (arith, ap length records, inv.count);
     }

@@ -5,7 +5,7 @@ use Rattle.ps_linkinfo.specs.Left.{records_left}
 use Rattle.ps_resolve.specs.Operands.{is_in}
 use Rattle.ps_resolve.specs.Marks.{Marks}
 use Rattle.ps_codefile.specs.Procedures.{is_reserved}
-use Rattle.ps_resolve.specs.Privates.{words_of}
+use Rattle.ps_resolve.specs.Privates.{private_words}
 use Rattle.ps_resolve.specs.References.{Known, records_fault, records_edits}
 use Rattle.ps_resolve.proofs.segments.add_records.Given as goal
 
@@ -21,6 +21,6 @@ invariant-loop-item g l =
       edits : l.edits.items ++ records_edits known l.code l.next (records_left l.item-iterator) ≡ l.fn.edits.items ++ records_edits known l.code l.free rs;
       first : (os : List (ℕ × ℕ)) × Marks n l.taken.words (λ p. list_any (is_in p) os)
           × (records_fault known (is_reserved l.procedures.order l.procedures.code) l.code l.rec l.next os (records_left l.item-iterator) ≡ records_fault known (is_reserved l.procedures.order l.procedures.code) l.code 0 l.free [] rs);
-      words : l.next + words_of (records_left l.item-iterator) ≡ l.free + words_of rs;
+      words : l.next + private_words (records_left l.item-iterator) ≡ l.free + private_words rs;
       count : l.rec + length (records_left l.item-iterator) ≡ length rs;
     }

@@ -2,7 +2,7 @@ use Rattle.std.proofs.Common.{◌≤◌, ◌∙◌, ◌==◌, ◌&&◌, ◌||◌
 use Rattle.std.specs.Prelude.{not}
 use Rattle.std.specs.List.{list_any}
 use Rattle.ps_words.specs.declared.fault.Reason.{Reason}
-use Rattle.ps_codefile.specs.Procedures.{ProcedureTables, dictionary_len, start_of, is_in_table, unless}
+use Rattle.ps_codefile.specs.Procedures.{ProcedureTables, dictionary_len, dictionary_start, is_in_table, unless}
 use Rattle.ps_codefile.specs.Places.{passes, is_between, has_first}
 use Rattle.ps_codefile.proofs.Tables.{later_fault, reserved_from}
 use Rattle.ps_codefile.proofs.procedures.Procs.read.Goals as goal
@@ -26,7 +26,7 @@ invariant_of-result c =
     record {
       whole = omega arith;
       listed = got.1;
-      reserved = λ q. c.reserved_places-reserved.ensures q ∙ (ap (λ (ts : List (Option ℕ)). is_between (start_of c.args.code.now) (length c.args.code.now) q || list_any (passes (is_in_table q)) ts) c.as_slice-3.ensures.value ∙ reserved_from c.args.order c.args.code.now items q got.1);
+      reserved = λ q. c.reserved_places-reserved.ensures q ∙ (ap (λ (ts : List (Option ℕ)). is_between (dictionary_start c.args.code.now) (length c.args.code.now) q || list_any (passes (is_in_table q)) ts) c.as_slice-3.ensures.value ∙ reserved_from c.args.order c.args.code.now items q got.1);
     }
 
 pub returns : goal.returns

@@ -1,0 +1,100 @@
+-- The steps of a link, each of which asks for the faults of one kind of place, and the key of a fault by which the first is known.
+-- Source: this project's profile.
+use Rattle.std.specs.Prelude.{ℕ, ◌+◌, List, [], ◌∷◌, Bool, true, false, Option, Some, None, unwrap_or}
+use Rattle.ps_resolve.specs.First.{Before}
+use Rattle.ps_words.specs.declared.fault.Reason.{Reason}
+use Rattle.ps_words.specs.declared.fault.Fault.{Fault}
+use Rattle.ps_words.specs.declared.fault.Reason.TheVariants as reason
+
+-- the steps, each of which asks for the faults of one kind of place; each unit that is added has a step of its own, its round
+pub data Step : Type 0 where
+  OfHost : Step
+  OfSlots : Step
+  OfNoHost : Step
+  OfLibraries : Step
+  OfSources : Step
+  OfAdded : (k : ℕ) → Step
+  OfDefinitions : Step
+  OfPrivates : Step
+  OfDataSize : Step
+  OfReferences : Step
+
+abbrev pub turn : Step → ℕ
+turn OfHost = 1
+turn OfSlots = 2
+turn OfNoHost = 3
+turn OfLibraries = 4
+turn OfSources = 5
+turn (OfAdded k) = 6
+turn OfDefinitions = 7
+turn OfPrivates = 8
+turn OfDataSize = 9
+turn OfReferences = 10
+
+-- it is a step of reading: nothing is linked yet, and no memory is taken
+abbrev pub is_of_reading : Step → Bool
+is_of_reading OfHost = true
+is_of_reading OfSlots = true
+is_of_reading OfNoHost = true
+is_of_reading OfLibraries = true
+is_of_reading OfSources = true
+is_of_reading (OfAdded k) = true
+is_of_reading OfDefinitions = false
+is_of_reading OfPrivates = false
+is_of_reading OfDataSize = false
+is_of_reading OfReferences = false
+
+abbrev pub rank : Reason → ℕ
+rank reason.ShortFile = 1
+rank reason.NoOrder = 2
+rank reason.OrderMismatch = 3
+rank reason.NoHost = 4
+rank reason.SegmentProcedure = 5
+rank reason.NativeSegment = 6
+rank reason.Intrinsic = 7
+rank reason.UnknownKind = 8
+rank reason.TwoHosts = 9
+rank reason.DoubledSegment = 10
+rank reason.MissingUnit = 11
+rank reason.NoSlot = 12
+rank reason.DoubledUnit = 13
+rank (reason.NotAUnit kind) = 14
+rank reason.BadLength = 15
+rank reason.BadAddress = 16
+rank reason.Truncated = 17
+rank reason.BadProcDict = 18
+rank reason.NativeProcedure = 19
+rank reason.RecordsTruncated = 20
+rank reason.UnknownRecord = 21
+rank reason.NativeRecord = 22
+rank reason.SeparateRecord = 23
+rank reason.BadFormat = 24
+rank reason.DoubledDefinition = 25
+rank reason.DoubledPrivate = 26
+rank reason.NoRoom = 27
+rank reason.DataTooLarge = 28
+rank reason.MissingDefinition = 29
+rank reason.IllKind = 30
+rank reason.MissingUnitRef = 31
+rank reason.OutsideCode = 32
+rank reason.ReservedPlace = 33
+rank reason.Overlap = 34
+rank reason.OperandTooLarge = 35
+
+abbrev pub part : Option ℕ → ℕ
+part None = 0
+part (Some n) = n + 1
+
+-- the record that was read; a unit that is missing or has no slot is told with the record that asked for it
+abbrev pub record_read : Reason → Option ℕ → ℕ
+record_read reason.MissingUnit rec = 0
+record_read reason.NoSlot rec = 0
+record_read other rec = part rec
+
+-- step; slot, or the library, or the round; record; reference; rank
+abbrev pub key : Step → Fault → List ℕ
+key (OfAdded k) f = turn (OfAdded k) ∷ k ∷ record_read f.reason f.rec ∷ part f.reference ∷ rank f.reason ∷ []
+key step f = turn step ∷ unwrap_or f.slot f.file ∷ part f.rec ∷ part f.reference ∷ rank f.reason ∷ []
+
+abbrev pub Precedes : Step → Fault → Fault → Type 0
+Precedes step f g = Before (key step f) (key step g)

@@ -1,0 +1,79 @@
+-- Faults of the references: of the record, and of each place that it names.
+-- Source: this project's profile.
+use Rattle.std.specs.Prelude.{◌≡◌, ◌≢◌, ◌⊎◌, ℕ, ◌+◌, ◌<◌, ◌≤◌, List, [], ◌∷◌, length, slice_get, true, Some}
+use Rattle.std.specs.Option.{option_map_or}
+use Rattle.ps_codefile.specs.Procedures.{is_reserved}
+use Rattle.ps_linkinfo.specs.Records.{refs_of}
+use Rattle.ps_linkinfo.specs.declared.record.Body.{Body}
+use Rattle.ps_linkinfo.specs.declared.record.Body.TheVariants.{UnitRef, PublRef, PrivRef, PublDef, ConstDef, Eof}
+use Rattle.ps_linkinfo.specs.declared.record.LinkRecord.{LinkRecord as Record}
+use Rattle.ps_resolve.specs.First.{Before}
+use Rattle.ps_resolve.specs.Sources.{Segment, host_records}
+use Rattle.ps_resolve.specs.Added.{segments}
+use Rattle.ps_resolve.specs.Symbols.{definitions, definition_of}
+use Rattle.ps_resolve.specs.declared.definitions.Def.{Def}
+use Rattle.ps_resolve.specs.declared.definitions.DefKind.TheVariants.{Constant}
+use Rattle.ps_words.specs.FaultPlaces.{in_record, in_reference}
+use Rattle.ps_words.specs.Words.{displacement_at}
+use Rattle.ps_words.specs.declared.order.Order.{Order}
+use Rattle.ps_words.specs.declared.fault.Reason.{Reason}
+use Rattle.ps_words.specs.declared.fault.Fault.{Fault}
+use Rattle.ps_words.specs.declared.fault.Reason.TheVariants as reason
+use Rattle.ps_resolve.specs.Standing.Phrases.{Because, SomeItem}
+use Rattle.ps_resolve.specs.Standing.Segments.{SomeSegment}
+use Rattle.ps_resolve.specs.Standing.Privates.{private_offset}
+
+-- 10. a record, and its references
+-- the name's definition is this one: the first that has the name
+abbrev pub Defines : List (List ℕ × Def) → List ℕ → Def → Type 0
+Defines ds name d =
+    SomeItem ds (λ k e. ((e.0 ≡ name) × (e.1 ≡ d)) × ((lesser : ℕ) (other : List ℕ × Def) → lesser < k → slice_get ds lesser ≡ Some other → other.0 ≢ name))
+
+abbrev pub RecordHas : List Segment → List ℕ → Body → Reason → Type 0
+RecordHas segs name (PublRef refs) reason.MissingDefinition = SomeItem (definitions (host_records segs)) (λ k d. d.0 ≡ name) → ⊥
+RecordHas segs name (PublRef refs) reason.IllKind = (d : Def) × Defines (definitions (host_records segs)) name d × (d.kind ≡ Constant)
+RecordHas segs name body other = ⊥
+
+-- how many bytes an operand has
+abbrev pub operand_width : Body → ℕ
+operand_width (UnitRef refs) = 1
+operand_width (PublRef refs) = 2
+operand_width (PrivRef words refs) = 2
+operand_width (PublDef value) = 0
+operand_width (ConstDef value) = 0
+operand_width (Eof next) = 0
+
+-- the value of a public definition; 0 where there is none
+abbrev pub definition_value : List Segment → List ℕ → ℕ
+definition_value segs name = option_map_or (λ d. d.value) (definition_of name (definitions (host_records segs))) 0
+
+-- what a BIG operand becomes: its displacement and its definition's value; there is nothing to check for a byte
+abbrev pub operand_value : List Segment → Segment → ℕ → List ℕ → Body → ℕ → ℕ
+operand_value segs s rec name (UnitRef refs) x = 0
+operand_value segs s rec name (PublRef refs) x = displacement_at s.code x + definition_value segs name
+operand_value segs s rec name (PrivRef words refs) x = displacement_at s.code x + private_offset segs s.slot rec
+operand_value segs s rec name (PublDef value) x = 0
+operand_value segs s rec name (ConstDef value) x = 0
+operand_value segs s rec name (Eof next) x = 0
+
+-- the operand at x covers the place
+abbrev pub Covers : Body → ℕ → ℕ → Type 0
+Covers body x p = (x ≤ p) × (p < x + operand_width body)
+
+-- operands at x and at y cover a place in common
+abbrev pub Meet : Body → ℕ → Body → ℕ → Type 0
+Meet body x other y = (p : ℕ) × Covers body x p × Covers other y p
+
+abbrev pub ReferenceHas : Order → List Segment → Segment → ℕ → Record → ℕ → ℕ → Reason → Type 0
+ReferenceHas order segs s rec r i x reason.OutsideCode = (p : ℕ) × Covers r.body x p × (length s.code ≤ p)
+ReferenceHas order segs s rec r i x reason.ReservedPlace = (p : ℕ) × Covers r.body x p × (is_reserved order s.code p ≡ true)
+ReferenceHas order segs s rec r i x reason.Overlap =
+    SomeItem s.records (λ lesser q. SomeItem (refs_of q.body) (λ j y. Before (lesser ∷ j ∷ []) (rec ∷ i ∷ []) × Meet r.body x q.body y))
+ReferenceHas order segs s rec r i x reason.OperandTooLarge = 32767 < operand_value segs s rec r.name r.body x
+ReferenceHas order segs s rec r i x other = ⊥
+
+abbrev pub InReferences : Order → List ℕ → List (List ℕ) → Fault → Type 0
+InReferences order host libs f =
+    SomeSegment order host libs (λ s. SomeItem s.records (λ rec r.
+    Because (in_record s.file s.slot rec) (RecordHas (segments order host libs) r.name r.body) f
+    ⊎ SomeItem (refs_of r.body) (λ i x. Because (in_reference s.file s.slot rec i) (ReferenceHas order (segments order host libs) s rec r i x) f)))

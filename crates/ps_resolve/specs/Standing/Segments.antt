@@ -1,0 +1,17 @@
+-- What is said of a segment of the link.
+-- Source: this project's profile.
+use Rattle.std.specs.Prelude.{◌≡◌, ℕ, ◌<◌, List, Some}
+use Rattle.ps_resolve.specs.Sources.{Segment, host_of}
+use Rattle.ps_resolve.specs.Added.{segments, segment_at}
+use Rattle.ps_words.specs.declared.order.Order.{Order}
+
+-- a segment of the linked file, in its slot
+abbrev pub IsSegment : Order → List ℕ → List (List ℕ) → Segment → Type 0
+IsSegment order host libs s = (s.slot < 16) × (segment_at order host libs s.slot ≡ Some s)
+
+abbrev pub SomeSegment : Order → List ℕ → List (List ℕ) → (Segment → Type 0) → Type 0
+SomeSegment order host libs P = (s : Segment) × IsSegment order host libs s × P s
+
+-- the host's own segment
+abbrev pub OfHostSegment : Order → List ℕ → List (List ℕ) → (Segment → Type 0) → Type 0
+OfHostSegment order host libs P = (s : Segment) × (host_of (segments order host libs) ≡ Some s) × P s
