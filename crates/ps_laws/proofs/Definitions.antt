@@ -8,6 +8,7 @@ use Rattle.std.specs.Str.{bytes_eq}
 use Rattle.std.proofs.lemmas.Bool.Decides.{Decides-and, Decides-like}
 use Rattle.std.proofs.lemmas.Slice.Eq.{bytes_eq-Decides}
 use Rattle.ps_linkinfo.specs.declared.record.Body.{Body}
+use Rattle.ps_linkinfo.specs.declared.record.Body.TheVariants.{UnitRef, PublRef, PrivRef, PublDef, ConstDef, Eof}
 use Rattle.ps_linkinfo.specs.declared.record.LinkRecord.{LinkRecord as Record}
 use Rattle.ps_resolve.specs.First.{Least}
 use Rattle.ps_resolve.specs.Searches.{first_of, fault_if}
@@ -46,13 +47,23 @@ pub longer : {A : Type 0} (front : List A) (a : A) → length (front ++ a ∷ []
 longer [] a = refl
 longer (b ∷ front) a = let h = longer front a in omega (arith, h)
 
+-- a record defines a name where it has a definition
+defines_is : (b : Body) → is_definition b ≡ is_some (def_in b)
+defines_is (UnitRef refs) = refl
+defines_is (PublRef refs) = refl
+defines_is (PrivRef words refs) = refl
+defines_is (PublDef value) = refl
+defines_is (ConstDef value) = refl
+defines_is (Eof next) = refl
+
 abbrev defined : List ℕ → Record → Bool
 defined name q = is_definition q.body && bytes_eq name q.name
 
 -- the definitions have the name where a record does
 known : (name : List ℕ) (front : List Record) → is_some (definition_of name (definitions front)) ≡ list_any (defined name) front
 known name [] = refl
-known name (q ∷ front) = go (def_in q.body) (known name front)
+known name (q ∷ front) =
+    go (def_in q.body) (known name front) ∙ ap (λ (b : Bool). (b && bytes_eq name q.name) || list_any (defined name) front) (sym (defines_is q.body))
   where
     go : (o : Option Def) → is_some (definition_of name (definitions front)) ≡ list_any (defined name) front
         → is_some (definition_of name (cons_option (elim o [ None ↦ None | Some d ↦ Some (q.name, d) ]) (definitions front))) ≡ ((is_some o && bytes_eq name q.name) || list_any (defined name) front)
@@ -92,7 +103,8 @@ carried h front (r ∷ rs) rec e = go (def_in r.body) refl (carried h (front ++ 
     go None d more =
         let same : definitions (front ++ r ∷ []) ≡ definitions front = more_definitions front r ∙ rw (d, cons_option) (append-nil (definitions front)) in
         let step : option_map h (doubled_from (rec + 1) (definitions front) rs) ≡ later all = rw (← same) (more ∙ ap later (append_assoc front (r ∷ []) rs)) in
-        rw (d, doubled_from, is_again) step
+        let none : is_definition r.body ≡ false = defines_is r.body ∙ ap is_some d in
+        rw (d, doubled_from, is_again) (rw none step)
     go (Some d) defines more = at (is_some (definition_of r.name (definitions front))) refl
       where
         same : definitions (front ++ r ∷ []) ≡ definitions front ++ (r.name, d) ∷ []
@@ -101,14 +113,17 @@ carried h front (r ∷ rs) rec e = go (def_in r.body) refl (carried h (front ++ 
         step : option_map h (doubled_from (rec + 1) (definitions front ++ (r.name, d) ∷ []) rs) ≡ later all
         step = rw (← same) (more ∙ ap later (append_assoc front (r ∷ []) rs))
 
+        one : is_definition r.body ≡ true
+        one = defines_is r.body ∙ ap is_some defines
+
         at : (b : Bool) → is_some (definition_of r.name (definitions front)) ≡ b
             → option_map h (doubled_from rec (definitions front) (r ∷ rs)) ≡ option_or (fault_if (is_again is_definition all (rec, r)) (h rec)) (later all)
         at true known_is =
             let found : list_any (defined r.name) front ≡ true = sym (known r.name front) ∙ known_is in
-            rw (defines, doubled_from, is_again) (rw (known_is, front_is, found) refl)
+            rw (defines, doubled_from, is_again) (rw (known_is, one, front_is, found) refl)
         at false known_is =
             let found : list_any (defined r.name) front ≡ false = sym (known r.name front) ∙ known_is in
-            rw (defines, doubled_from, is_again) (rw (known_is, front_is, found) step)
+            rw (defines, doubled_from, is_again) (rw (known_is, one, front_is, found) step)
 
 pub step_7 : (order : Order) (host : List ℕ) (libs : List (List ℕ)) → Least (Precedes OfDefinitions) (InDefinitions order host libs) (definitions_fault (segments order host libs))
 unfolding definitions_fault

@@ -9,6 +9,7 @@ pub mod Definitions
 pub mod Rounds
 pub mod Asked
 pub mod DataSize
+pub mod PrivateOffsets
 pub mod Privates
 pub mod References
 pub mod Whole

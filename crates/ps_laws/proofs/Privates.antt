@@ -1,30 +1,30 @@
 -- The first fault of the privates is the least that stands.
-use Rattle.std.proofs.Common.{◌≡◌, ℕ, zero, suc, ◌+◌, ◌<◌, ◌≤◌, List, [], ◌∷◌, ◌++◌, length, take, map, Option, Some, None, Bool, true, false, refl, sym, ap, subst, ◌∙◌, inl, inr, arith, append_assoc, append-nil}
-use Rattle.std.specs.Prelude.{◌⊎◌, if◌then◌else◌, ◌&&◌, ◌||◌, ◌==◌, nat_lt, sum_by}
+use Rattle.std.proofs.Common.{is_some, ◌≡◌, ℕ, ◌+◌, List, [], ◌∷◌, ◌++◌, length, take, map, Option, Some, None, Bool, true, false, refl, sym, ap, subst, ◌∙◌, inl, inr, arith, append_assoc, append-nil}
+use Rattle.std.specs.Prelude.{◌⊎◌, if◌then◌else◌, ◌&&◌, ◌||◌, nat_lt}
 use Rattle.std.specs.List.{enumerate_from, list_any, filter}
 use Rattle.std.specs.Option.{option_map, option_or}
 use Rattle.std.specs.Str.{bytes_eq}
-use Rattle.std.proofs.lemmas.Bool.Decides.{Decides-and, Decides-ltb, nat_tests}
+use Rattle.std.proofs.lemmas.Bool.Decides.{Decides-and, Decides-ltb}
 use Rattle.std.proofs.lemmas.List.{map-append}
 use Rattle.std.proofs.lemmas.List.Elements.{filter-append}
-use Rattle.std.proofs.lemmas.List.Sums.{sum_by-append, sum_by-cons}
+use Rattle.ps_linkinfo.specs.declared.record.Body.{Body}
+use Rattle.ps_linkinfo.specs.declared.record.Body.TheVariants.{UnitRef, PublRef, PrivRef, PublDef, ConstDef, Eof}
 use Rattle.ps_linkinfo.specs.declared.record.LinkRecord.{LinkRecord as Record}
 use Rattle.ps_resolve.specs.First.{Least}
 use Rattle.ps_resolve.specs.Searches.{first_of, fault_if}
 use Rattle.ps_resolve.specs.Sources.{Segment, host_records}
 use Rattle.ps_resolve.specs.Added.{segments}
-use Rattle.ps_resolve.specs.Privates.{words_in, allotted, private_words, private_fault, owner_of, all_allotted, all_words, first_private_fault}
+use Rattle.ps_resolve.specs.Privates.{words_in, private_words, private_fault, owner_of, all_words, first_private_fault}
 use Rattle.ps_linkinfo.specs.Counts.{next_of, is_private_reference}
 use Rattle.ps_resolve.specs.Standing.Keys.{OfPrivates, Precedes}
-use Rattle.ps_resolve.specs.Standing.{is_before}
 use Rattle.ps_resolve.specs.Standing.Privates.{private_offset, PrivateHas, InPrivates}
 use Rattle.ps_resolve.specs.References.{words_taken}
 use Rattle.ps_resolve.specs.Faults.{privates_fault}
-use Rattle.ps_resolve.specs.declared.allotment.Private.{Private}
 use Rattle.ps_laws.proofs.Least.{least_same, least_or, least_if, least_items, at_apart}
 use Rattle.ps_laws.proofs.Steps.{Ranked, because, because_apart}
 use Rattle.ps_laws.proofs.Looking.{of_test}
 use Rattle.ps_laws.proofs.Segments.{over_segments, Ascends, ascend}
+use Rattle.ps_laws.proofs.PrivateOffsets.{AreBelow, below_from, below_more, offset_in, words_split}
 use Rattle.ps_laws.proofs.Definitions.{is_again, again, take_front, longer}
 use Rattle.ps_words.specs.FaultPlaces.{in_record}
 use Rattle.ps_words.specs.declared.order.Order.{Order}
@@ -32,117 +32,14 @@ use Rattle.ps_words.specs.declared.fault.Reason.{Reason}
 use Rattle.ps_words.specs.declared.fault.Reason.TheVariants as reason
 use Rattle.ps_words.specs.declared.fault.Fault.{Fault}
 
--- the words of the privates before a record of a slot
-abbrev counted : ℕ → ℕ → List Private → ℕ
-counted slot rec ps = sum_by (λ (v : Private). v.words) (filter (is_before slot rec) ps)
-
-counted_append : (slot rec : ℕ) (ps qs : List Private) → counted slot rec (ps ++ qs) ≡ counted slot rec ps + counted slot rec qs
-counted_append slot rec ps qs =
-    ap (λ (vs : List Private). sum_by (λ (v : Private). v.words) vs) (filter-append (is_before slot rec) ps qs)
-    ∙ sum_by-append (λ (v : Private). v.words) (filter (is_before slot rec) ps) (filter (is_before slot rec) qs)
-
-counted_in : (slot rec : ℕ) (v : Private) (ps : List Private) → is_before slot rec v ≡ true → counted slot rec (v ∷ ps) ≡ v.words + counted slot rec ps
-counted_in slot rec v ps e = rw (e, filter) (sum_by-cons (λ (w : Private). w.words) v (filter (is_before slot rec) ps))
-
-counted_out : (slot rec : ℕ) (v : Private) (ps : List Private) → is_before slot rec v ≡ false → counted slot rec (v ∷ ps) ≡ counted slot rec ps
-counted_out slot rec v ps e = rw (e, filter) refl
-
-lesser_slot : (slot rec other k : ℕ) → other < slot → (nat_lt other slot || (other == slot && nat_lt k rec)) ≡ true
-lesser_slot slot rec other k h = grind (arith, nat_tests)
-
-greater_slot : (slot rec other k : ℕ) → slot < other → (nat_lt other slot || (other == slot && nat_lt k rec)) ≡ false
-greater_slot slot rec other k h = grind (arith, nat_tests)
-
-lesser_record : (slot rec k : ℕ) → k < rec → (nat_lt slot slot || (slot == slot && nat_lt k rec)) ≡ true
-lesser_record slot rec k h = grind (arith, nat_tests)
-
-no_lesser_record : (slot rec k : ℕ) → rec ≤ k → (nat_lt slot slot || (slot == slot && nat_lt k rec)) ≡ false
-no_lesser_record slot rec k h = grind (arith, nat_tests)
-
--- the privates of a segment in a lesser slot, in a greater one, and in the slot itself
-of_lesser : (slot rec other : ℕ) → other < slot → (k next : ℕ) (rs : List Record) → counted slot rec (allotted other k next rs) ≡ private_words rs
-of_lesser slot rec other h k next [] = refl
-of_lesser slot rec other h k next (r ∷ rs) = go (words_in r.body) refl (λ next. of_lesser slot rec other h (k + 1) next rs)
-  where
-    go : (w : Option ℕ) → words_in r.body ≡ w → ((next : ℕ) → counted slot rec (allotted other (k + 1) next rs) ≡ private_words rs) → counted slot rec (allotted other k next (r ∷ rs)) ≡ private_words (r ∷ rs)
-    go None e rest = rw (e, allotted, private_words) (rest next)
-    go (Some w) e rest =
-        rw (e, allotted, private_words)
-        (counted_in slot rec (record { slot = other; rec = k; name = r.name; offset = next; words = w }) (allotted other (k + 1) (next + w) rs) (lesser_slot slot rec other k h) ∙ ap (λ (n : ℕ). w + n) (rest (next + w)))
-
-of_greater : (slot rec other : ℕ) → slot < other → (k next : ℕ) (rs : List Record) → counted slot rec (allotted other k next rs) ≡ 0
-of_greater slot rec other h k next [] = refl
-of_greater slot rec other h k next (r ∷ rs) = go (words_in r.body) refl (λ next. of_greater slot rec other h (k + 1) next rs)
-  where
-    go : (w : Option ℕ) → words_in r.body ≡ w → ((next : ℕ) → counted slot rec (allotted other (k + 1) next rs) ≡ 0) → counted slot rec (allotted other k next (r ∷ rs)) ≡ 0
-    go None e rest = rw (e, allotted) (rest next)
-    go (Some w) e rest =
-        rw (e, allotted)
-        (counted_out slot rec (record { slot = other; rec = k; name = r.name; offset = next; words = w }) (allotted other (k + 1) (next + w) rs) (greater_slot slot rec other k h) ∙ rest (next + w))
-
-none_later : (slot rec k : ℕ) → rec ≤ k → (next : ℕ) (rs : List Record) → counted slot rec (allotted slot k next rs) ≡ 0
-none_later slot rec k h next [] = refl
-none_later slot rec k h next (r ∷ rs) = go (words_in r.body) refl (λ next. none_later slot rec (k + 1) (omega arith) next rs)
-  where
-    go : (w : Option ℕ) → words_in r.body ≡ w → ((next : ℕ) → counted slot rec (allotted slot (k + 1) next rs) ≡ 0) → counted slot rec (allotted slot k next (r ∷ rs)) ≡ 0
-    go None e rest = rw (e, allotted) (rest next)
-    go (Some w) e rest =
-        rw (e, allotted)
-        (counted_out slot rec (record { slot = slot; rec = k; name = r.name; offset = next; words = w }) (allotted slot (k + 1) (next + w) rs) (no_lesser_record slot rec k h) ∙ rest (next + w))
-
-of_same : (slot n k rec : ℕ) → rec ≡ k + n → (next : ℕ) (rs : List Record) → counted slot rec (allotted slot k next rs) ≡ private_words (take n rs)
-of_same slot zero k rec h next rs = none_later slot rec k (omega arith) next rs
-of_same slot (suc n) k rec h next [] = refl
-of_same slot (suc n) k rec h next (r ∷ rs) = go (words_in r.body) refl (λ next. of_same slot n (k + 1) rec (omega arith) next rs)
-  where
-    go : (w : Option ℕ) → words_in r.body ≡ w → ((next : ℕ) → counted slot rec (allotted slot (k + 1) next rs) ≡ private_words (take n rs)) → counted slot rec (allotted slot k next (r ∷ rs)) ≡ private_words (r ∷ take n rs)
-    go None e rest = rw (e, allotted, private_words) (rest next)
-    go (Some w) e rest =
-        rw (e, allotted, private_words)
-        (counted_in slot rec (record { slot = slot; rec = k; name = r.name; offset = next; words = w }) (allotted slot (k + 1) (next + w) rs) (lesser_record slot rec k (omega arith)) ∙ ap (λ (m : ℕ). w + m) (rest (next + w)))
-
--- segments in lesser slots
-abbrev pub AreBelow : ℕ → List Segment → Type 0
-AreBelow slot [] = Unit {0}
-AreBelow slot (s ∷ ss) = (s.slot < slot) × AreBelow slot ss
-
-all_before : (slot rec : ℕ) (ss : List Segment) → AreBelow slot ss → (next : ℕ) → counted slot rec (all_allotted next (map owner_of ss)) ≡ all_words (map owner_of ss)
-all_before slot rec [] h next = refl
-all_before slot rec (s ∷ ss) h next =
-    counted_append slot rec (allotted s.slot 0 next s.records) (all_allotted (next + private_words s.records) (map owner_of ss))
-    ∙ (let a = of_lesser slot rec s.slot h.0 0 next s.records in let b = all_before slot rec ss h.1 (next + private_words s.records) in omega (arith, a, b))
-
-none_behind : (slot rec from : ℕ) (ss : List Segment) → slot < from → Ascends from ss → (next : ℕ) → counted slot rec (all_allotted next (map owner_of ss)) ≡ 0
-none_behind slot rec from [] h a next = refl
-none_behind slot rec from (s ∷ ss) h a next =
-    counted_append slot rec (allotted s.slot 0 next s.records) (all_allotted (next + private_words s.records) (map owner_of ss))
-    ∙ (let low = a.0 in let x = of_greater slot rec s.slot (omega (arith, low, h)) 0 next s.records in let y = none_behind slot rec (s.slot + 1) ss (omega (arith, low, h)) a.1 (next + private_words s.records) in omega (arith, x, y))
-
--- the privates of a row of segments
-split : (next : ℕ) (front rest : List Segment) → all_allotted next (map owner_of (front ++ rest)) ≡ all_allotted next (map owner_of front) ++ all_allotted (next + all_words (map owner_of front)) (map owner_of rest)
-split next [] rest = ap (λ (n : ℕ). all_allotted n (map owner_of rest)) (omega arith)
-split next (s ∷ front) rest =
-    ap (λ (ps : List Private). allotted s.slot 0 next s.records ++ ps) (split (next + private_words s.records) front rest)
-    ∙ (sym (append_assoc (allotted s.slot 0 next s.records) (all_allotted (next + private_words s.records) (map owner_of front)) (all_allotted ((next + private_words s.records) + all_words (map owner_of front)) (map owner_of rest)))
-    ∙ ap (λ (n : ℕ). (allotted s.slot 0 next s.records ++ all_allotted (next + private_words s.records) (map owner_of front)) ++ all_allotted n (map owner_of rest)) (omega arith))
-
-pub words_split : (front rest : List Segment) → all_words (map owner_of (front ++ rest)) ≡ all_words (map owner_of front) + all_words (map owner_of rest)
-words_split [] rest = omega arith
-words_split (s ∷ front) rest = let e = words_split front rest in omega (arith, e)
-
--- the offset of a private is the sum of all words before it
-pub offset_is : (front : List Segment) (s : Segment) (rest : List Segment) (rec : ℕ) → AreBelow s.slot front → Ascends (s.slot + 1) rest
-    → private_offset (front ++ s ∷ rest) s.slot rec ≡ next_of (host_records (front ++ s ∷ rest)) + all_words (map owner_of front) + private_words (take rec s.records)
-offset_is front s rest rec below ascends =
-    let next = next_of (host_records (front ++ s ∷ rest)) in
-    let start = next + all_words (map owner_of front) in
-    let e = ap (counted s.slot rec) (split next front (s ∷ rest)) in
-    let f = counted_append s.slot rec (all_allotted next (map owner_of front)) (allotted s.slot 0 start s.records ++ all_allotted (start + private_words s.records) (map owner_of rest)) in
-    let g = counted_append s.slot rec (allotted s.slot 0 start s.records) (all_allotted (start + private_words s.records) (map owner_of rest)) in
-    let a = all_before s.slot rec front below next in
-    let b = of_same s.slot rec 0 rec (omega arith) start s.records in
-    let c = none_behind s.slot rec (s.slot + 1) rest (omega arith) ascends (start + private_words s.records) in
-    omega (arith, e, f, g, a, b, c)
+-- a record asks for a private where that takes words
+asks_is : (b : Body) → is_private_reference b ≡ is_some (words_in b)
+asks_is (UnitRef refs) = refl
+asks_is (PublRef refs) = refl
+asks_is (PrivRef words refs) = refl
+asks_is (PublDef value) = refl
+asks_is (ConstDef value) = refl
+asks_is (Eof next) = refl
 
 -- the names of the privates of a front
 abbrev names : List Record → List (List ℕ)
@@ -214,16 +111,20 @@ carried h offset base front (r ∷ rs) rec e offsets =
         → option_map (λ (f : ℕ × Reason). h f.1 f.0) (private_fault rec (base + private_words front) (names front) (r ∷ rs)) ≡ option_or (record_fault h offset all (rec, r)) (later all)
     go None p more =
         let same_words : private_words (front ++ r ∷ []) ≡ private_words front = more_words front r ∙ rw (p, words_taken) (omega arith) in
-        let same_names : names (front ++ r ∷ []) ≡ names front = more_names front r ∙ rw (p, filter) (append-nil (names front)) in
+        let none : is_private_reference r.body ≡ false = asks_is r.body ∙ ap is_some p in
+        let same_names : names (front ++ r ∷ []) ≡ names front = more_names front r ∙ rw (none, filter) (append-nil (names front)) in
         let step : Faults (base + private_words front) (names front) ≡ later all = rw (← same_words, ← same_names) (more ∙ ap later (append_assoc front (r ∷ []) rs)) in
-        rw (p, private_fault, is_again) step
+        rw (p, private_fault, is_again) (rw none step)
     go (Some w) p more = at (list_any (bytes_eq r.name) (names front)) refl (nat_lt 32767 (base + private_words front + w)) refl
       where
+        one : is_private_reference r.body ≡ true
+        one = asks_is r.body ∙ ap is_some p
+
         same_words : private_words (front ++ r ∷ []) ≡ private_words front + w
         same_words = more_words front r ∙ rw (p, words_taken) refl
 
         same_names : names (front ++ r ∷ []) ≡ names front ++ r.name ∷ []
-        same_names = more_names front r ∙ rw (p, filter) refl
+        same_names = more_names front r ∙ rw (one, filter) refl
 
         again_at : (free : ℕ) → base + private_words (front ++ r ∷ []) ≡ free → Faults free (names front ++ r.name ∷ []) ≡ later all
         again_at free is = rw (← is, ← same_names) (more ∙ ap later (append_assoc front (r ∷ []) rs))
@@ -235,32 +136,17 @@ carried h offset base front (r ∷ rs) rec e offsets =
             → option_map (λ (f : ℕ × Reason). h f.1 f.0) (private_fault rec (base + private_words front) (names front) (r ∷ rs)) ≡ option_or (record_fault h offset all (rec, r)) (later all)
         at true seen c full =
             let found : list_any (private_named r.name) front ≡ true = sym (seen_is r.name front) ∙ seen in
-            rw (p, private_fault, is_again) (rw (seen, front_is, found) refl)
+            rw (p, private_fault, is_again) (rw (seen, one, front_is, found) refl)
         at false seen true full =
             let found : list_any (private_named r.name) front ≡ false = sym (seen_is r.name front) ∙ seen in
-            rw (p, private_fault, is_again) (rw (seen, front_is, found, at_offset, full) refl)
+            rw (p, private_fault, is_again) (rw (seen, one, front_is, found, at_offset, full) refl)
         at false seen false full =
             let found : list_any (private_named r.name) front ≡ false = sym (seen_is r.name front) ∙ seen in
-            rw (p, private_fault, is_again) (rw (seen, front_is, found, at_offset, full) step)
+            rw (p, private_fault, is_again) (rw (seen, one, front_is, found, at_offset, full) step)
 
 -- the same over all segments
 abbrev segment_fault : List Segment → Segment → Option Fault
 segment_fault segs s = first_of (record_fault (λ why rec. in_record s.file s.slot rec why) (λ n. private_offset segs s.slot n) s.records) (enumerate_from 0 s.records)
-
-pub below_more : (slot : ℕ) (front : List Segment) (s : Segment) → AreBelow s.slot front → s.slot < slot → AreBelow slot (front ++ s ∷ [])
-below_more slot [] s b h = (h, tt)
-below_more slot (q ∷ front) s b h = ((let x = b.0 in omega (arith, x, h)), below_more slot front s b.1 h)
-
-pub below_from : (from slot : ℕ) (front : List Segment) → from ≤ slot → AreBelow from front → AreBelow slot front
-below_from from slot [] h b = tt
-below_from from slot (q ∷ front) h b = ((let x = b.0 in omega (arith, x, h)), below_from from slot front h b.1)
-
--- the offsets of a segment among all
-pub offset_in : (all front : List Segment) (s : Segment) (rest : List Segment) (from : ℕ) → all ≡ front ++ s ∷ rest → AreBelow from front → Ascends from (s ∷ rest)
-    → (rec : ℕ) → private_offset all s.slot rec ≡ next_of (host_records all) + all_words (map owner_of front) + private_words (take rec s.records)
-offset_in all front s rest from is below ascends rec =
-    subst (λ (segs : List Segment). private_offset segs s.slot rec ≡ next_of (host_records segs) + all_words (map owner_of front) + private_words (take rec s.records)) (sym is)
-    (offset_is front s rest rec (below_from from s.slot front ascends.0 below) ascends.1)
 
 carried_all : (all front rest : List Segment) (from : ℕ) → all ≡ front ++ rest → AreBelow from front → Ascends from rest
     → first_private_fault (next_of (host_records all) + all_words (map owner_of front)) (map owner_of rest) ≡ first_of (segment_fault all) rest

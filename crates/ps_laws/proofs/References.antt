@@ -44,7 +44,8 @@ use Rattle.ps_laws.proofs.Steps.{Ranked, because, because_apart, any_of_range}
 use Rattle.ps_laws.proofs.Looking.{of_test, any_of_take, any_of_items}
 use Rattle.ps_laws.proofs.Segments.{over_segments, Ascends, ascend}
 use Rattle.ps_laws.proofs.Definitions.{take_front, longer}
-use Rattle.ps_laws.proofs.Privates.{AreBelow, below_from, below_more, offset_in, words_split, more_words}
+use Rattle.ps_laws.proofs.PrivateOffsets.{AreBelow, below_from, below_more, offset_in, words_split}
+use Rattle.ps_laws.proofs.Privates.{more_words}
 use Rattle.ps_words.specs.FaultPlaces.{in_record, in_reference}
 use Rattle.ps_words.specs.declared.order.Order.{Order}
 use Rattle.ps_words.specs.declared.fault.Reason.{Reason}

@@ -1,0 +1,120 @@
+-- The offset of a private is the base offset of the host's end mark, and the words of all segments before and of the records before its own.
+use Rattle.std.proofs.Common.{◌≡◌, ℕ, ◌+◌, ◌<◌, ◌≤◌, List, [], ◌∷◌, ◌++◌, take, map, Option, Some, None, Bool, true, false, refl, sym, ap, subst, ◌∙◌, arith}
+use Rattle.std.specs.Prelude.{if◌then◌else◌, ◌==◌, nat_lt, sum_by}
+use Rattle.std.specs.List.{flat_map}
+use Rattle.std.proofs.lemmas.Bool.Decides.{nat_tests}
+use Rattle.std.proofs.lemmas.Grind.{flat_map-append}
+use Rattle.std.proofs.lemmas.List.Sums.{sum_by-append, sum_by-cons}
+use Rattle.ps_linkinfo.specs.declared.record.LinkRecord.{LinkRecord as Record}
+use Rattle.ps_resolve.specs.Sources.{Segment, host_records}
+use Rattle.ps_resolve.specs.Privates.{words_in, private_words, owner_of, all_words}
+use Rattle.ps_linkinfo.specs.Counts.{next_of}
+use Rattle.ps_resolve.specs.Standing.Privates.{records_before, private_offset}
+use Rattle.ps_resolve.specs.References.{words_taken}
+use Rattle.ps_laws.proofs.Segments.{Ascends}
+
+-- segments in lesser slots
+abbrev pub AreBelow : ℕ → List Segment → Type 0
+AreBelow slot [] = Unit {0}
+AreBelow slot (s ∷ ss) = (s.slot < slot) × AreBelow slot ss
+
+pub below_more : (slot : ℕ) (front : List Segment) (s : Segment) → AreBelow s.slot front → s.slot < slot → AreBelow slot (front ++ s ∷ [])
+below_more slot [] s b h = (h, tt)
+below_more slot (q ∷ front) s b h = ((let x = b.0 in omega (arith, x, h)), below_more slot front s b.1 h)
+
+pub below_from : (from slot : ℕ) (front : List Segment) → from ≤ slot → AreBelow from front → AreBelow slot front
+below_from from slot [] h b = tt
+below_from from slot (q ∷ front) h b = ((let x = b.0 in omega (arith, x, h)), below_from from slot front h b.1)
+
+pub words_split : (front rest : List Segment) → all_words (map owner_of (front ++ rest)) ≡ all_words (map owner_of front) + all_words (map owner_of rest)
+words_split [] rest = omega arith
+words_split (s ∷ front) rest = let e = words_split front rest in omega (arith, e)
+
+-- the words of records, one by one
+abbrev words : List Record → ℕ
+words rs = sum_by (λ (r : Record). words_taken r.body) rs
+
+pub one_more : (r : Record) (rs : List Record) → private_words (r ∷ rs) ≡ words_taken r.body + private_words rs
+one_more r rs = go (words_in r.body) refl
+  where
+    go : (w : Option ℕ) → words_in r.body ≡ w → private_words (r ∷ rs) ≡ words_taken r.body + private_words rs
+    go None e = rw (e, private_words, words_taken) (omega arith)
+    go (Some w) e = rw (e, private_words, words_taken) refl
+
+words_are : (rs : List Record) → words rs ≡ private_words rs
+words_are [] = refl
+words_are (r ∷ rs) =
+    let a = sum_by-cons (λ (q : Record). words_taken q.body) r rs in
+    let b = words_are rs in
+    let c = one_more r rs in
+    omega (arith, a, b, c)
+
+-- which records of a segment stand before one of a slot
+true_lt : (a b : ℕ) → a < b → nat_lt a b ≡ true
+true_lt a b h = grind (arith, nat_tests)
+
+false_lt : (a b : ℕ) → b ≤ a → nat_lt a b ≡ false
+false_lt a b h = grind (arith, nat_tests)
+
+false_eq : (a b : ℕ) → b < a → (a == b) ≡ false
+false_eq a b h = grind (arith, nat_tests)
+
+true_eq : (a : ℕ) → (a == a) ≡ true
+true_eq a = grind (arith, nat_tests)
+
+of_lesser : (slot rec : ℕ) (s : Segment) → s.slot < slot → records_before slot rec s ≡ s.records
+of_lesser slot rec s h = ap (λ (b : Bool). if b then s.records else (if s.slot == slot then take rec s.records else [])) (true_lt s.slot slot h)
+
+of_greater : (slot rec : ℕ) (s : Segment) → slot < s.slot → records_before slot rec s ≡ []
+of_greater slot rec s h =
+    ap (λ (b : Bool). if b then s.records else (if s.slot == slot then take rec s.records else [])) (false_lt s.slot slot (omega (arith, h)))
+    ∙ ap (λ (b : Bool). if b then take rec s.records else []) (false_eq s.slot slot h)
+
+of_same : (rec : ℕ) (s : Segment) → records_before s.slot rec s ≡ take rec s.records
+of_same rec s =
+    ap (λ (b : Bool). if b then s.records else (if s.slot == s.slot then take rec s.records else [])) (false_lt s.slot s.slot (omega arith))
+    ∙ ap (λ (b : Bool). if b then take rec s.records else []) (true_eq s.slot)
+
+abbrev before : ℕ → ℕ → List Segment → ℕ
+before slot rec ss = words (flat_map (records_before slot rec) ss)
+
+next_segment : (slot rec : ℕ) (s : Segment) (ss : List Segment) → before slot rec (s ∷ ss) ≡ words (records_before slot rec s) + before slot rec ss
+next_segment slot rec s ss = sum_by-append (λ (r : Record). words_taken r.body) (records_before slot rec s) (flat_map (records_before slot rec) ss)
+
+all_before : (slot rec : ℕ) (ss : List Segment) → AreBelow slot ss → before slot rec ss ≡ all_words (map owner_of ss)
+all_before slot rec [] h = refl
+all_before slot rec (s ∷ ss) h =
+    let a = next_segment slot rec s ss in
+    let b = ap words (of_lesser slot rec s h.0) in
+    let c = words_are s.records in
+    let d = all_before slot rec ss h.1 in
+    omega (arith, a, b, c, d)
+
+none_behind : (slot rec from : ℕ) (ss : List Segment) → slot < from → Ascends from ss → before slot rec ss ≡ 0
+none_behind slot rec from [] h a = refl
+none_behind slot rec from (s ∷ ss) h a =
+    let low = a.0 in
+    let x = next_segment slot rec s ss in
+    let y = ap words (of_greater slot rec s (omega (arith, low, h))) in
+    let z = none_behind slot rec (s.slot + 1) ss (omega (arith, low, h)) a.1 in
+    let n : words [] ≡ 0 = refl in
+    omega (arith, x, y, z, n)
+
+offset_is : (front : List Segment) (s : Segment) (rest : List Segment) (rec : ℕ) → AreBelow s.slot front → Ascends (s.slot + 1) rest
+    → private_offset (front ++ s ∷ rest) s.slot rec ≡ next_of (host_records (front ++ s ∷ rest)) + all_words (map owner_of front) + private_words (take rec s.records)
+offset_is front s rest rec below ascends =
+    let e = ap words (flat_map-append (records_before s.slot rec) front (s ∷ rest)) in
+    let f = sum_by-append (λ (r : Record). words_taken r.body) (flat_map (records_before s.slot rec) front) (flat_map (records_before s.slot rec) (s ∷ rest)) in
+    let g = next_segment s.slot rec s rest in
+    let a = all_before s.slot rec front below in
+    let b = ap words (of_same rec s) in
+    let c = words_are (take rec s.records) in
+    let d = none_behind s.slot rec (s.slot + 1) rest (omega arith) ascends in
+    omega (arith, e, f, g, a, b, c, d)
+
+-- the offsets of a segment among all
+pub offset_in : (all front : List Segment) (s : Segment) (rest : List Segment) (from : ℕ) → all ≡ front ++ s ∷ rest → AreBelow from front → Ascends from (s ∷ rest)
+    → (rec : ℕ) → private_offset all s.slot rec ≡ next_of (host_records all) + all_words (map owner_of front) + private_words (take rec s.records)
+offset_in all front s rest from is below ascends rec =
+    subst (λ (segs : List Segment). private_offset segs s.slot rec ≡ next_of (host_records segs) + all_words (map owner_of front) + private_words (take rec s.records)) (sym is)
+    (offset_is front s rest rec (below_from from s.slot front ascends.0 below) ascends.1)
