@@ -1,11 +1,11 @@
 -- What records come to, one by one.
-use Rattle.std.proofs.Common.{◌≡◌, ℕ, zero, suc, ◌+◌, ◌*◌, ◌<◌, ◌≤◌, List, [], ◌∷◌, ◌++◌, length, drop, Bool, true, false, Option, Some, None, refl, sym, ◌∙◌, ap, subst, arith, true≢false, zero-add, length-drop, ◌^◌}
+use Rattle.std.proofs.Common.{◌≡◌, ℕ, ◌+◌, ◌*◌, ◌<◌, ◌≤◌, List, [], ◌∷◌, ◌++◌, length, drop, true, false, Option, Some, None, refl, sym, ◌∙◌, ap, subst, arith, true≢false, zero-add, length-drop, ◌^◌}
 use Rattle.std.proofs.lemmas.List.{drop-drop}
 use Rattle.std.specs.List.{AllByRecursion}
 use Rattle.ps_words.specs.declared.order.Order.{Order}
 use Rattle.ps_words.specs.declared.fault.Reason.{Reason}
 use Rattle.ps_linkinfo.specs.Records.{AreSpelled, BeginsWith, EndsOnce, bad, is_eof, is_end, reading, record_at, refs_of, size_of, used_by}
-use Rattle.ps_linkinfo.specs.Counts.{tally_of, references_in, next_of, next_in}
+use Rattle.ps_linkinfo.specs.Counts.{tally_of, references_in, next_of}
 use Rattle.ps_linkinfo.specs.Numbered.{first_records}
 use Rattle.ps_linkinfo.specs.declared.tally.Tally.{Tally}
 use Rattle.ps_linkinfo.specs.declared.record.Body.{Body}

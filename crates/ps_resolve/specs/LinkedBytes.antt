@@ -1,18 +1,14 @@
 -- A linked byte, said plainly: which place of a segment has the number of its slot, which have the data size of the host's outer block, which have what a reference becomes, and which keep their input's byte.
 -- Source: the link records and the data size of the outer block are those of the published II.0 Linker source, and BIG operands those of the UCSD Pascal II.0 manual; the order of the privates is this project's profile.
-use Rattle.std.specs.Prelude.{◌≡◌, ℕ, ◌+◌, ◌-◌, ◌<◌, ◌==◌, if◌then◌else◌, List, [], ◌∷◌, ◌++◌, length, map, take, slice_get, slice_index, nat_lt, sum_by, true, Some, All}
+use Rattle.std.specs.Prelude.{◌≡◌, ℕ, ◌+◌, ◌-◌, ◌<◌, if◌then◌else◌, List, [], ◌∷◌, ◌++◌, length, map, slice_get, slice_index, true, Some, All}
 use Rattle.std.specs.List.{flat_map, enumerate_from}
 use Rattle.ps_words.specs.Words.{word_bytes, operand_bytes, displacement_at}
 use Rattle.ps_words.specs.declared.order.Order.{Order}
 use Rattle.ps_words.specs.declared.edit.Edit.{Edit}
 use Rattle.ps_words.specs.declared.edit.Edit.TheVariants.{Byte}
-use Rattle.ps_words.specs.declared.fault.Fault.{Fault}
 use Rattle.ps_codefile.specs.Procedures.{table_of}
 use Rattle.ps_resolve.specs.Added.{segments}
-use Rattle.ps_linkinfo.specs.Counts.{next_of}
 use Rattle.ps_resolve.specs.Privates.{total_words}
-use Rattle.ps_resolve.specs.Standing.Keys.{Step}
-use Rattle.ps_resolve.specs.Standing.{FaultAt}
 use Rattle.ps_resolve.specs.Standing.Phrases.{SomeItem}
 use Rattle.ps_resolve.specs.Standing.References.{Covers}
 use Rattle.ps_resolve.specs.Standing.Privates.{private_offset}
@@ -21,7 +17,7 @@ use Rattle.ps_linkinfo.specs.declared.record.Body.{Body}
 use Rattle.ps_linkinfo.specs.declared.record.Body.TheVariants.{UnitRef, PublRef, PrivRef, PublDef, ConstDef, Eof}
 use Rattle.ps_linkinfo.specs.declared.record.LinkRecord.{LinkRecord as Record}
 use Rattle.ps_resolve.specs.Sources.{Segment, order_of, is_linked, is_host, is_unit, host_records}
-use Rattle.ps_resolve.specs.References.{words_taken, record_edits}
+use Rattle.ps_resolve.specs.References.{record_edits}
 use Rattle.ps_resolve.specs.Linking.{Edited, edited, known_of, data_edits, grown_data_size, linked_byte}
 
 -- reference i of record r, the segment's record `rec`, has its operand at x

@@ -1,7 +1,7 @@
 -- Private variables: where each is allotted, behind the host's own data and behind all privates before it, and the first that cannot be.
 -- Source: the end mark's base offset is that of the published II.0 Linker source; the order of allotment is this project's profile.
-use Rattle.std.specs.Prelude.{map, slice_get, unwrap_or, ◌≡◌, ℕ, ◌+◌, ◌<◌, if◌then◌else◌, List, [], ◌∷◌, ◌++◌, length, nat_lt, Option, Some, None}
-use Rattle.std.specs.List.{list_any, filter_map}
+use Rattle.std.specs.Prelude.{map, ◌≡◌, ℕ, ◌+◌, ◌<◌, if◌then◌else◌, List, [], ◌∷◌, ◌++◌, length, nat_lt, Option, Some, None}
+use Rattle.std.specs.List.{list_any}
 use Rattle.std.specs.Str.{bytes_eq}
 use Rattle.std.specs.Option.{option_map, option_or}
 use Rattle.ps_linkinfo.specs.Records.{reading}

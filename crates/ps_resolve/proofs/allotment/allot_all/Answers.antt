@@ -1,8 +1,7 @@
-use Rattle.std.proofs.Common.{◌≡◌, ◌+◌, ◌++◌, ℕ, List, ◌∷◌, length, map, drop, get_or, ap, ◌∙◌, sym}
+use Rattle.std.proofs.Common.{◌≡◌, ◌+◌, ◌++◌, ℕ, List, ◌∷◌, map, drop, get_or, ap, ◌∙◌, sym}
 use Rattle.std.proofs.lemmas.List.{get_or_default}
 use Rattle.ps_resolve.specs.Privates.{Owner, owner_of_linkage, all_allotted, first_private_fault}
 use Rattle.ps_resolve.specs.declared.linkage.Linkage.{Linkage}
-use Rattle.ps_resolve.specs.declared.allotment.Private.{Private}
 use Rattle.ps_resolve.proofs.Allots.{stopped_in}
 use Rattle.ps_resolve.proofs.Segs.{blank_linkage, drop_at}
 use Rattle.ps_resolve.proofs.allotment.allot_all.Goals as goal

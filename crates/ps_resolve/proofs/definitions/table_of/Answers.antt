@@ -1,7 +1,6 @@
-use Rattle.std.proofs.Common.{◌≡◌, ◌<◌, ◌+◌, ◌∙◌, length, List, ℕ, [], ◌∷◌, ◌++◌, ap, sym, refl, arith, subst, append-nil, is_some, true≢false}
+use Rattle.std.proofs.Common.{◌≡◌, ◌<◌, ◌+◌, ◌∙◌, length, List, ℕ, [], ◌∷◌, ◌++◌, ap, sym, refl, subst, append-nil, is_some, true≢false}
 use Rattle.std.proofs.lemmas.Result.{err_from_is_err_and}
 use Rattle.std.specs.Str.{bytes_eq}
-use Rattle.indexmap.specs.IndexMap.{hasher_of}
 use Rattle.indexmap.proofs.CallerLemmas.{insert_entry-new}
 use Rattle.ps_linkinfo.specs.Counts.{definitions_in}
 use Rattle.ps_resolve.specs.declared.definitions.Def.{Def}

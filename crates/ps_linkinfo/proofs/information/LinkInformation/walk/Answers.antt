@@ -1,5 +1,5 @@
-use Rattle.std.proofs.Common.{◌≡◌, ◌≤◌, ◌<◌, ◌-◌, ◌^◌, ◌∙◌, ℕ, List, length, drop, take, None, Some, rules, ap, sym, subst, refl, arith}
-use Rattle.ps_linkinfo.specs.Records.{bad, record_at, size_of, is_eof}
+use Rattle.std.proofs.Common.{◌≡◌, ◌≤◌, ◌∙◌, ℕ, List, length, drop, None, rules, ap, sym, subst, arith}
+use Rattle.ps_linkinfo.specs.Records.{bad, record_at, size_of}
 use Rattle.ps_linkinfo.proofs.Stands.{begins_at}
 use Rattle.ps_linkinfo.proofs.FirstRecords.{part_is}
 use Rattle.ps_linkinfo.proofs.Tallies.{HasRead, IsRead, faulted, ended, one_read, some_read, room_read, not_end}
