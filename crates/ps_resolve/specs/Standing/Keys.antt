@@ -19,6 +19,7 @@ pub data Step : Type 0 where
   OfDataSize : Step
   OfReferences : Step
 
+-- the place of a step among the steps: a fault of an earlier step comes first
 abbrev pub turn : Step → ℕ
 turn OfHost = 1
 turn OfSlots = 2
@@ -44,6 +45,7 @@ is_of_reading OfPrivates = false
 is_of_reading OfDataSize = false
 is_of_reading OfReferences = false
 
+-- the place of a reason among those of one place: where two stand at the same place of the same step, the lesser comes first
 abbrev pub rank : Reason → ℕ
 rank reason.ShortFile = 1
 rank reason.NoOrder = 2
@@ -81,6 +83,7 @@ rank reason.ReservedPlace = 33
 rank reason.Overlap = 34
 rank reason.OperandTooLarge = 35
 
+-- a part of a key: a fault that has no such part comes before those that have one
 abbrev pub part : Option ℕ → ℕ
 part None = 0
 part (Some n) = n + 1
@@ -91,10 +94,11 @@ record_read reason.MissingUnit rec = 0
 record_read reason.NoSlot rec = 0
 record_read other rec = part rec
 
--- step; slot, or the library, or the round; record; reference; rank
+-- what faults are ordered by: step; slot, or the library, or the round; record; reference; rank
 abbrev pub key : Step → Fault → List ℕ
 key (OfAdded k) f = turn (OfAdded k) ∷ k ∷ record_read f.reason f.rec ∷ part f.reference ∷ rank f.reason ∷ []
 key step f = turn step ∷ unwrap_or f.slot f.file ∷ part f.rec ∷ part f.reference ∷ rank f.reason ∷ []
 
+-- of two faults of the same step, the first has the lesser key
 abbrev pub Precedes : Step → Fault → Fault → Type 0
 Precedes step f g = Before (key step f) (key step g)

@@ -24,11 +24,13 @@ records_before slot rec s = if nat_lt s.slot slot then s.records else (if s.slot
 abbrev pub private_offset : List Segment → ℕ → ℕ → ℕ
 private_offset segs slot rec = next_of (host_records segs) + sum_by (λ r. words_taken r.body) (flat_map (records_before slot rec) segs)
 
+-- A PRIVREF has the name of an earlier one of its segment, or its private ends behind offset 32767.
 abbrev pub PrivateHas : List Segment → Segment → ℕ → Record → Reason → Type 0
 PrivateHas segs s rec r reason.DoubledPrivate = HasEarlierNamesake is_private_reference s.records rec r
 PrivateHas segs s rec r reason.NoRoom = (is_private_reference r.body ≡ true) × (32767 < private_offset segs s.slot rec + words_taken r.body)
 PrivateHas segs s rec r other = ⊥
 
+-- a fault of a private variable, told with its record
 abbrev pub InPrivates : Order → List ℕ → List (List ℕ) → Fault → Type 0
 InPrivates order host libs f =
     SomeSegment order host libs (λ s. SomeItem s.records (λ rec r.

@@ -9,9 +9,10 @@ use Rattle.ps_words.specs.declared.order.Order.{Order}
 abbrev pub IsSegment : Order → List ℕ → List (List ℕ) → Segment → Type 0
 IsSegment order host libs s = (s.slot < 16) × (segment_at order host libs s.slot ≡ Some s)
 
+-- P holds of a segment of the link
 abbrev pub SomeSegment : Order → List ℕ → List (List ℕ) → (Segment → Type 0) → Type 0
 SomeSegment order host libs P = (s : Segment) × IsSegment order host libs s × P s
 
--- the host's own segment
+-- P holds of the host's own segment
 abbrev pub OfHostSegment : Order → List ℕ → List (List ℕ) → (Segment → Type 0) → Type 0
 OfHostSegment order host libs P = (s : Segment) × (host_of (segments order host libs) ≡ Some s) × P s

@@ -17,13 +17,15 @@ use Rattle.ps_words.specs.declared.fault.Reason.TheVariants as reason
 use Rattle.ps_resolve.specs.Standing.Phrases.{Because, SomeBelow, SomeItem}
 use Rattle.ps_resolve.specs.Standing.Slots.{HasRole}
 
--- 5. a slot's source: the library's entries of a name
+-- entry i of a file is filled, and has this name
 abbrev pub IsNamed : Order → List ℕ → List ℕ → ℕ → Type 0
 IsNamed order name file i = (is_filled (entry_at order file i) ≡ true) × ((entry_at order file i).name ≡ name)
 
+-- a filled entry of a file has this name
 abbrev pub HasEntry : Order → List ℕ → List ℕ → Type 0
 HasEntry order name file = SomeBelow 16 (λ i. IsNamed order name file i)
 
+-- two filled entries of a library have the name, or one alone has it and is not of kind UNITSEG (3)
 abbrev pub EntriesHave : Order → List ℕ → List ℕ → Reason → Type 0
 EntriesHave order name lib reason.DoubledUnit = SomeBelow 16 (λ i. IsNamed order name lib i × SomeBelow i (λ j. IsNamed order name lib j))
 EntriesHave order name lib (reason.NotAUnit kind) =
@@ -41,20 +43,22 @@ EntryFault order name libs slot f =
     (HasEntry order name lib × ((lesser : ℕ) (other : List ℕ) → lesser < k → slice_get libs lesser ≡ Some other → HasEntry order name other → ⊥))
     × Because (in_slot (k + 1) slot) (EntriesHave order name lib) f)
 
+-- what is wrong with the source of a wanted unit: no library has an entry of its name, or the first that has one has a fault there
 abbrev pub UnitFault : Order → List ℕ → List (List ℕ) → ℕ → Fault → Type 0
 UnitFault order name libs slot f = ((f ≡ in_slot 0 slot reason.MissingUnit) × NoneHas order name libs) ⊎ EntryFault order name libs slot f
 
--- the procedure tables of a code
+-- a procedure has an attribute table that does not lie whole between the start of the code and the procedure dictionary
 abbrev pub HasBadTable : Order → List ℕ → Type 0
 HasBadTable order code =
     (p : ℕ) × (1 ≤ p) × (p ≤ procedures code) × (content_of order code p ≢ 0)
     × ((length code - 2 - 2 * p < content_of order code p + 8) ⊎ (dictionary_start code ≤ length code - 2 - 2 * p - content_of order code p + 1))
 
--- the tables don't fit, or the host has none for procedure 1
+-- the procedure dictionary is longer than the code, or a table is bad, or the host has none for procedure 1, its outer block
 abbrev pub AreBad : Order → List ℕ → Bool → Type 0
 AreBad order code host =
     ((length code < dictionary_len code) ⊎ HasBadTable order code) ⊎ ((host ≡ true) × ((procedures code ≡ 0) ⊎ (content_of order code 1 ≡ 0)))
 
+-- The tables of a code are bad, or they are not and one is of a native procedure, whose number is 0.
 abbrev pub TablesHave : Order → List ℕ → Bool → Reason → Type 0
 TablesHave order code host reason.BadProcDict = AreBad order code host
 TablesHave order code host reason.NativeProcedure =
@@ -70,6 +74,7 @@ CodeFault order file k e slot role f =
     × (Because (in_slot k slot) (TablesHave order code (is_host role)) f
     ⊎ ((rs : List Record) × (why : Reason) × (f ≡ in_record k slot (length rs) why) × Stops order (information_of file e) rs why))))
 
+-- a fault of what a slot of the host comes from: for a wanted unit its entry in the libraries; then its code, its tables and its records
 abbrev pub InSources : Order → List ℕ → List (List ℕ) → Fault → Type 0
 InSources order host libs f =
     SomeBelow 16 (λ slot. (r : Role) × HasRole order host slot r
