@@ -3,25 +3,9 @@ ghost use Rattle.std.specs.List.{list_all};
 ghost use Rattle.ps_codefile.specs.Dictionary.{slots, Opened, opened, opened_beside, entry_at, name_at, names_of, tail_of, role_of, is_filled, code_of, information_of, IsViewOf};
 
 use crate::entry::{Entry, Role};
+use crate::layout::{KINDS, NAME, NAMES, PAIR, SLOTS, TAIL, TEXTS, WORD};
 use ps_words::{BLOCK_SIZE, Order, Reason, blocks_of, get};
 use std::marker::Model;
-
-/// How many slots the dictionary has.
-const SLOTS: usize = 16;
-/// The length of a word in bytes.
-const WORD: usize = 2;
-/// The length of a pair of address and length. The pairs begin the dictionary.
-const PAIR: usize = 4;
-/// The length of a name.
-const NAME: usize = 8;
-/// Where the names begin.
-const NAMES: usize = 64;
-/// Where the kind words begin.
-const KINDS: usize = 192;
-/// Where the text addresses begin.
-const TEXTS: usize = 224;
-/// Where the tail begins, which is copied unread.
-const TAIL: usize = 256;
 
 /// A code file seen through its segment dictionary, the sixteen slots in block 0.
 ///

@@ -3,6 +3,7 @@
 
 mod dictionary;
 mod entry;
+pub mod layout;
 mod places;
 mod procedures;
 #[cfg(test)]

@@ -4,22 +4,14 @@ ghost use Rattle.ps_resolve.specs.Plans.{origin_of_source};
 ghost use Rattle.ps_linkfile.specs.LinkedFile.{all_pairs, dictionary};
 ghost use Rattle.ps_linkfile.specs.Writing.{extent_of_origin, extents_of, Ascend, IsReady};
 
+use ps_codefile::layout::{NAMES, PAIR, TAIL, WORD};
 use ps_resolve::{Plan, Source};
 use ps_words::{BLOCK_SIZE, Order, blocks_of, put};
 use std::alloc::Allocator;
 
-/// The length of a word in bytes.
-const WORD: usize = 2;
-/// The length of a pair of address and length. The pairs begin the dictionary.
-const PAIR: usize = 4;
-/// Where the names begin.
-const NAMES: usize = 64;
-/// Where the tail begins.
-const TAIL: usize = 256;
-
 /// The sixteen pairs of the dictionary: for the slot of each source the block that its code begins in
 /// and the code's length, and zeros for any other.
-fn pairs_of(order: Order, sources: &[Source]) -> [u8; 64]
+fn pairs_of(order: Order, sources: &[Source]) -> [u8; NAMES]
     requires slots { Ascend 0 (map (λ s. extent_of_origin (origin_of_source s)) sources.now) }
     requires sizes { All (λ c. c.size ≤ max_code_len) (map (λ s. extent_of_origin (origin_of_source s)) sources.now) }
     ensures { result ≡ all_pairs order (map (λ s. extent_of_origin (origin_of_source s)) sources.now) }
@@ -46,7 +38,7 @@ fn store(dictionary: &mut [u8], place: usize, part: &[u8])
 }
 
 /// The segment dictionary of the linked file, which is its block 0.
-pub(crate) fn dictionary_of<A: Allocator + Copy>(plan: &Plan<'_, A>) -> [u8; 512]
+pub(crate) fn dictionary_of<A: Allocator + Copy>(plan: &Plan<'_, A>) -> [u8; BLOCK_SIZE]
     requires { IsReady plan.now }
     ensures { result ≡ dictionary plan.now.order plan.now.names plan.now.host (extents_of plan.now) }
 {

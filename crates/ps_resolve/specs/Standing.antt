@@ -15,7 +15,6 @@ use Rattle.ps_resolve.specs.Standing.Definitions.{InDefinitions}
 use Rattle.ps_resolve.specs.Standing.Privates.{InPrivates}
 use Rattle.ps_resolve.specs.Standing.DataSizes.{InDataSize}
 use Rattle.ps_resolve.specs.Standing.References.{InReferences}
-
 pub mod Phrases
 pub mod Keys
 pub mod Hosts

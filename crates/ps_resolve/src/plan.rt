@@ -1,9 +1,11 @@
-ghost use Rattle.std.specs.Prelude.{◌≡◌, ◌<◌, length, map, slice_get, slice_range, Some};
+ghost use Rattle.std.specs.Prelude.{◌≡◌, ◌<◌, length, map, slice_get, Some};
+ghost use Rattle.ps_codefile.specs.Dictionary.{tail_of};
 ghost use Rattle.ps_resolve.specs.Plans.{origin_of_source};
 
 use crate::allotment::Allotment;
 use crate::definitions::Definitions;
-use ps_words::{Edit, Order};
+use ps_codefile::layout::TAIL;
+use ps_words::{BLOCK_SIZE, Edit, Order};
 use std::alloc::{Allocator, Global};
 use std::marker::Model;
 
@@ -68,9 +70,9 @@ impl<'a, A: Allocator + Copy> Plan<'a, A> {
 
     /// The tail of the host's segment dictionary, its bytes 256 to 511.
     pub fn tail(&self) -> &'a [u8]
-        ensures { result.now ≡ slice_range self.now.host 256 512 }
+        ensures { result.now ≡ tail_of self.now.host }
     {
-        &self.host[256..512]
+        &self.host[TAIL..BLOCK_SIZE]
     }
 
     /// Where the code of each segment comes from, by slot ascending.
