@@ -4,7 +4,7 @@ ghost use Rattle.ps_codefile.specs.Dictionary.{slots, Opened, opened, opened_bes
 
 use crate::entry::{Entry, Role};
 use crate::layout::{KINDS, NAME, NAMES, PAIR, SLOTS, TAIL, TEXTS, WORD};
-use ps_words::{BLOCK_SIZE, Order, Reason, blocks_of, get};
+use ps_words::{BLOCK_SIZE, Name, Order, Reason, blocks_of, get};
 use std::marker::Model;
 
 /// A code file seen through its segment dictionary, the sixteen slots in block 0.
@@ -29,7 +29,7 @@ impl<'a> Model for Dict<'a> {
     ghost invariant = { λ d. 512 ≤ length d.file.now };
 }
 
-fn name_of(file: &[u8], slot: usize) -> [u8; 8]
+fn name_of(file: &[u8], slot: usize) -> Name
     requires in_range { slot < 16 }
     requires whole { 512 ≤ length file.now }
     ensures { result ≡ name_at file.now slot }
@@ -130,7 +130,7 @@ impl<'a> Dict<'a> {
     }
 
     /// The names of all slots, eight bytes each.
-    pub fn names(&self) -> [[u8; 8]; 16]
+    pub fn names(&self) -> [Name; 16]
         ensures { result ≡ names_of self.now.file }
     {
         let mut names = [[0; NAME]; SLOTS];

@@ -2,7 +2,7 @@ ghost use Rattle.std.specs.Prelude.{◌≡◌, ◌==◌};
 ghost use Rattle.std.specs.List.{list_all};
 ghost use Rattle.ps_codefile.specs.Dictionary.{is_nameless as nameless_spec, role_of, is_filled as filled_spec, has_bad_length as bad_length_spec};
 
-use ps_words::Reason;
+use ps_words::{Name, Reason};
 
 /// A segment that is linked, or that needs no link.
 const LINKED: u16 = 0;
@@ -34,7 +34,7 @@ pub struct Entry {
     /// The code's length in bytes.
     pub length: u16,
     /// The segment's name, padded with blanks.
-    pub name: [u8; 8],
+    pub name: Name,
     /// The segment's kind: 0 LINKED, 1 HOSTSEG, 2 SEGPROC, 3 UNITSEG, 4 SEPRTSEG.
     pub kind: u16,
     /// The block that the interface text begins in.
@@ -58,7 +58,7 @@ pub enum Role {
     Unit,
 }
 
-fn all_are(name: &[u8; 8], byte: u8) -> bool
+fn all_are(name: &Name, byte: u8) -> bool
     ensures { result ≡ list_all (λ b. b == byte) name.now }
 {
     name.iter().all(|b| *b == byte)
@@ -67,7 +67,7 @@ fn all_are(name: &[u8; 8], byte: u8) -> bool
 /// The name is eight blanks or eight zero bytes.
 ///
 /// Source: this project's profile.
-pub fn is_nameless(name: &[u8; 8]) -> bool
+pub fn is_nameless(name: &Name) -> bool
     ensures { result ≡ nameless_spec name.now }
 {
     all_are(name, b' ') || all_are(name, 0)

@@ -3,7 +3,7 @@ ghost use Rattle.std.specs.Prelude.{◌≡◌, ◌++◌, ◌∷◌, [], OnOk, st
 ghost use Rattle.ps_linkfile.specs.Lines.{shown, shown_byte, two_digits};
 
 use itoa::{Buffer, Integer};
-use ps_words::Reason;
+use ps_words::{Name, Reason};
 use std::alloc::{AllocError, Allocator};
 use std::fmt;
 
@@ -20,7 +20,7 @@ pub(crate) fn add_number<A: Allocator, I: Integer>(
 }
 
 /// Adds a name as a line shows it, in eight characters.
-pub(crate) fn add_name<A: Allocator>(text: &mut String<A>, name: [u8; 8]) -> Result<(), AllocError>
+pub(crate) fn add_name<A: Allocator>(text: &mut String<A>, name: Name) -> Result<(), AllocError>
     ensures { OnOk result (string_bytes text.new ≡ string_bytes text.old ++ shown name) }
 {
     for byte in &name {
@@ -57,7 +57,7 @@ pub(crate) fn add_slot_name<A: Allocator>(
     text: &mut String<A>,
     before: &str,
     slot: u8,
-    name: [u8; 8],
+    name: Name,
 ) -> Result<(), AllocError>
     ensures { OnOk result (string_bytes text.new ≡ string_bytes text.old ++ before.now ++ two_digits slot ++ (32 ∷ []) ++ shown name) }
 {
@@ -68,7 +68,7 @@ pub(crate) fn add_slot_name<A: Allocator>(
 
 /// A name as a line shows it, in eight characters.
 #[derive(Clone, Copy)]
-pub(crate) struct Shown(pub(crate) [u8; 8]);
+pub(crate) struct Shown(pub(crate) Name);
 
 impl fmt::Display for Shown {
     ghost use Rattle.std.specs.Prelude.{Some};

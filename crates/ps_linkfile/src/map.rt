@@ -13,7 +13,7 @@ use crate::error::LinkError;
 use crate::lines::{Shown, TwoDigits, add_name, add_number, add_slot_name};
 use ps_laws::first_of_all;
 use ps_resolve::{Def, DefKind, Definitions, Plan, Private, Source, resolve};
-use ps_words::blocks_of;
+use ps_words::{Name, blocks_of};
 use std::alloc::{AllocError, Allocator};
 use std::fmt::Write as _;
 
@@ -28,7 +28,7 @@ fn added_word(added: bool) -> &'static str
 fn add_segment<A: Allocator>(
     text: &mut String<A>,
     source: &Source,
-    name: [u8; 8],
+    name: Name,
     block: usize,
 ) -> Result<(), AllocError>
     ensures { OnOk result (string_bytes text.new ≡ string_bytes text.old ++ code_line source.now.slot name source.now.file source.now.index block (length source.now.code.now) source.now.added) }
@@ -76,7 +76,7 @@ fn kind_word(kind: DefKind) -> &'static str
 /// Adds the line of a definition.
 fn add_definition<A: Allocator>(
     text: &mut String<A>,
-    name: [u8; 8],
+    name: Name,
     def: Def,
 ) -> Result<(), AllocError>
     ensures { OnOk result (string_bytes text.new ≡ string_bytes text.old ++ definition_line (name, def)) }

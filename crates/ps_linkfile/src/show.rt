@@ -15,7 +15,7 @@ use crate::lines::{FaultWords, Shown, TwoDigits, add_name, add_number};
 use arrayvec::ArrayVec;
 use ps_codefile::{Dict, Entry, Role};
 use ps_linkinfo::{Body, LinkRecord, Records, Refs, walk_from_start};
-use ps_words::{Fault, Order, Reason};
+use ps_words::{Fault, Name, Order, Reason};
 use std::alloc::{AllocError, Allocator};
 use std::fmt::Write as _;
 
@@ -110,7 +110,7 @@ fn is_unit(dict: &Dict, slot: u8) -> bool
 }
 
 /// Adds the name of the slot behind the others, where it has a unit.
-fn add_unit(dict: &Dict, names: &mut ArrayVec<[u8; 8], 16>, slot: u8)
+fn add_unit(dict: &Dict, names: &mut ArrayVec<Name, 16>, slot: u8)
     requires in_range { slot < 16 }
     requires room { array_vec_len names.old < 16 }
     ensures { names.new.items ≡ names.old.items ++ (if is_role is_unit_role dict.now.order dict.now.file slot then (entry_at dict.now.order dict.now.file slot).name ∷ [] else []) }
@@ -121,10 +121,10 @@ fn add_unit(dict: &Dict, names: &mut ArrayVec<[u8; 8], 16>, slot: u8)
 }
 
 /// The names of the units of a file, in place or wanted, by slot.
-fn unit_names(dict: &Dict) -> ArrayVec<[u8; 8], 16>
+fn unit_names(dict: &Dict) -> ArrayVec<Name, 16>
     ensures { result.items ≡ unit_names_spec dict.now.order dict.now.file }
 {
-    let mut names: ArrayVec<[u8; 8], MAX_UNITS> = ArrayVec::new();
+    let mut names: ArrayVec<Name, MAX_UNITS> = ArrayVec::new();
     for slot in 0..SLOTS {
         add_unit(dict, &mut names, slot);
     }
@@ -132,14 +132,14 @@ fn unit_names(dict: &Dict) -> ArrayVec<[u8; 8], 16>
 }
 
 /// One of these units has the name.
-fn is_listed(units: &[[u8; 8]], name: [u8; 8]) -> bool
+fn is_listed(units: &[Name], name: Name) -> bool
     ensures { result ≡ is_listed_spec units.now name }
 {
     units.iter().any(|unit| *unit == name)
 }
 
 /// What ends the line of a UNITREF record, where none of these units has its name.
-fn unlisted_word(units: &[[u8; 8]], name: [u8; 8]) -> &'static str
+fn unlisted_word(units: &[Name], name: Name) -> &'static str
     ensures { result.now ≡ unlisted_word_spec units.now name }
 {
     if is_listed(units, name) {
@@ -165,7 +165,7 @@ fn add_head<A: Allocator>(
     text: &mut String<A>,
     rec: usize,
     kind: &str,
-    name: [u8; 8],
+    name: Name,
 ) -> Result<(), AllocError>
     ensures { OnOk result (string_bytes text.new ≡ string_bytes text.old ++ decimal rec ++ kind.now ++ shown name) }
 {
@@ -178,7 +178,7 @@ fn add_head<A: Allocator>(
 /// with these units.
 fn add_record<A: Allocator>(
     text: &mut String<A>,
-    units: &[[u8; 8]],
+    units: &[Name],
     rec: usize,
     entry: &LinkRecord,
 ) -> Result<(), AllocError>
@@ -232,7 +232,7 @@ fn add_record_fault<A: Allocator>(
 /// up to the first fault and that fault.
 fn add_records<A: Allocator>(
     text: &mut String<A>,
-    units: &[[u8; 8]],
+    units: &[Name],
     order: Order,
     information: &[u8],
 ) -> Result<(), AllocError>
@@ -265,7 +265,7 @@ fn has_links(dict: &Dict, slot: u8) -> bool
 fn add_links<A: Allocator>(
     text: &mut String<A>,
     dict: &Dict,
-    units: &[[u8; 8]],
+    units: &[Name],
     slot: u8,
 ) -> Result<(), AllocError>
     requires in_range { slot < 16 }

@@ -3,6 +3,7 @@ ghost use Rattle.ps_linkinfo.specs.Records.{size_of, is_eof as is_eof_spec};
 
 use crate::layout::{RECORD_LEN, list_len};
 use crate::refs::Refs;
+use ps_words::Name;
 
 /// What a record says, beside its name.
 ///
@@ -29,7 +30,7 @@ pub enum Body<'a> {
 #[derive(Clone, Debug, Drop)]
 pub struct LinkRecord<'a> {
     /// Its name, padded with blanks. That of an EOFMARK means nothing.
-    pub name: [u8; 8],
+    pub name: Name,
     /// What it says.
     pub body: Body<'a>,
 }

@@ -19,7 +19,7 @@ use crate::units::{UnitSource, chosen_library, entries_reason};
 use arrayvec::ArrayVec;
 use ps_codefile::{Dict, Role, is_nameless};
 use ps_linkinfo::{Body, LinkRecord, Records, walk_from_start};
-use ps_words::{Fault, Order, Reason};
+use ps_words::{Fault, Name, Order, Reason};
 
 /// The first slot that a unit may be added in.
 const FIRST_ADDED: u8 = 7;
@@ -34,7 +34,7 @@ const MAX_SOUGHT: usize = 10;
 #[derive(Clone, Copy)]
 pub struct UnitReference {
     /// The name of a unit.
-    pub name: [u8; 8],
+    pub name: Name,
     /// The file that the record's segment comes from: 0 for the host, k for the k-th library.
     pub file: usize,
     /// The slot of the record's segment, 0 to 15.
@@ -79,14 +79,14 @@ fn empty_slots(host: &Dict) -> ArrayVec<u8, 9>
 }
 
 /// The name is in the row.
-fn is_in_row(row: &ArrayVec<UnitReference, 10>, name: [u8; 8]) -> bool
+fn is_in_row(row: &ArrayVec<UnitReference, 10>, name: Name) -> bool
     ensures { result ≡ list_any (λ sought. bytes_eq sought.name name) row.now.items }
 {
     row.iter().any(|sought| sought.name == name)
 }
 
 /// A unit of the host has the name, or it is in the row.
-fn is_had(own: &[Segment], row: &ArrayVec<UnitReference, 10>, name: [u8; 8]) -> bool
+fn is_had(own: &[Segment], row: &ArrayVec<UnitReference, 10>, name: Name) -> bool
     ensures { result ≡ is_had_spec (units_by_name own.now) row.now.items name }
 {
     match slot_of(own, name) {
@@ -171,7 +171,7 @@ fn sought_by(order: Order, own: &[Segment]) -> ArrayVec<UnitReference, 10>
 }
 
 /// The first library with a filled entry of this name, and the first such entry there.
-fn unit_named<'a>(order: Order, name: [u8; 8], libs: &'a [&'a [u8]]) -> Option<UnitSource<'a>>
+fn unit_named<'a>(order: Order, name: Name, libs: &'a [&'a [u8]]) -> Option<UnitSource<'a>>
     requires { libraries_fault order (contents libs.now) ≡ None }
     ensures missing { is_none result ≡ is_missing order (contents libs.now) name }
     ensures library { IfSome result (λ u. chosen_library_spec order name (contents libs.now) ≡ Some (u.library, u.dict.file)) }

@@ -12,7 +12,7 @@ use crate::linkage::{Linkage, Stop};
 use crate::name_hasher::NameHasher;
 use indexmap::IndexSet;
 use ps_linkinfo::{Body, LinkInformation, Records, walk_from_start};
-use ps_words::{Fault, Reason};
+use ps_words::{Fault, Name, Reason};
 use std::alloc::{Allocator, Global};
 use std::marker::Model;
 
@@ -29,7 +29,7 @@ pub struct Private {
     /// The index, from 0, of its record in the segment's link information.
     pub rec: usize,
     /// Its name, which no other private of its segment has.
-    pub name: [u8; 8],
+    pub name: Name,
     /// Its base offset in words, 0 to 32767.
     pub offset: u16,
     /// How many words it takes, 0 to 32767.
@@ -51,7 +51,7 @@ fn words_of_private(body: &Body) -> Option<u16>
 fn private_names<A: Allocator + Copy>(
     alloc: A,
     records: &LinkInformation,
-) -> Result<IndexSet<[u8; 8], NameHasher, A>, Stop>
+) -> Result<IndexSet<Name, NameHasher, A>, Stop>
     ensures empty { IfOk result (λ names. names.keys ≡ []) }
     ensures keyed { IfOk result (λ names. hasher_of names ≡ digest_of records.now) }
     ensures stop { IfErr result (λ stop. (stop ≡ Memory) × (0 < privates_in records.now)) }

@@ -9,7 +9,7 @@ use crate::linkage::{Linkage, Stop};
 use crate::name_hasher::NameHasher;
 use indexmap::IndexMap;
 use ps_linkinfo::{Body, LinkInformation, LinkRecord};
-use ps_words::{Fault, Reason};
+use ps_words::{Fault, Name, Reason};
 use std::alloc::{Allocator, Global};
 use std::marker::Model;
 
@@ -39,7 +39,7 @@ pub struct Def {
 /// be prepared for it.
 #[derive(Drop)]
 pub struct Definitions<A: Allocator + Copy = Global> {
-    by_name: IndexMap<[u8; 8], Def, NameHasher, A>,
+    by_name: IndexMap<Name, Def, NameHasher, A>,
 }
 
 impl<A: Allocator + Copy> Model for Definitions<A> {
@@ -74,7 +74,7 @@ fn table_of<A: Allocator + Copy>(
     file: usize,
     slot: u8,
     records: &LinkInformation,
-) -> Result<IndexMap<[u8; 8], Def, NameHasher, A>, Stop>
+) -> Result<IndexMap<Name, Def, NameHasher, A>, Stop>
     ensures entries { IfOk result (λ m. m.entries ≡ definitions records.now) }
     ensures once { IfOk result (λ _. doubled records.now ≡ None) }
     ensures keyed { IfOk result (λ m. hasher_of m ≡ digest_of records.now) }
@@ -129,7 +129,7 @@ impl<A: Allocator + Copy> Definitions<A> {
     }
 
     /// The definition of the name, eight bytes; `None` where the host's segment does not define it.
-    pub fn look(&self, name: &[u8; 8]) -> Option<Def>
+    pub fn look(&self, name: &Name) -> Option<Def>
         ensures { result ≡ definition_of name.now self.now }
     {
         self.by_name.get(name).copied()
@@ -150,7 +150,7 @@ impl<A: Allocator + Copy> Definitions<A> {
     }
 
     /// The name and the definition of index `i`, from 0, in the order of the records; `i` is below `len`.
-    pub fn at(&self, i: usize) -> ([u8; 8], Def)
+    pub fn at(&self, i: usize) -> (Name, Def)
         requires { i < length self.now }
         ensures { slice_get self.now i ≡ Some result }
     {

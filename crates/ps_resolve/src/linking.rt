@@ -31,7 +31,7 @@ use crate::slots::HOST_FILE;
 use ps_codefile::Procs;
 use ps_linkinfo::{Body, Records, walk_from_start};
 use ps_words::laws::edits_patch_alike_in_any_order;
-use ps_words::{Edit, Fault, Order};
+use ps_words::{Edit, Fault, Name, Order};
 use std::alloc::Allocator;
 
 /// The link information of each segment.
@@ -227,7 +227,7 @@ pub(crate) fn link_segments<'a, A: Allocator + Copy>(
     alloc: A,
     order: Order,
     host: &'a [u8],
-    names: [[u8; 8]; 16],
+    names: [Name; 16],
     segments: &[Segment<'a>],
 ) -> Result<Plan<'a, A>, Stop>
     requires sound { All (IsSound order) (map (segment_of order) segments.now) }

@@ -7,6 +7,7 @@ ghost use Rattle.ps_resolve.specs.Symbols.{definition_of};
 use crate::definitions::{Def, Definitions};
 use crate::roles::is_unit;
 use crate::segment::Segment;
+use ps_words::Name;
 use std::alloc::{Allocator, Global};
 use std::marker::Model;
 
@@ -27,7 +28,7 @@ impl<'k, 'a, A: Allocator + Copy> Model for Names<'k, 'a, A> {
 }
 
 /// The slot of the unit of this name.
-pub(crate) fn slot_of(segments: &[Segment], name: [u8; 8]) -> Option<u8>
+pub(crate) fn slot_of(segments: &[Segment], name: Name) -> Option<u8>
     ensures { result ≡ lookup (bytes_eq name) (units_by_name segments.now) }
 {
     for segment in segments {
@@ -40,14 +41,14 @@ pub(crate) fn slot_of(segments: &[Segment], name: [u8; 8]) -> Option<u8>
 
 impl<'k, 'a, A: Allocator + Copy> Names<'k, 'a, A> {
     /// The slot of the unit of this name, where there is one.
-    pub(crate) fn slot_of_unit(&self, name: [u8; 8]) -> Option<u8>
+    pub(crate) fn slot_of_unit(&self, name: Name) -> Option<u8>
         ensures { result ≡ lookup (bytes_eq name) self.now.units }
     {
         slot_of(self.segments, name)
     }
 
     /// The definition of this name, where there is one.
-    pub(crate) fn definition_of(&self, name: &[u8; 8]) -> Option<Def>
+    pub(crate) fn definition_of(&self, name: &Name) -> Option<Def>
         ensures { result ≡ definition_of name.now self.now.definitions }
     {
         self.definitions.look(name)

@@ -5,7 +5,7 @@ ghost use Rattle.ps_resolve.specs.Plans.{origin_of_source};
 use crate::allotment::Allotment;
 use crate::definitions::Definitions;
 use ps_codefile::layout::TAIL;
-use ps_words::{BLOCK_SIZE, Edit, Order};
+use ps_words::{BLOCK_SIZE, Edit, Name, Order};
 use std::alloc::{Allocator, Global};
 use std::marker::Model;
 
@@ -33,7 +33,7 @@ pub struct Source<'a> {
 pub struct Plan<'a, A: Allocator + Copy = Global> {
     pub(crate) order: Order,
     pub(crate) host: &'a [u8],
-    pub(crate) names: [[u8; 8]; 16],
+    pub(crate) names: [Name; 16],
     pub(crate) sources: Vec<Source<'a>, A>,
     pub(crate) edits: Vec<Vec<Edit, A>, A>,
     pub(crate) definitions: Definitions<A>,
@@ -62,7 +62,7 @@ impl<'a, A: Allocator + Copy> Plan<'a, A> {
 
     /// The names of all slots of the linked file, of eight bytes each: the host's, and in the slot of
     /// an added unit that unit's.
-    pub fn names(&self) -> &[[u8; 8]; 16]
+    pub fn names(&self) -> &[Name; 16]
         ensures { result.now ≡ self.now.names }
     {
         &self.names

@@ -17,7 +17,7 @@ use crate::slots::{HOST_FILE, SLOTS, is_empty, no_host_fault, slots_fault};
 use crate::sources::{add, read_slots};
 use arrayvec::ArrayVec;
 use ps_codefile::Dict;
-use ps_words::{Fault, Order};
+use ps_words::{Fault, Name, Order};
 
 /// The segment that stands in a slot.
 fn segment_in<'a>(segments: &[Segment<'a>], slot: u8) -> Option<Segment<'a>>
@@ -69,7 +69,7 @@ fn by_slot<'a>(
 }
 
 /// The name of a slot in the linked file.
-fn slot_name(host: &Dict, segments: &[Segment], slot: u8) -> [u8; 8]
+fn slot_name(host: &Dict, segments: &[Segment], slot: u8) -> Name
     requires { slot < 16 }
     ensures { (order : ByteOrder) → result ≡ slot_name_spec host.now.file (map (segment_of order) segments.now) slot }
 {
@@ -80,7 +80,7 @@ fn slot_name(host: &Dict, segments: &[Segment], slot: u8) -> [u8; 8]
 }
 
 /// The names of all slots in the linked file.
-fn slot_names(host: &Dict, segments: &[Segment]) -> [[u8; 8]; 16]
+fn slot_names(host: &Dict, segments: &[Segment]) -> [Name; 16]
     ensures { (order : ByteOrder) → result ≡ slot_names_spec host.now.file (map (segment_of order) segments.now) }
 {
     let mut names = [[0; 8]; SLOTS as usize];
@@ -147,7 +147,7 @@ pub(crate) struct Reading<'a> {
     /// The byte order of the host.
     pub(crate) order: Order,
     /// The names of all slots in the linked file.
-    pub(crate) names: [[u8; 8]; 16],
+    pub(crate) names: [Name; 16],
     /// The segments by slot ascending.
     pub(crate) segments: ArrayVec<Segment<'a>, 16>,
 }

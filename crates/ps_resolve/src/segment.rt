@@ -7,7 +7,7 @@ ghost use Rattle.ps_resolve.specs.Views.{segment_of};
 use crate::linkage::Linkage;
 use crate::roles::is_linked;
 use ps_codefile::Role;
-use ps_words::Order;
+use ps_words::{Name, Order};
 
 /// A segment of the linked file, as the files have it.
 #[derive(Clone, Copy)]
@@ -15,7 +15,7 @@ pub(crate) struct Segment<'a> {
     /// Its slot in the host, 0 to 15.
     pub(crate) slot: u8,
     /// The host's name of that slot, or that of the unit that was added there.
-    pub(crate) name: [u8; 8],
+    pub(crate) name: Name,
     /// What the slot is for; never `Empty`.
     pub(crate) role: Role,
     /// It was added in an empty slot, for a UNITREF; its role is that of a wanted unit.

@@ -6,7 +6,7 @@ ghost use Rattle.ps_resolve.specs.Sources.{is_host as is_host_role, is_unit as i
 ghost use Rattle.ps_resolve.specs.Faults.{is_role, slot_reason as slot_reason_spec, slots_fault as slots_fault_spec, no_host_fault as no_host_fault_spec};
 
 use ps_codefile::{Dict, Role};
-use ps_words::{Fault, Reason};
+use ps_words::{Fault, Name, Reason};
 
 /// How many slots a segment dictionary has.
 pub(crate) const SLOTS: u8 = 16;
@@ -39,7 +39,7 @@ fn is_unit(host: &Dict, slot: u8) -> bool
 }
 
 /// The slot has a unit of this name.
-fn is_unit_of(host: &Dict, name: [u8; 8], slot: u8) -> bool
+fn is_unit_of(host: &Dict, name: Name, slot: u8) -> bool
     requires { slot < 16 }
     ensures { result ≡ (is_role is_unit_role host.now.order host.now.file slot && bytes_eq (entry_at host.now.order host.now.file slot).name name) }
 {
@@ -55,7 +55,7 @@ fn has_host_below(host: &Dict, end: u8) -> bool
 }
 
 /// One of the slots below `end` has a unit of this name.
-fn has_unit_below(host: &Dict, name: [u8; 8], end: u8) -> bool
+fn has_unit_below(host: &Dict, name: Name, end: u8) -> bool
     requires { end ≤ 16 }
     ensures { result ≡ list_any (λ s. is_role is_unit_role host.now.order host.now.file s && bytes_eq (entry_at host.now.order host.now.file s).name name) (range_with_len 0 end) }
 {

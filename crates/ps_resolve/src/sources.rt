@@ -17,7 +17,7 @@ use crate::units::unit_source;
 use arrayvec::ArrayVec;
 use ps_codefile::{Dict, Procs, Role};
 use ps_linkinfo::{Records, walk_from_start};
-use ps_words::{Fault, Order, Reason};
+use ps_words::{Fault, Name, Order, Reason};
 
 impl<'a> Default for Segment<'a> {
     fn default() -> Self {
@@ -86,7 +86,7 @@ fn linked_fault(
 /// The segment of a slot, whose code and link information are those of an entry of a file.
 pub(crate) fn read_segment<'a>(
     slot: u8,
-    name: [u8; 8],
+    name: Name,
     role: Role,
     from: &Dict<'a>,
     file: usize,

@@ -8,7 +8,7 @@ ghost use Rattle.ps_resolve.specs.Faults.{library_reason, libraries_fault, entri
 
 use crate::slots::{HOST_FILE, SLOTS};
 use ps_codefile::Dict;
-use ps_words::{Fault, Order, Reason};
+use ps_words::{Fault, Name, Order, Reason};
 
 /// The kind of a unit's segment.
 const UNITSEG: u16 = 3;
@@ -24,7 +24,7 @@ pub(crate) struct UnitSource<'a> {
 }
 
 /// The entry has a code in its file, and this name.
-fn is_named(dict: &Dict, name: [u8; 8], index: u8) -> bool
+fn is_named(dict: &Dict, name: Name, index: u8) -> bool
     requires { index < 16 }
     ensures { result ≡ is_named_spec dict.now.order name dict.now.file index }
 {
@@ -32,7 +32,7 @@ fn is_named(dict: &Dict, name: [u8; 8], index: u8) -> bool
 }
 
 /// One of the entries below `end` has this name.
-fn has_name_below(dict: &Dict, name: [u8; 8], end: u8) -> bool
+fn has_name_below(dict: &Dict, name: Name, end: u8) -> bool
     requires { end ≤ 16 }
     ensures { result ≡ list_any (is_named_spec dict.now.order name dict.now.file) (range_with_len 0 end) }
 {
@@ -40,7 +40,7 @@ fn has_name_below(dict: &Dict, name: [u8; 8], end: u8) -> bool
 }
 
 /// The entry has this name, and so has one below it.
-fn is_named_again(dict: &Dict, name: [u8; 8], index: u8) -> bool
+fn is_named_again(dict: &Dict, name: Name, index: u8) -> bool
     requires { index < 16 }
     ensures { result ≡ (is_named_spec dict.now.order name dict.now.file index && list_any (is_named_spec dict.now.order name dict.now.file) (range_with_len 0 index)) }
 {
@@ -48,7 +48,7 @@ fn is_named_again(dict: &Dict, name: [u8; 8], index: u8) -> bool
 }
 
 /// One of the entries below `end` has this name, and so has one below it.
-fn has_doubled_below(dict: &Dict, name: [u8; 8], end: u8) -> bool
+fn has_doubled_below(dict: &Dict, name: Name, end: u8) -> bool
     requires { end ≤ 16 }
     ensures { result ≡ list_any (λ i. is_named_spec dict.now.order name dict.now.file i && list_any (is_named_spec dict.now.order name dict.now.file) (range_with_len 0 i)) (range_with_len 0 end) }
 {
@@ -56,7 +56,7 @@ fn has_doubled_below(dict: &Dict, name: [u8; 8], end: u8) -> bool
 }
 
 /// The first entry of this name.
-fn entry_named(dict: &Dict, name: [u8; 8]) -> Option<u8>
+fn entry_named(dict: &Dict, name: Name) -> Option<u8>
     ensures entry { result ≡ find (is_named_spec dict.now.order name dict.now.file) slots }
     ensures in_range { IfSome result (λ i. i < 16) }
 {
@@ -69,7 +69,7 @@ fn entry_named(dict: &Dict, name: [u8; 8]) -> Option<u8>
 }
 
 /// A library's dictionary and the first entry of this name, where the library has one.
-fn entry_in<'a>(order: Order, name: [u8; 8], lib: &'a [u8]) -> Option<(Dict<'a>, u8)>
+fn entry_in<'a>(order: Order, name: Name, lib: &'a [u8]) -> Option<(Dict<'a>, u8)>
     requires { library_reason order lib.now ≡ None }
     ensures entry { option_map (λ e. e.1) result ≡ find (is_named_spec order name lib.now) slots }
     ensures dict { IfSome result (λ e. e.0 ≡ record { order = order; file = lib.now }) }
@@ -87,7 +87,7 @@ fn entry_in<'a>(order: Order, name: [u8; 8], lib: &'a [u8]) -> Option<(Dict<'a>,
 /// The first entry of this name of the first library that has one.
 pub(crate) fn chosen_library<'a>(
     order: Order,
-    name: [u8; 8],
+    name: Name,
     libs: &'a [&'a [u8]],
 ) -> Option<UnitSource<'a>>
     requires { libraries_fault order (contents libs.now) ≡ None }
@@ -110,7 +110,7 @@ pub(crate) fn chosen_library<'a>(
 }
 
 /// Why the library's first entry of this name is not taken: another has the name too, or its kind is not that of a unit.
-pub(crate) fn entries_reason(dict: &Dict, name: [u8; 8], index: u8) -> Option<Reason>
+pub(crate) fn entries_reason(dict: &Dict, name: Name, index: u8) -> Option<Reason>
     requires entry { find (is_named_spec dict.now.order name dict.now.file) slots ≡ Some index }
     requires in_range { index < 16 }
     ensures { result ≡ entries_reason_spec dict.now.order name dict.now.file }
@@ -128,7 +128,7 @@ pub(crate) fn entries_reason(dict: &Dict, name: [u8; 8], index: u8) -> Option<Re
 /// The library entry that the unit wanted at a slot comes from, or why there is none.
 pub(crate) fn unit_source<'a>(
     order: Order,
-    name: [u8; 8],
+    name: Name,
     libs: &'a [&'a [u8]],
     slot: u8,
 ) -> Result<UnitSource<'a>, Fault>

@@ -10,7 +10,7 @@ mod words;
 pub use edit::Edit;
 pub use fault::{Fault, Reason};
 pub use order::Order;
-pub use words::{BLOCK_SIZE, blocks_of, get, get_big, put, put_big};
+pub use words::{BLOCK_SIZE, Name, blocks_of, get, get_big, put, put_big};
 
 #[cfg(test)]
 mod tests;

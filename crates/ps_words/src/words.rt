@@ -9,6 +9,9 @@ use byteorder::{BigEndian, ByteOrder, LittleEndian};
 /// Source: UCSD Pascal II.0 manual, code file format.
 pub const BLOCK_SIZE: usize = 512;
 
+/// A name in a code file: eight bytes, of which blanks fill the last.
+pub type Name = [u8; 8];
+
 /// The high bit of a BIG operand's first byte, which says that the operand has two bytes.
 const BIG_MARK: u16 = 0x8000;
 
