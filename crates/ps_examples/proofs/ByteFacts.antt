@@ -1,7 +1,7 @@
 -- The facts of linked bytes on the small files, computed.
 use Rattle.std.proofs.Common.{◌≡◌, ℕ, zero, suc, ◌-◌, ◌≤◌, List, [], ◌∷◌, Option, Some, refl, sym, subst, inl, inr, arith}
 use Rattle.std.specs.Prelude.{◌⊎◌, slice_get, slice_index}
-use Rattle.ps_examples.specs.Files.{count, state}
+use Rattle.ps_examples.specs.Files.{blank, count, state}
 use Rattle.ps_resolve.specs.Added.{empty_slots, rounds, segments}
 use Rattle.ps_resolve.specs.Standing.References.{operand_width}
 use Rattle.ps_resolve.specs.Standing.Privates.{private_offset}
@@ -24,11 +24,11 @@ a_private = refl
 
 pub a_public_operand : Becomes pair util_segment 0 count (PublRef (1 ∷ [])) 1 (128 ∷ 3 ∷ [])
 unfolding own_segments empty_slots rounds segments
-a_public_operand = (3, (0, record { name = count; body = PublDef 3 }, refl, (refl, refl)), refl)
+a_public_operand = (3, (0, record { name = count; body = PublDef 3 }, (0, demo_segment, refl, (refl, refl)), (refl, refl)), refl)
 
 pub a_private_operand : Becomes pair util_segment 1 state (PrivRef 4 (4 ∷ [])) 4 (128 ∷ 10 ∷ [])
 unfolding own_segments empty_slots rounds segments
-a_private_operand = refl
+a_private_operand = (8, (1, record { name = blank; body = Eof 8 }, (0, demo_segment, refl, (refl, refl)), refl), refl)
 
 pub its_place : Reaches util_segment 1 state_reference 0 4 5
 its_place = ((refl, refl), (omega arith, omega arith))

@@ -406,7 +406,7 @@ pub of_role : (order : Order) (host : List ℕ) (libs : List (List ℕ)) (slot :
 of_role order host libs slot r fine has = both_none (wanted_fault order host libs slot r) (option_and_then (code_fault order host libs slot r) (source_of order host libs slot r))
     (sym (ap (option_and_then (λ (x : Role). option_or (wanted_fault order host libs slot x) (option_and_then (code_fault order host libs slot x) (source_of order host libs slot x)))) (ap result_ok has)) ∙ fine)
 
-own_made : (order : Order) (host : List ℕ) (libs : List (List ℕ)) (slot : ℕ) (r : Role) (at : ℕ × ℕ) → HasRole order host slot r → source_of order host libs slot r ≡ Some at → code_fault order host libs slot r at ≡ None → (s : Segment) × (own_segment order host libs slot ≡ Some s)
+pub own_made : (order : Order) (host : List ℕ) (libs : List (List ℕ)) (slot : ℕ) (r : Role) (at : ℕ × ℕ) → HasRole order host slot r → source_of order host libs slot r ≡ Some at → code_fault order host libs slot r at ≡ None → (s : Segment) × (own_segment order host libs slot ≡ Some s)
 own_made order host libs slot r at has is fine = go (segment_from order host libs slot (entry_at order host slot).name r at) refl
   where
     go : (o : Option Segment) → segment_from order host libs slot (entry_at order host slot).name r at ≡ o → (s : Segment) × (own_segment order host libs slot ≡ Some s)

@@ -9,13 +9,14 @@ use Rattle.std.proofs.lemmas.Slice.Eq.{bytes_eq-Decides}
 use Rattle.std.specs.Bool.{Decides}
 use Rattle.ps_codefile.specs.Procedures.{table_of}
 use Rattle.ps_resolve.specs.Privates.{total_words}
-use Rattle.ps_resolve.specs.Standing.Privates.{private_offset}
-use Rattle.ps_resolve.specs.LinkedBytes.{IsReference, Reaches, IsSlotOf, IsPublic, Becomes, IsNumberPlace, IsSizePlace, IsLinkedByte, IsOnePlace, summed_edits, summed}
+use Rattle.ps_resolve.specs.Standing.Privates.{private_offset, words_before}
+use Rattle.ps_linkinfo.specs.Counts.{next_of}
+use Rattle.ps_resolve.specs.LinkedBytes.{IsReference, Reaches, IsSlotOf, IsPublic, IsBase, all_private_words, Becomes, IsNumberPlace, IsSizePlace, IsLinkedByte, IsOnePlace, summed_edits, summed}
 use Rattle.ps_linkinfo.specs.Records.{refs_of}
 use Rattle.ps_linkinfo.specs.declared.record.Body.{Body}
 use Rattle.ps_linkinfo.specs.declared.record.Body.TheVariants.{UnitRef, PublRef, PrivRef, PublDef, ConstDef, Eof}
 use Rattle.ps_linkinfo.specs.declared.record.LinkRecord.{LinkRecord as Record}
-use Rattle.ps_resolve.specs.Sources.{Segment, is_linked, is_host, is_unit, host_records, units_of}
+use Rattle.ps_resolve.specs.Sources.{Segment, is_linked, is_host, is_unit, host_of, host_records, units_of}
 use Rattle.ps_resolve.specs.Symbols.{def_in, definitions, definition_of}
 use Rattle.ps_resolve.specs.Operands.{edit_of}
 use Rattle.ps_resolve.specs.References.{unit_slot, public_base, target_in, target_of}
@@ -27,6 +28,7 @@ use Rattle.ps_resolve.specs.declared.references.Target.{Target}
 use Rattle.ps_resolve.specs.declared.references.Target.TheVariants.{Slot, Base}
 use Rattle.ps_laws.proofs.Items.{In, find_passes}
 use Rattle.ps_laws.proofs.Looking.{of_test, find_none}
+use Rattle.ps_laws.proofs.PrivateOffsets.{all_are}
 use Rattle.ps_laws.proofs.AddedUnits.{find_in}
 use Rattle.ps_laws.proofs.SoundCodes.{HasOuter}
 use Rattle.ps_laws.proofs.EditsAt.{edit_place, IsNumber, IsSize, IsOfReference, same_item, what_covers, number_covers, size_covers, reference_covers}
@@ -80,18 +82,25 @@ given name (r ∷ rs) d e k = go (def_in r.body) refl e (λ h. given name rs d h
         at true t e = (zero, r, refl, (sym (t.0 refl), public_in r.body d (is ∙ e) k))
         at false t e = further (later e)
 
-becomes : (order : Order) (segs : List Segment) (s : Segment) (rec : ℕ) (name : List ℕ) (body : Body) (i x : ℕ) (t : Target) → slice_get (refs_of body) i ≡ Some x → target_in (known_of segs) (private_offset segs s.slot rec) name body ≡ Ok t
+public_is : (segs : List Segment) (name : List ℕ) (value : ℕ) → IsGiven (host_records segs) name value → IsPublic segs name value
+public_is segs name value = go (host_of segs) refl
+  where
+    go : (o : Option Segment) → host_of segs ≡ o → IsGiven (option_map_or (λ (s : Segment). s.records) o []) name value → IsPublic segs name value
+    go None is t = absurd (let e = t.2 in cc)
+    go (Some s) is t = let i = find_in (λ (q : Segment). is_host q.role) segs s is in (t.0, t.1, (i.0, s, i.1, (find_passes (λ (q : Segment). is_host q.role) segs s is, t.2)), t.3)
+
+becomes : (order : Order) (segs : List Segment) → IsBase segs (next_of (host_records segs)) → (s : Segment) (rec : ℕ) (name : List ℕ) (body : Body) (i x : ℕ) (t : Target) → slice_get (refs_of body) i ≡ Some x → target_in (known_of segs) (private_offset segs s.slot rec) name body ≡ Ok t
     → Becomes segs s rec name body x (stored order (edit_of s.code t x))
-becomes order segs s rec name (PublDef value) i x t g e = absurd (cc)
-becomes order segs s rec name (ConstDef value) i x t g e = absurd (cc)
-becomes order segs s rec name (Eof next) i x t g e = absurd (cc)
-becomes order segs s rec name (PrivRef words refs) i x t g e = let is : Base (private_offset segs s.slot rec) ≡ t = cc in ap (λ (u : Target). stored order (edit_of s.code u x)) (sym is)
-becomes order segs s rec name (UnitRef refs) i x t g e = go (lookup (bytes_eq name) (units_of segs)) refl e
+becomes order segs base s rec name (PublDef value) i x t g e = absurd (cc)
+becomes order segs base s rec name (ConstDef value) i x t g e = absurd (cc)
+becomes order segs base s rec name (Eof next) i x t g e = absurd (cc)
+becomes order segs base s rec name (PrivRef words refs) i x t g e = let is : Base (private_offset segs s.slot rec) ≡ t = cc in (next_of (host_records segs), base, ap (λ (u : Target). stored order (edit_of s.code u x)) (sym is))
+becomes order segs base s rec name (UnitRef refs) i x t g e = go (lookup (bytes_eq name) (units_of segs)) refl e
   where
     go : (o : Option ℕ) → lookup (bytes_eq name) (units_of segs) ≡ o → unit_slot o ≡ Ok t → Becomes segs s rec name (UnitRef refs) x (stored order (edit_of s.code t x))
     go None is e = absurd (cc)
     go (Some slot) is e = let same : Slot slot ≡ t = cc in (slot, unit_slot_is name segs slot is, ap (λ (u : Target). stored order (edit_of s.code u x)) (sym same))
-becomes order segs s rec name (PublRef refs) i x t g e = go (definition_of name (definitions (host_records segs))) refl e
+becomes order segs base s rec name (PublRef refs) i x t g e = go (definition_of name (definitions (host_records segs))) refl e
   where
     go : (o : Option Def) → definition_of name (definitions (host_records segs)) ≡ o → public_base o ≡ Ok t → Becomes segs s rec name (PublRef refs) x (stored order (edit_of s.code t x))
     go None is e = absurd (cc)
@@ -99,7 +108,7 @@ becomes order segs s rec name (PublRef refs) i x t g e = go (definition_of name 
       where
         at : (k : DefKind) → d.kind ≡ k → (elim k as (λ _. Result Target Reason) [ Public ↦ Ok (Base d.value) | Constant ↦ Err reason.IllKind ]) ≡ Ok t → Becomes segs s rec name (PublRef refs) x (stored order (edit_of s.code t x))
         at Constant k e = absurd (cc)
-        at Public k e = let same : Base d.value ≡ t = cc in (d.value, given name (host_records segs) d is k, ap (λ (u : Target). stored order (edit_of s.code u x)) (sym same))
+        at Public k e = let same : Base d.value ≡ t = cc in (d.value, public_is segs name d.value (given name (host_records segs) d is k), ap (λ (u : Target). stored order (edit_of s.code u x)) (sym same))
 
 -- what names one thing becomes one
 abbrev pub OneUnit : List Segment → Type 0
@@ -108,16 +117,19 @@ OneUnit segs = (name : List ℕ) (a b : ℕ) → IsSlotOf segs name a → IsSlot
 abbrev pub OnePublic : List Segment → Type 0
 OnePublic segs = (name : List ℕ) (a b : ℕ) → IsPublic segs name a → IsPublic segs name b → a ≡ b
 
-one_becomes : (segs : List Segment) → OneUnit segs → OnePublic segs → (s : Segment) (rec : ℕ) (name : List ℕ) (body : Body) (x : ℕ) (b c : List ℕ) → Becomes segs s rec name body x b → Becomes segs s rec name body x c → b ≡ c
-one_becomes segs units publics s rec name (UnitRef refs) x b c t u = t.2 ∙ (ap (λ (n : ℕ). n ∷ []) (units name t.0 u.0 t.1 u.1) ∙ sym u.2)
-one_becomes segs units publics s rec name (PublRef refs) x b c t u = t.2 ∙ (ap (λ (n : ℕ). operand_bytes (displacement_at s.code x + n)) (publics name t.0 u.0 t.1 u.1) ∙ sym u.2)
-one_becomes segs units publics s rec name (PrivRef words refs) x b c t u = t ∙ sym u
-one_becomes segs units publics s rec name (PublDef value) x b c t u = absurd t
-one_becomes segs units publics s rec name (ConstDef value) x b c t u = absurd t
-one_becomes segs units publics s rec name (Eof next) x b c t u = absurd t
+abbrev pub OneBase : List Segment → Type 0
+OneBase segs = (a b : ℕ) → IsBase segs a → IsBase segs b → a ≡ b
+
+one_becomes : (segs : List Segment) → OneUnit segs → OnePublic segs → OneBase segs → (s : Segment) (rec : ℕ) (name : List ℕ) (body : Body) (x : ℕ) (b c : List ℕ) → Becomes segs s rec name body x b → Becomes segs s rec name body x c → b ≡ c
+one_becomes segs units publics bases s rec name (UnitRef refs) x b c t u = t.2 ∙ (ap (λ (n : ℕ). n ∷ []) (units name t.0 u.0 t.1 u.1) ∙ sym u.2)
+one_becomes segs units publics bases s rec name (PublRef refs) x b c t u = t.2 ∙ (ap (λ (n : ℕ). operand_bytes (displacement_at s.code x + n)) (publics name t.0 u.0 t.1 u.1) ∙ sym u.2)
+one_becomes segs units publics bases s rec name (PrivRef words refs) x b c t u = t.2 ∙ (ap (λ (n : ℕ). operand_bytes (displacement_at s.code x + (n + words_before segs s.slot rec))) (bases t.0 u.0 t.1 u.1) ∙ sym u.2)
+one_becomes segs units publics bases s rec name (PublDef value) x b c t u = absurd t
+one_becomes segs units publics bases s rec name (ConstDef value) x b c t u = absurd t
+one_becomes segs units publics bases s rec name (Eof next) x b c t u = absurd t
 
 -- 2. the byte
-module _ (order : Order) (segs : List Segment) (s : Segment) (long : is_linked s.role ≡ true → 2 ≤ length s.code) (outer : (t : ℕ) → is_host s.role ≡ true → table_of order s.code 1 ≡ Some t → HasOuter order s.code t)
+module _ (order : Order) (segs : List Segment) (base : IsBase segs (next_of (host_records segs))) (s : Segment) (long : is_linked s.role ≡ true → 2 ≤ length s.code) (outer : (t : ℕ) → is_host s.role ≡ true → table_of order s.code 1 ≡ Some t → HasOuter order s.code t)
     (hosts : is_host s.role ≡ true → is_linked s.role ≡ true) (plain : is_linked s.role ≡ false → s.records ≡ [])
     (targets : (rec i x : ℕ) (r : Record) → IsReference s rec r i x → (t : Target) × (target_of (known_of segs) (private_offset segs s.slot rec) r ≡ Ok t)) (p : ℕ) (apart : IsOnePlace order s p) where
   abbrev pub edits : List Edit
@@ -185,14 +197,15 @@ module _ (order : Order) (segs : List Segment) (s : Segment) (long : is_linked s
     kept = λ n z u. absurd (z h.0 h.1 h.2);
   }
     where
-      is_it : (t j : ℕ) → IsSizePlace order s t j p → byte_at (Some f) ≡ slice_index (word_bytes order (grown_data_size order s.code (total_words segs) t)) j
+      is_it : (t j : ℕ) → IsSizePlace order s t j p → byte_at (Some f) ≡ slice_index (word_bytes order (grown_data_size order s.code (all_private_words segs) t)) j
       is_it t j z =
           let same : h.0 ≡ t = same_item h.0 t (sym h.2.1 ∙ z.1) in
           let low = (outer t z.0 z.1).low in
           let at : p - (t - 8) ≡ j = (let e = z.3 in omega (arith, e, low)) in
           ap (λ (g : Edit). byte_at (Some g)) h.3
           ∙ (ap (λ (n : ℕ). byte_at (Some (Word (n - 8) (grown_data_size order s.code (total_words segs) n)))) same
-          ∙ ap (λ (n : ℕ). slice_index (word_bytes order (grown_data_size order s.code (total_words segs) t)) n) at)
+          ∙ (ap (λ (n : ℕ). slice_index (word_bytes order (grown_data_size order s.code (total_words segs) t)) n) at
+          ∙ ap (λ (n : ℕ). slice_index (word_bytes order (grown_data_size order s.code n t)) j) (sym (all_are segs))))
 
   of_reference : (f : Edit) → IsOfReference segs s p f → Facts (byte_at (Some f))
   of_reference f h = record {
@@ -211,7 +224,7 @@ module _ (order : Order) (segs : List Segment) (s : Segment) (long : is_linked s
       mine : (bytes : List ℕ) × Becomes segs s h.0 h.3.name h.3.body h.2 bytes × (byte_at (Some f) ≡ slice_index bytes (p - h.2))
       mine = (
         stored order whole,
-        becomes order segs s h.0 h.3.name h.3.body h.1 h.2 t h.4.0.1 h.5.1,
+        becomes order segs base s h.0 h.3.name h.3.body h.1 h.2 t h.4.0.1 h.5.1,
         ap (λ (g : Edit). byte_at (Some g)) h.5.2 ∙ ap (λ (n : ℕ). slice_index (stored order whole) (p - n)) (edit_place s.code t h.2),
       )
 
@@ -238,8 +251,8 @@ module _ (order : Order) (segs : List Segment) (s : Segment) (long : is_linked s
       go None e = uncovered e
       go (Some f) e = elim (covered_by f e) [ inl h ↦ of_number f h | inr u ↦ elim u [ inl h ↦ of_size f h | inr h ↦ of_reference f h ] ]
 
-  pub one_byte : OneUnit segs → OnePublic segs → (b c : ℕ) → Facts b → Facts c → b ≡ c
-  one_byte units publics b c x y = go (find (covers p) edits) refl
+  pub one_byte : OneUnit segs → OnePublic segs → OneBase segs → (b c : ℕ) → Facts b → Facts c → b ≡ c
+  one_byte units publics bases b c x y = go (find (covers p) edits) refl
     where
       go : (o : Option Edit) → find (covers p) edits ≡ o → b ≡ c
       go None e = x.kept (no_number e) (no_size e) (no_reference e) ∙ sym (y.kept (no_number e) (no_size e) (no_reference e))
@@ -250,6 +263,6 @@ module _ (order : Order) (segs : List Segment) (s : Segment) (long : is_linked s
           | inr h ↦
               let v = x.reference h.0 h.1 h.2 h.3 h.4 in
               let w = y.reference h.0 h.1 h.2 h.3 h.4 in
-              v.2 ∙ (ap (λ (bytes : List ℕ). slice_index bytes (p - h.2)) (one_becomes segs units publics s h.0 h.3.name h.3.body h.2 v.0 w.0 v.1 w.1) ∙ sym w.2)
+              v.2 ∙ (ap (λ (bytes : List ℕ). slice_index bytes (p - h.2)) (one_becomes segs units publics bases s h.0 h.3.name h.3.body h.2 v.0 w.0 v.1 w.1) ∙ sym w.2)
         ]
       ]

@@ -18,6 +18,7 @@ pub mod SummedOffsets
 pub mod SoundCodes
 pub mod OnePlace
 pub mod OneName
+pub mod OneHost
 pub mod EditsAt
 pub mod ByteFacts
 pub mod LinkedBytes

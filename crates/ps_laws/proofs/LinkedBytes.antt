@@ -28,7 +28,8 @@ use Rattle.ps_laws.proofs.Whole.{unread, none_read}
 use Rattle.ps_laws.proofs.SummedOffsets.{offsets}
 use Rattle.ps_laws.proofs.SoundCodes.{IsSound, HasOuter, long, outer, all_sound}
 use Rattle.ps_laws.proofs.OnePlace.{host_linked, one_place}
-use Rattle.ps_laws.proofs.OneName.{of_segments, one_unit, one_public}
+use Rattle.ps_laws.proofs.OneName.{of_segments, one_unit}
+use Rattle.ps_laws.proofs.OneHost.{base_there, one_base, one_public}
 use Rattle.ps_laws.proofs.ByteFacts.{facts, one_byte}
 use Rattle.ps_words.specs.FaultPlaces.{in_record}
 use Rattle.ps_words.specs.declared.fault.Reason.{Reason}
@@ -72,12 +73,12 @@ module _ (law : OneStop) (host : List ℕ) (libs : List (List ℕ)) (none : None
         go (Err why) e l = absurd (bad why l)
 
     is_byte : (p : ℕ) → IsLinkedByte (order_of host) (segments_of host libs) s p (linked_byte (order_of host) (summed (order_of host) (segments_of host libs) s) p)
-    is_byte p = facts (order_of host) (segments_of host libs) s long_code outer_block (host_linked s.role) (sound s is).plain targets p (apart s is p)
+    is_byte p = facts (order_of host) (segments_of host libs) (base_there host libs none read.0 read.1) s long_code outer_block (host_linked s.role) (sound s is).plain targets p (apart s is p)
 
     one_at : (p b c : ℕ) → IsLinkedByte (order_of host) (segments_of host libs) s p b → IsLinkedByte (order_of host) (segments_of host libs) s p c → b ≡ c
     one_at p b c x y =
-        one_byte (order_of host) (segments_of host libs) s long_code outer_block (host_linked s.role) (sound s is).plain targets p (apart s is p)
-        (one_unit host libs none read.0 read.1) (one_public host libs none read.0 read.1) b c x y
+        one_byte (order_of host) (segments_of host libs) (base_there host libs none read.0 read.1) s long_code outer_block (host_linked s.role) (sound s is).plain targets p (apart s is p)
+        (one_unit host libs none read.0 read.1) (one_public host libs none read.0 read.1) (one_base host libs none read.0 read.1) b c x y
 
   abbrev IsMade : Edited → Type 0
   IsMade e = (p : ℕ) → p < length e.segment.code → IsLinkedByte (order_of host) (segments_of host libs) e.segment p (linked_byte (order_of host) e p)

@@ -1,29 +1,25 @@
--- Where no fault stands, no two units of a link have a name in common, and no two definitions of the host.
-use Rattle.std.proofs.Common.{◌≡◌, ℕ, ◌<◌, List, [], Option, Some, None, Bool, true, false, refl, sym, ap, subst, ◌∙◌, inl, inr, arith}
+-- Where no fault stands, no two units of a link have a name in common.
+use Rattle.std.proofs.Common.{◌≡◌, ℕ, ◌<◌, List, Option, Some, None, Bool, true, false, refl, sym, ap, subst, ◌∙◌, inl, inr, arith}
 use Rattle.std.specs.Prelude.{◌⊎◌, if◌then◌else◌, ◌==◌}
 use Rattle.std.specs.List.{find, slice_get}
-use Rattle.std.specs.Option.{option_or, option_map_or}
+use Rattle.std.specs.Option.{option_or}
 use Rattle.std.proofs.lemmas.Bool.{cases_lt}
 use Rattle.ps_codefile.specs.Dictionary.{slots, entry_at}
 use Rattle.ps_resolve.specs.Added.{added, added_fault, segment_at, segments}
-use Rattle.ps_resolve.specs.Standing.Keys.{OfSlots, OfDefinitions}
+use Rattle.ps_resolve.specs.Standing.Keys.{OfSlots}
 use Rattle.ps_resolve.specs.Standing.Slots.{HasRole, IsUnitSlot}
 use Rattle.ps_resolve.specs.Standing.Segments.{IsSegment}
-use Rattle.ps_linkinfo.specs.Counts.{is_definition}
-use Rattle.ps_resolve.specs.LinkedBytes.{IsSlotOf, IsPublic, segments_of}
+use Rattle.ps_resolve.specs.LinkedBytes.{IsSlotOf, segments_of}
 use Rattle.ps_resolve.specs.Standing.{NoneStands}
 use Rattle.ps_codefile.specs.declared.entry.Role.{Role}
-use Rattle.ps_linkinfo.specs.declared.record.Body.{Body}
-use Rattle.ps_linkinfo.specs.declared.record.Body.TheVariants.{PublDef}
-use Rattle.ps_linkinfo.specs.declared.record.LinkRecord.{LinkRecord as Record}
-use Rattle.ps_resolve.specs.Sources.{Segment, order_of, is_unit, is_empty, own_segment, host_of}
+use Rattle.ps_resolve.specs.Sources.{Segment, order_of, is_unit, is_empty, own_segment}
 use Rattle.ps_resolve.specs.Faults.{is_role, sources_fault}
 use Rattle.ps_resolve.specs.declared.added.UnitReference.{UnitReference}
 use Rattle.ps_laws.proofs.Items.{of_filter_map, of_range}
 use Rattle.ps_laws.proofs.Segments.{found_in_slot, slot_is}
 use Rattle.ps_laws.proofs.Asked.{row_of, segment_named, name_placed, added_is}
 use Rattle.ps_laws.proofs.AddedUnits.{unit_role, own_is, units_are}
-use Rattle.ps_words.specs.FaultPlaces.{in_slot, in_record}
+use Rattle.ps_words.specs.FaultPlaces.{in_slot}
 use Rattle.ps_words.specs.declared.order.Order.{Order}
 use Rattle.ps_words.specs.declared.fault.Reason.TheVariants as reason
 
@@ -113,37 +109,3 @@ module _ (host : List ℕ) (libs : List (List ℕ)) (none : NoneStands host libs
       let s = of_segments (order_of host) host libs t.0 t.1 t.2 in
       let q = of_segments (order_of host) host libs u.0 u.1 u.2 in
       sym t.3.2 ∙ (one_slot t.1 u.1 s q t.3.0 u.3.0 (t.3.1 ∙ sym u.3.1) ∙ u.3.2)
-
-  -- two definitions of the host
-  pub one_public : (name : List ℕ) (a b : ℕ) → IsPublic (segments_of host libs) name a → IsPublic (segments_of host libs) name b → a ≡ b
-  one_public name a b = go (host_of (segments_of host libs)) refl
-    where
-      Defined : List Record → ℕ → Type 0
-      Defined rs value = (k : ℕ) × (d : Record) × (slice_get rs k ≡ Some d) × ((d.name ≡ name) × (d.body ≡ PublDef value))
-
-      defines : (body : Body) (value : ℕ) → body ≡ PublDef value → is_definition body ≡ true
-      defines body value e = ap is_definition e
-
-      again : (s : Segment) → host_of (segments_of host libs) ≡ Some s → (k l : ℕ) (d e : Record) (v w : ℕ) → slice_get s.records k ≡ Some d → slice_get s.records l ≡ Some e → d.name ≡ e.name → d.body ≡ PublDef v → e.body ≡ PublDef w → k < l → ⊥
-      again s is k l d e v w x y same p q lt =
-          none OfDefinitions (in_record 0 s.slot l reason.DoubledDefinition)
-          (record { stands = (s, is, (l, e, y, (refl, (defines e.body w q, (k, lt, (d, x, (defines d.body v p, same))))))) })
-
-      one : (x y : Record) → ◌≡◌ {A = Option Record} (Some x) (Some y) → x ≡ y
-      one x y e = cc
-
-      value : (v w : ℕ) → ◌≡◌ {A = Body} (PublDef v) (PublDef w) → v ≡ w
-      value v w e = cc
-
-      go : (o : Option Segment) → host_of (segments_of host libs) ≡ o → Defined (option_map_or (λ (s : Segment). s.records) o []) a → Defined (option_map_or (λ (s : Segment). s.records) o []) b → a ≡ b
-      go None is t u = absurd (let e = t.2 in cc)
-      go (Some s) is t u = elim (cases_lt t.0 u.0) [
-        | inl h ↦ absurd (again s is t.0 u.0 t.1 u.1 a b t.2 u.2 (t.3.0 ∙ sym u.3.0) t.3.1 u.3.1 h)
-        | inr h ↦ elim (cases_lt u.0 t.0) [
-          | inl k ↦ absurd (again s is u.0 t.0 u.1 t.1 b a u.2 t.2 (u.3.0 ∙ sym t.3.0) u.3.1 t.3.1 k)
-          | inr k ↦
-              let at : u.0 ≡ t.0 = omega (arith, h, k) in
-              let there : slice_get s.records t.0 ≡ Some u.1 = subst (λ (n : ℕ). slice_get s.records n ≡ Some u.1) at u.2 in
-              value a b (sym t.3.1 ∙ (ap (λ (d : Record). d.body) (one t.1 u.1 (sym t.2 ∙ there)) ∙ u.3.1))
-        ]
-      ]

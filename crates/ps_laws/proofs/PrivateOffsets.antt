@@ -7,8 +7,9 @@ use Rattle.std.proofs.lemmas.Grind.{flat_map-append}
 use Rattle.std.proofs.lemmas.List.Sums.{sum_by-append, sum_by-cons}
 use Rattle.ps_linkinfo.specs.declared.record.LinkRecord.{LinkRecord as Record}
 use Rattle.ps_resolve.specs.Sources.{Segment, host_records}
-use Rattle.ps_resolve.specs.Privates.{words_in, private_words, owner_of, all_words}
+use Rattle.ps_resolve.specs.Privates.{words_in, private_words, owner_of, all_words, total_words}
 use Rattle.ps_linkinfo.specs.Counts.{next_of}
+use Rattle.ps_resolve.specs.LinkedBytes.{all_private_words}
 use Rattle.ps_resolve.specs.Standing.Privates.{records_before, private_offset}
 use Rattle.ps_resolve.specs.References.{words_taken}
 use Rattle.ps_laws.proofs.Segments.{Ascends}
@@ -118,3 +119,12 @@ pub offset_in : (all front : List Segment) (s : Segment) (rest : List Segment) (
 offset_in all front s rest from is below ascends rec =
     subst (λ (segs : List Segment). private_offset segs s.slot rec ≡ next_of (host_records segs) + all_words (map owner_of front) + private_words (take rec s.records)) (sym is)
     (offset_is front s rest rec (below_from from s.slot front ascends.0 below) ascends.1)
+
+-- the words of all privates, segment by segment and record by record
+pub all_are : (ss : List Segment) → all_private_words ss ≡ total_words ss
+all_are [] = refl
+all_are (s ∷ ss) =
+    let a = sum_by-append (λ (r : Record). words_taken r.body) s.records (flat_map (λ (q : Segment). q.records) ss) in
+    let b = words_are s.records in
+    let c = all_are ss in
+    omega (arith, a, b, c)

@@ -1,5 +1,5 @@
 -- The segments of a link whose files were read without a fault: the tables of a linked one are not bad, and one that is linked already has no records.
-use Rattle.std.proofs.Common.{◌≡◌, ℕ, zero, suc, ◌+◌, ◌-◌, ◌*◌, ◌<◌, ◌≤◌, List, [], length, Option, Some, None, Result, Ok, Err, Bool, true, false, refl, sym, ap, subst, ◌∙◌, inl, inr, arith}
+use Rattle.std.proofs.Common.{◌≡◌, ℕ, zero, suc, ◌+◌, ◌-◌, ◌*◌, ◌/◌, ◌<◌, ◌≤◌, List, [], ◌∷◌, drop, length, Option, Some, None, Result, Ok, Err, Bool, true, false, refl, sym, ap, subst, ◌∙◌, inl, inr, arith}
 use Rattle.std.specs.Prelude.{◌≢◌, ◌⊎◌, if◌then◌else◌, ◌==◌, nat_le, nat_lt, ◌&&◌, ◌||◌}
 use Rattle.std.specs.List.{find, slice_get, list_any, range_with_len, filter_map}
 use Rattle.std.specs.Option.{option_map, option_or, option_and_then}
@@ -15,7 +15,8 @@ use Rattle.ps_resolve.specs.Standing.Segments.{IsSegment}
 use Rattle.ps_codefile.specs.declared.entry.Entry.{Entry}
 use Rattle.ps_codefile.specs.declared.entry.Role.{Role}
 use Rattle.ps_codefile.specs.declared.entry.Role.TheVariants as role
-use Rattle.ps_linkinfo.specs.Records.{reading}
+use Rattle.ps_linkinfo.specs.Records.{EndsOnce, bad, is_eof, read_from, reading, record_at, size_of}
+use Rattle.ps_linkinfo.specs.declared.record.LinkRecord.{LinkRecord as Record}
 use Rattle.ps_resolve.specs.First.{Least, nothing}
 use Rattle.ps_resolve.specs.Sources.{Segment, is_linked, is_host, is_empty, file_at, source_of, unit_source, segment_from, own_segment, records_of}
 use Rattle.ps_resolve.specs.Faults.{is_role, code_fault, entry_fault, information_fault, sources_fault}
@@ -34,6 +35,32 @@ use Rattle.ps_words.specs.declared.fault.Fault.{Fault}
 pub record IsSound (order : Order) (s : Segment) : Type 0 where
   pub tables : is_linked s.role ≡ true → AreBad order s.code (is_host s.role) → ⊥
   pub plain : is_linked s.role ≡ false → s.records ≡ []
+  pub ends : is_linked s.role ≡ true → EndsOnce s.records
+
+-- a reading without a fault ends in the only EOFMARK
+read_ends : (n : ℕ) (order : Order) (bytes : List ℕ) → (read_from n order bytes).1 ≡ None → EndsOnce (read_from n order bytes).0
+read_ends zero order bytes e = absurd (cc)
+read_ends (suc n) order bytes e = go (λ h. read_ends n order (drop (size_of (record_at order bytes)) bytes) h) (bad order bytes) e
+  where
+    r : Record
+    r = record_at order bytes
+
+    rest : List Record × Option Reason
+    rest = read_from n order (drop (size_of r) bytes)
+
+    behind : (rs : List Record) → is_eof r ≡ false → EndsOnce rs → EndsOnce (r ∷ rs)
+    behind [] is h = absurd h
+    behind (q ∷ rs) is h = (is, h)
+
+    at : (b : Bool) → is_eof r ≡ b → (rest.1 ≡ None → EndsOnce rest.0) → (elim b as (λ _. List Record × Option Reason) [ true ↦ (r ∷ [], None) | false ↦ (r ∷ rest.0, rest.1) ]).1 ≡ None
+        → EndsOnce (elim b as (λ _. List Record × Option Reason) [ true ↦ (r ∷ [], None) | false ↦ (r ∷ rest.0, rest.1) ]).0
+    at true is later e = is
+    at false is later e = behind rest.0 is (later e)
+
+    go : (rest.1 ≡ None → EndsOnce rest.0) → (o : Option Reason) → (elim o as (λ _. List Record × Option Reason) [ Some why ↦ ([], Some why) | None ↦ elim (is_eof r) as (λ _. List Record × Option Reason) [ true ↦ (r ∷ [], None) | false ↦ (r ∷ rest.0, rest.1) ] ]).1 ≡ None
+        → EndsOnce (elim o as (λ _. List Record × Option Reason) [ Some why ↦ ([], Some why) | None ↦ elim (is_eof r) as (λ _. List Record × Option Reason) [ true ↦ (r ∷ [], None) | false ↦ (r ∷ rest.0, rest.1) ] ]).0
+    go later (Some why) e = absurd (cc)
+    go later None e = at (is_eof r) refl later e
 
 not_bad : (order : Order) (code : List ℕ) (host : Bool) → tables_fault order code host ≡ None → AreBad order code host → ⊥
 not_bad order code host e = go (tables_fault order code host) e (tables_rows order code host)
@@ -65,14 +92,22 @@ from_sound order host libs slot name r at s e fine = go (code_of file entry) e f
       | Ok code ↦ if is_linked r then option_or (option_map (in_slot at.0 slot) (tables_fault order code (is_host r))) (information_fault order file entry at.0 slot) else None
     ]
 
+    information : List ℕ
+    information = information_of file entry
+
+    whole_ends : information_fault order file entry at.0 slot ≡ None → EndsOnce (reading order information).0
+    whole_ends h = read_ends (length information / 16 + 1) order information (map_none (in_record at.0 slot (length (reading order information).0)) (reading order information).1 h)
+
     sound : (code : List ℕ) (b : Bool) → is_linked r ≡ b → (if b then option_or (option_map (in_slot at.0 slot) (tables_fault order code (is_host r))) (information_fault order file entry at.0 slot) else None) ≡ None → IsSound order (made code)
     sound code true is fine = record {
       tables = λ h bad. not_bad order code (is_host r) (map_none (in_slot at.0 slot) (tables_fault order code (is_host r)) (both_none (option_map (in_slot at.0 slot) (tables_fault order code (is_host r))) (information_fault order file entry at.0 slot) fine).0) bad;
       plain = λ h. absurd (false≢true (sym h ∙ is));
+      ends = λ h. subst (λ (b : Bool). EndsOnce (if b then (reading order (information_of file entry)).0 else [])) (sym is) (whole_ends (both_none (option_map (in_slot at.0 slot) (tables_fault order code (is_host r))) (information_fault order file entry at.0 slot) fine).1);
     }
     sound code false is fine = record {
       tables = λ h bad. absurd (false≢true (sym is ∙ h));
       plain = λ h. ap (λ (b : Bool). if b then (reading order (information_of file entry)).0 else []) h;
+      ends = λ h. absurd (false≢true (sym is ∙ h));
     }
 
     go : (o : Result (List ℕ) Reason) → option_map made (result_ok o) ≡ Some s → Faults o ≡ None → IsSound order s
@@ -87,7 +122,7 @@ own_sound order host libs fine slot lt s e =
     (sym (ap (option_and_then (code_fault order host libs slot r)) e2) ∙ (of_role order host libs slot r (source_none order host libs fine slot lt) (ok_is (role_of (entry_at order host slot)) r e1)).1)))
 
 marked_sound : (order : Order) (q : Segment) → IsSound order q → IsSound order (as_added q)
-marked_sound order q h = record { tables = h.tables; plain = h.plain }
+marked_sound order q h = record { tables = h.tables; plain = h.plain; ends = h.ends }
 
 placed_sound : (order : Order) (host : List ℕ) (libs : List (List ℕ)) (g : UnitReference) (slot : ℕ) (s : Segment) → added_segment order host libs g slot ≡ Some s → placed_fault order host libs g slot ≡ None → IsSound order s
 placed_sound order host libs g slot s e fine = go (option_and_then (segment_from order host libs slot g.name role.Wanted) (unit_source order g.name libs)) refl e

@@ -1,6 +1,6 @@
 -- A linked byte, said plainly: which place of a segment has the number of its slot, which have the data size of the host's outer block, which have what a reference becomes, and which keep their input's byte.
 -- Source: the link records and the data size of the outer block are those of the published II.0 Linker source, and BIG operands those of the UCSD Pascal II.0 manual; the order of the privates is this project's profile.
-use Rattle.std.specs.Prelude.{◌≡◌, ℕ, ◌+◌, ◌-◌, ◌<◌, if◌then◌else◌, List, [], ◌∷◌, ◌++◌, length, map, slice_get, slice_index, true, Some, All}
+use Rattle.std.specs.Prelude.{◌≡◌, ℕ, ◌+◌, ◌-◌, ◌<◌, if◌then◌else◌, List, [], ◌∷◌, ◌++◌, length, map, slice_get, slice_index, sum_by, true, Some, All}
 use Rattle.std.specs.List.{flat_map, enumerate_from}
 use Rattle.ps_words.specs.Words.{word_bytes, operand_bytes, displacement_at}
 use Rattle.ps_words.specs.declared.order.Order.{Order}
@@ -11,13 +11,13 @@ use Rattle.ps_resolve.specs.Added.{segments}
 use Rattle.ps_resolve.specs.Privates.{total_words}
 use Rattle.ps_resolve.specs.Standing.Phrases.{SomeItem}
 use Rattle.ps_resolve.specs.Standing.References.{Covers}
-use Rattle.ps_resolve.specs.Standing.Privates.{private_offset}
+use Rattle.ps_resolve.specs.Standing.Privates.{private_offset, words_before}
 use Rattle.ps_linkinfo.specs.Records.{refs_of}
 use Rattle.ps_linkinfo.specs.declared.record.Body.{Body}
 use Rattle.ps_linkinfo.specs.declared.record.Body.TheVariants.{UnitRef, PublRef, PrivRef, PublDef, ConstDef, Eof}
 use Rattle.ps_linkinfo.specs.declared.record.LinkRecord.{LinkRecord as Record}
 use Rattle.ps_resolve.specs.Sources.{Segment, order_of, is_linked, is_host, is_unit, host_records}
-use Rattle.ps_resolve.specs.References.{record_edits}
+use Rattle.ps_resolve.specs.References.{words_taken, record_edits}
 use Rattle.ps_resolve.specs.Linking.{Edited, edited, known_of, data_edits, grown_data_size, linked_byte}
 
 -- reference i of record r, the segment's record `rec`, has its operand at x
@@ -32,19 +32,32 @@ Reaches s rec r i x p = IsReference s rec r i x × Covers r.body x p
 abbrev pub IsSlotOf : List Segment → List ℕ → ℕ → Type 0
 IsSlotOf segs name slot = SomeItem segs (λ k q. (is_unit q.role ≡ true) × (q.name ≡ name) × (q.slot ≡ slot))
 
+-- r is record `rec` of the host's own segment
+abbrev pub IsHostRecord : List Segment → ℕ → Record → Type 0
+IsHostRecord segs rec r = SomeItem segs (λ k h. (is_host h.role ≡ true) × (slice_get h.records rec ≡ Some r))
+
 -- a PUBLDEF record of the host's segment gives the name this value
 abbrev pub IsPublic : List Segment → List ℕ → ℕ → Type 0
-IsPublic segs name value = SomeItem (host_records segs) (λ k d. (d.name ≡ name) × (d.body ≡ PublDef value))
+IsPublic segs name value = (rec : ℕ) × (d : Record) × IsHostRecord segs rec d × ((d.name ≡ name) × (d.body ≡ PublDef value))
+
+-- the end mark of the host's link information gives this base offset
+abbrev pub IsBase : List Segment → ℕ → Type 0
+IsBase segs base = (rec : ℕ) × (r : Record) × IsHostRecord segs rec r × (r.body ≡ Eof base)
+
+-- the words of the privates of all segments
+abbrev pub all_private_words : List Segment → ℕ
+all_private_words segs = sum_by (λ r. words_taken r.body) (flat_map (λ s. s.records) segs)
 
 -- The bytes that the operand at x of record `rec` becomes:
 --   of a UNITREF the slot of the unit of its name;
 --   of a PUBLREF, as a BIG operand, its displacement and the value of the public definition of its name;
---   of a PRIVREF, as a BIG operand, its displacement and the offset of its private.
+--   of a PRIVREF, as a BIG operand, its displacement and the offset of its private: the base offset of the host's end mark and the words of all privates before it, by slot and then by record.
 -- The other records have no operands.
 abbrev pub Becomes : List Segment → Segment → ℕ → List ℕ → Body → ℕ → List ℕ → Type 0
 Becomes segs s rec name (UnitRef refs) x bytes = (slot : ℕ) × IsSlotOf segs name slot × (bytes ≡ slot ∷ [])
 Becomes segs s rec name (PublRef refs) x bytes = (value : ℕ) × IsPublic segs name value × (bytes ≡ operand_bytes (displacement_at s.code x + value))
-Becomes segs s rec name (PrivRef words refs) x bytes = bytes ≡ operand_bytes (displacement_at s.code x + private_offset segs s.slot rec)
+Becomes segs s rec name (PrivRef words refs) x bytes =
+    (base : ℕ) × IsBase segs base × (bytes ≡ operand_bytes (displacement_at s.code x + (base + words_before segs s.slot rec)))
 Becomes segs s rec name (PublDef value) x bytes = ⊥
 Becomes segs s rec name (ConstDef value) x bytes = ⊥
 Becomes segs s rec name (Eof next) x bytes = ⊥
@@ -62,7 +75,7 @@ pub record IsLinkedByte (order : Order) (segs : List Segment) (s : Segment) (p b
   -- the number of the segment is its slot
   pub number : IsNumberPlace s p → b ≡ s.slot
   -- the data size is the input's, and two bytes more for each private word
-  pub size : (t j : ℕ) → IsSizePlace order s t j p → b ≡ slice_index (word_bytes order (grown_data_size order s.code (total_words segs) t)) j
+  pub size : (t j : ℕ) → IsSizePlace order s t j p → b ≡ slice_index (word_bytes order (grown_data_size order s.code (all_private_words segs) t)) j
   -- a reference's operand becomes what the reference names
   pub reference : (rec i x : ℕ) (r : Record) → Reaches s rec r i x p → (bytes : List ℕ) × Becomes segs s rec r.name r.body x bytes × (b ≡ slice_index bytes (p - x))
   -- every other byte is kept

@@ -20,9 +20,13 @@ use Rattle.ps_resolve.specs.Standing.Definitions.{HasEarlierNamesake}
 abbrev pub records_before : ℕ → ℕ → Segment → List Record
 records_before slot rec s = if nat_lt s.slot slot then s.records else (if s.slot == slot then take rec s.records else [])
 
--- the offset of the private of record `rec` in slot `slot`: the base offset of the host's end mark, and the words of all privates before it, by slot and then by record
+-- the words of all privates before record `rec` of slot `slot`, by slot and then by record
+abbrev pub words_before : List Segment → ℕ → ℕ → ℕ
+words_before segs slot rec = sum_by (λ r. words_taken r.body) (flat_map (records_before slot rec) segs)
+
+-- the offset of the private of record `rec` in slot `slot`: the base offset of the host's end mark, and the words of all privates before it
 abbrev pub private_offset : List Segment → ℕ → ℕ → ℕ
-private_offset segs slot rec = next_of (host_records segs) + sum_by (λ r. words_taken r.body) (flat_map (records_before slot rec) segs)
+private_offset segs slot rec = next_of (host_records segs) + words_before segs slot rec
 
 -- A PRIVREF has the name of an earlier one of its segment, or its private ends behind offset 32767.
 abbrev pub PrivateHas : List Segment → Segment → ℕ → Record → Reason → Type 0
