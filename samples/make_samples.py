@@ -12,6 +12,8 @@ WANTED = None  # the code of a unit that a library is to supply
 
 
 # P-code, of which a linker reads nothing but the operands that a reference names ------------------------------------
+# The names of instructions, what they do, and the lex levels below are not from the sources that this project used:
+# docs/FORMAT.md marks them as open.
 
 OPCODES = {
     "LAO": 0xA5,  # load the address of a global variable

@@ -1,4 +1,4 @@
--- Words that clap takes name a command, and each file that it has to have. Along the walk over the words each row has a value, since an argument that is used without one is a flag that prints a text; and the command that stops it is not the one that prints help.
+-- Words that clap takes name a command, and each file that it has to have. Along the walk over the args each row has a value, since an argument that is used without one is a flag that prints a text; and the command that stops it is not the one that prints help.
 use Rattle.std.proofs.Common.{◌≡◌, ◌++◌, ◌∷◌, ◌&&◌, ◌||◌, ℕ, zero, suc, Bool, true, false, not, cond, List, [], length, Option, Some, None, is_some, inl, inr, refl, sym, subst, ◌∙◌, true≢false, option_map, option_and_then}
 use Rattle.std.specs.Prelude.{⊤, codes, drop, encode_utf8, find, fold, slice_get}
 use Rattle.std.specs.List.{list_all, slice_index_or}
@@ -177,75 +177,75 @@ module _ (c : List Rule) (plainly : list_all asks_plainly c ≡ true) where
   bundle_sound zero flags skip so_far h s = s
   bundle_sound (suc k) flags skip so_far h s = step_sound (slice_get (chars flags) 0) flags skip so_far h (bundle_met c k) (bundle_sound k) s
 
-  pushed_sound : (id word : Text) (h : Held) → Sound h → Sound (pushed id word h)
-  pushed_sound id word h s = record { rows = s.rows; pending = full_last (started id h.pending).1 word }
+  pushed_sound : (id arg : Text) (h : Held) → Sound h → Sound (pushed id arg h)
+  pushed_sound id arg h s = record { rows = s.rows; pending = full_last (started id h.pending).1 arg }
 
-  option_word_sound : (o : Option Rule) (id word : Text) (h : Held) → Sound h → Sound (option_word o id word h).0
-  option_word_sound None id word h s = s
-  option_word_sound (Some a) id word h s = pushed_sound id word h s
+  option_word_sound : (o : Option Rule) (id arg : Text) (h : Held) → Sound h → Sound (option_word o id arg h).0
+  option_word_sound None id arg h s = s
+  option_word_sound (Some a) id arg h s = pushed_sound id arg h s
 
-  plain_word_sound : (waiting : Waiting) (word : Text) (h : Held) → Sound h → Sound (plain_word c waiting word h).0
-  plain_word_sound idle word h s = s
-  plain_word_sound (option id) word h s = option_word_sound (arg_by_id c id) id word h s
-  plain_word_sound positional word h s = s
+  plain_word_sound : (waiting : Waiting) (arg : Text) (h : Held) → Sound h → Sound (plain_word c waiting arg h).0
+  plain_word_sound idle arg h s = s
+  plain_word_sound (option id) arg h s = option_word_sound (arg_by_id c id) id arg h s
+  plain_word_sound positional arg h s = s
 
-  after_flag_sound : (waiting : Waiting) (word : Text) (h : Held) (o : Outcome) → Sound h → Sound (after_flag c waiting word h o).0
-  after_flag_sound waiting word h done s = s
-  after_flag_sound waiting word h (waits id) s = s
-  after_flag_sound waiting word h plain s = plain_word_sound waiting word h s
-  after_flag_sound waiting word h refused s = plain_word_sound waiting word h s
+  after_flag_sound : (waiting : Waiting) (arg : Text) (h : Held) (o : Outcome) → Sound h → Sound (after_flag c waiting arg h o).0
+  after_flag_sound waiting arg h done s = s
+  after_flag_sound waiting arg h (waits id) s = s
+  after_flag_sound waiting arg h plain s = plain_word_sound waiting arg h s
+  after_flag_sound waiting arg h refused s = plain_word_sound waiting arg h s
 
-  short_or_plain_sound : (waiting : Waiting) (word : Text) (o : Option Text) (h : Held) → Sound h → Sound (short_or_plain c waiting word o h).0
-  short_or_plain_sound waiting word (Some flags) h s =
-      after_flag_sound waiting word (bundle c flags h).0 (bundle c flags h).1
+  short_or_plain_sound : (waiting : Waiting) (arg : Text) (o : Option Text) (h : Held) → Sound h → Sound (short_or_plain c waiting arg o h).0
+  short_or_plain_sound waiting arg (Some flags) h s =
+      after_flag_sound waiting arg (bundle c flags h).0 (bundle c flags h).1
       (bundle_sound (length flags) flags h.skip plain (record h { skip = 0 }) (record { rows = s.rows; pending = s.pending }))
-  short_or_plain_sound waiting word None h s = plain_word_sound waiting word h s
+  short_or_plain_sound waiting arg None h s = plain_word_sound waiting arg h s
 
-  long_or_other_sound : (waiting : Waiting) (word : Text) (o : Option (Text × Option Text)) (h : Held) → Sound h → Sound (long_or_other c waiting word o h).0
-  long_or_other_sound waiting word (Some p) h s =
+  long_or_other_sound : (waiting : Waiting) (arg : Text) (o : Option (Text × Option Text)) (h : Held) → Sound h → Sound (long_or_other c waiting arg o h).0
+  long_or_other_sound waiting arg (Some p) h s =
       let met = long_met c (arg_by_long c p.0) p.1 h in
-      after_flag_sound waiting word met.0 met.1 (long_sound (arg_by_long c p.0) p.1 h (flag_found (λ a. has_long a p.0) c plainly) s)
-  long_or_other_sound waiting word None h s = short_or_plain_sound waiting word (short_of word) h s
+      after_flag_sound waiting arg met.0 met.1 (long_sound (arg_by_long c p.0) p.1 h (flag_found (λ a. has_long a p.0) c plainly) s)
+  long_or_other_sound waiting arg None h s = short_or_plain_sound waiting arg (short_of arg) h s
 
-  other_sound : (name : Option Text) (waiting : Waiting) (position : ℕ) (word : Text) (h : Held) → Sound h → Sound (subcommand_or_other c name waiting position word h).0
-  other_sound (Some name) waiting position word h s = s
-  other_sound None waiting position word h s = go (bytes_eq word (45 ∷ 45 ∷ []))
+  other_sound : (name : Option Text) (waiting : Waiting) (position : ℕ) (arg : Text) (h : Held) → Sound h → Sound (subcommand_or_other c name waiting position arg h).0
+  other_sound (Some name) waiting position arg h s = s
+  other_sound None waiting position arg h s = go (bytes_eq arg (45 ∷ 45 ∷ []))
     where
-      go : (t : Bool) → Sound (cond t (h, trailing position) (long_or_other c waiting word (long_of word) h)).0
+      go : (t : Bool) → Sound (cond t (h, trailing position) (long_or_other c waiting arg (long_of arg) h)).0
       go true = s
-      go false = long_or_other_sound waiting word (long_of word) h s
+      go false = long_or_other_sound waiting arg (long_of arg) h s
 
-  word_sound : (names : Names) (is_trailing : Bool) (waiting : Waiting) (position : ℕ) (word : Text) (h : Held) → Sound h → Sound (word_met c names is_trailing waiting position word h).0
-  word_sound names true waiting position word h s = s
-  word_sound names false waiting position word h s = other_sound (subcommand_met names waiting word) waiting position word h s
+  word_sound : (names : Names) (is_trailing : Bool) (waiting : Waiting) (position : ℕ) (arg : Text) (h : Held) → Sound h → Sound (word_met c names is_trailing waiting position arg h).0
+  word_sound names true waiting position arg h s = s
+  word_sound names false waiting position arg h s = other_sound (subcommand_met names waiting arg) waiting position arg h s
 
-  positional_sound : (o : Option Rule) (word : Text) (w : Walk) (h : Held) → Sound h → Sound (to_positional c o word w h).held
-  positional_sound None word w h s = s
-  positional_sound (Some a) word w h s = pushed_sound a.id word _ (go (is_pending a h.pending && takes_several a))
+  positional_sound : (o : Option Rule) (arg : Text) (w : Walk) (h : Held) → Sound h → Sound (to_positional c o arg w h).held
+  positional_sound None arg w h s = s
+  positional_sound (Some a) arg w h s = pushed_sound a.id arg _ (go (is_pending a h.pending && takes_several a))
     where
       go : (t : Bool) → Sound (cond t h (settled c h))
       go true = s
       go false = settled_sound h s
 
-  after_step_sound : (word : Text) (w : Walk) (h : Held) (step : Step) → Sound h → Sound (after_step c word w h step).held
-  after_step_sound word w h (next waiting) s = s
-  after_step_sound word w h (trailing position) s = s
-  after_step_sound word w h (subcommand name) s = s
-  after_step_sound word w h value s = positional_sound (arg_by_index c w.position) word w h s
+  after_step_sound : (arg : Text) (w : Walk) (h : Held) (step : Step) → Sound h → Sound (after_step c arg w h step).held
+  after_step_sound arg w h (next waiting) s = s
+  after_step_sound arg w h (trailing position) s = s
+  after_step_sound arg w h (subcommand name) s = s
+  after_step_sound arg w h value s = positional_sound (arg_by_index c w.position) arg w h s
 
-  walked_from_sound : (names : Names) (stopped : Option (Text × List Text)) (w : Walk) (word : Text) → Sound w.held → Sound (walked_from c names stopped w word).held
-  walked_from_sound names (Some p) w word s = s
-  walked_from_sound names None w word s =
-      let met = word_met c names w.is_trailing w.waiting w.position word w.held in
-      after_step_sound word w met.0 met.1 (word_sound names w.is_trailing w.waiting w.position word w.held s)
+  walked_from_sound : (names : Names) (stopped : Option (Text × List Text)) (w : Walk) (arg : Text) → Sound w.held → Sound (walked_from c names stopped w arg).held
+  walked_from_sound names (Some p) w arg s = s
+  walked_from_sound names None w arg s =
+      let met = word_met c names w.is_trailing w.waiting w.position arg w.held in
+      after_step_sound arg w met.0 met.1 (word_sound names w.is_trailing w.waiting w.position arg w.held s)
 
-  walked_sound : (names : Names) (w : Walk) (word : Text) → Sound w.held → Sound (walked c names w word).held
+  walked_sound : (names : Names) (w : Walk) (arg : Text) → Sound w.held → Sound (walked c names w arg).held
   unfolding walked
-  walked_sound names w word s = walked_from_sound names w.stopped w word s
+  walked_sound names w arg s = walked_from_sound names w.stopped w arg s
 
-  walk_sound : (names : Names) (w : Walk) (words : List Text) → Sound w.held → Sound (fold (walked c names) w words).held
+  walk_sound : (names : Names) (w : Walk) (args : List Text) → Sound w.held → Sound (fold (walked c names) w args).held
   walk_sound names w [] s = s
-  walk_sound names w (word ∷ words) s = walk_sound names (walked c names w word) words (walked_sound names w word s)
+  walk_sound names w (arg ∷ args) s = walk_sound names (walked c names w arg) args (walked_sound names w arg s)
 
   -- ---- after the walk
 
@@ -264,10 +264,10 @@ module _ (c : List Rule) (plainly : list_all asks_plainly c ≡ true) where
   defaults_kept [] rows h = h
   defaults_kept (a ∷ rules) rows h = defaults_kept rules (with_default rows a) (with_default_kept rows a h)
 
-  rows_have_values : (names : Names) (words : List Text) → HaveValues (rows_after c names words)
-  rows_have_values names words =
-      let end = (walk c names nothing_held words).held in
-      let s = walk_sound names (walk_from nothing_held) words (record { rows = tt; pending = tt }) in
+  rows_have_values : (names : Names) (args : List Text) → HaveValues (rows_after c names args)
+  rows_have_values names args =
+      let end = (walk c names nothing_held args).held in
+      let s = walk_sound names (walk_from nothing_held) args (record { rows = tt; pending = tt }) in
       defaults_kept c (settled c end).rows (settled_kept c end.pending end.rows s.pending s.rows)
 
 -- ---- what is given has a first value
@@ -326,70 +326,70 @@ not_false true b off e = absurd (true≢false (sym e ∙ off))
 not_false false b off e = refl
 
 module _ (shape : Shape) (helps : shape.disable_help_subcommand ≡ false) where
-  plain_word_stays : (waiting : Waiting) (word : Text) (h : Held) → Stays (plain_word shape.rules waiting word h).1
-  plain_word_stays idle word h = tt
-  plain_word_stays (option id) word h = tt
-  plain_word_stays positional word h = tt
+  plain_word_stays : (waiting : Waiting) (arg : Text) (h : Held) → Stays (plain_word shape.rules waiting arg h).1
+  plain_word_stays idle arg h = tt
+  plain_word_stays (option id) arg h = tt
+  plain_word_stays positional arg h = tt
 
-  after_flag_stays : (waiting : Waiting) (word : Text) (h : Held) (o : Outcome) → Stays (after_flag shape.rules waiting word h o).1
-  after_flag_stays waiting word h done = tt
-  after_flag_stays waiting word h (waits id) = tt
-  after_flag_stays waiting word h plain = plain_word_stays waiting word h
-  after_flag_stays waiting word h refused = plain_word_stays waiting word h
+  after_flag_stays : (waiting : Waiting) (arg : Text) (h : Held) (o : Outcome) → Stays (after_flag shape.rules waiting arg h o).1
+  after_flag_stays waiting arg h done = tt
+  after_flag_stays waiting arg h (waits id) = tt
+  after_flag_stays waiting arg h plain = plain_word_stays waiting arg h
+  after_flag_stays waiting arg h refused = plain_word_stays waiting arg h
 
-  short_stays : (waiting : Waiting) (word : Text) (o : Option Text) (h : Held) → Stays (short_or_plain shape.rules waiting word o h).1
-  short_stays waiting word (Some flags) h = after_flag_stays waiting word (bundle shape.rules flags h).0 (bundle shape.rules flags h).1
-  short_stays waiting word None h = plain_word_stays waiting word h
+  short_stays : (waiting : Waiting) (arg : Text) (o : Option Text) (h : Held) → Stays (short_or_plain shape.rules waiting arg o h).1
+  short_stays waiting arg (Some flags) h = after_flag_stays waiting arg (bundle shape.rules flags h).0 (bundle shape.rules flags h).1
+  short_stays waiting arg None h = plain_word_stays waiting arg h
 
-  long_stays : (waiting : Waiting) (word : Text) (o : Option (Text × Option Text)) (h : Held) → Stays (long_or_other shape.rules waiting word o h).1
-  long_stays waiting word (Some p) h = let met = long_met shape.rules (arg_by_long shape.rules p.0) p.1 h in after_flag_stays waiting word met.0 met.1
-  long_stays waiting word None h = short_stays waiting word (short_of word) h
+  long_stays : (waiting : Waiting) (arg : Text) (o : Option (Text × Option Text)) (h : Held) → Stays (long_or_other shape.rules waiting arg o h).1
+  long_stays waiting arg (Some p) h = let met = long_met shape.rules (arg_by_long shape.rules p.0) p.1 h in after_flag_stays waiting arg met.0 met.1
+  long_stays waiting arg None h = short_stays waiting arg (short_of arg) h
 
-  other_enters : (name : Option Text) (waiting : Waiting) (position : ℕ) (word : Text) (h : Held) → other_passes shape name word h ≡ true
-      → Enters (subcommand_or_other shape.rules name waiting position word h).1
-  other_enters (Some name) waiting position word h passes = not_false (is_help name) shape.disable_help_subcommand helps passes
-  other_enters None waiting position word h passes = go (bytes_eq word (45 ∷ 45 ∷ []))
+  other_enters : (name : Option Text) (waiting : Waiting) (position : ℕ) (arg : Text) (h : Held) → other_passes shape name arg h ≡ true
+      → Enters (subcommand_or_other shape.rules name waiting position arg h).1
+  other_enters (Some name) waiting position arg h passes = not_false (is_help name) shape.disable_help_subcommand helps passes
+  other_enters None waiting position arg h passes = go (bytes_eq arg (45 ∷ 45 ∷ []))
     where
-      go : (t : Bool) → Enters (cond t (h, trailing position) (long_or_other shape.rules waiting word (long_of word) h)).1
+      go : (t : Bool) → Enters (cond t (h, trailing position) (long_or_other shape.rules waiting arg (long_of arg) h)).1
       go true = tt
-      go false = stays_enters (long_or_other shape.rules waiting word (long_of word) h).1 (long_stays waiting word (long_of word) h)
+      go false = stays_enters (long_or_other shape.rules waiting arg (long_of arg) h).1 (long_stays waiting arg (long_of arg) h)
 
-  word_enters : (names : Names) (is_trailing : Bool) (waiting : Waiting) (position : ℕ) (word : Text) (h : Held) → word_passes shape names is_trailing waiting word h ≡ true
-      → Enters (word_met shape.rules names is_trailing waiting position word h).1
-  word_enters names true waiting position word h passes = tt
-  word_enters names false waiting position word h passes = other_enters (subcommand_met names waiting word) waiting position word h passes
+  word_enters : (names : Names) (is_trailing : Bool) (waiting : Waiting) (position : ℕ) (arg : Text) (h : Held) → word_passes shape names is_trailing waiting arg h ≡ true
+      → Enters (word_met shape.rules names is_trailing waiting position arg h).1
+  word_enters names true waiting position arg h passes = tt
+  word_enters names false waiting position arg h passes = other_enters (subcommand_met names waiting arg) waiting position arg h passes
 
-  positional_stops : (o : Option Rule) (word : Text) (w : Walk) (h : Held) → Stops w.stopped → Stops (to_positional shape.rules o word w h).stopped
-  positional_stops None word w h s = s
-  positional_stops (Some a) word w h s = tt
+  positional_stops : (o : Option Rule) (arg : Text) (w : Walk) (h : Held) → Stops w.stopped → Stops (to_positional shape.rules o arg w h).stopped
+  positional_stops None arg w h s = s
+  positional_stops (Some a) arg w h s = tt
 
-  step_stops : (word : Text) (w : Walk) (h : Held) (step : Step) → Enters step → Stops w.stopped → Stops (after_step shape.rules word w h step).stopped
-  step_stops word w h (next waiting) e s = s
-  step_stops word w h (trailing position) e s = s
-  step_stops word w h (subcommand name) e s = e
-  step_stops word w h value e s = positional_stops (arg_by_index shape.rules w.position) word w h s
+  step_stops : (arg : Text) (w : Walk) (h : Held) (step : Step) → Enters step → Stops w.stopped → Stops (after_step shape.rules arg w h step).stopped
+  step_stops arg w h (next waiting) e s = s
+  step_stops arg w h (trailing position) e s = s
+  step_stops arg w h (subcommand name) e s = e
+  step_stops arg w h value e s = positional_stops (arg_by_index shape.rules w.position) arg w h s
 
-  walked_from_stops : (names : Names) (stopped : Option (Text × List Text)) (w : Walk) (word : Text)
-      → (is_some stopped || (word_passes shape names w.is_trailing w.waiting word w.held
-      && step_passes shape w.position (word_met shape.rules names w.is_trailing w.waiting w.position word w.held).0
-      (word_met shape.rules names w.is_trailing w.waiting w.position word w.held).1)) ≡ true
-      → Stops stopped → Stops w.stopped → Stops (walked_from shape.rules names stopped w word).stopped
-  walked_from_stops names (Some p) w word passes s kept = s
-  walked_from_stops names None w word passes s kept =
-      let met = word_met shape.rules names w.is_trailing w.waiting w.position word w.held in
-      let enters = both (word_passes shape names w.is_trailing w.waiting word w.held) (step_passes shape w.position met.0 met.1) passes in
-      step_stops word w met.0 met.1 (word_enters names w.is_trailing w.waiting w.position word w.held enters.0) kept
+  walked_from_stops : (names : Names) (stopped : Option (Text × List Text)) (w : Walk) (arg : Text)
+      → (is_some stopped || (word_passes shape names w.is_trailing w.waiting arg w.held
+      && step_passes shape w.position (word_met shape.rules names w.is_trailing w.waiting w.position arg w.held).0
+      (word_met shape.rules names w.is_trailing w.waiting w.position arg w.held).1)) ≡ true
+      → Stops stopped → Stops w.stopped → Stops (walked_from shape.rules names stopped w arg).stopped
+  walked_from_stops names (Some p) w arg passes s kept = s
+  walked_from_stops names None w arg passes s kept =
+      let met = word_met shape.rules names w.is_trailing w.waiting w.position arg w.held in
+      let enters = both (word_passes shape names w.is_trailing w.waiting arg w.held) (step_passes shape w.position met.0 met.1) passes in
+      step_stops arg w met.0 met.1 (word_enters names w.is_trailing w.waiting w.position arg w.held enters.0) kept
 
-  walked_stops : (names : Names) (w : Walk) (word : Text) → turn_passes shape names w word ≡ true → Stops w.stopped → Stops (walked shape.rules names w word).stopped
+  walked_stops : (names : Names) (w : Walk) (arg : Text) → turn_passes shape names w arg ≡ true → Stops w.stopped → Stops (walked shape.rules names w arg).stopped
   unfolding walked
-  walked_stops names w word passes s = walked_from_stops names w.stopped w word passes s s
+  walked_stops names w arg passes s = walked_from_stops names w.stopped w arg passes s s
 
-  walk_stops : (names : Names) (w : Walk) (words : List Text) → walk_passes shape names w words ≡ true → Stops w.stopped → Stops (fold (walked shape.rules names) w words).stopped
+  walk_stops : (names : Names) (w : Walk) (args : List Text) → walk_passes shape names w args ≡ true → Stops w.stopped → Stops (fold (walked shape.rules names) w args).stopped
   unfolding walk_passes
   walk_stops names w [] passes s = s
-  walk_stops names w (word ∷ words) passes s =
-      let parts = both (turn_passes shape names w word) (walk_passes shape names (walked shape.rules names w word) words) passes in
-      walk_stops names (walked shape.rules names w word) words parts.1 (walked_stops names w word parts.0 s)
+  walk_stops names w (arg ∷ args) passes s =
+      let parts = both (turn_passes shape names w arg) (walk_passes shape names (walked shape.rules names w arg) args) passes in
+      walk_stops names (walked shape.rules names w arg) args parts.1 (walked_stops names w arg parts.0 s)
 
 -- ---- a command with no command of its own
 
@@ -398,10 +398,10 @@ either_right true b e = e
 either_right false b e = e
 
 -- the arguments that it has to have are given
-leaf_given : (s : Shape) (words : List Text) → level_passes s [] nothing_held words false ≡ true → list_all (λ a. not a.required || is_given a.id (rows_after s.rules [] words)) s.rules ≡ true
-leaf_given s words e =
-    let end = (walk s.rules [] nothing_held words).held in
-    let after = both (walk_passes s [] (walk_from nothing_held) words) _ e in
+leaf_given : (s : Shape) (args : List Text) → level_passes s [] nothing_held args false ≡ true → list_all (λ a. not a.required || is_given a.id (rows_after s.rules [] args)) s.rules ≡ true
+leaf_given s args e =
+    let end = (walk s.rules [] nothing_held args).held in
+    let after = both (walk_passes s [] (walk_from nothing_held) args) _ e in
     let settles = both (settle_passes s.rules s.args_override_self end) _ after.1 in
     let valid = both (list_all default_passes s.rules) _ settles.1 in
     let helped = both (not s.arg_required_else_help || (false || _)) _ valid.1 in
@@ -422,44 +422,44 @@ each_found P q (s ∷ rest) none each = go (q s) refl (each_found P q rest none 
     go true e found = each.0 e
     go false e found = found
 
--- the words name all of the command that was met
+-- the args name all of the command that was met
 abbrev NamesAll : List Text → Option Shape → Type 0
-NamesAll words o = option_map_or (λ s. level_passes s [] nothing_held words false) o true ≡ true → is_some (option_map (λ s. rows_at s words) o) ≡ true
-    → LeavesOut (option_map (λ s. rows_at s words) o) → ⊥
+NamesAll args o = option_map_or (λ s. level_passes s [] nothing_held args false) o true ≡ true → is_some (option_map (λ s. rows_at s args) o) ≡ true
+    → LeavesOut (option_map (λ s. rows_at s args) o) → ⊥
 
-none_named : (words : List Text) → NamesAll words None
-none_named words level some leaves = true≢false (sym some)
+none_named : (args : List Text) → NamesAll args None
+none_named args level some leaves = true≢false (sym some)
 
 abbrev command_at : ℕ → Shape
 command_at k = slice_index_or (built pslink_app).subs k (built pslink_app).top
 
 -- what a command that was met has of its arguments
 abbrev rows_at_command : ℕ → List Text → List Row
-rows_at_command k words = rows_after (command_at k).rules [] words
+rows_at_command k args = rows_after (command_at k).rules [] args
 
-link_named : (words : List Text) → NamesAll words (Some (command_at 0))
-link_named words level some leaves =
-    let rows = rows_at_command 0 words in
-    let full : HaveValues rows = rows_have_values (command_at 0).rules refl [] words in
-    let host = both (is_given (codes "HOST") rows) _ (leaf_given (command_at 0) words level) in
+link_named : (args : List Text) → NamesAll args (Some (command_at 0))
+link_named args level some leaves =
+    let rows = rows_at_command 0 args in
+    let full : HaveValues rows = rows_have_values (command_at 0).rules refl [] args in
+    let host = both (is_given (codes "HOST") rows) _ (leaf_given (command_at 0) args level) in
     let out = both (is_given (codes "OUT") rows) _ host.1 in
     elim ((leaves rows).0 refl) [
       | inl none ↦ named (codes "HOST") rows full host.0 none
       | inr none ↦ named (codes "OUT") rows full out.0 none
     ]
 
-map_named : (words : List Text) → NamesAll words (Some (command_at 1))
-map_named words level some leaves =
-    let rows = rows_at_command 1 words in
-    let full : HaveValues rows = rows_have_values (command_at 1).rules refl [] words in
-    let host = both (is_given (codes "HOST") rows) _ (leaf_given (command_at 1) words level) in
+map_named : (args : List Text) → NamesAll args (Some (command_at 1))
+map_named args level some leaves =
+    let rows = rows_at_command 1 args in
+    let full : HaveValues rows = rows_have_values (command_at 1).rules refl [] args in
+    let host = both (is_given (codes "HOST") rows) _ (leaf_given (command_at 1) args level) in
     named (codes "HOST") rows full host.0 ((leaves rows).1 refl)
 
-show_named : (words : List Text) → NamesAll words (Some (command_at 2))
-show_named words level some leaves =
-    let rows = rows_at_command 2 words in
-    let full : HaveValues rows = rows_have_values (command_at 2).rules refl [] words in
-    let file = both (is_given (codes "FILE") rows) _ (leaf_given (command_at 2) words level) in
+show_named : (args : List Text) → NamesAll args (Some (command_at 2))
+show_named args level some leaves =
+    let rows = rows_at_command 2 args in
+    let full : HaveValues rows = rows_have_values (command_at 2).rules refl [] args in
+    let file = both (is_given (codes "FILE") rows) _ (leaf_given (command_at 2) args level) in
     named (codes "FILE") rows full file.0 ((leaves rows).2 refl)
 
 or_false : (a : Bool) → (a || false) ≡ true → a ≡ true
@@ -472,8 +472,8 @@ other_name name other answers =
     let same : codes "help" ≡ name = (bytes_eq-Decides (codes "help") name).0 (or_false _ answers) in
     true≢false (sym ((bytes_eq-Decides name (codes "help")).1 (sym same)) ∙ other)
 
-each_named : (name : Text) (words : List Text) → is_help name ≡ false → Each (NamesAll words) (λ s. answers_to name (label_of s)) (built pslink_app).subs
-each_named name words other = ((λ _. link_named words), ((λ _. map_named words), ((λ _. show_named words), ((λ answers. absurd (other_name name other answers)), tt))))
+each_named : (name : Text) (args : List Text) → is_help name ≡ false → Each (NamesAll args) (λ s. answers_to name (label_of s)) (built pslink_app).subs
+each_named name args other = ((λ _. link_named args), ((λ _. map_named args), ((λ _. show_named args), ((λ answers. absurd (other_name name other answers)), tt))))
 
 entered_named : (stop : Option (Text × List Text)) → Stops stop → entered_passes (built pslink_app) stop ≡ true → is_some (entered (built pslink_app) stop) ≡ true
     → LeavesOut (entered (built pslink_app) stop) → ⊥
@@ -481,17 +481,17 @@ entered_named None other passes some leaves = true≢false (sym some)
 entered_named (Some p) other passes some leaves =
     each_found (NamesAll p.1) (λ s. answers_to p.0 (label_of s)) (built pslink_app).subs (none_named p.1) (each_named p.0 p.1 other) passes some leaves
 
--- words that clap takes leave out nothing that they have to name
-pub taken_leaves_nothing_out : (words : List Text) → takes pslink_app words ≡ true → LeavesOut (subcommand_of pslink_app words) → ⊥
-taken_leaves_nothing_out words taken leaves =
+-- args that clap takes leave out nothing that they have to name
+pub taken_leaves_nothing_out : (args : List Text) → takes pslink_app args ≡ true → LeavesOut (subcommand_of pslink_app args) → ⊥
+taken_leaves_nothing_out args taken leaves =
     let a = built pslink_app in
-    let stop = (walk a.top.rules (names_of a) nothing_held (argument_words pslink_app words)).stopped in
+    let stop = (walk a.top.rules (names_of a) nothing_held (argument_words pslink_app args)).stopped in
     let parses = both (is_simple pslink_app) _ taken in
     let enters = both (entered_passes a stop) _ parses.1 in
-    let end = (walk a.top.rules (names_of a) nothing_held (argument_words pslink_app words)).held in
-    let after = both (walk_passes a.top (names_of a) (walk_from nothing_held) (argument_words pslink_app words)) _ enters.1 in
+    let end = (walk a.top.rules (names_of a) nothing_held (argument_words pslink_app args)).held in
+    let after = both (walk_passes a.top (names_of a) (walk_from nothing_held) (argument_words pslink_app args)) _ enters.1 in
     let settles = both (settle_passes a.top.rules a.top.args_override_self end) _ after.1 in
     let valid = both (list_all default_passes a.top.rules) _ settles.1 in
     let commanded = both (is_some (entered a stop)) _ valid.1 in
-    let other = walk_stops a.top refl (names_of a) (walk_from nothing_held) (argument_words pslink_app words) after.0 tt in
+    let other = walk_stops a.top refl (names_of a) (walk_from nothing_held) (argument_words pslink_app args) after.0 tt in
     entered_named stop other enters.0 commanded.0 leaves

@@ -1,7 +1,7 @@
 -- The command line of `pslink`, as clap's contracts see it: the commands, and the arguments of each.
 -- Source: this project's profile.
-use Rattle.std.specs.Prelude.{true, Some, codes}
-use Rattle.clap.specs.Words.{App, Rule, Text, new_app, new_rule, with_rule, with_subcommand}
+use Rattle.std.specs.Prelude.{◌≡◌, ℕ, List, Bor, Option, map, true, Some, codes}
+use Rattle.clap.specs.Words.{App, Row, Rule, Text, new_app, new_rule, subcommand_of, takes, with_rule, with_subcommand}
 use Rattle.clap.specs.declared.builder.ArgAction.TheVariants.{Set, Append}
 
 -- a file that has to be named
@@ -32,3 +32,15 @@ bare_app = record (new_app (codes "pslink")) {
 
 abbrev pub pslink_app : App
 pslink_app = with_subcommand (with_subcommand (with_subcommand bare_app link_app.top) map_app.top) show_app.top
+
+-- the texts of args
+abbrev pub texts : List (Bor Text) → List Text
+texts args = map (λ arg. arg.now) args
+
+-- clap takes these args
+abbrev pub IsTaken : List Text → Type 0
+IsTaken args = takes pslink_app args ≡ true
+
+-- the command that args name, and what is named for it
+abbrev pub named_in : List Text → Option (Text × List Row)
+named_in args = subcommand_of pslink_app args

@@ -1,4 +1,4 @@
--- What a request asks for, by the command and the files that clap finds named in the words.
+-- What a request asks for, by the command and the files that clap finds named in the args.
 -- Source: this project's profile.
 use Rattle.std.specs.Prelude.{◌≡◌, ◌⊎◌, Bool, true, false, List, [], Option, Some, None, codes, map, unwrap_or}
 use Rattle.std.specs.List.{list_any}

@@ -18,11 +18,11 @@ pub enum CommandError<'a> {
     /// The files are refused.
     #[error("pslink: {0}")]
     Refused(Fault),
-    /// The words of the command line are none that the program takes.
+    /// The args of the command line are none that the program takes.
     #[error("{0}")]
     Usage(clap::Error),
-    /// A word of the command line is not UTF-8.
-    #[error("pslink: the words of a command are UTF-8")]
+    /// An arg of the command line is not UTF-8.
+    #[error("pslink: the arguments of a command are UTF-8")]
     NotText,
     #[error("pslink: cannot read {path}")]
     Read { path: &'a str },
@@ -45,6 +45,8 @@ impl From<AllocError> for CommandError<'_> {
 }
 
 impl<T: Drop> From<AllocFailed<T>> for CommandError<'_> {
+    ghost from_gives = { λ _ e. e ≡ Memory };
+
     fn from(_error: AllocFailed<T>) -> Self {
         CommandError::Memory
     }
@@ -62,6 +64,8 @@ impl From<clap::Error> for CommandError<'_> {
 }
 
 impl From<LinkError> for CommandError<'_> {
+    ghost from_gives = { λ _ e. status_of e ≢ 2 };
+
     /// The calls that check files and make texts return no `Write`; a file that is written is named where it is written.
     fn from(error: LinkError) -> Self {
         match error {

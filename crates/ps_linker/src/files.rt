@@ -1,7 +1,8 @@
 //! Files that are read whole.
-ghost use Rattle.std.specs.Prelude.{◌≡◌, ◌≤◌, ℕ, List, length, map, IfOk, IfSome, ⊤};
+ghost use Rattle.std.specs.Prelude.{◌≡◌, ◌≢◌, ◌≤◌, ℕ, List, length, map, IfErr, IfOk, IfSome, ⊤};
 ghost use Rattle.std.specs.List.{AllZip};
 ghost use Rattle.ps_linker.specs.Reading.{Reads};
+ghost use Rattle.ps_linker.specs.Statuses.{status_of};
 
 use crate::error::CommandError;
 use crate::request::Inputs;
@@ -101,6 +102,7 @@ pub fn read_inputs<'a, R: CodeFiles, A: Allocator + Copy>(
 ) -> Result<Contents<A>, CommandError<'a>>
     ensures host { IfOk result (λ contents. Reads (R.opened rt.now) R.Opened.remaining inputs.now.host.now contents.host.items) }
     ensures libraries { IfOk result (λ contents. AllZip (Reads (R.opened rt.now) R.Opened.remaining) (map (λ path. path.now) inputs.now.libraries.items) (map (λ library. library.items) contents.libraries.items)) }
+    ensures err { IfErr result (λ e. status_of e ≢ 2) }
 {
     let host = read(rt, alloc, inputs.host)?;
     let mut libraries = Vec::new(alloc);
@@ -118,6 +120,7 @@ pub fn read<'a, R: CodeFiles, A: Allocator + Copy>(
 ) -> Result<Vec<u8, A>, CommandError<'a>>
     ensures bound { IfOk result (λ bytes. length bytes.items ≤ 67108864) }
     ensures whole { IfOk result (λ bytes. Reads (R.opened rt.now) R.Opened.remaining path.entry.now bytes.items) }
+    ensures err { IfErr result (λ e. status_of e ≢ 2) }
 {
     let Ok(mut file) = rt.open(path) else {
         return Err(CommandError::Read { path });

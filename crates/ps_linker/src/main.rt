@@ -1,13 +1,13 @@
 //! `pslink`, the Linker of UCSD Pascal II.0 for Pascal hosts and units, as a program: `run` does one command over any
-//! runtime, allocator and writers, and `main` calls it with the words and the standard streams of the process.
+//! runtime, allocator and writers, and `main` calls it with the args and the standard streams of the process.
 #![tactic(auto)]
 
-ghost use Rattle.std.specs.Prelude.{◌≡◌, ◌≢◌, ◌≤◌, IfOk, map, string_bytes, true};
+ghost use Rattle.std.specs.Prelude.{◌≡◌, ◌≢◌, ◌≤◌, IfErr, IfOk, map, string_bytes};
 ghost use Rattle.std.specs.Process.{exit_status};
-ghost use Rattle.clap.specs.Words.{subcommand_of, takes};
-ghost use Rattle.ps_linker.specs.CommandLine.{pslink_app};
+ghost use Rattle.ps_linker.specs.CommandLine.{IsTaken, named_in};
 ghost use Rattle.ps_linker.specs.Printed.{Prints};
 ghost use Rattle.ps_linker.specs.Reading.{Reads};
+ghost use Rattle.ps_linker.specs.Requests.{WritesLibrary};
 
 mod error;
 mod files;
@@ -35,22 +35,22 @@ fn run_process<O: Write, E: Write>(rt: &HostRuntime, out: &mut O, err: &mut E) -
     ensures silent { exit_status result ≡ 0 → err.new ≡ err.old }
     ensures unprinted { exit_status result ≢ 0 → exit_status result ≢ 3 → out.new ≡ out.old }
 {
-    match given_words(rt) {
-        Ok(words) => run_words(rt, words.as_slice(), out, err),
+    match given_args(rt) {
+        Ok(args) => run_args(rt, args.as_slice(), out, err),
         Err(error) => ExitCode::from(error.report(err)),
     }
 }
 
-/// The words of the command line, the program's name first.
-fn given_words(rt: &HostRuntime) -> Result<Vec<String>, CommandError<'static>> {
+/// The args of the command line, the program's name first.
+fn given_args(rt: &HostRuntime) -> Result<Vec<String>, CommandError<'static>> {
     match env::args(rt) {
-        Ok(words) => Ok(words.collect(rt.alloc())?),
-        Err(error) => Err(words_fault(error.kind())),
+        Ok(args) => Ok(args.collect(rt.alloc())?),
+        Err(error) => Err(args_fault(error.kind())),
     }
 }
 
-/// Why there are no words, by the kind of the error that asking for them gave.
-fn words_fault(kind: ErrorKind) -> CommandError<'static>
+/// Why there are no args, by the kind of the error that asking for them gave.
+fn args_fault(kind: ErrorKind) -> CommandError<'static>
     ensures memory { kind ≡ ErrorKind.OutOfMemory → result ≡ CommandError.Memory }
     ensures text { kind ≢ ErrorKind.OutOfMemory → result ≡ CommandError.NotText }
 {
@@ -60,8 +60,8 @@ fn words_fault(kind: ErrorKind) -> CommandError<'static>
     }
 }
 
-/// Runs the command of these words, as `run` does, and returns its status.
-fn run_words<R: CodeFiles + AllocGlobal, O: Write, E: Write>(
+/// Runs the command of these args, as `run` does, and returns its status.
+fn run_args<R: CodeFiles + AllocGlobal, O: Write, E: Write>(
     rt: &R,
     given: &[String],
     out: &mut O,
@@ -69,22 +69,25 @@ fn run_words<R: CodeFiles + AllocGlobal, O: Write, E: Write>(
 ) -> ExitCode
     ensures known { exit_status result ≤ 4 }
     ensures silent { exit_status result ≡ 0 → err.new ≡ err.old }
-    ensures printed { takes pslink_app (map string_bytes given.now) ≡ true → exit_status result ≡ 0 → Prints (Reads (R.opened rt.now) R.Opened.remaining) (subcommand_of pslink_app (map string_bytes given.now)) (O.contents out.old) (O.contents out.new) }
+    ensures printed { IsTaken (map string_bytes given.now) → exit_status result ≡ 0 → Prints (Reads (R.opened rt.now) R.Opened.remaining) (named_in (map string_bytes given.now)) (O.contents out.old) (O.contents out.new) }
+    ensures misused { IsTaken (map string_bytes given.now) → WritesLibrary (named_in (map string_bytes given.now)) → exit_status result ≢ 4 → exit_status result ≡ 2 }
+    ensures usage { IsTaken (map string_bytes given.now) → exit_status result ≡ 2 → WritesLibrary (named_in (map string_bytes given.now)) }
     ensures unprinted { exit_status result ≢ 0 → exit_status result ≢ 3 → out.new ≡ out.old }
 {
     match slices(rt.alloc(), given) {
-        Ok(words) => ExitCode::from(run(rt, rt.alloc(), words.as_slice(), out, err)),
+        Ok(args) => ExitCode::from(run(rt, rt.alloc(), args.as_slice(), out, err)),
         Err(error) => ExitCode::from(error.report(err)),
     }
 }
 
-/// The words, in their order.
+/// The args, in their order.
 fn slices<'w>(alloc: Global, given: &'w [String]) -> Result<Vec<&'w str>, CommandError<'static>>
-    ensures { IfOk result (λ words. map (λ word. word.now) words.items ≡ map string_bytes given.now) }
+    ensures ok { IfOk result (λ args. map (λ arg. arg.now) args.items ≡ map string_bytes given.now) }
+    ensures err { IfErr result (λ e. e ≡ CommandError.Memory) }
 {
-    let mut words = Vec::new(alloc);
-    for word in given {
-        words.push(word.as_str())?;
+    let mut args = Vec::new(alloc);
+    for arg in given {
+        args.push(arg.as_str())?;
     }
-    Ok(words)
+    Ok(args)
 }

@@ -1,8 +1,8 @@
-//! What the words of a command line ask for.
-ghost use Rattle.std.specs.Prelude.{◌≡◌, ◌≢◌, ◌⊎◌, IfErr, IfOk, Some, None, codes, map, true, false};
-ghost use Rattle.clap.specs.Words.{app_of, first_of, found_of, kind_of, rows_of, rule_of, subcommand_of, subcommand_rows_of, takes};
+//! What the args of a command line ask for.
+ghost use Rattle.std.specs.Prelude.{◌≡◌, ◌≢◌, ◌⊎◌, IfErr, IfOk, Some, None, codes, map, false};
+ghost use Rattle.clap.specs.Words.{app_of, first_of, found_of, kind_of, rows_of, rule_of, subcommand_rows_of};
 ghost use Rattle.clap.specs.declared.Command.TheViews.{out-Command};
-ghost use Rattle.ps_linker.specs.CommandLine.{file_rule, libraries_rule, link_app, map_app, show_app, pslink_app};
+ghost use Rattle.ps_linker.specs.CommandLine.{IsTaken, file_rule, libraries_rule, link_app, map_app, named_in, pslink_app, show_app, texts};
 ghost use Rattle.ps_linker.specs.Requests.{AsksFor, IsNamed, LeavesOut, NamesInputs, WritesLibrary, libraries_of};
 ghost use Rattle.ps_linker.specs.Statuses.{status_of};
 
@@ -11,9 +11,30 @@ use clap::error::ErrorKind;
 use clap::{Arg, ArgAction, ArgMatches, Command};
 use std::alloc::{AllocError, Allocator, Global};
 
-/// What the help of the program and of `link` ends with.
+/// What the help of the program ends with.
+const ENDING: &str = "Example:
+  pslink link host.code linked.code library.code
+
+Exit status:
+  0  the command was done
+  1  the files are refused
+  2  wrong usage
+  3  a file could not be read or written, or standard output failed
+  4  out of memory
+
+A name that begins with a dash is given as ./-name, or after --. See pslink(1).";
+
+/// What the help of `link` ends with.
 const LINK_ENDING: &str = "Example:
   pslink link host.code linked.code library.code
+
+OUT is opened once all is read and checked, and is written in place. A write that
+fails leaves its first part; where OUT is HOST, the host is then lost. To be safe:
+  pslink link host.code host.new library.code &&
+      mv host.new host.code
+The second file is always OUT: where it is forgotten, the first LIB is taken for it,
+and is overwritten if the link succeeds. With /dev/stdout as OUT the summary and the
+file are mixed: use /dev/fd/3 and 3>&1. A file is read from a pipe as /dev/stdin.
 
 Exit status:
   0  the command was done
@@ -50,7 +71,7 @@ Exit status:
 
 A name that begins with a dash is given as ./-name, or after --. See pslink(1).";
 
-/// What the words of a command line ask for.
+/// What the args of a command line ask for.
 #[derive(Drop)]
 pub enum Request<'a, A: Allocator> {
     /// Prints the help or the version.
@@ -70,21 +91,21 @@ pub struct Inputs<'a, A: Allocator> {
     pub libraries: Vec<&'a str, A>,
 }
 
-/// Reads the words, of which the first is the program's name.
+/// Reads the args, of which the first is the program's name.
 pub fn parse<'a, A: Allocator + Copy>(
     heap: Global,
     alloc: A,
-    words: &'a [&'a str],
+    args: &'a [&'a str],
 ) -> Result<Request<'a, A>, CommandError<'a>>
-    ensures asked { IfOk result (λ r. AsksFor r (subcommand_of pslink_app (map (λ s. s.now) words.now))) }
+    ensures asked { IfOk result (λ r. AsksFor r (named_in (texts args.now))) }
 
-    // Words that clap takes name a command, and ask for no help.
-    ensures named { takes pslink_app (map (λ s. s.now) words.now) ≡ true → IfOk result (λ r. IsNamed r (subcommand_of pslink_app (map (λ s. s.now) words.now))) }
+    // Args that clap takes name a command, and ask for no help.
+    ensures named { IsTaken (texts args.now) → IfOk result (λ r. IsNamed r (named_in (texts args.now))) }
 
-    // Words that clap takes are refused because memory runs out, or as wrong usage where OUT is named as a library too.
-    ensures refused { takes pslink_app (map (λ s. s.now) words.now) ≡ true → IfErr result (λ e. e ≢ CommandError.Memory → (status_of e ≡ 2) × WritesLibrary (subcommand_of pslink_app (map (λ s. s.now) words.now))) }
+    // Args that clap takes are refused because memory runs out, or as wrong usage where OUT is named as a library too.
+    ensures refused { IsTaken (texts args.now) → IfErr result (λ e. e ≢ CommandError.Memory → (status_of e ≡ 2) × WritesLibrary (named_in (texts args.now))) }
 {
-    match matches(heap, words) {
+    match matches(heap, args) {
         Ok(matches) => request_of(heap, alloc, &matches),
         Err(error) => match error.kind() {
             ErrorKind::DisplayHelp | ErrorKind::DisplayVersion => Ok(Request::Text(error)),
@@ -93,12 +114,12 @@ pub fn parse<'a, A: Allocator + Copy>(
     }
 }
 
-/// What `clap` finds in the words.
-fn matches<'a>(heap: Global, words: &'a [&'a str]) -> Result<ArgMatches<'a>, clap::Error>
-    ensures found { IfOk result (λ m. subcommand_rows_of m ≡ subcommand_of pslink_app (map (λ s. s.now) words.now)) }
-    ensures memory { takes pslink_app (map (λ s. s.now) words.now) ≡ true → IfErr result (λ e. kind_of e ≡ ErrorKind.OutOfMemory) }
+/// What `clap` finds in the args.
+fn matches<'a>(heap: Global, args: &'a [&'a str]) -> Result<ArgMatches<'a>, clap::Error>
+    ensures found { IfOk result (λ m. subcommand_rows_of m ≡ named_in (texts args.now)) }
+    ensures memory { IsTaken (texts args.now) → IfErr result (λ e. kind_of e ≡ ErrorKind.OutOfMemory) }
 {
-    command(heap)?.try_get_matches_from(words)
+    command(heap)?.try_get_matches_from(args)
 }
 
 /// The command that was found, with its files.
@@ -185,7 +206,7 @@ fn file_of<'a>(
     }
 }
 
-/// What is said of words that leave out a command or a file of one, which `clap` does not let pass.
+/// What is said of args that leave out a command or a file of one, which `clap` does not let pass.
 fn unnamed(heap: Global) -> CommandError<'static> {
     let Ok(mut command) = command(heap) else {
         return CommandError::Memory;
@@ -199,7 +220,7 @@ fn unnamed(heap: Global) -> CommandError<'static> {
     }
 }
 
-/// What is said of words that name the file to write as a library too.
+/// What is said of args that name the file to write as a library too.
 fn written_library(heap: Global, out: &str) -> CommandError<'static>
     ensures { result ≢ CommandError.Memory → status_of result ≡ 2 }
 {
@@ -241,7 +262,7 @@ fn command<'a>(heap: Global) -> Result<Command<'a>, AllocError>
     Command::new(heap, "pslink")
         .version("0.1.0")
         .about("The Linker of UCSD Pascal II.0 for Pascal hosts and units")
-        .after_help(LINK_ENDING)
+        .after_help(ENDING)
         .subcommand_required(true)
         .subcommand(link)?
         .subcommand(map)?

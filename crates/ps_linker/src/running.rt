@@ -1,10 +1,10 @@
-//! One command, from its words to its status.
-ghost use Rattle.std.specs.Prelude.{◌≡◌, ◌≢◌, ◌≤◌, IfErr, IfOk, OnOk, map, true};
-ghost use Rattle.clap.specs.Words.{subcommand_of, takes};
+//! One command, from its args to its status.
+ghost use Rattle.std.specs.Prelude.{◌≡◌, ◌≢◌, ◌≤◌, IfErr, IfOk, IsErrAnd, OnOk, map};
 ghost use Rattle.ps_linkfile.specs.Writing.{summary_in};
-ghost use Rattle.ps_linker.specs.CommandLine.{pslink_app};
+ghost use Rattle.ps_linker.specs.CommandLine.{IsTaken, named_in, texts};
 ghost use Rattle.ps_linker.specs.Printed.{Prints, PrintsLine, PrintsMap, PrintsShow};
 ghost use Rattle.ps_linker.specs.Reading.{Reads};
+ghost use Rattle.ps_linker.specs.Requests.{WritesLibrary};
 ghost use Rattle.ps_linker.specs.Statuses.{status_of};
 
 use crate::error::CommandError;
@@ -18,22 +18,22 @@ use std::io::Write;
 /// Room for the line that a link prints.
 const SUMMARY_LENGTH: usize = 128;
 
-/// Does the command that `words` name, of which the first is the program's name, and returns the status of the process.
+/// Does the command that `args` name, of which the first is the program's name, and returns the status of the process.
 ///
 /// `link` writes the linked file to OUT, which is opened only once all is read and checked, and prints its summary to
 /// `out`; `map` prints the map of the link, and `show` what one code file has.
 /// Each file is opened at the path that is named and read to its end, the libraries in the order in which they are named.
 ///
 /// The status is 0 where the command was done, or where the help or the version was asked for; 1 where the files are
-/// refused; 2 where the words are none that the program takes; 3 where a file could not be read or written or is too
+/// refused; 2 where the args are none that the program takes; 3 where a file could not be read or written or is too
 /// long, or standard output failed; 4 where memory was refused. From 1 on, one text that ends with a line end is
 /// written to `err`, and whether that succeeds changes no status.
 ///
-/// Memory for the words is taken from `rt`, all other from `alloc`. Source: this project's profile.
+/// Memory for the args is taken from `rt`, all other from `alloc`. Source: this project's profile.
 pub fn run<R: CodeFiles + AllocGlobal, A: Allocator + Copy, O: Write, E: Write>(
     rt: &R,
     alloc: A,
-    words: &[&str],
+    args: &[&str],
     out: &mut O,
     err: &mut E,
 ) -> u8
@@ -41,12 +41,16 @@ pub fn run<R: CodeFiles + AllocGlobal, A: Allocator + Copy, O: Write, E: Write>(
     ensures silent { result ≡ 0 → err.new ≡ err.old }
 
     // What was done printed what its command prints, and nothing else.
-    ensures printed { takes pslink_app (map (λ s. s.now) words.now) ≡ true → result ≡ 0 → Prints (Reads (R.opened rt.now) R.Opened.remaining) (subcommand_of pslink_app (map (λ s. s.now) words.now)) (O.contents out.old) (O.contents out.new) }
+    ensures printed { IsTaken (texts args.now) → result ≡ 0 → Prints (Reads (R.opened rt.now) R.Opened.remaining) (named_in (texts args.now)) (O.contents out.old) (O.contents out.new) }
+
+    // Of args that clap takes, those that name OUT as a library too are wrong usage, unless memory runs out, and no others.
+    ensures misused { IsTaken (texts args.now) → WritesLibrary (named_in (texts args.now)) → result ≢ 4 → result ≡ 2 }
+    ensures usage { IsTaken (texts args.now) → result ≡ 2 → WritesLibrary (named_in (texts args.now)) }
 
     // Only what was done, or a fault of standard output itself, leaves anything there.
     ensures unprinted { result ≢ 0 → result ≢ 3 → out.new ≡ out.old }
 {
-    match carry_out(rt, alloc, words, out) {
+    match carry_out(rt, alloc, args, out) {
         Ok(()) => 0,
         Err(error) => error.report(err),
     }
@@ -55,13 +59,15 @@ pub fn run<R: CodeFiles + AllocGlobal, A: Allocator + Copy, O: Write, E: Write>(
 fn carry_out<'a, R: CodeFiles + AllocGlobal, A: Allocator + Copy, O: Write>(
     rt: &R,
     alloc: A,
-    words: &'a [&'a str],
+    args: &'a [&'a str],
     out: &mut O,
 ) -> Result<(), CommandError<'a>>
-    ensures ok { takes pslink_app (map (λ s. s.now) words.now) ≡ true → OnOk result (Prints (Reads (R.opened rt.now) R.Opened.remaining) (subcommand_of pslink_app (map (λ s. s.now) words.now)) (O.contents out.old) (O.contents out.new)) }
+    ensures ok { IsTaken (texts args.now) → OnOk result (Prints (Reads (R.opened rt.now) R.Opened.remaining) (named_in (texts args.now)) (O.contents out.old) (O.contents out.new)) }
     ensures err { IfErr result (λ e. status_of e ≢ 3 → out.new ≡ out.old) }
+    ensures misused { IsTaken (texts args.now) → WritesLibrary (named_in (texts args.now)) → IsErrAnd result (λ e. status_of e ≢ 4 → status_of e ≡ 2) }
+    ensures usage { IsTaken (texts args.now) → IfErr result (λ e. status_of e ≡ 2 → WritesLibrary (named_in (texts args.now))) }
 {
-    match request::parse(rt.alloc(), alloc, words)? {
+    match request::parse(rt.alloc(), alloc, args)? {
         Request::Text(text) => print_text(rt.alloc(), text, out),
         Request::Link { inputs, out: path } => link(rt, alloc, inputs, path, out),
         Request::Map { inputs } => map(rt, alloc, inputs, out),
@@ -91,6 +97,7 @@ fn link<'a, R: CodeFiles, A: Allocator + Copy, O: Write>(
 ) -> Result<(), CommandError<'a>>
     ensures ok { OnOk result (PrintsLine (Reads (R.opened rt.now) R.Opened.remaining) inputs.entry.host.now (map (λ path. path.now) inputs.entry.libraries.items) (O.contents out.old) (O.contents out.new)) }
     ensures err { IfErr result (λ e. status_of e ≢ 3 → out.new ≡ out.old) }
+    ensures usage { IfErr result (λ e. status_of e ≢ 2) }
 {
     let mut line = String::with_capacity(alloc, SUMMARY_LENGTH)?;
     let Contents { host, libraries } = files::read_inputs(rt, alloc, &inputs)?;
@@ -110,6 +117,7 @@ fn map<'a, R: CodeFiles, A: Allocator + Copy, O: Write>(
 ) -> Result<(), CommandError<'a>>
     ensures ok { OnOk result (PrintsMap (Reads (R.opened rt.now) R.Opened.remaining) inputs.entry.host.now (map (λ path. path.now) inputs.entry.libraries.items) (O.contents out.old) (O.contents out.new)) }
     ensures err { IfErr result (λ e. status_of e ≢ 3 → out.new ≡ out.old) }
+    ensures usage { IfErr result (λ e. status_of e ≢ 2) }
 {
     linked_file_is_one();
     let Contents { host, libraries } = files::read_inputs(rt, alloc, &inputs)?;
@@ -127,6 +135,7 @@ fn show<'a, R: CodeFiles, A: Allocator + Copy, O: Write>(
 ) -> Result<(), CommandError<'a>>
     ensures ok { OnOk result (PrintsShow (Reads (R.opened rt.now) R.Opened.remaining) path.entry.now (O.contents out.old) (O.contents out.new)) }
     ensures err { IfErr result (λ e. status_of e ≢ 3 → out.new ≡ out.old) }
+    ensures usage { IfErr result (λ e. status_of e ≢ 2) }
 {
     let file = files::read(rt, alloc, path)?;
     let text = ps_linkfile::show_text(alloc, file.as_slice())?;
@@ -139,7 +148,8 @@ fn write_linked<'a, R: CodeFiles, A: Allocator + Copy>(
     linked: &Linked<'_, A>,
     path: &'a str,
 ) -> Result<Summary, CommandError<'a>>
-    ensures { IfOk result (λ summary. summary ≡ summary_in linked.now) }
+    ensures ok { IfOk result (λ summary. summary ≡ summary_in linked.now) }
+    ensures err { IfErr result (λ e. status_of e ≢ 2) }
 {
     let Ok(file) = rt.create(path) else {
         return Err(CommandError::Write { path });

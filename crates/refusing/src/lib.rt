@@ -1,4 +1,4 @@
-//! An allocator for tests of running out of memory: it counts growths and refuses those of chosen numbers.
+//! An allocator for tests of running out of memory: it counts allocations and refuses those of chosen numbers.
 //!
 //! [`Refusing`] stands over another allocator, as the runtime's, and is handed out as `&heap`. A test makes one for each number in turn and calls what it tests, until a call is made in which nothing was refused.
 #![tactic(auto)]
@@ -6,9 +6,9 @@
 use std::alloc::{AllocError, Allocator};
 use std::cell::Cell;
 
-/// An allocator that counts its growths and refuses some of them; the others, and every freeing, go to the allocator that it is made over.
+/// An allocator that counts its allocations and refuses some of them; the others, and every freeing, go to the allocator that it is made over.
 ///
-/// Each call of `allocate`, `grow` and `shrink` is a growth, and growths are numbered from 1. It is handed out as `&refusing`, which is `Copy`.
+/// Each call of `allocate`, `grow` and `shrink` is an allocation, and they are numbered from 1. It is handed out as `&refusing`, which is `Copy`.
 #[derive(Drop)]
 pub struct Refusing<B: Allocator> {
     inner: B,
@@ -16,7 +16,7 @@ pub struct Refusing<B: Allocator> {
 }
 
 impl<B: Allocator> Refusing<B> {
-    /// Refuses the growth of that number alone; none where it is 0.
+    /// Refuses the allocation of that number alone; none where it is 0.
     pub fn once(inner: B, growth: u64) -> Refusing<B> {
         Refusing {
             inner,
@@ -24,7 +24,7 @@ impl<B: Allocator> Refusing<B> {
         }
     }
 
-    /// Refuses the growth of that number and each later one.
+    /// Refuses the allocation of that number and each later one.
     pub fn from(inner: B, growth: u64) -> Refusing<B> {
         Refusing {
             inner,
@@ -32,18 +32,18 @@ impl<B: Allocator> Refusing<B> {
         }
     }
 
-    /// How many growths were asked for, those that were refused among them.
+    /// How many allocations were asked for, those that were refused among them.
     pub fn growths(&self) -> u64 {
         self.gate.growths.get()
     }
 
-    /// Whether a growth was refused.
+    /// Whether an allocation was refused.
     pub fn has_refused(&self) -> bool {
         self.gate.refused.get()
     }
 }
 
-/// Counts growths and says which of them pass.
+/// Counts allocations and says which of them pass.
 #[derive(Drop)]
 struct Gate {
     growths: Cell<u64>,
@@ -62,7 +62,7 @@ impl Gate {
         }
     }
 
-    /// Counts a growth, and returns whether it is refused.
+    /// Counts an allocation, and returns whether it is refused.
     fn refuses(&self) -> bool {
         let growth = self.growths.get().saturating_add(1);
         self.growths.set(growth);

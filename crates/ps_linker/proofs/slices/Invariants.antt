@@ -1,7 +1,7 @@
--- The words so far.
+-- The args so far.
 use Rattle.std.proofs.Common.{◌≡◌, map, take}
 use Rattle.std.specs.Prelude.{string_bytes}
 use Rattle.ps_linker.proofs.slices.Given as goal
 
-abbrev pub invariant-loop-word : goal.invariant-loop-word
-invariant-loop-word l = map (λ word. word.now) l.words.items ≡ map string_bytes (take l.word-index l.given)
+abbrev pub invariant-loop-arg : goal.invariant-loop-arg
+invariant-loop-arg l = map (λ arg. arg.now) l.args.items ≡ map string_bytes (take l.arg-index l.given)

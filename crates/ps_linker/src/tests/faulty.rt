@@ -18,11 +18,6 @@ pub struct Faulty<R: Files> {
 }
 
 impl<R: Files> Faulty<R> {
-    /// A write takes three bytes at most.
-    pub fn new(inner: R, nth: u64, calls: u64) -> Faulty<R> {
-        Faulty::taking(inner, nth, calls, 3)
-    }
-
     /// A write takes so many bytes at most.
     pub fn taking(inner: R, nth: u64, calls: u64, per_write: usize) -> Faulty<R> {
         Faulty {

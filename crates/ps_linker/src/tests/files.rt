@@ -1,8 +1,8 @@
 //! Files that cannot be opened, read or written.
 use super::faulty::Faulty;
 use super::inputs::{
-    MAP_OF_PAIR, SHOWN_LIBRARY, SUMMARY_IN_PLACE, SUMMARY_OF_PAIR, host, host_in_place, library,
-    linked_in_place,
+    HOST, HOST_IN_PLACE, LIBRARY, LINKED_HOST_IN_PLACE, LINKED_PAIR, MAP_OF_PAIR, SHOWN_LIBRARY,
+    SUMMARY_IN_PLACE, SUMMARY_OF_PAIR,
 };
 use super::outcome::{clean, done};
 use std::fs;
@@ -15,43 +15,32 @@ fn files_that_cannot_be_opened(rt: HostRuntime) -> Result<(), Fail> {
     let _ = fs::remove_file(&rt, "opened-missing");
     let _ = fs::remove_file(&rt, "opened-out");
     let _ = fs::create_dir(&rt, "opened-folder");
-    fs::write(&rt, "opened-host", host_in_place(rt.alloc())?.as_slice())?;
+    HOST_IN_PLACE.save(&rt, "opened-host")?;
     let missing = "pslink: cannot read opened-missing\n";
-    let words = ["pslink", "link", "opened-missing", "opened-out"];
-    done(&rt, words.as_slice()).is(&rt, 3, "", missing);
-    let words = [
-        "pslink",
-        "link",
-        "opened-host",
-        "opened-out",
-        "opened-missing",
+    let not_read = "pslink: cannot read opened-folder\n";
+    let not_written = "pslink: cannot write opened-folder\n";
+    let rows = [
+        (["link", "opened-missing", "opened-out"].as_slice(), missing),
+        (
+            ["link", "opened-host", "opened-out", "opened-missing"].as_slice(),
+            missing,
+        ),
+        (["map", "opened-host", "opened-missing"].as_slice(), missing),
+        (["show", "opened-missing"].as_slice(), missing),
+        (
+            ["link", "opened-host", "opened-folder"].as_slice(),
+            not_written,
+        ),
+        (["link", "opened-folder", "opened-out"].as_slice(), not_read),
     ];
-    done(&rt, words.as_slice()).is(&rt, 3, "", missing);
-    assert!(rt; !fs::exists(&rt, "opened-out")?);
-    let words = ["pslink", "map", "opened-host", "opened-missing"];
-    done(&rt, words.as_slice()).is(&rt, 3, "", missing);
-    let words = ["pslink", "show", "opened-missing"];
-    done(&rt, words.as_slice()).is(&rt, 3, "", missing);
-    let words = ["pslink", "link", "opened-host", "opened-folder"];
-    done(&rt, words.as_slice()).is(&rt, 3, "", "pslink: cannot write opened-folder\n");
-    let words = ["pslink", "link", "opened-folder", "opened-out"];
-    done(&rt, words.as_slice()).is(&rt, 3, "", "pslink: cannot read opened-folder\n");
+    for (command, complained) in rows {
+        let mut args = Vec::from_slice(rt.alloc(), ["pslink"].as_slice())?;
+        args.extend_from_slice(command)?;
+        done(&rt, args.as_slice()).is(&rt, command, 3, "", complained);
+        assert!(rt; !fs::exists(&rt, "opened-out")?, "{command:?}");
+    }
     clean(&rt, ["opened-host"].as_slice());
     let _ = fs::remove_dir(&rt, "opened-folder");
-    Ok(())
-}
-
-#[test]
-fn a_file_longer_than_the_limit(rt: HostRuntime) -> Result<(), Fail> {
-    let long = fs::create(&rt, "long-host")?;
-    fs::OpenFile::set_len(&long, 67_108_865)?;
-    let words = ["pslink", "link", "long-host", "long-out"];
-    let too_long = "pslink: long-host is longer than 67108864 bytes\n";
-    done(&rt, words.as_slice()).is(&rt, 3, "", too_long);
-    fs::OpenFile::set_len(&long, 67_108_864)?;
-    let refused = "pslink: refused 4 NoHost file 0\n";
-    done(&rt, words.as_slice()).is(&rt, 1, "", refused);
-    fs::remove_file(&rt, "long-host")?;
     Ok(())
 }
 
@@ -59,86 +48,118 @@ fn a_file_longer_than_the_limit(rt: HostRuntime) -> Result<(), Fail> {
 /// is printed, and no file is opened to be written.
 fn failing_reads<R: Files + AllocGlobal + Abort>(
     rt: &R,
-    words: &[&str],
+    args: &[&str],
     nth: u64,
     complaint: &str,
     wanted: &str,
 ) -> u64 {
     for reads in 0..100 {
-        let files = (Faulty::new(rt, nth, reads), rt.alloc());
-        let answered = done(&files, words);
-        if answered.status == 0 {
-            answered.is(rt, 0, wanted, "");
+        let files = (Faulty::taking(rt, nth, reads, 3), rt.alloc());
+        let run = done(&files, args);
+        if run.status == 0 {
+            run.is(rt, (nth, reads), 0, wanted, "");
             return reads;
         }
-        answered.is(rt, 3, "", complaint);
+        run.is(rt, (nth, reads), 3, "", complaint);
         assert_eq!(rt; files.0.created(), 0, "at {nth} {reads}");
     }
     100
 }
 
 #[test]
-fn each_read_of_a_link_fails(rt: HostRuntime) -> Result<(), Fail> {
-    fs::write(&rt, "reads-host", host(rt.alloc())?.as_slice())?;
-    fs::write(&rt, "reads-library", library(rt.alloc())?.as_slice())?;
-    let words = ["pslink", "link", "reads-host", "reads-out", "reads-library"];
-    let complaint = "pslink: cannot read reads-host\n";
-    let failed = failing_reads(&rt, words.as_slice(), 1, complaint, SUMMARY_OF_PAIR);
-    assert_eq!(rt; failed, 5);
-    let complaint = "pslink: cannot read reads-library\n";
-    let failed = failing_reads(&rt, words.as_slice(), 2, complaint, SUMMARY_OF_PAIR);
-    assert_eq!(rt; failed, 5);
+fn each_read_fails(rt: HostRuntime) -> Result<(), Fail> {
+    HOST.save(&rt, "reads-host")?;
+    LIBRARY.save(&rt, "reads-library")?;
+    let link = ["pslink", "link", "reads-host", "reads-out", "reads-library"];
+    let map = ["pslink", "map", "reads-host", "reads-library"];
+    let show = ["pslink", "show", "reads-library"];
+    let (link, map, show) = (link.as_slice(), map.as_slice(), show.as_slice());
+    let no_host = "pslink: cannot read reads-host\n";
+    let no_library = "pslink: cannot read reads-library\n";
+    // The args, which of the files that are opened fails, what is then said, and what is printed where no read fails.
+    let rows = [
+        (link, 1, no_host, SUMMARY_OF_PAIR),
+        (link, 2, no_library, SUMMARY_OF_PAIR),
+        (map, 1, no_host, MAP_OF_PAIR),
+        (map, 2, no_library, MAP_OF_PAIR),
+        (show, 1, no_library, SHOWN_LIBRARY),
+    ];
+    for (args, nth, complained, wanted) in rows {
+        let failed = failing_reads(&rt, args, nth, complained, wanted);
+        assert_eq!(rt; failed, 5, "{args:?} {nth}");
+    }
     clean(&rt, ["reads-host", "reads-out", "reads-library"].as_slice());
     Ok(())
 }
 
-#[test]
-fn each_read_of_a_map_fails(rt: HostRuntime) -> Result<(), Fail> {
-    fs::write(&rt, "mapped-host", host(rt.alloc())?.as_slice())?;
-    fs::write(&rt, "mapped-library", library(rt.alloc())?.as_slice())?;
-    let words = ["pslink", "map", "mapped-host", "mapped-library"];
-    let complaint = "pslink: cannot read mapped-host\n";
-    let failed = failing_reads(&rt, words.as_slice(), 1, complaint, MAP_OF_PAIR);
-    assert_eq!(rt; failed, 5);
-    let complaint = "pslink: cannot read mapped-library\n";
-    let failed = failing_reads(&rt, words.as_slice(), 2, complaint, MAP_OF_PAIR);
-    assert_eq!(rt; failed, 5);
-    clean(&rt, ["mapped-host", "mapped-library"].as_slice());
-    Ok(())
-}
-
-#[test]
-fn each_read_of_a_show_fails(rt: HostRuntime) -> Result<(), Fail> {
-    fs::write(&rt, "shown-library", library(rt.alloc())?.as_slice())?;
-    let words = ["pslink", "show", "shown-library"];
-    let complaint = "pslink: cannot read shown-library\n";
-    let failed = failing_reads(&rt, words.as_slice(), 1, complaint, SHOWN_LIBRARY);
-    assert_eq!(rt; failed, 5);
-    clean(&rt, ["shown-library"].as_slice());
-    Ok(())
+/// How long the start of a file is that so many writes have written, of which each takes at most so many bytes of a block.
+fn length_after(writes: u64, most: u64) -> u64 {
+    let to_a_block = 512u64.div_ceil(most.clamp(1, 512));
+    let begun = (writes % to_a_block).saturating_mul(most).min(512);
+    (writes / to_a_block)
+        .saturating_mul(512)
+        .saturating_add(begun)
 }
 
 #[test]
 fn each_write_of_a_link_fails(rt: HostRuntime) -> Result<(), Fail> {
-    let expected = linked_in_place(rt.alloc())?;
-    fs::write(&rt, "writes-host", host_in_place(rt.alloc())?.as_slice())?;
-    let words = ["pslink", "link", "writes-host", "writes-out"];
-    let mut failed = 0u64;
-    for writes in 0..1000 {
-        let files = (Faulty::new(&rt, 2, writes), rt.alloc());
-        let answered = done(&files, words.as_slice());
-        assert_eq!(rt; files.0.created(), 1, "at {writes}");
-        let made = fs::read(&rt, "writes-out")?;
-        if answered.status == 0 {
-            answered.is(&rt, 0, SUMMARY_IN_PLACE, "");
-            assert_eq!(rt; made.as_slice(), expected.as_slice());
-            break;
+    HOST_IN_PLACE.save(&rt, "writes-in-place")?;
+    HOST.save(&rt, "writes-host")?;
+    LIBRARY.save(&rt, "writes-library")?;
+    let link_in_place = ["pslink", "link", "writes-in-place", "writes-out"];
+    let link = [
+        "pslink",
+        "link",
+        "writes-host",
+        "writes-out",
+        "writes-library",
+    ];
+    let (link_in_place, link) = (link_in_place.as_slice(), link.as_slice());
+    // The args, as which file OUT is opened, how much a write takes, what is printed, the linked file, and in how many writes.
+    let rows = [
+        (
+            link_in_place,
+            2,
+            3,
+            SUMMARY_IN_PLACE,
+            LINKED_HOST_IN_PLACE,
+            513,
+        ),
+        (link, 3, usize::MAX, SUMMARY_OF_PAIR, LINKED_PAIR, 3),
+    ];
+    for (args, nth, most, printed, image, needed) in rows {
+        let linked = image.bytes(rt.alloc())?;
+        for writes in 0..=needed {
+            let files = (Faulty::taking(&rt, nth, writes, most), rt.alloc());
+            let run = done(&files, args);
+            assert_eq!(rt; files.0.created(), 1, "at {writes} of {needed}");
+            let made = fs::read(&rt, "writes-out")?;
+            if writes == needed {
+                run.is(&rt, (writes, needed), 0, printed, "");
+                assert_eq!(rt; made.as_slice(), linked.as_slice(), "{args:?}");
+            } else {
+                run.is(
+                    &rt,
+                    (writes, needed),
+                    3,
+                    "",
+                    "pslink: cannot write writes-out\n",
+                );
+                assert!(rt;
+                    linked.starts_with(made.as_slice()),
+                    "at {writes} of {needed}"
+                );
+                let length = length_after(writes, most as u64);
+                assert_eq!(rt; made.len() as u64, length, "at {writes} of {needed}");
+            }
         }
-        answered.is(&rt, 3, "", "pslink: cannot write writes-out\n");
-        assert!(rt; expected.starts_with(made.as_slice()), "at {writes}");
-        failed = writes;
     }
-    assert!(rt; (15..1000).contains(&failed), "{failed}");
-    clean(&rt, ["writes-host", "writes-out"].as_slice());
+    let files = [
+        "writes-in-place",
+        "writes-host",
+        "writes-library",
+        "writes-out",
+    ];
+    clean(&rt, files.as_slice());
     Ok(())
 }

@@ -1,11 +1,14 @@
 //! The code files that the tests run on, and the texts that are wanted of them.
 use std::alloc::{AllocError, Global};
+use std::fs;
+use std::rt::Files;
+use std::test::Fail;
 
 /// What lies at a place of a code file.
 pub type Part = (usize, &'static [u8]);
 
 /// The dictionary and the code of a host program in block 1, which names a unit.
-static HOST_PROGRAM: [Part; 5] = [
+const HOST_PROGRAM: [Part; 5] = [
     (4, b"\x01\x00\x12\x00"),
     (72, b"DEMO    "),
     (120, b"UTIL    "),
@@ -17,7 +20,7 @@ static HOST_PROGRAM: [Part; 5] = [
 ];
 
 /// The kinds and the host's link information, where the unit is sought in libraries.
-static UNIT_WANTED: [Part; 4] = [
+const UNIT_WANTED: [Part; 4] = [
     (194, b"\x01\x00"),
     (206, b"\x03\x00"),
     (1024, b"COUNT   \x07\x00\x03\x00\x00\x00\x00\x00"),
@@ -25,7 +28,7 @@ static UNIT_WANTED: [Part; 4] = [
 ];
 
 /// The same, and the unit in the host file, with one reference to the host's definition.
-static UNIT_IN_PLACE: [Part; 9] = [
+const UNIT_IN_PLACE: [Part; 9] = [
     (28, b"\x03\x00\x18\x00"),
     (194, b"\x01\x00"),
     (206, b"\x03\x00"),
@@ -41,7 +44,7 @@ static UNIT_IN_PLACE: [Part; 9] = [
 ];
 
 /// The host's link information with a constant more.
-static CONSTANT_DEFINED: [Part; 5] = [
+const CONSTANT_DEFINED: [Part; 5] = [
     (194, b"\x01\x00"),
     (206, b"\x03\x00"),
     (1024, b"COUNT   \x07\x00\x03\x00\x00\x00\x00\x00"),
@@ -50,7 +53,7 @@ static CONSTANT_DEFINED: [Part; 5] = [
 ];
 
 /// What linking makes of the unit in place.
-static LINKED_IN_PLACE: [Part; 2] = [
+const LINKED_IN_PLACE: [Part; 2] = [
     (28, b"\x02\x00\x18\x00"),
     (
         1024,
@@ -59,7 +62,7 @@ static LINKED_IN_PLACE: [Part; 2] = [
 ];
 
 /// A library with the unit, which has a private variable of four words.
-static LIBRARY: [Part; 9] = [
+const LIBRARY_UNIT: [Part; 9] = [
     (8, b"\x01\x00\x18\x00"),
     (80, b"UTIL    "),
     (196, b"\x03\x00"),
@@ -75,7 +78,7 @@ static LIBRARY: [Part; 9] = [
 ];
 
 /// The same library with its words the other way round.
-static BIG_ENDIAN_LIBRARY: [Part; 9] = [
+const BIG_ENDIAN_UNIT: [Part; 9] = [
     (8, b"\x00\x01\x00\x18"),
     (80, b"UTIL    "),
     (196, b"\x00\x03"),
@@ -91,7 +94,7 @@ static BIG_ENDIAN_LIBRARY: [Part; 9] = [
 ];
 
 /// What linking makes of the library's unit, and of the host program's data size.
-static LINKED_FROM_LIBRARY: [Part; 3] = [
+const LINKED_FROM_LIBRARY: [Part; 3] = [
     (28, b"\x02\x00\x18\x00"),
     (516, b"\x12\x00"),
     (
@@ -100,97 +103,133 @@ static LINKED_FROM_LIBRARY: [Part; 3] = [
     ),
 ];
 
-/// A code file of so many bytes, with blank names and these parts.
-pub fn code_file(
-    alloc: Global,
-    length: usize,
-    parts: &[Part],
-    more: &[Part],
-) -> Result<Vec<u8>, AllocError> {
-    let mut file = vec![in alloc; 0u8; length]?;
-    for blank in file.iter_mut().skip(64).take(128) {
-        *blank = b' ';
-    }
-    for (place, bytes) in parts.iter().chain(more.iter()) {
-        for (at, byte) in file.iter_mut().skip(*place).zip(bytes.iter()) {
-            *at = *byte;
+//// The same with the other library.
+const LINKED_FROM_OTHER: [Part; 3] = [
+    (28, b"\x02\x00\x18\x00"),
+    (516, b"\x12\x00"),
+    (
+        1024,
+        b"\xA5\x80\x03\xAB\x80\x0A\x00\x00\xAD\x00\x00\x00\x00\x00\x06\x00\x10\x00\x01\x00\x02\x00\x07\x01",
+    ),
+];
+
+/// The unit of a library, up to its link information.
+const USING_UNIT: [Part; 4] = [
+    (8, b"\x01\x00\x18\x00"),
+    (80, b"UTIL    "),
+    (196, b"\x03\x00"),
+    (
+        512,
+        b"\xA5\x80\x00\xAB\x80\x02\xD7\xD7\xAD\x00\x00\x00\x00\x00\x06\x00\x10\x00\x01\x00\x02\x00\x02\x01",
+    ),
+];
+
+/// Its link information: it names a second unit at byte 2 of its code.
+const USES_A_UNIT: [Part; 3] = [
+    (1024, b"AUX     \x01\x00\x01\x00\x01\x00\x00\x00"),
+    (1040, b"\x02\x00"),
+    (1056, b"        \x00\x00\x00\x00\x00\x00\x00\x00"),
+];
+
+/// The same with no place in its code.
+const NAMES_A_UNIT: [Part; 2] = [
+    (1024, b"AUX     \x01\x00\x01\x00\x00\x00\x00\x00"),
+    (1040, b"        \x00\x00\x00\x00\x00\x00\x00\x00"),
+];
+
+/// The first, and the second unit, which has a reference to the host's definition and a private variable of four words.
+const BOTH_UNITS: [Part; 12] = [
+    (1024, b"AUX     \x01\x00\x01\x00\x01\x00\x00\x00"),
+    (1040, b"\x02\x00"),
+    (1056, b"        \x00\x00\x00\x00\x00\x00\x00\x00"),
+    (12, b"\x03\x00\x18\x00"),
+    (88, b"AUX     "),
+    (198, b"\x03\x00"),
+    (
+        1536,
+        b"\xA5\x80\x00\xAB\x80\x02\xD7\xD7\xAD\x00\x00\x00\x00\x00\x06\x00\x10\x00\x01\x00\x02\x00\x03\x01",
+    ),
+    (2048, b"COUNT   \x03\x00\x02\x00\x01\x00\x00\x00"),
+    (2064, b"\x01\x00"),
+    (2080, b"STATE   \x04\x00\x02\x00\x01\x00\x04\x00"),
+    (2096, b"\x04\x00"),
+    (2112, b"        \x00\x00\x00\x00\x00\x00\x00\x00"),
+];
+
+/// A code file of so many bytes, with blank names and the parts of two tables; what of them lies past its end is cut.
+#[derive(Clone, Copy)]
+pub struct Image(usize, &'static [Part], &'static [Part]);
+
+impl Image {
+    /// The file.
+    pub fn bytes(&self, alloc: Global) -> Result<Vec<u8>, AllocError> {
+        let Image(length, parts, more) = *self;
+        let mut file = vec![in alloc; 0u8; length]?;
+        for blank in file.iter_mut().skip(64).take(128) {
+            *blank = b' ';
         }
+        for (place, bytes) in parts.iter().chain(more.iter()) {
+            for (at, byte) in file.iter_mut().skip(*place).zip(bytes.iter()) {
+                *at = *byte;
+            }
+        }
+        Ok(file)
     }
-    Ok(file)
+
+    /// Writes the file.
+    pub fn save<R: Files + AllocGlobal>(&self, rt: &R, path: &str) -> Result<(), Fail> {
+        fs::write(rt, path, self.bytes(rt.alloc())?.as_slice())?;
+        Ok(())
+    }
 }
 
 /// A host with its unit in place, and what it is linked to.
-pub fn host_in_place(alloc: Global) -> Result<Vec<u8>, AllocError> {
-    code_file(
-        alloc,
-        2560,
-        HOST_PROGRAM.as_slice(),
-        UNIT_IN_PLACE.as_slice(),
-    )
-}
+pub static HOST_IN_PLACE: Image = Image(2560, &HOST_PROGRAM, &UNIT_IN_PLACE);
 
-pub fn linked_in_place(alloc: Global) -> Result<Vec<u8>, AllocError> {
-    code_file(
-        alloc,
-        1536,
-        HOST_PROGRAM.as_slice(),
-        LINKED_IN_PLACE.as_slice(),
-    )
-}
+pub static LINKED_HOST_IN_PLACE: Image = Image(1536, &HOST_PROGRAM, &LINKED_IN_PLACE);
 
 /// A host that wants its unit, a library that has it, and what the two are linked to.
-pub fn host(alloc: Global) -> Result<Vec<u8>, AllocError> {
-    code_file(alloc, 1536, HOST_PROGRAM.as_slice(), UNIT_WANTED.as_slice())
-}
+pub static HOST: Image = Image(1536, &HOST_PROGRAM, &UNIT_WANTED);
 
-pub fn library(alloc: Global) -> Result<Vec<u8>, AllocError> {
-    code_file(alloc, 1536, LIBRARY.as_slice(), [].as_slice())
-}
+pub static LIBRARY: Image = Image(1536, &LIBRARY_UNIT, &[]);
+
+pub static LINKED_PAIR: Image = Image(1536, &HOST_PROGRAM, &LINKED_FROM_LIBRARY);
+
+/// The host and the library cut behind their end marks, and the library cut before its last byte and in its unit's code.
+pub static ENDING_HOST: Image = Image(1056, &HOST_PROGRAM, &UNIT_WANTED);
+
+pub static ENDING_LIBRARY: Image = Image(1104, &LIBRARY_UNIT, &[]);
+
+pub static CUT_LIBRARY: Image = Image(1103, &LIBRARY_UNIT, &[]);
+
+pub static LIBRARY_CUT_IN_CODE: Image = Image(535, &LIBRARY_UNIT, &[]);
 
 /// The library where two bytes of its unit's code are other ones, and what the host is linked to with it.
-pub fn other_library(alloc: Global) -> Result<Vec<u8>, AllocError> {
-    let other = [(518, b"\x00\x00".as_slice())];
-    code_file(alloc, 1536, LIBRARY.as_slice(), other.as_slice())
-}
+pub static OTHER_LIBRARY: Image = Image(1536, &LIBRARY_UNIT, &[(518, b"\0\0")]);
 
-pub fn linked_with_other(alloc: Global) -> Result<Vec<u8>, AllocError> {
-    let mut linked = linked_pair(alloc)?;
-    for byte in linked.iter_mut().skip(1030).take(2) {
-        *byte = 0;
-    }
-    Ok(linked)
-}
+pub static LINKED_WITH_OTHER: Image = Image(1536, &HOST_PROGRAM, &LINKED_FROM_OTHER);
 
 /// The library where its unit has another name.
-pub fn library_without_unit(alloc: Global) -> Result<Vec<u8>, AllocError> {
-    let other = [(80, b"OTHER   ".as_slice())];
-    code_file(alloc, 1536, LIBRARY.as_slice(), other.as_slice())
-}
+pub static LIBRARY_WITHOUT_UNIT: Image = Image(1536, &LIBRARY_UNIT, &[(80, b"OTHER   ")]);
 
-pub fn big_endian_library(alloc: Global) -> Result<Vec<u8>, AllocError> {
-    code_file(alloc, 1536, BIG_ENDIAN_LIBRARY.as_slice(), [].as_slice())
-}
-
-pub fn linked_pair(alloc: Global) -> Result<Vec<u8>, AllocError> {
-    code_file(
-        alloc,
-        1536,
-        HOST_PROGRAM.as_slice(),
-        LINKED_FROM_LIBRARY.as_slice(),
-    )
-}
+pub static BIG_ENDIAN_LIBRARY: Image = Image(1536, &BIG_ENDIAN_UNIT, &[]);
 
 /// The host with a constant more.
-pub fn host_with_constant(alloc: Global) -> Result<Vec<u8>, AllocError> {
-    code_file(
-        alloc,
-        1536,
-        HOST_PROGRAM.as_slice(),
-        CONSTANT_DEFINED.as_slice(),
-    )
-}
+pub static HOST_WITH_CONSTANT: Image = Image(1536, &HOST_PROGRAM, &CONSTANT_DEFINED);
 
-/// What is printed of the links of the two hosts.
+/// Libraries with a unit that names a second one: at a place in its code, at none, and where the second is there too.
+pub static USING_LIBRARY: Image = Image(1536, &USING_UNIT, &USES_A_UNIT);
+
+pub static NAMING_LIBRARY: Image = Image(1536, &USING_UNIT, &NAMES_A_UNIT);
+
+pub static LIBRARY_OF_BOTH: Image = Image(2560, &USING_UNIT, &BOTH_UNITS);
+
+/// Zeros, one byte less than a dictionary; and a dictionary whose kinds are in no byte order.
+pub static SHORT_FILE: Image = Image(511, &[(64, &[0; 128])], &[]);
+
+pub static MIXED_FILE: Image = Image(512, &[(192, b"\x01\x01")], &[]);
+
+// What is printed of the links of the two hosts.
 pub static SUMMARY_IN_PLACE: &str = "segments 2 private words 0 blocks 3\n";
 
 pub static SUMMARY_OF_PAIR: &str = "segments 2 private words 4 blocks 3\n";
@@ -338,4 +377,40 @@ slot 12 ???????? kind 0 address 0 length 0 text 0
 slot 13 ???????? kind 0 address 0 length 0 text 0
 slot 14 ???????? kind 0 address 0 length 0 text 0
 slot 15 ???????? kind 0 address 0 length 0 text 0
+";
+
+/// The map of the host and the library with both units.
+pub static MAP_OF_AN_ADDED_UNIT: &str = "segment 01 DEMO     file 0 entry 01 block 1 length 18
+segment 07 UTIL     file 1 entry 02 block 2 length 24
+segment 08 AUX      file 1 entry 03 block 3 length 24 added
+public COUNT    value 3
+private 08 STATE    offset 8 words 4
+next 12 data 18 blocks 4
+";
+
+/// The show of that library.
+pub static SHOW_OF_BOTH_UNITS: &str = "order little
+slot 00          kind 0 address 0 length 0 text 0
+slot 01          kind 0 address 0 length 0 text 0
+slot 02 UTIL     kind 3 address 1 length 24 text 0
+slot 03 AUX      kind 3 address 3 length 24 text 0
+slot 04          kind 0 address 0 length 0 text 0
+slot 05          kind 0 address 0 length 0 text 0
+slot 06          kind 0 address 0 length 0 text 0
+slot 07          kind 0 address 0 length 0 text 0
+slot 08          kind 0 address 0 length 0 text 0
+slot 09          kind 0 address 0 length 0 text 0
+slot 10          kind 0 address 0 length 0 text 0
+slot 11          kind 0 address 0 length 0 text 0
+slot 12          kind 0 address 0 length 0 text 0
+slot 13          kind 0 address 0 length 0 text 0
+slot 14          kind 0 address 0 length 0 text 0
+slot 15          kind 0 address 0 length 0 text 0
+links 02
+0 UNITREF AUX      at 2
+1 EOFMARK next 0
+links 03
+0 PUBLREF COUNT    at 1
+1 PRIVREF STATE    words 4 at 4
+2 EOFMARK next 0
 ";

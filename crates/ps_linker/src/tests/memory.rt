@@ -1,7 +1,7 @@
 //! Memory that is refused.
 use super::inputs::{
-    MAP_OF_PAIR, SHOWN_LIBRARY, SUMMARY_IN_PLACE, SUMMARY_OF_PAIR, host, host_in_place, library,
-    linked_in_place, linked_pair,
+    HOST, HOST_IN_PLACE, Image, LIBRARY, LINKED_HOST_IN_PLACE, LINKED_PAIR, MAP_OF_PAIR,
+    SHOWN_LIBRARY, SUMMARY_IN_PLACE, SUMMARY_OF_PAIR,
 };
 use super::outcome::{clean, done_with};
 use refusing::Refusing;
@@ -12,88 +12,101 @@ use std::test::Fail;
 
 static NO_MEMORY: &str = "pslink: out of memory\n";
 
-#[test]
-fn the_first_growth_of_a_link_is_refused(rt: HostRuntime) -> Result<(), Fail> {
-    let _ = fs::remove_file(&rt, "first-out");
-    fs::write(&rt, "first-host", host_in_place(rt.alloc())?.as_slice())?;
-    let words = ["pslink", "link", "first-host", "first-out"];
-    let heap = Refusing::once(rt.alloc(), 1);
-    done_with(&rt, &heap, words.as_slice()).is(&rt, 4, "", NO_MEMORY);
-    assert!(rt; heap.has_refused());
-    assert!(rt; !fs::exists(&rt, "first-out")?);
-    let heap = Refusing::once(rt.alloc(), 0);
-    done_with(&rt, &heap, words.as_slice()).is(&rt, 0, SUMMARY_IN_PLACE, "");
-    let made = fs::read(&rt, "first-out")?;
-    assert_eq!(rt; made.as_slice(), linked_in_place(rt.alloc())?.as_slice());
-    clean(&rt, ["first-host", "first-out"].as_slice());
-    Ok(())
-}
+/// Where a link writes in these tests. `map` and `show` write nothing there.
+static OUT: &str = "memory-out";
 
-/// Has each growth of the words' run refused in turn, until none is: how many were. Until then nothing is printed.
-fn refused_growths<R: Files + AllocGlobal + Abort>(rt: &R, words: &[&str], wanted: &str) -> u64 {
-    for growth in 1..1000 {
-        let heap = Refusing::once(rt.alloc(), growth);
-        let answered = done_with(rt, &heap, words);
-        if !heap.has_refused() {
-            answered.is(rt, 0, wanted, "");
-            return growth - 1;
-        }
-        answered.is(rt, 4, "", NO_MEMORY);
+/// Checks that OUT is as it was before the args were run.
+fn is_as_before<R: Files + AllocGlobal + Abort>(
+    rt: &R,
+    args: &[&str],
+    was_there: bool,
+) -> Result<(), Fail> {
+    if was_there {
+        let left = fs::read(rt, OUT)?;
+        assert_eq!(rt; left.as_slice(), b"as before".as_slice(), "{args:?}");
+    } else {
+        assert!(rt; !fs::exists(rt, OUT)?, "{args:?}");
     }
-    1000
-}
-
-#[test]
-fn each_growth_of_a_map_is_refused(rt: HostRuntime) -> Result<(), Fail> {
-    fs::write(&rt, "grown-host", host(rt.alloc())?.as_slice())?;
-    fs::write(&rt, "grown-library", library(rt.alloc())?.as_slice())?;
-    let words = ["pslink", "map", "grown-host", "grown-library"];
-    let refused = refused_growths(&rt, words.as_slice(), MAP_OF_PAIR);
-    assert!(rt; (5..1000).contains(&refused), "{refused}");
-    clean(&rt, ["grown-host", "grown-library"].as_slice());
     Ok(())
 }
 
-#[test]
-fn each_growth_of_a_show_is_refused(rt: HostRuntime) -> Result<(), Fail> {
-    fs::write(&rt, "grown-shown", library(rt.alloc())?.as_slice())?;
-    let words = ["pslink", "show", "grown-shown"];
-    let refused = refused_growths(&rt, words.as_slice(), SHOWN_LIBRARY);
-    assert!(rt; (2..1000).contains(&refused), "{refused}");
-    clean(&rt, ["grown-shown"].as_slice());
-    Ok(())
+/// Has each allocation of the args' run refused in turn, until none is: how many were. Until then nothing is printed, and OUT
+/// stays as it was; then it is the linked file, where the command links.
+fn refused_allocations<R: Files + AllocGlobal + Abort>(
+    rt: &R,
+    args: &[&str],
+    was_there: bool,
+    printed: &str,
+    linked: Option<Image>,
+) -> Result<u64, Fail> {
+    for number in 1..1000 {
+        let _ = fs::remove_file(rt, OUT);
+        if was_there {
+            fs::write(rt, OUT, "as before")?;
+        }
+        let heap = Refusing::once(rt.alloc(), number);
+        let run = done_with(rt, &heap, args);
+        if heap.has_refused() {
+            run.is(rt, (args, number), 4, "", NO_MEMORY);
+            is_as_before(rt, args, was_there)?;
+            continue;
+        }
+        run.is(rt, (args, number), 0, printed, "");
+        match linked {
+            Some(image) => {
+                let made = fs::read(rt, OUT)?;
+                assert_eq!(rt;
+                    made.as_slice(),
+                    image.bytes(rt.alloc())?.as_slice(),
+                    "{args:?}"
+                );
+            }
+            None => is_as_before(rt, args, was_there)?,
+        }
+        return Ok(number - 1);
+    }
+    Ok(1000)
 }
 
 #[test]
-fn each_growth_of_a_link_is_refused(rt: HostRuntime) -> Result<(), Fail> {
-    fs::write(&rt, "linked-host", host(rt.alloc())?.as_slice())?;
-    fs::write(&rt, "linked-library", library(rt.alloc())?.as_slice())?;
-    fs::write(&rt, "linked-out", "as before")?;
-    let words = [
-        "pslink",
-        "link",
-        "linked-host",
-        "linked-out",
-        "linked-library",
+fn each_allocation_is_refused(rt: HostRuntime) -> Result<(), Fail> {
+    HOST_IN_PLACE.save(&rt, "memory-in-place")?;
+    HOST.save(&rt, "memory-host")?;
+    LIBRARY.save(&rt, "memory-library")?;
+    let link_in_place = ["pslink", "link", "memory-in-place", OUT];
+    let link = ["pslink", "link", "memory-host", OUT, "memory-library"];
+    let map = ["pslink", "map", "memory-host", "memory-library"];
+    let show = ["pslink", "show", "memory-library"];
+    // The args, whether OUT is there before, what is printed, what OUT then has, and how many allocations are refused at least.
+    let rows = [
+        (
+            link_in_place.as_slice(),
+            false,
+            SUMMARY_IN_PLACE,
+            Some(LINKED_HOST_IN_PLACE),
+            5,
+        ),
+        (link.as_slice(), true, SUMMARY_OF_PAIR, Some(LINKED_PAIR), 5),
+        (map.as_slice(), false, MAP_OF_PAIR, None, 5),
+        (show.as_slice(), false, SHOWN_LIBRARY, None, 2),
     ];
-    let mut refused = 0u64;
-    for growth in 1..1000 {
-        let heap = Refusing::once(rt.alloc(), growth);
-        let answered = done_with(&rt, &heap, words.as_slice());
-        let left = fs::read(&rt, "linked-out")?;
-        if !heap.has_refused() {
-            answered.is(&rt, 0, SUMMARY_OF_PAIR, "");
-            assert_eq!(rt; left.as_slice(), linked_pair(rt.alloc())?.as_slice());
-            break;
-        }
-        answered.is(&rt, 4, "", NO_MEMORY);
-        assert_eq!(rt; left.as_slice(), b"as before".as_slice());
-        refused = growth;
+    for (args, was_there, printed, linked, least) in rows {
+        let refused = refused_allocations(&rt, args, was_there, printed, linked)?;
+        assert!(rt; (least..1000).contains(&refused), "{args:?} {refused}");
     }
-    assert!(rt; (5..999).contains(&refused), "{refused}");
+    // An allocator that counts and refuses nothing.
+    let heap = Refusing::once(rt.alloc(), 0);
+    let made = done_with(&rt, &heap, link_in_place.as_slice());
+    made.is(&rt, "none", 0, SUMMARY_IN_PLACE, "");
+    assert!(rt; !heap.has_refused());
+    let made = fs::read(&rt, OUT)?;
+    assert_eq!(rt;
+        made.as_slice(),
+        LINKED_HOST_IN_PLACE.bytes(rt.alloc())?.as_slice()
+    );
     clean(
         &rt,
-        ["linked-host", "linked-library", "linked-out"].as_slice(),
+        ["memory-in-place", "memory-host", "memory-library", OUT].as_slice(),
     );
     Ok(())
 }

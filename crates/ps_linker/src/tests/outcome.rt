@@ -1,11 +1,12 @@
-//! What a run answers and writes.
+//! What a run returns and writes.
 use crate::running::run;
 use std::alloc::{Allocator, Global};
+use std::fmt::Debug;
 use std::fs;
 use std::process::Abort;
 use std::rt::Files;
 
-/// What a run answers and writes.
+/// What a run returns and writes.
 #[derive(Drop)]
 pub struct Outcome {
     pub status: u8,
@@ -13,35 +14,35 @@ pub struct Outcome {
     pub err: Vec<u8>,
 }
 
-/// Runs the words with ample memory.
-pub fn done<R: Files + AllocGlobal>(rt: &R, words: &[&str]) -> Outcome {
-    done_with(rt, rt.alloc(), words)
+/// Runs the args with ample memory.
+pub fn done<R: Files + AllocGlobal>(rt: &R, args: &[&str]) -> Outcome {
+    done_with(rt, rt.alloc(), args)
 }
 
-/// Runs the words with memory from `alloc`.
+/// Runs the args with memory from `alloc`.
 pub fn done_with<R: Files + AllocGlobal, A: Allocator + Copy>(
     rt: &R,
     alloc: A,
-    words: &[&str],
+    args: &[&str],
 ) -> Outcome {
     let heap: Global = rt.alloc();
     let mut out = Vec::new(heap);
     let mut err = Vec::new(heap);
-    let status = run(rt, alloc, words, &mut out, &mut err);
+    let status = run(rt, alloc, args, &mut out, &mut err);
     Outcome { status, out, err }
 }
 
 impl Outcome {
-    /// The run answered this status and wrote these texts.
-    pub fn is(self, rt: &impl Abort, status: u8, out: &str, err: &str) {
+    /// The run of this row returned this status and wrote these texts.
+    pub fn is<D: Debug + Copy>(self, rt: &impl Abort, row: D, status: u8, out: &str, err: &str) {
         let Outcome {
-            status: answered,
+            status: returned,
             out: printed,
             err: complained,
         } = self;
-        assert_eq!(rt; text(complained.as_slice()), err);
-        assert_eq!(rt; text(printed.as_slice()), out);
-        assert_eq!(rt; answered, status);
+        assert_eq!(rt; text(complained.as_slice()), err, "{row:?}");
+        assert_eq!(rt; text(printed.as_slice()), out, "{row:?}");
+        assert_eq!(rt; returned, status, "{row:?}");
     }
 }
 

@@ -1,9 +1,10 @@
 //! Standard output and standard error that fail, or take little at a time.
+use super::args::{HELP, VERSION};
 use super::inputs::{
-    MAP_OF_PAIR, SHOWN_LIBRARY, SUMMARY_IN_PLACE, host, host_in_place, library, linked_in_place,
+    HOST, HOST_IN_PLACE, LIBRARY, LINKED_HOST_IN_PLACE, MAP_OF_PAIR, SHOWN_LIBRARY,
+    SUMMARY_IN_PLACE,
 };
 use super::outcome::{clean, text};
-use super::words::{HELP, VERSION};
 use super::writers::{Limited, Stuck};
 use crate::running::run;
 use std::fs;
@@ -15,9 +16,9 @@ static NO_OUTPUT: &str = "pslink: cannot write standard output\n";
 
 #[test]
 fn standard_output_that_fails(rt: HostRuntime) -> Result<(), Fail> {
-    fs::write(&rt, "stuck-in-place", host_in_place(rt.alloc())?.as_slice())?;
-    fs::write(&rt, "stuck-host", host(rt.alloc())?.as_slice())?;
-    fs::write(&rt, "stuck-library", library(rt.alloc())?.as_slice())?;
+    HOST_IN_PLACE.save(&rt, "stuck-in-place")?;
+    HOST.save(&rt, "stuck-host")?;
+    LIBRARY.save(&rt, "stuck-library")?;
     let link = ["pslink", "link", "stuck-in-place", "stuck-out"];
     let map = ["pslink", "map", "stuck-host", "stuck-library"];
     let show = ["pslink", "show", "stuck-library"];
@@ -28,46 +29,49 @@ fn standard_output_that_fails(rt: HostRuntime) -> Result<(), Fail> {
         show.as_slice(),
         help.as_slice(),
     ];
-    for words in commands {
+    for args in commands {
         for stuck in [Stuck::Broken, Stuck::TakesNothing, Stuck::Interrupted] {
             let mut out = stuck;
             let mut err = Vec::new(rt.alloc());
-            let status = run(&rt, rt.alloc(), words, &mut out, &mut err);
-            assert_eq!(rt; status, 3, "{stuck:?}");
-            assert_eq!(rt; text(err.as_slice()), NO_OUTPUT);
+            let status = run(&rt, rt.alloc(), args, &mut out, &mut err);
+            assert_eq!(rt; status, 3, "{args:?} {stuck:?}");
+            assert_eq!(rt; text(err.as_slice()), NO_OUTPUT, "{args:?} {stuck:?}");
         }
     }
     // The linked file was written before the line that tells of it.
     let made = fs::read(&rt, "stuck-out")?;
-    assert_eq!(rt; made.as_slice(), linked_in_place(rt.alloc())?.as_slice());
+    assert_eq!(rt;
+        made.as_slice(),
+        LINKED_HOST_IN_PLACE.bytes(rt.alloc())?.as_slice()
+    );
     let files = ["stuck-in-place", "stuck-host", "stuck-library", "stuck-out"];
     clean(&rt, files.as_slice());
     Ok(())
 }
 
-/// Has each write of the words' text fail in turn, until none fails: how many failed. A write takes `most` bytes. What was
+/// Has each write of the args' text fail in turn, until none fails: how many failed. A write takes `most` bytes. What was
 /// taken is a prefix of the text, and all of it only where the status is 0.
 fn failing_prints<R: Files + AllocGlobal + Abort>(
     rt: &R,
-    words: &[&str],
+    args: &[&str],
     most: usize,
     wanted: &str,
 ) -> u64 {
     for writes in 0..1000 {
         let mut out = Limited::new(rt.alloc(), most, writes);
         let mut err = Vec::new(rt.alloc());
-        let status = run(rt, rt.alloc(), words, &mut out, &mut err);
+        let status = run(rt, rt.alloc(), args, &mut out, &mut err);
         let taken = text(out.taken.as_slice());
         if status == 0 {
-            assert_eq!(rt; taken, wanted);
+            assert_eq!(rt; taken, wanted, "{args:?} by {most}");
             assert_eq!(rt; text(err.as_slice()), "");
             return writes;
         }
-        assert_eq!(rt; status, 3, "at {writes}");
+        assert_eq!(rt; status, 3, "{args:?} at {writes}");
         assert_eq!(rt; text(err.as_slice()), NO_OUTPUT);
         assert!(rt;
             wanted.starts_with(taken) && taken.len() < wanted.len(),
-            "at {writes}"
+            "{args:?} at {writes}"
         );
     }
     1000
@@ -75,13 +79,9 @@ fn failing_prints<R: Files + AllocGlobal + Abort>(
 
 #[test]
 fn each_write_of_a_text_fails(rt: HostRuntime) -> Result<(), Fail> {
-    fs::write(
-        &rt,
-        "prints-in-place",
-        host_in_place(rt.alloc())?.as_slice(),
-    )?;
-    fs::write(&rt, "prints-host", host(rt.alloc())?.as_slice())?;
-    fs::write(&rt, "prints-library", library(rt.alloc())?.as_slice())?;
+    HOST_IN_PLACE.save(&rt, "prints-in-place")?;
+    HOST.save(&rt, "prints-host")?;
+    LIBRARY.save(&rt, "prints-library")?;
     let link = ["pslink", "link", "prints-in-place", "prints-out"];
     let map = ["pslink", "map", "prints-host", "prints-library"];
     let show = ["pslink", "show", "prints-library"];
@@ -94,10 +94,14 @@ fn each_write_of_a_text_fails(rt: HostRuntime) -> Result<(), Fail> {
         (help.as_slice(), HELP),
         (version.as_slice(), VERSION),
     ];
-    for (words, wanted) in texts {
+    for (args, wanted) in texts {
         for most in [1, 7, 4096] {
-            let failed = failing_prints(&rt, words, most, wanted);
-            assert_eq!(rt; failed, wanted.len().div_ceil(most) as u64, "{most}");
+            let failed = failing_prints(&rt, args, most, wanted);
+            assert_eq!(rt;
+                failed,
+                wanted.len().div_ceil(most) as u64,
+                "{args:?} by {most}"
+            );
         }
     }
     let files = [
@@ -123,13 +127,13 @@ fn standard_error_that_fails(rt: HostRuntime) {
         (show.as_slice(), 3),
         (usage.as_slice(), 2),
     ];
-    for (words, wanted) in commands {
+    for (args, wanted) in commands {
         for stuck in [Stuck::Broken, Stuck::TakesNothing, Stuck::Interrupted] {
             let mut out = Vec::new(rt.alloc());
             let mut err = stuck;
-            let status = run(&rt, rt.alloc(), words, &mut out, &mut err);
-            assert_eq!(rt; status, wanted, "{stuck:?}");
-            assert!(rt; out.is_empty());
+            let status = run(&rt, rt.alloc(), args, &mut out, &mut err);
+            assert_eq!(rt; status, wanted, "{args:?} {stuck:?}");
+            assert!(rt; out.is_empty(), "{args:?} {stuck:?}");
         }
     }
 }

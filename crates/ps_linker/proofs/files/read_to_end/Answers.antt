@@ -18,6 +18,6 @@ returns-then-n-eq0-clause-whole g c =
 pub read-preserved : goal.read-preserved
 read-preserved g c =
     let all = c.read.all.items in
-    let front = take c.in-Ok.n c.read-in-read.new.buf in
-    let grown : c.extend_from_slice.new.self.items ≡ all ++ front = search rules in
-    (search rules, subst (Consumes _ _) (sym grown) (Consumes-trans _ _ _ all front c.read.invariant.1 c.in-Ok.ensures.bytes.0))
+    let taken = take c.in-Ok.n c.read-in-read.new.buf in
+    let grown : c.extend_from_slice.new.self.items ≡ all ++ taken = search rules in
+    (search rules, subst (Consumes _ _) (sym grown) (Consumes-trans _ _ _ all taken c.read.invariant.1 c.in-Ok.ensures.bytes.0))

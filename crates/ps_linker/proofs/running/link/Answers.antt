@@ -19,7 +19,7 @@ returns-clause-ok g c =
     let libs_read : AllZip Read paths libs = subst (λ (ls : List (List ℕ)). AllZip Read paths ls) (sym seen) (rw c.as_slice.ensures.value c.in_ok-host.ensures.libraries) in
     let host_read : Read path host = subst (λ (bytes : List ℕ). Read path bytes) (sym c.as_slice-2.ensures.value) c.in_ok-host.ensures.host in
     let stands = c.in_ok-linked.ensures.linked in
-    let summary : c.in_ok-summary.summary ≡ summary_of host libs = c.in_ok-summary.ensures ∙ stands.summary in
+    let summary : c.in_ok-summary.summary ≡ summary_of host libs = c.in_ok-summary.ensures.ok ∙ stands.summary in
     let line : c.as_bytes.result.now ≡ summary_line c.in_ok-summary.summary = search rules in
     on_ok_weaker c.print.result (λ printed. (
       host,

@@ -1,0 +1,226 @@
+//! The args of the command line: help, version and wrong usage.
+use super::outcome::done;
+
+pub const VERSION: &str = "pslink 0.1.0\n";
+
+pub const HELP: &str = "The Linker of UCSD Pascal II.0 for Pascal hosts and units
+
+Usage: pslink <COMMAND>
+
+Commands:
+  link  Links a host with the units that it names, and writes the linked file
+  map   Prints where a link would put each segment and private, and writes no file
+  show  Prints the segments of one code file and the link information of each
+  help  Print this message or the help of the given subcommand(s)
+
+Options:
+  -h, --help     Print help
+  -V, --version  Print version
+
+Example:
+  pslink link host.code linked.code library.code
+
+Exit status:
+  0  the command was done
+  1  the files are refused
+  2  wrong usage
+  3  a file could not be read or written, or standard output failed
+  4  out of memory
+
+A name that begins with a dash is given as ./-name, or after --. See pslink(1).
+";
+
+const LINK_HELP: &str = "Links a host with the units that it names, and writes the linked file
+
+Usage: pslink link <HOST> <OUT> [LIB]...
+
+Arguments:
+  <HOST>    The code file that holds the host program
+  <OUT>     The code file to write; it may be HOST
+  [LIB]...  A library in which units are sought, in the order given
+
+Options:
+  -h, --help  Print help
+
+Example:
+  pslink link host.code linked.code library.code
+
+OUT is opened once all is read and checked, and is written in place. A write that
+fails leaves its first part; where OUT is HOST, the host is then lost. To be safe:
+  pslink link host.code host.new library.code &&
+      mv host.new host.code
+The second file is always OUT: where it is forgotten, the first LIB is taken for it,
+and is overwritten if the link succeeds. With /dev/stdout as OUT the summary and the
+file are mixed: use /dev/fd/3 and 3>&1. A file is read from a pipe as /dev/stdin.
+
+Exit status:
+  0  the command was done
+  1  the files are refused
+  2  wrong usage
+  3  a file could not be read or written, or standard output failed
+  4  out of memory
+
+A name that begins with a dash is given as ./-name, or after --. See pslink(1).
+";
+
+const MAP_HELP: &str = "Prints where a link would put each segment and private, and writes no file
+
+Usage: pslink map <HOST> [LIB]...
+
+Arguments:
+  <HOST>    The code file that holds the host program
+  [LIB]...  A library in which units are sought, in the order given
+
+Options:
+  -h, --help  Print help
+
+Example:
+  pslink map host.code library.code
+
+Exit status:
+  0  the map was printed
+  1  the files are refused
+  2  wrong usage
+  3  a file could not be read, or standard output failed
+  4  out of memory
+
+A name that begins with a dash is given as ./-name, or after --. See pslink(1).
+";
+
+const SHOW_HELP: &str = "Prints the segments of one code file and the link information of each
+
+Usage: pslink show <FILE>
+
+Arguments:
+  <FILE>  The code file to show: a host, a library, or a linked file
+
+Options:
+  -h, --help  Print help
+
+Example:
+  pslink show library.code
+
+Exit status:
+  0  the segments were printed
+  1  the file is refused
+  2  wrong usage
+  3  the file could not be read, or standard output failed
+  4  out of memory
+
+A name that begins with a dash is given as ./-name, or after --. See pslink(1).
+";
+
+const NO_ARGS: &str = "error: 'pslink' requires a subcommand but one was not provided
+  [subcommands: link, map, show, help]
+
+Usage: pslink <COMMAND>
+
+For more information, try '--help'.
+";
+
+const NO_COMMAND: &str = "error: unrecognized subcommand 'frob'
+
+Usage: pslink <COMMAND>
+
+For more information, try '--help'.
+";
+
+const NO_OUT: &str = "error: the following required arguments were not provided:
+  <OUT>
+
+Usage: pslink link <HOST> <OUT> [LIB]...
+
+For more information, try '--help'.
+";
+
+const NO_HOST: &str = "error: the following required arguments were not provided:
+  <HOST>
+
+Usage: pslink map <HOST> [LIB]...
+
+For more information, try '--help'.
+";
+
+const NO_FILE: &str = "error: the following required arguments were not provided:
+  <FILE>
+
+Usage: pslink show <FILE>
+
+For more information, try '--help'.
+";
+
+const TWO_FILES: &str = "error: unexpected argument 'b' found
+
+Usage: pslink show <FILE>
+
+For more information, try '--help'.
+";
+
+const OUT_IS_LIBRARY: &str = "error: invalid value 'b' for '<OUT>': it is named as a library too
+
+Usage: pslink link <HOST> <OUT> [LIB]...
+
+For more information, try '--help'.
+";
+
+const NOT_THERE: &str = "pslink: cannot read not-there\n";
+
+/// Args, and the status and the two texts that they give. HOST may be OUT or a library, and no file of these is there.
+static ROWS: [(&[&str], u8, &str, &str); 24] = [
+    (&["pslink", "--help"], 0, HELP, ""),
+    (&["pslink", "-h"], 0, HELP, ""),
+    (&["pslink", "link", "--help"], 0, LINK_HELP, ""),
+    (&["pslink", "map", "--help"], 0, MAP_HELP, ""),
+    (&["pslink", "show", "--help"], 0, SHOW_HELP, ""),
+    (&["pslink", "--version"], 0, VERSION, ""),
+    (&["pslink", "help"], 0, HELP, ""),
+    (&["pslink", "help", "link"], 0, LINK_HELP, ""),
+    (&["pslink", "help", "map"], 0, MAP_HELP, ""),
+    (&["pslink", "help", "show"], 0, SHOW_HELP, ""),
+    (&["pslink", "help", "frob"], 2, "", NO_COMMAND),
+    (&["pslink"], 2, "", NO_ARGS),
+    (&[], 2, "", NO_ARGS),
+    (&["pslink", "frob"], 2, "", NO_COMMAND),
+    (&["pslink", "link", "host"], 2, "", NO_OUT),
+    (&["pslink", "map"], 2, "", NO_HOST),
+    (&["pslink", "show"], 2, "", NO_FILE),
+    (&["pslink", "show", "a", "b"], 2, "", TWO_FILES),
+    (&["pslink", "link", "a", "b", "b"], 2, "", OUT_IS_LIBRARY),
+    (
+        &["pslink", "link", "a", "b", "c", "d", "b"],
+        2,
+        "",
+        OUT_IS_LIBRARY,
+    ),
+    (
+        &["pslink", "link", "b", "b", "c", "b", "c"],
+        2,
+        "",
+        OUT_IS_LIBRARY,
+    ),
+    (
+        &["pslink", "link", "not-there", "not-there", "b"],
+        3,
+        "",
+        NOT_THERE,
+    ),
+    (
+        &["pslink", "link", "not-there", "b", "not-there"],
+        3,
+        "",
+        NOT_THERE,
+    ),
+    (
+        &["pslink", "link", "not-there", "b", "./b", "B", "bb"],
+        3,
+        "",
+        NOT_THERE,
+    ),
+];
+
+#[test]
+fn args_are_taken_or_are_wrong_usage(rt: HostRuntime) {
+    for (args, status, out, err) in ROWS.iter() {
+        done(&rt, *args).is(&rt, *args, *status, *out, *err);
+    }
+}
