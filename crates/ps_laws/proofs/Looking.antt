@@ -1,28 +1,12 @@
 -- Tests of items, and what they decide.
-use Rattle.std.proofs.Common.{◌≡◌, ℕ, zero, suc, ◌<◌, List, [], ◌∷◌, take, Some, None, Bool, true, false, refl, sym, ap, subst, ◌∙◌, inl, inr, arith, is_none}
+use Rattle.std.proofs.Common.{◌≡◌, ℕ, zero, suc, ◌<◌, List, [], ◌∷◌, Some, None, Bool, true, false, refl, sym, ap, subst, ◌∙◌, inl, inr, arith, is_none}
 use Rattle.std.specs.Prelude.{◌⊎◌, if◌then◌else◌, not, ◌||◌}
 use Rattle.std.specs.Bool.{Decides}
 use Rattle.std.specs.List.{slice_get, list_any, find}
 use Rattle.std.proofs.lemmas.Bool.{false≢true}
 use Rattle.std.proofs.lemmas.Bool.Decides.{Decides-or, Decides-like}
-use Rattle.ps_resolve.specs.Standing.Phrases.{SomeBelow, SomeItem}
-
-pub of_test : (b : Bool) → Decides b (b ≡ true)
-of_test b = (λ e. e, λ e. e)
-
--- a test of the items of a front
-pub any_of_take : {A : Type 0} (test : A → Bool) (P : A → Type 0) → ((a : A) → Decides (test a) (P a)) → (n : ℕ) (items : List A) → Decides (list_any test (take n items)) (SomeBelow n (λ i. (q : A) × (slice_get items i ≡ Some q) × P q))
-any_of_take test P d zero items = (λ e. absurd (false≢true e), λ t. absurd (omega (arith, t.1)))
-any_of_take test P d (suc n) [] = (λ e. absurd (false≢true e), λ t. absurd (let e = t.2.1 in cc))
-any_of_take {A} test P d (suc n) (a ∷ items) =
-    Decides-like (test a || list_any test (take n items))
-    (elim [ inl p ↦ (zero, omega arith, (a, refl, p)) | inr t ↦ (suc t.0, omega (arith, t.1), (t.2.0, t.2.1, t.2.2)) ])
-    (λ t. go t.0 t.2.0 t.1 t.2.1 t.2.2)
-    (Decides-or (test a) (list_any test (take n items)) (d a) (any_of_take test P d n items))
-  where
-    go : (i : ℕ) (q : A) → i < suc n → slice_get (a ∷ items) i ≡ Some q → P q → P a ⊎ SomeBelow n (λ i. (q : A) × (slice_get items i ≡ Some q) × P q)
-    go zero q h e p = inl (subst P (cc) p)
-    go (suc i) q h e p = inr (i, omega (arith, h), (q, e, p))
+use Rattle.ps_resolve.specs.Standing.Phrases.{SomeItem}
+pub use Rattle.ps_resolve.proofs.LookingBack.{of_test, any_of_take}
 
 pub any_of_items : {A : Type 0} (test : A → Bool) (P : A → Type 0) → ((a : A) → Decides (test a) (P a)) → (items : List A) → Decides (list_any test items) (SomeItem items (λ i q. P q))
 any_of_items test P d [] = (λ e. absurd (false≢true e), λ t. absurd (let e = t.2 in cc))

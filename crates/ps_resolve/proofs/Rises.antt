@@ -50,7 +50,7 @@ all_behind a b (p ∷ ps) (suc k) d h lt =
     let x = get_or ps k d in chained a b p.slot p.rec x.slot x.rec h.0 (all_behind p.slot (p.rec + 1) ps k d h.1 (omega arith))
 
 -- any later one is of a later record
-behind : (a b : ℕ) (ps : List Private) (i j : ℕ) (d : Private) → RiseFrom a b ps → i < j → j < length ps → is_from (get_or ps i d).slot ((get_or ps i d).rec + 1) (get_or ps j d) ≡ true
+pub behind : (a b : ℕ) (ps : List Private) (i j : ℕ) (d : Private) → RiseFrom a b ps → i < j → j < length ps → is_from (get_or ps i d).slot ((get_or ps i d).rec + 1) (get_or ps j d) ≡ true
 behind a b [] i j d h le lt = absurd (omega arith)
 behind a b (p ∷ ps) zero zero d h le lt = absurd (omega arith)
 behind a b (p ∷ ps) zero (suc j) d h le lt = all_behind p.slot (p.rec + 1) ps j d h.1 (omega arith)

@@ -22,3 +22,4 @@ pub mod Linkable
 pub mod Names
 pub mod Starts
 pub mod LinkedBytes
+pub mod Builders

@@ -1,6 +1,6 @@
 -- A linked byte, said plainly: which place of a segment has the number of its slot, which have the data size of the host's outer block, which have what a reference becomes, and which keep their input's byte.
 -- Source: the link records and the data size of the outer block are those of the published II.0 Linker source, and BIG operands those of the UCSD Pascal II.0 manual; the order of the privates is this project's profile.
-use Rattle.std.specs.Prelude.{◌≡◌, ℕ, ◌+◌, ◌-◌, ◌<◌, if◌then◌else◌, List, [], ◌∷◌, ◌++◌, length, map, slice_get, slice_index, sum_by, true, Some, All}
+use Rattle.std.specs.Prelude.{◌≡◌, ℕ, ◌+◌, ◌-◌, ◌<◌, if◌then◌else◌, List, [], ◌∷◌, ◌++◌, length, map, slice_get, slice_index, true, Some, All}
 use Rattle.std.specs.List.{flat_map, enumerate_from}
 use Rattle.ps_words.specs.Words.{word_bytes, operand_bytes, displacement_at}
 use Rattle.ps_words.specs.declared.order.Order.{Order}
@@ -17,7 +17,7 @@ use Rattle.ps_linkinfo.specs.declared.record.Body.{Body}
 use Rattle.ps_linkinfo.specs.declared.record.Body.TheVariants.{UnitRef, PublRef, PrivRef, PublDef, ConstDef, Eof}
 use Rattle.ps_linkinfo.specs.declared.record.LinkRecord.{LinkRecord as Record}
 use Rattle.ps_resolve.specs.Sources.{Segment, order_of, is_linked, is_host, is_unit, host_records}
-use Rattle.ps_resolve.specs.References.{words_taken, record_edits}
+use Rattle.ps_resolve.specs.References.{words_taken_by, record_edits}
 use Rattle.ps_resolve.specs.Linking.{Edited, edited, known_of, data_edits, grown_data_size, linked_byte}
 
 -- reference i of record r, the segment's record `rec`, has its operand at x
@@ -46,7 +46,7 @@ IsBase segs base = (rec : ℕ) × (r : Record) × IsHostRecord segs rec r × (r.
 
 -- the words of the privates of all segments
 abbrev pub all_private_words : List Segment → ℕ
-all_private_words segs = sum_by (λ r. words_taken r.body) (flat_map (λ s. s.records) segs)
+all_private_words segs = words_taken_by (flat_map (λ s. s.records) segs)
 
 -- The bytes that the operand at x of record `rec` becomes:
 --   of a UNITREF the slot of the unit of its name;

@@ -1,6 +1,6 @@
 -- The references of a segment: what their operands become, and the first fault of them.
 -- Source: the link records UNITREF, PUBLREF and PRIVREF are those of the published II.0 Linker source; which fault comes first is this project's profile.
-use Rattle.std.specs.Prelude.{◌≡◌, ℕ, ◌+◌, List, [], ◌∷◌, ◌++◌, map, Bool, Option, Some, None, Result, Ok, Err, ⊤}
+use Rattle.std.specs.Prelude.{◌≡◌, ℕ, ◌+◌, List, [], ◌∷◌, ◌++◌, map, Bool, Option, Some, None, Result, Ok, Err, ⊤, sum_by}
 use Rattle.std.specs.Option.{option_map, option_or}
 use Rattle.std.specs.Map.{lookup}
 use Rattle.std.specs.Str.{bytes_eq}
@@ -50,6 +50,10 @@ target_of known off r = target_in known off r.name r.body
 -- how many words a record's private takes
 abbrev pub words_taken : Body → ℕ
 words_taken body = unwrap_or (words_in body) 0
+
+-- how many words the privates of records take
+abbrev pub words_taken_by : List Record → ℕ
+words_taken_by rs = sum_by (λ r. words_taken r.body) rs
 
 -- The first fault of the records, the first of which has number `rec`, behind references with the operands `taken`.
 abbrev pub records_fault : Known → (ℕ → Bool) → List ℕ → ℕ → ℕ → List (ℕ × ℕ) → List Record → Option (ℕ × (Option ℕ × Reason))

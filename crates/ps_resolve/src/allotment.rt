@@ -7,6 +7,7 @@ ghost use Rattle.ps_linkinfo.specs.Counts.{digest_of, privates_in};
 ghost use Rattle.ps_resolve.specs.declared.linkage.Stop.TheVariants.{Refused, Memory};
 ghost use Rattle.ps_linkinfo.specs.Records.{reading};
 ghost use Rattle.ps_resolve.specs.Privates.{words_in, allotted, private_words, private_fault, all_allotted, all_words, first_private_fault, owner_of_linkage, allotment_of, IsUnallotted, AreUnallotted, Owner};
+ghost use Rattle.ps_resolve.specs.Builders.{HaveOwnNames, HaveRoom, StopsPrivates, asked_of, all_asked, AreByRecord, words_of_all};
 
 use crate::linkage::{Linkage, Stop};
 use crate::name_hasher::NameHasher;
@@ -170,6 +171,14 @@ impl<A: Allocator + Copy> Allotment<A> {
     /// Source: this project's profile.
     pub fn build(alloc: A, next: u16, segments: &[Linkage]) -> Result<Self, Stop>
         requires { AscendFrom 0 (map (λ s. s.slot) (map owner_of_linkage segments.now)) }
+        ensures names { IfOk result (λ _. HaveOwnNames (map owner_of_linkage segments.now)) }
+        ensures room { IfOk result (λ _. HaveRoom next (map owner_of_linkage segments.now)) }
+        ensures refused { IfErr result (StopsPrivates next (map owner_of_linkage segments.now)) }
+        ensures asked { IfOk result (λ a. map asked_of a.privates ≡ all_asked (map owner_of_linkage segments.now)) }
+        ensures rising { IfOk result (λ a. AreByRecord a.privates) }
+        ensures follow { IfOk result (λ a. FollowOn next a.privates) }
+        ensures total { IfOk result (λ a. a.words ≡ words_of_all a.privates) }
+        ensures end { IfOk result (λ a. a.next_free ≡ next + words_of_all a.privates) }
         ensures found { IfOk result (λ a. a ≡ allotment_of next (map owner_of_linkage segments.now)) }
         ensures once { IfOk result (λ _. first_private_fault next (map owner_of_linkage segments.now) ≡ None) }
         ensures stop { IfErr result (AreUnallotted next (map owner_of_linkage segments.now)) }

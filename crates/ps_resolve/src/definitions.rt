@@ -4,6 +4,8 @@ ghost use Rattle.ps_linkinfo.specs.Counts.{digest_of};
 ghost use Rattle.ps_linkinfo.specs.Records.{reading};
 ghost use Rattle.ps_resolve.specs.Symbols.{definitions, definition_of, def_in, doubled};
 ghost use Rattle.ps_resolve.specs.Stops.{IsDoubled};
+ghost use Rattle.ps_resolve.specs.Builders.{HaveNoNamesakes, StopsDefinitions};
+ghost use Rattle.ps_linkinfo.specs.Counts.{is_definition};
 
 use crate::linkage::{Linkage, Stop};
 use crate::name_hasher::NameHasher;
@@ -106,6 +108,8 @@ impl<A: Allocator + Copy> Definitions<A> {
     /// Source: the published II.0 Linker source; that a name is defined once is this project's profile.
     pub fn build(alloc: A, host: &Linkage) -> Result<Self, Stop>
         ensures found { IfOk result (λ d. d ≡ definitions (reading host.now.order host.now.bytes.now).0) }
+        ensures names { IfOk result (λ _. HaveNoNamesakes is_definition (reading host.now.order host.now.bytes.now).0) }
+        ensures refused { IfErr result (StopsDefinitions host.now.file host.now.slot (reading host.now.order host.now.bytes.now).0) }
         ensures once { IfOk result (λ _. doubled (reading host.now.order host.now.bytes.now).0 ≡ None) }
         ensures stop { IfErr result (IsDoubled host.now.file host.now.slot (reading host.now.order host.now.bytes.now).0) }
     {

@@ -1,11 +1,11 @@
 -- Faults of the private variables, and where each of them lies.
 -- Source: this project's profile.
-use Rattle.std.specs.Prelude.{sum_by, nat_lt, ◌==◌, ◌≡◌, ℕ, ◌+◌, ◌<◌, List, [], take, true, if◌then◌else◌}
+use Rattle.std.specs.Prelude.{nat_lt, ◌==◌, ◌≡◌, ℕ, ◌+◌, ◌<◌, List, [], take, true, if◌then◌else◌}
 use Rattle.ps_linkinfo.specs.declared.record.LinkRecord.{LinkRecord as Record}
 use Rattle.ps_resolve.specs.Sources.{Segment, host_records}
 use Rattle.ps_resolve.specs.Added.{segments}
 use Rattle.ps_linkinfo.specs.Counts.{next_of, is_private_reference}
-use Rattle.ps_resolve.specs.References.{words_taken}
+use Rattle.ps_resolve.specs.References.{words_taken, words_taken_by}
 use Rattle.ps_words.specs.FaultPlaces.{in_record}
 use Rattle.ps_words.specs.declared.order.Order.{Order}
 use Rattle.ps_words.specs.declared.fault.Reason.{Reason}
@@ -22,7 +22,7 @@ records_before slot rec s = if nat_lt s.slot slot then s.records else (if s.slot
 
 -- the words of all privates before record `rec` of slot `slot`, by slot and then by record
 abbrev pub words_before : List Segment → ℕ → ℕ → ℕ
-words_before segs slot rec = sum_by (λ r. words_taken r.body) (flat_map (records_before slot rec) segs)
+words_before segs slot rec = words_taken_by (flat_map (records_before slot rec) segs)
 
 -- the offset of the private of record `rec` in slot `slot`: the base offset of the host's end mark, and the words of all privates before it
 abbrev pub private_offset : List Segment → ℕ → ℕ → ℕ

@@ -1,0 +1,367 @@
+-- What the builders of definitions and of allotments say of their refusals, by looking back; and how the privates of an allotment stand.
+use Rattle.std.proofs.Common.{◌≡◌, ℕ, zero, suc, ◌+◌, ◌<◌, ◌≤◌, List, [], ◌∷◌, ◌++◌, length, length-append, take, map, get_or, Option, Some, None, Bool, true, false, refl, sym, ap, subst, ◌∙◌, inl, inr, arith, append_assoc, is_some}
+use Rattle.std.specs.Prelude.{◌==◌, ◌&&◌, ◌||◌, nat_le, nat_lt}
+use Rattle.std.specs.Bool.{Decides}
+use Rattle.std.specs.List.{cons_option, enumerate_from, filter_map, slice_get, flat_map}
+use Rattle.std.specs.Option.{option_map, option_or}
+use Rattle.std.proofs.lemmas.Bool.{cases_lt, false≢true}
+use Rattle.std.proofs.lemmas.Bool.Decides.{Decides-and, Decides-ltb, nat_tests}
+use Rattle.std.proofs.lemmas.List.{map-append}
+use Rattle.std.proofs.lemmas.List.Sums.{sum_by-append, sum_by-cons}
+use Rattle.std.proofs.lemmas.Option.{get_or_from_slice_get, slice_get_within}
+use Rattle.ps_linkinfo.specs.declared.record.LinkRecord.{LinkRecord as Record}
+use Rattle.ps_words.specs.FaultPlaces.{in_record}
+use Rattle.ps_words.specs.declared.fault.Fault.{Fault}
+use Rattle.ps_words.specs.declared.fault.Reason.{Reason}
+use Rattle.ps_words.specs.declared.fault.Reason.TheVariants as reason
+use Rattle.ps_resolve.specs.First.{Before}
+use Rattle.ps_resolve.specs.Searches.{first_of, fault_if}
+use Rattle.ps_resolve.specs.Symbols.{def_in, definitions, doubled}
+use Rattle.ps_resolve.specs.Privates.{Owner, words_in, allotted, private_words, private_fault, all_allotted, all_words, first_private_fault, AreUnallotted}
+use Rattle.ps_resolve.specs.Offsets.{RiseFrom}
+use Rattle.ps_resolve.specs.Standing.Phrases.{SomeItem}
+use Rattle.ps_resolve.specs.Standing.Definitions.{HasEarlierNamesake}
+use Rattle.ps_linkinfo.specs.Counts.{is_definition, is_private_reference}
+use Rattle.ps_resolve.specs.References.{words_taken, words_taken_by}
+use Rattle.ps_resolve.specs.Stops.{IsDoubled}
+use Rattle.ps_resolve.specs.Builders.{HaveNoNamesakes, StopsDefinitions, offset_at, HaveOwnNames, HaveRoom, IsUnfit, IsFirstUnfit, StopsPrivates, Asked, asked_in, all_asked, asked_of, AreByRecord, words_of_all}
+use Rattle.ps_resolve.specs.declared.allotment.Private.{Private}
+use Rattle.ps_resolve.specs.declared.definitions.Def.{Def}
+use Rattle.ps_resolve.specs.declared.linkage.Stop.{Stop}
+use Rattle.ps_resolve.specs.declared.linkage.Stop.TheVariants.{Refused, Memory}
+use Rattle.ps_resolve.proofs.LookingBack.{is_again, again, take_front, longer, of_test, defines_is, asks_is, definitions_carried, reason_at, record_fault, privates_carried}
+use Rattle.ps_resolve.proofs.Allots.{skip_privates}
+use Rattle.ps_resolve.proofs.Doubles.{none_entries}
+use Rattle.ps_resolve.proofs.Rises.{behind}
+
+-- the first that f gives of a list's items and their numbers
+record Given {A X : Type 0} (f : ℕ × A → Option X) (n : ℕ) (items : List A) (x : X) : Type 0 where
+  at : ℕ
+  item : A
+  there : slice_get items at ≡ Some item
+  gives : (k : ℕ) → k ≡ n + at → f (k, item) ≡ Some x
+  before : (j k : ℕ) (b : A) → j < at → k ≡ n + j → slice_get items j ≡ Some b → f (k, b) ≡ None
+
+-- where it gives none of any, it gives none of each
+none_given : {A X : Type 0} (f : ℕ × A → Option X) (n : ℕ) (items : List A) → first_of f (enumerate_from n items) ≡ None → (i k : ℕ) (a : A) → k ≡ n + i → slice_get items i ≡ Some a → f (k, a) ≡ None
+none_given f n [] h i k a is e = absurd (cc)
+none_given {A} {X} f n (b ∷ items) h i k a is e = go (f (n, b)) refl h (λ rest j is e. none_given f (n + 1) items rest j k a is e) i is e
+  where
+    go : (o : Option X) → f (n, b) ≡ o → option_or o (first_of f (enumerate_from (n + 1) items)) ≡ None
+        → (first_of f (enumerate_from (n + 1) items) ≡ None → (j : ℕ) → k ≡ n + 1 + j → slice_get items j ≡ Some a → f (k, a) ≡ None)
+        → (i : ℕ) → k ≡ n + i → slice_get (b ∷ items) i ≡ Some a → f (k, a) ≡ None
+    go (Some x) g h later i is e = absurd (cc)
+    go None g h later zero is e = subst (λ (m : ℕ). f (m, a) ≡ None) (omega (arith, is)) (subst (λ (c : A). f (n, c) ≡ None) (cc) g)
+    go None g h later (suc i) is e = later h i (omega (arith, is)) e
+
+-- what it gives of some is what it gives of one, and it gives none of those before
+some_given : {A X : Type 0} (f : ℕ × A → Option X) (n : ℕ) (items : List A) (x : X) → first_of f (enumerate_from n items) ≡ Some x → Given f n items x
+some_given f n [] x h = absurd (cc)
+some_given {A} {X} f n (a ∷ items) x h = go (f (n, a)) refl h (λ e. some_given f (n + 1) items x e)
+  where
+    go : (o : Option X) → f (n, a) ≡ o → option_or o (first_of f (enumerate_from (n + 1) items)) ≡ Some x
+        → (first_of f (enumerate_from (n + 1) items) ≡ Some x → Given f (n + 1) items x) → Given f n (a ∷ items) x
+    go (Some y) g h rest = record {
+      at = zero;
+      item = a;
+      there = refl;
+      gives = λ k is. subst (λ (m : ℕ). f (m, a) ≡ Some x) (omega (arith, is)) (g ∙ h);
+      before = λ j k b lt is e. absurd (omega (arith, lt));
+    }
+    go None g h rest =
+        let later = rest h in
+        record {
+          at = suc later.at;
+          item = later.item;
+          there = later.there;
+          gives = λ k is. later.gives k (omega (arith, is));
+          before = earlier later;
+        }
+      where
+        earlier : (later : Given f (n + 1) items x) → (j k : ℕ) (b : A) → j < suc later.at → k ≡ n + j → slice_get (a ∷ items) j ≡ Some b → f (k, b) ≡ None
+        earlier later zero k b lt is e = subst (λ (m : ℕ). f (m, b) ≡ None) (omega (arith, is)) (subst (λ (c : A). f (n, c) ≡ None) (cc) g)
+        earlier later (suc j) k b lt is e = later.before j k b (omega (arith, lt)) (omega (arith, is)) e
+
+-- a fault that is there where P holds
+not_there : {X P : Type 0} (b : Bool) (x : X) → Decides b P → fault_if b x ≡ None → P → ⊥
+not_there true x d h p = absurd (cc)
+not_there false x d h p = false≢true (d.1 p)
+
+is_there : {X P : Type 0} (b : Bool) (x y : X) → Decides b P → fault_if b x ≡ Some y → P × (y ≡ x)
+is_there true x y d h = (d.0 refl, cc)
+is_there false x y d h = absurd (cc)
+
+-- 1. definitions
+module _ (file slot : ℕ) (rs : List Record) where
+  abbrev told : ℕ → Fault
+  told rec = in_record file slot rec reason.DoubledDefinition
+
+  abbrev again_fault : ℕ × Record → Option Fault
+  again_fault r = fault_if (is_again is_definition rs r) (told r.0)
+
+  -- the search that carries the definitions so far, from the first record on
+  looking_back : option_map told (doubled rs) ≡ first_of again_fault (enumerate_from 0 rs)
+  looking_back = definitions_carried told [] rs 0 refl
+
+  pub defined_once : doubled rs ≡ None → HaveNoNamesakes is_definition rs
+  defined_once once rec r there is =
+      not_there (is_again is_definition rs (rec, r)) (told rec) (again is_definition rs rec r)
+      (none_given again_fault 0 rs (sym looking_back ∙ ap (option_map told) once) rec rec r (omega arith) there) is
+
+  pub not_defined : (stop : Stop) → IsDoubled file slot rs stop → StopsDefinitions file slot rs stop
+  not_defined (Refused fault) d =
+      let found = some_given again_fault 0 rs fault (sym looking_back ∙ (ap (option_map told) d.1 ∙ ap (λ (f : Fault). Some f) (sym d.2))) in
+      let at = found.at in
+      let here = is_there (is_again is_definition rs (at, found.item)) (told at) fault (again is_definition rs at found.item) (found.gives at (omega arith)) in (
+        at,
+        record {
+          item = found.item;
+          there = found.there;
+          again = here.0;
+          first = λ n r lt there is. not_there (is_again is_definition rs (n, r)) (told n) (again is_definition rs n r) (found.before n n r lt (omega arith) there) is;
+        },
+        here.1,
+      )
+  not_defined Memory d = some_defined rs d
+    where
+      -- where a name is defined, a record defines it
+      some_defined : (qs : List Record) → 0 < length (definitions qs) → SomeItem qs (λ rec r. is_definition r.body ≡ true)
+      some_defined [] h = absurd (omega (arith, h))
+      some_defined (q ∷ qs) h = go (def_in q.body) refl (some_defined qs)
+        where
+          go : (o : Option Def) → def_in q.body ≡ o → (0 < length (definitions qs) → SomeItem qs (λ rec r. is_definition r.body ≡ true)) → SomeItem (q ∷ qs) (λ rec r. is_definition r.body ≡ true)
+          go (Some d) e later = (zero, q, refl, defines_is q.body ∙ ap is_some e)
+          go None e later = let t = later (subst (λ (ds : List (List ℕ × Def)). 0 < length ds) (none_entries 0 [] q qs e) h) in (suc t.0, t.1, t.2, t.3)
+
+-- 2. the words before a record
+one_more : (r : Record) (rs : List Record) → private_words (r ∷ rs) ≡ words_taken r.body + private_words rs
+one_more r rs = go (words_in r.body) refl
+  where
+    go : (w : Option ℕ) → words_in r.body ≡ w → private_words (r ∷ rs) ≡ words_taken r.body + private_words rs
+    go None e = rw (e, private_words, words_taken) (omega arith)
+    go (Some w) e = rw (e, private_words, words_taken) refl
+
+words_are : (rs : List Record) → words_taken_by rs ≡ private_words rs
+words_are [] = refl
+words_are (r ∷ rs) = omega (arith, sum_by-cons (λ (q : Record). words_taken q.body) r rs, words_are rs, one_more r rs)
+
+all_are : (ss : List Owner) → words_taken_by (flat_map (λ q. q.records) ss) ≡ all_words ss
+all_are [] = refl
+all_are (s ∷ ss) = omega (arith, sum_by-append (λ (q : Record). words_taken q.body) s.records (flat_map (λ (q : Owner). q.records) ss), words_are s.records, all_are ss)
+
+one_behind : (front : List Owner) (s : Owner) → all_words (front ++ s ∷ []) ≡ all_words front + private_words s.records
+one_behind [] s = omega arith
+one_behind (q ∷ front) s = omega (arith, one_behind front s)
+
+-- the offset at a record of the first segment behind a front
+offset_is : (base : ℕ) (front : List Owner) (s : Owner) (rest : List Owner) (rec : ℕ) → offset_at base (front ++ s ∷ rest) (length front) s rec ≡ base + all_words front + private_words (take rec s.records)
+offset_is base front s rest rec =
+    let a = ap (λ (qs : List Owner). words_taken_by (flat_map (λ (q : Owner). q.records) qs ++ take rec s.records)) (take_front front (s ∷ rest)) in
+    let b = sum_by-append (λ (q : Record). words_taken q.body) (flat_map (λ (q : Owner). q.records) front) (take rec s.records) in
+    omega (arith, a, b, all_are front, words_are (take rec s.records))
+
+-- 3. privates
+-- what h was made of
+h_none : {A X : Type 0} (h : A → X) (o : Option A) → option_map h o ≡ None → o ≡ None
+h_none h None e = refl
+h_none h (Some a) e = absurd (cc)
+
+h_some : {A X : Type 0} (h : A → X) (o : Option A) (x : X) → option_map h o ≡ Some x → (a : A) × (o ≡ Some a) × (x ≡ h a)
+h_some h None x e = absurd (cc)
+h_some h (Some a) x e = (a, refl, cc)
+
+module _ (base : ℕ) (ss : List Owner) where
+  abbrev record_faults : ℕ × Owner → ℕ × Record → Option Fault
+  record_faults k = record_fault (λ why rec. in_record k.1.file k.1.slot rec why) (λ rec. offset_at base ss k.0 k.1 rec) k.1.records
+
+  abbrev segment_fault : ℕ × Owner → Option Fault
+  segment_fault k = first_of (record_faults k) (enumerate_from 0 k.1.records)
+
+  -- the search that carries the offset so far is the one that looks back over the segments
+  segments_carried : (front rest : List Owner) (n : ℕ) → ss ≡ front ++ rest → n ≡ length front
+      → first_private_fault (base + all_words front) rest ≡ first_of segment_fault (enumerate_from n rest)
+  segments_carried front [] n is e = refl
+  segments_carried front (s ∷ rest) n is e =
+      let start = base + all_words front in
+      let h : Reason → ℕ → Fault = λ why rec. in_record s.file s.slot rec why in
+      let mine : option_map (λ (f : ℕ × Reason). h f.1 f.0) (private_fault 0 start [] s.records) ≡ segment_fault (n, s) =
+      ap (λ (m : ℕ). option_map (λ (f : ℕ × Reason). h f.1 f.0) (private_fault 0 m [] s.records)) (omega arith)
+      ∙ privates_carried h (λ rec. offset_at base ss n s rec) start [] s.records 0 refl
+      (λ rec. ap (λ (qs : List Owner). offset_at base qs n s rec) is ∙ (ap (λ (k : ℕ). offset_at base (front ++ s ∷ rest) k s rec) e ∙ offset_is base front s rest rec)) in
+      let later : first_private_fault (start + private_words s.records) rest ≡ first_of segment_fault (enumerate_from (n + 1) rest) =
+      ap (λ (m : ℕ). first_private_fault m rest) (omega (arith, one_behind front s))
+      ∙ segments_carried (front ++ s ∷ []) rest (n + 1) (is ∙ sym (append_assoc front (s ∷ []) rest)) (omega (arith, longer front s, e)) in
+      ap (λ (o : Option Fault). option_or o (first_private_fault (start + private_words s.records) rest)) mine ∙ ap (option_or (segment_fault (n, s))) later
+
+  segments_back : first_private_fault base ss ≡ first_of segment_fault (enumerate_from 0 ss)
+  segments_back = ap (λ (n : ℕ). first_private_fault n ss) (omega arith) ∙ segments_carried [] ss 0 refl refl
+
+  module _ (k : ℕ) (s : Owner) (rec : ℕ) (r : Record) where
+    abbrev full : Bool
+    full = is_private_reference r.body && nat_lt 32767 (offset_at base ss k s rec + words_taken r.body)
+
+    is_full : Decides full ((is_private_reference r.body ≡ true) × (32767 < offset_at base ss k s rec + words_taken r.body))
+    is_full =
+        Decides-and (is_private_reference r.body) (nat_lt 32767 (offset_at base ss k s rec + words_taken r.body)) (of_test (is_private_reference r.body))
+        (Decides-ltb 32767 (offset_at base ss k s rec + words_taken r.body))
+
+    -- a record without a fault is not unfit
+    fits : record_faults (k, s) (rec, r) ≡ None → (why : Reason) → IsUnfit base ss k s rec r why → ⊥
+    fits e = go (is_again is_private_reference s.records (rec, r)) full (again is_private_reference s.records rec r) is_full (h_none (λ why. in_record s.file s.slot rec why) (reason_at (λ n. offset_at base ss k s n) s.records (rec, r)) e)
+      where
+        go : (b c : Bool) → Decides b (HasEarlierNamesake is_private_reference s.records rec r) → Decides c ((is_private_reference r.body ≡ true) × (32767 < offset_at base ss k s rec + words_taken r.body))
+            → option_or (fault_if b reason.DoubledPrivate) (fault_if c reason.NoRoom) ≡ None → (why : Reason) → IsUnfit base ss k s rec r why → ⊥
+        go true c d f h why u = absurd (cc)
+        go false true d f h why u = absurd (cc)
+        go false false d f h reason.DoubledPrivate u = false≢true (d.1 u)
+        go false false d f h reason.NoRoom u = false≢true (f.1 (u.1, u.2))
+        go false false d f h other u = u
+
+    -- a record is unfit by the reason that the search gives
+    unfit : (why : Reason) → reason_at (λ n. offset_at base ss k s n) s.records (rec, r) ≡ Some why → IsUnfit base ss k s rec r why
+    unfit why e = go (is_again is_private_reference s.records (rec, r)) full (again is_private_reference s.records rec r) is_full e
+      where
+        go : (b c : Bool) → Decides b (HasEarlierNamesake is_private_reference s.records rec r) → Decides c ((is_private_reference r.body ≡ true) × (32767 < offset_at base ss k s rec + words_taken r.body))
+            → option_or (fault_if b reason.DoubledPrivate) (fault_if c reason.NoRoom) ≡ Some why → IsUnfit base ss k s rec r why
+        go true c d f h = let is : reason.DoubledPrivate ≡ why = cc in subst (IsUnfit base ss k s rec r) is (d.0 refl)
+        go false true d f h =
+            let x = f.0 refl in
+            let is : reason.NoRoom ≡ why = cc in
+            subst (IsUnfit base ss k s rec r) is (λ (a : HasEarlierNamesake is_private_reference s.records rec r). false≢true (d.1 a), x.0, x.1)
+        go false false d f h = absurd (cc)
+
+  none_in : (k : ℕ) (s : Owner) → segment_fault (k, s) ≡ None → (rec : ℕ) (r : Record) → slice_get s.records rec ≡ Some r → (why : Reason) → IsUnfit base ss k s rec r why → ⊥
+  none_in k s e rec r there = fits k s rec r (none_given (record_faults (k, s)) 0 s.records e rec rec r (omega arith) there)
+
+  none_unfit : first_private_fault base ss ≡ None → (k : ℕ) (s : Owner) (rec : ℕ) (r : Record) → slice_get ss k ≡ Some s → slice_get s.records rec ≡ Some r → (why : Reason) → IsUnfit base ss k s rec r why → ⊥
+  none_unfit e k s rec r of there = none_in k s (none_given segment_fault 0 ss (sym segments_back ∙ e) k k s (omega arith) of) rec r there
+
+  pub own_names : first_private_fault base ss ≡ None → HaveOwnNames ss
+  own_names e k s of rec r there is = none_unfit e k s rec r of there reason.DoubledPrivate is
+
+  pub room : first_private_fault base ss ≡ None → HaveRoom base ss
+  room e k rec s r of there asks =
+      elim (cases_lt 32767 (offset_at base ss k s rec + words_taken r.body)) [
+        | inl lt ↦ absurd (none_unfit e k s rec r of there reason.NoRoom (λ (a : HasEarlierNamesake is_private_reference s.records rec r). own_names e k s of rec r there a, asks, lt))
+        | inr le ↦ le
+      ]
+
+  -- the first segment with a fault, and its first record with one
+  first_unfit : (fault : Fault) → first_private_fault base ss ≡ Some fault → IsFirstUnfit base ss fault
+  first_unfit fault e =
+      in_segment (some_given segment_fault 0 ss fault (sym segments_back ∙ e))
+    where
+      in_segment : Given segment_fault 0 ss fault → IsFirstUnfit base ss fault
+      in_segment found = in_records (some_given (record_faults (k, s)) 0 s.records fault (found.gives k (omega arith)))
+        where
+          k : ℕ
+          k = found.at
+
+          s : Owner
+          s = found.item
+
+          in_records : Given (record_faults (k, s)) 0 s.records fault → IsFirstUnfit base ss fault
+          in_records one =
+              let why = h_some (λ (w : Reason). in_record s.file s.slot one.at w) (reason_at (λ n. offset_at base ss k s n) s.records (one.at, one.item)) fault (one.gives one.at (omega arith)) in
+              record {
+                segment = k;
+                rec = one.at;
+                owner = s;
+                item = one.item;
+                why = why.0;
+                of = found.there;
+                there = one.there;
+                unfit = unfit k s one.at one.item why.0 why.1;
+                told = why.2;
+                first = λ j n q r other of there u b. elim b [
+                  | inl lt ↦ none_in j q (found.before j j q lt (omega arith) of) n r there other u
+                  | inr t ↦ elim t.1 [ inl lt ↦ same_segment j n q r other of there u t.0 lt | inr x ↦ x.1 ]
+                ];
+              }
+            where
+              same_segment : (j n : ℕ) (q : Owner) (r : Record) (other : Reason) → slice_get ss j ≡ Some q → slice_get q.records n ≡ Some r → IsUnfit base ss j q n r other → j ≡ k → n < one.at → ⊥
+              same_segment j n q r other of there u at lt =
+                  let is : q ≡ s = let g = found.there in cc in
+                  let u2 : IsUnfit base ss k s n r other = subst (λ (o : Owner). IsUnfit base ss k o n r other) is (subst (λ (m : ℕ). IsUnfit base ss m q n r other) at u) in
+                  fits k s n r (one.before n n r lt (omega arith) (subst (λ (o : Owner). slice_get o.records n ≡ Some r) is there)) other u2
+
+-- where a private is allotted, a record asks for it
+some_asks : (slot rec next : ℕ) (rs : List Record) → 0 < length (allotted slot rec next rs) → SomeItem rs (λ n r. is_private_reference r.body ≡ true)
+some_asks slot rec next [] h = absurd (omega (arith, h))
+some_asks slot rec next (r ∷ rs) h = go (words_in r.body) refl (some_asks slot (rec + 1) next rs)
+  where
+    go : (w : Option ℕ) → words_in r.body ≡ w → (0 < length (allotted slot (rec + 1) next rs) → SomeItem rs (λ n q. is_private_reference q.body ≡ true)) → SomeItem (r ∷ rs) (λ n q. is_private_reference q.body ≡ true)
+    go (Some w) e later = (zero, r, refl, asks_is r.body ∙ ap is_some e)
+    go None e later = let t = later (subst (λ (ps : List Private). 0 < length ps) (skip_privates slot rec next [] [] r rs e) h) in (suc t.0, t.1, t.2, t.3)
+
+some_segment : (next : ℕ) (ss : List Owner) → 0 < length (all_allotted next ss) → SomeItem ss (λ k s. SomeItem s.records (λ rec r. is_private_reference r.body ≡ true))
+some_segment next [] h = absurd (omega (arith, h))
+some_segment next (s ∷ ss) h = elim (cases_lt 0 (length (allotted s.slot 0 next s.records))) [
+  | inl some ↦ (zero, s, refl, some_asks s.slot 0 next s.records some)
+  | inr none ↦
+      let t = some_segment (next + private_words s.records) ss (omega (arith, h, none, length-append (allotted s.slot 0 next s.records) (all_allotted (next + private_words s.records) ss))) in
+      (suc t.0, t.1, t.2, t.3)
+]
+
+pub not_allotted : (base : ℕ) (ss : List Owner) (stop : Stop) → AreUnallotted base ss stop → StopsPrivates base ss stop
+not_allotted base ss (Refused fault) d = first_unfit base ss fault d
+not_allotted base ss Memory d = some_segment base ss d
+
+-- 4. what is allotted
+-- slots first, then records
+later_record : (a b s r : ℕ) → (nat_lt a s || (a == s && nat_le (b + 1) r)) ≡ true → Before (a ∷ b ∷ []) (s ∷ r ∷ [])
+later_record a b s r h = elim (cases_lt a s) [
+  | inl lt ↦ inl lt
+  | inr le ↦ inr (same a b s r h le, inl (lesser a b s r h le))
+]
+  where
+    same : (a b s r : ℕ) → (nat_lt a s || (a == s && nat_le (b + 1) r)) ≡ true → s ≤ a → a ≡ s
+    same a b s r h le = grind (arith, nat_tests)
+
+    lesser : (a b s r : ℕ) → (nat_lt a s || (a == s && nat_le (b + 1) r)) ≡ true → s ≤ a → b < r
+    lesser a b s r h le = grind (arith, nat_tests)
+
+pub by_record : (ps : List Private) → RiseFrom 0 0 ps → AreByRecord ps
+by_record ps rises i j p q lt is_p is_q =
+    let h = behind 0 0 ps i j p rises lt (slice_get_within ps j q is_q) in
+    let x : get_or ps i p ≡ p = get_or_from_slice_get ps i p p is_p in
+    let y : get_or ps j p ≡ q = get_or_from_slice_get ps j q p is_q in
+    later_record p.slot p.rec q.slot q.rec (rw (x, y) at h)
+
+-- the privates have the words that their records ask for
+words_allotted : (slot rec next : ℕ) (rs : List Record) → words_of_all (allotted slot rec next rs) ≡ private_words rs
+words_allotted slot rec next [] = refl
+words_allotted slot rec next (r ∷ rs) = go (words_in r.body) refl (λ next. words_allotted slot (rec + 1) next rs)
+  where
+    go : (w : Option ℕ) → words_in r.body ≡ w → ((next : ℕ) → words_of_all (allotted slot (rec + 1) next rs) ≡ private_words rs) → words_of_all (allotted slot rec next (r ∷ rs)) ≡ private_words (r ∷ rs)
+    go None e later = rw (e, allotted, private_words) (later next)
+    go (Some w) e later =
+        rw (e, allotted, private_words)
+        (sum_by-cons (λ (p : Private). p.words) (record { slot = slot; rec = rec; name = r.name; offset = next; words = w }) (allotted slot (rec + 1) (next + w) rs) ∙ ap (λ (n : ℕ). w + n) (later (next + w)))
+
+pub summed : (next : ℕ) (ss : List Owner) → words_of_all (all_allotted next ss) ≡ all_words ss
+summed next [] = refl
+summed next (s ∷ ss) =
+    omega (
+      arith,
+      sum_by-append (λ (p : Private). p.words) (allotted s.slot 0 next s.records) (all_allotted (next + private_words s.records) ss),
+      words_allotted s.slot 0 next s.records,
+      summed (next + private_words s.records) ss,
+    )
+
+-- the privates of a segment, without their offsets
+asked_allotted : (s : Owner) (rec next : ℕ) (rs : List Record) → map asked_of (allotted s.slot rec next rs) ≡ filter_map (asked_in s) (enumerate_from rec rs)
+asked_allotted s rec next [] = refl
+asked_allotted s rec next (r ∷ rs) = go (words_in r.body) refl (λ next. asked_allotted s (rec + 1) next rs)
+  where
+    go : (w : Option ℕ) → words_in r.body ≡ w → ((next : ℕ) → map asked_of (allotted s.slot (rec + 1) next rs) ≡ filter_map (asked_in s) (enumerate_from (rec + 1) rs))
+        → map asked_of (allotted s.slot rec next (r ∷ rs)) ≡ cons_option (asked_in s (rec, r)) (filter_map (asked_in s) (enumerate_from (rec + 1) rs))
+    go None e rest = rw (e, allotted, asked_in) (rest next)
+    go (Some w) e rest = rw (e, allotted, asked_in) (ap (λ (xs : List Asked). record { slot = s.slot; rec = rec; name = r.name; words = w } ∷ xs) (rest (next + w)))
+
+pub asked : (next : ℕ) (ss : List Owner) → map asked_of (all_allotted next ss) ≡ all_asked ss
+asked next [] = refl
+asked next (s ∷ ss) =
+    map-append asked_of (allotted s.slot 0 next s.records) (all_allotted (next + private_words s.records) ss)
+    ∙ (ap (λ (xs : List Asked). xs ++ map asked_of (all_allotted (next + private_words s.records) ss)) (asked_allotted s 0 next s.records)
+    ∙ ap (λ (xs : List Asked). filter_map (asked_in s) (enumerate_from 0 s.records) ++ xs) (asked (next + private_words s.records) ss))

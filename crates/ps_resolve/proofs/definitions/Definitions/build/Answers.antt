@@ -1,0 +1,24 @@
+use Rattle.std.proofs.Common.{◌≡◌, List, None, sym, ap, subst, ◌∙◌}
+use Rattle.std.proofs.lemmas.Result.{IfOk-weaker, IfErr-weaker}
+use Rattle.ps_linkinfo.specs.Records.{reading}
+use Rattle.ps_linkinfo.specs.declared.record.LinkRecord.{LinkRecord as Record}
+use Rattle.ps_resolve.specs.Builders.{HaveNoNamesakes, StopsDefinitions}
+use Rattle.ps_linkinfo.specs.Counts.{is_definition}
+use Rattle.ps_resolve.specs.Stops.{IsDoubled}
+use Rattle.ps_resolve.specs.Symbols.{doubled}
+use Rattle.ps_resolve.proofs.Builders.{defined_once, not_defined}
+use Rattle.ps_resolve.proofs.definitions.Definitions.build.Goals as goal
+
+pub returns-clause-names : goal.returns-clause-names
+returns-clause-names g c =
+    let host = c.args.host.now in
+    let rs : List Record = (reading host.order host.bytes.now).0 in
+    IfOk-weaker c.of_records.result (λ _. doubled c.up_to_fault-records.result ≡ None) (λ _. HaveNoNamesakes is_definition rs)
+    (λ d once. defined_once host.file host.slot rs (sym (ap doubled c.up_to_fault-records.ensures) ∙ once)) c.of_records.ensures.once
+
+pub returns-clause-refused : goal.returns-clause-refused
+returns-clause-refused g c =
+    let host = c.args.host.now in
+    let rs : List Record = (reading host.order host.bytes.now).0 in
+    IfErr-weaker c.of_records.result (IsDoubled host.file host.slot c.up_to_fault-records.result) (StopsDefinitions host.file host.slot rs)
+    (λ stop d. not_defined host.file host.slot rs stop (subst (λ (qs : List Record). IsDoubled host.file host.slot qs stop) c.up_to_fault-records.ensures d)) c.of_records.ensures.stop

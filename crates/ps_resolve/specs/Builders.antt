@@ -1,0 +1,106 @@
+-- The builders of definitions and of allotments, said plainly: where each refuses, and how the privates of an allotment stand.
+-- Source: the link records PUBLDEF, CONSTDEF and PRIVREF are those of the published II.0 Linker source; that a name is defined once, and the order of the privates, are this project's profile.
+use Rattle.std.specs.Prelude.{◌≡◌, ℕ, ◌+◌, ◌<◌, ◌≤◌, List, [], ◌∷◌, ◌++◌, slice_get, take, sum_by, Bool, true, Option, Some}
+use Rattle.std.specs.List.{enumerate_from, filter_map, flat_map}
+use Rattle.std.specs.Option.{option_map}
+use Rattle.ps_linkinfo.specs.declared.record.Body.{Body}
+use Rattle.ps_linkinfo.specs.declared.record.LinkRecord.{LinkRecord as Record}
+use Rattle.ps_resolve.specs.First.{Before}
+use Rattle.ps_resolve.specs.Privates.{Owner, words_in}
+use Rattle.ps_resolve.specs.Standing.Phrases.{SomeItem}
+use Rattle.ps_resolve.specs.Standing.Definitions.{HasEarlierNamesake}
+use Rattle.ps_linkinfo.specs.Counts.{is_definition, is_private_reference}
+use Rattle.ps_resolve.specs.References.{words_taken, words_taken_by}
+use Rattle.ps_resolve.specs.declared.allotment.Private.{Private}
+use Rattle.ps_resolve.specs.declared.linkage.Stop.{Stop}
+use Rattle.ps_resolve.specs.declared.linkage.Stop.TheVariants.{Refused, Memory}
+use Rattle.ps_words.specs.FaultPlaces.{in_record}
+use Rattle.ps_words.specs.declared.fault.Fault.{Fault}
+use Rattle.ps_words.specs.declared.fault.Reason.{Reason}
+use Rattle.ps_words.specs.declared.fault.Reason.TheVariants as reason
+
+-- 1. definitions
+-- no record of this kind has the name of an earlier record of this kind
+abbrev pub HaveNoNamesakes : (Body → Bool) → List Record → Type 0
+HaveNoNamesakes test rs = (rec : ℕ) (r : Record) → slice_get rs rec ≡ Some r → HasEarlierNamesake test rs rec r → ⊥
+
+-- record `rec` is the first record of this kind that has the name of an earlier record of this kind
+pub record IsFirstNamesake (test : Body → Bool) (rs : List Record) (rec : ℕ) : Type 0 where
+  pub item : Record
+  pub there : slice_get rs rec ≡ Some item
+  pub again : HasEarlierNamesake test rs rec item
+  pub first : (lesser : ℕ) (r : Record) → lesser < rec → slice_get rs lesser ≡ Some r → HasEarlierNamesake test rs lesser r → ⊥
+
+-- Why the definitions of a segment are not built: its first record that defines the name of an earlier definition is refused; or memory ran out, and a record defines a name.
+abbrev pub StopsDefinitions : ℕ → ℕ → List Record → Stop → Type 0
+StopsDefinitions file slot rs (Refused fault) = (rec : ℕ) × IsFirstNamesake is_definition rs rec × (fault ≡ in_record file slot rec reason.DoubledDefinition)
+StopsDefinitions file slot rs Memory = SomeItem rs (λ rec r. is_definition r.body ≡ true)
+
+-- 2. privates, of segments in the order of their slots
+-- the offset at record `rec` of segment k, which is s: the base offset, and the words of all privates of the segments before it and of the records before it in its own
+abbrev pub offset_at : ℕ → List Owner → ℕ → Owner → ℕ → ℕ
+offset_at base ss k s rec = base + words_taken_by (flat_map (λ q. q.records) (take k ss) ++ take rec s.records)
+
+-- in no segment has a private the name of an earlier private of that segment
+abbrev pub HaveOwnNames : List Owner → Type 0
+HaveOwnNames ss = (k : ℕ) (s : Owner) → slice_get ss k ≡ Some s → HaveNoNamesakes is_private_reference s.records
+
+-- every private ends at 32767 at most
+abbrev pub HaveRoom : ℕ → List Owner → Type 0
+HaveRoom base ss =
+    (k rec : ℕ) (s : Owner) (r : Record) → slice_get ss k ≡ Some s → slice_get s.records rec ≡ Some r
+    → is_private_reference r.body ≡ true → offset_at base ss k s rec + words_taken r.body ≤ 32767
+
+-- why the private of a record is refused: an earlier private of its segment has its name, or else it ends past 32767
+abbrev pub IsUnfit : ℕ → List Owner → ℕ → Owner → ℕ → Record → Reason → Type 0
+IsUnfit base ss k s rec r reason.DoubledPrivate = HasEarlierNamesake is_private_reference s.records rec r
+IsUnfit base ss k s rec r reason.NoRoom =
+    (HasEarlierNamesake is_private_reference s.records rec r → ⊥) × (is_private_reference r.body ≡ true) × (32767 < offset_at base ss k s rec + words_taken r.body)
+IsUnfit base ss k s rec r other = ⊥
+
+-- the fault is that of the first private that is refused: by segment, and then by record
+pub record IsFirstUnfit (base : ℕ) (ss : List Owner) (fault : Fault) : Type 0 where
+  pub segment : ℕ
+  pub rec : ℕ
+  pub owner : Owner
+  pub item : Record
+  pub why : Reason
+  pub of : slice_get ss segment ≡ Some owner
+  pub there : slice_get owner.records rec ≡ Some item
+  pub unfit : IsUnfit base ss segment owner rec item why
+  pub told : fault ≡ in_record owner.file owner.slot rec why
+  pub first : (k n : ℕ) (s : Owner) (r : Record) (other : Reason) → slice_get ss k ≡ Some s → slice_get s.records n ≡ Some r
+      → IsUnfit base ss k s n r other → Before (k ∷ n ∷ []) (segment ∷ rec ∷ []) → ⊥
+
+-- Why the privates of segments are not allotted: the first that is unfit is refused; or memory ran out, and a record asks for a private.
+abbrev pub StopsPrivates : ℕ → List Owner → Stop → Type 0
+StopsPrivates base ss (Refused fault) = IsFirstUnfit base ss fault
+StopsPrivates base ss Memory = SomeItem ss (λ k s. SomeItem s.records (λ rec r. is_private_reference r.body ≡ true))
+
+-- 3. what is allotted
+-- a private before it has an offset: its slot, its record, its name and its words
+pub record Asked : Type 0 where
+  pub slot : ℕ
+  pub rec : ℕ
+  pub name : List ℕ
+  pub words : ℕ
+
+-- what a record of a segment, with its index, asks for: a PRIVREF record for a private
+abbrev pub asked_in : Owner → ℕ × Record → Option Asked
+asked_in s r = option_map (λ words. record { slot = s.slot; rec = r.0; name = r.1.name; words = words }) (words_in r.1.body)
+
+-- what all records of the segments ask for, by segment and then by record
+abbrev pub all_asked : List Owner → List Asked
+all_asked ss = flat_map (λ s. filter_map (asked_in s) (enumerate_from 0 s.records)) ss
+
+-- a private without its offset
+abbrev pub asked_of : Private → Asked
+asked_of p = record { slot = p.slot; rec = p.rec; name = p.name; words = p.words }
+
+-- the privates stand by slot and, of one slot, by record
+abbrev pub AreByRecord : List Private → Type 0
+AreByRecord ps = (i j : ℕ) (p q : Private) → i < j → slice_get ps i ≡ Some p → slice_get ps j ≡ Some q → Before (p.slot ∷ p.rec ∷ []) (q.slot ∷ q.rec ∷ [])
+
+-- the words of all of them
+abbrev pub words_of_all : List Private → ℕ
+words_of_all ps = sum_by (λ p. p.words) ps
