@@ -1,17 +1,19 @@
 -- The facts of linked bytes on the small files, computed.
-use Rattle.std.proofs.Common.{◌≡◌, ℕ, zero, suc, ◌-◌, ◌≤◌, List, [], ◌∷◌, Option, Some, refl, sym, subst, inl, inr, arith}
+use Rattle.std.proofs.Common.{true, ◌≡◌, ℕ, zero, suc, ◌+◌, ◌-◌, ◌≤◌, List, [], ◌∷◌, Option, Some, refl, sym, ap, subst, ◌∙◌, inl, inr, arith}
 use Rattle.std.specs.Prelude.{◌⊎◌, slice_get, slice_index}
-use Rattle.ps_examples.specs.Files.{blank, count, state}
+use Rattle.ps_examples.specs.Files.{blank, aux, count, state}
 use Rattle.ps_resolve.specs.Added.{empty_slots, rounds, segments}
 use Rattle.ps_resolve.specs.Standing.References.{operand_width}
 use Rattle.ps_resolve.specs.Standing.Privates.{private_offset}
-use Rattle.ps_resolve.specs.LinkedBytes.{IsReference, Reaches, Becomes, IsNumberPlace, IsSizePlace, IsLinkedByte}
-use Rattle.ps_examples.specs.Segments.{count_reference, state_reference, end_mark, demo_segment, util_segment, pair}
+use Rattle.ps_resolve.specs.LinkedBytes.{IsReference, Reaches, Becomes, IsHostRecord, IsPublic, all_private_words, IsNumberPlace, IsSizePlace, IsLinkedByte}
+use Rattle.ps_examples.specs.Segments.{count_reference, state_reference, end_mark, demo_segment, util_segment, using_segment, aux_segment, displaced_segment, pair, three, with_two_privates, with_two_units}
 use Rattle.ps_linkinfo.specs.Records.{refs_of}
 use Rattle.ps_linkinfo.specs.declared.record.Body.{Body}
 use Rattle.ps_linkinfo.specs.declared.record.Body.TheVariants.{UnitRef, PublRef, PrivRef, PublDef, ConstDef, Eof}
 use Rattle.ps_linkinfo.specs.declared.record.LinkRecord.{LinkRecord as Record}
-use Rattle.ps_resolve.specs.Sources.{own_segments}
+use Rattle.ps_resolve.specs.Sources.{own_segments, Segment, is_host}
+use Rattle.ps_resolve.specs.Linking.{grown_data_size}
+use Rattle.ps_words.specs.Words.{word_bytes, operand_bytes, displacement_at}
 use Rattle.ps_words.specs.declared.order.Order.TheVariants.{Little}
 
 pub segments_are : pair ≡ demo_segment ∷ util_segment ∷ []
@@ -30,6 +32,22 @@ pub a_private_operand : Becomes pair util_segment 1 state (PrivRef 4 (4 ∷ []))
 unfolding own_segments empty_slots rounds segments
 a_private_operand = (8, (1, record { name = blank; body = Eof 8 }, (0, demo_segment, refl, (refl, refl)), refl), refl)
 
+pub a_second_private : private_offset with_two_privates 7 1 ≡ 12
+unfolding own_segments empty_slots rounds segments
+a_second_private = refl
+
+pub a_private_of_a_second_unit : private_offset with_two_units 8 1 ≡ 12
+unfolding own_segments empty_slots rounds segments
+a_private_of_a_second_unit = refl
+
+pub a_displaced_public_operand : Becomes pair displaced_segment 0 count (PublRef (1 ∷ [])) 1 (129 ∷ 3 ∷ [])
+unfolding own_segments empty_slots rounds segments
+a_displaced_public_operand = (3, (0, record { name = count; body = PublDef 3 }, (0, demo_segment, refl, (refl, refl)), (refl, refl)), refl)
+
+pub a_unit_operand : Becomes three using_segment 0 aux (UnitRef (2 ∷ [])) 2 (8 ∷ [])
+unfolding own_segments empty_slots rounds segments
+a_unit_operand = (8, (2, aux_segment, refl, (refl, refl, refl)), refl)
+
 pub its_place : Reaches util_segment 1 state_reference 0 4 5
 its_place = ((refl, refl), (omega arith, omega arith))
 
@@ -40,8 +58,11 @@ pub a_size_place : IsSizePlace Little demo_segment 12 1 5
 a_size_place = (refl, refl, omega arith, refl)
 
 -- the references of UTIL
-same : {A : Type 0} (a b : A) → ◌≡◌ {A = Option A} (Some a) (Some b) → a ≡ b
+pub same : {A : Type 0} (a b : A) → ◌≡◌ {A = Option A} (Some a) (Some b) → a ≡ b
 same a b e = cc
+
+pub heads : (a b : ℕ) (xs ys : List ℕ) → ◌≡◌ {A = List ℕ} (a ∷ xs) (b ∷ ys) → a ≡ b
+heads a b xs ys e = cc
 
 alone : (y i x : ℕ) → slice_get (y ∷ []) i ≡ Some x → x ≡ y
 alone y zero x e = sym (same y x e)
@@ -66,7 +87,7 @@ references (suc (suc zero)) i x r t =
 references (suc (suc (suc rec))) i x r t = absurd (let e = t.0 in cc)
 
 -- none of them reaches places 0 and 22
-before : (rec i x : ℕ) (r : Record) → Reaches util_segment rec r i x 0 → ⊥
+pub before : (rec i x : ℕ) (r : Record) → Reaches util_segment rec r i x 0 → ⊥
 before rec i x r u = elim (references rec i x r u.0) [ inl h ↦ (let a = h.2 in let b = u.1.0 in omega (arith, a, b)) | inr h ↦ (let b = u.1.0 in omega (arith, h, b)) ]
 
 pub a_kept_byte : IsLinkedByte Little pair util_segment 0 165
@@ -77,7 +98,7 @@ a_kept_byte = record {
   kept = λ n z u. refl;
 }
 
-past : (rec i x : ℕ) (r : Record) → Reaches util_segment rec r i x 22 → ⊥
+pub past : (rec i x : ℕ) (r : Record) → Reaches util_segment rec r i x 22 → ⊥
 past rec i x r u = elim (references rec i x r u.0) [ inl h ↦ wide rec i x r u (inl h.2) | inr h ↦ wide rec i x r u (inr h) ]
   where
     wide : (rec i x : ℕ) (r : Record) → Reaches util_segment rec r i x 22 → (x ≡ 1) ⊎ (x ≡ 4) → ⊥
@@ -115,3 +136,61 @@ a_reference = record {
 
     at : (rec x : ℕ) (r : Record) → rec ≡ 0 → r ≡ count_reference → x ≡ 1 → Fact rec r x
     at rec x r a b c = subst (λ (n : ℕ). Fact n r x) (sym a) (subst (λ (q : Record). Fact 0 q x) (sym b) (subst (λ (n : ℕ). Fact 0 count_reference n) (sym c) here))
+
+-- the data size of the host: it has no references
+pub unreferenced : (rec i x : ℕ) (r : Record) → IsReference demo_segment rec r i x → ⊥
+unreferenced zero i x r t = nowhere i x (subst (λ (q : Record). slice_get (refs_of q.body) i ≡ Some x) (sym (same (record { name = count; body = PublDef 3 }) r t.0)) t.1)
+unreferenced (suc zero) i x r t = nowhere i x (subst (λ (q : Record). slice_get (refs_of q.body) i ≡ Some x) (sym (same (record { name = blank; body = Eof 8 }) r t.0)) t.1)
+unreferenced (suc (suc rec)) i x r t = absurd (let e = t.0 in cc)
+
+size_byte : ℕ → ℕ → ℕ
+size_byte t j = slice_index (word_bytes Little (grown_data_size Little demo_segment.code (all_private_words pair) t)) j
+
+of_size : (p n t j : ℕ) → p + 8 ≡ 12 + n → IsSizePlace Little demo_segment t j p → size_byte 12 n ≡ size_byte t j
+of_size p n t j at z =
+    let table : 12 ≡ t = same 12 t z.1 in
+    let e = z.3 in
+    subst (λ (m : ℕ). size_byte 12 n ≡ size_byte m j) table (subst (λ (m : ℕ). size_byte 12 n ≡ size_byte 12 m) (omega (arith, e, at, table)) refl)
+
+pub a_size_byte : IsLinkedByte Little pair demo_segment 4 18
+unfolding own_segments empty_slots rounds segments size_byte
+a_size_byte = record {
+  number = λ n. absurd (let e = n.1 in omega (arith, e));
+  size = λ t j z. of_size 4 0 t j refl z;
+  reference = λ rec i x r u. absurd (unreferenced rec i x r u.0);
+  kept = λ n z u. absurd (z 12 0 (refl, refl, omega arith, refl));
+}
+
+pub its_second_byte : IsLinkedByte Little pair demo_segment 5 0
+unfolding own_segments empty_slots rounds segments size_byte
+its_second_byte = record {
+  number = λ n. absurd (let e = n.1 in omega (arith, e));
+  size = λ t j z. of_size 5 1 t j refl z;
+  reference = λ rec i x r u. absurd (unreferenced rec i x r u.0);
+  kept = λ n z u. absurd (z 12 1 (refl, refl, omega arith, refl));
+}
+
+-- a record of a host that stands first, before segments that are no hosts
+pub of_first : (h : Segment) (rest : List Segment) → ((k : ℕ) (s : Segment) → slice_get rest k ≡ Some s → is_host s.role ≡ true → ⊥) → (rec : ℕ) (r : Record) → IsHostRecord (h ∷ rest) rec r → slice_get h.records rec ≡ Some r
+of_first h rest none rec r (zero, s, e, p) = subst (λ (x : Segment). slice_get x.records rec ≡ Some r) (sym (same h s e)) p.1
+of_first h rest none rec r (suc k, s, e, p) = absurd (none k s e p.0)
+
+pub no_host : (k : ℕ) (s : Segment) → slice_get (util_segment ∷ []) k ≡ Some s → is_host s.role ≡ true → ⊥
+no_host zero s e is = let h = ap (λ (x : Segment). is_host x.role) (same util_segment s e) ∙ is in cc
+no_host (suc k) s e is = cc
+
+-- the only byte that the operand's second place has
+pub its_operand : (b : ℕ) → ((bytes : List ℕ) × Becomes pair util_segment 0 count (PublRef (1 ∷ [])) 1 bytes × (b ≡ slice_index bytes 1)) → b ≡ 3
+unfolding own_segments empty_slots rounds segments
+its_operand b t = t.2 ∙ ap (λ (bs : List ℕ). slice_index bs 1) (is_3 t.0 t.1)
+  where
+    value_in : (rec : ℕ) (d : Record) (value : ℕ) → slice_get demo_segment.records rec ≡ Some d → d.body ≡ PublDef value → value ≡ 3
+    value_in zero d value e p = let s = same (record { name = count; body = PublDef 3 }) d e in let h : PublDef 3 ≡ PublDef value = ap (λ (q : Record). q.body) s ∙ p in cc
+    value_in (suc zero) d value e p = let s = same (record { name = blank; body = Eof 8 }) d e in let h : Eof 8 ≡ PublDef value = ap (λ (q : Record). q.body) s ∙ p in absurd (cc)
+    value_in (suc (suc k)) d value e p = absurd (cc)
+
+    value_is : (value : ℕ) → IsPublic pair count value → value ≡ 3
+    value_is value t = value_in t.0 t.1 value (of_first demo_segment (util_segment ∷ []) no_host t.0 t.1 t.2) t.3.1
+
+    is_3 : (bytes : List ℕ) → Becomes pair util_segment 0 count (PublRef (1 ∷ [])) 1 bytes → bytes ≡ 128 ∷ 3 ∷ []
+    is_3 bytes t = t.2 ∙ ap (λ (v : ℕ). operand_bytes (displacement_at util_segment.code 1 + v)) (value_is t.0 t.1)

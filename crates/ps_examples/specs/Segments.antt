@@ -1,12 +1,12 @@
 -- The segments of the host and the library, as they were read.
 -- Source: this project's examples.
-use Rattle.std.specs.Prelude.{List, [], ◌∷◌, false}
-use Rattle.ps_codefile.specs.declared.entry.Role.TheVariants.{Host, Wanted}
-use Rattle.ps_linkinfo.specs.declared.record.Body.TheVariants.{PublRef, PrivRef, PublDef, Eof}
+use Rattle.std.specs.Prelude.{List, [], ◌∷◌, ◌++◌, false, true}
+use Rattle.ps_codefile.specs.declared.entry.Role.TheVariants.{Host, Wanted, Plain}
+use Rattle.ps_linkinfo.specs.declared.record.Body.TheVariants.{UnitRef, PublRef, PrivRef, PublDef, ConstDef, Eof}
 use Rattle.ps_linkinfo.specs.declared.record.LinkRecord.{LinkRecord as Record}
 use Rattle.ps_resolve.specs.Sources.{Segment}
 use Rattle.ps_resolve.specs.LinkedBytes.{segments_of}
-use Rattle.ps_examples.specs.Files.{host, library, blank, demo, util, count, state, demo_code, util_code}
+use Rattle.ps_examples.specs.Files.{host, library, library_with, library_of_two, library_of_used, host_with_tools, wanting_aux, put_at, blank, demo, util, aux, tools, count, state, nobody, demo_code, util_code, aux_code, priv_ref, eof_mark, util_information}
 use Rattle.ps_words.specs.declared.order.Order.TheVariants.{Little}
 
 -- the records of UTIL: a PUBLREF of COUNT with an operand at 1, a PRIVREF of STATE, of four words, with one at 4, and the end mark
@@ -47,3 +47,72 @@ demo_segment = record {
 -- the segments of their link
 abbrev pub pair : List Segment
 pair = segments_of host (library ∷ [])
+
+-- UTIL that names AUX alone, by a UNITREF with an operand at 2, and AUX, which is added for it in slot 8
+abbrev pub aux_reference : Record
+aux_reference = record { name = aux; body = UnitRef (2 ∷ []) }
+
+abbrev pub using_segment : Segment
+using_segment = record util_segment { records = aux_reference ∷ end_mark ∷ [] }
+
+abbrev pub aux_segment : Segment
+aux_segment = record {
+  slot = 8;
+  name = aux;
+  role = Wanted;
+  added = true;
+  file = 1;
+  index = 3;
+  code = aux_code;
+  records = count_reference ∷ state_reference ∷ end_mark ∷ [];
+}
+
+-- AUX that names itself
+abbrev pub self_segment : Segment
+self_segment = record aux_segment { records = aux_reference ∷ [] }
+
+-- a unit of the name COUNT
+abbrev pub count_segment : Segment
+count_segment = record aux_segment { name = count; records = [] }
+
+abbrev pub three : List Segment
+three = segments_of host (library_of_used (util_information Little) ∷ [])
+
+-- the plain segment TOOLS, in slot 8, of which no records are read
+abbrev pub tools_segment : Segment
+tools_segment = record {
+  slot = 8;
+  name = tools;
+  role = Plain;
+  added = false;
+  file = 0;
+  index = 8;
+  code = 1 ∷ 2 ∷ 3 ∷ 4 ∷ 5 ∷ [];
+  records = [];
+}
+
+abbrev pub with_plain : List Segment
+with_plain = segments_of host_with_tools (library ∷ [])
+
+-- the segments of a host whose unit has two privates of four words, and of one that wants two units with a private each
+abbrev pub with_two_privates : List Segment
+with_two_privates = segments_of host (library_with Little (priv_ref Little state 4 [] ++ priv_ref Little nobody 4 (4 ∷ []) ++ eof_mark Little 0) ∷ [])
+
+abbrev pub with_two_units : List Segment
+with_two_units = segments_of (wanting_aux host) (library_of_two ∷ [])
+
+-- UTIL with an operand at 1 whose displacement is 256
+abbrev pub displaced_segment : Segment
+displaced_segment = record util_segment { code = put_at 1 (129 ∷ []) (util_code Little) }
+
+-- AUX past the slot that is empty
+abbrev pub past_segment : Segment
+past_segment = record aux_segment { slot = 9 }
+
+-- the host's segment with COUNT as a constant
+abbrev pub with_constant : List Segment
+with_constant = record demo_segment { records = record { name = count; body = ConstDef 3 } ∷ [] } ∷ []
+
+-- UTIL with a definition of STATE, which nothing uses
+abbrev pub with_unused : List Segment
+with_unused = demo_segment ∷ record util_segment { records = record { name = state; body = PublDef 9 } ∷ [] } ∷ []

@@ -1,23 +1,55 @@
-ghost use Rattle.std.specs.Prelude.{◌≡◌, [], ◌∷◌};
-ghost use Rattle.ps_examples.specs.Files.{count, state};
-ghost use Rattle.ps_examples.specs.Segments.{state_reference, demo_segment, util_segment, pair};
-ghost use Rattle.ps_linkinfo.specs.declared.record.Body.TheVariants.{PublRef, PrivRef};
+ghost use Rattle.std.specs.Prelude.{◌≡◌, ℕ, [], ◌∷◌};
+ghost use Rattle.ps_examples.specs.Files.{util, aux, tools, count, state};
+ghost use Rattle.ps_examples.specs.Segments.{state_reference, demo_segment, util_segment};
+ghost use Rattle.ps_examples.specs.Segments.{using_segment, tools_segment, displaced_segment};
+ghost use Rattle.ps_examples.specs.Segments.{pair, three, with_plain, with_two_privates};
+ghost use Rattle.ps_examples.specs.Segments.{with_two_units, with_constant, with_unused};
+ghost use Rattle.ps_linkinfo.specs.declared.record.Body.TheVariants.{UnitRef, PublRef, PrivRef};
 ghost use Rattle.ps_resolve.specs.Standing.Privates.{private_offset};
-ghost use Rattle.ps_resolve.specs.LinkedBytes.{Reaches, Becomes, IsNumberPlace, IsSizePlace, IsLinkedByte};
+ghost use Rattle.ps_resolve.specs.LinkedBytes.{Reaches, Becomes};
+ghost use Rattle.ps_resolve.specs.LinkedBytes.{IsSlotOf, IsPublic, IsNumberPlace, IsSizePlace};
+ghost use Rattle.ps_resolve.specs.LinkedBytes.{IsLinkedByte};
 ghost use Rattle.ps_words.specs.declared.order.Order.TheVariants.{Little};
 
 /// The facts of linked bytes on a host and its library: which segments there are, what their
-/// references become, and of each kind of place one byte: of a reference's operand, of the number of
-/// a slot, of the data size, and one that is kept.
+/// references become, and of each kind of place a byte: of a reference's operand, of the number
+/// of a slot, of the data size, and one that is kept.
 pub fn facts_of_bytes()
     ensures segments { pair ≡ demo_segment ∷ util_segment ∷ [] }
     ensures a_private { private_offset pair 7 1 ≡ 8 }
-    ensures a_public_operand { Becomes pair util_segment 0 count (PublRef (1 ∷ [])) 1 (128 ∷ 3 ∷ []) }
-    ensures a_private_operand { Becomes pair util_segment 1 state (PrivRef 4 (4 ∷ [])) 4 (128 ∷ 10 ∷ []) }
+    ensures a_second_private { private_offset with_two_privates 7 1 ≡ 12 }
+    ensures a_private_of_a_second_unit { private_offset with_two_units 8 1 ≡ 12 }
+    ensures a_public_operand { Becomes pair
+        util_segment 0 count (PublRef (1 ∷ [])) 1 (128 ∷ 3 ∷ []) }
+    ensures a_displaced_public_operand { Becomes pair
+        displaced_segment 0 count (PublRef (1 ∷ [])) 1 (129 ∷ 3 ∷ []) }
+    ensures a_private_operand { Becomes pair
+        util_segment 1 state (PrivRef 4 (4 ∷ [])) 4 (128 ∷ 10 ∷ []) }
+    ensures a_unit_operand { Becomes three using_segment 0 aux (UnitRef (2 ∷ [])) 2 (8 ∷ []) }
     ensures its_place { Reaches util_segment 1 state_reference 0 4 5 }
     ensures a_number_place { IsNumberPlace util_segment 22 }
     ensures a_size_place { IsSizePlace Little demo_segment 12 1 5 }
     ensures a_reference { IsLinkedByte Little pair util_segment 2 3 }
     ensures a_number { IsLinkedByte Little pair util_segment 22 7 }
+    ensures a_size_byte { IsLinkedByte Little pair demo_segment 4 18 }
+    ensures its_second_byte { IsLinkedByte Little pair demo_segment 5 0 }
     ensures a_kept_byte { IsLinkedByte Little pair util_segment 0 165 }
+{}
+
+/// What is not said of linked bytes: no other byte stands at a place of each kind, and what is no
+/// number's place, no data size, no unit of a name and no value of one.
+pub fn bytes_that_are_not_linked()
+    ensures not_the_input_s_operand { IsLinkedByte Little pair util_segment 2 0 → ⊥ }
+    ensures not_the_input_s_number { IsLinkedByte Little pair util_segment 22 2 → ⊥ }
+    ensures not_the_input_s_size { IsLinkedByte Little pair demo_segment 4 10 → ⊥ }
+    ensures not_another_byte { IsLinkedByte Little pair util_segment 0 166 → ⊥ }
+    ensures a_plain_segment_has_no_number { IsNumberPlace tools_segment 3 → ⊥ }
+    ensures a_unit_has_no_data_size { (t j p : ℕ) → IsSizePlace Little util_segment t j p → ⊥ }
+    ensures a_data_size_has_two_bytes { IsSizePlace Little demo_segment 12 2 6 → ⊥ }
+    ensures a_plain_segment_is_no_unit { IsSlotOf with_plain tools 8 → ⊥ }
+    ensures not_the_unit_of_another_name { IsSlotOf pair aux 7 → ⊥ }
+    ensures not_another_slot { IsSlotOf pair util 1 → ⊥ }
+    ensures a_constant_is_not_public { IsPublic with_constant count 3 → ⊥ }
+    ensures not_the_value_of_another_name { IsPublic pair state 3 → ⊥ }
+    ensures a_unit_defines_nothing { IsPublic with_unused state 9 → ⊥ }
 {}

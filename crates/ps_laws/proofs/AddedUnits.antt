@@ -361,6 +361,15 @@ giver units segs p m g t at = ((s, there, of.5, of.6), (s, there, of.0, subst (�
         itself : (a b : ℕ) → Before (a ∷ b ∷ []) (a ∷ b ∷ []) → ⊥
         itself a b h = not_both (a ∷ b ∷ []) (a ∷ b ∷ []) h h
 
+-- a name of the row that these segments come to has its giver among the host's own segments and these
+pub given : (order : Order) (host : List ℕ) (libs : List (List ℕ)) (segs : List Segment) (k : ℕ) (g : UnitReference) → slice_get (sought order host libs segs) k ≡ Some g → (i : ℕ) × IsGiver (own_segments order host libs ++ segs) i g
+unfolding sought
+given order host libs segs k g e =
+    let all = own_segments order host libs ++ segs in
+    let t = sought_at (own_units order host libs) [] (all_unit_references all) k g (omega arith) e in
+    let p = place_of all t.0 g t.1.0 in
+    (p.0, giver (own_units order host libs) all t.0 p.0 g t.1 p.1)
+
 -- 4. what the host's own slots have
 pub unit_role : (r : Role) → is_unit r ≡ true → (r ≡ role.Unit) ⊎ (r ≡ role.Wanted)
 unit_role role.Unit e = inl refl
@@ -417,7 +426,7 @@ own_made order host libs slot r at has is fine = go (segment_from order host lib
           ∙ (ap (option_and_then (segment_from order host libs slot (entry_at order host slot).name r)) is ∙ e),
     )
 
-wanted_source : (order : Order) (host : List ℕ) (libs : List (List ℕ)) (slot : ℕ) → wanted_fault order host libs slot role.Wanted ≡ None → unit_source order (entry_at order host slot).name libs ≡ None → ⊥
+pub wanted_source : (order : Order) (host : List ℕ) (libs : List (List ℕ)) (slot : ℕ) → wanted_fault order host libs slot role.Wanted ≡ None → unit_source order (entry_at order host slot).name libs ≡ None → ⊥
 wanted_source order host libs slot fine none = go (chosen_library order (entry_at order host slot).name libs) refl (unit_found order (entry_at order host slot).name libs none)
   where
     go : (o : Option (ℕ × List ℕ)) → chosen_library order (entry_at order host slot).name libs ≡ o → is_none o ≡ true → ⊥
@@ -483,7 +492,7 @@ marked order host libs g slot s e = go (option_and_then (segment_from order host
 abbrev IsFirstLibrary : Order → List ℕ → List (List ℕ) → ℕ × List ℕ → Type 0
 IsFirstLibrary order name libs p = (slice_get libs p.0 ≡ Some p.1) × ((lesser : ℕ) (other : List ℕ) → lesser < p.0 → slice_get libs lesser ≡ Some other → HasEntry order name other → ⊥)
 
-first_library : (order : Order) (name : List ℕ) (libs : List (List ℕ)) (p : ℕ × List ℕ) → chosen_library order name libs ≡ Some p → IsFirstLibrary order name libs p
+pub first_library : (order : Order) (name : List ℕ) (libs : List (List ℕ)) (p : ℕ × List ℕ) → chosen_library order name libs ≡ Some p → IsFirstLibrary order name libs p
 first_library order name libs p e = go (subst (λ (o : Option (ℕ × List ℕ)). Least (λ a b. a.0 < b.0) (λ q. SomeItem libs (λ k lib. HasEntry order name lib × (q ≡ (k, lib)))) o) e (chosen order name libs))
   where
     go : Least (λ a b. a.0 < b.0) (λ q. SomeItem libs (λ k lib. HasEntry order name lib × (q ≡ (k, lib)))) (Some p) → IsFirstLibrary order name libs p
@@ -492,7 +501,7 @@ first_library order name libs p e = go (subst (λ (o : Option (ℕ × List ℕ))
       λ m other h u k. elim (l (m, other) (m, other, u, (k, refl))) [ inl x ↦ (let y = ap (λ (z : ℕ × List ℕ). z.0) x in omega (arith, y, h)) | inr x ↦ omega (arith, x, h) ],
     )
 
-library_at : (host : List ℕ) (libs : List (List ℕ)) (k : ℕ) (lib : List ℕ) → slice_get libs k ≡ Some lib → file_at host libs (k + 1) ≡ lib
+pub library_at : (host : List ℕ) (libs : List (List ℕ)) (k : ℕ) (lib : List ℕ) → slice_get libs k ≡ Some lib → file_at host libs (k + 1) ≡ lib
 library_at host libs k lib e = at (k + 1) (omega arith)
   where
     at : (n : ℕ) → n ≡ suc k → file_at host libs n ≡ lib

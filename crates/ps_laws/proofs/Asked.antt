@@ -1,5 +1,5 @@
 -- Each unit that a record of the link asks for has its segment there, where the rounds end without a fault.
-use Rattle.std.proofs.Common.{◌≡◌, ℕ, zero, suc, ◌+◌, ◌<◌, ◌≤◌, List, [], ◌∷◌, ◌++◌, length, Option, Some, None, Result, Ok, Err, Bool, true, false, refl, sym, ap, subst, ◌∙◌, inl, inr, arith, append_assoc, append-nil, is_some, is_none}
+use Rattle.std.proofs.Common.{◌≡◌, ℕ, zero, suc, ◌+◌, ◌<◌, ◌≤◌, List, [], ◌∷◌, ◌++◌, length, take, Option, Some, None, Result, Ok, Err, Bool, true, false, refl, sym, ap, subst, ◌∙◌, inl, inr, arith, append_assoc, append-nil, is_some, is_none}
 use Rattle.std.specs.Prelude.{◌⊎◌, if◌then◌else◌, ◌&&◌, ◌||◌, ◌==◌, not}
 use Rattle.std.specs.Bool.{Decides}
 use Rattle.std.specs.List.{enumerate_from, slice_get, list_any, find, cons_option}
@@ -25,7 +25,7 @@ use Rattle.ps_resolve.specs.Sources.{Segment, is_named, has_entry, chosen_librar
 use Rattle.ps_resolve.specs.declared.added.UnitReference.{UnitReference}
 use Rattle.ps_laws.proofs.Looking.{of_test, any_of_items, none_of_items, find_none}
 use Rattle.ps_laws.proofs.Items.{In, at_left, at_seam, in_left, in_right, some_before, in_flat, in_filter_map, of_filter_map, in_range, of_range, of_filter, filter_ascends, find_passes}
-use Rattle.ps_laws.proofs.Definitions.{longer}
+use Rattle.ps_laws.proofs.Definitions.{take_front, longer}
 use Rattle.ps_laws.proofs.Segments.{from_slot, found_in_slot}
 use Rattle.ps_laws.proofs.Rounds.{own_units, references_of, sought_rest, rest_of, of_segment, of_fault, of_name, next_slot, first_round}
 use Rattle.ps_words.specs.declared.order.Order.{Order}
@@ -146,10 +146,10 @@ all_had units row (h ∷ gs) g zero e =
     first false is = had_last units row h
 all_had units row (h ∷ gs) g (suc i) e = all_had units (if is_had units row h.name then row else row ++ h ∷ []) gs g i e
 
--- 3. where the rounds end without a fault, each name of the row has its slot and its segment
+-- 3. where the rounds end without a fault, each name of the row has its slot and its segment, and is sought by the host's own segments and those that were added before it
 abbrev pub IsPlaced : Order → List ℕ → List (List ℕ) → ℕ → UnitReference → Type 0
 IsPlaced order host libs j g =
-    (slot : ℕ) × (s : Segment) × (slice_get (empty_slots order host) j ≡ Some slot) × (slice_get (added order host libs) j ≡ Some s) × (added_segment order host libs g slot ≡ Some s) × (placed_fault order host libs g slot ≡ None)
+    (slot : ℕ) × (s : Segment) × (slice_get (empty_slots order host) j ≡ Some slot) × (slice_get (added order host libs) j ≡ Some s) × (added_segment order host libs g slot ≡ Some s) × (placed_fault order host libs g slot ≡ None) × (slice_get (sought order host libs (take j (added order host libs))) j ≡ Some g)
 
 abbrev pub row_of : Order → List ℕ → List (List ℕ) → List UnitReference
 row_of order host libs = sought order host libs (added order host libs)
@@ -228,6 +228,12 @@ rounds_place order host libs (slot ∷ left) front used k row is at slots_are us
         here : slice_get (added order host libs) k ≡ Some s
         here = ap (λ (ss : List Segment). slice_get ss k) is ∙ at_seam front s rest k at
 
+        front_is : take k (added order host libs) ≡ front
+        front_is = ap (λ (ss : List Segment). take k ss) is ∙ (ap (λ (n : ℕ). take n (front ++ s ∷ rest)) at ∙ take_front front (s ∷ rest))
+
+        sought_there : slice_get (sought order host libs (take k (added order host libs))) k ≡ Some g
+        sought_there = ap (λ (ss : List Segment). slice_get (sought order host libs ss) k) front_is ∙ (ap (λ (r : List UnitReference). slice_get r k) row_is ∙ e)
+
         names : (j : ℕ) (h : UnitReference) → k ≤ j → slice_get (row_of order host libs) j ≡ Some h → IsPlaced order host libs j h
         names j h low u = elim (cases_lt k j) [
           | inl x ↦ more.0 j h (omega (arith, x)) u
@@ -235,7 +241,7 @@ rounds_place order host libs (slot ∷ left) front used k row is at slots_are us
               let same : k ≡ j = omega (arith, x, low) in
               let named : slice_get (row_of order host libs) j ≡ Some g = subst (λ (n : ℕ). slice_get (row_of order host libs) n ≡ Some g) same (stays g (s ∷ rest) e is) in
               let it : g ≡ h = cc in
-              subst (λ (n : ℕ). IsPlaced order host libs n h) same (slot, s, slot_at, here, subst (λ (y : UnitReference). added_segment order host libs y slot ≡ Some s) it q, subst (λ (y : UnitReference). placed_fault order host libs y slot ≡ None) it p)
+              subst (λ (n : ℕ). IsPlaced order host libs n h) same (slot, s, slot_at, here, subst (λ (y : UnitReference). added_segment order host libs y slot ≡ Some s) it q, subst (λ (y : UnitReference). placed_fault order host libs y slot ≡ None) it p, sought_there ∙ ap (λ (y : UnitReference). Some y) it)
         ]
 
         segs : (j : ℕ) (t : Segment) → k ≤ j → slice_get (added order host libs) j ≡ Some t → (h : UnitReference) × (slice_get (row_of order host libs) j ≡ Some h)
@@ -279,7 +285,7 @@ pub empty_slot : (order : Order) (host : List ℕ) (j slot : ℕ) → slice_get 
 unfolding empty_slots
 empty_slot order host j slot e = of_filter (is_role is_empty order host) 7 9 slot j e
 
-empty_ascend : (order : Order) (host : List ℕ) (i j x y : ℕ) → i < j → slice_get (empty_slots order host) i ≡ Some x → slice_get (empty_slots order host) j ≡ Some y → x < y
+pub empty_ascend : (order : Order) (host : List ℕ) (i j x y : ℕ) → i < j → slice_get (empty_slots order host) i ≡ Some x → slice_get (empty_slots order host) j ≡ Some y → x < y
 unfolding empty_slots
 empty_ascend order host i j x y h e u = filter_ascends (is_role is_empty order host) 7 9 i j x y h e u
 

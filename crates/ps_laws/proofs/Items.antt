@@ -1,5 +1,5 @@
 -- What is in a list, by its place there.
-use Rattle.std.proofs.Common.{◌≡◌, ℕ, zero, suc, ◌+◌, ◌<◌, ◌≤◌, List, [], ◌∷◌, ◌++◌, length, Option, Some, None, Bool, true, false, refl, sym, ap, subst, ◌∙◌, inl, inr, arith}
+use Rattle.std.proofs.Common.{◌≡◌, ℕ, zero, suc, ◌+◌, ◌<◌, ◌≤◌, List, [], ◌∷◌, ◌++◌, length, take, Option, Some, None, Bool, true, false, refl, sym, ap, subst, ◌∙◌, inl, inr, arith}
 use Rattle.std.specs.Prelude.{if◌then◌else◌}
 use Rattle.std.specs.List.{range_with_len, slice_get, filter, filter_map, flat_map, cons_option, find}
 use Rattle.std.proofs.lemmas.Bool.{cases_lt}
@@ -105,6 +105,23 @@ of_filter test a (suc n) i j e = go (λ k h. of_filter test (a + 1) n i k h) (te
     go later false is j e = further (later j e)
     go later true is zero e = let same : a ≡ i = cc in (omega (arith, same), omega (arith, same), ap test (sym same) ∙ is)
     go later true is (suc j) e = further (later j e)
+
+pub in_filter : {A : Type 0} (test : A → Bool) (xs : List A) (x : A) → In x xs → test x ≡ true → In x (filter test xs)
+in_filter test [] x t h = absurd (let e = t.1 in cc)
+in_filter {A} test (y ∷ xs) x t h = go (λ i e. in_filter test xs x (i, e) h) (test y) refl t.0 t.1
+  where
+    go : ((i : ℕ) → slice_get xs i ≡ Some x → In x (filter test xs)) → (b : Bool) → test y ≡ b → (i : ℕ) → slice_get (y ∷ xs) i ≡ Some x → In x (if b then y ∷ filter test xs else filter test xs)
+    go later true is zero e = (zero, e)
+    go later false is zero e = let same : x ≡ y = cc in let a : false ≡ true = sym is ∙ (sym (ap test same) ∙ h) in absurd (cc)
+    go later true is (suc i) e = let r = later i e in (suc r.0, r.1)
+    go later false is (suc i) e = later i e
+
+-- an item of a front
+pub of_take : {A : Type 0} (n : ℕ) (xs : List A) (i : ℕ) (x : A) → slice_get (take n xs) i ≡ Some x → (i < n) × (slice_get xs i ≡ Some x)
+of_take zero xs i x e = absurd (cc)
+of_take (suc n) [] i x e = absurd (cc)
+of_take (suc n) (y ∷ xs) zero x e = (omega arith, e)
+of_take (suc n) (y ∷ xs) (suc i) x e = let r = of_take n xs i x e in (let h = r.0 in omega (arith, h), r.1)
 
 pub filter_ascends : (test : ℕ → Bool) (a n i j x y : ℕ) → i < j → slice_get (filter test (range_with_len a n)) i ≡ Some x → slice_get (filter test (range_with_len a n)) j ≡ Some y → x < y
 filter_ascends test a zero i j x y h e u = absurd (cc)

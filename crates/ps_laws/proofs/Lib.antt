@@ -22,3 +22,5 @@ pub mod OneHost
 pub mod EditsAt
 pub mod ByteFacts
 pub mod LinkedBytes
+pub mod UnitSources
+pub mod SegmentOrigins

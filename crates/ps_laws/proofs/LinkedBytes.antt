@@ -34,7 +34,7 @@ use Rattle.ps_laws.proofs.ByteFacts.{facts, one_byte}
 use Rattle.ps_words.specs.FaultPlaces.{in_record}
 use Rattle.ps_words.specs.declared.fault.Reason.{Reason}
 
-all_items : {A : Type 0} (P : A → Type 0) (xs : List A) → ((k : ℕ) (x : A) → slice_get xs k ≡ Some x → P x) → All P xs
+pub all_items : {A : Type 0} (P : A → Type 0) (xs : List A) → ((k : ℕ) (x : A) → slice_get xs k ≡ Some x → P x) → All P xs
 all_items P [] h = All-nil P
 all_items P (x ∷ xs) h = All-cons P x xs (h 0 x refl) (all_items P xs (λ k y e. h (suc k) y e))
 

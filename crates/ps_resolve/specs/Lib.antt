@@ -23,3 +23,4 @@ pub mod Names
 pub mod Starts
 pub mod LinkedBytes
 pub mod Builders
+pub mod Origins

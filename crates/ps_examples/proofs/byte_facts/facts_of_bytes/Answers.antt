@@ -1,16 +1,22 @@
-use Rattle.ps_examples.proofs.ByteFacts.{segments_are, a_private, a_public_operand, a_private_operand, its_place, a_number_place, a_size_place, a_reference, a_number, a_kept_byte}
+use Rattle.ps_examples.proofs.ByteFacts.{segments_are, a_private, a_second_private, a_private_of_a_second_unit, a_public_operand, a_displaced_public_operand, a_private_operand, a_unit_operand, its_place, a_number_place, a_size_place, a_reference, a_number, a_size_byte, its_second_byte, a_kept_byte}
 use Rattle.ps_examples.proofs.byte_facts.facts_of_bytes.Goals as goal
 
 pub returns : goal.returns
 returns c = record {
   segments = segments_are;
   a_private = a_private;
+  a_second_private = a_second_private;
+  a_private_of_a_second_unit = a_private_of_a_second_unit;
   a_public_operand = a_public_operand;
+  a_displaced_public_operand = a_displaced_public_operand;
   a_private_operand = a_private_operand;
+  a_unit_operand = a_unit_operand;
   its_place = its_place;
   a_number_place = a_number_place;
   a_size_place = a_size_place;
   a_reference = a_reference;
   a_number = a_number;
+  a_size_byte = a_size_byte;
+  its_second_byte = its_second_byte;
   a_kept_byte = a_kept_byte;
 }

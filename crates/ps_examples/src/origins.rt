@@ -1,0 +1,86 @@
+ghost use Rattle.std.specs.Prelude.{◌≡◌, ℕ, List, [], ◌∷◌, take};
+ghost use Rattle.ps_codefile.specs.Dictionary.{entry_at};
+ghost use Rattle.ps_codefile.specs.declared.entry.Role.TheVariants as role;
+ghost use Rattle.ps_examples.specs.Files.{host, library, host_with_tools, put_at, with_slot};
+ghost use Rattle.ps_examples.specs.Files.{blank, util, aux, util_code};
+ghost use Rattle.ps_examples.specs.Segments.{demo_segment, util_segment, using_segment};
+ghost use Rattle.ps_examples.specs.Segments.{aux_segment, self_segment, count_segment};
+ghost use Rattle.ps_examples.specs.Segments.{past_segment, tools_segment};
+ghost use Rattle.ps_examples.specs.Segments.{count_reference, pair, three, with_plain};
+ghost use Rattle.ps_resolve.specs.Origins.{HasOne, IsOwn, IsAddedUnit, IsFile, IsInPlace};
+ghost use Rattle.ps_resolve.specs.Origins.{IsUnitOf, IsSliceOf, IsRead};
+ghost use Rattle.ps_resolve.specs.Sources.{Segment};
+ghost use Rattle.ps_words.specs.declared.order.Order.TheVariants.{Little};
+
+/// Where the segments of a host and its libraries come from: the host's own, a unit of the first
+/// library that has it, one that is added for another, and a plain segment.
+pub fn origins_of_segments()
+    ensures an_added_unit_s_segments { three ≡ demo_segment ∷ using_segment ∷ aux_segment ∷ [] }
+    ensures a_plain_segment_s { with_plain ≡ demo_segment ∷ util_segment ∷ tools_segment ∷ [] }
+    ensures a_slot_has_one { HasOne pair 7 }
+    ensures file_0 { IsFile host (library ∷ []) 0 host }
+    ensures file_1 { IsFile host (library ∷ []) 1 library }
+    ensures a_host_segment_is_own { IsOwn Little host demo_segment }
+    ensures a_wanted_unit_is_own { IsOwn Little host util_segment }
+    ensures an_added_unit { IsAddedUnit Little host three aux_segment }
+    ensures in_place { IsInPlace demo_segment }
+    ensures in_the_library { IsUnitOf Little host (library ∷ []) util 1 2 }
+    ensures in_the_second { IsUnitOf Little host (put_at 80 aux library ∷ library ∷ []) util 2 2 }
+    ensures its_slice { IsSliceOf library (entry_at Little library 2) (util_code Little) }
+    ensures read_from_the_host { IsRead Little host (library ∷ []) demo_segment }
+    ensures read_from_the_library { IsRead Little host (library ∷ []) util_segment }
+    ensures a_plain_one_is_not_read { IsRead Little host_with_tools (library ∷ []) tools_segment }
+{}
+
+/// Where segments do not come from: each clause has one that looks like one of a link and lacks one
+/// fact of it.
+pub fn segments_of_no_link()
+    ensures a_slot_with_two { HasOne (aux_segment ∷ tools_segment ∷ []) 8 → ⊥ }
+    ensures a_slot_without_one { HasOne (demo_segment ∷ []) 7 → ⊥ }
+    ensures not_of_another_role { IsOwn Little host
+        (record demo_segment { role = role.Plain }) → ⊥ }
+    ensures not_of_an_empty_slot { IsOwn Little host
+        (record aux_segment { role = role.Empty; name = blank }) → ⊥ }
+    ensures not_of_another_name { IsOwn Little host (record util_segment { name = aux }) → ⊥ }
+    ensures not_in_a_taken_slot { (segs : List Segment)
+        → IsAddedUnit Little host segs (record aux_segment { slot = 7 }) → ⊥ }
+    ensures not_in_a_low_slot { (segs : List Segment)
+        → IsAddedUnit Little host segs (record aux_segment { slot = 6 }) → ⊥ }
+    ensures not_past_an_empty_slot { IsAddedUnit Little host
+        (demo_segment ∷ using_segment ∷ past_segment ∷ []) past_segment → ⊥ }
+    ensures not_of_another_role_than_wanted { (segs : List Segment)
+        → IsAddedUnit Little host segs (record aux_segment { role = role.Unit }) → ⊥ }
+    ensures not_asked_for_by_itself_alone { IsAddedUnit Little host
+        (util_segment ∷ self_segment ∷ []) self_segment → ⊥ }
+    ensures not_asked_for_by_a_publ_ref { IsAddedUnit Little host
+        (util_segment ∷ count_segment ∷ []) count_segment → ⊥ }
+    ensures not_of_a_name_of_blanks { (segs : List Segment)
+        → IsAddedUnit Little host segs (record aux_segment { name = blank }) → ⊥ }
+    ensures not_of_a_name_that_the_host_has { (segs : List Segment)
+        → IsAddedUnit Little host segs (record aux_segment { name = util }) → ⊥ }
+    ensures not_in_the_host { IsUnitOf Little library [] util 0 2 → ⊥ }
+    ensures not_in_a_later_library { IsUnitOf Little host (library ∷ library ∷ []) util 2 2 → ⊥ }
+    ensures not_the_entry_of_another_name { IsUnitOf Little host (library ∷ []) aux 1 2 → ⊥ }
+    ensures not_an_entry_without_a_length { IsUnitOf Little host
+        (with_slot Little 2 util 3 1 0 library ∷ []) util 1 2 → ⊥ }
+    ensures not_one_of_two_entries { IsUnitOf Little host
+        (with_slot Little 3 util 3 1 24 library ∷ []) util 1 2 → ⊥ }
+    ensures not_an_entry_of_another_kind { IsUnitOf Little host
+        (put_at 196 (5 ∷ []) library ∷ []) util 1 2 → ⊥ }
+    ensures not_in_a_file_that_is_not_there { IsUnitOf Little host
+        (put_at 80 aux library ∷ []) util 2 2 → ⊥ }
+    ensures not_an_entry_past_the_last { (name : List ℕ)
+        → IsUnitOf Little host (library ∷ []) name 1 16 → ⊥ }
+    ensures not_cut { IsSliceOf
+        (take 530 library) (entry_at Little library 2) (take 18 (util_code Little)) → ⊥ }
+    ensures not_other_bytes { IsSliceOf library
+        (entry_at Little library 2) (put_at 5 (3 ∷ []) (util_code Little)) → ⊥ }
+    ensures not_of_an_odd_length { IsRead Little host (with_slot Little 2 util 3 1 23 library ∷ [])
+        (record util_segment { code = take 23 (util_code Little) }) → ⊥ }
+    ensures not_of_another_file { IsRead Little host (library ∷ [])
+        (record util_segment { file = 0 }) → ⊥ }
+    ensures not_without_its_records { IsRead Little host (library ∷ [])
+        (record util_segment { records = [] }) → ⊥ }
+    ensures not_with_records_of_its_own { (libs : List (List ℕ))
+        → IsRead Little host libs (record tools_segment { records = count_reference ∷ [] }) → ⊥ }
+{}
