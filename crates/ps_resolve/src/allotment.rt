@@ -174,7 +174,8 @@ impl<A: Allocator + Copy> Allotment<A> {
         ensures names { IfOk result (λ _. HaveOwnNames (map owner_of_linkage segments.now)) }
         ensures room { IfOk result (λ _. HaveRoom next (map owner_of_linkage segments.now)) }
         ensures refused { IfErr result (StopsPrivates next (map owner_of_linkage segments.now)) }
-        ensures asked { IfOk result (λ a. map asked_of a.privates ≡ all_asked (map owner_of_linkage segments.now)) }
+        ensures asked { IfOk result (λ a. map asked_of a.privates
+            ≡ all_asked (map owner_of_linkage segments.now)) }
         ensures rising { IfOk result (λ a. AreByRecord a.privates) }
         ensures follow { IfOk result (λ a. FollowOn next a.privates) }
         ensures total { IfOk result (λ a. a.words ≡ words_of_all a.privates) }
