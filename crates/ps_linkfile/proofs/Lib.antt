@@ -9,3 +9,4 @@ pub mod Plans
 pub mod Whole
 pub mod Maps
 pub mod Shows
+pub mod ReferenceText

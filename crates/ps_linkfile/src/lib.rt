@@ -9,6 +9,7 @@ mod laws;
 mod lines;
 mod linked;
 mod map;
+mod pieces;
 mod show;
 mod summary;
 mod tally;

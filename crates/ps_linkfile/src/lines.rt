@@ -8,6 +8,7 @@ use std::alloc::{AllocError, Allocator};
 use std::fmt;
 
 /// Adds a number behind this text.
+#[inline(always)]
 pub(crate) fn add_number<A: Allocator, I: Integer>(
     text: &mut String<A>,
     before: &str,

@@ -12,6 +12,7 @@ ghost use Rattle.ps_linkfile.specs.ShowText.{order_words, slot_line, references,
 
 use crate::error::LinkError;
 use crate::lines::{FaultWords, Shown, TwoDigits, add_name, add_number};
+use crate::pieces::{PIECE, add_piece};
 use arrayvec::ArrayVec;
 use ps_codefile::{Dict, Entry, Role};
 use ps_linkinfo::{Body, LinkRecord, Records, Refs, walk_from_start};
@@ -154,8 +155,8 @@ fn add_references<A: Allocator>(text: &mut String<A>, refs: &Refs) -> Result<(),
     ensures { OnOk result (string_bytes text.new ≡ string_bytes text.old ++ references refs.now) }
 {
     text.push_str(" at")?;
-    for index in 0..refs.len() {
-        add_number(text, " ", refs.get(index))?;
+    for index in 0..refs.len().div_ceil(PIECE) {
+        add_piece(text, refs, PIECE * index)?;
     }
     Ok(())
 }

@@ -1,5 +1,5 @@
 ghost use Rattle.std.specs.Prelude.{◌≡◌, ◌<◌, ◌≤◌, ◌*◌, ◌↔◌, [], IsTrue, length, slice_index};
-ghost use Rattle.ps_linkinfo.specs.Refs.{words_of};
+ghost use Rattle.ps_linkinfo.specs.Refs.{order_with as order_with_spec, words_of};
 
 use crate::layout::WORD_LEN;
 use ps_words::{Order, get};
@@ -10,20 +10,42 @@ use std::marker::Model;
 /// Source: the published II.0 Linker source; that the offset counts from the segment's first byte is this project's profile.
 #[derive(Clone, Debug, Drop)]
 pub struct Refs<'a> {
-    order: Order,
+    /// Which byte of a word is its low byte: 0 in little-endian order, 1 in big-endian order. It is as
+    /// wide as the other fields, so that records are copied without padding.
+    low: usize,
     bytes: &'a [u8],
 }
 
 // Clauses see the list of its references.
 impl<'a> Model for Refs<'a> {
     ghost use Rattle.std.specs.Prelude.{List, ℕ, ◌≤◌, ◌*◌, length};
-    ghost use Rattle.ps_linkinfo.specs.Refs.{words_of};
+    ghost use Rattle.ps_linkinfo.specs.Refs.{order_with, words_of};
 
     ghost Value = { List ℕ };
 
-    ghost view = { λ r. words_of r.order r.bytes.now };
+    ghost view = { λ r. words_of (order_with r.low) r.bytes.now };
 
     ghost invariant = { λ r. length r.bytes.now ≤ 2 * 65535 };
+}
+
+/// Which byte of a word is its low byte.
+fn low_of(order: Order) -> usize
+    ensures { order_with_spec result ≡ order }
+{
+    match order {
+        Order::Little => 0,
+        Order::Big => 1,
+    }
+}
+
+/// The order of words of which this byte is the low one.
+fn order_with(low: usize) -> Order
+    ensures { result ≡ order_with_spec low }
+{
+    match low {
+        0 => Order::Little,
+        _ => Order::Big,
+    }
 }
 
 impl<'a> Refs<'a> {
@@ -32,7 +54,10 @@ impl<'a> Refs<'a> {
         requires { length bytes.now ≤ 2 * 65535 }
         ensures { result ≡ words_of order bytes.now }
     {
-        Refs { order, bytes }
+        Refs {
+            low: low_of(order),
+            bytes,
+        }
     }
 
     /// How many references there are, at most 65535.
@@ -57,6 +82,6 @@ impl<'a> Refs<'a> {
         requires { index < length self.now }
         ensures { result ≡ slice_index self.now index }
     {
-        get(self.order, self.bytes, WORD_LEN * index)
+        get(order_with(self.low), self.bytes, WORD_LEN * index)
     }
 }

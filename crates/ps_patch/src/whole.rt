@@ -10,9 +10,9 @@ fn store(order: Order, code: &mut [u8], edit: Edit)
     ensures { (p : ℕ) → slice_index code.new p ≡ patched_by order code.old edit p }
 {
     match edit {
-        Edit::Big { place, value } => put_big(code, place, value),
-        Edit::Byte { place, value } => code[place] = value,
-        Edit::Word { place, value } => put(order, code, place, value),
+        Edit::Big { place, value } => put_big(code, place as usize, value),
+        Edit::Byte { place, value } => code[place as usize] = value,
+        Edit::Word { place, value } => put(order, code, place as usize, value),
     }
 }
 

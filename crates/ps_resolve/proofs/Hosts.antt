@@ -32,6 +32,9 @@ module _ (order : Order) (segs : List Segment) (h : Segment) (is : host_of segs 
   host_sound : IsSound order h
   host_sound = found_holds (IsSound order) (λ s. is_host s.role) segs h sound is
 
+  pub host_small : length h.code ≤ 32767
+  host_small = host_sound.small
+
   pub host_large : 4 ≤ length h.code
   host_large = host_sound.large (host_linked h.role role)
 

@@ -22,7 +22,7 @@ const BYTES_IN_WORD: usize = 2;
 #[derive(Clone, Copy)]
 pub(crate) struct DataSize {
     /// Where it stands in the code of the host's segment.
-    pub(crate) place: usize,
+    pub(crate) place: u16,
     /// In bytes.
     pub(crate) size: u16,
 }
@@ -60,6 +60,7 @@ fn outer_table(order: Order, code: &[u8]) -> usize
 /// The data size of the outer block of the host's segment, grown by two bytes for each private word.
 /// Refuses `DataTooLarge` where it is over 65535.
 pub(crate) fn grown_data_size(order: Order, host: &Segment, words: u16) -> Result<DataSize, Stop>
+    requires small { length host.now.code.now ≤ 32767 }
     requires large { 4 ≤ length host.now.code.now }
     requires sound { tables_fault order host.now.code.now true ≡ None }
     ensures edit { IfOk result (λ d. data_edits order words host.now.code.now ≡ Word d.place d.size ∷ []) }
@@ -80,7 +81,7 @@ pub(crate) fn grown_data_size(order: Order, host: &Segment, words: u16) -> Resul
         }));
     }
     Ok(DataSize {
-        place,
+        place: place as u16,
         size: size as u16,
     })
 }

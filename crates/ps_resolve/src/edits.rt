@@ -62,13 +62,14 @@ fn own_edits<A: Allocator + Copy>(
     own: Option<Edit>,
     references: usize,
 ) -> Result<Vec<Edit, A>, RecordStop>
-    requires { 4 ≤ length code.now }
+    requires small { length code.now ≤ 32767 }
+    requires large { 4 ≤ length code.now }
     ensures items { IfOk result (λ edits. edits.items ≡ Byte (length code.now - 2) slot ∷ option_to_list own) }
     ensures stop { IfErr result (λ stop. stop ≡ Memory) }
 {
     let mut edits = Vec::with_capacity(alloc, references.saturating_add(MOST_OWN_EDITS))?;
     edits.push(Edit::Byte {
-        place: code.len() - NUMBER_FROM_END,
+        place: (code.len() - NUMBER_FROM_END) as u16,
         value: slot,
     })?;
     match own {

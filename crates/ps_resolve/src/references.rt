@@ -98,15 +98,16 @@ fn reason_at(
 fn edit_at(code: &[u8], target: Target, x: usize) -> Edit
     requires inside { x + width_of_spec target ≤ length code.now }
     requires small { value_of_spec code.now target x ≤ 32767 }
+    requires word { x < 65536 }
     ensures { result ≡ edit_of code.now target x }
 {
     match target {
         Target::Slot(slot) => Edit::Byte {
-            place: x,
+            place: x as u16,
             value: slot,
         },
         Target::Base(_) => Edit::Big {
-            place: x,
+            place: x as u16,
             value: value_of(code, target, x) as u16,
         },
     }

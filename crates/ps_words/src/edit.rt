@@ -4,7 +4,8 @@ ghost use Rattle.ps_words.specs.Edits.{place_of, width as width_spec};
 /// What is to be stored at a place of a segment's code.
 ///
 /// `place` is the byte offset, from 0, of the first byte to be stored from the segment's first
-/// byte. What is stored is the final content: for an operand, its displacement included.
+/// byte; it fits a word, since a code has at most 32767 bytes. What is stored is the final content:
+/// for an operand, its displacement included.
 /// Source: this project's profile.
 #[derive(Clone, Copy, Debug, PartialEq, Eq)]
 pub enum Edit {
@@ -12,7 +13,7 @@ pub enum Edit {
     Big {
         /// The offset of the operand's first byte, which gets the high byte and the mark of two
         /// bytes.
-        place: usize,
+        place: u16,
         /// The value that the operand will have, 0 to 32767: the displacement that it had, plus
         /// what it refers to.
         value: u16,
@@ -20,14 +21,14 @@ pub enum Edit {
     /// A single byte.
     Byte {
         /// The offset of the byte.
-        place: usize,
+        place: u16,
         /// The byte that will stand there.
         value: u8,
     },
     /// A word, in two bytes, in the file's byte order.
     Word {
         /// The offset of the word's first byte.
-        place: usize,
+        place: u16,
         /// The word that will stand there.
         value: u16,
     },
@@ -39,7 +40,9 @@ impl Edit {
         ensures { result ≡ place_of self.now }
     {
         match *self {
-            Edit::Big { place, .. } | Edit::Byte { place, .. } | Edit::Word { place, .. } => place,
+            Edit::Big { place, .. } | Edit::Byte { place, .. } | Edit::Word { place, .. } => {
+                place as usize
+            }
         }
     }
 

@@ -20,7 +20,7 @@ use Rattle.ps_resolve.specs.Faults.{size_fault}
 use Rattle.ps_resolve.specs.Plans.{LinkSegments}
 use Rattle.ps_resolve.specs.declared.definitions.Def.{Def}
 use Rattle.ps_resolve.specs.declared.segment.Segment.{Segment as SegmentView}
-use Rattle.ps_resolve.proofs.Hosts.{host_large, host_tables, of_hosts}
+use Rattle.ps_resolve.proofs.Hosts.{host_small, host_large, host_tables, of_hosts}
 use Rattle.ps_resolve.proofs.Lengths.{lengths}
 use Rattle.ps_resolve.proofs.Segs.{slots_are, units_are}
 use Rattle.ps_resolve.proofs.Stages.{records_are, known_is, doubled_at, unallotted_at, size_at, references_at, none_at}
@@ -60,6 +60,13 @@ returns-in_err-allotment-in-Some-clause-stop g c =
     let owners_are : owners ≡ map owner_of segs = ap (map owner_of_linkage) c.as_slice.ensures.value ∙ c.in_ok-linkages-in-Some.ensures.owners in
     let p = err_from_is_err_and c.from_residual-in_err-allotment-in-Some.result c.from_residual-in_err-allotment-in-Some.ensures.1 in
     rw (p.1, p.2) (unallotted_at order segs h is once next owners c.in_err-allotment-in-Some.field-0.0 next_is owners_are c.in_err-allotment-in-Some.ensures.stop)
+
+pub grown_data_size-requires-clause-small : goal.grown_data_size-requires-clause-small
+grown_data_size-requires-clause-small g c =
+    let order : Order = c.args.order in
+    let segs : List Segment = map (segment_of order) c.args.segments.now in
+    let h : Segment = segment_of order c.in-Some.own in
+    host_small order segs h (sym (c.in-Some.ensures.found order)) c.in-Some.ensures.role c.requires.sound
 
 pub grown_data_size-requires-clause-large : goal.grown_data_size-requires-clause-large
 grown_data_size-requires-clause-large g c =

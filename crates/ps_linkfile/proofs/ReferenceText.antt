@@ -1,0 +1,47 @@
+-- The text of references, which is written from the last one on.
+use Rattle.std.proofs.Common.{◌≡◌, ℕ, ◌+◌, ◌-◌, ◌<◌, ◌≤◌, ◌++◌, List, ◌∷◌, length, take, drop, get_or, sym, ◌∙◌, ap, arith, add-one, refl}
+use Rattle.std.specs.Prelude.{OnOk, Result, Ok, Err, decimal, if◌then◌else◌, min}
+use Rattle.std.specs.Result.{is_ok}
+use Rattle.std.specs.List.{flat_map}
+use Rattle.std.specs.Str.{IsAscii}
+use Rattle.std.proofs.Math.Seq.{drop-cons}
+use Rattle.std.proofs.lemmas.Fmt.{IsAscii-decimal, length-decimal-le}
+use Rattle.std.proofs.lemmas.Grind.{flat_map-append}
+use Rattle.std.proofs.lemmas.List.{drop-drop, length-drop, take-append-drop, take_min}
+use Rattle.std.proofs.lemmas.Str.Ascii.{IsAscii-cons}
+use Rattle.ps_linkfile.specs.ShowText.{reference}
+
+pub digits_few : (n : ℕ) → n < 65536 → length (decimal n) ≤ 5
+digits_few n h = length-decimal-le 5 n (omega arith) (omega (arith, h)) (omega (arith, h))
+
+pub reference_ascii : (n : ℕ) → n < 65536 → IsAscii (reference n)
+reference_ascii n h = IsAscii-cons 32 (decimal n) (omega arith) (IsAscii-decimal n (omega (arith, h)))
+
+-- the references from i on are the one there and those behind it
+drop_one : (xs : List ℕ) (i : ℕ) → i < length xs → drop i xs ≡ get_or xs i 0 ∷ drop (i + 1) xs
+drop_one xs i h = rw (add-one, drop-cons xs i 0)
+
+take_one : (x : ℕ) (xs : List ℕ) (n : ℕ) → take (n + 1) (x ∷ xs) ≡ x ∷ take n xs
+take_one x xs n = rw add-one refl
+
+-- the text of one reference stands before that of those behind it
+pub one_more : (xs : List ℕ) (i n : ℕ) → i < length xs → reference (get_or xs i 0) ++ flat_map reference (take n (drop (i + 1) xs)) ≡ flat_map reference (take (n + 1) (drop i xs))
+one_more xs i n h = sym (ap (λ (ys : List ℕ). flat_map reference (take (n + 1) ys)) (drop_one xs i h) ∙ ap (flat_map reference) (take_one (get_or xs i 0) (drop (i + 1) xs) n))
+
+-- the text of the references from i on is that of a piece and of those behind it
+pub one_piece : (xs : List ℕ) (i n : ℕ) → flat_map reference (take n (drop i xs)) ++ flat_map reference (drop (i + n) xs) ≡ flat_map reference (drop i xs)
+one_piece xs i n =
+    ap (λ (ys : List ℕ). flat_map reference (take n (drop i xs)) ++ flat_map reference ys) (sym (drop-drop n i xs))
+    ∙ (sym (flat_map-append reference (take n (drop i xs)) (drop n (drop i xs)))
+    ∙ ap (flat_map reference) (take-append-drop n (drop i xs)))
+
+-- a piece has all that are left, and 64 at most
+pub piece_is : (xs : List ℕ) (i end : ℕ) → i ≤ length xs → end ≡ min (length xs) (i + 64) → take (end - i) (drop i xs) ≡ take 64 (drop i xs)
+piece_is xs i end h is =
+    let count : end - i ≡ min 64 (length (drop i xs)) = omega (arith, h, is, length-drop i xs) in
+    ap (λ (n : ℕ). take n (drop i xs)) count ∙ take_min 64 (drop i xs)
+
+-- what a call adds is the text
+pub added : {T E : Type 0} (r : Result T E) (new old words text : List ℕ) → new ≡ (if is_ok r then old ++ words else old) → words ≡ text → OnOk r (new ≡ old ++ text)
+added (Ok x) new old words text h e = h ∙ ap (λ (bs : List ℕ). old ++ bs) e
+added (Err x) new old words text h e = tt

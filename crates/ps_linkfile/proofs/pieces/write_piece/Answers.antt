@@ -1,0 +1,41 @@
+use Rattle.std.proofs.Common.{◌≡◌, ◌≤◌, ◌+◌, ◌-◌, ◌++◌, [], ◌∙◌, ℕ, List, drop, take, length, get_or, ap, sym, subst, arith}
+use Rattle.std.specs.List.{flat_map}
+use Rattle.std.specs.Str.{IsAscii}
+use Rattle.std.proofs.Math.ListN.{drop_of_length-le}
+use Rattle.std.proofs.lemmas.Str.{IsAscii-append}
+use Rattle.std.proofs.lemmas.Str.Ascii.{IsAscii-nil}
+use Rattle.ps_linkfile.specs.ShowText.{reference}
+use Rattle.ps_linkfile.proofs.ReferenceText.{one_more}
+use Rattle.ps_linkfile.proofs.pieces.write_piece.Goals as goal
+
+pub loop-step-init : goal.loop-step-init
+loop-step-init c =
+    let long : length c.args.piece.now ≤ 384 = omega arith in
+    let none : drop 384 c.args.piece.now ≡ [] = drop_of_length-le c.args.piece.now long in
+    record {
+      begins = omega arith;
+      inside = omega arith;
+      text = none;
+      ascii = subst (λ (bs : List ℕ). IsAscii bs) (sym none) IsAscii-nil;
+    }
+
+pub loop-step-preserved : goal.loop-step-preserved
+loop-step-preserved c =
+    let refs : List ℕ = c.args.refs.now in
+    let step : ℕ = c.loop-step.step in
+    let i : ℕ = c.args.end - 1 - step in
+    let behind : i + 1 ≡ c.args.end - step = omega arith in
+    let next : i ≡ c.args.end - (step + 1) = omega arith in
+    let inv = c.loop-step.invariant in
+    let old : List ℕ = drop c.loop-step.start c.loop-step.piece in
+    let written = c.write_reference-start.ensures in
+    record {
+      begins = omega (arith, inv.begins, written.begins);
+      inside = omega (arith, inv.inside, written.before);
+      text = written.text
+          ∙ (ap (λ (n : ℕ). reference n ++ old) c.get.ensures
+          ∙ (ap (λ (ys : List ℕ). reference (get_or refs i 0) ++ ys) (inv.text ∙ ap (λ (n : ℕ). flat_map reference (take step (drop n refs))) (sym behind))
+          ∙ (one_more refs i step (omega arith)
+          ∙ ap (λ (n : ℕ). flat_map reference (take (step + 1) (drop n refs))) next)));
+      ascii = subst (λ (bs : List ℕ). IsAscii bs) (sym written.text) (IsAscii-append (reference c.get.result) old written.ascii inv.ascii);
+    }

@@ -1,0 +1,65 @@
+//! The text of a record's references, which is made a piece at a time.
+ghost use Rattle.std.specs.Prelude.{◌≡◌, ◌<◌, ◌≤◌, ◌+◌, ◌-◌, ◌++◌, OnOk, drop, length, string_bytes, take};
+ghost use Rattle.std.specs.List.{flat_map};
+ghost use Rattle.std.specs.Str.{IsAscii};
+ghost use Rattle.ps_linkfile.specs.ShowText.{reference};
+
+use itoa::write_digits;
+use ps_linkinfo::Refs;
+use std::alloc::{AllocError, Allocator};
+
+/// How many references a piece has, but for the last.
+pub(crate) const PIECE: usize = 64;
+
+/// How many bytes their text takes at most: six for each, a blank and five digits.
+const PIECE_LEN: usize = 384;
+
+/// Writes the text of a reference so that it ends at `end`. Returns where it begins.
+fn write_reference(place: u16, piece: &mut [u8; PIECE_LEN], end: usize) -> usize
+    requires room { 6 ≤ end }
+    requires inside { end ≤ 384 }
+    ensures begins { end ≤ result + 6 }
+    ensures before { result < end }
+    ensures text { drop result piece.new ≡ reference place ++ drop end piece.old }
+    ensures ascii { IsAscii (reference place) }
+{
+    let digits = write_digits(place as u64, piece, end);
+    let blank = digits - 1;
+    piece[blank] = b' ';
+    blank
+}
+
+/// Writes the text of the references from the index `from` on, up to `end`, so that it ends where the
+/// piece does. Returns where it begins.
+fn write_piece(refs: &Refs, from: usize, end: usize, piece: &mut [u8; PIECE_LEN]) -> usize
+    requires ordered { from ≤ end }
+    requires within { end ≤ length refs.now }
+    requires few { end ≤ from + 64 }
+    ensures inside { result ≤ 384 }
+    ensures text { drop result piece.new ≡ flat_map reference (take (end - from) (drop from refs.now)) }
+    ensures ascii { IsAscii (drop result piece.new) }
+{
+    let mut start = PIECE_LEN;
+    for step in 0..end - from {
+        start = write_reference(refs.get(end - 1 - step), piece, start);
+    }
+    start
+}
+
+/// Adds the text of the references from the index `from` on, of 64 at most.
+pub(crate) fn add_piece<A: Allocator>(
+    text: &mut String<A>,
+    refs: &Refs,
+    from: usize,
+) -> Result<(), AllocError>
+    requires { from ≤ length refs.now }
+    ensures { OnOk result (string_bytes text.new ≡ string_bytes text.old ++ flat_map reference (take 64 (drop from refs.now))) }
+{
+    let mut piece = [0; PIECE_LEN];
+    let end = refs.len().min(from + PIECE);
+    let start = write_piece(refs, from, end, &mut piece);
+    match str::from_utf8(&piece[start..]) {
+        Err(_) => unreachable!(),
+        Ok(words) => text.push_str(words),
+    }
+}
