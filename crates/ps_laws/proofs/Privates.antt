@@ -11,8 +11,8 @@ use Rattle.ps_resolve.specs.First.{Least}
 use Rattle.ps_resolve.specs.Searches.{first_of}
 use Rattle.ps_resolve.specs.Sources.{Segment, host_records}
 use Rattle.ps_resolve.specs.Added.{segments}
-use Rattle.ps_resolve.specs.Privates.{words_in, allotted, private_words, private_fault, owner_of, all_allotted, all_words, first_private_fault}
 use Rattle.ps_linkinfo.specs.Counts.{next_of, is_private_reference}
+use Rattle.ps_resolve.specs.Privates.{words_in, allotted, private_words, private_fault, owner_of, all_allotted, all_words, first_private_fault}
 use Rattle.ps_resolve.specs.Standing.Keys.{OfPrivates, Precedes}
 use Rattle.ps_resolve.specs.Standing.Privates.{private_offset, PrivateHas, InPrivates}
 use Rattle.ps_resolve.specs.References.{words_taken}

@@ -4,8 +4,8 @@ use Rattle.std.specs.Prelude.{ℕ, ◌+◌, if◌then◌else◌, Bool, List, [],
 use Rattle.std.specs.List.{flat_map}
 use Rattle.ps_resolve.specs.Sources.{Segment, order_of, host_records}
 use Rattle.ps_resolve.specs.Added.{segments}
-use Rattle.ps_resolve.specs.Privates.{all_allotted, owner_of, total_words}
 use Rattle.ps_linkinfo.specs.Counts.{next_of}
+use Rattle.ps_resolve.specs.Privates.{all_allotted, owner_of, total_words}
 use Rattle.ps_resolve.specs.Symbols.{definitions}
 use Rattle.ps_resolve.specs.Linking.{data_size}
 use Rattle.ps_resolve.specs.Plans.{Planned, Origin}

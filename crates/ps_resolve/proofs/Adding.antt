@@ -1,5 +1,5 @@
 -- The row of names that are sought, of which only the first ten are kept, and the rounds that it gives.
-use Rattle.std.proofs.Common.{◌≡◌, ℕ, zero, suc, ◌+◌, ◌<◌, ◌≤◌, List, [], ◌∷◌, ◌++◌, ◌-◌, length, length-append, append_assoc, append-nil, take, Bool, true, false, Option, Some, None, inl, inr, refl, sym, ◌∙◌, ap, arith}
+use Rattle.std.proofs.Common.{◌≡◌, ℕ, zero, suc, ◌+◌, ◌<◌, ◌≤◌, List, [], ◌∷◌, ◌++◌, ◌-◌, length, length-append, append_assoc, append-nil, take, Bool, true, false, cond, Option, Some, None, inl, inr, refl, sym, ◌∙◌, ap, arith}
 use Rattle.std.specs.Prelude.{◌⊎◌, All, if◌then◌else◌}
 use Rattle.std.proofs.lemmas.Bool.{cases_lt}
 use Rattle.std.proofs.lemmas.List.{take-append-le, take_all, length-take, length-take-le}
@@ -12,14 +12,42 @@ use Rattle.ps_words.specs.declared.order.Order.{Order}
 use Rattle.ps_words.specs.declared.fault.Reason.{Reason}
 use Rattle.ps_words.specs.declared.fault.Reason.TheVariants as reason
 use Rattle.ps_codefile.specs.Dictionary.{slots}
+use Rattle.ps_linkinfo.specs.Counts.{is_unit_reference, units_in as units_asked}
 use Rattle.ps_resolve.specs.Added.{is_missing, as_added, is_had, unit_references, sought_from, unplaced_fault, placed_fault, added_segment, Rounds, after, rounds_from}
-use Rattle.ps_linkinfo.specs.Counts.{is_unit_reference}
 use Rattle.ps_codefile.specs.declared.entry.Role.TheVariants.{Wanted}
 use Rattle.ps_words.specs.declared.fault.Fault.{Fault}
+use Rattle.ps_linkinfo.specs.declared.record.Body.{Body}
+use Rattle.ps_linkinfo.specs.declared.record.Body.TheVariants.{UnitRef, PublRef, PrivRef, PublDef, ConstDef, Eof}
 use Rattle.ps_linkinfo.specs.declared.record.LinkRecord.{LinkRecord as Record}
+use Rattle.ps_resolve.proofs.Apart.{one_more}
 use Rattle.ps_resolve.specs.Sources.{Segment, segment_from, chosen_library, is_named}
 use Rattle.ps_resolve.specs.Faults.{code_fault, entries_reason}
 use Rattle.ps_resolve.specs.declared.added.UnitReference.{UnitReference}
+
+-- with this row, the names that the records from this index on seek make the whole row: that of all records, behind `old`
+abbrev pub Seeks : List (List ℕ × ℕ) → ℕ → ℕ → List Record → List UnitReference → List UnitReference → ℕ → List Record → Type 0
+Seeks units file slot all old row n rs = take 10 (sought_from units row (unit_references file slot n rs)) ≡ take 10 (sought_from units old (unit_references file slot 0 all))
+
+-- what asks for a unit is counted
+asks_is : (b : Body) → is_unit_reference b ≡ is_unit_reference b
+asks_is (UnitRef refs) = refl
+asks_is (PublRef refs) = refl
+asks_is (PrivRef words refs) = refl
+asks_is (PublDef value) = refl
+asks_is (ConstDef value) = refl
+asks_is (Eof next) = refl
+
+-- where none asks for a unit, there is no reference to one
+pub no_references : (file slot n : ℕ) (rs : List Record) → units_asked rs ≡ 0 → unit_references file slot n rs ≡ []
+no_references file slot n [] h = refl
+no_references file slot n (r ∷ rs) h = at (λ e. no_references file slot (n + 1) rs e) (is_unit_reference r.body) refl
+  where
+    one : (b : Bool) → is_unit_reference r.body ≡ b → units_asked (r ∷ rs) ≡ cond b 1 0 + units_asked rs
+    one b e = one_more (λ s. is_unit_reference s.body) r rs ∙ ap (λ (c : Bool). cond {A = ℕ} c 1 0 + units_asked rs) e
+
+    at : (units_asked rs ≡ 0 → unit_references file slot (n + 1) rs ≡ []) → (b : Bool) → is_unit_reference r.body ≡ b → unit_references file slot n (r ∷ rs) ≡ []
+    at rest false e = let a = one false (asks_is r.body ∙ e) in rw (e, unit_references) (rest (omega arith))
+    at rest true e = let a = one true (asks_is r.body ∙ e) in absurd (omega arith)
 
 -- names that are sought behind others
 pub sought-append : (units : List (List ℕ × ℕ)) (row xs ys : List UnitReference) → sought_from units row (xs ++ ys) ≡ sought_from units (sought_from units row xs) ys

@@ -61,12 +61,12 @@ in_slots_are order host libs =
     (found_there (own_segment order host libs) (λ j s e. (own_parts order host libs j s e).0) i 16 0 (omega arith) h))
 
 -- what stands in a slot is sound, where all segments are
-pub sound_in_slot : (order : Order) (host : List ℕ) (own added : List SegmentView) (slot : ℕ) (o : Option SegmentView) → option_map (segment_of order) o ≡ segment_in_slot order host (map (segment_of order) own) (map (segment_of order) added) slot
-    → All (IsSound order) (map (segment_of order) own) → All (IsSound order) (map (segment_of order) added) → IfSome o (λ s. IsSound order (segment_of order s))
+pub sound_in_slot : (order : Order) (host : List ℕ) (own added : List SegmentView) (slot : ℕ) (o : Option SegmentView) → option_map segment_of o ≡ segment_in_slot order host (map segment_of own) (map segment_of added) slot
+    → All (IsSound order) (map segment_of own) → All (IsSound order) (map segment_of added) → IfSome o (λ s. IsSound order (segment_of s))
 sound_in_slot order host own added slot None e all rest = tt
-sound_in_slot order host own added slot (Some s) e all rest = by (find (is_in_slot slot) (map (segment_of order) own)) refl (is_role is_empty order host slot) refl
+sound_in_slot order host own added slot (Some s) e all rest = by (find (is_in_slot slot) (map segment_of own)) refl (is_role is_empty order host slot) refl
   where
-    by : (p : Option Segment) → find (is_in_slot slot) (map (segment_of order) own) ≡ p → (b : Bool) → is_role is_empty order host slot ≡ b → IsSound order (segment_of order s)
-    by (Some t) f b g = let same : segment_of order s ≡ t = same_Some _ _ (e ∙ rw f refl) in subst (IsSound order) (sym same) (find_has (IsSound order) (is_in_slot slot) (map (segment_of order) own) t f all).1
-    by None f true g = let found = sym (e ∙ rw (f, g) refl) in (find_has (IsSound order) (is_in_slot slot) (map (segment_of order) added) (segment_of order s) found rest).1
-    by None f false g = let none : Some (segment_of order s) ≡ None = e ∙ rw (f, g) refl in cc
+    by : (p : Option Segment) → find (is_in_slot slot) (map segment_of own) ≡ p → (b : Bool) → is_role is_empty order host slot ≡ b → IsSound order (segment_of s)
+    by (Some t) f b g = let same : segment_of s ≡ t = same_Some _ _ (e ∙ rw f refl) in subst (IsSound order) (sym same) (find_has (IsSound order) (is_in_slot slot) (map segment_of own) t f all).1
+    by None f true g = let found = sym (e ∙ rw (f, g) refl) in (find_has (IsSound order) (is_in_slot slot) (map segment_of added) (segment_of s) found rest).1
+    by None f false g = let none : Some (segment_of s) ≡ None = e ∙ rw (f, g) refl in cc

@@ -42,43 +42,32 @@ none_links order s es e = subst (λ (fs : List Edit). LinksSegment order (record
 
 module _ (order : Order) (known : Known) (v : SegmentView) (free : ℕ) where
   -- a segment that is linked already
-  module _ (h : is_linked v.role ≡ false) where
-    plain_records : (segment_of order v).records ≡ []
-    plain_records = if_false (is_linked v.role) _ [] h
+  module _ (h : is_linked v.role ≡ false) (none : v.records ≡ []) where
+    pub plain_links : (words : ℕ) → LinksSegment order (record { segment = segment_of v; edits = segment_edits order known words free (segment_of v) }) []
+    plain_links words = none_links order (segment_of v) (segment_edits order known words free (segment_of v)) (if_false (is_linked v.role) _ [] h)
 
-    pub plain_links : (words : ℕ) → LinksSegment order (record { segment = segment_of order v; edits = segment_edits order known words free (segment_of order v) }) []
-    plain_links words = none_links order (segment_of order v) (segment_edits order known words free (segment_of order v)) (if_false (is_linked v.role) _ [] h)
+    pub plain_end : free ≡ free + private_words v.records
+    plain_end = let e = ap private_words none in omega (arith, e)
 
-    pub plain_end : free ≡ free + private_words (segment_of order v).records
-    plain_end = let e = ap private_words plain_records in omega (arith, e)
-
-    pub plain_fault : segment_fault order known free (segment_of order v) ≡ None
-    plain_fault = ap (λ (rs : List Record). option_map (in_segment v.file v.slot) (records_fault known (is_reserved order v.code.now) v.code.now 0 free [] rs)) plain_records
+    pub plain_fault : segment_fault order known free (segment_of v) ≡ None
+    plain_fault = ap (λ (rs : List Record). option_map (in_segment v.file v.slot) (records_fault known (is_reserved order v.code.now) v.code.now 0 free [] rs)) none
 
   -- one whose references are resolved
-  module _ (h : is_linked v.role ≡ true) (slot : ℕ) (rs : List Record) (at : slot ≡ v.slot) (read : rs ≡ (segment_of order v).records) (own : Option Edit) where
+  module _ (h : is_linked v.role ≡ true) (own : Option Edit) where
     listed : (words : ℕ) → option_to_list own ≡ (if is_host v.role then data_edits order words v.code.now else [])
-        → segment_edits order known words free (segment_of order v) ≡ Byte (length v.code.now - 2) slot ∷ (option_to_list own ++ records_edits known v.code.now free rs)
-    listed words e =
-        if_true (is_linked v.role) _ [] h
-        ∙ ap (λ (es : List Edit). Byte (length v.code.now - 2) v.slot ∷ (es ++ records_edits known v.code.now free (segment_of order v).records)) (sym e)
-        ∙ ap (λ (qs : List Record). Byte (length v.code.now - 2) v.slot ∷ (option_to_list own ++ records_edits known v.code.now free qs)) (sym read)
-        ∙ ap (λ (n : ℕ). Byte (length v.code.now - 2) n ∷ (option_to_list own ++ records_edits known v.code.now free rs)) (sym at)
+        → segment_edits order known words free (segment_of v) ≡ Byte (length v.code.now - 2) v.slot ∷ (option_to_list own ++ records_edits known v.code.now free v.records)
+    listed words e = if_true (is_linked v.role) _ [] h ∙ ap (λ (es : List Edit). Byte (length v.code.now - 2) v.slot ∷ (es ++ records_edits known v.code.now free v.records)) (sym e)
 
-    pub linked_links : (sorted : List Edit) → IsPermutation (Byte (length v.code.now - 2) slot ∷ (option_to_list own ++ records_edits known v.code.now free rs)) sorted
+    pub linked_links : (sorted : List Edit) → IsPermutation (Byte (length v.code.now - 2) v.slot ∷ (option_to_list own ++ records_edits known v.code.now free v.records)) sorted
         → AreEdits (length v.code.now) sorted
         → ((edits listed : List Edit) (p : ℕ) → AreApart 0 edits → IsPermutation edits listed → patched order v.code.now edits p ≡ patched order v.code.now listed p)
         → (words : ℕ) → option_to_list own ≡ (if is_host v.role then data_edits order words v.code.now else [])
-        → LinksSegment order (record { segment = segment_of order v; edits = segment_edits order known words free (segment_of order v) }) sorted
+        → LinksSegment order (record { segment = segment_of v; edits = segment_edits order known words free (segment_of v) }) sorted
     linked_links sorted same ready alike words e =
-        let all : List Edit = Byte (length v.code.now - 2) slot ∷ (option_to_list own ++ records_edits known v.code.now free rs) in
+        let all : List Edit = Byte (length v.code.now - 2) v.slot ∷ (option_to_list own ++ records_edits known v.code.now free v.records) in
         let is = listed words e in
         record {
           ready = ready;
           each = subst (λ (es : List Edit). IsPermutation es sorted) (sym is) same;
           bytes = λ p lt. alike sorted all p ready.apart (IsPermutation-sym all sorted same) ∙ ap (λ (es : List Edit). patched order v.code.now es p) (sym is);
         }
-
-    pub linked_fault : records_fault known (is_reserved order v.code.now) v.code.now 0 free [] rs ≡ None → segment_fault order known free (segment_of order v) ≡ None
-    linked_fault none = ap (λ (qs : List Record). option_map (in_segment v.file v.slot) (records_fault known (is_reserved order v.code.now) v.code.now 0 free [] qs)) (sym read)
-        ∙ ap (option_map (in_segment v.file v.slot)) none

@@ -1,28 +1,24 @@
 -- One record more of a segment.
-use Rattle.std.proofs.Common.{◌≡◌, ℕ, ◌+◌, ◌++◌, List, ◌∷◌, map, Bool, Option, Some, None, Result, Ok, Err, refl, sym, ◌∙◌, ap, append_assoc}
+use Rattle.std.proofs.Common.{◌≡◌, ◌∙◌, ℕ, ◌+◌, ◌++◌, List, [], ◌∷◌, length, map, Bool, true, false, cond, Option, Some, None, Ok, Err, refl, sym, ap, append_assoc}
 use Rattle.std.specs.Option.{option_map, option_or}
-use Rattle.std.specs.List.{filter_map}
-use Rattle.std.specs.Result.{result_ok}
+use Rattle.std.specs.List.{list_any}
 use Rattle.ps_linkinfo.specs.Records.{refs_of}
-use Rattle.ps_linkinfo.specs.Walk.{Walk}
+use Rattle.ps_linkinfo.specs.Counts.{is_private_reference, is_public_reference, is_unit_reference, privates_in, publics_in, units_in as units_asked}
 use Rattle.ps_resolve.specs.Privates.{private_words, words_in}
-use Rattle.ps_linkinfo.specs.Left.{left, records_left}
+use Rattle.ps_linkinfo.specs.declared.record.Body.{Body}
+use Rattle.ps_linkinfo.specs.declared.record.Body.TheVariants.{UnitRef, PublRef, PrivRef, PublDef, ConstDef, Eof}
 use Rattle.ps_linkinfo.specs.declared.record.LinkRecord.{LinkRecord as Record}
 use Rattle.ps_words.specs.declared.fault.Reason.{Reason}
 use Rattle.ps_words.specs.declared.edit.Edit.{Edit}
 use Rattle.std.proofs.Common.{arith}
-use Rattle.ps_resolve.specs.Operands.{edit_of, operands, refs_fault}
-use Rattle.ps_resolve.specs.References.{Known, words_taken, FindsOne, target_of, records_fault, record_edits, records_edits}
+use Rattle.ps_resolve.specs.Operands.{edit_of, is_in, operands, refs_fault}
+use Rattle.ps_resolve.specs.Marks.{Marks}
+use Rattle.ps_resolve.specs.References.{Known, words_taken, FindsOne, target_in, target_of, records_fault, record_edits, records_edits}
 use Rattle.ps_resolve.specs.declared.references.Target.{Target}
+use Rattle.ps_resolve.specs.declared.references.Target.TheVariants.{Slot}
+use Rattle.ps_resolve.proofs.Apart.{one_more}
 use Rattle.ps_resolve.specs.declared.segments.RecordStop.{RecordStop}
 use Rattle.ps_resolve.specs.declared.segments.RecordStop.TheVariants.{Refused, Memory}
-
--- what a walk has left, once it gave an item
-pub given_ok : (w v : Walk) (i : Result Record Reason) (r : Record) → left w ≡ i ∷ left v → i ≡ Ok r → records_left w ≡ r ∷ records_left v
-given_ok w v i r h e = ap (λ (xs : List (Result Record Reason)). filter_map result_ok xs) (h ∙ ap (λ (j : Result Record Reason). j ∷ left v) e)
-
-pub given_err : (w v : Walk) (i : Result Record Reason) (why : Reason) → left w ≡ i ∷ left v → i ≡ Err why → records_left w ≡ records_left v
-given_err w v i why h e = ap (λ (xs : List (Result Record Reason)). filter_map result_ok xs) (h ∙ ap (λ (j : Result Record Reason). j ∷ left v) e)
 
 -- where the first list of checks has a fault, it is that of both
 pub finds_first : (stop : RecordStop) (a b : Option (ℕ × (Option ℕ × Reason))) → FindsOne (Err stop) a → FindsOne (Err stop) (option_or a b)
@@ -54,3 +50,57 @@ module _ (known : Known) (R : ℕ → Bool) (code : List ℕ) (rec off : ℕ) (o
 
   pub edits_more : (es : List Edit) (t : Target) → target_of known off r ≡ Ok t → es ++ records_edits known code off (r ∷ rs) ≡ (es ++ map (edit_of code t) (refs_of r.body)) ++ records_edits known code (off + words_taken r.body) rs
   edits_more es t h = rw (h, record_edits) (sym (append_assoc es (map (edit_of code t) (refs_of r.body)) (records_edits known code (off + words_taken r.body) rs)))
+
+-- With these edits and these places taken, what the records from this index on come to is what all come to, the first of whose privates has the offset `free`: their edits, their first fault, and their words.
+pub record Links (known : Known) (R : ℕ → Bool) (code : List ℕ) (free : ℕ) (all : List Record) (old : List Edit) (next : ℕ) (edits : List Edit) (taken : List ℕ) (n : ℕ) (rs : List Record) : Type 0 where
+  pub listed : edits ++ records_edits known code next rs ≡ old ++ records_edits known code free all
+  pub first : (os : List (ℕ × ℕ)) × Marks (length code) taken (λ p. list_any (is_in p) os) × (records_fault known R code n next os rs ≡ records_fault known R code 0 free [] all)
+  pub words : next + private_words rs ≡ free + private_words all
+
+-- where no record asks for anything, there is no edit, no fault and no word
+pub record NoLinks (known : Known) (R : ℕ → Bool) (code : List ℕ) (n off : ℕ) (os : List (ℕ × ℕ)) (rs : List Record) : Type 0 where
+  pub edits : records_edits known code off rs ≡ []
+  pub first : records_fault known R code n off os rs ≡ None
+  pub words : private_words rs ≡ 0
+
+module _ (known : Known) (R : ℕ → Bool) (code : List ℕ) where
+  passed : (n off : ℕ) (os : List (ℕ × ℕ)) (r : Record) (rs : List Record) → target_of known off r ≡ Ok (Slot 0) → refs_of r.body ≡ [] → words_taken r.body ≡ 0
+      → ((m free : ℕ) (ps : List (ℕ × ℕ)) → NoLinks known R code m free ps rs) → NoLinks known R code n off os (r ∷ rs)
+  passed n off os r rs t none words rest =
+      let next = rest (n + 1) (off + words_taken r.body) (os ++ operands (Slot 0) (refs_of r.body)) in
+      record {
+        edits = edits_more known R code n off os r rs [] (Slot 0) t ∙ (ap (λ (xs : List ℕ). map (edit_of code (Slot 0)) xs ++ records_edits known code (off + words_taken r.body) rs) none ∙ next.edits);
+        first = record_stands known R code n off os r rs (Slot 0) t (ap (λ (xs : List ℕ). refs_fault R code (Slot 0) 0 os xs) none) ∙ next.first;
+        words = let a = words_are r rs in omega (arith, words, next.words);
+      }
+
+  pub no_links : (rs : List Record) (n off : ℕ) (os : List (ℕ × ℕ)) → units_asked rs ≡ 0 → publics_in rs ≡ 0 → privates_in rs ≡ 0 → NoLinks known R code n off os rs
+  no_links [] n off os u p q = record { edits = refl; first = refl; words = refl }
+  no_links (r ∷ rs) n off os u p q = at (λ uu pp qq m free ps. no_links rs m free ps uu pp qq) r.body refl
+    where
+      one_unit : (b : Bool) → is_unit_reference r.body ≡ b → units_asked (r ∷ rs) ≡ cond b 1 0 + units_asked rs
+      one_unit b h = one_more (λ s. is_unit_reference s.body) r rs ∙ ap (λ (c : Bool). cond {A = ℕ} c 1 0 + units_asked rs) h
+
+      one_public : (b : Bool) → is_public_reference r.body ≡ b → publics_in (r ∷ rs) ≡ cond b 1 0 + publics_in rs
+      one_public b h = one_more (λ s. is_public_reference s.body) r rs ∙ ap (λ (c : Bool). cond {A = ℕ} c 1 0 + publics_in rs) h
+
+      one_private : (b : Bool) → is_private_reference r.body ≡ b → privates_in (r ∷ rs) ≡ cond b 1 0 + privates_in rs
+      one_private b h = one_more (λ s. is_private_reference s.body) r rs ∙ ap (λ (c : Bool). cond {A = ℕ} c 1 0 + privates_in rs) h
+
+      skips : (units_asked rs ≡ 0 → publics_in rs ≡ 0 → privates_in rs ≡ 0 → (m free : ℕ) (ps : List (ℕ × ℕ)) → NoLinks known R code m free ps rs)
+          → is_unit_reference r.body ≡ false → is_public_reference r.body ≡ false → is_private_reference r.body ≡ false
+          → target_of known off r ≡ Ok (Slot 0) → refs_of r.body ≡ [] → words_taken r.body ≡ 0 → NoLinks known R code n off os (r ∷ rs)
+      skips rest a b c t none words =
+          let x = one_unit false a in
+          let y = one_public false b in
+          let z = one_private false c in
+          passed n off os r rs t none words (rest (omega arith) (omega arith) (omega arith))
+
+      at : (units_asked rs ≡ 0 → publics_in rs ≡ 0 → privates_in rs ≡ 0 → (m free : ℕ) (ps : List (ℕ × ℕ)) → NoLinks known R code m free ps rs)
+          → (b : Body) → r.body ≡ b → NoLinks known R code n off os (r ∷ rs)
+      at rest (UnitRef refs) e = let x = one_unit true (ap is_unit_reference e) in absurd (omega arith)
+      at rest (PublRef refs) e = let x = one_public true (ap is_public_reference e) in absurd (omega arith)
+      at rest (PrivRef words refs) e = let x = one_private true (ap is_private_reference e) in absurd (omega arith)
+      at rest (PublDef value) e = skips rest (ap is_unit_reference e) (ap is_public_reference e) (ap is_private_reference e) (ap (target_in known off r.name) e) (ap refs_of e) (ap words_taken e)
+      at rest (ConstDef value) e = skips rest (ap is_unit_reference e) (ap is_public_reference e) (ap is_private_reference e) (ap (target_in known off r.name) e) (ap refs_of e) (ap words_taken e)
+      at rest (Eof next) e = skips rest (ap is_unit_reference e) (ap is_public_reference e) (ap is_private_reference e) (ap (target_in known off r.name) e) (ap refs_of e) (ap words_taken e)

@@ -1,12 +1,8 @@
 -- Segments of the files, seen one by one as segments of the link.
-use Rattle.std.proofs.Common.{◌≡◌, ℕ, zero, suc, ◌+◌, ◌<◌, ◌++◌, List, [], ◌∷◌, length, map, get_or, drop, Bool, true, false, refl, sym, ◌∙◌, ap, subst, arith, add-one, drop-cons, append_assoc}
-use Rattle.std.specs.Prelude.{All, if◌then◌else◌}
+use Rattle.std.proofs.Common.{◌≡◌, ℕ, zero, suc, ◌+◌, ◌<◌, ◌++◌, List, [], ◌∷◌, length, map, get_or, drop, false, refl, sym, ◌∙◌, ap, subst, arith, add-one, drop-cons, append_assoc}
+use Rattle.std.specs.Prelude.{All}
 use Rattle.std.proofs.lemmas.List.{map-append}
 use Rattle.std.proofs.lemmas.List.Elements.{All-tail}
-use Rattle.ps_words.specs.declared.order.Order.{Order}
-use Rattle.ps_linkinfo.specs.Records.{reading}
-use Rattle.ps_words.specs.declared.order.Order.TheVariants.{Little}
-use Rattle.ps_resolve.specs.declared.linkage.Linkage.{Linkage}
 use Rattle.ps_resolve.specs.Names.{units_by_name}
 use Rattle.ps_resolve.specs.Privates.{owner_of}
 use Rattle.ps_resolve.specs.Views.{segment_of}
@@ -14,14 +10,9 @@ use Rattle.ps_codefile.specs.declared.entry.Role.TheVariants.{Empty}
 use Rattle.ps_resolve.specs.Sources.{Segment, units_of}
 use Rattle.ps_resolve.specs.declared.segment.Segment.{Segment as SegmentView}
 
--- no bytes have no records
-pub read_if : (order : Order) (b : Bool) (bytes : List ℕ) → (reading order (if b then bytes else [])).0 ≡ (if b then (reading order bytes).0 else [])
-read_if order true bytes = refl
-read_if order false bytes = refl
-
-pub units_are : (order : Order) (ss : List SegmentView) → units_of (map (segment_of order) ss) ≡ units_by_name ss
-units_are order [] = refl
-units_are order (s ∷ ss) = rw (units_are order ss) refl
+pub units_are : (ss : List SegmentView) → units_of (map segment_of ss) ≡ units_by_name ss
+units_are [] = refl
+units_are (s ∷ ss) = rw (units_are ss) refl
 
 -- the item at i, and what holds of it
 pub drop_at : {X : Type 0} (xs : List X) (i : ℕ) (x : X) → i < length xs → x ≡ get_or xs i x → drop i xs ≡ x ∷ drop (i + 1) xs
@@ -35,14 +26,14 @@ at_map P f (y ∷ ys) (suc i) x lt is all = at_map P f ys i x (omega arith) is (
 pub map_push : {X Y : Type 0} (f : X → Y) (xs : List X) (x : X) (ys : List Y) → map f (xs ++ x ∷ []) ++ ys ≡ map f xs ++ f x ∷ ys
 map_push {X} {Y} f xs x ys = ap (λ (zs : List Y). zs ++ ys) (map-append f xs (x ∷ [])) ∙ append_assoc (map f xs) (f x ∷ []) ys
 
+pub owners_of_segments : (ss : List SegmentView) → map (λ s. owner_of (segment_of s)) ss ≡ map owner_of (map segment_of ss)
+owners_of_segments [] = refl
+owners_of_segments (s ∷ ss) = rw (owners_of_segments ss) refl
+
 pub slots_are : (segs : List Segment) → map (λ o. o.slot) (map owner_of segs) ≡ map (λ s. s.slot) segs
 slots_are [] = refl
 slots_are (s ∷ ss) = rw (slots_are ss) refl
 
 -- a segment of none of the files, which is read past the end of a list
 abbrev pub blank : SegmentView
-blank = record { slot = 0; name = []; role = Empty; added = false; file = 0; index = 0; code = record { ref_ptr = (0, 0); now = [] }; information = record { ref_ptr = (0, 0); now = [] } }
-
--- the link information of none of the files, which is read past the end of a list
-abbrev pub blank_linkage : Linkage
-blank_linkage = record { file = 0; slot = 0; order = Little; bytes = record { ref_ptr = (0, 0); now = [] } }
+blank = record { slot = 0; name = []; role = Empty; added = false; file = 0; index = 0; code = record { ref_ptr = (0, 0); now = [] }; records = [] }

@@ -8,8 +8,8 @@ use Rattle.ps_linkinfo.specs.declared.record.LinkRecord.{LinkRecord as Record}
 use Rattle.ps_resolve.specs.Sources.{Segment, host_of, host_records, units_of}
 use Rattle.ps_resolve.specs.Symbols.{definitions, doubled}
 use Rattle.ps_resolve.specs.Stops.{IsDoubled}
-use Rattle.ps_resolve.specs.Privates.{Owner, owner_of, first_private_fault, total_words, AreUnallotted}
 use Rattle.ps_linkinfo.specs.Counts.{next_of}
+use Rattle.ps_resolve.specs.Privates.{Owner, owner_of, first_private_fault, total_words, AreUnallotted}
 use Rattle.ps_resolve.specs.Edits.{IsOfSize, AreOfReferences}
 use Rattle.ps_resolve.specs.References.{Known}
 use Rattle.ps_resolve.specs.Linking.{known_of}

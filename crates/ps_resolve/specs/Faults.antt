@@ -12,8 +12,8 @@ use Rattle.ps_words.specs.declared.fault.Reason.TheVariants as reason
 use Rattle.ps_words.specs.declared.fault.Fault.{Fault}
 use Rattle.ps_codefile.specs.Dictionary.{slots, opened, opened_beside, entry_at, role_of, code_of, information_of}
 use Rattle.ps_codefile.specs.Procedures.{table_of, tables_fault, is_reserved}
-use Rattle.ps_resolve.specs.Privates.{owner_of, first_private_fault, private_words, total_words}
 use Rattle.ps_linkinfo.specs.Counts.{next_of}
+use Rattle.ps_resolve.specs.Privates.{owner_of, first_private_fault, private_words, total_words}
 use Rattle.ps_codefile.specs.declared.entry.Role.{Role}
 use Rattle.ps_codefile.specs.declared.entry.Entry.{Entry}
 use Rattle.ps_linkinfo.specs.Records.{reading}

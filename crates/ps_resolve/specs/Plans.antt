@@ -6,8 +6,8 @@ use Rattle.ps_words.specs.declared.order.Order.{Order}
 use Rattle.ps_words.specs.declared.edit.Edit.{Edit}
 use Rattle.ps_resolve.specs.Sources.{Segment, is_linked, order_of, host_records}
 use Rattle.ps_resolve.specs.Added.{segments, slot_names}
-use Rattle.ps_resolve.specs.Privates.{owner_of, all_allotted, total_words}
 use Rattle.ps_linkinfo.specs.Counts.{next_of}
+use Rattle.ps_resolve.specs.Privates.{owner_of, all_allotted, total_words}
 use Rattle.ps_resolve.specs.Symbols.{definitions}
 use Rattle.ps_resolve.specs.Linking.{Edited, edited, linked_byte, data_size}
 use Rattle.ps_resolve.specs.Faults.{linking_fault}

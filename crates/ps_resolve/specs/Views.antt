@@ -1,18 +1,17 @@
 -- The segments that the files have, seen as the segments of the link, and what is known of them once the files were read without a fault.
 -- Source: this project's profile.
-use Rattle.std.specs.Prelude.{◌≡◌, ◌≤◌, ◌==◌, if◌then◌else◌, ℕ, List, [], length, Bool, true, Option, None}
+use Rattle.std.specs.Prelude.{◌≡◌, ◌≤◌, ◌==◌, if◌then◌else◌, ℕ, List, [], length, Bool, true, false, Option, None}
 use Rattle.std.specs.List.{find, filter_map}
 use Rattle.std.specs.Option.{option_or}
 use Rattle.ps_words.specs.declared.order.Order.{Order}
 use Rattle.ps_codefile.specs.Dictionary.{slots}
 use Rattle.ps_codefile.specs.Procedures.{tables_fault}
-use Rattle.ps_linkinfo.specs.Records.{reading}
 use Rattle.ps_resolve.specs.Sources.{Segment, is_linked, is_host, is_empty}
 use Rattle.ps_resolve.specs.Faults.{is_role}
 use Rattle.ps_resolve.specs.declared.segment.Segment.{Segment as SegmentView}
 
-abbrev pub segment_of : Order → SegmentView → Segment
-segment_of order s = record {
+abbrev pub segment_of : SegmentView → Segment
+segment_of s = record {
   slot = s.slot;
   name = s.name;
   role = s.role;
@@ -20,7 +19,7 @@ segment_of order s = record {
   file = s.file;
   index = s.index;
   code = s.code.now;
-  records = if is_linked s.role then (reading order s.information.now).0 else [];
+  records = s.records;
 }
 
 abbrev pub is_in_slot : ℕ → Segment → Bool
@@ -34,9 +33,10 @@ segment_in_slot order host own added slot = option_or (find (is_in_slot slot) ow
 unfoldable pub segments_in_slots : Order → List ℕ → List Segment → List Segment → List Segment
 segments_in_slots order host own added = filter_map (segment_in_slot order host own added) slots
 
--- the length of the code is within its limits, and the procedure tables of a linked segment have no fault
+-- the length of the code is within its limits, the procedure tables of a linked segment have no fault, and one that is linked already has no records
 pub record IsSound (order : Order) (s : Segment) : Type 0 where
   pub small : length s.code ≤ 32767
   pub large : is_linked s.role ≡ true → 4 ≤ length s.code
   pub tables : is_linked s.role ≡ true → tables_fault order s.code (is_host s.role) ≡ None
+  pub plain : is_linked s.role ≡ false → s.records ≡ []
   pub slot : s.slot ≤ 15

@@ -12,13 +12,13 @@ ghost use Rattle.ps_resolve.specs.Names.{units_by_name};
 ghost use Rattle.ps_resolve.specs.Views.{segment_of, IsSound};
 
 use crate::names::slot_of;
-use crate::segment::{Segment, linkage_of};
+use crate::segment::Segment;
 use crate::slots::{SLOTS, is_empty};
 use crate::sources::read_segment;
 use crate::units::{UnitSource, chosen_library, entries_reason};
 use arrayvec::ArrayVec;
 use ps_codefile::{Dict, Role, is_nameless};
-use ps_linkinfo::{Body, LinkRecord, Records, walk_from_start};
+use ps_linkinfo::{Body, LinkRecord};
 use ps_words::{Fault, Name, Order, Reason};
 
 /// The first slot that a unit may be added in.
@@ -139,33 +139,26 @@ fn seek_record(
 }
 
 /// Adds the names that the records of a segment seek behind the row.
-fn seek_records(
-    order: Order,
-    own: &[Segment],
-    row: &mut ArrayVec<UnitReference, 10>,
-    segment: &Segment,
-)
+fn seek_records(own: &[Segment], row: &mut ArrayVec<UnitReference, 10>, segment: &Segment)
     requires { length row.old.items ≤ 10 }
-    ensures { row.new.items ≡ take 10 (sought_from (units_by_name own.now) row.old.items (unit_references segment.now.file segment.now.slot 0 (segment_of order segment.now).records)) }
+    ensures { row.new.items ≡ take 10 (sought_from (units_by_name own.now) row.old.items
+        (unit_references segment.now.file segment.now.slot 0 segment.now.records)) }
 {
-    walk_from_start();
-    let mut rec = 0;
-    let linkage = linkage_of(order, segment);
-    for item in Records::new(linkage.order, linkage.bytes) {
-        if let Ok(entry) = item {
-            seek_record(own, row, segment, rec, &entry);
-            rec += 1;
-        }
+    if segment.records.units() == 0 {
+        return;
+    }
+    for (rec, record) in segment.records.records() {
+        seek_record(own, row, segment, rec, &record);
     }
 }
 
 /// The names that the host's own segments seek.
-fn sought_by(order: Order, own: &[Segment]) -> ArrayVec<UnitReference, 10>
-    ensures { result.items ≡ take 10 (sought_from (units_by_name own.now) [] (all_unit_references (map (segment_of order) own.now))) }
+fn sought_by(own: &[Segment]) -> ArrayVec<UnitReference, 10>
+    ensures { result.items ≡ take 10 (sought_from (units_by_name own.now) [] (all_unit_references (map segment_of own.now))) }
 {
     let mut row: ArrayVec<UnitReference, MAX_SOUGHT> = ArrayVec::new();
     for segment in own {
-        seek_records(order, own, &mut row, segment);
+        seek_records(own, &mut row, segment);
     }
     row
 }
@@ -208,8 +201,8 @@ fn read_added<'a>(
     requires slots { slot < 16 }
     requires libraries { libraries_fault order (contents libs.now) ≡ None }
     ensures fault { (host : List ℕ) → result_err result ≡ placed_fault order host (contents libs.now) sought.now slot }
-    ensures segment { (host : List ℕ) → IfOk result (λ s. added_segment order host (contents libs.now) sought.now slot ≡ Some (segment_of order s)) }
-    ensures sound { IfOk result (λ s. IsSound order (segment_of order s)) }
+    ensures segment { (host : List ℕ) → IfOk result (λ s. added_segment order host (contents libs.now) sought.now slot ≡ Some (segment_of s)) }
+    ensures sound { IfOk result (λ s. IsSound order (segment_of s)) }
 {
     match unit_named(order, sought.name, libs) {
         None => Err(Fault::in_record(sought.file, sought.slot, sought.rec, Reason::MissingUnit)),
@@ -252,11 +245,11 @@ fn add_in<'a>(
     requires libraries { libraries_fault order (contents libs.now) ≡ None }
     requires few { length slots.now ≤ 9 }
     requires in_range { All (λ slot. slot < 16) slots.now }
-    ensures fault { (host : List ℕ) → result_err result ≡ (rounds_in order host (contents libs.now) (map (segment_of order) own.now) slots.now).fault }
-    ensures added { (host : List ℕ) → IfOk result (λ added. map (segment_of order) added.items ≡ (rounds_in order host (contents libs.now) (map (segment_of order) own.now) slots.now).added) }
-    ensures sound { IfOk result (λ added. All (IsSound order) (map (segment_of order) added.items)) }
+    ensures fault { (host : List ℕ) → result_err result ≡ (rounds_in order host (contents libs.now) (map segment_of own.now) slots.now).fault }
+    ensures added { (host : List ℕ) → IfOk result (λ added. map segment_of added.items ≡ (rounds_in order host (contents libs.now) (map segment_of own.now) slots.now).added) }
+    ensures sound { IfOk result (λ added. All (IsSound order) (map segment_of added.items)) }
 {
-    let mut row = sought_by(order, own);
+    let mut row = sought_by(own);
     let mut added: ArrayVec<Segment<'a>, MAX_ADDED> = ArrayVec::new();
     for slot in slots {
         match sought_at(&row, added.len()) {
@@ -264,7 +257,7 @@ fn add_in<'a>(
             Some(sought) => match read_added(order, libs, &sought, *slot) {
                 Err(fault) => return Err(fault),
                 Ok(segment) => {
-                    seek_records(order, own, &mut row, &segment);
+                    seek_records(own, &mut row, &segment);
                     added.push(segment);
                 }
             },
@@ -288,9 +281,9 @@ pub(crate) fn add_units<'a>(
     own: &[Segment<'a>],
 ) -> Result<ArrayVec<Segment<'a>, 9>, Fault>
     requires { libraries_fault host.now.order (contents libs.now) ≡ None }
-    ensures fault { result_err result ≡ (rounds_of host.now.order host.now.file (contents libs.now) (map (segment_of host.now.order) own.now)).fault }
-    ensures added { IfOk result (λ added. map (segment_of host.now.order) added.items ≡ (rounds_of host.now.order host.now.file (contents libs.now) (map (segment_of host.now.order) own.now)).added) }
-    ensures sound { IfOk result (λ added. All (IsSound host.now.order) (map (segment_of host.now.order) added.items)) }
+    ensures fault { result_err result ≡ (rounds_of host.now.order host.now.file (contents libs.now) (map segment_of own.now)).fault }
+    ensures added { IfOk result (λ added. map segment_of added.items ≡ (rounds_of host.now.order host.now.file (contents libs.now) (map segment_of own.now)).added) }
+    ensures sound { IfOk result (λ added. All (IsSound host.now.order) (map segment_of added.items)) }
 {
     let slots = empty_slots(host);
     add_in(host.order(), libs, own, slots.as_slice())

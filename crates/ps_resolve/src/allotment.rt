@@ -5,14 +5,15 @@ ghost use Rattle.ps_words.specs.FaultPlaces.{in_record};
 ghost use Rattle.indexmap.specs.IndexSet.{hasher_of};
 ghost use Rattle.ps_linkinfo.specs.Counts.{digest_of, privates_in};
 ghost use Rattle.ps_resolve.specs.declared.linkage.Stop.TheVariants.{Refused, Memory};
-ghost use Rattle.ps_linkinfo.specs.Records.{reading};
-ghost use Rattle.ps_resolve.specs.Privates.{words_in, allotted, private_words, private_fault, all_allotted, all_words, first_private_fault, owner_of_linkage, allotment_of, IsUnallotted, AreUnallotted, Owner};
+ghost use Rattle.ps_resolve.specs.Privates.{words_in, allotted, private_words, private_fault, all_allotted, all_words, first_private_fault, owner_of, owner_of_linkage, allotment_of, IsUnallotted, AreUnallotted, Owner};
 ghost use Rattle.ps_resolve.specs.Builders.{HaveOwnNames, HaveRoom, StopsPrivates, asked_of, all_asked, AreByRecord, words_of_all};
+ghost use Rattle.ps_resolve.specs.Views.{segment_of};
 
 use crate::linkage::{Linkage, Stop};
 use crate::name_hasher::NameHasher;
+use crate::segment::Segment;
 use indexmap::IndexSet;
-use ps_linkinfo::{Body, LinkInformation, Records, walk_from_start};
+use ps_linkinfo::{Body, LinkInformation};
 use ps_words::{Fault, Name, Reason};
 use std::alloc::{Allocator, Global};
 use std::marker::Model;
@@ -66,52 +67,48 @@ fn private_names<A: Allocator + Copy>(
 }
 
 /// A fault of a record.
-fn refused(segment: &Linkage, rec: usize, reason: Reason) -> Stop
-    ensures { result ≡ Refused (in_record segment.now.file segment.now.slot rec reason) }
+fn refused(file: usize, slot: u8, rec: usize, reason: Reason) -> Stop
+    ensures { result ≡ Refused (in_record file slot rec reason) }
 {
-    Stop::Refused(Fault::in_record(segment.file, segment.slot, rec, reason))
+    Stop::Refused(Fault::in_record(file, slot, rec, reason))
 }
 
 /// Allots the privates of a segment from `next` on, and returns the next free offset.
 fn allot<A: Allocator + Copy>(
     alloc: A,
-    segment: &Linkage,
+    file: usize,
+    slot: u8,
+    records: &LinkInformation,
     next: u16,
     privates: &mut Vec<Private, A>,
 ) -> Result<u16, Stop>
-    ensures privates { IfOk result (λ _. privates.new.items ≡ privates.old.items ++ allotted segment.now.slot 0 next (reading segment.now.order segment.now.bytes.now).0) }
-    ensures end { IfOk result (λ end. end ≡ next + private_words (reading segment.now.order segment.now.bytes.now).0) }
-    ensures once { IfOk result (λ _. private_fault 0 next [] (reading segment.now.order segment.now.bytes.now).0 ≡ None) }
-    ensures stop { IfErr result (IsUnallotted segment.now.file segment.now.slot next (reading segment.now.order segment.now.bytes.now).0) }
+    ensures privates { IfOk result (λ _. privates.new.items ≡ privates.old.items ++ allotted slot 0 next records.now) }
+    ensures end { IfOk result (λ end. end ≡ next + private_words records.now) }
+    ensures once { IfOk result (λ _. private_fault 0 next [] records.now ≡ None) }
+    ensures stop { IfErr result (IsUnallotted file slot next records.now) }
 {
-    walk_from_start();
-    let records = LinkInformation::up_to_fault(segment.order, segment.bytes);
     if records.privates() == 0 {
         return Ok(next);
     }
-    let mut names = private_names(alloc, &records)?;
-    let mut rec = 0;
+    let mut names = private_names(alloc, records)?;
     let mut free = next;
-    for item in Records::new(segment.order, segment.bytes) {
-        if let Ok(entry) = item {
-            if let Some(words) = words_of_private(&entry.body) {
-                if names.contains(&entry.name) {
-                    return Err(refused(segment, rec, Reason::DoubledPrivate));
-                }
-                if free as usize + words as usize > MAX_NEXT_FREE {
-                    return Err(refused(segment, rec, Reason::NoRoom));
-                }
-                names.insert(entry.name)?;
-                privates.push(Private {
-                    slot: segment.slot,
-                    rec,
-                    name: entry.name,
-                    offset: free,
-                    words,
-                })?;
-                free += words;
+    for (rec, record) in records.records() {
+        if let Some(words) = words_of_private(&record.body) {
+            if names.contains(&record.name) {
+                return Err(refused(file, slot, rec, Reason::DoubledPrivate));
             }
-            rec += 1;
+            if free as usize + words as usize > MAX_NEXT_FREE {
+                return Err(refused(file, slot, rec, Reason::NoRoom));
+            }
+            names.insert(record.name)?;
+            privates.push(Private {
+                slot,
+                rec,
+                name: record.name,
+                offset: free,
+                words,
+            })?;
+            free += words;
         }
     }
     Ok(free)
@@ -137,21 +134,79 @@ impl<A: Allocator> Model for Allotment<A> {
     ghost invariant = { λ a. RiseFrom 0 0 a.privates.items };
 }
 
+/// A segment that privates are allotted to.
+pub(crate) trait AsksForPrivates {
+    /// Its slot, the file that it comes from, and its records.
+    ghost owner: { Self → Owner };
+
+    /// The file that it comes from.
+    fn file(&self) -> usize
+        ensures { result ≡ (owner self.now).file };
+
+    /// Its slot in the host.
+    fn slot(&self) -> u8
+        ensures { result ≡ (owner self.now).slot };
+
+    /// Its link information.
+    fn records(&self) -> LinkInformation<'_>
+        ensures { result ≡ (owner self.now).records };
+}
+
+impl<'a> AsksForPrivates for Linkage<'a> {
+    ghost owner = { owner_of_linkage };
+
+    fn file(&self) -> usize {
+        self.file
+    }
+
+    fn slot(&self) -> u8 {
+        self.slot
+    }
+
+    fn records(&self) -> LinkInformation<'_> {
+        LinkInformation::up_to_fault(self.order, self.bytes)
+    }
+}
+
+impl<'a> AsksForPrivates for Segment<'a> {
+    ghost owner = { λ s. owner_of (segment_of s) };
+
+    fn file(&self) -> usize {
+        self.file
+    }
+
+    fn slot(&self) -> u8 {
+        self.slot
+    }
+
+    fn records(&self) -> LinkInformation<'_> {
+        self.records.copied()
+    }
+}
+
 /// The privates of all segments, and the next free offset.
-fn allot_all<A: Allocator + Copy>(
+fn allot_all<A: Allocator + Copy, S: AsksForPrivates>(
     alloc: A,
     next: u16,
-    segments: &[Linkage],
+    segments: &[S],
 ) -> Result<(Vec<Private, A>, u16), Stop>
-    ensures privates { IfOk result (λ a. a.0.items ≡ all_allotted next (map owner_of_linkage segments.now)) }
-    ensures end { IfOk result (λ a. a.1 ≡ next + all_words (map owner_of_linkage segments.now)) }
-    ensures once { IfOk result (λ _. first_private_fault next (map owner_of_linkage segments.now) ≡ None) }
-    ensures stop { IfErr result (AreUnallotted next (map owner_of_linkage segments.now)) }
+    ensures privates { IfOk result (λ a. a.0.items ≡ all_allotted next (map S.owner segments.now)) }
+    ensures end { IfOk result (λ a. a.1 ≡ next + all_words (map S.owner segments.now)) }
+    ensures once { IfOk result (λ _. first_private_fault next (map S.owner segments.now) ≡ None) }
+    ensures stop { IfErr result (AreUnallotted next (map S.owner segments.now)) }
 {
     let mut privates = Vec::new(alloc);
     let mut free = next;
     for segment in segments {
-        match allot(alloc, segment, free, &mut privates) {
+        let records = segment.records();
+        match allot(
+            alloc,
+            segment.file(),
+            segment.slot(),
+            &records,
+            free,
+            &mut privates,
+        ) {
             Err(stop) => return Err(stop),
             Ok(end) => free = end,
         }
@@ -183,6 +238,20 @@ impl<A: Allocator + Copy> Allotment<A> {
         ensures found { IfOk result (λ a. a ≡ allotment_of next (map owner_of_linkage segments.now)) }
         ensures once { IfOk result (λ _. first_private_fault next (map owner_of_linkage segments.now) ≡ None) }
         ensures stop { IfErr result (AreUnallotted next (map owner_of_linkage segments.now)) }
+    {
+        Allotment::of_segments(alloc, next, segments)
+    }
+
+    /// The privates of these segments, for `build`.
+    pub(crate) fn of_segments<S: AsksForPrivates>(
+        alloc: A,
+        next: u16,
+        segments: &[S],
+    ) -> Result<Self, Stop>
+        requires { AscendFrom 0 (map (λ s. s.slot) (map S.owner segments.now)) }
+        ensures found { IfOk result (λ a. a ≡ allotment_of next (map S.owner segments.now)) }
+        ensures once { IfOk result (λ _. first_private_fault next (map S.owner segments.now) ≡ None) }
+        ensures stop { IfErr result (AreUnallotted next (map S.owner segments.now)) }
     {
         match allot_all(alloc, next, segments) {
             Err(stop) => Err(stop),

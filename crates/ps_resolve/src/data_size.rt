@@ -66,8 +66,8 @@ pub(crate) fn grown_data_size(order: Order, host: &Segment, words: u16) -> Resul
     ensures edit { IfOk result (λ d. data_edits order words host.now.code.now ≡ Word d.place d.size ∷ []) }
     ensures size { IfOk result (λ d. d.size ≡ data_size_of order words host.now.code.now) }
     ensures table { IfOk result (λ d. IsOfTable order host.now.code.now (Word d.place d.size)) }
-    ensures fits { IfOk result (λ _. size_fault order words (segment_of order host.now) ≡ None) }
-    ensures stop { IfErr result (IsOfSize order words (segment_of order host.now)) }
+    ensures fits { IfOk result (λ _. size_fault order words (segment_of host.now) ≡ None) }
+    ensures stop { IfErr result (IsOfSize order words (segment_of host.now)) }
 {
     let place = outer_table(order, host.code) - DATA_SIZE_BEFORE_TABLE;
     let size = get(order, host.code, place) as usize + BYTES_IN_WORD * words as usize;

@@ -1,15 +1,12 @@
 ghost use Rattle.std.specs.Prelude.{◌≡◌, ℕ, ◌<◌, ◌≤◌, ◌+◌, ◌∷◌, [], length, map, All, true, Option, None, Some, Err, IfOk, IfErr, IfSome, IsSome, if◌then◌else◌};
 ghost use Rattle.std.specs.Option.{option_map, option_to_list};
-ghost use Rattle.ps_words.specs.declared.order.Order.{Order as ByteOrder};
-ghost use Rattle.ps_linkinfo.specs.Records.{reading};
 ghost use Rattle.ps_resolve.specs.Edits.{IsOfSegment, IsOfTable, AreOfReferences};
 ghost use Rattle.ps_resolve.specs.Faults.{segment_fault, references_fault_from, linking_fault};
 ghost use Rattle.ps_resolve.specs.Added.{slot_names};
 ghost use Rattle.ps_resolve.specs.Linkable.{AscendFrom, HasOneHost};
 ghost use Rattle.ps_resolve.specs.Linking.{segment_edits as segment_edits_spec, data_edits, edited_from};
 ghost use Rattle.ps_resolve.specs.Plans.{AreStopped, IsPlanOf, LinksSegment, LinkSegments, origin_of, origin_of_source};
-ghost use Rattle.ps_linkinfo.specs.Counts.{next_of};
-ghost use Rattle.ps_resolve.specs.Privates.{owner_of, owner_of_linkage, private_words, all_words};
+ghost use Rattle.ps_resolve.specs.Privates.{owner_of, private_words, all_words};
 ghost use Rattle.ps_codefile.specs.Procedures.{is_reserved};
 ghost use Rattle.ps_resolve.specs.References.{FindsOne, records_fault};
 ghost use Rattle.ps_resolve.specs.Sources.{Segment as SegmentSpec, is_linked as is_linked_spec, is_host as is_host_spec, host_of as host_of_spec};
@@ -21,61 +18,29 @@ use crate::allotment::Allotment;
 use crate::data_size::grown_data_size;
 use crate::definitions::Definitions;
 use crate::edits::edits_of;
-use crate::linkage::{Linkage, Stop};
+use crate::linkage::Stop;
 use crate::names::Names;
 use crate::plan::{Plan, Source};
 use crate::roles::{is_host, is_linked};
-use crate::segment::{Segment, linkage_of};
+use crate::segment::Segment;
 use crate::segments::RecordStop;
 use crate::slots::HOST_FILE;
 use ps_codefile::Procs;
-use ps_linkinfo::{Body, Records, walk_from_start};
 use ps_words::laws::edits_patch_alike_in_any_order;
 use ps_words::{Edit, Fault, Name, Order};
 use std::alloc::Allocator;
 
-/// The link information of each segment.
-fn linkages_of<'a, A: Allocator + Copy>(
-    alloc: A,
-    order: Order,
-    segments: &[Segment<'a>],
-) -> Result<Vec<Linkage<'a>, A>, Stop>
-    ensures owners { IfOk result (λ v. map owner_of_linkage v.items ≡ map owner_of (map (segment_of order) segments.now)) }
-    ensures stop { IfErr result (λ stop. stop ≡ Memory) }
-{
-    let mut linkages = Vec::new(alloc);
-    for segment in segments {
-        linkages.push(linkage_of(order, segment))?;
-    }
-    Ok(linkages)
-}
-
 /// The host's own segment.
 fn host_of<'a>(segments: &[Segment<'a>]) -> Option<Segment<'a>>
-    ensures found { (order : ByteOrder) → option_map (segment_of order) result ≡ host_of_spec (map (segment_of order) segments.now) }
+    ensures found { option_map segment_of result ≡ host_of_spec (map segment_of segments.now) }
     ensures role { IfSome result (λ host. is_host_spec host.role ≡ true) }
 {
     for segment in segments {
         if is_host(segment.role) {
-            return Some(*segment);
+            return Some(segment.copied());
         }
     }
     None
-}
-
-/// The base offset that the end mark of the host's link information gives, which the first private has.
-fn base_of(host: &Linkage) -> u16
-    ensures { result ≡ next_of (reading host.now.order host.now.bytes.now).0 }
-{
-    walk_from_start();
-    for item in Records::new(host.order, host.bytes) {
-        if let Ok(entry) = item {
-            if let Body::Eof(next) = entry.body {
-                return next;
-            }
-        }
-    }
-    0
 }
 
 /// A stop at a record of the segment.
@@ -108,21 +73,22 @@ fn linked_edits<A: Allocator + Copy>(
     own: Option<Edit>,
 ) -> Result<(Vec<Edit, A>, u16), Stop>
     requires linked { is_linked_spec segment.now.role ≡ true }
-    requires sound { IsSound order (segment_of order segment.now) }
-    requires room { free + private_words (segment_of order segment.now).records < 65536 }
+    requires sound { IsSound order (segment_of segment.now) }
+    requires room { free + private_words segment.now.records < 65536 }
     requires table { IfSome own (IsOfTable order segment.now.code.now) }
     ensures links { (words : ℕ) → option_to_list own ≡ (if is_host_spec segment.now.role then data_edits order words segment.now.code.now else [])
-        → IfOk result (λ found. LinksSegment order (record { segment = segment_of order segment.now; edits = segment_edits_spec order names.now words free (segment_of order segment.now) }) found.0.items) }
-    ensures end { IfOk result (λ found. found.1 ≡ free + private_words (segment_of order segment.now).records) }
-    ensures sound { IfOk result (λ _. segment_fault order names.now free (segment_of order segment.now) ≡ None) }
-    ensures stop { IfErr result (IsOfSegment segment.now.file segment.now.slot (records_fault names.now (is_reserved order segment.now.code.now) segment.now.code.now 0 free [] (segment_of order segment.now).records)) }
+        → IfOk result (λ found. LinksSegment order (record { segment = segment_of segment.now; edits = segment_edits_spec order names.now words free (segment_of segment.now) }) found.0.items) }
+    ensures end { IfOk result (λ found. found.1 ≡ free + private_words segment.now.records) }
+    ensures sound { IfOk result (λ _. segment_fault order names.now free (segment_of segment.now) ≡ None) }
+    ensures stop { IfErr result (IsOfSegment segment.now.file segment.now.slot
+        (records_fault names.now (is_reserved order segment.now.code.now) segment.now.code.now
+        0 free [] segment.now.records)) }
 {
     edits_patch_alike_in_any_order();
     match Procs::read(order, segment.code, is_host(segment.role)) {
         Err(_) => unreachable!(),
         Ok(procedures) => {
-            let linkage = linkage_of(order, segment);
-            match edits_of(alloc, names, &procedures, &linkage, free, segment.code, own) {
+            match edits_of(alloc, names, &procedures, segment, free, own) {
                 Err(stop) => Err(stop_of(segment, stop)),
                 Ok(found) => Ok(found),
             }
@@ -140,14 +106,16 @@ fn segment_edits<A: Allocator + Copy>(
     free: u16,
     own: Option<Edit>,
 ) -> Result<(Vec<Edit, A>, u16), Stop>
-    requires sound { IsSound order (segment_of order segment.now) }
-    requires room { free + private_words (segment_of order segment.now).records < 65536 }
+    requires sound { IsSound order (segment_of segment.now) }
+    requires room { free + private_words segment.now.records < 65536 }
     requires table { IfSome own (IsOfTable order segment.now.code.now) }
     ensures links { (words : ℕ) → option_to_list own ≡ (if is_host_spec segment.now.role then data_edits order words segment.now.code.now else [])
-        → IfOk result (λ found. LinksSegment order (record { segment = segment_of order segment.now; edits = segment_edits_spec order names.now words free (segment_of order segment.now) }) found.0.items) }
-    ensures end { IfOk result (λ found. found.1 ≡ free + private_words (segment_of order segment.now).records) }
-    ensures sound { IfOk result (λ _. segment_fault order names.now free (segment_of order segment.now) ≡ None) }
-    ensures stop { IfErr result (IsOfSegment segment.now.file segment.now.slot (records_fault names.now (is_reserved order segment.now.code.now) segment.now.code.now 0 free [] (segment_of order segment.now).records)) }
+        → IfOk result (λ found. LinksSegment order (record { segment = segment_of segment.now; edits = segment_edits_spec order names.now words free (segment_of segment.now) }) found.0.items) }
+    ensures end { IfOk result (λ found. found.1 ≡ free + private_words segment.now.records) }
+    ensures sound { IfOk result (λ _. segment_fault order names.now free (segment_of segment.now) ≡ None) }
+    ensures stop { IfErr result (IsOfSegment segment.now.file segment.now.slot
+        (records_fault names.now (is_reserved order segment.now.code.now) segment.now.code.now
+        0 free [] segment.now.records)) }
 {
     if is_linked(segment.role) {
         linked_edits(alloc, order, names, segment, free, own)
@@ -177,13 +145,13 @@ fn all_edits<A: Allocator + Copy>(
     base: u16,
     size: Edit,
 ) -> Result<Vec<Vec<Edit, A>, A>, Stop>
-    requires sound { All (IsSound order) (map (segment_of order) segments.now) }
-    requires room { base + all_words (map owner_of (map (segment_of order) segments.now)) < 65536 }
-    requires table { All (λ s. is_host_spec s.role ≡ true → IsOfTable order s.code size) (map (segment_of order) segments.now) }
-    ensures links { (words : ℕ) → All (λ s. is_host_spec s.role ≡ true → data_edits order words s.code ≡ size ∷ []) (map (segment_of order) segments.now)
-        → IfOk result (λ edits. LinkSegments order (edited_from order names.now words base (map (segment_of order) segments.now)) (map (λ e. e.items) edits.items)) }
-    ensures sound { IfOk result (λ _. references_fault_from order names.now base (map (segment_of order) segments.now) ≡ None) }
-    ensures stop { IfErr result (AreOfReferences order names.now base (map (segment_of order) segments.now)) }
+    requires sound { All (IsSound order) (map segment_of segments.now) }
+    requires room { base + all_words (map owner_of (map segment_of segments.now)) < 65536 }
+    requires table { All (λ s. is_host_spec s.role ≡ true → IsOfTable order s.code size) (map segment_of segments.now) }
+    ensures links { (words : ℕ) → All (λ s. is_host_spec s.role ≡ true → data_edits order words s.code ≡ size ∷ []) (map segment_of segments.now)
+        → IfOk result (λ edits. LinkSegments order (edited_from order names.now words base (map segment_of segments.now)) (map (λ e. e.items) edits.items)) }
+    ensures sound { IfOk result (λ _. references_fault_from order names.now base (map segment_of segments.now) ≡ None) }
+    ensures stop { IfErr result (AreOfReferences order names.now base (map segment_of segments.now)) }
 {
     let mut edits = Vec::new(alloc);
     let mut free = base;
@@ -204,7 +172,7 @@ fn sources_of<'a, A: Allocator + Copy>(
     alloc: A,
     segments: &[Segment<'a>],
 ) -> Result<Vec<Source<'a>, A>, Stop>
-    ensures origins { (order : ByteOrder) → IfOk result (λ v. map origin_of_source v.items ≡ map origin_of (map (segment_of order) segments.now)) }
+    ensures origins { IfOk result (λ v. map origin_of_source v.items ≡ map origin_of (map segment_of segments.now)) }
     ensures stop { IfErr result (λ stop. stop ≡ Memory) }
 {
     let mut sources = Vec::new(alloc);
@@ -230,27 +198,22 @@ pub(crate) fn link_segments<'a, A: Allocator + Copy>(
     names: [Name; 16],
     segments: &[Segment<'a>],
 ) -> Result<Plan<'a, A>, Stop>
-    requires sound { All (IsSound order) (map (segment_of order) segments.now) }
-    requires host { IsSome (host_of_spec (map (segment_of order) segments.now)) }
-    requires one_host { HasOneHost (map (segment_of order) segments.now) }
-    requires ascending { AscendFrom 0 (map (λ s. s.slot) (map (segment_of order) segments.now)) }
+    requires sound { All (IsSound order) (map segment_of segments.now) }
+    requires host { IsSome (host_of_spec (map segment_of segments.now)) }
+    requires one_host { HasOneHost (map segment_of segments.now) }
+    requires ascending { AscendFrom 0 (map (λ s. s.slot) (map segment_of segments.now)) }
     requires whole { 512 ≤ length host.now }
-    requires names { names ≡ slot_names host.now (map (segment_of order) segments.now) }
-    ensures plan { IfOk result (IsPlanOf order host.now (map (segment_of order) segments.now)) }
-    ensures sound { IfOk result (λ _. linking_fault order (map (segment_of order) segments.now) ≡ None) }
-    ensures stop { IfErr result (AreStopped order (map (segment_of order) segments.now)) }
+    requires names { names ≡ slot_names host.now (map segment_of segments.now) }
+    ensures plan { IfOk result (IsPlanOf order host.now (map segment_of segments.now)) }
+    ensures sound { IfOk result (λ _. linking_fault order (map segment_of segments.now) ≡ None) }
+    ensures stop { IfErr result (AreStopped order (map segment_of segments.now)) }
 {
     match host_of(segments) {
         None => unreachable!(),
         Some(own) => {
-            let linkages = linkages_of(alloc, order, segments)?;
-            let linkage = Linkage {
-                file: HOST_FILE,
-                ..linkage_of(order, &own)
-            };
-            let definitions = Definitions::build(alloc, &linkage)?;
-            let base = base_of(&linkage);
-            let allotment = Allotment::build(alloc, base, linkages.as_slice())?;
+            let definitions = Definitions::of_records(alloc, HOST_FILE, own.slot, &own.records)?;
+            let base = own.records.next();
+            let allotment = Allotment::of_segments(alloc, base, segments)?;
             let size = grown_data_size(order, &own, allotment.words())?;
             let known = Names {
                 definitions: &definitions,

@@ -2,7 +2,6 @@ ghost use Rattle.std.specs.Prelude.{◌≡◌, ◌<◌, ◌≤◌, length, map, 
 ghost use Rattle.std.specs.List.{find};
 ghost use Rattle.std.specs.Option.{option_map, option_or};
 ghost use Rattle.std.specs.Result.{result_err};
-ghost use Rattle.ps_words.specs.declared.order.Order.{Order as ByteOrder};
 ghost use Rattle.ps_resolve.specs.Sources.{order_of, host_of, contents};
 ghost use Rattle.ps_resolve.specs.Added.{segments, slot_name as slot_name_spec, slot_names as slot_names_spec};
 ghost use Rattle.ps_resolve.specs.Faults.{slots_fault as slots_fault_spec, no_host_fault as no_host_fault_spec, libraries_fault as libraries_fault_spec};
@@ -21,11 +20,11 @@ use ps_words::{Fault, Name, Order};
 
 /// The segment that stands in a slot.
 fn segment_in<'a>(segments: &[Segment<'a>], slot: u8) -> Option<Segment<'a>>
-    ensures found { (order : ByteOrder) → option_map (segment_of order) result ≡ find (is_in_slot slot) (map (segment_of order) segments.now) }
+    ensures found { option_map segment_of result ≡ find (is_in_slot slot) (map segment_of segments.now) }
 {
     for segment in segments {
         if segment.slot == slot {
-            return Some(*segment);
+            return Some(segment.copied());
         }
     }
     None
@@ -39,7 +38,7 @@ fn segment_of_slot<'a>(
     slot: u8,
 ) -> Option<Segment<'a>>
     requires { slot < 16 }
-    ensures { option_map (segment_of host.now.order) result ≡ segment_in_slot host.now.order host.now.file (map (segment_of host.now.order) own.now) (map (segment_of host.now.order) added.now) slot }
+    ensures { option_map segment_of result ≡ segment_in_slot host.now.order host.now.file (map segment_of own.now) (map segment_of added.now) slot }
 {
     if let Some(segment) = segment_in(own, slot) {
         return Some(segment);
@@ -56,10 +55,10 @@ fn by_slot<'a>(
     own: &[Segment<'a>],
     added: &[Segment<'a>],
 ) -> ArrayVec<Segment<'a>, 16>
-    requires own { All (IsSound host.now.order) (map (segment_of host.now.order) own.now) }
-    requires added { All (IsSound host.now.order) (map (segment_of host.now.order) added.now) }
-    ensures segments { map (segment_of host.now.order) result.items ≡ segments_in_slots host.now.order host.now.file (map (segment_of host.now.order) own.now) (map (segment_of host.now.order) added.now) }
-    ensures sound { All (IsSound host.now.order) (map (segment_of host.now.order) result.items) }
+    requires own { All (IsSound host.now.order) (map segment_of own.now) }
+    requires added { All (IsSound host.now.order) (map segment_of added.now) }
+    ensures segments { map segment_of result.items ≡ segments_in_slots host.now.order host.now.file (map segment_of own.now) (map segment_of added.now) }
+    ensures sound { All (IsSound host.now.order) (map segment_of result.items) }
 {
     let mut segments = ArrayVec::new();
     for slot in 0..SLOTS {
@@ -71,7 +70,7 @@ fn by_slot<'a>(
 /// The name of a slot in the linked file.
 fn slot_name(host: &Dict, segments: &[Segment], slot: u8) -> Name
     requires { slot < 16 }
-    ensures { (order : ByteOrder) → result ≡ slot_name_spec host.now.file (map (segment_of order) segments.now) slot }
+    ensures { result ≡ slot_name_spec host.now.file (map segment_of segments.now) slot }
 {
     match segment_in(segments, slot) {
         Some(segment) => segment.name,
@@ -81,7 +80,7 @@ fn slot_name(host: &Dict, segments: &[Segment], slot: u8) -> Name
 
 /// The names of all slots in the linked file.
 fn slot_names(host: &Dict, segments: &[Segment]) -> [Name; 16]
-    ensures { (order : ByteOrder) → result ≡ slot_names_spec host.now.file (map (segment_of order) segments.now) }
+    ensures { result ≡ slot_names_spec host.now.file (map segment_of segments.now) }
 {
     let mut names = [[0; 8]; SLOTS as usize];
     for slot in 0..SLOTS {
@@ -94,8 +93,8 @@ fn slot_names(host: &Dict, segments: &[Segment]) -> [Name; 16]
 fn read_all<'a>(host: &Dict<'a>, libs: &'a [&'a [u8]]) -> Result<ArrayVec<Segment<'a>, 16>, Fault>
     requires { libraries_fault_spec host.now.order (contents libs.now) ≡ None }
     ensures fault { result_err result ≡ reading_rest host.now.order host.now.file (contents libs.now) }
-    ensures segments { IfOk result (λ s. map (segment_of host.now.order) s.items ≡ segments host.now.order host.now.file (contents libs.now)) }
-    ensures sound { IfOk result (λ s. All (IsSound host.now.order) (map (segment_of host.now.order) s.items)) }
+    ensures segments { IfOk result (λ s. map segment_of s.items ≡ segments host.now.order host.now.file (contents libs.now)) }
+    ensures sound { IfOk result (λ s. All (IsSound host.now.order) (map segment_of s.items)) }
 {
     match read_slots(host, libs) {
         Err(fault) => Err(fault),
@@ -132,8 +131,8 @@ fn read_sources<'a>(
 ) -> Result<ArrayVec<Segment<'a>, 16>, Fault>
     ensures fault { result_err result ≡ option_or (slots_fault_spec host.now.order host.now.file) (option_or (no_host_fault_spec host.now.order host.now.file)
         (option_or (libraries_fault_spec host.now.order (contents libs.now)) (reading_rest host.now.order host.now.file (contents libs.now)))) }
-    ensures segments { IfOk result (λ s. map (segment_of host.now.order) s.items ≡ segments host.now.order host.now.file (contents libs.now)) }
-    ensures sound { IfOk result (λ s. All (IsSound host.now.order) (map (segment_of host.now.order) s.items)) }
+    ensures segments { IfOk result (λ s. map segment_of s.items ≡ segments host.now.order host.now.file (contents libs.now)) }
+    ensures sound { IfOk result (λ s. All (IsSound host.now.order) (map segment_of s.items)) }
 {
     match files_fault(host, libs) {
         Some(fault) => Err(fault),
@@ -156,12 +155,12 @@ pub(crate) struct Reading<'a> {
 pub(crate) fn read_segments<'a>(host: &'a [u8], libs: &'a [&'a [u8]]) -> Result<Reading<'a>, Fault>
     ensures whole { IfOk result (λ _. 512 ≤ length host.now) }
     ensures order { IfOk result (λ r. r.order ≡ order_of host.now) }
-    ensures segments { IfOk result (λ r. map (segment_of r.order) r.segments.items ≡ segments (order_of host.now) host.now (contents libs.now)) }
-    ensures names { IfOk result (λ r. (order : ByteOrder) → r.names ≡ slot_names_spec host.now (map (segment_of order) r.segments.items)) }
-    ensures sound { IfOk result (λ r. All (IsSound r.order) (map (segment_of r.order) r.segments.items)) }
-    ensures ascending { IfOk result (λ r. AscendFrom 0 (map (λ s. s.slot) (map (segment_of r.order) r.segments.items))) }
-    ensures host { IfOk result (λ r. IsSome (host_of (map (segment_of r.order) r.segments.items))) }
-    ensures one_host { IfOk result (λ r. HasOneHost (map (segment_of r.order) r.segments.items)) }
+    ensures segments { IfOk result (λ r. map segment_of r.segments.items ≡ segments (order_of host.now) host.now (contents libs.now)) }
+    ensures names { IfOk result (λ r. r.names ≡ slot_names_spec host.now (map segment_of r.segments.items)) }
+    ensures sound { IfOk result (λ r. All (IsSound r.order) (map segment_of r.segments.items)) }
+    ensures ascending { IfOk result (λ r. AscendFrom 0 (map (λ s. s.slot) (map segment_of r.segments.items))) }
+    ensures host { IfOk result (λ r. IsSome (host_of (map segment_of r.segments.items))) }
+    ensures one_host { IfOk result (λ r. HasOneHost (map segment_of r.segments.items)) }
     ensures faultless { IfOk result (λ _. reading_fault host.now (contents libs.now) ≡ None) }
     ensures fault { IfErr result (λ f. reading_fault host.now (contents libs.now) ≡ Some f) }
 {

@@ -1,16 +1,11 @@
-ghost use Rattle.std.specs.Prelude.{◌≡◌, [], if◌then◌else◌};
-ghost use Rattle.ps_linkinfo.specs.Records.{reading};
-ghost use Rattle.ps_resolve.specs.Privates.{owner_of, owner_of_linkage};
-ghost use Rattle.ps_resolve.specs.Sources.{is_linked as is_linked_spec};
-ghost use Rattle.ps_resolve.specs.Views.{segment_of};
+ghost use Rattle.std.specs.Prelude.{◌≡◌};
 
-use crate::linkage::Linkage;
-use crate::roles::is_linked;
 use ps_codefile::Role;
-use ps_words::{Name, Order};
+use ps_linkinfo::LinkInformation;
+use ps_words::Name;
 
 /// A segment of the linked file, as the files have it.
-#[derive(Clone, Copy)]
+#[derive(Drop)]
 pub(crate) struct Segment<'a> {
     /// Its slot in the host, 0 to 15.
     pub(crate) slot: u8,
@@ -25,30 +20,24 @@ pub(crate) struct Segment<'a> {
     /// The slot of its entry in that file, 0 to 15.
     pub(crate) index: u8,
     pub(crate) code: &'a [u8],
-    /// The bytes from its link information on; those of a segment that is linked already are not read.
-    pub(crate) information: &'a [u8],
+    /// Its link information, read whole; no records where the segment is linked already.
+    pub(crate) records: LinkInformation<'a>,
 }
 
-/// The bytes that a segment's records are read from; there are none where it is linked already.
-fn read_information<'a>(segment: &Segment<'a>) -> &'a [u8]
-    ensures { result.now ≡ (if is_linked_spec segment.now.role then segment.now.information.now else []) }
-{
-    if is_linked(segment.role) {
-        segment.information
-    } else {
-        &[]
-    }
-}
-
-/// The link information of a segment.
-pub(crate) fn linkage_of<'a>(order: Order, segment: &Segment<'a>) -> Linkage<'a>
-    ensures owner { owner_of_linkage result ≡ owner_of (segment_of order segment.now) }
-    ensures records { (reading result.order result.bytes.now).0 ≡ (segment_of order segment.now).records }
-{
-    Linkage {
-        file: segment.file,
-        slot: segment.slot,
-        order,
-        bytes: read_information(segment),
+impl<'a> Segment<'a> {
+    /// The same segment once more, which borrows the same bytes.
+    pub(crate) fn copied(&self) -> Segment<'a>
+        ensures { result ≡ self.now }
+    {
+        Segment {
+            slot: self.slot,
+            name: self.name,
+            role: self.role,
+            added: self.added,
+            file: self.file,
+            index: self.index,
+            code: self.code,
+            records: self.records.copied(),
+        }
     }
 }

@@ -1,8 +1,9 @@
-ghost use Rattle.std.specs.Prelude.{◌≡◌, ℕ, ◌<◌, ◌≤◌, ◌+◌, ◌++◌, [], List, length, map, OnOk, IfOk, Ok, Err, Option, Some};
+ghost use Rattle.std.specs.Prelude.{◌≡◌, ℕ, ◌<◌, ◌≤◌, ◌+◌, ◌++◌, [], List, length, map, OnOk, IfOk, Ok, Err, Option, Some, true};
 ghost use Rattle.std.specs.Option.{option_map};
 ghost use Rattle.ps_words.specs.declared.fault.Reason.{Reason};
 ghost use Rattle.std.specs.List.{list_any};
-ghost use Rattle.ps_linkinfo.specs.Records.{reading, refs_of};
+ghost use Rattle.ps_linkinfo.specs.Counts.{privates_in, publics_in, units_in};
+ghost use Rattle.ps_linkinfo.specs.Records.{refs_of};
 ghost use Rattle.ps_codefile.specs.Procedures.{is_reserved};
 ghost use Rattle.ps_resolve.specs.Operands.{edit_of, operands, refs_fault, is_in};
 ghost use Rattle.ps_resolve.specs.Marks.{Marks, Finds};
@@ -12,12 +13,11 @@ ghost use Rattle.ps_resolve.specs.Privates.{private_words};
 ghost use Rattle.ps_resolve.specs.declared.segments.RecordStop.TheVariants.{Memory};
 
 use crate::definitions::DefKind;
-use crate::linkage::Linkage;
 use crate::names::Names;
 use crate::places::Places;
 use crate::references::{RefStop, Target, add_references};
 use ps_codefile::Procs;
-use ps_linkinfo::{Body, LinkRecord, Records, walk_from_start};
+use ps_linkinfo::{Body, LinkInformation, LinkRecord};
 use ps_words::{Edit, Reason};
 use std::alloc::{AllocFailed, Allocator};
 
@@ -119,45 +119,51 @@ fn in_record(rec: usize, stop: RefStop) -> RecordStop
     }
 }
 
+/// No record of a segment asks for a unit, a public or a private variable, so none has a reference.
+fn asks_for_nothing(records: &LinkInformation) -> bool
+    ensures units { result ≡ true → units_in records.now ≡ 0 }
+    ensures publics { result ≡ true → publics_in records.now ≡ 0 }
+    ensures privates { result ≡ true → privates_in records.now ≡ 0 }
+{
+    records.units() == 0 && records.publics() == 0 && records.privates() == 0
+}
+
 /// Adds the edits of all records of a segment, the first of whose privates has the offset `free`,
 /// or finds their first fault. Returns the offset behind its last private.
 pub(crate) fn add_records<A: Allocator + Copy>(
     names: &Names<A>,
     procedures: &Procs,
-    segment: &Linkage,
+    records: &LinkInformation,
     free: u16,
     code: &[u8],
     edits: &mut Vec<Edit, A>,
 ) -> Result<u16, RecordStop>
     requires small { length code.now ≤ 32767 }
-    requires room { free + private_words (reading segment.now.order segment.now.bytes.now).0 < 65536 }
+    requires room { free + private_words records.now < 65536 }
     ensures ok { OnOk result (edits.new.items ≡ edits.old.items
-        ++ records_edits names.now code.now free (reading segment.now.order segment.now.bytes.now).0) }
-    ensures end { IfOk result (λ end. end ≡ free + private_words (reading segment.now.order segment.now.bytes.now).0) }
-    ensures fault { FindsFault result (records_fault names.now (is_reserved procedures.now.order procedures.now.code) code.now 0 free [] (reading segment.now.order segment.now.bytes.now).0) }
+        ++ records_edits names.now code.now free records.now) }
+    ensures end { IfOk result (λ end. end ≡ free + private_words records.now) }
+    ensures fault { FindsFault result (records_fault names.now
+        (is_reserved procedures.now.order procedures.now.code) code.now 0 free [] records.now) }
 {
-    walk_from_start();
+    if asks_for_nothing(records) {
+        return Ok(free);
+    }
     let mut taken = Places::new();
-    let mut rec = 0;
     let mut next = free;
-    for item in Records::new(segment.order, segment.bytes) {
-        if let Ok(entry) = item {
-            match target_of(names, next, &entry) {
-                Err(reason) => {
-                    return Err(RecordStop::Refused {
-                        rec,
-                        reference: None,
-                        reason,
-                    });
-                }
-                Ok(target) => {
-                    match add_body(code, procedures, &mut taken, target, &entry.body, edits) {
-                        Err(stop) => return Err(in_record(rec, stop)),
-                        Ok(()) => {
-                            rec += 1;
-                            next += words_taken(&entry.body);
-                        }
-                    }
+    for (rec, record) in records.records() {
+        match target_of(names, next, &record) {
+            Err(reason) => {
+                return Err(RecordStop::Refused {
+                    rec,
+                    reference: None,
+                    reason,
+                });
+            }
+            Ok(target) => {
+                match add_body(code, procedures, &mut taken, target, &record.body, edits) {
+                    Err(stop) => return Err(in_record(rec, stop)),
+                    Ok(()) => next += words_taken(&record.body),
                 }
             }
         }

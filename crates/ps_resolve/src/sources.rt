@@ -1,4 +1,4 @@
-ghost use Rattle.std.specs.Prelude.{◌≡◌, ◌<◌, ◌≤◌, ◌+◌, ◌++◌, List, ℕ, length, map, true, Some, None, Ok, IfOk, IfSome, All, if◌then◌else◌};
+ghost use Rattle.std.specs.Prelude.{◌≡◌, ◌<◌, ◌≤◌, ◌+◌, ◌++◌, [], List, ℕ, length, map, true, Some, None, Ok, IfOk, IfSome, All, if◌then◌else◌};
 ghost use Rattle.std.specs.Option.{option_map, option_or, option_to_list};
 ghost use Rattle.arrayvec.specs.ArrayVec.{array_vec_len};
 ghost use Rattle.std.specs.Result.{result_err};
@@ -16,7 +16,7 @@ use crate::slots::{HOST_FILE, SLOTS};
 use crate::units::unit_source;
 use arrayvec::ArrayVec;
 use ps_codefile::{Dict, Procs, Role};
-use ps_linkinfo::{Records, walk_from_start};
+use ps_linkinfo::LinkInformation;
 use ps_words::{Fault, Name, Order, Reason};
 
 impl<'a> Default for Segment<'a> {
@@ -29,26 +29,26 @@ impl<'a> Default for Segment<'a> {
             file: 0,
             index: 0,
             code: &[],
-            information: &[],
+            records: LinkInformation::none(),
         }
     }
 }
 
-/// The first fault of a linked segment's link information.
-fn information_fault(order: Order, information: &[u8], file: usize, slot: u8) -> Option<Fault>
-    ensures { result ≡ option_map (in_record file slot (length (reading order information.now).0)) (reading order information.now).1 }
+/// The link information of a linked segment, or its first fault.
+fn read_information<'a>(
+    order: Order,
+    information: &'a [u8],
+    file: usize,
+    slot: u8,
+) -> Result<LinkInformation<'a>, Fault>
+    ensures fault { result_err result ≡ option_map
+        (in_record file slot (length (reading order information.now).0)) (reading order information.now).1 }
+    ensures records { IfOk result (λ records. records ≡ (reading order information.now).0) }
 {
-    walk_from_start();
-    let mut rec = 0;
-    for item in Records::new(order, information) {
-        match item {
-            Ok(_) => rec += 1,
-            Err(reason) => {
-                return Some(Fault::in_record(file, slot, rec, reason));
-            }
-        }
+    match LinkInformation::read(order, information) {
+        Err(fault) => Err(Fault::in_record(file, slot, fault.rec, fault.reason)),
+        Ok(records) => Ok(records),
     }
-    None
 }
 
 /// The fault of a code's procedure tables.
@@ -59,28 +59,31 @@ fn tables_reason(order: Order, code: &[u8], host: bool) -> Option<Reason>
     Procs::read(order, code, host).err()
 }
 
-/// The first fault of the procedure tables and the link information of a segment, where it is linked.
-fn linked_fault(
+/// The link information of a segment, or the first fault of its procedure tables and its link
+/// information. Neither is looked at where the segment is linked already.
+fn read_records<'a>(
     order: Order,
     code: &[u8],
-    information: &[u8],
+    information: &'a [u8],
     role: Role,
     file: usize,
     slot: u8,
-) -> Option<Fault>
+) -> Result<LinkInformation<'a>, Fault>
     requires { is_linked_spec role ≡ true → 2 ≤ length code.now }
-    ensures { result ≡ (if is_linked_spec role
+    ensures fault { result_err result ≡ (if is_linked_spec role
         then option_or (option_map (in_slot_spec file slot) (tables_fault_spec order code.now (is_host_spec role)))
         (option_map (in_record file slot (length (reading order information.now).0)) (reading order information.now).1)
         else None) }
+    ensures records { IfOk result (λ records.
+        records ≡ (if is_linked_spec role then (reading order information.now).0 else [])) }
 {
     if !is_linked(role) {
-        return None;
+        return Ok(LinkInformation::none());
     }
     if let Some(reason) = tables_reason(order, code, is_host(role)) {
-        return Some(Fault::in_slot(file, slot, reason));
+        return Err(Fault::in_slot(file, slot, reason));
     }
-    information_fault(order, information, file, slot)
+    read_information(order, information, file, slot)
 }
 
 /// The segment of a slot, whose code and link information are those of an entry of a file.
@@ -98,16 +101,15 @@ pub(crate) fn read_segment<'a>(
     ensures fault { (host : List ℕ) (libs : List (List ℕ)) → file_at host libs file ≡ from.now.file
         → result_err result ≡ code_fault from.now.order host libs slot role (file, index) }
     ensures segment { (host : List ℕ) (libs : List (List ℕ)) → file_at host libs file ≡ from.now.file
-        → IfOk result (λ s. segment_from from.now.order host libs slot name role (file, index) ≡ Some (segment_of from.now.order s)) }
-    ensures sound { IfOk result (λ s. IsSound from.now.order (segment_of from.now.order s)) }
+        → IfOk result (λ s. segment_from from.now.order host libs slot name role (file, index) ≡ Some (segment_of s)) }
+    ensures sound { IfOk result (λ s. IsSound from.now.order (segment_of s)) }
 {
     match from.code(index) {
         Err(reason) => Err(Fault::in_slot(file, slot, reason)),
         Ok(code) => {
-            let information = from.after(index);
-            match linked_fault(from.order(), code, information, role, file, slot) {
-                Some(fault) => Err(fault),
-                None => Ok(Segment {
+            match read_records(from.order(), code, from.after(index), role, file, slot) {
+                Err(fault) => Err(fault),
+                Ok(records) => Ok(Segment {
                     slot,
                     name,
                     role,
@@ -115,7 +117,7 @@ pub(crate) fn read_segment<'a>(
                     file,
                     index,
                     code,
-                    information,
+                    records,
                 }),
             }
         }
@@ -133,8 +135,8 @@ fn read_role<'a>(
     requires role { role_of (entry_at host.now.order host.now.file slot) ≡ Ok role }
     requires libraries { libraries_fault_spec host.now.order (contents libs.now) ≡ None }
     ensures fault { result_err result ≡ source_fault host.now.order host.now.file (contents libs.now) slot }
-    ensures segment { IfOk result (λ s. option_map (segment_of host.now.order) s ≡ own_segment host.now.order host.now.file (contents libs.now) slot) }
-    ensures sound { IfOk result (λ s. IfSome s (λ s. IsSound host.now.order (segment_of host.now.order s))) }
+    ensures segment { IfOk result (λ s. option_map segment_of s ≡ own_segment host.now.order host.now.file (contents libs.now) slot) }
+    ensures sound { IfOk result (λ s. IfSome s (λ s. IsSound host.now.order (segment_of s))) }
 {
     let name = host.entry(slot).name;
     match role {
@@ -166,8 +168,8 @@ fn read_slot<'a>(
     requires slots { slot < 16 }
     requires libraries { libraries_fault_spec host.now.order (contents libs.now) ≡ None }
     ensures fault { result_err result ≡ source_fault host.now.order host.now.file (contents libs.now) slot }
-    ensures segment { IfOk result (λ s. option_map (segment_of host.now.order) s ≡ own_segment host.now.order host.now.file (contents libs.now) slot) }
-    ensures sound { IfOk result (λ s. IfSome s (λ s. IsSound host.now.order (segment_of host.now.order s))) }
+    ensures segment { IfOk result (λ s. option_map segment_of s ≡ own_segment host.now.order host.now.file (contents libs.now) slot) }
+    ensures sound { IfOk result (λ s. IfSome s (λ s. IsSound host.now.order (segment_of s))) }
 {
     match host.role(slot) {
         Err(_) => Ok(None),
@@ -192,8 +194,8 @@ pub(crate) fn read_slots<'a>(
 ) -> Result<ArrayVec<Segment<'a>, 16>, Fault>
     requires { libraries_fault_spec host.now.order (contents libs.now) ≡ None }
     ensures fault { result_err result ≡ sources_fault host.now.order host.now.file (contents libs.now) }
-    ensures segments { IfOk result (λ s. map (segment_of host.now.order) s.items ≡ own_segments host.now.order host.now.file (contents libs.now)) }
-    ensures sound { IfOk result (λ s. All (IsSound host.now.order) (map (segment_of host.now.order) s.items)) }
+    ensures segments { IfOk result (λ s. map segment_of s.items ≡ own_segments host.now.order host.now.file (contents libs.now)) }
+    ensures sound { IfOk result (λ s. All (IsSound host.now.order) (map segment_of s.items)) }
 {
     let mut segments = ArrayVec::new();
     for slot in 0..SLOTS {

@@ -16,9 +16,9 @@ use Rattle.ps_resolve.proofs.added.add_in.Goals as goal
 
 pub loop-slot-init : goal.loop-slot-init
 loop-slot-init c =
-    let own : List Segment = map (segment_of c.args.order) c.args.own.now in
+    let own : List Segment = map segment_of c.args.own.now in
     let row = sought_from (units_of own) [] (all_unit_references own) in
-    let units : units_of own ≡ units_by_name c.args.own.now = units_are c.args.order c.args.own.now in
+    let units : units_of own ≡ units_by_name c.args.own.now = units_are c.args.own.now in
     let is : c.sought_by-row.result.items ≡ take 10 row = c.sought_by-row.ensures ∙ sym (ap (λ (u : List (List ℕ × ℕ)). take 10 (sought_from u [] (all_unit_references own))) units) in
     rw c.new-added.ensures (record { rounds = (row, is, λ host. refl); count = refl; sound = All-nil (IsSound c.args.order) })
 
@@ -27,20 +27,20 @@ pub returns-in-None-clause-fault : goal.returns-in-None-clause-fault
 returns-in-None-clause-fault c = λ host.
     let inv = c.loop-slot.invariant in
     let order = c.args.order in
-    let units = units_of (map (segment_of order) c.args.own.now) in
+    let units = units_of (map segment_of c.args.own.now) in
     let i : ℕ = c.loop-slot.slot-index in
     let left = drop i c.args.slots.now in
     let at = at_round inv.rounds.0 c.loop-slot.row.items i c.len.result None inv.rounds.1 (omega arith) (c.len.ensures.value ∙ inv.count) c.in-None.ensures in
-    sym (ap (λ (r : Rounds). r.fault) (inv.rounds.2 host ∙ ap (joined (map (segment_of order) c.loop-slot.added.items)) (no_name_left order host (files c.args.libs.now) units i inv.rounds.0 left at)))
+    sym (ap (λ (r : Rounds). r.fault) (inv.rounds.2 host ∙ ap (joined (map segment_of c.loop-slot.added.items)) (no_name_left order host (files c.args.libs.now) units i inv.rounds.0 left at)))
 
 pub returns-in-None-clause-added : goal.returns-in-None-clause-added
 returns-in-None-clause-added c = λ host.
     let inv = c.loop-slot.invariant in
     let order = c.args.order in
-    let units = units_of (map (segment_of order) c.args.own.now) in
+    let units = units_of (map segment_of c.args.own.now) in
     let i : ℕ = c.loop-slot.slot-index in
     let left = drop i c.args.slots.now in
-    let xs = map (segment_of order) c.loop-slot.added.items in
+    let xs = map segment_of c.loop-slot.added.items in
     let at = at_round inv.rounds.0 c.loop-slot.row.items i c.len.result None inv.rounds.1 (omega arith) (c.len.ensures.value ∙ inv.count) c.in-None.ensures in
     sym (ap (λ (r : Rounds). r.added) (inv.rounds.2 host ∙ ap (joined xs) (no_name_left order host (files c.args.libs.now) units i inv.rounds.0 left at)) ∙ append-nil xs)
 
@@ -49,7 +49,7 @@ returns-in-Err-clause-fault c = λ host.
     let inv = c.loop-slot.invariant in
     let order = c.args.order in
     let libs = files c.args.libs.now in
-    let units = units_of (map (segment_of order) c.args.own.now) in
+    let units = units_of (map segment_of c.args.own.now) in
     let slots : List ℕ = c.args.slots.now in
     let i : ℕ = c.loop-slot.slot-index in
     let lt : i < length slots = c.loop-slot-test.true in
@@ -58,24 +58,24 @@ returns-in-Err-clause-fault c = λ host.
     let at = at_round inv.rounds.0 c.loop-slot.row.items i c.len.result (Some c.in-Some.sought) inv.rounds.1 (omega arith) (c.len.ensures.value ∙ inv.count) c.in-Some.ensures in
     let here = ap (λ (l : List ℕ). rounds_from order host libs units l i inv.rounds.0) (drop_at slots i slot lt (get_or_default slots i 0 slot lt))
     ∙ round_refused order host libs units i inv.rounds.0 slot left c.in-Some.sought c.in-Err.fault at (sym (c.in-Err.ensures.fault host)) in
-    sym (ap (λ (r : Rounds). r.fault) (inv.rounds.2 host ∙ ap (joined (map (segment_of order) c.loop-slot.added.items)) here))
+    sym (ap (λ (r : Rounds). r.fault) (inv.rounds.2 host ∙ ap (joined (map segment_of c.loop-slot.added.items)) here))
 
 pub loop-slot-preserved : goal.loop-slot-preserved
 loop-slot-preserved c =
     let inv = c.loop-slot.invariant in
     let order = c.args.order in
     let libs = files c.args.libs.now in
-    let own : List Segment = map (segment_of order) c.args.own.now in
+    let own : List Segment = map segment_of c.args.own.now in
     let units = units_of own in
-    let same : units ≡ units_by_name c.args.own.now = units_are order c.args.own.now in
+    let same : units ≡ units_by_name c.args.own.now = units_are c.args.own.now in
     let slots : List ℕ = c.args.slots.now in
     let i : ℕ = c.loop-slot.slot-index in
     let lt : i < length slots = c.loop-slot-test.true in
     let slot = get_or slots i 0 in
     let left = drop (i + 1) slots in
     let old : List SegmentView = c.loop-slot.added.items in
-    let xs : List Segment = map (segment_of order) old in
-    let s : Segment = segment_of order c.in-Ok.segment in
+    let xs : List Segment = map segment_of old in
+    let s : Segment = segment_of c.in-Ok.segment in
     let gs = unit_references s.file s.slot 0 s.records in
     let row = inv.rounds.0 in
     let next = sought_from units row gs in
@@ -83,7 +83,7 @@ loop-slot-preserved c =
     let is : c.seek_records.new.row.items ≡ take 10 next = c.seek_records.ensures
     ∙ (ap (λ (u : List (List ℕ × ℕ)). take 10 (sought_from u c.loop-slot.row.items gs)) (sym same)
     ∙ (ap (λ (q : List UnitReference). take 10 (sought_from units q gs)) inv.rounds.1 ∙ kept units row gs)) in
-    let pushed : map (segment_of order) c.push.new.self.items ≡ xs ++ s ∷ [] = ap (map (segment_of order)) c.push.ensures.items ∙ map-append (segment_of order) old (c.in-Ok.segment ∷ []) in
+    let pushed : map segment_of c.push.new.self.items ≡ xs ++ s ∷ [] = ap (map segment_of) c.push.ensures.items ∙ map-append segment_of old (c.in-Ok.segment ∷ []) in
     let on = λ (host : List ℕ).
     let rest = rounds_from order host libs units left (i + 1) next in
     let here = ap (λ (l : List ℕ). rounds_from order host libs units l i row) (drop_at slots i slot lt (get_or_default slots i 0 slot lt))
@@ -92,27 +92,27 @@ loop-slot-preserved c =
     record {
       rounds = (next, is, on);
       count = omega (arith, ap length c.push.ensures.items, length-append old (c.in-Ok.segment ∷ []), inv.count);
-      sound = rw c.push.ensures.items (all_more (IsSound order) (segment_of order) old (Some c.in-Ok.segment) inv.sound c.in-Ok.ensures.sound);
+      sound = rw c.push.ensures.items (all_more (IsSound order) segment_of old (Some c.in-Ok.segment) inv.sound c.in-Ok.ensures.sound);
     }
 
 pub returns-in-None-sought_at-clause-fault : goal.returns-in-None-sought_at-clause-fault
 returns-in-None-sought_at-clause-fault c = λ host.
     let inv = c.loop-slot.invariant in
     let order = c.args.order in
-    let units = units_of (map (segment_of order) c.args.own.now) in
+    let units = units_of (map segment_of c.args.own.now) in
     let i : ℕ = c.loop-slot.slot-index in
     let left = drop i c.args.slots.now in
     let at = at_round inv.rounds.0 c.loop-slot.row.items i c.len-placed.result None inv.rounds.1 (omega arith) (c.len-placed.ensures.value ∙ inv.count) c.in-None-sought_at.ensures in
-    sym (ap (λ (r : Rounds). r.fault) (inv.rounds.2 host ∙ ap (joined (map (segment_of order) c.loop-slot.added.items)) (no_name_left order host (files c.args.libs.now) units i inv.rounds.0 left at)))
+    sym (ap (λ (r : Rounds). r.fault) (inv.rounds.2 host ∙ ap (joined (map segment_of c.loop-slot.added.items)) (no_name_left order host (files c.args.libs.now) units i inv.rounds.0 left at)))
 
 pub returns-in-None-sought_at-clause-added : goal.returns-in-None-sought_at-clause-added
 returns-in-None-sought_at-clause-added c = λ host.
     let inv = c.loop-slot.invariant in
     let order = c.args.order in
-    let units = units_of (map (segment_of order) c.args.own.now) in
+    let units = units_of (map segment_of c.args.own.now) in
     let i : ℕ = c.loop-slot.slot-index in
     let left = drop i c.args.slots.now in
-    let xs = map (segment_of order) c.loop-slot.added.items in
+    let xs = map segment_of c.loop-slot.added.items in
     let at = at_round inv.rounds.0 c.loop-slot.row.items i c.len-placed.result None inv.rounds.1 (omega arith) (c.len-placed.ensures.value ∙ inv.count) c.in-None-sought_at.ensures in
     sym (ap (λ (r : Rounds). r.added) (inv.rounds.2 host ∙ ap (joined xs) (no_name_left order host (files c.args.libs.now) units i inv.rounds.0 left at)) ∙ append-nil xs)
 
@@ -122,10 +122,10 @@ returns-in-Some-sought_at-clause-fault c = λ host.
     let inv = c.loop-slot.invariant in
     let order = c.args.order in
     let libs = files c.args.libs.now in
-    let units = units_of (map (segment_of order) c.args.own.now) in
+    let units = units_of (map segment_of c.args.own.now) in
     let slots : List ℕ = c.args.slots.now in
     let i : ℕ = c.loop-slot.slot-index in
     let g = c.in-Some-sought_at.sought in
     let at = at_round inv.rounds.0 c.loop-slot.row.items i c.len-placed.result (Some g) inv.rounds.1 (omega arith) (c.len-placed.ensures.value ∙ inv.count) c.in-Some-sought_at.ensures in
     let here = ap (λ (l : List ℕ). rounds_from order host libs units l i inv.rounds.0) (drop_all i slots c.loop-slot-test.false) ∙ no_slot_left order host libs units i inv.rounds.0 g at in
-    ap (λ (f : Fault). Some f) c.no_slot.ensures ∙ sym (ap (λ (r : Rounds). r.fault) (inv.rounds.2 host ∙ ap (joined (map (segment_of order) c.loop-slot.added.items)) here))
+    ap (λ (f : Fault). Some f) c.no_slot.ensures ∙ sym (ap (λ (r : Rounds). r.fault) (inv.rounds.2 host ∙ ap (joined (map segment_of c.loop-slot.added.items)) here))

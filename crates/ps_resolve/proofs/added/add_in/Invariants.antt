@@ -12,10 +12,10 @@ use Rattle.ps_resolve.proofs.added.add_in.Given as goal
 abbrev pub invariant-loop-slot : goal.invariant-loop-slot
 invariant-loop-slot l =
     let order = l.fn.order in
-    let own = map (segment_of order) l.own in
+    let own = map segment_of l.own in
     record {
       rounds : (row : List UnitReference) × (l.row.items ≡ take 10 row)
-          × ((host : List ℕ) → rounds_in order host (files l.libs) own l.slots ≡ joined (map (segment_of order) l.added.items) (rounds_from order host (files l.libs) (units_of own) (drop l.slot-index l.slots) l.slot-index row));
+          × ((host : List ℕ) → rounds_in order host (files l.libs) own l.slots ≡ joined (map segment_of l.added.items) (rounds_from order host (files l.libs) (units_of own) (drop l.slot-index l.slots) l.slot-index row));
       count : length l.added.items ≡ l.slot-index;
-      sound : All (IsSound order) (map (segment_of order) l.added.items);
+      sound : All (IsSound order) (map segment_of l.added.items);
     }

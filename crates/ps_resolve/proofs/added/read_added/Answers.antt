@@ -62,10 +62,9 @@ returns-in-Ok-clause-segment c = λ host.
     let libs = files c.args.libs.now in
     let file = chosen_file c.args.order g.name libs unit.library unit.dict.file host c.in-Some.ensures.library in
     added_by c.args.order host libs g c.args.slot unit.library unit.dict.file unit.index c.in-Some.ensures.library c.in-Some.ensures.entry
-    ∙ (ap (option_map as_added) (ap (λ (o : Order). segment_from o host libs c.args.slot g.name Wanted (unit.library + 1, unit.index)) (sym c.in-Some.ensures.order) ∙ c.in-Ok.ensures.segment host libs file)
-    ∙ ap (λ (o : Order). Some (as_added (segment_of o c.in-Ok.segment))) c.in-Some.ensures.order)
+    ∙ ap (option_map as_added) (ap (λ (o : Order). segment_from o host libs c.args.slot g.name Wanted (unit.library + 1, unit.index)) (sym c.in-Some.ensures.order) ∙ c.in-Ok.ensures.segment host libs file)
 
 pub returns-in-Ok-clause-sound : goal.returns-in-Ok-clause-sound
 returns-in-Ok-clause-sound c =
-    let h = subst (λ (o : Order). IsSound o (segment_of o c.in-Ok.segment)) c.in-Some.ensures.order c.in-Ok.ensures.sound in
-    record { small = h.small; large = h.large; tables = h.tables; slot = h.slot }
+    let h = subst (λ (o : Order). IsSound o (segment_of c.in-Ok.segment)) c.in-Some.ensures.order c.in-Ok.ensures.sound in
+    record { small = h.small; large = h.large; tables = h.tables; plain = h.plain; slot = h.slot }

@@ -1,56 +1,45 @@
-use Rattle.std.proofs.Common.{◌≡◌, ◌∙◌, List, [], ◌∷◌, length, take, refl, sym, ap, arith}
+use Rattle.std.proofs.Common.{◌∙◌, ◌+◌, ◌∷◌, [], List, take, refl, sym, ap}
 use Rattle.std.proofs.lemmas.List.{take_all}
-use Rattle.ps_linkinfo.specs.Left.{records_left}
-use Rattle.ps_linkinfo.specs.declared.record.LinkRecord.{LinkRecord as Record}
 use Rattle.ps_resolve.specs.Added.{sought_from, unit_references}
 use Rattle.ps_resolve.specs.Names.{units_by_name}
-use Rattle.ps_resolve.proofs.Adding.{kept_more, few_kept}
-use Rattle.ps_resolve.proofs.Rows.{given_ok, given_err}
+use Rattle.ps_resolve.specs.declared.added.UnitReference.{UnitReference}
+use Rattle.ps_resolve.proofs.Adding.{Seeks, kept_more, few_kept, no_references}
+use Rattle.ps_resolve.proofs.Numbers.{one, none}
 use Rattle.ps_resolve.proofs.added.seek_records.Goals as goal
 
-pub loop-item-init : goal.loop-item-init
-loop-item-init c =
-    let all = ap records_left (c.into_iter-item-iterator.ensures.into_iter_gives ∙ c.new-item-items.ensures)
-    ∙ (c.walk_from_start.ensures.records c.linkage_of-linkage.result.order c.linkage_of-linkage.result.bytes.now ∙ c.linkage_of-linkage.ensures.records) in
-    rw all (record { can = tt; finite = tt; row = refl; few = c.requires; count = omega arith })
+pub returns-then-units-eq0 : goal.returns-then-units-eq0
+returns-then-units-eq0 c =
+    let s = c.args.segment.now in
+    let units = units_by_name c.args.own.now in
+    let row = c.args.row.now.items in
+    let seeks = no_references s.file s.slot 0 s.records (sym c.units.ensures ∙ c.if-units-eq0.true) in
+    sym (ap (λ (gs : List UnitReference). take 10 (sought_from units row gs)) seeks ∙ take_all 10 row c.requires)
 
-pub loop-item-preserved-in-Ok : goal.loop-item-preserved-in-Ok
-loop-item-preserved-in-Ok c =
+pub loop-rec-init : goal.loop-rec-init
+loop-rec-init c = record {
+  left = (0, c.args.segment.now.records, c.into_iter-rec-iterator.ensures.into_iter_gives ∙ c.records-rec-items.ensures, refl);
+  few = c.requires;
+}
+
+pub loop-rec-preserved : goal.loop-rec-preserved
+loop-rec-preserved c =
     let units = units_by_name c.args.own.now in
     let s = c.args.segment.now in
-    let inv = c.loop-item.invariant in
-    let r = c.in-Ok.entry in
-    let rest = records_left c.next.new.self in
-    let old = c.loop-item.row.items in
-    let records = given_ok _ c.next.new.self _ r c.in-Some.ensures.steps.1 c.in-Ok.is in
+    let old = c.loop-rec.row.items in
+    let rec = c.in-Some.rec in
+    let r = c.in-Some.record in
+    let step = one (Seeks units s.file s.slot s.records c.args.row.now.items old) c.loop-rec.rec-iterator c.next.new.self rec r c.loop-rec.invariant.left c.in-Some.ensures.steps in
     record {
-      can = tt;
-      finite = tt;
-      row = kept_more units old c.seek_record.new.row.items s.file s.slot c.loop-item.rec r rest c.seek_record.ensures
-          ∙ (ap (λ (xs : List Record). take 10 (sought_from units old (unit_references s.file s.slot c.loop-item.rec xs))) (sym records) ∙ inv.row);
-      few = rw c.seek_record.ensures (few_kept (sought_from units old (unit_references s.file s.slot c.loop-item.rec (r ∷ []))));
-      count = omega (arith, ap length records, inv.count);
+      left = (rec + 1, step.0, step.1, kept_more units old c.seek_record.new.row.items s.file s.slot rec r step.0 c.seek_record.ensures ∙ step.2);
+      few = rw c.seek_record.ensures (few_kept (sought_from units old (unit_references s.file s.slot rec (r ∷ []))));
     }
 
-pub loop-item-preserved : goal.loop-item-preserved
-loop-item-preserved c =
-    let inv = c.loop-item.invariant in
-    let records = given_err _ c.next.new.self _ c.in_default.field-0 c.in-Some.ensures.steps.1 c.in_default.is in
-    rw (← records) (record { can = tt; finite = tt; row = inv.row; few = inv.few; count = inv.count })
-
-pub overflow_add-rec : goal.overflow_add-rec
-overflow_add-rec c =
-    let rs = ap length (sym c.linkage_of-linkage.ensures.records) in
-    omega (arith, rs, c.loop-item.invariant.count, c.walk_from_start.ensures.few_records c.linkage_of-linkage.result.order c.linkage_of-linkage.result.bytes.now)
-
 pub seek_record-requires : goal.seek_record-requires
-seek_record-requires c = c.loop-item.invariant.few
+seek_record-requires c = c.loop-rec.invariant.few
 
 pub returns : goal.returns
 returns c =
     let s = c.args.segment.now in
-    let units = units_by_name c.args.own.now in
-    let row = c.loop-item.row.items in
-    let none : records_left c.loop-item.item-iterator ≡ [] = rw c.in-None.ensures.steps.0.0 refl in
-    sym (take_all 10 row c.loop-item.invariant.few)
-    ∙ (ap (λ (xs : List Record). take 10 (sought_from units row (unit_references s.file s.slot c.loop-item.rec xs))) (sym none) ∙ c.loop-item.invariant.row)
+    let row = c.loop-rec.row.items in
+    let end = none (Seeks (units_by_name c.args.own.now) s.file s.slot s.records c.args.row.now.items row) c.loop-rec.rec-iterator c.loop-rec.invariant.left c.in-None.ensures.steps.0 in
+    sym (take_all 10 row c.loop-rec.invariant.few) ∙ end.1

@@ -9,6 +9,6 @@ abbrev pub invariant-loop-segment : goal.invariant-loop-segment
 invariant-loop-segment l =
     let units = units_by_name l.own in
     record {
-      row : take 10 (sought_from units l.row.items (all_unit_references (map (segment_of l.order) (drop l.segment-index l.own)))) ≡ take 10 (sought_from units [] (all_unit_references (map (segment_of l.order) l.own)));
+      row : take 10 (sought_from units l.row.items (all_unit_references (map segment_of (drop l.segment-index l.own)))) ≡ take 10 (sought_from units [] (all_unit_references (map segment_of l.own)));
       few : length l.row.items ≤ 10;
     }

@@ -2,7 +2,6 @@ use Rattle.std.proofs.Common.{◌≡◌, ℕ, ◌-◌, ◌≤◌, ◌++◌, ◌�
 use Rattle.std.specs.Prelude.{IsPermutation, count_by}
 use Rattle.std.specs.Option.{option_to_list}
 use Rattle.std.proofs.lemmas.List.Sorted.{All-permutation}
-use Rattle.ps_linkinfo.specs.Records.{reading}
 use Rattle.ps_linkinfo.specs.declared.record.LinkRecord.{LinkRecord as Record}
 use Rattle.ps_words.specs.Edits.{covers, IsInside}
 use Rattle.ps_words.specs.declared.order.Order.{Order}
@@ -17,10 +16,10 @@ pub sorted-requires-clause-inside : goal.sorted-requires-clause-inside
 sorted-requires-clause-inside g c =
     let known : Known = c.args.names.now in
     let order : Order = c.args.procedures.now.order in
-    let code : List ℕ = c.args.code.now in
+    let code : List ℕ = c.args.segment.now.code.now in
     let free : ℕ = c.args.free in
     let slot : ℕ = c.args.segment.now.slot in
-    let rs : List Record = (reading c.args.segment.now.order c.args.segment.now.bytes.now).0 in
+    let rs : List Record = c.args.segment.now.records in
     let all : List Edit = Byte (length code - 2) slot ∷ (option_to_list c.args.own ++ records_edits known code free rs) in
     let items : c.add_records.new.edits.items ≡ all =
     c.in_ok-end.ensures.ok ∙ ap (λ (es : List Edit). es ++ records_edits known code free rs) c.in_ok-edits.ensures.items in
@@ -32,10 +31,10 @@ pub sorted-requires-clause-once : goal.sorted-requires-clause-once
 sorted-requires-clause-once g c =
     let known : Known = c.args.names.now in
     let order : Order = c.args.procedures.now.order in
-    let code : List ℕ = c.args.code.now in
+    let code : List ℕ = c.args.segment.now.code.now in
     let free : ℕ = c.args.free in
     let slot : ℕ = c.args.segment.now.slot in
-    let rs : List Record = (reading c.args.segment.now.order c.args.segment.now.bytes.now).0 in
+    let rs : List Record = c.args.segment.now.records in
     let all : List Edit = Byte (length code - 2) slot ∷ (option_to_list c.args.own ++ records_edits known code free rs) in
     let items : c.add_records.new.edits.items ≡ all =
     c.in_ok-end.ensures.ok ∙ ap (λ (es : List Edit). es ++ records_edits known code free rs) c.in_ok-edits.ensures.items in
@@ -47,10 +46,10 @@ pub returns : goal.returns
 returns g c =
     let known : Known = c.args.names.now in
     let order : Order = c.args.procedures.now.order in
-    let code : List ℕ = c.args.code.now in
+    let code : List ℕ = c.args.segment.now.code.now in
     let free : ℕ = c.args.free in
     let slot : ℕ = c.args.segment.now.slot in
-    let rs : List Record = (reading c.args.segment.now.order c.args.segment.now.bytes.now).0 in
+    let rs : List Record = c.args.segment.now.records in
     let all : List Edit = Byte (length code - 2) slot ∷ (option_to_list c.args.own ++ records_edits known code free rs) in
     let sorted : List Edit = c.in_ok-ordered.ordered.items in
     let items : c.add_records.new.edits.items ≡ all =

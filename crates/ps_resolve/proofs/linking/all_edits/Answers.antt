@@ -1,5 +1,4 @@
 use Rattle.std.proofs.Common.{◌≡◌, ℕ, ◌+◌, ◌<◌, ◌∷◌, [], List, length, map, get_or, true, arith, append-nil}
-use Rattle.std.proofs.lemmas.List.{get_or_default}
 use Rattle.ps_words.specs.declared.order.Order.{Order}
 use Rattle.ps_resolve.specs.Edits.{IsOfTable}
 use Rattle.ps_resolve.specs.Privates.{owner_of, all_words}
@@ -9,7 +8,7 @@ use Rattle.ps_resolve.specs.References.{Known}
 use Rattle.ps_resolve.specs.Sources.{Segment, is_host}
 use Rattle.ps_resolve.specs.declared.segment.Segment.{Segment as SegmentView}
 use Rattle.ps_resolve.specs.Faults.{references_fault_from}
-use Rattle.ps_resolve.proofs.Segs.{at_map, map_push, blank}
+use Rattle.ps_resolve.proofs.Segs.{at_map, map_push}
 use Rattle.ps_resolve.proofs.AllSegments.{table_of_own, own_is, words_on, first_on, links_on, none_left}
 use Rattle.ps_resolve.proofs.linking.all_edits.Goals as goal
 
@@ -18,17 +17,17 @@ segment_edits-requires-clause-sound g c =
     let ss : List SegmentView = c.args.segments.now in
     let i : ℕ = c.loop-segment.segment-index in
     let lt : i < length ss = omega arith in
-    let v : SegmentView = get_or ss i blank in
-    at_map (IsSound c.args.order) (segment_of c.args.order) ss i v lt (get_or_default ss i blank v lt) c.requires.sound
+    let v : SegmentView = c.segment-item.result in
+    at_map (IsSound c.args.order) segment_of ss i v lt c.segment-item.is c.requires.sound
 
 pub segment_edits-requires-clause-table : goal.segment_edits-requires-clause-table
 segment_edits-requires-clause-table g c =
     let ss : List SegmentView = c.args.segments.now in
     let i : ℕ = c.loop-segment.segment-index in
     let lt : i < length ss = omega arith in
-    let v : SegmentView = get_or ss i blank in
+    let v : SegmentView = c.segment-item.result in
     table_of_own c.args.order v c.args.size c.own_edit.result c.own_edit.ensures.host
-    (at_map (λ (s : Segment). is_host s.role ≡ true → IsOfTable c.args.order s.code c.args.size) (segment_of c.args.order) ss i v lt (get_or_default ss i blank v lt) c.requires.table)
+    (at_map (λ (s : Segment). is_host s.role ≡ true → IsOfTable c.args.order s.code c.args.size) segment_of ss i v lt c.segment-item.is c.requires.table)
 
 pub loop-segment-preserved : goal.loop-segment-preserved
 loop-segment-preserved g c =
@@ -37,18 +36,18 @@ loop-segment-preserved g c =
     let ss : List SegmentView = c.args.segments.now in
     let i : ℕ = c.loop-segment.segment-index in
     let lt : i < length ss = omega arith in
-    let v : SegmentView = get_or ss i blank in
-    let is : v ≡ get_or ss i v = get_or_default ss i blank v lt in
+    let v : SegmentView = c.segment-item.result in
+    let is : v ≡ get_or ss i v = c.segment-item.is in
     let free : ℕ = c.loop-segment.free in
     let end : ℕ = c.in-Ok.end in
     let inv = c.loop-segment.invariant in
     record {
-      words = words_on order known ss i v lt is free end c.in-Ok.ensures.end (c.args.base + all_words (map owner_of (map (segment_of order) ss))) inv.words;
-      first = first_on order known ss i v lt is free end c.in-Ok.ensures.end (references_fault_from order known c.args.base (map (segment_of order) ss)) inv.first c.in-Ok.ensures.sound;
+      words = words_on order known ss i v lt is free end c.in-Ok.ensures.end (c.args.base + all_words (map owner_of (map segment_of ss))) inv.words;
+      first = first_on order known ss i v lt is free end c.in-Ok.ensures.end (references_fault_from order known c.args.base (map segment_of ss)) inv.first c.in-Ok.ensures.sound;
       links = λ words all behind h. rw (c.in_ok-push-in-Ok.ensures.items, map_push)
-          (links_on order known ss i v lt is free end c.in-Ok.ensures.end words (edited_from order known words c.args.base (map (segment_of order) ss)) (map (λ e. e.items) c.loop-segment.edits.items) c.in-Ok.found.items
+          (links_on order known ss i v lt is free end c.in-Ok.ensures.end words (edited_from order known words c.args.base (map segment_of ss)) (map (λ e. e.items) c.loop-segment.edits.items) c.in-Ok.found.items
           (c.in-Ok.ensures.links words (own_is (is_host v.role) c.own_edit.result c.args.size (data_edits order words v.code.now)
-          (at_map (λ (s : Segment). is_host s.role ≡ true → data_edits order words s.code ≡ c.args.size ∷ []) (segment_of order) ss i v lt is all) c.own_edit.ensures.value))
+          (at_map (λ (s : Segment). is_host s.role ≡ true → data_edits order words s.code ≡ c.args.size ∷ []) segment_of ss i v lt is all) c.own_edit.ensures.value))
           (inv.links words all) behind h);
     }
 

@@ -12,8 +12,8 @@ use Rattle.ps_resolve.proofs.linking.all_edits.Given as goal
 -- the edits so far and those of the segments that are left link all; so it is with words, and with the first fault
 abbrev pub invariant-loop-segment : goal.invariant-loop-segment
 invariant-loop-segment g l =
-    let all = map (segment_of l.order) l.segments in
-    let rest = map (segment_of l.order) (drop l.segment-index l.segments) in
+    let all = map segment_of l.segments in
+    let rest = map segment_of (drop l.segment-index l.segments) in
     record {
       words : l.free + all_words (map owner_of rest) ≡ l.base + all_words (map owner_of all);
       first : references_fault_from l.order l.names l.free rest ≡ references_fault_from l.order l.names l.base all;

@@ -17,7 +17,7 @@ loop-slot-preserved c =
     let i = c.loop-slot.slot in
     let o = c.segment_of_slot.result in
     rw c.add.ensures (record {
-      all = inv.all ∙ kept_on (segment_of order) (segment_in_slot order c.args.host.now.file _ _) old o i 16 c.loop-slot-test.true c.segment_of_slot.ensures;
-      sound = all_more (IsSound order) (segment_of order) old o inv.sound (sound_in_slot order c.args.host.now.file c.args.own.now c.args.added.now i o c.segment_of_slot.ensures c.requires.own c.requires.added);
+      all = inv.all ∙ kept_on segment_of (segment_in_slot order c.args.host.now.file _ _) old o i 16 c.loop-slot-test.true c.segment_of_slot.ensures;
+      sound = all_more (IsSound order) segment_of old o inv.sound (sound_in_slot order c.args.host.now.file c.args.own.now c.args.added.now i o c.segment_of_slot.ensures c.requires.own c.requires.added);
       few = few_more old o i inv.few;
     })

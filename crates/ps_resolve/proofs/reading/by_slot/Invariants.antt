@@ -8,10 +8,10 @@ use Rattle.ps_resolve.proofs.reading.by_slot.Given as goal
 abbrev pub invariant-loop-slot : goal.invariant-loop-slot
 invariant-loop-slot l =
     let order = l.host.order in
-    let own = map (segment_of order) l.own in
-    let added = map (segment_of order) l.added in
+    let own = map segment_of l.own in
+    let added = map segment_of l.added in
     record {
-      all : segments_in_slots order l.host.file own added ≡ map (segment_of order) l.segments.items ++ filter_map (segment_in_slot order l.host.file own added) (range_with_len l.slot (16 - l.slot));
-      sound : All (IsSound order) (map (segment_of order) l.segments.items);
+      all : segments_in_slots order l.host.file own added ≡ map segment_of l.segments.items ++ filter_map (segment_in_slot order l.host.file own added) (range_with_len l.slot (16 - l.slot));
+      sound : All (IsSound order) (map segment_of l.segments.items);
       few : length l.segments.items ≤ l.slot;
     }

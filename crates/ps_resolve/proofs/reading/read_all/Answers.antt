@@ -20,7 +20,7 @@ unfolding rounds
 returns-in-Err-add_units-clause-fault c =
     let host = c.args.host.now in
     let libs = files c.args.libs.now in
-    let own : map (segment_of host.order) c.as_slice-own.result.now ≡ own_segments host.order host.file libs = ap (map (segment_of host.order)) c.as_slice-own.ensures.value ∙ c.in-Ok.ensures.segments in
+    let own : map segment_of c.as_slice-own.result.now ≡ own_segments host.order host.file libs = ap (map segment_of) c.as_slice-own.ensures.value ∙ c.in-Ok.ensures.segments in
     sym (skip (sources_fault host.order host.file libs) (added_fault host.order host.file libs) (sym c.in-Ok.ensures.fault)
     ∙ (sym (ap (λ (segs : List Segment). (rounds_of host.order host.file libs segs).fault) own) ∙ sym c.in-Err-add_units.ensures.fault))
 
@@ -29,14 +29,14 @@ unfolding rounds
 returns-in-Ok-add_units c =
     let host = c.args.host.now in
     let libs = files c.args.libs.now in
-    let own : map (segment_of host.order) c.as_slice-own.result.now ≡ own_segments host.order host.file libs = ap (map (segment_of host.order)) c.as_slice-own.ensures.value ∙ c.in-Ok.ensures.segments in
-    let others : map (segment_of host.order) c.as_slice-added.result.now ≡ added host.order host.file libs =
-    ap (map (segment_of host.order)) c.as_slice-added.ensures.value ∙ (c.in-Ok-add_units.ensures.added ∙ ap (λ (segs : List Segment). (rounds_of host.order host.file libs segs).added) own) in
+    let own : map segment_of c.as_slice-own.result.now ≡ own_segments host.order host.file libs = ap (map segment_of) c.as_slice-own.ensures.value ∙ c.in-Ok.ensures.segments in
+    let others : map segment_of c.as_slice-added.result.now ≡ added host.order host.file libs =
+    ap (map segment_of) c.as_slice-added.ensures.value ∙ (c.in-Ok-add_units.ensures.added ∙ ap (λ (segs : List Segment). (rounds_of host.order host.file libs segs).added) own) in
     record {
       fault = sym (skip (sources_fault host.order host.file libs) (added_fault host.order host.file libs) (sym c.in-Ok.ensures.fault)
           ∙ (sym (ap (λ (segs : List Segment). (rounds_of host.order host.file libs segs).fault) own) ∙ sym c.in-Ok-add_units.ensures.fault));
       segments = c.by_slot.ensures.segments
-          ∙ (ap (λ (segs : List Segment). segments_in_slots host.order host.file segs (map (segment_of host.order) c.as_slice-added.result.now)) own
+          ∙ (ap (λ (segs : List Segment). segments_in_slots host.order host.file segs (map segment_of c.as_slice-added.result.now)) own
           ∙ (ap (segments_in_slots host.order host.file (own_segments host.order host.file libs)) others ∙ in_slots_are host.order host.file libs));
       sound = c.by_slot.ensures.sound;
     }

@@ -36,7 +36,7 @@ returns-in-Ok-read_sources-clause-order c =
 pub returns-in-Ok-read_sources-clause-segments : goal.returns-in-Ok-read_sources-clause-segments
 returns-in-Ok-read_sources-clause-segments c =
     let is = host_is c.args.host.now c.in-Ok.dict (sym c.read.ensures ∙ c.in-Ok.is) in
-    rw c.order.ensures (c.in-Ok-read_sources.ensures.segments ∙ ap (λ (o : Opened). segments o.order o.file (files c.args.libs.now)) is)
+    c.in-Ok-read_sources.ensures.segments ∙ ap (λ (o : Opened). segments o.order o.file (files c.args.libs.now)) is
 
 pub returns-in-Ok-read_sources-clause-sound : goal.returns-in-Ok-read_sources-clause-sound
 returns-in-Ok-read_sources-clause-sound c = rw c.order.ensures c.in-Ok-read_sources.ensures.sound
@@ -53,22 +53,22 @@ none_of order host libs h =
 pub returns-in-Ok-read_sources-clause-ascending : goal.returns-in-Ok-read_sources-clause-ascending
 returns-in-Ok-read_sources-clause-ascending c =
     let dict = c.in-Ok.dict in
-    rw (c.order.ensures, c.in-Ok-read_sources.ensures.segments) (ascend dict.order dict.file (files c.args.libs.now))
+    rw c.in-Ok-read_sources.ensures.segments (ascend dict.order dict.file (files c.args.libs.now))
 
 pub returns-in-Ok-read_sources-clause-host : goal.returns-in-Ok-read_sources-clause-host
 returns-in-Ok-read_sources-clause-host c =
     let dict = c.in-Ok.dict in
     let none = none_of dict.order dict.file (files c.args.libs.now) (sym c.in-Ok-read_sources.ensures.fault) in
-    rw (c.order.ensures, c.in-Ok-read_sources.ensures.segments) (host_there dict.order dict.file (files c.args.libs.now) none.1 none.2)
+    rw c.in-Ok-read_sources.ensures.segments (host_there dict.order dict.file (files c.args.libs.now) none.1 none.2)
 
 pub returns-in-Ok-read_sources-clause-one_host : goal.returns-in-Ok-read_sources-clause-one_host
 returns-in-Ok-read_sources-clause-one_host c =
     let dict = c.in-Ok.dict in
     let none = none_of dict.order dict.file (files c.args.libs.now) (sym c.in-Ok-read_sources.ensures.fault) in
-    rw (c.order.ensures, c.in-Ok-read_sources.ensures.segments) (one_host dict.order dict.file (files c.args.libs.now) none.0)
+    rw c.in-Ok-read_sources.ensures.segments (one_host dict.order dict.file (files c.args.libs.now) none.0)
 
 pub returns-in-Ok-read_sources-clause-names : goal.returns-in-Ok-read_sources-clause-names
-returns-in-Ok-read_sources-clause-names c = λ order.
-    c.slot_names.ensures order
-    ∙ (ap (λ (o : Opened). slot_names o.file (map (segment_of order) c.as_slice.result.now)) (host_is c.args.host.now c.in-Ok.dict (sym c.read.ensures ∙ c.in-Ok.is))
-    ∙ ap (λ (ss : List SegmentView). slot_names c.args.host.now (map (segment_of order) ss)) c.as_slice.ensures.value)
+returns-in-Ok-read_sources-clause-names c =
+    c.slot_names.ensures
+    ∙ (ap (λ (o : Opened). slot_names o.file (map segment_of c.as_slice.result.now)) (host_is c.args.host.now c.in-Ok.dict (sym c.read.ensures ∙ c.in-Ok.is))
+    ∙ ap (λ (ss : List SegmentView). slot_names c.args.host.now (map segment_of ss)) c.as_slice.ensures.value)

@@ -3,7 +3,6 @@ use Rattle.std.specs.List.{range_with_len}
 use Rattle.std.proofs.lemmas.List.{take_more_set, take_all}
 use Rattle.std.proofs.lemmas.List.FromFn.{map-range_with_len_more}
 use Rattle.std.proofs.lemmas.Grind.{common_steps}
-use Rattle.ps_words.specs.declared.order.Order.{Order}
 use Rattle.ps_resolve.specs.Added.{slot_name, slot_names}
 use Rattle.ps_resolve.specs.Views.{segment_of}
 use Rattle.ps_resolve.proofs.reading.slot_names.Goals as goal
@@ -16,18 +15,18 @@ loop-slot-preserved c =
     let wrote = take_more_set c.loop-slot.names i c.slot_name.result lt in
     record {
       all = grind (arith, common_steps);
-      done = λ (order : Order).
-          let name = c.slot_name.ensures order in
-          let so_far = inv.done order in
-          let more = map-range_with_len_more (slot_name c.args.host.now.file (map (segment_of order) c.args.segments.now)) 0 i i (omega arith) in
+      done =
+          let name = c.slot_name.ensures in
+          let so_far = inv.done in
+          let more = map-range_with_len_more (slot_name c.args.host.now.file (map segment_of c.args.segments.now)) 0 i i (omega arith) in
           grind (arith, common_steps, wrote, more, name, so_far);
     }
 
 pub returns : goal.returns
 unfolding slot_names
-returns c = λ (order : Order).
+returns c =
     let names = c.loop-slot.names in
     let done : c.loop-slot.slot ≡ 16 = omega arith in
     let whole : length names ≤ 16 = omega (arith, c.loop-slot.invariant.all) in
     sym (take_all 16 names whole)
-    ∙ subst (λ (n : ℕ). take n names ≡ map (slot_name c.args.host.now.file (map (segment_of order) c.args.segments.now)) (range_with_len 0 n)) done (c.loop-slot.invariant.done order)
+    ∙ subst (λ (n : ℕ). take n names ≡ map (slot_name c.args.host.now.file (map segment_of c.args.segments.now)) (range_with_len 0 n)) done c.loop-slot.invariant.done

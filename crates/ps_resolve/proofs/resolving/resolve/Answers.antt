@@ -19,10 +19,10 @@ returns-in-Ok g c =
     let host : List ℕ = c.args.host.now in
     let libs : List (List ℕ) = map (λ lib. lib.now) c.args.libs.now in
     let order : Order = c.in-Ok.files.order in
-    let given : List Segment = map (segment_of order) c.as_slice.result.now in
+    let given : List Segment = map segment_of c.as_slice.result.now in
     let all : List Segment = segments (order_of host) host libs in
     let order_is : order ≡ order_of host = c.in-Ok.ensures.order in
-    let given_is : given ≡ all = ap (map (segment_of order)) c.as_slice.ensures.value ∙ c.in-Ok.ensures.segments in
+    let given_is : given ≡ all = ap (map segment_of) c.as_slice.ensures.value ∙ c.in-Ok.ensures.segments in
     let none = c.in-Ok.ensures.faultless in
     let same : linking_fault order given ≡ linking_fault (order_of host) all = ap (linking_fault order) given_is ∙ ap (λ (o : Order). linking_fault o all) order_is in
     record {
@@ -35,4 +35,4 @@ returns-in-Ok g c =
 
 pub link_segments-requires-clause-names : goal.link_segments-requires-clause-names
 link_segments-requires-clause-names g c =
-    c.in-Ok.ensures.names c.in-Ok.files.order ∙ ap (λ (ss : List SegmentView). slot_names c.args.host.now (map (segment_of c.in-Ok.files.order) ss)) (sym c.as_slice.ensures.value)
+    c.in-Ok.ensures.names ∙ ap (λ (ss : List SegmentView). slot_names c.args.host.now (map segment_of ss)) (sym c.as_slice.ensures.value)

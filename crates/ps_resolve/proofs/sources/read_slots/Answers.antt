@@ -27,7 +27,7 @@ loop-slot-preserved c =
     let o = c.in-Ok.segment in
     rw c.add.ensures (record {
       first = inv.first ∙ first_later (source_fault host.order host.file libs) i 16 c.loop-slot-test.true (sym c.in-Ok.ensures.fault);
-      all = inv.all ∙ kept_on (segment_of host.order) (own_segment host.order host.file libs) old o i 16 c.loop-slot-test.true c.in-Ok.ensures.segment;
-      sound = all_more (IsSound host.order) (segment_of host.order) old o inv.sound c.in-Ok.ensures.sound;
+      all = inv.all ∙ kept_on segment_of (own_segment host.order host.file libs) old o i 16 c.loop-slot-test.true c.in-Ok.ensures.segment;
+      sound = all_more (IsSound host.order) segment_of old o inv.sound c.in-Ok.ensures.sound;
       few = few_more old o i inv.few;
     })

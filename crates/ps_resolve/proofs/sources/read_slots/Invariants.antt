@@ -15,7 +15,7 @@ invariant-loop-slot l =
     let host = l.host.file in
     record {
       first : sources_fault order host (files l.libs) ≡ first_of (source_fault order host (files l.libs)) (range_with_len l.slot (16 - l.slot));
-      all : own_segments order host (files l.libs) ≡ map (segment_of order) l.segments.items ++ filter_map (own_segment order host (files l.libs)) (range_with_len l.slot (16 - l.slot));
-      sound : All (IsSound order) (map (segment_of order) l.segments.items);
+      all : own_segments order host (files l.libs) ≡ map segment_of l.segments.items ++ filter_map (own_segment order host (files l.libs)) (range_with_len l.slot (16 - l.slot));
+      sound : All (IsSound order) (map segment_of l.segments.items);
       few : length l.segments.items ≤ l.slot;
     }
