@@ -1,10 +1,12 @@
 //! Units that only a unit names: they are sought in the libraries and added in empty slots of the host.
 use super::answers::{LITTLE, links, refuses};
-use super::growths::{Growing, refuses_each_growth};
+use super::growths::Growing;
 use super::link_growths::Link;
-use super::tables::{Base, Memory, Refusal, Row, link_rows, link_rows_in, refuse_rows_in};
+use super::tables::{
+    AMPLE, AMPLE_OR_NONE, AMPLE_OR_REFUSED, Base, Memory, Refusal, Row, Table, link_tables,
+    refuse_tables,
+};
 use super::texts::Map;
-use super::{in_place_faults, pair_faults};
 use crate::added::{USING_RECORDS, library_of_a_used_unit, linked_used_unit};
 use crate::base::{
     COUNT, LINKED_DEMO, LINKED_UTIL, NOBODY, STATE, UTIL, WANTED_UTIL, base_host, demo_code,
@@ -17,9 +19,9 @@ use crate::code_file::{CodeFile, LINKED, Slot, UNIT_SEGMENT};
 use crate::information::Name;
 use crate::information::Record::{End, PrivateReference, PublicDefinition, UnitReference};
 use crate::units::{AUX, LIBRARY_AUX, LINKED_AUX};
-use ps_resolve::resolve;
-use ps_words::Order;
+use ps_resolve::{Plan, resolve};
 use std::alloc::{AllocError, Global};
+use std::process::Abort;
 use std::test::Fail;
 
 const BLANK: Name = [b' '; 8];
@@ -237,43 +239,18 @@ const NAMELESS_UNIT: [Row<'static>; 1] = [Row {
     summary: "segments 2 private words 0 blocks 3",
 }];
 
+const TABLES: [Table<'static, Row<'static>>; 5] = [
+    (Base::UsedUnit, AMPLE_OR_REFUSED, &USED_UNIT),
+    (Base::BigUsedUnit, AMPLE, &USED_UNIT),
+    (Base::UsedUnit, AMPLE, &LINKS),
+    (Base::UsedUnit, AMPLE, &NAME_OF_A_LINKED_SEGMENT),
+    (Base::InPlace, AMPLE, &NAMELESS_UNIT),
+];
+
 #[test]
 fn added_units(rt: HostRuntime) -> Result<(), Fail> {
-    link_rows(&rt, Base::UsedUnit, &USED_UNIT)?;
-    link_rows(&rt, Base::UsedUnit, &LINKS)?;
-    link_rows(&rt, Base::UsedUnit, &NAME_OF_A_LINKED_SEGMENT)?;
-    link_rows(&rt, Base::InPlace, &NAMELESS_UNIT)
-}
-
-#[test]
-fn each_growth_refused(rt: HostRuntime) -> Result<(), Fail> {
-    link_rows_in(&rt, Base::UsedUnit, Memory::EachGrowthRefused, &USED_UNIT)
-}
-
-#[test]
-fn faults_that_are_found_before_anything_grows(rt: HostRuntime) -> Result<(), Fail> {
-    refuse_rows_in(&rt, Base::UsedUnit, Memory::NoGrowth, &FAULTS)?;
-    refuse_rows_in(&rt, Base::Pair, Memory::NoGrowth, &pair_faults::UNITS)?;
-    refuse_rows_in(
-        &rt,
-        Base::InPlace,
-        Memory::NoGrowth,
-        &in_place_faults::UNITS,
-    )
-}
-
-#[test]
-fn a_used_unit_in_either_byte_order(rt: HostRuntime) -> Result<(), Fail> {
-    let alloc = rt.alloc();
-    for order in [Order::Little, Order::Big] {
-        let host = base_host(alloc, order)?;
-        let library = library_of_a_used_unit(alloc, order)?;
-        let linked = linked_used_unit(alloc, order)?;
-        let libraries = [library.as_slice()];
-        let linked = linked.as_slice();
-        links(&rt, "", host.as_slice(), &libraries, ONE_ADDED, linked)?;
-    }
-    Ok(())
+    link_tables(&rt, &TABLES)?;
+    refuse_tables(&rt, &[(Base::UsedUnit, AMPLE_OR_NONE, &FAULTS)])
 }
 
 /// The base host whose slots from 8 to this one have segments that are linked already.
@@ -364,8 +341,9 @@ const NAMES: [Name; 11] = [
     *b"K       ",
 ];
 
-/// A host that has its own segment alone, whose records name all these units behind a definition, without any reference.
-fn host_naming_eleven(alloc: Global) -> Result<CodeFile, AllocError> {
+/// A host that has its own segment alone, whose records name the first nine, ten or eleven of these units behind a definition,
+/// without any reference: the records of the others are zeros, as an end mark is.
+fn host_naming(alloc: Global, count: usize) -> Result<CodeFile, AllocError> {
     let [a, b, c, d, e, f, g, h, i, j, k] = NAMES;
     let records = [
         PublicDefinition(COUNT, 3),
@@ -382,7 +360,13 @@ fn host_naming_eleven(alloc: Global) -> Result<CodeFile, AllocError> {
         UnitReference(k, &[]),
         End(8),
     ];
-    base_host(alloc, LITTLE)?.with(alloc, &[Entry(7, EMPTY), Records(2, &records)])
+    let host = base_host(alloc, LITTLE)?;
+    let host = host.with(alloc, &[Entry(7, EMPTY), Records(2, &records)])?;
+    match count {
+        9 => host.with(alloc, &[Bytes(1024 + 16 * 10, &[0; 32])]),
+        10 => host.with(alloc, &[Bytes(1024 + 16 * 11, &[0; 16])]),
+        _ => Ok(host),
+    }
 }
 
 /// A library of the first so many of these units, which share one code and have no records but an end mark.
@@ -421,80 +405,41 @@ fn linked_nine(alloc: Global) -> Result<CodeFile, AllocError> {
     Ok(linked)
 }
 
+const NO_TENTH_SLOT: &str = "refused 35 NoSlot file 0 slot 1 record 10";
+
+/// How many of these units a host names, of how many there is one in the library, and the fault.
+const TOO_MANY: [(&str, usize, u8, &str); 5] = [
+    ("eleven", 11, 11, NO_TENTH_SLOT),
+    ("the last missing", 11, 10, NO_TENTH_SLOT),
+    (
+        "ten missing",
+        11,
+        9,
+        "refused 13 MissingUnit file 0 slot 1 record 10",
+    ),
+    (
+        "nine missing",
+        11,
+        8,
+        "refused 13 MissingUnit file 0 slot 1 record 9",
+    ),
+    ("ten", 10, 11, NO_TENTH_SLOT),
+];
+
 #[test]
 fn nine_ten_and_eleven_names(rt: HostRuntime) -> Result<(), Fail> {
     let alloc = rt.alloc();
-    let eleven = host_naming_eleven(alloc)?;
-    let of_all = library_of_letters(alloc, 11)?;
-    let no_slot = "refused 35 NoSlot file 0 slot 1 record 10";
-    refuses(
-        &rt,
-        "eleven",
-        eleven.as_slice(),
-        &[of_all.as_slice()],
-        no_slot,
-    )?;
-    let of_ten = library_of_letters(alloc, 10)?;
-    refuses(
-        &rt,
-        "the last missing",
-        eleven.as_slice(),
-        &[of_ten.as_slice()],
-        no_slot,
-    )?;
-    let of_nine = library_of_letters(alloc, 9)?;
-    let missing = "refused 13 MissingUnit file 0 slot 1 record 10";
-    refuses(
-        &rt,
-        "ten missing",
-        eleven.as_slice(),
-        &[of_nine.as_slice()],
-        missing,
-    )?;
-    let of_eight = library_of_letters(alloc, 8)?;
-    let missing = "refused 13 MissingUnit file 0 slot 1 record 9";
-    refuses(
-        &rt,
-        "nine missing",
-        eleven.as_slice(),
-        &[of_eight.as_slice()],
-        missing,
-    )?;
-    let end = 1024 + 16 * 11;
-    let ten = host_naming_eleven(alloc)?.with(alloc, &[Bytes(end, &[0; 16])])?;
-    refuses(&rt, "ten", ten.as_slice(), &[of_all.as_slice()], no_slot)?;
-    let nine = ten.with(alloc, &[Bytes(end - 16, &[0; 16])])?;
+    for (what, named, count, fault) in TOO_MANY {
+        let host = host_naming(alloc, named)?;
+        let library = library_of_letters(alloc, count)?;
+        refuses(&rt, what, host.as_slice(), &[library.as_slice()], fault)?;
+    }
+    let host = host_naming(alloc, 9)?;
+    let library = library_of_letters(alloc, 11)?;
     let linked = linked_nine(alloc)?;
+    let (host, library, linked) = (host.as_slice(), library.as_slice(), linked.as_slice());
     let summary = "segments 10 private words 0 blocks 11";
-    links(
-        &rt,
-        "nine",
-        nine.as_slice(),
-        &[of_all.as_slice()],
-        summary,
-        linked.as_slice(),
-    )
-}
-
-static MAP: &str = "segment 01 DEMO     file 0 entry 01 block 1 length 18
-segment 07 UTIL     file 1 entry 02 block 2 length 24
-segment 08 AUX      file 1 entry 03 block 3 length 24 added
-public COUNT    value 3
-private 08 STATE    offset 8 words 4
-next 12 data 18 blocks 4
-";
-
-#[test]
-fn the_map_of_a_used_unit(rt: HostRuntime) -> Result<(), Fail> {
-    let alloc = rt.alloc();
-    let host = base_host(alloc, LITTLE)?;
-    let library = library_of_a_used_unit(alloc, LITTLE)?;
-    let libraries = [library.as_slice()];
-    let call = Map {
-        host: host.as_slice(),
-        libraries: libraries.as_slice(),
-    };
-    refuses_each_growth(&rt, "", &call, MAP)
+    links(&rt, "nine", host, &[library], summary, linked)
 }
 
 static MAP_OF_FIRST_NAMES: &str = "segment 00 TOOLS    file 0 entry 00 block 1 length 24
@@ -553,23 +498,36 @@ fn names_in_the_order_of_their_first_records(rt: HostRuntime) -> Result<(), Fail
     Ok(())
 }
 
+/// The sources of a plan, as text.
+fn describe(alloc: Global, plan: &Plan<'_>) -> Result<String, AllocError> {
+    let mut text = String::new(alloc);
+    for source in plan.sources() {
+        let (slot, added, linked) = (source.slot, source.added, source.linked);
+        write!(text, "slot {slot} added {added} linked {linked}; ")?;
+    }
+    Ok(text)
+}
+
+/// The plan with the unit that another one uses, which is added in slot 8.
+const SOURCES: &str =
+    "slot 1 added false linked true; slot 7 added false linked true; slot 8 added true linked true; ";
+
+/// Checks the sources of that plan, and the names of its two units and of the slot behind them.
+fn is_plan_of_a_used_unit(rt: &(impl Abort + AllocGlobal), plan: &Plan<'_>) -> Result<(), Fail> {
+    let text = describe(rt.alloc(), plan)?;
+    assert_eq!(rt; text.as_str(), SOURCES);
+    let names = [UTIL, AUX, BLANK];
+    assert_eq!(rt; plan.names().get(7..10), Some(names.as_slice()));
+    Ok(())
+}
+
 #[test]
 fn sources_and_names_of_a_plan(rt: HostRuntime) -> Result<(), Fail> {
     let alloc = rt.alloc();
     let host = base_host(alloc, LITTLE)?;
     let library = library_of_a_used_unit(alloc, LITTLE)?;
     match resolve(alloc, host.as_slice(), &[library.as_slice()]) {
-        Ok(plan) => {
-            assert_eq!(rt; plan.sources().len(), 3);
-            for source in plan.sources() {
-                let slot = source.slot;
-                assert_eq!(rt; source.added, slot == 8, "slot {slot}");
-                assert!(rt; source.linked, "slot {slot}");
-            }
-            assert_eq!(rt; plan.names()[7], UTIL);
-            assert_eq!(rt; plan.names()[8], AUX);
-            assert_eq!(rt; plan.names()[9], BLANK);
-        }
+        Ok(plan) => is_plan_of_a_used_unit(&rt, &plan)?,
         Err(_) => assert!(rt; false, "no plan"),
     }
     Ok(())

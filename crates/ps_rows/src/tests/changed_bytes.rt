@@ -70,6 +70,25 @@ const HOST_ALONE: [Change<'static>; 4] = [
     Resized(1024),
 ];
 
+/// The file that is written where the byte at a place of the host's dictionary is this one, empty where nothing is.
+fn written(alloc: Global, place: usize, byte: u8) -> Result<CodeFile, AllocError> {
+    match expected(place, byte) {
+        Pair => linked(alloc, &[]),
+        PairWithByte => linked(alloc, &[Bytes(place, &[byte])]),
+        HostAlone => linked(alloc, &HOST_ALONE),
+        Refused(_, _) => linked(alloc, &[Resized(0)]),
+    }
+}
+
+/// The answer where the byte at a place of the host's dictionary is this one.
+fn answer(alloc: Global, place: usize, byte: u8) -> Result<String, AllocError> {
+    match expected(place, byte) {
+        Pair | PairWithByte => String::from_str(alloc, "segments 2 private words 4 blocks 3"),
+        HostAlone => String::from_str(alloc, "segments 1 private words 0 blocks 2"),
+        Refused(reason, slot) => text(alloc, reason, slot),
+    }
+}
+
 /// Checks the answer where the byte at a place of the host's dictionary is this one.
 fn check(
     rt: &(impl Abort + AllocGlobal),
@@ -80,27 +99,10 @@ fn check(
 ) -> Result<(), Fail> {
     let alloc = rt.alloc();
     let what = format!(in alloc; "byte {place} set to {byte}")?;
-    let mut summary = String::from_str(alloc, "segments 2 private words 4 blocks 3")?;
-    let file = match expected(place, byte) {
-        Pair => linked(alloc, &[])?,
-        PairWithByte => linked(alloc, &[Bytes(place, &[byte])])?,
-        HostAlone => {
-            summary = String::from_str(alloc, "segments 1 private words 0 blocks 2")?;
-            linked(alloc, &HOST_ALONE)?
-        }
-        Refused(reason, slot) => {
-            summary = text(alloc, reason, slot)?;
-            linked(alloc, &[Resized(0)])?
-        }
-    };
-    links(
-        rt,
-        what.as_str(),
-        host,
-        &[library],
-        summary.as_str(),
-        file.as_slice(),
-    )
+    let answer = answer(alloc, place, byte)?;
+    let file = written(alloc, place, byte)?;
+    let (what, answer) = (what.as_str(), answer.as_str());
+    links(rt, what, host, &[library], answer, file.as_slice())
 }
 
 #[test]

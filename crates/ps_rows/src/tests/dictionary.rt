@@ -33,69 +33,66 @@ fn describe(alloc: Global, dictionary: &Dict<'_>) -> Result<String, AllocError> 
     Ok(text)
 }
 
-/// Checks a dictionary's byte order and its slots that are not empty.
-fn has(
+/// Checks a dictionary's byte order and its slots that are not empty, or why there is no dictionary.
+fn is(
     rt: &(impl Abort + AllocGlobal),
-    dictionary: &Dict<'_>,
-    order: Order,
-    slots: &str,
+    answer: Result<Dict<'_>, Reason>,
+    wanted: Result<(Order, &str), Reason>,
 ) -> Result<(), Fail> {
-    assert_eq!(rt; dictionary.order(), order);
-    let text = describe(rt.alloc(), dictionary)?;
-    assert_eq!(rt; text.as_str(), slots);
-    Ok(())
-}
-
-#[test]
-fn hosts(rt: HostRuntime) -> Result<(), Fail> {
-    for (order, _) in ORDERS {
-        let host = base_host(rt.alloc(), order)?;
-        let slots = "slot 1 DEMO     Ok(Host) kind 1 address 1 length 18 code Ok(18) after 512; \
-                     slot 7 UTIL     Ok(Wanted) kind 3 address 0 length 0";
-        has(&rt, &Dict::read(host.as_slice())?, order, slots)?;
-        let host = unit_in_place(rt.alloc(), order)?;
-        let slots = "slot 1 DEMO     Ok(Host) kind 1 address 1 length 18 code Ok(18) after 1536; \
-                     slot 7 UTIL     Ok(Unit) kind 3 address 3 length 24 code Ok(24) after 512; ";
-        has(&rt, &Dict::read(host.as_slice())?, order, slots)?;
+    match answer {
+        Ok(dictionary) => {
+            let text = describe(rt.alloc(), &dictionary)?;
+            assert_eq!(rt; Ok((dictionary.order(), text.as_str())), wanted);
+        }
+        Err(reason) => assert_eq!(rt; Err(reason), wanted),
     }
     Ok(())
 }
 
+/// The slots of the base host, of the host with its unit in place, of the base library and of the linked base pair.
+const HOST: &str = "slot 1 DEMO     Ok(Host) kind 1 address 1 length 18 code Ok(18) after 512; \
+     slot 7 UTIL     Ok(Wanted) kind 3 address 0 length 0";
+
+const IN_PLACE: &str =
+    "slot 1 DEMO     Ok(Host) kind 1 address 1 length 18 code Ok(18) after 1536; \
+     slot 7 UTIL     Ok(Unit) kind 3 address 3 length 24 code Ok(24) after 512; ";
+
+const LIBRARY: &str = "slot 2 UTIL     Ok(Unit) kind 3 address 1 length 24 code Ok(24) after 512; ";
+
+const LINKED: &str = "slot 1 DEMO     Ok(Plain) kind 0 address 1 length 18 code Ok(18) after 512; \
+     slot 7 UTIL     Ok(Plain) kind 0 address 2 length 24 code Ok(24) after 0; ";
+
+fn hosts(rt: &(impl Abort + AllocGlobal), order: Order) -> Result<(), Fail> {
+    let host = base_host(rt.alloc(), order)?;
+    is(rt, Dict::read(host.as_slice()), Ok((order, HOST)))?;
+    let host = unit_in_place(rt.alloc(), order)?;
+    is(rt, Dict::read(host.as_slice()), Ok((order, IN_PLACE)))
+}
+
+fn libraries(rt: &(impl Abort + AllocGlobal), order: Order, other: Order) -> Result<(), Fail> {
+    let library = base_library(rt.alloc(), order)?;
+    let library = library.as_slice();
+    is(rt, Dict::read_beside(library, order), Ok((order, LIBRARY)))?;
+    let answer = Dict::read_beside(library, other);
+    is(rt, answer, Err(Reason::OrderMismatch))?;
+    let short = library.get(..511).unwrap_or(&[]);
+    is(rt, Dict::read_beside(short, order), Err(Reason::ShortFile))
+}
+
+fn files_of_no_order(rt: &(impl Abort + AllocGlobal), order: Order) -> Result<(), Fail> {
+    is(rt, Dict::read_beside(&[0; 512], order), Ok((order, "")))?;
+    let linked = linked_base_pair(rt.alloc(), order)?;
+    let linked = linked.as_slice();
+    is(rt, Dict::read_beside(linked, order), Ok((order, LINKED)))?;
+    is(rt, Dict::read(linked), Err(Reason::NoHost))
+}
+
 #[test]
-fn libraries(rt: HostRuntime) -> Result<(), Fail> {
+fn files_in_either_byte_order(rt: HostRuntime) -> Result<(), Fail> {
     for (order, other) in ORDERS {
-        let library = base_library(rt.alloc(), order)?;
-        let slots = "slot 2 UTIL     Ok(Unit) kind 3 address 1 length 24 code Ok(24) after 512; ";
-        has(
-            &rt,
-            &Dict::read_beside(library.as_slice(), order)?,
-            order,
-            slots,
-        )?;
-        let answer = Dict::read_beside(library.as_slice(), other).err();
-        assert_eq!(rt; answer, Some(Reason::OrderMismatch));
-        let short = library.as_slice().get(..511).unwrap_or(&[]);
-        let answer = Dict::read_beside(short, order).err();
-        assert_eq!(rt; answer, Some(Reason::ShortFile));
-    }
-    Ok(())
-}
-
-#[test]
-fn files_of_no_order(rt: HostRuntime) -> Result<(), Fail> {
-    for (order, _) in ORDERS {
-        has(&rt, &Dict::read_beside(&[0; 512], order)?, order, "")?;
-        let linked = linked_base_pair(rt.alloc(), order)?;
-        let slots = "slot 1 DEMO     Ok(Plain) kind 0 address 1 length 18 code Ok(18) after 512; \
-                     slot 7 UTIL     Ok(Plain) kind 0 address 2 length 24 code Ok(24) after 0; ";
-        has(
-            &rt,
-            &Dict::read_beside(linked.as_slice(), order)?,
-            order,
-            slots,
-        )?;
-        let answer = Dict::read(linked.as_slice()).err();
-        assert_eq!(rt; answer, Some(Reason::NoHost));
+        hosts(&rt, order)?;
+        libraries(&rt, order, other)?;
+        files_of_no_order(&rt, order)?;
     }
     Ok(())
 }

@@ -16,24 +16,38 @@ pub(crate) trait Growing {
     fn answer<A: Allocator + Copy>(&self, alloc: Global, heap: A) -> Result<String, AllocError>;
 }
 
-/// Makes a call with each growth refused in turn, until none was refused: the answer is out of memory until then, and each time a second call has the memory that it wants. Returns how many were refused.
+/// Makes a call with this growth refused: the answer is out of memory, and a second call has the memory that it wants. Returns whether there was such a growth; where there was none the first call has the memory.
+fn refuses_growth(
+    rt: &(impl Abort + AllocGlobal),
+    what: &str,
+    call: &impl Growing,
+    answer: &str,
+    growth: u64,
+) -> Result<bool, Fail> {
+    let alloc = rt.alloc();
+    let heap = Refusing::once(alloc, growth);
+    let text = call.answer(alloc, &heap)?;
+    if !heap.has_refused() {
+        assert_eq!(rt; text.as_str(), answer, "{what}");
+        return Ok(false);
+    }
+    assert_eq!(rt; text.as_str(), OUT_OF_MEMORY, "{what}: growth {growth}");
+    let again = call.answer(alloc, &heap)?;
+    assert_eq!(rt; again.as_str(), answer, "{what}: after growth {growth}");
+    Ok(true)
+}
+
+/// Makes a call with each growth refused in turn, until none was refused. Returns how many were refused.
 pub(crate) fn refused_growths(
     rt: &(impl Abort + AllocGlobal),
     what: &str,
     call: &impl Growing,
     answer: &str,
 ) -> Result<u64, Fail> {
-    let alloc = rt.alloc();
     for growth in 1..MANY {
-        let heap = Refusing::once(alloc, growth);
-        let text = call.answer(alloc, &heap)?;
-        if !heap.has_refused() {
-            assert_eq!(rt; text.as_str(), answer, "{what}");
+        if !refuses_growth(rt, what, call, answer, growth)? {
             return Ok(growth - 1);
         }
-        assert_eq!(rt; text.as_str(), OUT_OF_MEMORY, "{what}: growth {growth}");
-        let again = call.answer(alloc, &heap)?;
-        assert_eq!(rt; again.as_str(), answer, "{what}: after growth {growth}");
     }
     assert!(rt; false, "{what}: each growth was refused");
     Ok(MANY)

@@ -1,11 +1,10 @@
 //! Why a host is refused, whatever units it has.
-use super::tables::{Base, Memory, Refusal, refuse_rows_in};
+use super::tables::{AMPLE_OR_NONE, Base, Refusal, Table, refuse_tables};
 use crate::base::{COUNT, WANTED_UTIL};
 use crate::code_file::Change::{Address, Bytes, Code, Entry, Kind, Length, Records, Resized};
 use crate::code_file::{HOST_SEGMENT, LINKED, Slot};
 use crate::in_place::UTIL_IN_PLACE;
 use crate::information::Record::{ConstantDefinition, End, PublicDefinition};
-use std::process::Abort;
 use std::test::Fail;
 
 /// A slot with no name that has the host segment's code.
@@ -224,7 +223,7 @@ const RECORDS: [Refusal<'static>; 4] = [
     ),
 ];
 
-/// Definitions.
+/// Definitions, for which memory is taken.
 pub(crate) const DEFINITIONS: [Refusal<'static>; 3] = [
     (
         "two definitions",
@@ -267,24 +266,17 @@ pub(crate) const DEFINITIONS: [Refusal<'static>; 3] = [
     ),
 ];
 
-/// Checks the refusals that are found before anything grows, with this memory: with the unit in place, in a library and nowhere.
-pub(crate) fn refuses_hosts(rt: &(impl Abort + AllocGlobal), memory: Memory) -> Result<(), Fail> {
+/// Checks the refusals that are found before anything grows: with the unit in place, in a library and nowhere.
+#[test]
+fn faults_of_hosts(rt: HostRuntime) -> Result<(), Fail> {
     for base in [Base::InPlace, Base::Pair, Base::HostAlone] {
-        refuse_rows_in(rt, base, memory, &DICTIONARIES)?;
-        refuse_rows_in(rt, base, memory, &CODES)?;
-        refuse_rows_in(rt, base, memory, &PROCEDURES)?;
-        refuse_rows_in(rt, base, memory, &RECORDS)?;
+        let tables: [Table<'_, Refusal<'_>>; 4] = [
+            (base, AMPLE_OR_NONE, &DICTIONARIES),
+            (base, AMPLE_OR_NONE, &CODES),
+            (base, AMPLE_OR_NONE, &PROCEDURES),
+            (base, AMPLE_OR_NONE, &RECORDS),
+        ];
+        refuse_tables(&rt, &tables)?;
     }
     Ok(())
-}
-
-#[test]
-fn hosts(rt: HostRuntime) -> Result<(), Fail> {
-    refuses_hosts(&rt, Memory::Ample)
-}
-
-#[test]
-fn definitions(rt: HostRuntime) -> Result<(), Fail> {
-    refuse_rows_in(&rt, Base::InPlace, Memory::Ample, &DEFINITIONS)?;
-    refuse_rows_in(&rt, Base::Pair, Memory::Ample, &DEFINITIONS)
 }

@@ -1,43 +1,14 @@
 //! A host that holds its unit itself, and the files that it is linked to.
-use super::answers::{links, refuses};
-use super::tables::{Base, Row, link_rows};
+use super::tables::{AMPLE, AMPLE_OR_REFUSED, Base, Row, Table, link_tables};
 use crate::base::{COUNT, LIBRARY_RECORDS, LINKED_UTIL, STATE, WANTED_UTIL};
 use crate::code_file::Change::{Address, Code, CodeWord, Entry, Kind, Length, Records, Resized};
 use crate::code_file::{LINKED, Slot};
-use crate::in_place::{linked_unit_in_place, unit_in_place};
+use crate::in_place::linked_unit_in_place;
 use crate::information::Record::{End, PrivateReference, PublicDefinition, PublicReference};
 use ps_words::Order;
 use std::test::Fail;
 
 const SUMMARY: &str = "segments 2 private words 0 blocks 3";
-
-#[test]
-fn one_public_reference_in_either_byte_order(rt: HostRuntime) -> Result<(), Fail> {
-    let alloc = rt.alloc();
-    for order in [Order::Little, Order::Big] {
-        let host = unit_in_place(alloc, order)?;
-        let linked = linked_unit_in_place(alloc, order)?;
-        links(
-            &rt,
-            "one reference",
-            host.as_slice(),
-            &[],
-            SUMMARY,
-            linked.as_slice(),
-        )?;
-    }
-    Ok(())
-}
-
-#[test]
-fn its_linked_file_is_no_host(rt: HostRuntime) -> Result<(), Fail> {
-    for order in [Order::Little, Order::Big] {
-        let linked = linked_unit_in_place(rt.alloc(), order)?;
-        let fault = "refused 4 NoHost file 0";
-        refuses(&rt, "linked", linked.as_slice(), &[], fault)?;
-    }
-    Ok(())
-}
 
 #[test]
 fn a_linked_dictionary_has_the_host_s_byte_order(rt: HostRuntime) -> Result<(), Fail> {
@@ -49,7 +20,7 @@ fn a_linked_dictionary_has_the_host_s_byte_order(rt: HostRuntime) -> Result<(), 
     Ok(())
 }
 
-pub(crate) const OPERANDS: [Row<'static>; 4] = [
+const OPERANDS: [Row<'static>; 4] = [
     Row {
         what: "a displacement of 5 and the value 3",
         host: &[Code(3, 2, &[5])],
@@ -83,12 +54,7 @@ pub(crate) const OPERANDS: [Row<'static>; 4] = [
     },
 ];
 
-#[test]
-fn operands(rt: HostRuntime) -> Result<(), Fail> {
-    link_rows(&rt, Base::InPlace, &OPERANDS)
-}
-
-pub(crate) const REFERENCES: [Row<'static>; 4] = [
+const REFERENCES: [Row<'static>; 4] = [
     Row {
         what: "two references in a record",
         host: &[Records(4, &[PublicReference(COUNT, &[1, 4]), End(0)])],
@@ -126,12 +92,7 @@ pub(crate) const REFERENCES: [Row<'static>; 4] = [
     },
 ];
 
-#[test]
-fn references(rt: HostRuntime) -> Result<(), Fail> {
-    link_rows(&rt, Base::InPlace, &REFERENCES)
-}
-
-pub(crate) const PRIVATE_VARIABLES: [Row<'static>; 8] = [
+const PRIVATE_VARIABLES: [Row<'static>; 8] = [
     Row {
         what: "4 words from 8 on, by the library's own code and records",
         host: &[Code(3, 22, &[2]), Records(4, &LIBRARY_RECORDS)],
@@ -217,11 +178,6 @@ pub(crate) const PRIVATE_VARIABLES: [Row<'static>; 8] = [
     },
 ];
 
-#[test]
-fn private_variables(rt: HostRuntime) -> Result<(), Fail> {
-    link_rows(&rt, Base::InPlace, &PRIVATE_VARIABLES)
-}
-
 /// A segment that is linked already.
 const TOOLS: Slot = Slot {
     name: *b"TOOLS   ",
@@ -257,11 +213,6 @@ const SLOTS: [Row<'static>; 2] = [
     },
 ];
 
-#[test]
-fn slots(rt: HostRuntime) -> Result<(), Fail> {
-    link_rows(&rt, Base::InPlace, &SLOTS)
-}
-
 const PROCEDURES: [Row<'static>; 3] = [
     Row {
         what: "a second procedure of the unit that has no body",
@@ -286,7 +237,43 @@ const PROCEDURES: [Row<'static>; 3] = [
     },
 ];
 
+/// One public reference, and a unit that is like the base library's: nothing is changed, in either byte order.
+const ONE_REFERENCE: [Row<'static>; 1] = [Row {
+    what: "one reference",
+    host: &[],
+    library: &[],
+    linked: &[],
+    summary: SUMMARY,
+}];
+
+const LIKE_LIBRARY: [Row<'static>; 1] = [Row {
+    what: "the base library's unit, and no library",
+    host: &[],
+    library: &[],
+    linked: &[],
+    summary: "segments 2 private words 4 blocks 3",
+}];
+
+const LINKS: [Table<'static, Row<'static>>; 8] = [
+    (Base::InPlace, AMPLE, &ONE_REFERENCE),
+    (Base::BigInPlace, AMPLE, &ONE_REFERENCE),
+    (Base::LikeLibrary, AMPLE, &LIKE_LIBRARY),
+    (Base::BigLikeLibrary, AMPLE, &LIKE_LIBRARY),
+    (Base::InPlace, AMPLE_OR_REFUSED, &OPERANDS),
+    (Base::InPlace, AMPLE_OR_REFUSED, &REFERENCES),
+    (Base::InPlace, AMPLE, &SLOTS),
+    (Base::InPlace, AMPLE, &PROCEDURES),
+];
+
 #[test]
-fn procedures(rt: HostRuntime) -> Result<(), Fail> {
-    link_rows(&rt, Base::InPlace, &PROCEDURES)
+fn links_of_a_unit_in_place(rt: HostRuntime) -> Result<(), Fail> {
+    link_tables(&rt, &LINKS)
+}
+
+#[test]
+fn private_variables(rt: HostRuntime) -> Result<(), Fail> {
+    link_tables(
+        &rt,
+        &[(Base::InPlace, AMPLE_OR_REFUSED, &PRIVATE_VARIABLES)],
+    )
 }

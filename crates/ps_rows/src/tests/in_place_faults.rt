@@ -1,6 +1,6 @@
 //! A host that holds its unit itself, and why it is refused.
-use super::host_faults::LIKE_DEMO;
-use super::tables::{Base, Refusal, refuse_rows};
+use super::host_faults::{DEFINITIONS, LIKE_DEMO};
+use super::tables::{AMPLE_OR_NONE, AMPLE_OR_REFUSED, Base, Refusal, Table, refuse_tables};
 use crate::base::{COUNT, CUONT, DEMO, NOBODY, STATE, WANTED_UTIL};
 use crate::code_file::Change::{Code, Entry, Length, Records};
 use crate::code_file::{LINKED, Slot};
@@ -30,7 +30,7 @@ const WANTED_DEMO: Slot = Slot {
 const TWO_PROCEDURES: [u8; 6] = [4, 0, 4, 0, 7, 2];
 
 /// Codes.
-pub(crate) const CODES: [Refusal<'static>; 3] = [
+const CODES: [Refusal<'static>; 3] = [
     (
         "a length below 4",
         &[Length(7, 2)],
@@ -52,7 +52,7 @@ pub(crate) const CODES: [Refusal<'static>; 3] = [
 ];
 
 /// Procedure dictionaries and attribute tables.
-pub(crate) const PROCEDURES: [Refusal<'static>; 6] = [
+const PROCEDURES: [Refusal<'static>; 6] = [
     (
         "a dictionary longer than the code",
         &[Code(3, 23, &[12])],
@@ -92,7 +92,7 @@ pub(crate) const PROCEDURES: [Refusal<'static>; 6] = [
 ];
 
 /// Link information.
-pub(crate) const RECORDS: [Refusal<'static>; 6] = [
+const RECORDS: [Refusal<'static>; 6] = [
     (
         "type 15",
         &[Records(4, &[Other(COUNT, 15, [2, 0, 0])])],
@@ -132,7 +132,7 @@ pub(crate) const RECORDS: [Refusal<'static>; 6] = [
 ];
 
 /// Names of private variables and of what is referred to.
-pub(crate) const NAMES: [Refusal<'static>; 3] = [
+const NAMES: [Refusal<'static>; 3] = [
     (
         "two private variables",
         &[Records(
@@ -162,7 +162,7 @@ pub(crate) const NAMES: [Refusal<'static>; 3] = [
 ];
 
 /// Names of units that no slot has and no library.
-pub(crate) const UNITS: [Refusal<'static>; 3] = [
+const UNITS: [Refusal<'static>; 3] = [
     (
         "a unit that is not there",
         &[Records(4, &[UnitReference(NOBODY, &[1]), End(0)])],
@@ -187,7 +187,7 @@ pub(crate) const UNITS: [Refusal<'static>; 3] = [
 ];
 
 /// Sizes.
-pub(crate) const SIZES: [Refusal<'static>; 5] = [
+const SIZES: [Refusal<'static>; 5] = [
     (
         "one private word too many",
         &[
@@ -250,7 +250,7 @@ pub(crate) const SIZES: [Refusal<'static>; 5] = [
 ];
 
 /// Places of operands.
-pub(crate) const PLACES: [Refusal<'static>; 15] = [
+const PLACES: [Refusal<'static>; 15] = [
     (
         "the last byte before a table",
         &[Records(4, &[PublicReference(COUNT, &[9]), End(0)])],
@@ -370,32 +370,19 @@ pub(crate) const PLACES: [Refusal<'static>; 15] = [
     ),
 ];
 
-#[test]
-fn codes(rt: HostRuntime) -> Result<(), Fail> {
-    refuse_rows(&rt, Base::InPlace, &CODES)
-}
+/// The refusals of a host with its unit in place, with ample memory and with none, or with each growth refused where memory is taken before them.
+const FAULTS: [Table<'static, Refusal<'static>>; 8] = [
+    (Base::InPlace, AMPLE_OR_NONE, &CODES),
+    (Base::InPlace, AMPLE_OR_NONE, &PROCEDURES),
+    (Base::InPlace, AMPLE_OR_NONE, &RECORDS),
+    (Base::InPlace, AMPLE_OR_NONE, &UNITS),
+    (Base::InPlace, AMPLE_OR_REFUSED, &DEFINITIONS),
+    (Base::InPlace, AMPLE_OR_REFUSED, &NAMES),
+    (Base::InPlace, AMPLE_OR_REFUSED, &SIZES),
+    (Base::InPlace, AMPLE_OR_REFUSED, &PLACES),
+];
 
 #[test]
-fn procedures(rt: HostRuntime) -> Result<(), Fail> {
-    refuse_rows(&rt, Base::InPlace, &PROCEDURES)
-}
-
-#[test]
-fn records(rt: HostRuntime) -> Result<(), Fail> {
-    refuse_rows(&rt, Base::InPlace, &RECORDS)
-}
-
-#[test]
-fn names(rt: HostRuntime) -> Result<(), Fail> {
-    refuse_rows(&rt, Base::InPlace, &NAMES)
-}
-
-#[test]
-fn sizes(rt: HostRuntime) -> Result<(), Fail> {
-    refuse_rows(&rt, Base::InPlace, &SIZES)
-}
-
-#[test]
-fn places(rt: HostRuntime) -> Result<(), Fail> {
-    refuse_rows(&rt, Base::InPlace, &PLACES)
+fn faults_of_a_unit_in_place(rt: HostRuntime) -> Result<(), Fail> {
+    refuse_tables(&rt, &FAULTS)
 }

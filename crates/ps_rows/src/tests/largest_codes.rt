@@ -1,6 +1,7 @@
 //! Sixteen segments of the largest codes, all operands, and ten libraries. It takes under a second as compiled, and minutes under `rt try`, which wants `--seconds 600`.
 use super::answers::{LITTLE, links, refuses};
 use super::link_growths::{Link, answers_each_call};
+use super::most_records::references;
 use crate::base::{BASE_LENGTH, COUNT, DEMO, base_host, base_library, linked_base_pair};
 use crate::code_file::Change::{Code, Entry, Records, Resized};
 use crate::code_file::{CodeFile, HOST_SEGMENT, LINKED, Slot, UNIT_SEGMENT};
@@ -184,10 +185,7 @@ fn sixteen_segments_of_ten_libraries(rt: HostRuntime) -> Result<(), Fail> {
 fn a_reference_too_many(rt: HostRuntime) -> Result<(), Fail> {
     let alloc = rt.alloc();
     let host = host(alloc)?;
-    let mut references = Vec::new(alloc);
-    for place in 0..65_535 {
-        references.push(place)?;
-    }
+    let references = references(alloc)?;
     let records = [UnitReference(name_of(LAST), references.as_slice()), End(0)];
     let changes = [Resized(166_000), Records(INFORMATION, &records)];
     let library = library(alloc)?.with(alloc, &changes)?;

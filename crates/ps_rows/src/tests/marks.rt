@@ -1,40 +1,20 @@
-//! What map says of an added segment, and what show says of a UNITREF record whose unit the file has not.
+//! What show says of UNITREF records whose unit the file has, and of those whose unit it has not.
 use super::answers::LITTLE;
-use super::growths::refuses_each_growth;
-use super::texts::{Map, SLOTS_OF_THE_LIBRARY, Show};
+use super::texts::{SLOTS_OF_THE_LIBRARY, shows};
+use crate::added::library_of_a_used_unit;
 use crate::base::{DEMO, LIBRARY_UTIL, NOBODY, UTIL, UTIL_ENTRY, base_host, base_library};
 use crate::code_file::Change::{Entry, Kind, Length, Records};
 use crate::code_file::{Change, CodeFile, LINKED, Slot};
-use crate::information::Name;
 use crate::information::Record::{End, PrivateReference, PublicReference, UnitReference};
-use crate::units::{
-    AUX, AUX_ENTRY, LIBRARY_AUX, WANTED_AUX, host_of_two_units, library_of_two_units,
-};
+use crate::information::{Name, Record};
+use crate::units::{AUX, AUX_ENTRY, LIBRARY_AUX, WANTED_AUX};
 use ps_linkfile::show_text;
 use ps_words::Order;
-use std::alloc::{AllocError, Global};
 use std::process::Abort;
 use std::str;
 use std::test::Fail;
 
 const ZEROS: Name = [0; 8];
-
-static MAP_OF_AN_ADDED_UNIT: &str = "segment 01 DEMO     file 0 entry 01 block 1 length 18
-segment 07 UTIL     file 1 entry 02 block 2 length 24
-segment 08 AUX      file 1 entry 03 block 3 length 24 added
-public COUNT    value 3
-private 08 STATE    offset 8 words 4
-next 12 data 18 blocks 4
-";
-
-static MAP_OF_TWO_UNITS: &str = "segment 01 DEMO     file 0 entry 01 block 1 length 18
-segment 07 UTIL     file 1 entry 02 block 2 length 24
-segment 08 AUX      file 1 entry 03 block 3 length 24
-public COUNT    value 3
-private 07 STATE    offset 8 words 4
-private 08 STATE    offset 12 words 4
-next 16 data 26 blocks 4
-";
 
 static SHOW_OF_THE_LIBRARY_OF_TWO: &str = "order little
 slot 00          kind 0 address 0 length 0 text 0
@@ -85,80 +65,43 @@ links 02
 2 EOFMARK next 0
 ";
 
-/// The library of two units, the first of which uses the second.
-fn library_of_a_used_unit(alloc: Global) -> Result<CodeFile, AllocError> {
-    let records = [UnitReference(AUX, &[2]), End(0)];
-    library_of_two_units(alloc)?.with(alloc, &[Records(2, &records)])
-}
+/// The references of a record whose unit the file has not, and how it is shown.
+const UNLISTED: [(&[u16], &str); 3] = [
+    (&[2], "0 UNITREF AUX      at 2 unlisted"),
+    (&[], "0 UNITREF AUX      at unlisted"),
+    (&[2, 5], "0 UNITREF AUX      at 2 5 unlisted"),
+];
 
-#[test]
-fn the_map_marks_an_added_unit(rt: HostRuntime) -> Result<(), Fail> {
+/// Checks the show of the base library in this byte order whose unit has these records.
+fn shows_records(
+    rt: &(impl Abort + AllocGlobal),
+    what: &str,
+    order: Order,
+    records: &[Record<'_>],
+    text: &str,
+) -> Result<(), Fail> {
     let alloc = rt.alloc();
-    let host = base_host(alloc, LITTLE)?;
-    let library = library_of_a_used_unit(alloc)?;
-    let libraries = [library.as_slice()];
-    let call = Map {
-        host: host.as_slice(),
-        libraries: libraries.as_slice(),
-    };
-    refuses_each_growth(&rt, "an added unit", &call, MAP_OF_AN_ADDED_UNIT)
+    let library = base_library(alloc, order)?.with(alloc, &[Records(2, records)])?;
+    shows(rt, what, &library, text)
 }
 
 #[test]
-fn the_map_marks_no_unit_that_the_host_names(rt: HostRuntime) -> Result<(), Fail> {
+fn the_show_of_units_that_a_file_has_and_has_not(rt: HostRuntime) -> Result<(), Fail> {
     let alloc = rt.alloc();
-    let host = host_of_two_units(alloc)?;
-    let library = library_of_two_units(alloc)?;
-    let libraries = [library.as_slice()];
-    let call = Map {
-        host: host.as_slice(),
-        libraries: libraries.as_slice(),
-    };
-    refuses_each_growth(&rt, "two wanted units", &call, MAP_OF_TWO_UNITS)
-}
-
-#[test]
-fn the_show_of_a_unit_that_the_file_has(rt: HostRuntime) -> Result<(), Fail> {
-    let library = library_of_a_used_unit(rt.alloc())?;
-    let call = Show {
-        file: library.as_slice(),
-    };
-    refuses_each_growth(&rt, "both units", &call, SHOW_OF_THE_LIBRARY_OF_TWO)
-}
-
-#[test]
-fn the_show_of_a_unit_that_the_file_has_not(rt: HostRuntime) -> Result<(), Fail> {
-    let alloc = rt.alloc();
-    let shows: [(&[u16], &str); 3] = [
-        (&[2], "0 UNITREF AUX      at 2 unlisted"),
-        (&[], "0 UNITREF AUX      at unlisted"),
-        (&[2, 5], "0 UNITREF AUX      at 2 5 unlisted"),
-    ];
-    for (references, line) in shows {
+    for (references, line) in UNLISTED {
         let records = [UnitReference(AUX, references), End(0)];
-        let library = base_library(alloc, LITTLE)?.with(alloc, &[Records(2, &records)])?;
         let text = format!(in alloc; "{SLOTS_OF_THE_LIBRARY}links 02\n{line}\n1 EOFMARK next 0\n")?;
-        let call = Show {
-            file: library.as_slice(),
-        };
-        refuses_each_growth(&rt, line, &call, text.as_str())?;
+        shows_records(&rt, line, LITTLE, &records, text.as_str())?;
     }
-    Ok(())
-}
-
-#[test]
-fn the_show_of_big_endian_units(rt: HostRuntime) -> Result<(), Fail> {
-    let alloc = rt.alloc();
     let records = [
         UnitReference(UTIL, &[2]),
         UnitReference(AUX, &[2, 5]),
         End(0),
     ];
-    let library = base_library(alloc, Order::Big)?.with(alloc, &[Records(2, &records)])?;
-    let call = Show {
-        file: library.as_slice(),
-    };
-    refuses_each_growth(&rt, "a big-endian library", &call, SHOWN_BIG_ENDIAN)
+    let what = "a big-endian library";
+    shows_records(&rt, what, Order::Big, &records, SHOWN_BIG_ENDIAN)?;
+    let library = library_of_a_used_unit(alloc, LITTLE)?;
+    shows(&rt, "both units", &library, SHOW_OF_THE_LIBRARY_OF_TWO)
 }
 
 /// What is shown, the base library's changes, and the lines of its link information.
@@ -258,7 +201,7 @@ const RECORDS: [Shown<'static>; 9] = [
 ];
 
 /// Checks that the show of a file ends with these lines, behind the first line of its link information.
-fn shows(
+fn shows_last(
     rt: &(impl Abort + AllocGlobal),
     what: &str,
     file: &CodeFile,
@@ -277,27 +220,24 @@ fn shows(
     Ok(())
 }
 
+/// The records of a host that names units, and how they are shown.
+const RECORDS_OF_A_HOST: [Record<'static>; 4] = [
+    UnitReference(UTIL, &[2]),
+    UnitReference(AUX, &[4]),
+    UnitReference(DEMO, &[6]),
+    End(8),
+];
+
+const SHOWN_OF_A_HOST: &str =
+    "0 UNITREF UTIL     at 2\n1 UNITREF AUX      at 4 unlisted\n2 UNITREF DEMO     at 6 unlisted\n3 EOFMARK next 8\n";
+
 #[test]
 fn the_show_of_records_by_their_names(rt: HostRuntime) -> Result<(), Fail> {
     let alloc = rt.alloc();
     for (what, changes, lines) in RECORDS {
         let library = base_library(alloc, LITTLE)?.with(alloc, changes)?;
-        shows(&rt, what, &library, "links 02\n", lines)?;
+        shows_last(&rt, what, &library, "links 02\n", lines)?;
     }
-    Ok(())
-}
-
-#[test]
-fn the_show_of_a_host_that_names_units(rt: HostRuntime) -> Result<(), Fail> {
-    let alloc = rt.alloc();
-    let records = [
-        UnitReference(UTIL, &[2]),
-        UnitReference(AUX, &[4]),
-        UnitReference(DEMO, &[6]),
-        End(8),
-    ];
-    let host = base_host(alloc, LITTLE)?.with(alloc, &[Records(2, &records)])?;
-    let lines =
-        "0 UNITREF UTIL     at 2\n1 UNITREF AUX      at 4 unlisted\n2 UNITREF DEMO     at 6 unlisted\n3 EOFMARK next 8\n";
-    shows(&rt, "a host", &host, "links 01\n", lines)
+    let host = base_host(alloc, LITTLE)?.with(alloc, &[Records(2, &RECORDS_OF_A_HOST)])?;
+    shows_last(&rt, "a host", &host, "links 01\n", SHOWN_OF_A_HOST)
 }

@@ -1,15 +1,17 @@
 //! A hundred thousand definitions, private variables and records, a record of as many references as one can have, and texts of megabytes. It takes under a second as compiled, and minutes under `rt try`, which wants `--seconds 600`.
 use super::answers::LITTLE;
 use super::link_growths::{Link, answers_each_call};
+use super::plan::builds_definitions;
 use super::texts::SLOTS_OF_THE_LIBRARY;
 use crate::base::{COUNT, STATE, base_host, base_library, linked_base_pair};
 use crate::code_file::Change::{Records, Resized};
 use crate::information::Record::{End, PrivateReference, PublicDefinition, PublicReference};
 use crate::information::{Information, Name, Record};
 use ps_linkfile::show_text;
-use ps_linkinfo::{Body, read_records};
-use ps_resolve::{Allotment, Def, DefKind, Definitions, Linkage};
+use ps_linkinfo::{Body, LinkRecord, read_records};
+use ps_resolve::{Allotment, Def, DefKind, Linkage};
 use std::alloc::{AllocError, Global};
+use std::process::Abort;
 use std::test::Fail;
 
 /// How many names are numbers.
@@ -73,6 +75,18 @@ fn private_variables<'a>(
     Ok(records)
 }
 
+/// The names and definitions that those records give.
+fn defined(alloc: Global) -> Result<Vec<(Name, Def)>, AllocError> {
+    let mut defined = Vec::new(alloc);
+    let kind = DefKind::Public;
+    for number in 0..NUMBERED {
+        let value = value_of(number);
+        defined.push((numbered(number), Def { kind, value }))?;
+    }
+    defined.push((COUNT, Def { kind, value: 3 }))?;
+    Ok(defined)
+}
+
 #[test]
 fn definitions_by_name_and_by_index(rt: HostRuntime) -> Result<(), Fail> {
     let alloc = rt.alloc();
@@ -86,25 +100,22 @@ fn definitions_by_name_and_by_index(rt: HostRuntime) -> Result<(), Fail> {
         order: LITTLE,
         bytes: information.as_slice(),
     };
-    match Definitions::build(alloc, &host) {
-        Ok(definitions) => {
-            assert_eq!(rt; definitions.len(), NAMES);
-            for i in 0..definitions.len() {
-                let (name, value) = if i < NUMBERED {
-                    (numbered(i), value_of(i))
-                } else {
-                    (COUNT, 3)
-                };
-                let kind = DefKind::Public;
-                let def = Def { kind, value };
-                assert_eq!(rt; definitions.at(i), (name, def), "{i}");
-                assert_eq!(rt; definitions.look(&name), Some(def), "{i}");
-            }
-            assert_eq!(rt; definitions.look(&numbered(NUMBERED)), None);
-        }
-        Err(_) => assert!(rt; false, "no definitions"),
+    let wanted = defined(alloc)?;
+    assert_eq!(rt; wanted.len(), NAMES);
+    builds_definitions(&rt, &host, wanted.as_slice(), &numbered(NUMBERED))
+}
+
+/// Checks the private variables of a unit in slot 7 whose first record asks for two words from offset 8 on, and its next ones for
+/// those above.
+fn has_private_variables(rt: &impl Abort, allotment: &Allotment) {
+    assert_eq!(rt; allotment.privates().len(), NAMES + 1);
+    assert_eq!(rt; allotment.words(), 6);
+    assert_eq!(rt; allotment.next_free(), 14);
+    assert_eq!(rt; allotment.offset(7, 0), Some(8));
+    for rec in 1..=NAMES {
+        assert_eq!(rt; allotment.offset(7, rec), Some(10), "{rec}");
     }
-    Ok(())
+    assert_eq!(rt; allotment.offset(7, NAMES + 1), None);
 }
 
 #[test]
@@ -121,19 +132,27 @@ fn private_variables_by_record(rt: HostRuntime) -> Result<(), Fail> {
         bytes: information.as_slice(),
     };
     match Allotment::build(alloc, 8, &[segment]) {
-        Ok(allotment) => {
-            assert_eq!(rt; allotment.privates().len(), NAMES + 1);
-            assert_eq!(rt; allotment.words(), 6);
-            assert_eq!(rt; allotment.next_free(), 14);
-            assert_eq!(rt; allotment.offset(7, 0), Some(8));
-            for rec in 1..=NAMES {
-                assert_eq!(rt; allotment.offset(7, rec), Some(10), "{rec}");
-            }
-            assert_eq!(rt; allotment.offset(7, NAMES + 1), None);
-        }
+        Ok(allotment) => has_private_variables(&rt, &allotment),
         Err(_) => assert!(rt; false, "no allotment"),
     }
     Ok(())
+}
+
+/// The value of a record that is a public definition.
+fn value_in(body: &Body<'_>) -> Option<u16> {
+    match body {
+        Body::PublDef(value) => Some(*value),
+        _ => None,
+    }
+}
+
+/// Checks records that are those definitions and an end mark.
+fn are_definitions(rt: &impl Abort, records: &[LinkRecord<'_>]) {
+    assert_eq!(rt; records.len(), NAMES + 1);
+    for (number, record) in records.iter().take(NUMBERED).enumerate() {
+        let wanted = (numbered(number), Some(value_of(number)));
+        assert_eq!(rt; (record.name, value_in(&record.body)), wanted, "{number}");
+    }
 }
 
 #[test]
@@ -142,16 +161,7 @@ fn records_read_into_a_list(rt: HostRuntime) -> Result<(), Fail> {
     let records = definitions(alloc, &[])?;
     let information = Information::new(alloc, LITTLE, records.as_slice())?;
     match read_records(alloc, LITTLE, information.as_slice()) {
-        Ok(read) => {
-            assert_eq!(rt; read.len(), NAMES + 1);
-            for (number, record) in read.iter().take(NUMBERED).enumerate() {
-                assert_eq!(rt; record.name, numbered(number));
-                match &record.body {
-                    Body::PublDef(value) => assert_eq!(rt; *value, value_of(number)),
-                    _ => assert!(rt; false, "no definition at {number}"),
-                }
-            }
-        }
+        Ok(read) => are_definitions(&rt, read.as_slice()),
         Err(_) => assert!(rt; false, "no records"),
     }
     Ok(())

@@ -1,13 +1,16 @@
 //! Files with several faults, of which the first in the order of the checks is answered.
 use super::answers::{LITTLE, refuses};
 use super::host_faults::LIKE_DEMO;
-use super::tables::{Base, Refusal, refuse_rows};
+use super::tables::{AMPLE, Base, Refusal, Table, refuse_tables};
 use crate::base::{
     COUNT, CUONT, LIBRARY_UTIL, STATE, WANTED_UTIL, base_host, base_library, linked_base_pair,
 };
 use crate::code_file::Change::{Bytes, Code, Entry, Kind, Length, Records, Resized};
+use crate::code_file::CodeFile;
 use crate::information::Record::{End, PrivateReference, PublicDefinition, PublicReference};
 use ps_words::Order;
+use std::alloc::{AllocError, Global};
+use std::process::Abort;
 use std::test::Fail;
 
 /// Faults of dictionaries, and others behind them.
@@ -308,60 +311,88 @@ const REFERENCES: [Refusal<'static>; 10] = [
     ),
 ];
 
-#[test]
-fn dictionaries(rt: HostRuntime) -> Result<(), Fail> {
-    refuse_rows(&rt, Base::Pair, &DICTIONARIES)
-}
+const TABLES: [Table<'static, Refusal<'static>>; 4] = [
+    (Base::Pair, AMPLE, &DICTIONARIES),
+    (Base::Pair, AMPLE, &ENTRIES_AND_CODES),
+    (Base::Pair, AMPLE, &NAMES_AND_SIZES),
+    (Base::Pair, AMPLE, &REFERENCES),
+];
 
 #[test]
-fn entries_and_codes(rt: HostRuntime) -> Result<(), Fail> {
-    refuse_rows(&rt, Base::Pair, &ENTRIES_AND_CODES)
+fn the_first_of_several_faults(rt: HostRuntime) -> Result<(), Fail> {
+    refuse_tables(&rt, &TABLES)
 }
 
-#[test]
-fn names_and_sizes(rt: HostRuntime) -> Result<(), Fail> {
-    refuse_rows(&rt, Base::Pair, &NAMES_AND_SIZES)
+/// A library that a host is linked with.
+#[derive(Clone, Copy)]
+enum Library {
+    Base,
+    /// The base library in the other byte order, of less than a block, of another kind and with no code.
+    Big,
+    Short,
+    OtherKind,
+    NoCode,
+    /// What the base pair is linked to.
+    Linked,
 }
 
-#[test]
-fn references(rt: HostRuntime) -> Result<(), Fail> {
-    refuse_rows(&rt, Base::Pair, &REFERENCES)
+impl Library {
+    fn file(self, alloc: Global) -> Result<CodeFile, AllocError> {
+        match self {
+            Library::Base => base_library(alloc, LITTLE),
+            Library::Big => base_library(alloc, Order::Big),
+            Library::Short => base_library(alloc, LITTLE)?.with(alloc, &[Resized(511)]),
+            Library::OtherKind => base_library(alloc, LITTLE)?.with(alloc, &[Kind(2, 5)]),
+            Library::NoCode => base_library(alloc, LITTLE)?.with(alloc, &[Length(2, 0)]),
+            Library::Linked => linked_base_pair(alloc, LITTLE),
+        }
+    }
 }
+
+/// Checks that the base host is refused with these libraries.
+fn refuses_libraries(
+    rt: &(impl Abort + AllocGlobal),
+    what: &str,
+    [first, second, third]: [Library; 3],
+    fault: &str,
+) -> Result<(), Fail> {
+    let alloc = rt.alloc();
+    let host = base_host(alloc, LITTLE)?;
+    let first = first.file(alloc)?;
+    let second = second.file(alloc)?;
+    let third = third.file(alloc)?;
+    let libraries = [first.as_slice(), second.as_slice(), third.as_slice()];
+    refuses(rt, what, host.as_slice(), &libraries, fault)
+}
+
+/// Libraries with faults, of which the first is told.
+const LIBRARIES: [(&str, [Library; 3], &str); 4] = [
+    (
+        "an order and a length",
+        [Library::Base, Library::Big, Library::Short],
+        "refused 3 OrderMismatch file 2",
+    ),
+    (
+        "a length and an order",
+        [Library::Base, Library::Short, Library::Big],
+        "refused 1 ShortFile file 2",
+    ),
+    (
+        "the first that has the name",
+        [Library::NoCode, Library::OtherKind, Library::Base],
+        "refused 14 NotAUnit kind 5 file 2 slot 7",
+    ),
+    (
+        "a linked file that has the name",
+        [Library::Linked, Library::Base, Library::Base],
+        "refused 14 NotAUnit kind 0 file 1 slot 7",
+    ),
+];
 
 #[test]
 fn libraries_in_order(rt: HostRuntime) -> Result<(), Fail> {
-    let alloc = rt.alloc();
-    let host = base_host(alloc, LITTLE)?;
-    let base = base_library(alloc, LITTLE)?;
-    let big = base_library(alloc, Order::Big)?;
-    let short = base_library(alloc, LITTLE)?.with(alloc, &[Resized(511)])?;
-    let kind = base_library(alloc, LITTLE)?.with(alloc, &[Kind(2, 5)])?;
-    let nothing = base_library(alloc, LITTLE)?.with(alloc, &[Length(2, 0)])?;
-    let linked = linked_base_pair(alloc, LITTLE)?;
-    let (base, big, short) = (base.as_slice(), big.as_slice(), short.as_slice());
-    for (what, libraries, fault) in [
-        (
-            "an order and a length",
-            [base, big, short],
-            "refused 3 OrderMismatch file 2",
-        ),
-        (
-            "a length and an order",
-            [base, short, big],
-            "refused 1 ShortFile file 2",
-        ),
-        (
-            "the first that has the name",
-            [nothing.as_slice(), kind.as_slice(), base],
-            "refused 14 NotAUnit kind 5 file 2 slot 7",
-        ),
-        (
-            "a linked file that has the name",
-            [linked.as_slice(), base, base],
-            "refused 14 NotAUnit kind 0 file 1 slot 7",
-        ),
-    ] {
-        refuses(&rt, what, host.as_slice(), &libraries, fault)?;
+    for (what, libraries, fault) in LIBRARIES {
+        refuses_libraries(&rt, what, libraries, fault)?;
     }
     Ok(())
 }

@@ -1,17 +1,15 @@
 //! A host that wants its unit from a library, and why the two are refused.
-use super::link_growths::Link;
-use super::tables::{Base, Memory, Refusal, refuse_rows};
-use crate::base::{COUNT, CUONT, LIBRARY_UTIL, NOBODY, STATE, base_host, base_library};
+use super::host_faults::DEFINITIONS;
+use super::tables::{AMPLE_OR_NONE, AMPLE_OR_REFUSED, Base, Refusal, Table, refuse_tables};
+use crate::base::{COUNT, CUONT, LIBRARY_UTIL, NOBODY, STATE};
 use crate::code_file::Change::{Address, Bytes, Code, Entry, Kind, Length, Records, Resized};
 use crate::information::Record::{
     ConstantDefinition, End, PrivateReference, PublicDefinition, PublicReference, UnitReference,
 };
-use ps_words::Order;
-use std::process::Abort;
 use std::test::Fail;
 
 /// Segment dictionaries of the library.
-pub(crate) const LIBRARIES: [Refusal<'static>; 11] = [
+const LIBRARIES: [Refusal<'static>; 11] = [
     (
         "no whole block",
         &[],
@@ -81,7 +79,7 @@ pub(crate) const LIBRARIES: [Refusal<'static>; 11] = [
 ];
 
 /// The base host without a library.
-pub(crate) const HOST_ALONE: [Refusal<'static>; 1] = [(
+const HOST_ALONE: [Refusal<'static>; 1] = [(
     "a unit that no library has",
     &[],
     &[],
@@ -89,7 +87,7 @@ pub(crate) const HOST_ALONE: [Refusal<'static>; 1] = [(
 )];
 
 /// Codes of the library.
-pub(crate) const CODES: [Refusal<'static>; 4] = [
+const CODES: [Refusal<'static>; 4] = [
     (
         "native code",
         &[],
@@ -117,7 +115,7 @@ pub(crate) const CODES: [Refusal<'static>; 4] = [
 ];
 
 /// Link information of the library.
-pub(crate) const RECORDS: [Refusal<'static>; 7] = [
+const RECORDS: [Refusal<'static>; 7] = [
     (
         "type 15",
         &[],
@@ -163,7 +161,7 @@ pub(crate) const RECORDS: [Refusal<'static>; 7] = [
 ];
 
 /// Names of private variables and of what is referred to.
-pub(crate) const NAMES: [Refusal<'static>; 4] = [
+const NAMES: [Refusal<'static>; 4] = [
     (
         "two private variables",
         &[],
@@ -206,7 +204,7 @@ pub(crate) const NAMES: [Refusal<'static>; 4] = [
 ];
 
 /// The name of a unit that no slot has and no library.
-pub(crate) const UNITS: [Refusal<'static>; 1] = [(
+const UNITS: [Refusal<'static>; 1] = [(
     "a unit that is not there",
     &[],
     &[Records(2, &[UnitReference(NOBODY, &[1]), End(0)])],
@@ -214,7 +212,7 @@ pub(crate) const UNITS: [Refusal<'static>; 1] = [(
 )];
 
 /// Sizes.
-pub(crate) const SIZES: [Refusal<'static>; 3] = [
+const SIZES: [Refusal<'static>; 3] = [
     (
         "one private word too many",
         &[Records(2, &[PublicDefinition(COUNT, 3), End(32760)])],
@@ -236,7 +234,7 @@ pub(crate) const SIZES: [Refusal<'static>; 3] = [
 ];
 
 /// Places of operands.
-pub(crate) const PLACES: [Refusal<'static>; 3] = [
+const PLACES: [Refusal<'static>; 3] = [
     (
         "the last byte",
         &[],
@@ -257,85 +255,95 @@ pub(crate) const PLACES: [Refusal<'static>; 3] = [
     ),
 ];
 
-/// Types of records that no Pascal unit has, and the faults.
-const TYPES: [(u8, &str); 10] = [
-    (2, "refused 21 NativeRecord file 1 slot 7 record 0"),
-    (5, "refused 21 NativeRecord file 1 slot 7 record 0"),
-    (6, "refused 21 NativeRecord file 1 slot 7 record 0"),
-    (9, "refused 21 NativeRecord file 1 slot 7 record 0"),
-    (10, "refused 21 NativeRecord file 1 slot 7 record 0"),
-    (11, "refused 22 SeparateRecord file 1 slot 7 record 0"),
-    (12, "refused 22 SeparateRecord file 1 slot 7 record 0"),
-    (13, "refused 22 SeparateRecord file 1 slot 7 record 0"),
-    (14, "refused 22 SeparateRecord file 1 slot 7 record 0"),
-    (15, "refused 20 UnknownRecord file 1 slot 7 record 0"),
+/// Types of records that no Pascal unit has.
+const TYPES: [Refusal<'static>; 10] = [
+    (
+        "type 2 in place of the type of a PUBLREF",
+        &[],
+        &[Bytes(1032, &[2])],
+        "refused 21 NativeRecord file 1 slot 7 record 0",
+    ),
+    (
+        "type 5 in place of the type of a PUBLREF",
+        &[],
+        &[Bytes(1032, &[5])],
+        "refused 21 NativeRecord file 1 slot 7 record 0",
+    ),
+    (
+        "type 6 in place of the type of a PUBLREF",
+        &[],
+        &[Bytes(1032, &[6])],
+        "refused 21 NativeRecord file 1 slot 7 record 0",
+    ),
+    (
+        "type 9 in place of the type of a PUBLREF",
+        &[],
+        &[Bytes(1032, &[9])],
+        "refused 21 NativeRecord file 1 slot 7 record 0",
+    ),
+    (
+        "type 10 in place of the type of a PUBLREF",
+        &[],
+        &[Bytes(1032, &[10])],
+        "refused 21 NativeRecord file 1 slot 7 record 0",
+    ),
+    (
+        "type 11 in place of the type of a PUBLREF",
+        &[],
+        &[Bytes(1032, &[11])],
+        "refused 22 SeparateRecord file 1 slot 7 record 0",
+    ),
+    (
+        "type 12 in place of the type of a PUBLREF",
+        &[],
+        &[Bytes(1032, &[12])],
+        "refused 22 SeparateRecord file 1 slot 7 record 0",
+    ),
+    (
+        "type 13 in place of the type of a PUBLREF",
+        &[],
+        &[Bytes(1032, &[13])],
+        "refused 22 SeparateRecord file 1 slot 7 record 0",
+    ),
+    (
+        "type 14 in place of the type of a PUBLREF",
+        &[],
+        &[Bytes(1032, &[14])],
+        "refused 22 SeparateRecord file 1 slot 7 record 0",
+    ),
+    (
+        "type 15 in place of the type of a PUBLREF",
+        &[],
+        &[Bytes(1032, &[15])],
+        "refused 20 UnknownRecord file 1 slot 7 record 0",
+    ),
+];
+
+/// A library whose words stand in the other byte order.
+const OTHER_ORDER: [Refusal<'static>; 1] = [(
+    "the other byte order",
+    &[],
+    &[],
+    "refused 3 OrderMismatch file 1",
+)];
+
+/// The refusals of a host that wants its unit from a library, with ample memory and with none, or with each growth refused where memory is taken before them.
+const FAULTS: [Table<'static, Refusal<'static>>; 12] = [
+    (Base::Pair, AMPLE_OR_NONE, &LIBRARIES),
+    (Base::HostAlone, AMPLE_OR_NONE, &HOST_ALONE),
+    (Base::Pair, AMPLE_OR_NONE, &CODES),
+    (Base::Pair, AMPLE_OR_NONE, &RECORDS),
+    (Base::Pair, AMPLE_OR_NONE, &TYPES),
+    (Base::Pair, AMPLE_OR_NONE, &UNITS),
+    (Base::BigLibrary, AMPLE_OR_NONE, &OTHER_ORDER),
+    (Base::LittleLibrary, AMPLE_OR_NONE, &OTHER_ORDER),
+    (Base::Pair, AMPLE_OR_REFUSED, &DEFINITIONS),
+    (Base::Pair, AMPLE_OR_REFUSED, &NAMES),
+    (Base::Pair, AMPLE_OR_REFUSED, &SIZES),
+    (Base::Pair, AMPLE_OR_REFUSED, &PLACES),
 ];
 
 #[test]
-fn libraries(rt: HostRuntime) -> Result<(), Fail> {
-    refuse_rows(&rt, Base::Pair, &LIBRARIES)
-}
-
-#[test]
-fn the_host_alone(rt: HostRuntime) -> Result<(), Fail> {
-    refuse_rows(&rt, Base::HostAlone, &HOST_ALONE)
-}
-
-#[test]
-fn codes(rt: HostRuntime) -> Result<(), Fail> {
-    refuse_rows(&rt, Base::Pair, &CODES)
-}
-
-#[test]
-fn records(rt: HostRuntime) -> Result<(), Fail> {
-    refuse_rows(&rt, Base::Pair, &RECORDS)
-}
-
-#[test]
-fn types_of_records(rt: HostRuntime) -> Result<(), Fail> {
-    for (kind, fault) in TYPES {
-        let change = [Bytes(1032, &[kind])];
-        refuse_rows(&rt, Base::Pair, &[("a type", &[], &change, fault)])?;
-    }
-    Ok(())
-}
-
-#[test]
-fn names(rt: HostRuntime) -> Result<(), Fail> {
-    refuse_rows(&rt, Base::Pair, &NAMES)
-}
-
-#[test]
-fn sizes(rt: HostRuntime) -> Result<(), Fail> {
-    refuse_rows(&rt, Base::Pair, &SIZES)
-}
-
-#[test]
-fn places(rt: HostRuntime) -> Result<(), Fail> {
-    refuse_rows(&rt, Base::Pair, &PLACES)
-}
-
-/// Checks, with this memory, that a library is refused whose words stand in the other byte order.
-pub(crate) fn refuses_the_other_byte_order(
-    rt: &(impl Abort + AllocGlobal),
-    memory: Memory,
-) -> Result<(), Fail> {
-    let alloc = rt.alloc();
-    for (order, other) in [(Order::Little, Order::Big), (Order::Big, Order::Little)] {
-        let host = base_host(alloc, order)?;
-        let library = base_library(alloc, other)?;
-        let link = Link {
-            host: host.as_slice(),
-            libraries: &[library.as_slice()],
-            linked: &[],
-        };
-        let fault = "refused 3 OrderMismatch file 1";
-        memory.answers(rt, "the other byte order", &link, fault)?;
-    }
-    Ok(())
-}
-
-#[test]
-fn a_library_of_the_other_byte_order(rt: HostRuntime) -> Result<(), Fail> {
-    refuses_the_other_byte_order(&rt, Memory::Ample)
+fn faults_of_a_pair(rt: HostRuntime) -> Result<(), Fail> {
+    refuse_tables(&rt, &FAULTS)
 }

@@ -1,20 +1,13 @@
 //! A host that wants its unit from a library, and the files that the two are linked to.
 use super::answers::{LITTLE, links, refuses};
-use super::tables::{Base, Row, link_rows};
-use crate::base::{
-    COUNT, LIBRARY_RECORDS, LIBRARY_UTIL, STATE, base_host, base_library, linked_base_pair,
-    linked_segments, util_code,
-};
+use super::tables::{AMPLE, AMPLE_OR_REFUSED, Base, Row, Table, link_tables};
+use crate::base::{COUNT, LIBRARY_UTIL, STATE, base_host, base_library, linked_base_pair};
 use crate::code_file::Change::{
     Address, Bytes, Code, CodeWord, Entry, Kind, Length, Records, Resized,
 };
 use crate::code_file::{LINKED, Slot, TAIL, UNIT_SEGMENT};
-use crate::in_place::unit_in_place;
+use crate::in_place::linked_unit_in_place;
 use crate::information::Record::{End, PrivateReference, PublicDefinition, PublicReference};
-use crate::units::{
-    NINE_LENGTH, library_of_a_long_unit, library_of_nine_references, linked_long_unit,
-    nine_operands,
-};
 use ps_words::Order;
 use std::test::Fail;
 
@@ -47,7 +40,7 @@ const ZEROS: Slot = Slot {
 };
 
 /// Link information.
-pub(crate) const RECORDS: [Row<'static>; 7] = [
+const RECORDS: [Row<'static>; 7] = [
     Row {
         what: "a definition, a reference to it and a private variable",
         host: &[],
@@ -221,43 +214,58 @@ const ENTRIES: [Row<'static>; 3] = [
     },
 ];
 
+/// The base pair, unchanged.
+const BASE_PAIR: [Row<'static>; 1] = [Row {
+    what: "the base pair",
+    host: &[],
+    library: &[],
+    linked: &[],
+    summary: BASE_SUMMARY,
+}];
+
+/// References of a unit.
+const NINE_REFERENCES: [Row<'static>; 1] = [Row {
+    what: "nine references of one record",
+    host: &[],
+    library: &[],
+    linked: &[],
+    summary: NO_PRIVATE_WORDS,
+}];
+
+const LONG_UNIT: [Row<'static>; 1] = [Row {
+    what: "an operand in two blocks, which are the last byte of one and the first of the next",
+    host: &[],
+    library: &[],
+    linked: &[Bytes(1535, &[0x81, 2])],
+    summary: "segments 2 private words 0 blocks 4",
+}];
+
+const LINKS: [Table<'static, Row<'static>>; 8] = [
+    (Base::Pair, AMPLE, &BASE_PAIR),
+    (Base::BigPair, AMPLE, &BASE_PAIR),
+    (Base::Pair, AMPLE_OR_REFUSED, &RECORDS),
+    (Base::Pair, AMPLE, &SLOTS),
+    (Base::HostAlone, AMPLE, &[NOT_WANTED]),
+    (Base::Pair, AMPLE, &ENTRIES),
+    (Base::NineReferences, AMPLE_OR_REFUSED, &NINE_REFERENCES),
+    (Base::LongUnit, AMPLE, &LONG_UNIT),
+];
+
 #[test]
-fn records(rt: HostRuntime) -> Result<(), Fail> {
-    link_rows(&rt, Base::Pair, &RECORDS)
+fn links_of_a_pair(rt: HostRuntime) -> Result<(), Fail> {
+    link_tables(&rt, &LINKS)
 }
 
 #[test]
-fn slots(rt: HostRuntime) -> Result<(), Fail> {
-    link_rows(&rt, Base::Pair, &SLOTS)
-}
-
-#[test]
-fn no_library_and_none_wanted(rt: HostRuntime) -> Result<(), Fail> {
-    link_rows(&rt, Base::HostAlone, &[NOT_WANTED])
-}
-
-#[test]
-fn entries(rt: HostRuntime) -> Result<(), Fail> {
-    link_rows(&rt, Base::Pair, &ENTRIES)
-}
-
-#[test]
-fn the_base_pair_in_either_byte_order(rt: HostRuntime) -> Result<(), Fail> {
+fn a_linked_file_behind_its_library(rt: HostRuntime) -> Result<(), Fail> {
     let alloc = rt.alloc();
     for order in [Order::Little, Order::Big] {
         let host = base_host(alloc, order)?;
         let library = base_library(alloc, order)?;
         let linked = linked_base_pair(alloc, order)?;
         let (host, library, linked) = (host.as_slice(), library.as_slice(), linked.as_slice());
-        links(&rt, "the pair", host, &[library], BASE_SUMMARY, linked)?;
-        links(
-            &rt,
-            "and a linked file",
-            host,
-            &[library, linked],
-            BASE_SUMMARY,
-            linked,
-        )?;
+        let what = "and a linked file";
+        links(&rt, what, host, &[library, linked], BASE_SUMMARY, linked)?;
     }
     Ok(())
 }
@@ -265,77 +273,17 @@ fn the_base_pair_in_either_byte_order(rt: HostRuntime) -> Result<(), Fail> {
 #[test]
 fn a_linked_file_is_no_host(rt: HostRuntime) -> Result<(), Fail> {
     let alloc = rt.alloc();
+    let fault = "refused 4 NoHost file 0";
     for order in [Order::Little, Order::Big] {
         let linked = linked_base_pair(alloc, order)?;
         let library = base_library(alloc, order)?;
         let libraries = [library.as_slice()];
-        let fault = "refused 4 NoHost file 0";
         refuses(&rt, "linked", linked.as_slice(), &libraries, fault)?;
         refuses(&rt, "no library", linked.as_slice(), &[], fault)?;
+        let linked = linked_unit_in_place(alloc, order)?;
+        refuses(&rt, "in place", linked.as_slice(), &[], fault)?;
     }
     Ok(())
-}
-
-#[test]
-fn a_unit_in_place_that_is_like_the_library_s(rt: HostRuntime) -> Result<(), Fail> {
-    let alloc = rt.alloc();
-    for order in [Order::Little, Order::Big] {
-        let changes = [
-            Code(3, 0, &util_code(order, 2)),
-            Records(4, &LIBRARY_RECORDS),
-        ];
-        let host = unit_in_place(alloc, order)?.with(alloc, &changes)?;
-        let linked = linked_base_pair(alloc, order)?;
-        links(
-            &rt,
-            "no library",
-            host.as_slice(),
-            &[],
-            BASE_SUMMARY,
-            linked.as_slice(),
-        )?;
-    }
-    Ok(())
-}
-
-#[test]
-fn nine_references_of_one_record(rt: HostRuntime) -> Result<(), Fail> {
-    let alloc = rt.alloc();
-    let host = base_host(alloc, LITTLE)?;
-    let library = library_of_nine_references(alloc)?;
-    let changes = [Length(7, NINE_LENGTH), Code(2, 0, &nine_operands(3, 7))];
-    let linked = linked_segments(alloc, LITTLE)?.with(alloc, &changes)?;
-    let libraries = [library.as_slice()];
-    links(
-        &rt,
-        "",
-        host.as_slice(),
-        &libraries,
-        NO_PRIVATE_WORDS,
-        linked.as_slice(),
-    )
-}
-
-#[test]
-fn an_operand_in_two_blocks(rt: HostRuntime) -> Result<(), Fail> {
-    let alloc = rt.alloc();
-    let host = base_host(alloc, LITTLE)?;
-    let library = library_of_a_long_unit(alloc)?;
-    let linked = linked_long_unit(alloc)?;
-    assert_eq!(rt;
-        linked.as_slice().get(1535..1537),
-        Some([0x81, 2].as_slice())
-    );
-    let libraries = [library.as_slice()];
-    let summary = "segments 2 private words 0 blocks 4";
-    links(
-        &rt,
-        "",
-        host.as_slice(),
-        &libraries,
-        summary,
-        linked.as_slice(),
-    )
 }
 
 #[test]

@@ -1,21 +1,25 @@
 //! The calls that a plan is made by, each by itself.
 use super::growths::{Growing, OUT_OF_MEMORY, refuses_each_growth};
-use crate::base::{COUNT, DEMO_SLOT, STATE, UTIL_ENTRY, UTIL_SLOT, base_host, base_library};
+use crate::base::{
+    COUNT, DEMO_SLOT, LIBRARY_RECORDS, STATE, UTIL_ENTRY, UTIL_SLOT, base_host, base_library,
+};
 use crate::code_file::Change::Records;
 use crate::in_place::unit_in_place;
 use crate::information::Record::{
     ConstantDefinition, End, PrivateReference, PublicDefinition, PublicReference,
 };
+use crate::information::{Name, Record};
 use ps_codefile::Dict;
-use ps_resolve::{Allotment, Def, DefKind, Definitions, Linkage, Plan, Stop, resolve};
-use ps_words::Order;
+use ps_resolve::{Allotment, Def, DefKind, Definitions, Linkage, Plan, Source, Stop, resolve};
+use ps_words::{Edit, Order};
 use std::alloc::{AllocError, Allocator, Global};
+use std::process::Abort;
 use std::test::Fail;
 
 const ORDERS: [Order; 2] = [Order::Little, Order::Big];
 
 /// A name that the base host does not define.
-const LIMIT: [u8; 8] = *b"LIMIT   ";
+const LIMIT: Name = *b"LIMIT   ";
 
 /// Why nothing was built, as text.
 fn text_of(alloc: Global, stop: &Stop) -> Result<String, AllocError> {
@@ -46,6 +50,34 @@ fn unit_linkage(library: &[u8], order: Order) -> Result<Linkage<'_>, Fail> {
     })
 }
 
+fn describe_definitions<A: Allocator + Copy>(
+    alloc: Global,
+    definitions: &Definitions<A>,
+) -> Result<String, AllocError> {
+    let mut text = String::new(alloc);
+    for i in 0..definitions.len() {
+        let (name, Def { kind, value }) = definitions.at(i);
+        let name = str::from_utf8(&name).unwrap_or("no text");
+        write!(text, "{name} {kind:?} {value}; ")?;
+    }
+    Ok(text)
+}
+
+fn describe_allotment<A: Allocator + Copy>(
+    alloc: Global,
+    allotment: &Allotment<A>,
+) -> Result<String, AllocError> {
+    let mut text = String::new(alloc);
+    for private in allotment.privates() {
+        let name = str::from_utf8(&private.name).unwrap_or("no text");
+        write!(text, "slot {} record {} {name} ", private.slot, private.rec)?;
+        write!(text, "offset {} words {}; ", private.offset, private.words)?;
+    }
+    let (words, next) = (allotment.words(), allotment.next_free());
+    write!(text, "words {words} next {next}")?;
+    Ok(text)
+}
+
 /// `Definitions::build` on this link information.
 #[derive(Clone, Copy)]
 struct BuildDefinitions<'a> {
@@ -55,15 +87,7 @@ struct BuildDefinitions<'a> {
 impl<'a> Growing for BuildDefinitions<'a> {
     fn answer<A: Allocator + Copy>(&self, alloc: Global, heap: A) -> Result<String, AllocError> {
         match Definitions::build(heap, &self.host) {
-            Ok(definitions) => {
-                let mut text = String::new(alloc);
-                for i in 0..definitions.len() {
-                    let (name, Def { kind, value }) = definitions.at(i);
-                    let name = str::from_utf8(&name).unwrap_or("no text");
-                    write!(text, "{name} {kind:?} {value}; ")?;
-                }
-                Ok(text)
-            }
+            Ok(definitions) => describe_definitions(alloc, &definitions),
             Err(stop) => text_of(alloc, &stop),
         }
     }
@@ -79,54 +103,71 @@ struct BuildAllotment<'a> {
 impl<'a> Growing for BuildAllotment<'a> {
     fn answer<A: Allocator + Copy>(&self, alloc: Global, heap: A) -> Result<String, AllocError> {
         match Allotment::build(heap, self.next, &[self.segment]) {
-            Ok(allotment) => {
-                let mut text = String::new(alloc);
-                for private in allotment.privates() {
-                    let name = str::from_utf8(&private.name).unwrap_or("no text");
-                    write!(text, "slot {} record {} {name} ", private.slot, private.rec)?;
-                    write!(text, "offset {} words {}; ", private.offset, private.words)?;
-                }
-                write!(
-                    text,
-                    "words {} next {}",
-                    allotment.words(),
-                    allotment.next_free()
-                )?;
-                Ok(text)
-            }
+            Ok(allotment) => describe_allotment(alloc, &allotment),
             Err(stop) => text_of(alloc, &stop),
         }
     }
 }
 
-#[test]
-fn definitions_of_the_base_host(rt: HostRuntime) -> Result<(), Fail> {
-    for order in ORDERS {
-        let host = base_host(rt.alloc(), order)?;
-        let call = BuildDefinitions {
-            host: host_linkage(host.as_slice())?,
-        };
-        refuses_each_growth(&rt, "the base host", &call, "COUNT    Public 3; ")?;
-        match Definitions::build(rt.alloc(), &call.host) {
-            Ok(definitions) => {
-                let count = Def {
-                    kind: DefKind::Public,
-                    value: 3,
-                };
-                assert_eq!(rt; definitions.len(), 1);
-                assert_eq!(rt; definitions.look(&COUNT), Some(count));
-                assert_eq!(rt; definitions.look(&STATE), None);
-                assert_eq!(rt; definitions.at(0), (COUNT, count));
-            }
-            Err(_) => assert!(rt; false, "no definitions"),
-        }
+/// Checks definitions by index and by name, and that this name is none of theirs.
+pub(crate) fn has_definitions(
+    rt: &(impl Abort + AllocGlobal),
+    definitions: &Definitions,
+    wanted: &[(Name, Def)],
+    absent: &Name,
+) -> Result<(), Fail> {
+    assert_eq!(rt; definitions.len(), wanted.len());
+    for i in 0..definitions.len() {
+        let (name, def) = definitions.at(i);
+        assert_eq!(rt; Some((name, def)), wanted.get(i).copied(), "{i}");
+        assert_eq!(rt; definitions.look(&name), Some(def), "{i}");
+    }
+    assert_eq!(rt; definitions.look(absent), None);
+    Ok(())
+}
+
+/// Builds definitions and checks them.
+pub(crate) fn builds_definitions(
+    rt: &(impl Abort + AllocGlobal),
+    host: &Linkage<'_>,
+    wanted: &[(Name, Def)],
+    absent: &Name,
+) -> Result<(), Fail> {
+    match Definitions::build(rt.alloc(), host) {
+        Ok(definitions) => has_definitions(rt, &definitions, wanted, absent)?,
+        Err(_) => assert!(rt; false, "no definitions"),
     }
     Ok(())
 }
 
+/// The definitions of the base host, and a constant of another one.
+const COUNT_IS_3: (Name, Def) = (
+    COUNT,
+    Def {
+        kind: DefKind::Public,
+        value: 3,
+    },
+);
+
+const LIMIT_IS_9: (Name, Def) = (
+    LIMIT,
+    Def {
+        kind: DefKind::Constant,
+        value: 9,
+    },
+);
+
 #[test]
-fn definitions_by_name(rt: HostRuntime) -> Result<(), Fail> {
+fn definitions_by_index_and_by_name(rt: HostRuntime) -> Result<(), Fail> {
     let alloc = rt.alloc();
+    for order in ORDERS {
+        let host = base_host(alloc, order)?;
+        let call = BuildDefinitions {
+            host: host_linkage(host.as_slice())?,
+        };
+        refuses_each_growth(&rt, "the base host", &call, "COUNT    Public 3; ")?;
+        builds_definitions(&rt, &call.host, &[COUNT_IS_3], &STATE)?;
+    }
     let records = [
         PublicDefinition(COUNT, 3),
         PublicReference(STATE, &[]),
@@ -135,26 +176,26 @@ fn definitions_by_name(rt: HostRuntime) -> Result<(), Fail> {
     ];
     let host = base_host(alloc, Order::Little)?.with(alloc, &[Records(2, &records)])?;
     let host = host_linkage(host.as_slice())?;
-    match Definitions::build(alloc, &host) {
-        Ok(definitions) => {
-            let count = Def {
-                kind: DefKind::Public,
-                value: 3,
-            };
-            let limit = Def {
-                kind: DefKind::Constant,
-                value: 9,
-            };
-            assert_eq!(rt; definitions.len(), 2);
-            assert_eq!(rt; definitions.look(&COUNT), Some(count));
-            assert_eq!(rt; definitions.look(&LIMIT), Some(limit));
-            assert_eq!(rt; definitions.look(&STATE), None);
-            assert_eq!(rt; definitions.at(0), (COUNT, count));
-            assert_eq!(rt; definitions.at(1), (LIMIT, limit));
-        }
-        Err(_) => assert!(rt; false, "no definitions"),
+    builds_definitions(&rt, &host, &[COUNT_IS_3, LIMIT_IS_9], &STATE)
+}
+
+/// Slots, records and the offset of a private variable, where the unit's second record asks for one.
+const OFFSETS: [(u8, usize, Option<u16>); 5] = [
+    (7, 1, Some(8)),
+    (7, 0, None),
+    (7, 2, None),
+    (6, 1, None),
+    (8, 1, None),
+];
+
+fn has_offsets(rt: &impl Abort, allotment: &Allotment) {
+    for (slot, rec, offset) in OFFSETS {
+        assert_eq!(rt;
+            allotment.offset(slot, rec),
+            offset,
+            "slot {slot} record {rec}"
+        );
     }
-    Ok(())
 }
 
 #[test]
@@ -169,82 +210,91 @@ fn the_unit_s_private_variable(rt: HostRuntime) -> Result<(), Fail> {
         let answer = "slot 7 record 1 STATE    offset 8 words 4; words 4 next 12";
         refuses_each_growth(&rt, "the unit", &call, answer)?;
         match Allotment::build(alloc, 8, &[call.segment]) {
-            Ok(allotment) => {
-                for (slot, rec, offset) in [
-                    (7, 1, Some(8)),
-                    (7, 0, None),
-                    (7, 2, None),
-                    (6, 1, None),
-                    (8, 1, None),
-                ] {
-                    assert_eq!(rt;
-                        allotment.offset(slot, rec),
-                        offset,
-                        "slot {slot} record {rec}"
-                    );
-                }
-            }
+            Ok(allotment) => has_offsets(&rt, &allotment),
             Err(_) => assert!(rt; false, "no allotment"),
         }
     }
     Ok(())
 }
 
+/// Checks that no definitions are built of a host segment with these records.
+fn refuses_definitions(
+    rt: &(impl Abort + AllocGlobal),
+    what: &str,
+    records: &[Record<'_>],
+    fault: &str,
+) -> Result<(), Fail> {
+    let alloc = rt.alloc();
+    let host = base_host(alloc, Order::Little)?.with(alloc, &[Records(2, records)])?;
+    let call = BuildDefinitions {
+        host: host_linkage(host.as_slice())?,
+    };
+    refuses_each_growth(rt, what, &call, fault)
+}
+
+/// Checks that there is no allotment, from this offset on, to a unit with these records.
+fn refuses_allotment(
+    rt: &(impl Abort + AllocGlobal),
+    what: &str,
+    next: u16,
+    records: &[Record<'_>],
+    fault: &str,
+) -> Result<(), Fail> {
+    let alloc = rt.alloc();
+    let library = base_library(alloc, Order::Little)?.with(alloc, &[Records(2, records)])?;
+    let call = BuildAllotment {
+        next,
+        segment: unit_linkage(library.as_slice(), Order::Little)?,
+    };
+    refuses_each_growth(rt, what, &call, fault)
+}
+
 #[test]
 fn faults_of_single_calls(rt: HostRuntime) -> Result<(), Fail> {
-    let alloc = rt.alloc();
     let records = [
         PublicDefinition(COUNT, 3),
         ConstantDefinition(COUNT, 4),
         End(8),
     ];
-    let host = base_host(alloc, Order::Little)?.with(alloc, &[Records(2, &records)])?;
-    let call = BuildDefinitions {
-        host: host_linkage(host.as_slice())?,
-    };
     let fault = "refused 24 DoubledDefinition file 0 slot 1 record 1";
-    refuses_each_growth(&rt, "a name twice", &call, fault)?;
-    let library = base_library(alloc, Order::Little)?;
-    let segment = unit_linkage(library.as_slice(), Order::Little)?;
+    refuses_definitions(&rt, "a name twice", &records, fault)?;
     let fault = "refused 26 NoRoom file 1 slot 7 record 1";
-    let call = BuildAllotment {
-        next: 32764,
-        segment,
-    };
-    let text = call.answer(alloc, alloc)?;
-    assert_eq!(rt; text.as_str(), fault);
+    refuses_allotment(&rt, "no room", 32764, &LIBRARY_RECORDS, fault)?;
     let records = [
         PrivateReference(STATE, 4, &[]),
         PrivateReference(STATE, 4, &[]),
         End(0),
     ];
-    let library = library.with(alloc, &[Records(2, &records)])?;
-    let segment = unit_linkage(library.as_slice(), Order::Little)?;
     let fault = "refused 25 DoubledPrivate file 1 slot 7 record 1";
-    let call = BuildAllotment { next: 8, segment };
-    refuses_each_growth(&rt, "a private twice", &call, fault)
+    refuses_allotment(&rt, "a private twice", 8, &records, fault)
+}
+
+/// Adds a segment of a plan with its edits.
+fn describe_segment(
+    text: &mut String,
+    source: &Source<'_>,
+    edits: &[Edit],
+) -> Result<(), AllocError> {
+    write!(text, "slot {} file {} ", source.slot, source.file)?;
+    write!(text, "entry {} length {}:", source.index, source.code.len())?;
+    for edit in edits {
+        write!(text, " {edit:?}")?;
+    }
+    text.push_str("; ")
 }
 
 /// The segments of a plan with their edits, and the numbers of the linked file, as text.
 fn describe(alloc: Global, plan: &Plan<'_>) -> Result<String, AllocError> {
     let mut text = String::new(alloc);
     for (k, source) in plan.sources().iter().enumerate() {
-        write!(text, "slot {} file {} ", source.slot, source.file)?;
-        write!(text, "entry {} length {}:", source.index, source.code.len())?;
-        for edit in plan.edits(k) {
-            write!(text, " {edit:?}")?;
-        }
-        text.push_str("; ")?;
+        describe_segment(&mut text, source, plan.edits(k))?;
     }
-    write!(text, "definitions {} ", plan.definitions().len())?;
-    write!(text, "privates {} ", plan.allotment().privates().len())?;
-    write!(
-        text,
-        "words {} next {} ",
-        plan.private_words(),
-        plan.next_free()
-    )?;
-    write!(text, "data {}", plan.data_size())?;
+    let definitions = plan.definitions().len();
+    let privates = plan.allotment().privates().len();
+    let words = plan.private_words();
+    let (next, data) = (plan.next_free(), plan.data_size());
+    write!(text, "definitions {definitions} privates {privates} ")?;
+    write!(text, "words {words} next {next} data {data}")?;
     Ok(text)
 }
 
@@ -254,6 +304,21 @@ const BASE_PLAN: &str =
 slot 7 file 1 entry 2 length 24: Big { place: 1, value: 3 } Big { place: 4, value: 10 } Byte { place: 22, value: 7 }; \
 definitions 1 privates 1 words 4 next 12 data 18";
 
+/// Checks the plan of the base pair, and that it has the host's names and its tail.
+fn is_base_plan(
+    rt: &(impl Abort + AllocGlobal),
+    plan: &Plan<'_>,
+    order: Order,
+    host: &[u8],
+) -> Result<(), Fail> {
+    let text = describe(rt.alloc(), plan)?;
+    assert_eq!(rt; text.as_str(), BASE_PLAN);
+    assert_eq!(rt; plan.order(), order);
+    assert_eq!(rt; Some(plan.names().as_flattened()), host.get(64..192));
+    assert_eq!(rt; Some(plan.tail()), host.get(256..512));
+    Ok(())
+}
+
 #[test]
 fn the_base_pair(rt: HostRuntime) -> Result<(), Fail> {
     let alloc = rt.alloc();
@@ -261,20 +326,19 @@ fn the_base_pair(rt: HostRuntime) -> Result<(), Fail> {
         let host = base_host(alloc, order)?;
         let library = base_library(alloc, order)?;
         match resolve(alloc, host.as_slice(), &[library.as_slice()]) {
-            Ok(plan) => {
-                let text = describe(alloc, &plan)?;
-                assert_eq!(rt; text.as_str(), BASE_PLAN);
-                assert_eq!(rt; plan.order(), order);
-                assert_eq!(rt;
-                    Some(plan.names().as_flattened()),
-                    host.as_slice().get(64..192)
-                );
-                assert_eq!(rt; Some(plan.tail()), host.as_slice().get(256..512));
-            }
+            Ok(plan) => is_base_plan(&rt, &plan, order, host.as_slice())?,
             Err(_) => assert!(rt; false, "no plan"),
         }
     }
     Ok(())
+}
+
+/// The next free offset, the private words and the data size of a plan without libraries.
+fn sizes(alloc: Global, host: &[u8]) -> Option<(u16, u16, u16)> {
+    match resolve(alloc, host, &[]) {
+        Ok(plan) => Some((plan.next_free(), plan.private_words(), plan.data_size())),
+        Err(_) => None,
+    }
 }
 
 #[test]
@@ -283,14 +347,7 @@ fn no_private_words_behind_the_last_offset(rt: HostRuntime) -> Result<(), Fail> 
     let changes = [Records(2, &[PublicDefinition(COUNT, 3), End(40000)])];
     for order in ORDERS {
         let host = unit_in_place(alloc, order)?.with(alloc, &changes)?;
-        match resolve(alloc, host.as_slice(), &[]) {
-            Ok(plan) => {
-                assert_eq!(rt; plan.next_free(), 40000);
-                assert_eq!(rt; plan.private_words(), 0);
-                assert_eq!(rt; plan.data_size(), 10);
-            }
-            Err(_) => assert!(rt; false, "no plan"),
-        }
+        assert_eq!(rt; sizes(alloc, host.as_slice()), Some((40000, 0, 10)));
     }
     Ok(())
 }

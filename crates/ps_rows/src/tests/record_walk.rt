@@ -21,6 +21,33 @@ fn next(alloc: Global, records: &mut Records<'_>) -> Result<String, AllocError> 
     }
 }
 
+/// How many bytes of the base library's link information are walked, the items, and how many bytes the records among them took; a fault is given once.
+const WALKS: [(usize, &[&str], usize); 3] = [
+    (
+        80,
+        &[
+            "PUBLREF COUNT    at 1",
+            "PRIVREF STATE    words 4 at 4",
+            "EOFMARK next 0",
+            "none",
+            "none",
+        ],
+        80,
+    ),
+    (
+        79,
+        &[
+            "PUBLREF COUNT    at 1",
+            "PRIVREF STATE    words 4 at 4",
+            "RecordsTruncated",
+            "none",
+            "none",
+        ],
+        64,
+    ),
+    (0, &["RecordsTruncated", "none", "none"], 0),
+];
+
 /// Checks the items in turn, and how many bytes the records among them took.
 fn walks(
     rt: &(impl Abort + AllocGlobal),
@@ -28,43 +55,23 @@ fn walks(
     wanted: &[&str],
     used: usize,
 ) -> Result<(), Fail> {
+    let length = bytes.len();
     let mut records = Records::new(Order::Little, bytes);
     for item in wanted {
         let text = next(rt.alloc(), &mut records)?;
-        assert_eq!(rt; text.as_str(), *item);
+        assert_eq!(rt; text.as_str(), *item, "of {length} bytes");
     }
-    assert_eq!(rt; records.used(), used);
+    assert_eq!(rt; records.used(), used, "of {length} bytes");
     Ok(())
 }
 
 #[test]
-fn the_base_library(rt: HostRuntime) -> Result<(), Fail> {
-    let information = Information::new(rt.alloc(), Order::Little, &LIBRARY_RECORDS)?;
-    let items = [
-        "PUBLREF COUNT    at 1",
-        "PRIVREF STATE    words 4 at 4",
-        "EOFMARK next 0",
-        "none",
-        "none",
-    ];
-    walks(&rt, information.as_slice(), &items, 80)
-}
-
-#[test]
-fn a_fault_is_given_once(rt: HostRuntime) -> Result<(), Fail> {
+fn the_base_library_and_its_cuts(rt: HostRuntime) -> Result<(), Fail> {
     let information = Information::new(rt.alloc(), Order::Little, &LIBRARY_RECORDS)?;
     let bytes = information.as_slice();
-    let items = [
-        "PUBLREF COUNT    at 1",
-        "PRIVREF STATE    words 4 at 4",
-        "RecordsTruncated",
-        "none",
-        "none",
-    ];
-    walks(&rt, bytes.get(..79).unwrap_or(bytes), &items, 64)
-}
-
-#[test]
-fn no_bytes(rt: HostRuntime) -> Result<(), Fail> {
-    walks(&rt, &[], &["RecordsTruncated", "none", "none"], 0)
+    assert_eq!(rt; bytes.len(), 80);
+    for (length, items, used) in WALKS {
+        walks(&rt, bytes.get(..length).unwrap_or(bytes), items, used)?;
+    }
+    Ok(())
 }

@@ -72,36 +72,55 @@ pub(crate) fn read<A: Allocator + Copy>(
     }
 }
 
-/// Checks what these little-endian bytes are read as.
-fn reads(
+/// Checks what these bytes are read as.
+pub(crate) fn reads(
     rt: &(impl Abort + AllocGlobal),
+    order: Order,
     what: &str,
     bytes: &[u8],
     wanted: &str,
 ) -> Result<(), Fail> {
     let alloc = rt.alloc();
-    let text = read(alloc, alloc, LITTLE, bytes)?;
+    let text = read(alloc, alloc, order, bytes)?;
     assert_eq!(rt; text.as_str(), wanted, "{what}");
     Ok(())
 }
 
+/// Checks what these records are read as in either byte order, and how long they are.
+pub(crate) fn reads_records(
+    rt: &(impl Abort + AllocGlobal),
+    what: &str,
+    records: &[Record<'_>],
+    length: usize,
+    wanted: &str,
+) -> Result<(), Fail> {
+    for order in [Order::Little, Order::Big] {
+        let information = Information::new(rt.alloc(), order, records)?;
+        let bytes = information.as_slice();
+        assert_eq!(rt; bytes.len(), length, "{what}");
+        reads(rt, order, what, bytes, wanted)?;
+    }
+    Ok(())
+}
+
+/// Lengths to which the base library's link information is cut, and what it is then read as.
+const CUTS: [(&str, usize, &str); 5] = [
+    ("whole", 80, BASE_RECORDS),
+    ("cut to 79", 79, "RecordsTruncated at record 2"),
+    ("cut to 64", 64, "RecordsTruncated at record 2"),
+    ("cut to 31", 31, "RecordsTruncated at record 0"),
+    ("cut to 0", 0, "RecordsTruncated at record 0"),
+];
+
 #[test]
 fn the_base_library_and_its_cuts(rt: HostRuntime) -> Result<(), Fail> {
-    let alloc = rt.alloc();
     for order in [Order::Little, Order::Big] {
-        let information = Information::new(alloc, order, &LIBRARY_RECORDS)?;
+        let information = Information::new(rt.alloc(), order, &LIBRARY_RECORDS)?;
         let bytes = information.as_slice();
         assert_eq!(rt; bytes.len(), 80);
-        for (length, wanted) in [
-            (80, BASE_RECORDS),
-            (79, "RecordsTruncated at record 2"),
-            (64, "RecordsTruncated at record 2"),
-            (31, "RecordsTruncated at record 0"),
-            (0, "RecordsTruncated at record 0"),
-        ] {
+        for (what, length, wanted) in CUTS {
             let cut = bytes.get(..length).unwrap_or(bytes);
-            let text = read(alloc, alloc, order, cut)?;
-            assert_eq!(rt; text.as_str(), wanted, "cut to {length}");
+            reads(&rt, order, what, cut, wanted)?;
         }
     }
     Ok(())
@@ -121,41 +140,57 @@ const EACH_TYPE_READ: &str =
     "UNITREF UTIL     at 1; PUBLREF COUNT    at 2 4; PRIVREF STATE    words 4 at 6; \
 PUBLDEF COUNT    value 3; CONSTDEF DEMO     value 9; EOFMARK next 7; ";
 
-#[test]
-fn a_record_of_each_type(rt: HostRuntime) -> Result<(), Fail> {
-    let alloc = rt.alloc();
-    for order in [Order::Little, Order::Big] {
-        let information = Information::new(alloc, order, &EACH_TYPE)?;
-        let text = read(alloc, alloc, order, information.as_slice())?;
-        assert_eq!(rt; text.as_str(), EACH_TYPE_READ);
-    }
-    Ok(())
-}
+/// Records, their length in bytes, and what they are read as.
+type Read<'a> = (&'a str, &'a [Record<'a>], usize, &'a str);
 
-/// References, the length of a PUBLREF with them and an EOFMARK, and what the two are read as.
-const LISTS: [(&[u16], usize, &str); 3] = [
-    (&[], 32, "PUBLREF COUNT    at; EOFMARK next 0; "),
+const READ: [Read<'static>; 5] = [
+    ("a record of each type", &EACH_TYPE, 144, EACH_TYPE_READ),
     (
-        &[1, 2, 3, 4, 5, 6, 7, 8],
+        "no references",
+        &[PublicReference(COUNT, &[]), End(0)],
+        32,
+        "PUBLREF COUNT    at; EOFMARK next 0; ",
+    ),
+    (
+        "references of one piece",
+        &[PublicReference(COUNT, &[1, 2, 3, 4, 5, 6, 7, 8]), End(0)],
         48,
         "PUBLREF COUNT    at 1 2 3 4 5 6 7 8; EOFMARK next 0; ",
     ),
     (
-        &[1, 2, 3, 4, 5, 6, 7, 8, 9],
+        "references of two pieces",
+        &[PublicReference(COUNT, &[1, 2, 3, 4, 5, 6, 7, 8, 9]), End(0)],
         64,
         "PUBLREF COUNT    at 1 2 3 4 5 6 7 8 9; EOFMARK next 0; ",
+    ),
+    (
+        "a type 99 behind the end mark, which is not read",
+        &[End(0), Other(COUNT, 99, [0, 0, 0])],
+        32,
+        "EOFMARK next 0; ",
     ),
 ];
 
 #[test]
-fn lists_of_none_and_of_one_piece_and_of_two(rt: HostRuntime) -> Result<(), Fail> {
-    for (references, length, wanted) in LISTS {
-        let records = [PublicReference(COUNT, references), End(0)];
-        let information = Information::new(rt.alloc(), LITTLE, &records)?;
-        assert_eq!(rt; information.as_slice().len(), length);
-        reads(&rt, "a list", information.as_slice(), wanted)?;
+fn records_in_either_byte_order(rt: HostRuntime) -> Result<(), Fail> {
+    for (what, records, length, wanted) in READ {
+        reads_records(&rt, what, records, length, wanted)?;
     }
     Ok(())
+}
+
+/// Checks a record of references 0, 1, 2 and so on, as many as one can have, and an end mark.
+fn have_every_reference(rt: &impl Abort, records: &[LinkRecord<'_>]) {
+    assert_eq!(rt; records.len(), 2);
+    match records.first().map(|record| &record.body) {
+        Some(Body::PublRef(read)) => {
+            assert_eq!(rt; read.len(), 65535);
+            for i in 0..read.len() {
+                assert_eq!(rt; usize::from(read.get(i)), i);
+            }
+        }
+        _ => assert!(rt; false, "no public reference"),
+    }
 }
 
 #[test]
@@ -167,27 +202,9 @@ fn as_many_references_as_a_record_can_have(rt: HostRuntime) -> Result<(), Fail> 
     let bytes = information.as_slice();
     assert_eq!(rt; bytes.len(), 131104);
     match read_records(alloc, LITTLE, bytes) {
-        Ok(records) => {
-            assert_eq!(rt; records.len(), 2);
-            match records.first().map(|record| &record.body) {
-                Some(Body::PublRef(read)) => {
-                    assert_eq!(rt; read.len(), 65535);
-                    for i in 0..read.len() {
-                        assert_eq!(rt; usize::from(read.get(i)), i);
-                    }
-                }
-                _ => assert!(rt; false, "no public reference"),
-            }
-        }
+        Ok(records) => have_every_reference(&rt, records.as_slice()),
         Err(_) => assert!(rt; false, "no records"),
     }
     let cut = bytes.get(..131087).unwrap_or(bytes);
-    reads(&rt, "cut", cut, "RecordsTruncated at record 0")
-}
-
-#[test]
-fn what_follows_the_end_mark_is_not_read(rt: HostRuntime) -> Result<(), Fail> {
-    let records = [End(0), Other(COUNT, 99, [0, 0, 0])];
-    let information = Information::new(rt.alloc(), LITTLE, &records)?;
-    reads(&rt, "a type 99", information.as_slice(), "EOFMARK next 0; ")
+    reads(&rt, LITTLE, "cut", cut, "RecordsTruncated at record 0")
 }

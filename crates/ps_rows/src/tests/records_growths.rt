@@ -21,16 +21,12 @@ impl<'a> Growing for ReadRecords<'a> {
 }
 
 #[test]
-fn each_growth_refused_in_turn(rt: HostRuntime) -> Result<(), Fail> {
+fn each_growth_refused_and_a_claimed_list_that_is_not_there(rt: HostRuntime) -> Result<(), Fail> {
     let information = Information::new(rt.alloc(), Order::Little, &LIBRARY_RECORDS)?;
     let call = ReadRecords {
         bytes: information.as_slice(),
     };
-    refuses_each_growth(&rt, "the base library", &call, BASE_RECORDS)
-}
-
-#[test]
-fn a_claimed_list_that_is_not_there_costs_nothing(rt: HostRuntime) -> Result<(), Fail> {
+    refuses_each_growth(&rt, "the base library", &call, BASE_RECORDS)?;
     let records = [Other(COUNT, 3, [2, 65535, 0])];
     let information = Information::new(rt.alloc(), Order::Little, &records)?;
     let call = ReadRecords {

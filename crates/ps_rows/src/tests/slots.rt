@@ -1,6 +1,6 @@
 //! Which slots of a host have a segment, and what stands in them.
 use super::answers::links;
-use super::tables::{Base, Row, link_rows};
+use super::tables::{AMPLE, Base, Row, Table, link_tables};
 use crate::base::{
     COUNT, DEMO_ENTRY, LINKED_DEMO, LINKED_UTIL, STATE, UTIL, UTIL_SLOT, demo_code, util_code,
 };
@@ -92,11 +92,6 @@ const BELOW_THE_HOST: [Row<'static>; 1] = [Row {
     summary: "segments 2 private words 6 blocks 3",
 }];
 
-#[test]
-fn a_unit_in_a_slot_below_the_host_s(rt: HostRuntime) -> Result<(), Fail> {
-    link_rows(&rt, Base::Pair, &BELOW_THE_HOST)
-}
-
 const IN_PLACE: [Row<'static>; 3] = [
     Row {
         what: "two units of one code",
@@ -136,8 +131,12 @@ const IN_PLACE: [Row<'static>; 3] = [
 ];
 
 #[test]
-fn units_in_place(rt: HostRuntime) -> Result<(), Fail> {
-    link_rows(&rt, Base::InPlace, &IN_PLACE)
+fn units_in_any_slot(rt: HostRuntime) -> Result<(), Fail> {
+    let tables: [Table<'_, Row<'_>>; 2] = [
+        (Base::Pair, AMPLE, &BELOW_THE_HOST),
+        (Base::InPlace, AMPLE, &IN_PLACE),
+    ];
+    link_tables(&rt, &tables)
 }
 
 /// A host of sixteen segments: its own in this slot, the unit in slot 7, and in the others segments that are linked already.

@@ -3,10 +3,17 @@ use super::answers::{LITTLE, links};
 use super::growths::{makes_no_growth, refuses_each_growth};
 use super::link_growths::Link;
 use crate::added::{library_of_a_used_unit, linked_used_unit};
-use crate::base::{base_host, base_library, linked_base_pair};
+use crate::base::{
+    LIBRARY_RECORDS, base_host, base_library, linked_base_pair, linked_segments, util_code,
+};
+use crate::code_file::Change::{Code, Length, Records};
 use crate::code_file::{Change, CodeFile};
 use crate::in_place::{linked_unit_in_place, unit_in_place};
-use crate::units::{host_of_two_units, library_of_two_units, linked_two_units};
+use crate::units::{
+    NINE_LENGTH, host_of_two_units, library_of_a_long_unit, library_of_nine_references,
+    library_of_two_units, linked_long_unit, linked_two_units, nine_operands,
+};
+use ps_words::Order;
 use std::alloc::{AllocError, Global};
 use std::process::Abort;
 use std::test::Fail;
@@ -41,6 +48,16 @@ pub(crate) enum Memory {
     EachGrowthRefused,
 }
 
+/// The memories that the links of a table are made with: ample memory, and where the second word says so, the other one too.
+pub(crate) const AMPLE: &[Memory] = &[Memory::Ample];
+
+pub(crate) const AMPLE_OR_NONE: &[Memory] = &[Memory::Ample, Memory::NoGrowth];
+
+pub(crate) const AMPLE_OR_REFUSED: &[Memory] = &[Memory::Ample, Memory::EachGrowthRefused];
+
+/// A table of links or of refusals, the files that its entries change, and the memories that each is tried with.
+pub(crate) type Table<'a, Entry> = (Base, &'a [Memory], &'a [Entry]);
+
 impl Memory {
     /// Checks a link's answer and what was written.
     pub(crate) fn answers(
@@ -58,49 +75,107 @@ impl Memory {
     }
 }
 
-/// The files that a table's entries change.
+/// The files that a table's entries change; their words are little-endian where nothing else is said.
 #[derive(Clone, Copy, PartialEq, Eq)]
 pub(crate) enum Base {
     /// The host with its unit in place, and no library.
     InPlace,
+    BigInPlace,
+    /// The same, whose unit has the code and the link information of the base library's.
+    LikeLibrary,
+    BigLikeLibrary,
     /// The base pair.
     Pair,
+    BigPair,
+    /// The base host and a base library of the other byte order, big-endian or little-endian.
+    BigLibrary,
+    LittleLibrary,
     /// The base host, and no library.
     HostAlone,
     /// The host and the library of two units.
     TwoUnits,
     /// The base host, and the library whose unit uses another one.
     UsedUnit,
+    BigUsedUnit,
+    /// The base host, and the library whose unit has a record of nine references.
+    NineReferences,
+    /// The base host, and the library whose unit has an operand that lies in two blocks.
+    LongUnit,
+}
+
+/// The host whose unit in place is like the base library's.
+fn unit_like_the_library_s(alloc: Global, order: Order) -> Result<CodeFile, AllocError> {
+    let changes = [
+        Code(3, 0, &util_code(order, 2)),
+        Records(4, &LIBRARY_RECORDS),
+    ];
+    unit_in_place(alloc, order)?.with(alloc, &changes)
+}
+
+/// What the base host is linked to with the library of nine references.
+fn linked_nine_references(alloc: Global) -> Result<CodeFile, AllocError> {
+    let changes = [Length(7, NINE_LENGTH), Code(2, 0, &nine_operands(3, 7))];
+    linked_segments(alloc, LITTLE)?.with(alloc, &changes)
 }
 
 impl Base {
-    fn host(self, alloc: Global) -> Result<CodeFile, AllocError> {
+    /// The byte order of the host.
+    fn order(self) -> Order {
         match self {
-            Base::InPlace => unit_in_place(alloc, LITTLE),
-            Base::Pair | Base::HostAlone | Base::UsedUnit => base_host(alloc, LITTLE),
-            Base::TwoUnits => host_of_two_units(alloc),
+            Base::BigInPlace
+            | Base::BigLikeLibrary
+            | Base::BigPair
+            | Base::LittleLibrary
+            | Base::BigUsedUnit => Order::Big,
+            _ => LITTLE,
         }
     }
 
-    fn library(self, alloc: Global) -> Result<CodeFile, AllocError> {
+    pub(crate) fn host(self, alloc: Global) -> Result<CodeFile, AllocError> {
+        let order = self.order();
+        match self {
+            Base::InPlace | Base::BigInPlace => unit_in_place(alloc, order),
+            Base::LikeLibrary | Base::BigLikeLibrary => unit_like_the_library_s(alloc, order),
+            Base::TwoUnits => host_of_two_units(alloc),
+            _ => base_host(alloc, order),
+        }
+    }
+
+    pub(crate) fn library(self, alloc: Global) -> Result<CodeFile, AllocError> {
+        let order = self.order();
         match self {
             Base::TwoUnits => library_of_two_units(alloc),
-            Base::UsedUnit => library_of_a_used_unit(alloc, LITTLE),
-            Base::InPlace | Base::Pair | Base::HostAlone => base_library(alloc, LITTLE),
+            Base::UsedUnit | Base::BigUsedUnit => library_of_a_used_unit(alloc, order),
+            Base::NineReferences => library_of_nine_references(alloc),
+            Base::LongUnit => library_of_a_long_unit(alloc),
+            Base::BigLibrary => base_library(alloc, Order::Big),
+            Base::LittleLibrary => base_library(alloc, LITTLE),
+            _ => base_library(alloc, order),
         }
     }
 
-    fn linked(self, alloc: Global) -> Result<CodeFile, AllocError> {
+    pub(crate) fn linked(self, alloc: Global) -> Result<CodeFile, AllocError> {
+        let order = self.order();
         match self {
-            Base::InPlace => linked_unit_in_place(alloc, LITTLE),
-            Base::Pair | Base::HostAlone => linked_base_pair(alloc, LITTLE),
+            Base::InPlace | Base::BigInPlace => linked_unit_in_place(alloc, order),
             Base::TwoUnits => linked_two_units(alloc),
-            Base::UsedUnit => linked_used_unit(alloc, LITTLE),
+            Base::UsedUnit | Base::BigUsedUnit => linked_used_unit(alloc, order),
+            Base::NineReferences => linked_nine_references(alloc),
+            Base::LongUnit => linked_long_unit(alloc),
+            _ => linked_base_pair(alloc, order),
         }
     }
 
-    fn has_library(self) -> bool {
-        matches!(self, Base::Pair | Base::TwoUnits | Base::UsedUnit)
+    /// This library, where the host is linked with one.
+    pub(crate) fn libraries<'a, 'b>(self, library: &'a [&'b [u8]; 1]) -> &'a [&'b [u8]] {
+        match self {
+            Base::InPlace
+            | Base::BigInPlace
+            | Base::LikeLibrary
+            | Base::BigLikeLibrary
+            | Base::HostAlone => &[],
+            _ => library,
+        }
     }
 
     /// Checks one link: its answer and what was written.
@@ -116,51 +191,58 @@ impl Base {
         let alloc = rt.alloc();
         let host = self.host(alloc)?.with(alloc, changes.0)?;
         let library = self.library(alloc)?.with(alloc, changes.1)?;
-        if self.has_library() {
-            let link = Link {
-                host: host.as_slice(),
-                libraries: &[library.as_slice()],
-                linked,
-            };
-            return memory.answers(rt, what, &link, answer);
-        }
+        let library = [library.as_slice()];
         let link = Link {
             host: host.as_slice(),
-            libraries: &[],
+            libraries: self.libraries(&library),
             linked,
         };
         memory.answers(rt, what, &link, answer)
     }
 }
 
+/// Checks one link of a table, with this memory.
+fn link_row(
+    rt: &(impl Abort + AllocGlobal),
+    base: Base,
+    memory: Memory,
+    row: &Row<'_>,
+) -> Result<(), Fail> {
+    let alloc = rt.alloc();
+    let linked = base.linked(alloc)?.with(alloc, row.linked)?;
+    let changes = (row.host, row.library);
+    let linked = linked.as_slice();
+    base.answers(rt, memory, row.what, changes, row.summary, linked)
+}
+
 /// Checks each link of a table, with this memory.
-pub(crate) fn link_rows_in(
+fn link_rows(
     rt: &(impl Abort + AllocGlobal),
     base: Base,
     memory: Memory,
     rows: &[Row<'_>],
 ) -> Result<(), Fail> {
-    let alloc = rt.alloc();
     for row in rows {
-        let linked = base.linked(alloc)?.with(alloc, row.linked)?;
-        let changes = (row.host, row.library);
-        let linked = linked.as_slice();
-        base.answers(rt, memory, row.what, changes, row.summary, linked)?;
+        link_row(rt, base, memory, row)?;
     }
     Ok(())
 }
 
-/// Checks each link of a table.
-pub(crate) fn link_rows(
+/// Checks each link of these tables.
+pub(crate) fn link_tables(
     rt: &(impl Abort + AllocGlobal),
-    base: Base,
-    rows: &[Row<'_>],
+    tables: &[Table<'_, Row<'_>>],
 ) -> Result<(), Fail> {
-    link_rows_in(rt, base, Memory::Ample, rows)
+    for (base, memories, rows) in tables {
+        for memory in *memories {
+            link_rows(rt, *base, *memory, rows)?;
+        }
+    }
+    Ok(())
 }
 
 /// Checks each refusal of a table, with this memory, and that nothing is written.
-pub(crate) fn refuse_rows_in(
+fn refuse_rows(
     rt: &(impl Abort + AllocGlobal),
     base: Base,
     memory: Memory,
@@ -172,11 +254,15 @@ pub(crate) fn refuse_rows_in(
     Ok(())
 }
 
-/// Checks each refusal of a table, and that nothing is written.
-pub(crate) fn refuse_rows(
+/// Checks each refusal of these tables, and that nothing is written.
+pub(crate) fn refuse_tables(
     rt: &(impl Abort + AllocGlobal),
-    base: Base,
-    refusals: &[Refusal<'_>],
+    tables: &[Table<'_, Refusal<'_>>],
 ) -> Result<(), Fail> {
-    refuse_rows_in(rt, base, Memory::Ample, refusals)
+    for (base, memories, refusals) in tables {
+        for memory in *memories {
+            refuse_rows(rt, *base, *memory, refusals)?;
+        }
+    }
+    Ok(())
 }

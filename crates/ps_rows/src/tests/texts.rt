@@ -1,9 +1,11 @@
 //! The map of a link and the show of a code file, as text.
 use super::answers::LITTLE;
 use super::growths::{Growing, makes_no_growth, refuses_each_growth};
+use super::tables::Base;
 use crate::base::{BASE_LENGTH, COUNT, base_host, base_library};
 use crate::code_file::Change::{Bytes, Records, Resized};
 use crate::code_file::CodeFile;
+use crate::information::Record;
 use crate::information::Record::{ConstantDefinition, End, PublicDefinition};
 use ps_linkfile::{LinkError, map_text, show_text};
 use std::alloc::{AllocError, Allocator, Global};
@@ -11,19 +13,36 @@ use std::process::Abort;
 use std::str;
 use std::test::Fail;
 
-static MAP: &str = "segment 01 DEMO     file 0 entry 01 block 1 length 18
+const MAP: &str = "segment 01 DEMO     file 0 entry 01 block 1 length 18
 segment 07 UTIL     file 1 entry 02 block 2 length 24
 public COUNT    value 3
 private 07 STATE    offset 8 words 4
 next 12 data 18 blocks 3
 ";
 
-static MAP_WITH_A_CONSTANT: &str = "segment 01 DEMO     file 0 entry 01 block 1 length 18
+const MAP_WITH_A_CONSTANT: &str = "segment 01 DEMO     file 0 entry 01 block 1 length 18
 segment 07 UTIL     file 1 entry 02 block 2 length 24
 public COUNT    value 3
 constant LIMIT    value 9
 private 07 STATE    offset 8 words 4
 next 12 data 18 blocks 3
+";
+
+const MAP_OF_AN_ADDED_UNIT: &str = "segment 01 DEMO     file 0 entry 01 block 1 length 18
+segment 07 UTIL     file 1 entry 02 block 2 length 24
+segment 08 AUX      file 1 entry 03 block 3 length 24 added
+public COUNT    value 3
+private 08 STATE    offset 8 words 4
+next 12 data 18 blocks 4
+";
+
+const MAP_OF_TWO_UNITS: &str = "segment 01 DEMO     file 0 entry 01 block 1 length 18
+segment 07 UTIL     file 1 entry 02 block 2 length 24
+segment 08 AUX      file 1 entry 03 block 3 length 24
+public COUNT    value 3
+private 07 STATE    offset 8 words 4
+private 08 STATE    offset 12 words 4
+next 16 data 26 blocks 4
 ";
 
 pub(crate) static SLOTS_OF_THE_LIBRARY: &str = "order little
@@ -83,74 +102,94 @@ impl<'a> Growing for Show<'a> {
     }
 }
 
+/// The maps of links of unchanged files.
+const MAPS: [(&str, Base, &str); 3] = [
+    ("the base pair", Base::Pair, MAP),
+    ("an added unit", Base::UsedUnit, MAP_OF_AN_ADDED_UNIT),
+    ("two wanted units", Base::TwoUnits, MAP_OF_TWO_UNITS),
+];
+
+/// The base host's definition and a constant.
+const DEFINITIONS: [Record<'static>; 3] = [
+    PublicDefinition(COUNT, 3),
+    ConstantDefinition(*b"LIMIT   ", 9),
+    End(8),
+];
+
 #[test]
-fn the_map_of_a_pair(rt: HostRuntime) -> Result<(), Fail> {
+fn maps_of_pairs(rt: HostRuntime) -> Result<(), Fail> {
     let alloc = rt.alloc();
-    let host = base_host(alloc, LITTLE)?;
+    for (what, base, map) in MAPS {
+        let host = base.host(alloc)?;
+        let library = base.library(alloc)?;
+        let call = Map {
+            host: host.as_slice(),
+            libraries: &[library.as_slice()],
+        };
+        refuses_each_growth(&rt, what, &call, map)?;
+    }
+    let host = base_host(alloc, LITTLE)?.with(alloc, &[Records(2, &DEFINITIONS)])?;
     let library = base_library(alloc, LITTLE)?;
-    let libraries = [library.as_slice()];
     let call = Map {
         host: host.as_slice(),
-        libraries: libraries.as_slice(),
-    };
-    refuses_each_growth(&rt, "the base pair", &call, MAP)?;
-    let definitions = [
-        PublicDefinition(COUNT, 3),
-        ConstantDefinition(*b"LIMIT   ", 9),
-        End(8),
-    ];
-    let host = host.with(alloc, &[Records(2, &definitions)])?;
-    let call = Map {
-        host: host.as_slice(),
-        libraries: libraries.as_slice(),
+        libraries: &[library.as_slice()],
     };
     refuses_each_growth(&rt, "a constant", &call, MAP_WITH_A_CONSTANT)
 }
 
+/// Checks the show of a file.
+pub(crate) fn shows(
+    rt: &(impl Abort + AllocGlobal),
+    what: &str,
+    file: &CodeFile,
+    text: &str,
+) -> Result<(), Fail> {
+    let call = Show {
+        file: file.as_slice(),
+    };
+    refuses_each_growth(rt, what, &call, text)
+}
+
+/// Lengths to which the base library is cut, and the lines of its show behind those of the slots.
+const SHOWS: [(&str, usize, &str); 3] = [
+    (
+        "a library",
+        BASE_LENGTH,
+        "links 02\n0 PUBLREF COUNT    at 1\n1 PRIVREF STATE    words 4 at 4\n2 EOFMARK next 0\n",
+    ),
+    (
+        "a library without its end",
+        1103,
+        "links 02\n0 PUBLREF COUNT    at 1\n1 PRIVREF STATE    words 4 at 4\n2 fault 19 RecordsTruncated\n",
+    ),
+    (
+        "a library with half a code",
+        535,
+        "links 02\nfault 16 Truncated\n",
+    ),
+];
+
 #[test]
-fn a_map_that_is_refused(rt: HostRuntime) -> Result<(), Fail> {
-    let host = base_host(rt.alloc(), LITTLE)?;
+fn shows_of_a_library(rt: HostRuntime) -> Result<(), Fail> {
+    let alloc = rt.alloc();
+    for (what, length, last) in SHOWS {
+        let library = base_library(alloc, LITTLE)?.with(alloc, &[Resized(length)])?;
+        let text = format!(in alloc; "{SLOTS_OF_THE_LIBRARY}{last}")?;
+        shows(&rt, what, &library, text.as_str())?;
+    }
+    Ok(())
+}
+
+#[test]
+fn maps_and_shows_that_are_refused(rt: HostRuntime) -> Result<(), Fail> {
+    let alloc = rt.alloc();
+    let host = base_host(alloc, LITTLE)?;
     let call = Map {
         host: host.as_slice(),
         libraries: &[],
     };
     let refused = "refused 13 MissingUnit file 0 slot 7";
-    makes_no_growth(&rt, "no library", &call, refused)
-}
-
-/// Checks the show of a library that has only so many bytes, which ends with these lines behind those of the slots.
-fn shows_library(rt: &(impl Abort + AllocGlobal), length: usize, last: &str) -> Result<(), Fail> {
-    let alloc = rt.alloc();
-    let library = base_library(alloc, LITTLE)?.with(alloc, &[Resized(length)])?;
-    let text = format!(in alloc; "{SLOTS_OF_THE_LIBRARY}{last}")?;
-    let call = Show {
-        file: library.as_slice(),
-    };
-    refuses_each_growth(rt, "a library", &call, text.as_str())
-}
-
-#[test]
-fn the_show_of_a_library(rt: HostRuntime) -> Result<(), Fail> {
-    let records =
-        "links 02\n0 PUBLREF COUNT    at 1\n1 PRIVREF STATE    words 4 at 4\n2 EOFMARK next 0\n";
-    shows_library(&rt, BASE_LENGTH, records)
-}
-
-#[test]
-fn the_show_of_a_library_without_its_end(rt: HostRuntime) -> Result<(), Fail> {
-    let records =
-        "links 02\n0 PUBLREF COUNT    at 1\n1 PRIVREF STATE    words 4 at 4\n2 fault 19 RecordsTruncated\n";
-    shows_library(&rt, 1103, records)
-}
-
-#[test]
-fn the_show_of_a_library_with_half_a_code(rt: HostRuntime) -> Result<(), Fail> {
-    shows_library(&rt, 535, "links 02\nfault 16 Truncated\n")
-}
-
-#[test]
-fn a_show_that_is_refused(rt: HostRuntime) -> Result<(), Fail> {
-    let alloc = rt.alloc();
+    makes_no_growth(&rt, "no library", &call, refused)?;
     let short = CodeFile::new(alloc, LITTLE, 511)?;
     let call = Show {
         file: short.as_slice(),

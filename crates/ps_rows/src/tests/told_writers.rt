@@ -2,8 +2,8 @@
 use super::answers::{LITTLE, text_of};
 use super::writers::{Full, Room};
 use crate::base::{base_host, base_library, linked_base_pair};
-use ps_linkfile::{Counting, LinkError, Summary, ToldWriter, WriteFault, link, prepare};
-use refusing::Refusing;
+use ps_linkfile::{Counting, LinkError, Linked, Summary, ToldWriter, WriteFault, link, prepare};
+use std::alloc::{AllocError, Global};
 use std::io;
 use std::io::{ErrorKind, Write};
 use std::process::Abort;
@@ -36,53 +36,66 @@ fn tally_of(writer: &Counting<Room>) -> Tallied {
 
 const SUMMARY: &str = "segments 2 private words 4 blocks 3";
 
-/// Links the base pair to a counting writer with room for so many bytes, of which a write takes at most so many, and checks the
-/// answer, the counts, that each write that was counted was made once, and that the front of the linked file was taken.
-fn tells(
-    rt: &(impl Abort + AllocGlobal),
-    (room, per_write, full): (usize, usize, Full),
-    answer: &str,
-    wanted: Tallied,
-) -> Result<(), Fail> {
-    let alloc = rt.alloc();
-    let host = base_host(alloc, LITTLE)?;
-    let library = base_library(alloc, LITTLE)?;
-    let file = linked_base_pair(alloc, LITTLE)?;
-    let libraries = [library.as_slice()];
-    let linked = prepare(alloc, host.as_slice(), &libraries)?;
+/// A writer's room, how much a write takes at most, and what it does where it has no room.
+type Writer = (usize, usize, Full);
+
+/// Writes the linked file to a counting writer: the answer as text, what was counted, and the writer that it was written to.
+fn told(
+    alloc: Global,
+    linked: &Linked<'_>,
+    (room, per_write, full): Writer,
+) -> Result<(String, Tallied, Room), AllocError> {
     let mut out = Counting::new(Room::new(alloc, room, per_write, full)?);
     let answered = linked.write_told(&mut out).map_err(LinkError::Write);
     let text = text_of(alloc, answered)?;
+    Ok((text, tally_of(&out), out.into_inner()))
+}
+
+/// Writes the linked file to a counting writer, and checks the answer, the counts, that each write that was counted was made once,
+/// and that the front of the linked file was taken for which it has room.
+fn tells(
+    rt: &(impl Abort + AllocGlobal),
+    linked: &Linked<'_>,
+    file: &[u8],
+    writer: Writer,
+    answer: &str,
+    wanted: Tallied,
+) -> Result<(), Fail> {
+    let (room, per_write, _) = writer;
+    let (text, counted, inner) = told(rt.alloc(), linked, writer)?;
     assert_eq!(rt; text.as_str(), answer, "{room} {per_write}");
-    assert_eq!(rt; tally_of(&out), wanted, "{room} {per_write}");
-    let inner = out.into_inner();
-    assert_eq!(rt; inner.writes(), wanted.writes, "{room} {per_write}");
-    assert_eq!(rt; inner.failures(), wanted.errors, "{room} {per_write}");
-    assert_eq!(rt; inner.written(), file.as_slice().get(..room).unwrap_or(&[]));
+    assert_eq!(rt; counted, wanted, "{room} {per_write}");
+    let made = (inner.writes(), inner.failures());
+    assert_eq!(rt; made, (wanted.writes, wanted.errors), "{room} {per_write}");
+    let front = file.get(..room).unwrap_or(&[]);
+    assert_eq!(rt; inner.written(), front, "{room} {per_write}");
     Ok(())
 }
 
-#[test]
-fn a_write_for_each_block(rt: HostRuntime) -> Result<(), Fail> {
-    for per_write in [512, 513, usize::MAX] {
-        let wanted = Tallied {
-            writes: 3,
-            ..NOTHING
-        };
-        tells(&rt, (1536, per_write, Full::Fails), SUMMARY, wanted)?;
-    }
-    Ok(())
-}
+/// How much a write takes at most, how many writes there are of the three blocks, and how many of them are short.
+const WHOLE: [(usize, u64, u64); 6] = [
+    (512, 3, 0),
+    (513, 3, 0),
+    (usize::MAX, 3, 0),
+    (511, 6, 3),
+    (256, 6, 3),
+    (1, 1536, 1533),
+];
 
-#[test]
-fn short_writes(rt: HostRuntime) -> Result<(), Fail> {
-    for (per_write, writes, shorts) in [(511, 6, 3), (256, 6, 3), (1, 1536, 1533)] {
+/// Checks what is told of a writer with room for the whole file.
+fn tells_the_whole_file(
+    rt: &(impl Abort + AllocGlobal),
+    linked: &Linked<'_>,
+    file: &[u8],
+) -> Result<(), Fail> {
+    for (per_write, writes, shorts) in WHOLE {
         let wanted = Tallied {
             writes,
             shorts,
             ..NOTHING
         };
-        tells(&rt, (1536, per_write, Full::Fails), SUMMARY, wanted)?;
+        let writer = (1536, per_write, Full::Fails);
+        tells(rt, linked, file, writer, SUMMARY, wanted)?;
     }
     Ok(())
 }
@@ -101,33 +114,70 @@ const ROOMS: [(usize, u64, u64, u64); 9] = [
     (1535, 4, 1, 2),
 ];
 
-#[test]
-fn a_write_that_fails(rt: HostRuntime) -> Result<(), Fail> {
-    for (room, writes, shorts, _) in ROOMS {
-        let wanted = Tallied {
+/// Checks what is told of a writer that has too little room, and then fails or takes nothing.
+fn tells_what_has_no_room(
+    rt: &(impl Abort + AllocGlobal),
+    linked: &Linked<'_>,
+    file: &[u8],
+) -> Result<(), Fail> {
+    for (room, writes, shorts, stalled_shorts) in ROOMS {
+        let failed = Tallied {
             writes,
             errors: 1,
             stalls: 0,
             shorts,
         };
-        let answer = "device error Interrupted";
-        tells(&rt, (room, usize::MAX, Full::Fails), answer, wanted)?;
+        let writer = (room, usize::MAX, Full::Fails);
+        tells(rt, linked, file, writer, "device error Interrupted", failed)?;
+        let stalled = Tallied {
+            writes,
+            errors: 0,
+            stalls: 1,
+            shorts: stalled_shorts,
+        };
+        let writer = (room, usize::MAX, Full::Stalls);
+        tells(rt, linked, file, writer, "stalled", stalled)?;
     }
     Ok(())
 }
 
-#[test]
-fn a_write_that_takes_nothing(rt: HostRuntime) -> Result<(), Fail> {
-    for (room, writes, _, shorts) in ROOMS {
-        let wanted = Tallied {
-            writes,
-            errors: 0,
-            stalls: 1,
-            shorts,
-        };
-        tells(&rt, (room, usize::MAX, Full::Stalls), "stalled", wanted)?;
-    }
+/// Checks that a counting writer counts no plain write.
+fn counts_no_plain_write(
+    rt: &(impl Abort + AllocGlobal),
+    linked: &Linked<'_>,
+    file: &[u8],
+) -> Result<(), Fail> {
+    let mut out = Counting::new(Room::new(rt.alloc(), 1536, 100, Full::Stalls)?);
+    linked.write(&mut out)?;
+    assert_eq!(rt; tally_of(&out), NOTHING);
+    assert_eq!(rt; out.write(b"more")?, 0);
+    out.flush()?;
+    assert_eq!(rt; tally_of(&out), NOTHING);
+    let inner = out.into_inner();
+    assert_eq!(rt; inner.written(), file);
     Ok(())
+}
+
+/// Checks what is told of each writer.
+fn tells_each_writer(
+    rt: &(impl Abort + AllocGlobal),
+    linked: &Linked<'_>,
+    file: &[u8],
+) -> Result<(), Fail> {
+    tells_the_whole_file(rt, linked, file)?;
+    tells_what_has_no_room(rt, linked, file)?;
+    counts_no_plain_write(rt, linked, file)
+}
+
+#[test]
+fn the_base_pair(rt: HostRuntime) -> Result<(), Fail> {
+    let alloc = rt.alloc();
+    let host = base_host(alloc, LITTLE)?;
+    let library = base_library(alloc, LITTLE)?;
+    let file = linked_base_pair(alloc, LITTLE)?;
+    let libraries = [library.as_slice()];
+    let linked = prepare(alloc, host.as_slice(), &libraries)?;
+    tells_each_writer(&rt, &linked, file.as_slice())
 }
 
 /// Makes one told write, and checks its answer and what is counted of it.
@@ -159,46 +209,6 @@ fn one_told_write(rt: HostRuntime) -> Result<(), Fail> {
     tells_once(&rt, (0, 3, Full::Stalls), b"abc", Some(0), stalled)?;
     tells_once(&rt, (0, 3, Full::Fails), b"abc", None, failed)?;
     tells_once(&rt, (0, 3, Full::Fails), b"", Some(0), once)
-}
-
-#[test]
-fn plain_writes_are_not_counted(rt: HostRuntime) -> Result<(), Fail> {
-    let alloc = rt.alloc();
-    let host = base_host(alloc, LITTLE)?;
-    let library = base_library(alloc, LITTLE)?;
-    let file = linked_base_pair(alloc, LITTLE)?;
-    let libraries = [library.as_slice()];
-    let linked = prepare(alloc, host.as_slice(), &libraries)?;
-    let mut out = Counting::new(Room::new(alloc, 1536, 100, Full::Stalls)?);
-    linked.write(&mut out)?;
-    assert_eq!(rt; tally_of(&out), NOTHING);
-    assert_eq!(rt; out.write(b"more")?, 0);
-    out.flush()?;
-    assert_eq!(rt; tally_of(&out), NOTHING);
-    let inner = out.into_inner();
-    assert_eq!(rt; inner.written(), file.as_slice());
-    Ok(())
-}
-
-#[test]
-fn no_memory_is_taken(rt: HostRuntime) -> Result<(), Fail> {
-    let alloc = rt.alloc();
-    let host = base_host(alloc, LITTLE)?;
-    let library = base_library(alloc, LITTLE)?;
-    let file = linked_base_pair(alloc, LITTLE)?;
-    let libraries = [library.as_slice()];
-    let heap = Refusing::once(alloc, 0);
-    let linked = prepare(&heap, host.as_slice(), &libraries)?;
-    let growths = heap.growths();
-    let mut plain = Room::new(alloc, 1536, usize::MAX, Full::Stalls)?;
-    linked.write(&mut plain)?;
-    let mut told = Counting::new(Room::new(alloc, 1536, usize::MAX, Full::Stalls)?);
-    linked.write_told(&mut told)?;
-    assert_eq!(rt; heap.growths(), growths);
-    assert_eq!(rt; plain.written(), file.as_slice());
-    let inner = told.into_inner();
-    assert_eq!(rt; inner.written(), file.as_slice());
-    Ok(())
 }
 
 /// A writer that answers each write with an error.
@@ -242,11 +252,23 @@ const WAYS: [Broken; 6] = [
     Broken::Torn,
 ];
 
-fn device_error(answer: Result<Summary, LinkError>) -> Option<io::Error> {
+/// Checks that an answer is this error.
+fn is_error(
+    rt: &(impl Abort + AllocGlobal),
+    answer: Result<Summary, LinkError>,
+    given: &io::Error,
+) -> Result<(), Fail> {
+    let alloc = rt.alloc();
     match answer {
-        Err(LinkError::Write(WriteFault::Device(error))) => Some(error),
-        _ => None,
+        Err(LinkError::Write(WriteFault::Device(error))) => {
+            assert_eq!(rt; error.kind(), given.kind());
+            assert_eq!(rt; error.raw_os_error(), given.raw_os_error());
+            let given = format!(in alloc; "{given}")?;
+            assert_eq!(rt; format!(in alloc; "{error}")?.as_str(), given.as_str());
+        }
+        _ => assert!(rt; false, "no error of the write"),
     }
+    Ok(())
 }
 
 #[test]
@@ -256,13 +278,8 @@ fn the_error_of_the_write_comes_back(rt: HostRuntime) -> Result<(), Fail> {
     let library = base_library(alloc, LITTLE)?;
     let libraries = [library.as_slice()];
     for mut way in WAYS {
-        let given = way.error();
-        let given_text = format!(in alloc; "{given}")?;
         let answer = link(alloc, host.as_slice(), &libraries, &mut way);
-        let error = device_error(answer).expect(&rt, "the error of the write");
-        assert_eq!(rt; error.kind(), given.kind());
-        assert_eq!(rt; error.raw_os_error(), given.raw_os_error());
-        assert_eq!(rt; format!(in alloc; "{error}")?.as_str(), given_text.as_str());
+        is_error(&rt, answer, &way.error())?;
     }
     Ok(())
 }

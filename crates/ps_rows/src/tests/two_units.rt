@@ -1,5 +1,5 @@
 //! A host that wants two units.
-use super::tables::{Base, Row, link_rows};
+use super::tables::{AMPLE_OR_REFUSED, Base, Row, link_tables};
 use crate::base::UTIL;
 use crate::code_file::Change::{Address, Code, CodeWord, Entry, Records, Resized};
 use crate::code_file::{LINKED, Slot};
@@ -20,7 +20,7 @@ const UNIT_REFERENCE: [u8; 24] = [
 ];
 
 /// Links of two units.
-pub(crate) const TWO_UNITS: [Row<'static>; 4] = [
+const TWO_UNITS: [Row<'static>; 4] = [
     Row {
         what: "a private variable of each, of one name",
         host: &[],
@@ -60,5 +60,5 @@ pub(crate) const TWO_UNITS: [Row<'static>; 4] = [
 
 #[test]
 fn two_units(rt: HostRuntime) -> Result<(), Fail> {
-    link_rows(&rt, Base::TwoUnits, &TWO_UNITS)
+    link_tables(&rt, &[(Base::TwoUnits, AMPLE_OR_REFUSED, &TWO_UNITS)])
 }

@@ -1,134 +1,92 @@
 //! What a writer is given that takes little, stalls or fails.
 use super::answers::{LITTLE, text_of};
+use super::link_growths::Link;
 use super::writers::{Full, Room};
 use crate::base::{base_host, base_library, linked_base_pair};
 use crate::in_place::{linked_unit_in_place, unit_in_place};
-use ps_linkfile::{link, prepare};
 use std::process::Abort;
 use std::test::Fail;
 
-/// Links into a writer, and checks the answer and that it took the front of the linked file.
+/// Links into a writer with room for so many bytes, of which a write takes at most so many. Checks the answer, that the front of
+/// the linked file was taken for which there is room, and how many writes there were and how many of them failed.
 fn writes(
     rt: &(impl Abort + AllocGlobal),
-    host: &[u8],
-    libraries: &[&[u8]],
-    out: &mut Room,
+    link: &Link<'_>,
+    (room, per_write, full): (usize, usize, Full),
     answer: &str,
-    front: &[u8],
+    counts: (u64, u64),
 ) -> Result<(), Fail> {
     let alloc = rt.alloc();
-    let text = text_of(alloc, link(alloc, host, libraries, out))?;
-    assert_eq!(rt; text.as_str(), answer);
-    assert_eq!(rt; out.written(), front, "{answer}");
+    let mut out = Room::new(alloc, room, per_write, full)?;
+    let answered = ps_linkfile::link(alloc, link.host, link.libraries, &mut out);
+    let text = text_of(alloc, answered)?;
+    assert_eq!(rt; text.as_str(), answer, "{room} {per_write}");
+    let front = link.linked.get(..room).unwrap_or(&[]);
+    assert_eq!(rt; out.written(), front, "{room} {per_write}");
+    assert_eq!(rt;
+        (out.writes(), out.failures()),
+        counts,
+        "{room} {per_write}"
+    );
     Ok(())
 }
 
-/// Links into writers of few bytes a write, into one that stalls and into one that fails; the linked file has three blocks.
+/// How many bytes a write takes, and how many writes there are then of the three blocks.
+const WHOLE: [(usize, u64); 4] = [(1, 1536), (511, 6), (513, 3), (usize::MAX, 3)];
+
+/// Links into writers of few bytes a write, into one that stalls and into one that fails; a write that failed is not repeated.
 fn writes_little(
     rt: &(impl Abort + AllocGlobal),
-    host: &[u8],
-    libraries: &[&[u8]],
+    link: &Link<'_>,
     summary: &str,
-    linked: &[u8],
 ) -> Result<(), Fail> {
-    let alloc = rt.alloc();
-    for (per_write, count) in [(1, 1536), (511, 6), (513, 3), (usize::MAX, 3)] {
-        let mut out = Room::new(alloc, linked.len(), per_write, Full::Fails)?;
-        writes(rt, host, libraries, &mut out, summary, linked)?;
-        assert_eq!(rt; out.writes(), count, "{per_write} bytes a write");
-    }
-    let mut out = Room::new(alloc, 100, usize::MAX, Full::Stalls)?;
-    let front = linked.get(..100).unwrap_or(&[]);
-    writes(rt, host, libraries, &mut out, "stalled", front)?;
-    let mut out = Room::new(alloc, 512, usize::MAX, Full::Fails)?;
-    let front = linked.get(..512).unwrap_or(&[]);
-    writes(
-        rt,
-        host,
-        libraries,
-        &mut out,
-        "device error Interrupted",
-        front,
-    )?;
-    assert_eq!(rt; out.failures(), 1, "a write that failed is not repeated");
-    Ok(())
-}
-
-#[test]
-fn a_unit_in_place(rt: HostRuntime) -> Result<(), Fail> {
-    let alloc = rt.alloc();
-    let host = unit_in_place(alloc, LITTLE)?;
-    let linked = linked_unit_in_place(alloc, LITTLE)?;
-    let summary = "segments 2 private words 0 blocks 3";
-    writes_little(&rt, host.as_slice(), &[], summary, linked.as_slice())
-}
-
-#[test]
-fn the_base_pair(rt: HostRuntime) -> Result<(), Fail> {
-    let alloc = rt.alloc();
-    let host = base_host(alloc, LITTLE)?;
-    let library = base_library(alloc, LITTLE)?;
-    let linked = linked_base_pair(alloc, LITTLE)?;
-    let summary = "segments 2 private words 4 blocks 3";
-    let libraries = [library.as_slice()];
-    writes_little(&rt, host.as_slice(), &libraries, summary, linked.as_slice())
-}
-
-/// Prepares once and writes twice.
-fn writes_twice(
-    rt: &(impl Abort + AllocGlobal),
-    host: &[u8],
-    libraries: &[&[u8]],
-    summary: &str,
-    linked: &[u8],
-) -> Result<(), Fail> {
-    let alloc = rt.alloc();
-    let prepared = prepare(alloc, host, libraries)?;
-    for _ in 0..2 {
-        let mut out = Vec::new(alloc);
-        let written = prepared.write(&mut out)?;
-        let text = text_of(alloc, Ok(written))?;
-        assert_eq!(rt; text.as_str(), summary);
-        assert_eq!(rt; out.as_slice(), linked);
-    }
-    Ok(())
-}
-
-#[test]
-fn a_prepared_link_written_twice(rt: HostRuntime) -> Result<(), Fail> {
-    let alloc = rt.alloc();
-    let host = unit_in_place(alloc, LITTLE)?;
-    let linked = linked_unit_in_place(alloc, LITTLE)?;
-    let summary = "segments 2 private words 0 blocks 3";
-    writes_twice(&rt, host.as_slice(), &[], summary, linked.as_slice())?;
-    let host = base_host(alloc, LITTLE)?;
-    let library = base_library(alloc, LITTLE)?;
-    let linked = linked_base_pair(alloc, LITTLE)?;
-    let libraries = [library.as_slice()];
-    let summary = "segments 2 private words 4 blocks 3";
-    writes_twice(&rt, host.as_slice(), &libraries, summary, linked.as_slice())
-}
-
-#[test]
-fn a_writer_of_any_room(rt: HostRuntime) -> Result<(), Fail> {
-    let alloc = rt.alloc();
-    let host = base_host(alloc, LITTLE)?;
-    let library = base_library(alloc, LITTLE)?;
-    let linked = linked_base_pair(alloc, LITTLE)?;
-    let libraries = [library.as_slice()];
-    for room in 0..1536 {
-        let front = linked.as_slice().get(..room).unwrap_or(&[]);
-        let mut out = Room::new(alloc, room, usize::MAX, Full::Stalls)?;
-        writes(&rt, host.as_slice(), &libraries, &mut out, "stalled", front)?;
-        let mut out = Room::new(alloc, room, usize::MAX, Full::Fails)?;
+    for (per_write, count) in WHOLE {
         writes(
-            &rt,
-            host.as_slice(),
-            &libraries,
-            &mut out,
-            "device error Interrupted",
-            front,
+            rt,
+            link,
+            (1536, per_write, Full::Fails),
+            summary,
+            (count, 0),
         )?;
     }
+    writes(rt, link, (100, usize::MAX, Full::Stalls), "stalled", (2, 0))?;
+    let answer = "device error Interrupted";
+    writes(rt, link, (512, usize::MAX, Full::Fails), answer, (2, 1))
+}
+
+/// Links into a writer of each room that is too little, which stalls and which fails: there is a write for each block that it takes
+/// any of, and one for which it has no room.
+fn writes_to_any_room(rt: &(impl Abort + AllocGlobal), link: &Link<'_>) -> Result<(), Fail> {
+    for room in 0..1536 {
+        let count = (room as u64 + 511) / 512 + 1;
+        let writer = (room, usize::MAX, Full::Stalls);
+        writes(rt, link, writer, "stalled", (count, 0))?;
+        let writer = (room, usize::MAX, Full::Fails);
+        writes(rt, link, writer, "device error Interrupted", (count, 1))?;
+    }
     Ok(())
+}
+
+#[test]
+fn writers_that_take_little(rt: HostRuntime) -> Result<(), Fail> {
+    let alloc = rt.alloc();
+    let host = unit_in_place(alloc, LITTLE)?;
+    let linked = linked_unit_in_place(alloc, LITTLE)?;
+    let link = Link {
+        host: host.as_slice(),
+        libraries: &[],
+        linked: linked.as_slice(),
+    };
+    writes_little(&rt, &link, "segments 2 private words 0 blocks 3")?;
+    let host = base_host(alloc, LITTLE)?;
+    let library = base_library(alloc, LITTLE)?;
+    let linked = linked_base_pair(alloc, LITTLE)?;
+    let libraries = [library.as_slice()];
+    let link = Link {
+        host: host.as_slice(),
+        libraries: &libraries,
+        linked: linked.as_slice(),
+    };
+    writes_little(&rt, &link, "segments 2 private words 4 blocks 3")?;
+    writes_to_any_room(&rt, &link)
 }
