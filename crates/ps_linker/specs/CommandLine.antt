@@ -1,6 +1,7 @@
 -- The command line of `pslink`, as clap's contracts see it: the commands, and the arguments of each.
 -- Source: this project's profile.
-use Rattle.std.specs.Prelude.{◌≡◌, ℕ, List, Bor, Option, map, true, Some, codes}
+use Rattle.std.specs.Prelude.{◌≡◌, List, Option, map, true, Some, codes}
+use Rattle.std.specs.Borrow.{Bor}
 use Rattle.clap.specs.Words.{App, Row, Rule, Text, new_app, new_rule, subcommand_of, takes, with_rule, with_subcommand}
 use Rattle.clap.specs.declared.builder.ArgAction.TheVariants.{Set, Append}
 

@@ -15,7 +15,6 @@ static NO_END: &str = "pslink: refused 19 RecordsTruncated file 1 slot 7 record 
 
 #[test]
 fn links_and_leaves_out_where_it_refuses(rt: HostRuntime) -> Result<(), Fail> {
-    let alloc = rt.alloc();
     let _ = fs::remove_file(&rt, "link-new");
     HOST_IN_PLACE.save(&rt, "link-in-place")?;
     HOST_IN_PLACE.save(&rt, "link-same")?;
@@ -26,68 +25,66 @@ fn links_and_leaves_out_where_it_refuses(rt: HostRuntime) -> Result<(), Fail> {
     CUT_LIBRARY.save(&rt, "link-cut")?;
     fs::write(&rt, "link-short", "a host under 512 bytes")?;
     fs::write(&rt, "link-out", "as before")?;
-    // The host, OUT, the libraries; the status and the two texts; and what is then in OUT, where it is not as before.
+    let no_unit = ["pslink", "link", "link-host", "link-out"];
+    let short = ["pslink", "link", "link-short", "link-out"];
+    let no_end = ["pslink", "link", "link-ending-host", "link-out", "link-cut"];
+    let in_place = ["pslink", "link", "link-in-place", "link-new"];
+    let same = ["pslink", "link", "link-same", "link-same"];
+    let pair = ["pslink", "link", "link-host", "link-out", "link-library"];
+    let ending = [
+        "pslink",
+        "link",
+        "link-ending-host",
+        "link-ended",
+        "link-ending",
+    ];
+    // The args, OUT, the status and the two texts; and what is then in OUT, where it is not as before.
     let rows = [
-        ("link-host", "link-out", [].as_slice(), 1, "", MISSING, None),
-        ("link-short", "link-out", [].as_slice(), 1, "", SHORT, None),
+        (no_unit.as_slice(), "link-out", 1, "", MISSING, None),
+        (short.as_slice(), "link-out", 1, "", SHORT, None),
+        (no_end.as_slice(), "link-out", 1, "", NO_END, None),
         (
-            "link-ending-host",
-            "link-out",
-            ["link-cut"].as_slice(),
-            1,
-            "",
-            NO_END,
-            None,
-        ),
-        (
-            "link-in-place",
+            in_place.as_slice(),
             "link-new",
-            [].as_slice(),
             0,
             SUMMARY_IN_PLACE,
             "",
             Some(LINKED_HOST_IN_PLACE),
         ),
         (
+            same.as_slice(),
             "link-same",
-            "link-same",
-            [].as_slice(),
             0,
             SUMMARY_IN_PLACE,
             "",
             Some(LINKED_HOST_IN_PLACE),
         ),
         (
-            "link-host",
+            pair.as_slice(),
             "link-out",
-            ["link-library"].as_slice(),
             0,
             SUMMARY_OF_PAIR,
             "",
             Some(LINKED_PAIR),
         ),
         (
-            "link-ending-host",
+            ending.as_slice(),
             "link-ended",
-            ["link-ending"].as_slice(),
             0,
             SUMMARY_OF_PAIR,
             "",
             Some(LINKED_PAIR),
         ),
     ];
-    for (host, out, libraries, status, printed, complained, linked) in rows {
-        let mut args = Vec::from_slice(alloc, ["pslink", "link", host, out].as_slice())?;
-        args.extend_from_slice(libraries)?;
-        done(&rt, args.as_slice()).is(&rt, (host, out), status, printed, complained);
+    for (args, out, status, printed, complained, linked) in rows {
+        done(&rt, args).is(&rt, args, status, printed, complained);
         let made = fs::read(&rt, out)?;
         match linked {
-            Some(image) => assert_eq!(rt;
-                made.as_slice(),
-                image.bytes(alloc)?.as_slice(),
-                "{host} {out}"
-            ),
-            None => assert_eq!(rt; made.as_slice(), b"as before".as_slice(), "{host} {out}"),
+            Some(image) => {
+                let wanted = image.bytes(rt.alloc())?;
+                assert_eq!(rt; made.as_slice(), wanted.as_slice(), "{args:?}");
+            }
+            None => assert_eq!(rt; made.as_slice(), b"as before".as_slice(), "{args:?}"),
         }
     }
     let files = [
