@@ -187,21 +187,21 @@ numbered_of i (q ∷ ss) (suc j) s rec r e a u =
 
 numbered_ascend : (i : ℕ) (segs : List Segment) (p q m n : ℕ) (g h : UnitReference) → p < q → slice_get (numbered i segs) p ≡ Some (m, g) → slice_get (numbered i segs) q ≡ Some (n, h) → Before (m ∷ g.rec ∷ []) (n ∷ h.rec ∷ [])
 numbered_ascend i [] p q m n g h l e u = absurd (cc)
-numbered_ascend i (s ∷ ss) p q m n g h l e u = go (λ a b x y z. numbered_ascend (i + 1) ss a b m n g h x y z) (split_at front (numbered (i + 1) ss) p (m, g) e) (split_at front (numbered (i + 1) ss) q (n, h) u)
+numbered_ascend i (s ∷ ss) p q m n g h l e u = go (λ a b x y z. numbered_ascend (i + 1) ss a b m n g h x y z) (split_at prefix (numbered (i + 1) ss) p (m, g) e) (split_at prefix (numbered (i + 1) ss) q (n, h) u)
   where
-    front : List Numbered
-    front = map (tag i) (references_of s)
+    prefix : List Numbered
+    prefix = map (tag i) (references_of s)
 
     Behind : ℕ → ℕ → UnitReference → Type 0
-    Behind p m g = (d : ℕ) × (p ≡ length front + d) × (slice_get (numbered (i + 1) ss) d ≡ Some (m, g))
+    Behind p m g = (d : ℕ) × (p ≡ length prefix + d) × (slice_get (numbered (i + 1) ss) d ≡ Some (m, g))
 
-    here : (p m : ℕ) (g : UnitReference) → slice_get front p ≡ Some (m, g) → (i ≡ m) × (slice_get (references_of s) p ≡ Some g)
+    here : (p m : ℕ) (g : UnitReference) → slice_get prefix p ≡ Some (m, g) → (i ≡ m) × (slice_get (references_of s) p ≡ Some g)
     here p m g e =
         let t = mapped (tag i) (references_of s) p (m, g) e in
         (ap (λ (x : Numbered). x.0) t.2, t.1 ∙ ap (λ (x : UnitReference). Some x) (ap (λ (y : Numbered). y.1) t.2))
 
     go : ((a b : ℕ) → a < b → slice_get (numbered (i + 1) ss) a ≡ Some (m, g) → slice_get (numbered (i + 1) ss) b ≡ Some (n, h) → Before (m ∷ g.rec ∷ []) (n ∷ h.rec ∷ []))
-        → (slice_get front p ≡ Some (m, g)) ⊎ Behind p m g → (slice_get front q ≡ Some (n, h)) ⊎ Behind q n h → Before (m ∷ g.rec ∷ []) (n ∷ h.rec ∷ [])
+        → (slice_get prefix p ≡ Some (m, g)) ⊎ Behind p m g → (slice_get prefix q ≡ Some (n, h)) ⊎ Behind q n h → Before (m ∷ g.rec ∷ []) (n ∷ h.rec ∷ [])
     go later (inl a) (inl b) =
         let x = here p m g a in
         let y = here q n h b in
@@ -210,7 +210,7 @@ numbered_ascend i (s ∷ ss) p q m n g h l e u = go (λ a b x y z. numbered_asce
         let x = (here p m g a).0 in
         let y = (numbered_is (i + 1) ss t.0 n h t.2).1 in
         inl (omega (arith, x, y))
-    go later (inr t) (inl b) = let w = slice_get_within front q (n, h) b in let a = t.1 in absurd (omega (arith, a, w, l))
+    go later (inr t) (inl b) = let w = slice_get_within prefix q (n, h) b in let a = t.1 in absurd (omega (arith, a, w, l))
     go later (inr t) (inr v) = later t.0 v.0 (let a = t.1 in let b = v.1 in omega (arith, a, b, l)) t.2 v.2
 
 -- 2. the row: each name at the first of its references that are neither had nor behind another

@@ -25,7 +25,7 @@ use Rattle.ps_resolve.specs.Sources.{Segment, is_named, has_entry, chosen_librar
 use Rattle.ps_resolve.specs.declared.added.UnitReference.{UnitReference}
 use Rattle.ps_laws.proofs.Looking.{of_test, any_of_items, none_of_items, find_none}
 use Rattle.ps_laws.proofs.Items.{In, at_left, at_seam, in_left, in_right, some_before, in_flat, in_filter_map, of_filter_map, in_range, of_range, of_filter, filter_ascends, find_passes}
-use Rattle.ps_laws.proofs.Definitions.{take_front, longer}
+use Rattle.ps_laws.proofs.Definitions.{take_prefix, longer}
 use Rattle.ps_laws.proofs.Segments.{from_slot, found_in_slot}
 use Rattle.ps_laws.proofs.Rounds.{own_units, references_of, sought_rest, rest_of, of_segment, of_fault, of_name, next_slot, first_round}
 use Rattle.ps_words.specs.declared.order.Order.{Order}
@@ -156,17 +156,17 @@ row_of order host libs = sought order host libs (added order host libs)
 
 abbrev RoundsPlace : Order → List ℕ → List (List ℕ) → List ℕ → Type 0
 RoundsPlace order host libs left =
-    (front : List Segment) (used : List ℕ) (k : ℕ) (row : List UnitReference)
-    → added order host libs ≡ front ++ (rest_of order host libs left k row).added → k ≡ length front → empty_slots order host ≡ used ++ left → k ≡ length used → sought order host libs front ≡ row
+    (prefix : List Segment) (used : List ℕ) (k : ℕ) (row : List UnitReference)
+    → added order host libs ≡ prefix ++ (rest_of order host libs left k row).added → k ≡ length prefix → empty_slots order host ≡ used ++ left → k ≡ length used → sought order host libs prefix ≡ row
     → (rest_of order host libs left k row).fault ≡ None
     → ((j : ℕ) (g : UnitReference) → k ≤ j → slice_get (row_of order host libs) j ≡ Some g → IsPlaced order host libs j g)
     × ((j : ℕ) (s : Segment) → k ≤ j → slice_get (added order host libs) j ≡ Some s → (g : UnitReference) × (slice_get (row_of order host libs) j ≡ Some g))
 
 -- the rounds ended: no name is left, and no segment
-ended : (order : Order) (host : List ℕ) (libs : List (List ℕ)) (front : List Segment) (k : ℕ) (row : List UnitReference) → added order host libs ≡ front → k ≡ length front → sought order host libs front ≡ row → slice_get row k ≡ None
+ended : (order : Order) (host : List ℕ) (libs : List (List ℕ)) (prefix : List Segment) (k : ℕ) (row : List UnitReference) → added order host libs ≡ prefix → k ≡ length prefix → sought order host libs prefix ≡ row → slice_get row k ≡ None
     → ((j : ℕ) (g : UnitReference) → k ≤ j → slice_get (row_of order host libs) j ≡ Some g → IsPlaced order host libs j g)
     × ((j : ℕ) (s : Segment) → k ≤ j → slice_get (added order host libs) j ≡ Some s → (g : UnitReference) × (slice_get (row_of order host libs) j ≡ Some g))
-ended order host libs front k row is at row_is none = (names, segs)
+ended order host libs prefix k row is at row_is none = (names, segs)
   where
     same : row_of order host libs ≡ row
     same = ap (λ (ss : List Segment). sought order host libs ss) is ∙ row_is
@@ -175,17 +175,17 @@ ended order host libs front k row is at row_is none = (names, segs)
     names j g h e = absurd (some_before row k j g h (sym (ap (λ (r : List UnitReference). slice_get r j) same) ∙ e) none)
 
     segs : (j : ℕ) (s : Segment) → k ≤ j → slice_get (added order host libs) j ≡ Some s → (g : UnitReference) × (slice_get (row_of order host libs) j ≡ Some g)
-    segs j s h e = let m = slice_get_within front j s (sym (ap (λ (ss : List Segment). slice_get ss j) is) ∙ e) in absurd (omega (arith, m, h, at))
+    segs j s h e = let m = slice_get_within prefix j s (sym (ap (λ (ss : List Segment). slice_get ss j) is) ∙ e) in absurd (omega (arith, m, h, at))
 
 rounds_place : (order : Order) (host : List ℕ) (libs : List (List ℕ)) (left : List ℕ) → RoundsPlace order host libs left
-rounds_place order host libs [] front used k row is at slots_are used_at row_is fine = go (slice_get row k) refl fine
+rounds_place order host libs [] prefix used k row is at slots_are used_at row_is fine = go (slice_get row k) refl fine
   where
     go : (x : Option UnitReference) → slice_get row k ≡ x → option_map (unplaced_fault order libs) x ≡ None
         → ((j : ℕ) (g : UnitReference) → k ≤ j → slice_get (row_of order host libs) j ≡ Some g → IsPlaced order host libs j g)
         × ((j : ℕ) (s : Segment) → k ≤ j → slice_get (added order host libs) j ≡ Some s → (g : UnitReference) × (slice_get (row_of order host libs) j ≡ Some g))
-    go None e fine = ended order host libs front k row (is ∙ append-nil front) at row_is e
+    go None e fine = ended order host libs prefix k row (is ∙ append-nil prefix) at row_is e
     go (Some g) e fine = absurd (cc)
-rounds_place order host libs (slot ∷ left) front used k row is at slots_are used_at row_is fine = go (rounds_place order host libs left) (slice_get row k) refl is fine
+rounds_place order host libs (slot ∷ left) prefix used k row is at slots_are used_at row_is fine = go (rounds_place order host libs left) (slice_get row k) refl is fine
   where
     Have : Type 0
     Have = ((j : ℕ) (g : UnitReference) → k ≤ j → slice_get (row_of order host libs) j ≡ Some g → IsPlaced order host libs j g)
@@ -195,14 +195,14 @@ rounds_place order host libs (slot ∷ left) front used k row is at slots_are us
     slot_at = ap (λ (xs : List ℕ). slice_get xs k) slots_are ∙ next_slot used (slot ∷ left) k used_at
 
     -- the row's name at k stays there
-    stays : (g : UnitReference) (rest : List Segment) → slice_get row k ≡ Some g → added order host libs ≡ front ++ rest → slice_get (row_of order host libs) k ≡ Some g
+    stays : (g : UnitReference) (rest : List Segment) → slice_get row k ≡ Some g → added order host libs ≡ prefix ++ rest → slice_get (row_of order host libs) k ≡ Some g
     stays g rest e is =
         let grown = sought_grows (own_units order host libs) row (all_unit_references rest) in
         let whole : row_of order host libs ≡ row ++ grown.0 =
-        ap (λ (ss : List Segment). sought order host libs ss) is ∙ (sought_rest order host libs front rest ∙ (ap (λ (r : List UnitReference). sought_from (own_units order host libs) r (all_unit_references rest)) row_is ∙ grown.1)) in
+        ap (λ (ss : List Segment). sought order host libs ss) is ∙ (sought_rest order host libs prefix rest ∙ (ap (λ (r : List UnitReference). sought_from (own_units order host libs) r (all_unit_references rest)) row_is ∙ grown.1)) in
         ap (λ (r : List UnitReference). slice_get r k) whole ∙ at_left row grown.0 k g e
 
-    segment : RoundsPlace order host libs left → (g : UnitReference) → slice_get row k ≡ Some g → placed_fault order host libs g slot ≡ None → (o : Option Segment) → added_segment order host libs g slot ≡ o → added order host libs ≡ front ++ (of_segment order host libs left k row o).added → (of_segment order host libs left k row o).fault ≡ None → Have
+    segment : RoundsPlace order host libs left → (g : UnitReference) → slice_get row k ≡ Some g → placed_fault order host libs g slot ≡ None → (o : Option Segment) → added_segment order host libs g slot ≡ o → added order host libs ≡ prefix ++ (of_segment order host libs left k row o).added → (of_segment order host libs left k row o).fault ≡ None → Have
     segment later g e p None q is fine = absurd (brought order host libs g slot p q)
     segment later g e p (Some s) q is fine = (names, segs)
       where
@@ -215,24 +215,24 @@ rounds_place order host libs (slot ∷ left) front used k row is at slots_are us
         more : ((j : ℕ) (g : UnitReference) → k + 1 ≤ j → slice_get (row_of order host libs) j ≡ Some g → IsPlaced order host libs j g)
             × ((j : ℕ) (s : Segment) → k + 1 ≤ j → slice_get (added order host libs) j ≡ Some s → (g : UnitReference) × (slice_get (row_of order host libs) j ≡ Some g))
         more =
-            later (front ++ s ∷ []) (used ++ slot ∷ []) (k + 1) row'
-            (is ∙ sym (append_assoc front (s ∷ []) rest))
-            (let l = longer front s in omega (arith, l, at))
+            later (prefix ++ s ∷ []) (used ++ slot ∷ []) (k + 1) row'
+            (is ∙ sym (append_assoc prefix (s ∷ []) rest))
+            (let l = longer prefix s in omega (arith, l, at))
             (slots_are ∙ sym (append_assoc used (slot ∷ []) left))
             (let l = longer used slot in omega (arith, l, used_at))
-            (sought_rest order host libs front (s ∷ [])
-            ∙ (ap (λ (gs : List UnitReference). sought_from (own_units order host libs) (sought order host libs front) gs) (append-nil (references_of s))
+            (sought_rest order host libs prefix (s ∷ [])
+            ∙ (ap (λ (gs : List UnitReference). sought_from (own_units order host libs) (sought order host libs prefix) gs) (append-nil (references_of s))
             ∙ ap (λ (xs : List UnitReference). sought_from (own_units order host libs) xs (references_of s)) row_is))
             fine
 
         here : slice_get (added order host libs) k ≡ Some s
-        here = ap (λ (ss : List Segment). slice_get ss k) is ∙ at_seam front s rest k at
+        here = ap (λ (ss : List Segment). slice_get ss k) is ∙ at_seam prefix s rest k at
 
-        front_is : take k (added order host libs) ≡ front
-        front_is = ap (λ (ss : List Segment). take k ss) is ∙ (ap (λ (n : ℕ). take n (front ++ s ∷ rest)) at ∙ take_front front (s ∷ rest))
+        prefix_is : take k (added order host libs) ≡ prefix
+        prefix_is = ap (λ (ss : List Segment). take k ss) is ∙ (ap (λ (n : ℕ). take n (prefix ++ s ∷ rest)) at ∙ take_prefix prefix (s ∷ rest))
 
         sought_there : slice_get (sought order host libs (take k (added order host libs))) k ≡ Some g
-        sought_there = ap (λ (ss : List Segment). slice_get (sought order host libs ss) k) front_is ∙ (ap (λ (r : List UnitReference). slice_get r k) row_is ∙ e)
+        sought_there = ap (λ (ss : List Segment). slice_get (sought order host libs ss) k) prefix_is ∙ (ap (λ (r : List UnitReference). slice_get r k) row_is ∙ e)
 
         names : (j : ℕ) (h : UnitReference) → k ≤ j → slice_get (row_of order host libs) j ≡ Some h → IsPlaced order host libs j h
         names j h low u = elim (cases_lt k j) [
@@ -251,12 +251,12 @@ rounds_place order host libs (slot ∷ left) front used k row is at slots_are us
         ]
 
     fault : RoundsPlace order host libs left → (g : UnitReference) → slice_get row k ≡ Some g → (o : Option Fault) → placed_fault order host libs g slot ≡ o
-        → added order host libs ≡ front ++ (of_fault order host libs left k row (added_segment order host libs g slot) o).added → (of_fault order host libs left k row (added_segment order host libs g slot) o).fault ≡ None → Have
+        → added order host libs ≡ prefix ++ (of_fault order host libs left k row (added_segment order host libs g slot) o).added → (of_fault order host libs left k row (added_segment order host libs g slot) o).fault ≡ None → Have
     fault later g e (Some f) p is fine = absurd (cc)
     fault later g e None p is fine = segment later g e p (added_segment order host libs g slot) refl is fine
 
-    go : RoundsPlace order host libs left → (x : Option UnitReference) → slice_get row k ≡ x → added order host libs ≡ front ++ (of_name order host libs slot left k row x).added → (of_name order host libs slot left k row x).fault ≡ None → Have
-    go later None e is fine = ended order host libs front k row (is ∙ append-nil front) at row_is e
+    go : RoundsPlace order host libs left → (x : Option UnitReference) → slice_get row k ≡ x → added order host libs ≡ prefix ++ (of_name order host libs slot left k row x).added → (of_name order host libs slot left k row x).fault ≡ None → Have
+    go later None e is fine = ended order host libs prefix k row (is ∙ append-nil prefix) at row_is e
     go later (Some g) e is fine = fault later g e (placed_fault order host libs g slot) refl is fine
 
 -- from the first round on

@@ -18,7 +18,7 @@ use Rattle.ps_words.specs.FaultPlaces.{in_record}
 use Rattle.ps_words.specs.declared.order.Order.{Order}
 use Rattle.ps_words.specs.declared.fault.Reason.TheVariants as reason
 use Rattle.ps_words.specs.declared.fault.Fault.{Fault}
-pub use Rattle.ps_resolve.proofs.LookingBack.{is_again, again, take_front, longer}
+pub use Rattle.ps_resolve.proofs.LookingBack.{is_again, again, take_prefix, longer}
 
 pub step_7 : (order : Order) (host : List ℕ) (libs : List (List ℕ)) → Least (Precedes OfDefinitions) (InDefinitions order host libs) (definitions_fault (segments order host libs))
 unfolding definitions_fault

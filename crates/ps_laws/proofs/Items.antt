@@ -116,7 +116,7 @@ in_filter {A} test (y ∷ xs) x t h = go (λ i e. in_filter test xs x (i, e) h) 
     go later true is (suc i) e = let r = later i e in (suc r.0, r.1)
     go later false is (suc i) e = later i e
 
--- an item of a front
+-- an item of a prefix
 pub of_take : {A : Type 0} (n : ℕ) (xs : List A) (i : ℕ) (x : A) → slice_get (take n xs) i ≡ Some x → (i < n) × (slice_get xs i ≡ Some x)
 of_take zero xs i x e = absurd (cc)
 of_take (suc n) [] i x e = absurd (cc)

@@ -19,17 +19,17 @@ abbrev pub AreBelow : ℕ → List Segment → Type 0
 AreBelow slot [] = Unit {0}
 AreBelow slot (s ∷ ss) = (s.slot < slot) × AreBelow slot ss
 
-pub below_more : (slot : ℕ) (front : List Segment) (s : Segment) → AreBelow s.slot front → s.slot < slot → AreBelow slot (front ++ s ∷ [])
+pub below_more : (slot : ℕ) (prefix : List Segment) (s : Segment) → AreBelow s.slot prefix → s.slot < slot → AreBelow slot (prefix ++ s ∷ [])
 below_more slot [] s b h = (h, tt)
-below_more slot (q ∷ front) s b h = ((let x = b.0 in omega (arith, x, h)), below_more slot front s b.1 h)
+below_more slot (q ∷ prefix) s b h = ((let x = b.0 in omega (arith, x, h)), below_more slot prefix s b.1 h)
 
-pub below_from : (from slot : ℕ) (front : List Segment) → from ≤ slot → AreBelow from front → AreBelow slot front
+pub below_from : (from slot : ℕ) (prefix : List Segment) → from ≤ slot → AreBelow from prefix → AreBelow slot prefix
 below_from from slot [] h b = tt
-below_from from slot (q ∷ front) h b = ((let x = b.0 in omega (arith, x, h)), below_from from slot front h b.1)
+below_from from slot (q ∷ prefix) h b = ((let x = b.0 in omega (arith, x, h)), below_from from slot prefix h b.1)
 
-pub words_split : (front rest : List Segment) → all_words (map owner_of (front ++ rest)) ≡ all_words (map owner_of front) + all_words (map owner_of rest)
+pub words_split : (prefix rest : List Segment) → all_words (map owner_of (prefix ++ rest)) ≡ all_words (map owner_of prefix) + all_words (map owner_of rest)
 words_split [] rest = omega arith
-words_split (s ∷ front) rest = let e = words_split front rest in omega (arith, e)
+words_split (s ∷ prefix) rest = let e = words_split prefix rest in omega (arith, e)
 
 -- the words of records, one by one
 abbrev words : List Record → ℕ
@@ -101,24 +101,24 @@ none_behind slot rec from (s ∷ ss) h a =
     let n : words [] ≡ 0 = refl in
     omega (arith, x, y, z, n)
 
-offset_is : (front : List Segment) (s : Segment) (rest : List Segment) (rec : ℕ) → AreBelow s.slot front → Ascends (s.slot + 1) rest
-    → private_offset (front ++ s ∷ rest) s.slot rec ≡ next_of (host_records (front ++ s ∷ rest)) + all_words (map owner_of front) + private_words (take rec s.records)
-offset_is front s rest rec below ascends =
-    let e = ap words (flat_map-append (records_before s.slot rec) front (s ∷ rest)) in
-    let f = sum_by-append (λ (r : Record). words_taken r.body) (flat_map (records_before s.slot rec) front) (flat_map (records_before s.slot rec) (s ∷ rest)) in
+offset_is : (prefix : List Segment) (s : Segment) (rest : List Segment) (rec : ℕ) → AreBelow s.slot prefix → Ascends (s.slot + 1) rest
+    → private_offset (prefix ++ s ∷ rest) s.slot rec ≡ next_of (host_records (prefix ++ s ∷ rest)) + all_words (map owner_of prefix) + private_words (take rec s.records)
+offset_is prefix s rest rec below ascends =
+    let e = ap words (flat_map-append (records_before s.slot rec) prefix (s ∷ rest)) in
+    let f = sum_by-append (λ (r : Record). words_taken r.body) (flat_map (records_before s.slot rec) prefix) (flat_map (records_before s.slot rec) (s ∷ rest)) in
     let g = next_segment s.slot rec s rest in
-    let a = all_before s.slot rec front below in
+    let a = all_before s.slot rec prefix below in
     let b = ap words (of_same rec s) in
     let c = words_are (take rec s.records) in
     let d = none_behind s.slot rec (s.slot + 1) rest (omega arith) ascends in
     omega (arith, e, f, g, a, b, c, d)
 
 -- the offsets of a segment among all
-pub offset_in : (all front : List Segment) (s : Segment) (rest : List Segment) (from : ℕ) → all ≡ front ++ s ∷ rest → AreBelow from front → Ascends from (s ∷ rest)
-    → (rec : ℕ) → private_offset all s.slot rec ≡ next_of (host_records all) + all_words (map owner_of front) + private_words (take rec s.records)
-offset_in all front s rest from is below ascends rec =
-    subst (λ (segs : List Segment). private_offset segs s.slot rec ≡ next_of (host_records segs) + all_words (map owner_of front) + private_words (take rec s.records)) (sym is)
-    (offset_is front s rest rec (below_from from s.slot front ascends.0 below) ascends.1)
+pub offset_in : (all prefix : List Segment) (s : Segment) (rest : List Segment) (from : ℕ) → all ≡ prefix ++ s ∷ rest → AreBelow from prefix → Ascends from (s ∷ rest)
+    → (rec : ℕ) → private_offset all s.slot rec ≡ next_of (host_records all) + all_words (map owner_of prefix) + private_words (take rec s.records)
+offset_in all prefix s rest from is below ascends rec =
+    subst (λ (segs : List Segment). private_offset segs s.slot rec ≡ next_of (host_records segs) + all_words (map owner_of prefix) + private_words (take rec s.records)) (sym is)
+    (offset_is prefix s rest rec (below_from from s.slot prefix ascends.0 below) ascends.1)
 
 -- the words of all privates, segment by segment and record by record
 pub all_are : (ss : List Segment) → all_private_words ss ≡ total_words ss

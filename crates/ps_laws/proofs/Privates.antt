@@ -1,23 +1,20 @@
 -- The first fault of the privates is the least that stands.
-use Rattle.std.proofs.Common.{◌≡◌, ℕ, zero, suc, ◌+◌, ◌<◌, ◌≤◌, List, [], ◌∷◌, ◌++◌, take, map, Option, Some, None, true, false, refl, sym, ap, subst, ◌∙◌, inl, inr, arith, append_assoc}
-use Rattle.std.specs.Prelude.{◌⊎◌, ◌&&◌, ◌||◌, ◌==◌, nat_lt, sum_by}
-use Rattle.std.specs.List.{enumerate_from, filter}
+use Rattle.std.proofs.Common.{◌≡◌, ℕ, ◌+◌, List, [], ◌∷◌, ◌++◌, map, Option, refl, sym, ap, subst, ◌∙◌, inl, inr, arith, append_assoc}
+use Rattle.std.specs.Prelude.{◌⊎◌, ◌&&◌, nat_lt}
+use Rattle.std.specs.List.{enumerate_from}
 use Rattle.std.specs.Option.{option_map, option_or}
-use Rattle.std.proofs.lemmas.Bool.Decides.{Decides-and, Decides-ltb, nat_tests}
-use Rattle.std.proofs.lemmas.List.Elements.{filter-append}
-use Rattle.std.proofs.lemmas.List.Sums.{sum_by-append, sum_by-cons}
+use Rattle.std.proofs.lemmas.Bool.Decides.{Decides-and, Decides-ltb}
 use Rattle.ps_linkinfo.specs.declared.record.LinkRecord.{LinkRecord as Record}
 use Rattle.ps_resolve.specs.First.{Least}
 use Rattle.ps_resolve.specs.Searches.{first_of}
 use Rattle.ps_resolve.specs.Sources.{Segment, host_records}
 use Rattle.ps_resolve.specs.Added.{segments}
 use Rattle.ps_linkinfo.specs.Counts.{next_of, is_private_reference}
-use Rattle.ps_resolve.specs.Privates.{words_in, allotted, private_words, private_fault, owner_of, all_allotted, all_words, first_private_fault}
+use Rattle.ps_resolve.specs.Privates.{private_words, private_fault, owner_of, all_words, first_private_fault}
 use Rattle.ps_resolve.specs.Standing.Keys.{OfPrivates, Precedes}
 use Rattle.ps_resolve.specs.Standing.Privates.{private_offset, PrivateHas, InPrivates}
 use Rattle.ps_resolve.specs.References.{words_taken}
 use Rattle.ps_resolve.specs.Faults.{privates_fault}
-use Rattle.ps_resolve.specs.declared.allotment.Private.{Private}
 use Rattle.ps_laws.proofs.Least.{least_same, least_or, least_if, least_items, at_apart}
 use Rattle.ps_laws.proofs.Steps.{Ranked, because, because_apart}
 use Rattle.ps_laws.proofs.Looking.{of_test}
@@ -35,19 +32,19 @@ use Rattle.ps_words.specs.declared.fault.Fault.{Fault}
 abbrev segment_fault : List Segment → Segment → Option Fault
 segment_fault segs s = first_of (record_fault (λ why rec. in_record s.file s.slot rec why) (λ n. private_offset segs s.slot n) s.records) (enumerate_from 0 s.records)
 
-carried_all : (all front rest : List Segment) (from : ℕ) → all ≡ front ++ rest → AreBelow from front → Ascends from rest
-    → first_private_fault (next_of (host_records all) + all_words (map owner_of front)) (map owner_of rest) ≡ first_of (segment_fault all) rest
-carried_all all front [] from is below ascends = refl
-carried_all all front (s ∷ rest) from is below ascends =
-    let start = next_of (host_records all) + all_words (map owner_of front) in
+carried_all : (all prefix rest : List Segment) (from : ℕ) → all ≡ prefix ++ rest → AreBelow from prefix → Ascends from rest
+    → first_private_fault (next_of (host_records all) + all_words (map owner_of prefix)) (map owner_of rest) ≡ first_of (segment_fault all) rest
+carried_all all prefix [] from is below ascends = refl
+carried_all all prefix (s ∷ rest) from is below ascends =
+    let start = next_of (host_records all) + all_words (map owner_of prefix) in
     let h : Reason → ℕ → Fault = λ why rec. in_record s.file s.slot rec why in
     let mine : option_map (λ (f : ℕ × Reason). h f.1 f.0) (private_fault 0 start [] s.records) ≡ segment_fault all s =
     ap (λ (n : ℕ). option_map (λ (f : ℕ × Reason). h f.1 f.0) (private_fault 0 n [] s.records)) (omega arith)
-    ∙ privates_carried h (λ n. private_offset all s.slot n) start [] s.records 0 refl (offset_in all front s rest from is below ascends) in
-    let count = words_split front (s ∷ []) in
+    ∙ privates_carried h (λ n. private_offset all s.slot n) start [] s.records 0 refl (offset_in all prefix s rest from is below ascends) in
+    let count = words_split prefix (s ∷ []) in
     let later : first_private_fault (start + private_words s.records) (map owner_of rest) ≡ first_of (segment_fault all) rest =
     ap (λ (n : ℕ). first_private_fault n (map owner_of rest)) (omega (arith, count))
-    ∙ carried_all all (front ++ s ∷ []) rest (s.slot + 1) (is ∙ sym (append_assoc front (s ∷ []) rest)) (below_more (s.slot + 1) front s (below_from from s.slot front ascends.0 below) (omega arith)) ascends.1 in
+    ∙ carried_all all (prefix ++ s ∷ []) rest (s.slot + 1) (is ∙ sym (append_assoc prefix (s ∷ []) rest)) (below_more (s.slot + 1) prefix s (below_from from s.slot prefix ascends.0 below) (omega arith)) ascends.1 in
     ap (λ (o : Option Fault). option_or o (first_private_fault (start + private_words s.records) (map owner_of rest))) mine ∙ ap (option_or (segment_fault all s)) later
 
 private_rows : (segs : List Segment) (s : Segment) (rec : ℕ) (r : Record) → Least Ranked (PrivateHas segs s rec r) (reason_at (λ n. private_offset segs s.slot n) s.records (rec, r))

@@ -43,7 +43,7 @@ use Rattle.ps_laws.proofs.Asked.{HasUnit, units_named, asked_is_there}
 use Rattle.ps_laws.proofs.Steps.{Ranked, because, because_apart, any_of_range}
 use Rattle.ps_laws.proofs.Looking.{of_test, any_of_take, any_of_items}
 use Rattle.ps_laws.proofs.Segments.{over_segments, Ascends, ascend}
-use Rattle.ps_laws.proofs.Definitions.{take_front, longer}
+use Rattle.ps_laws.proofs.Definitions.{take_prefix, longer}
 use Rattle.ps_laws.proofs.PrivateOffsets.{AreBelow, below_from, below_more, offset_in, words_split}
 use Rattle.ps_laws.proofs.Privates.{more_words}
 use Rattle.ps_words.specs.FaultPlaces.{in_record, in_reference}
@@ -336,7 +336,7 @@ refs_carried order segs s rec r t w v done (x ∷ xs) i is at =
     taken = before s.records rec ++ map operand done
 
     done_is : take i (refs_of r.body) ≡ done
-    done_is = ap (λ (ys : List ℕ). take i ys) is ∙ (ap (λ (n : ℕ). take n (done ++ x ∷ xs)) at ∙ take_front done (x ∷ xs))
+    done_is = ap (λ (ys : List ℕ). take i ys) is ∙ (ap (λ (n : ℕ). take n (done ++ x ∷ xs)) at ∙ take_prefix done (x ∷ xs))
 
     same : reference_reason R s.code taken t x ≡ reason_at order segs s rec r (i, x)
     same =
@@ -393,11 +393,11 @@ operands_are segs s rec r t (inl none) = ap (λ (xs : List ℕ). operands t xs) 
 operands_are segs s rec r t (inr fit) = ap (λ (n : ℕ). map (λ (y : ℕ). (y, n)) (refs_of r.body)) fit.0
 
 carried : (order : Order) (segs : List Segment) (s : Segment) (base : ℕ) → ((n : ℕ) → private_offset segs s.slot n ≡ base + private_words (take n s.records))
-    → (front rs : List Record) (rec : ℕ) → s.records ≡ front ++ rs → rec ≡ length front
-    → option_map (in_segment s.file s.slot) (records_fault (known_of segs) (is_reserved order s.code) s.code rec (private_offset segs s.slot rec) (flat_map operands_of front) rs) ≡ first_of (record_fault order segs s) (enumerate_from rec rs)
-carried order segs s base offsets front [] rec is at = refl
-carried order segs s base offsets front (r ∷ rs) rec is at =
-    go (target_of known free r) refl (carried order segs s base offsets (front ++ r ∷ []) rs (rec + 1) (is ∙ sym (append_assoc front (r ∷ []) rs)) (let l = longer front r in omega (arith, l, at)))
+    → (prefix rs : List Record) (rec : ℕ) → s.records ≡ prefix ++ rs → rec ≡ length prefix
+    → option_map (in_segment s.file s.slot) (records_fault (known_of segs) (is_reserved order s.code) s.code rec (private_offset segs s.slot rec) (flat_map operands_of prefix) rs) ≡ first_of (record_fault order segs s) (enumerate_from rec rs)
+carried order segs s base offsets prefix [] rec is at = refl
+carried order segs s base offsets prefix (r ∷ rs) rec is at =
+    go (target_of known free r) refl (carried order segs s base offsets (prefix ++ r ∷ []) rs (rec + 1) (is ∙ sym (append_assoc prefix (r ∷ []) rs)) (let l = longer prefix r in omega (arith, l, at)))
   where
     known : Known
     known = known_of segs
@@ -409,27 +409,27 @@ carried order segs s base offsets front (r ∷ rs) rec is at =
     R = is_reserved order s.code
 
     taken : List (ℕ × ℕ)
-    taken = flat_map operands_of front
+    taken = flat_map operands_of prefix
 
-    front_is : take rec s.records ≡ front
-    front_is = ap (λ (records : List Record). take rec records) is ∙ (ap (λ (n : ℕ). take n (front ++ r ∷ rs)) at ∙ take_front front (r ∷ rs))
+    prefix_is : take rec s.records ≡ prefix
+    prefix_is = ap (λ (records : List Record). take rec records) is ∙ (ap (λ (n : ℕ). take n (prefix ++ r ∷ rs)) at ∙ take_prefix prefix (r ∷ rs))
 
-    more_is : take (rec + 1) s.records ≡ front ++ r ∷ []
+    more_is : take (rec + 1) s.records ≡ prefix ++ r ∷ []
     more_is =
-        ap (λ (records : List Record). take (rec + 1) records) (is ∙ sym (append_assoc front (r ∷ []) rs))
-        ∙ (ap (λ (n : ℕ). take n ((front ++ r ∷ []) ++ rs)) (let l = longer front r in omega (arith, l, at)) ∙ take_front (front ++ r ∷ []) rs)
+        ap (λ (records : List Record). take (rec + 1) records) (is ∙ sym (append_assoc prefix (r ∷ []) rs))
+        ∙ (ap (λ (n : ℕ). take n ((prefix ++ r ∷ []) ++ rs)) (let l = longer prefix r in omega (arith, l, at)) ∙ take_prefix (prefix ++ r ∷ []) rs)
 
     next_free : private_offset segs s.slot (rec + 1) ≡ free + words_taken r.body
     next_free =
         let a = offsets (rec + 1) in
         let b = offsets rec in
         let c = ap private_words more_is in
-        let d = ap private_words front_is in
-        let m = more_words front r in
+        let d = ap private_words prefix_is in
+        let m = more_words prefix r in
         omega (arith, a, b, c, d, m)
 
     Later : Type 0
-    Later = option_map (in_segment s.file s.slot) (records_fault known R s.code (rec + 1) (private_offset segs s.slot (rec + 1)) (flat_map operands_of (front ++ r ∷ [])) rs) ≡ first_of (record_fault order segs s) (enumerate_from (rec + 1) rs)
+    Later = option_map (in_segment s.file s.slot) (records_fault known R s.code (rec + 1) (private_offset segs s.slot (rec + 1)) (flat_map operands_of (prefix ++ r ∷ [])) rs) ≡ first_of (record_fault order segs s) (enumerate_from (rec + 1) rs)
 
     go : (o : Result Target Reason) → target_of known free r ≡ o → Later
         → option_map (in_segment s.file s.slot) (records_fault known R s.code rec free taken (r ∷ rs)) ≡ option_or (record_fault order segs s (rec, r)) (first_of (record_fault order segs s) (enumerate_from (rec + 1) rs))
@@ -438,11 +438,11 @@ carried order segs s base offsets front (r ∷ rs) rec is at =
         let fit = fits segs s rec r.name r.body t e in
         let refs = option_map (λ (f : ℕ × Reason). (rec, (Some f.0, f.1))) (refs_fault R s.code t 0 taken (refs_of r.body)) in
         let rest = records_fault known R s.code (rec + 1) (free + words_taken r.body) (taken ++ operands t (refs_of r.body)) rs in
-        let taken_is : flat_map operands_of (front ++ r ∷ []) ≡ taken ++ operands t (refs_of r.body) =
-        flat_map-append operands_of front (r ∷ []) ∙ ap (λ (os : List (ℕ × ℕ)). taken ++ os) (append-nil (operands_of r) ∙ sym (operands_are segs s rec r t fit)) in
+        let taken_is : flat_map operands_of (prefix ++ r ∷ []) ≡ taken ++ operands t (refs_of r.body) =
+        flat_map-append operands_of prefix (r ∷ []) ∙ ap (λ (os : List (ℕ × ℕ)). taken ++ os) (append-nil (operands_of r) ∙ sym (operands_are segs s rec r t fit)) in
         let mine : option_map (in_segment s.file s.slot) refs ≡ first_of (references_of order segs s rec r) (enumerate_from 0 (refs_of r.body)) =
         map_map (in_segment s.file s.slot) (λ (f : ℕ × Reason). (rec, (Some f.0, f.1))) (refs_fault R s.code t 0 taken (refs_of r.body))
-        ∙ refs_of_record order segs s rec r t taken (ap (λ (records : List Record). flat_map operands_of records) (sym front_is)) fit in
+        ∙ refs_of_record order segs s rec r t taken (ap (λ (records : List Record). flat_map operands_of records) (sym prefix_is)) fit in
         let behind : option_map (in_segment s.file s.slot) rest ≡ first_of (record_fault order segs s) (enumerate_from (rec + 1) rs) =
         ap (λ (n : ℕ). option_map (in_segment s.file s.slot) (records_fault known R s.code (rec + 1) n (taken ++ operands t (refs_of r.body)) rs)) (sym next_free)
         ∙ (ap (λ (os : List (ℕ × ℕ)). option_map (in_segment s.file s.slot) (records_fault known R s.code (rec + 1) (private_offset segs s.slot (rec + 1)) os rs)) (sym taken_is) ∙ later) in
@@ -453,19 +453,19 @@ carried order segs s base offsets front (r ∷ rs) rec is at =
 abbrev all_records : Order → List Segment → Segment → Option Fault
 all_records order segs s = first_of (record_fault order segs s) (enumerate_from 0 s.records)
 
-carried_all : (order : Order) (all front rest : List Segment) (from : ℕ) → all ≡ front ++ rest → AreBelow from front → Ascends from rest
-    → references_fault_from order (known_of all) (next_of (host_records all) + all_words (map owner_of front)) rest ≡ first_of (all_records order all) rest
-carried_all order all front [] from is below ascends = refl
-carried_all order all front (s ∷ rest) from is below ascends =
-    let start = next_of (host_records all) + all_words (map owner_of front) in
-    let offsets = offset_in all front s rest from is below ascends in
+carried_all : (order : Order) (all prefix rest : List Segment) (from : ℕ) → all ≡ prefix ++ rest → AreBelow from prefix → Ascends from rest
+    → references_fault_from order (known_of all) (next_of (host_records all) + all_words (map owner_of prefix)) rest ≡ first_of (all_records order all) rest
+carried_all order all prefix [] from is below ascends = refl
+carried_all order all prefix (s ∷ rest) from is below ascends =
+    let start = next_of (host_records all) + all_words (map owner_of prefix) in
+    let offsets = offset_in all prefix s rest from is below ascends in
     let first : start ≡ private_offset all s.slot 0 = (let e = offsets 0 in omega (arith, e)) in
     let mine : segment_fault order (known_of all) start s ≡ all_records order all s =
     ap (λ (n : ℕ). segment_fault order (known_of all) n s) first ∙ carried order all s start offsets [] s.records 0 refl refl in
-    let count = words_split front (s ∷ []) in
+    let count = words_split prefix (s ∷ []) in
     let later : references_fault_from order (known_of all) (start + private_words s.records) rest ≡ first_of (all_records order all) rest =
     ap (λ (n : ℕ). references_fault_from order (known_of all) n rest) (omega (arith, count))
-    ∙ carried_all order all (front ++ s ∷ []) rest (s.slot + 1) (is ∙ sym (append_assoc front (s ∷ []) rest)) (below_more (s.slot + 1) front s (below_from from s.slot front ascends.0 below) (omega arith)) ascends.1 in
+    ∙ carried_all order all (prefix ++ s ∷ []) rest (s.slot + 1) (is ∙ sym (append_assoc prefix (s ∷ []) rest)) (below_more (s.slot + 1) prefix s (below_from from s.slot prefix ascends.0 below) (omega arith)) ascends.1 in
     ap (λ (o : Option Fault). option_or o (references_fault_from order (known_of all) (start + private_words s.records) rest)) mine ∙ ap (option_or (all_records order all s)) later
 
 -- where the rounds have no fault, so that each unit that is asked for has its segment

@@ -22,7 +22,7 @@ use Rattle.ps_resolve.specs.Sources.{Segment, own_segments, units_of, unit_sourc
 use Rattle.ps_resolve.specs.declared.added.UnitReference.{UnitReference}
 use Rattle.ps_laws.proofs.Least.{least_same, least_order, least_or, least_map, least_then}
 use Rattle.ps_laws.proofs.Looking.{of_test}
-use Rattle.ps_laws.proofs.Definitions.{take_front, longer}
+use Rattle.ps_laws.proofs.Definitions.{take_prefix, longer}
 use Rattle.ps_laws.proofs.Sources.{Late, early_late, late, OneStop, none_has, entry_least, entry_early, code_late, code_least}
 use Rattle.ps_laws.proofs.Parts.{record_somes, RoundHas}
 use Rattle.ps_words.specs.FaultPlaces.{in_slot, in_record}
@@ -160,16 +160,16 @@ own_units order host libs = units_of (own_segments order host libs)
 abbrev pub references_of : Segment → List UnitReference
 references_of s = unit_references s.file s.slot 0 s.records
 
-pub sought_rest : (order : Order) (host : List ℕ) (libs : List (List ℕ)) (front rest : List Segment) → sought order host libs (front ++ rest) ≡ sought_from (own_units order host libs) (sought order host libs front) (all_unit_references rest)
+pub sought_rest : (order : Order) (host : List ℕ) (libs : List (List ℕ)) (prefix rest : List Segment) → sought order host libs (prefix ++ rest) ≡ sought_from (own_units order host libs) (sought order host libs prefix) (all_unit_references rest)
 unfolding sought
-sought_rest order host libs front rest =
-    ap (λ (segs : List Segment). sought_from (own_units order host libs) [] (all_unit_references segs)) (sym (append_assoc (own_segments order host libs) front rest))
-    ∙ (ap (λ (gs : List UnitReference). sought_from (own_units order host libs) [] gs) (flat_map-append references_of (own_segments order host libs ++ front) rest)
-    ∙ sought_append (own_units order host libs) [] (all_unit_references (own_segments order host libs ++ front)) (all_unit_references rest))
+sought_rest order host libs prefix rest =
+    ap (λ (segs : List Segment). sought_from (own_units order host libs) [] (all_unit_references segs)) (sym (append_assoc (own_segments order host libs) prefix rest))
+    ∙ (ap (λ (gs : List UnitReference). sought_from (own_units order host libs) [] gs) (flat_map-append references_of (own_segments order host libs ++ prefix) rest)
+    ∙ sought_append (own_units order host libs) [] (all_unit_references (own_segments order host libs ++ prefix)) (all_unit_references rest))
 
-sought_more : (order : Order) (host : List ℕ) (libs : List (List ℕ)) (front : List Segment) (s : Segment) → sought order host libs (front ++ s ∷ []) ≡ sought_from (own_units order host libs) (sought order host libs front) (references_of s)
-sought_more order host libs front s =
-    sought_rest order host libs front (s ∷ []) ∙ ap (λ (gs : List UnitReference). sought_from (own_units order host libs) (sought order host libs front) gs) (append-nil (references_of s))
+sought_more : (order : Order) (host : List ℕ) (libs : List (List ℕ)) (prefix : List Segment) (s : Segment) → sought order host libs (prefix ++ s ∷ []) ≡ sought_from (own_units order host libs) (sought order host libs prefix) (references_of s)
+sought_more order host libs prefix s =
+    sought_rest order host libs prefix (s ∷ []) ∙ ap (λ (gs : List UnitReference). sought_from (own_units order host libs) (sought order host libs prefix) gs) (append-nil (references_of s))
 
 -- 3. all rounds
 abbrev pub Place : Type 0
@@ -190,19 +190,19 @@ abbrev pub rest_of : Order → List ℕ → List (List ℕ) → List ℕ → ℕ
 rest_of order host libs left k row = rounds_from order host libs (own_units order host libs) left k row
 
 -- the round that has this name, and this slot or none
-the_round : OneStop → (order : Order) (host : List ℕ) (libs : List (List ℕ)) (front rest : List Segment) (k : ℕ) (g : UnitReference) (left : Option ℕ)
-    → added order host libs ≡ front ++ rest → k ≡ length front → slice_get (sought order host libs front) k ≡ Some g → slice_get (empty_slots order host) k ≡ left
+the_round : OneStop → (order : Order) (host : List ℕ) (libs : List (List ℕ)) (prefix rest : List Segment) (k : ℕ) (g : UnitReference) (left : Option ℕ)
+    → added order host libs ≡ prefix ++ rest → k ≡ length prefix → slice_get (sought order host libs prefix) k ≡ Some g → slice_get (empty_slots order host) k ≡ left
     → Least (Precedes (OfAdded k)) (InRound order host libs k) (round_fault order host libs g left)
-the_round law order host libs front rest k g left is at named slot_is = least_same to from (round_least law order host libs k g left)
+the_round law order host libs prefix rest k g left is at named slot_is = least_same to from (round_least law order host libs k g left)
   where
-    front_is : take k (added order host libs) ≡ front
-    front_is = ap (λ (ss : List Segment). take k ss) is ∙ (ap (λ (n : ℕ). take n (front ++ rest)) at ∙ take_front front rest)
+    prefix_is : take k (added order host libs) ≡ prefix
+    prefix_is = ap (λ (ss : List Segment). take k ss) is ∙ (ap (λ (n : ℕ). take n (prefix ++ rest)) at ∙ take_prefix prefix rest)
 
     first : slice_get (sought order host libs (take k (added order host libs))) k ≡ Some g
-    first = ap (λ (ss : List Segment). slice_get (sought order host libs ss) k) front_is ∙ named
+    first = ap (λ (ss : List Segment). slice_get (sought order host libs ss) k) prefix_is ∙ named
 
     within : k ≤ length (added order host libs)
-    within = let n = ap (λ (ss : List Segment). length ss) is in let m = length-append front rest in omega (arith, n, m, at)
+    within = let n = ap (λ (ss : List Segment). length ss) is in let m = length-append prefix rest in omega (arith, n, m, at)
 
     to : (f : Fault) → RoundHas order host libs g left f → InRound order host libs k f
     to f h = (g, (within, first), subst (λ (o : Option ℕ). RoundHas order host libs g o f) (sym slot_is) h)
@@ -213,33 +213,33 @@ the_round law order host libs front rest k g left is at named slot_is = least_sa
         subst (λ (o : Option ℕ). RoundHas order host libs g o f) slot_is (subst (λ (h : UnitReference). RoundHas order host libs h (slice_get (empty_slots order host) k) f) same t.2)
 
 -- no round is behind the one after the last that added a segment
-last_is : (order : Order) (host : List ℕ) (libs : List (List ℕ)) (front : List Segment) (k j : ℕ) (f : Fault) → added order host libs ≡ front → k ≡ length front → k ≤ j → InRound order host libs j f → j ≡ k
-last_is order host libs front k j f is at low t = let n = ap (λ (ss : List Segment). length ss) is in let m = t.1.0 in omega (arith, n, m, at, low)
+last_is : (order : Order) (host : List ℕ) (libs : List (List ℕ)) (prefix : List Segment) (k j : ℕ) (f : Fault) → added order host libs ≡ prefix → k ≡ length prefix → k ≤ j → InRound order host libs j f → j ≡ k
+last_is order host libs prefix k j f is at low t = let n = ap (λ (ss : List Segment). length ss) is in let m = t.1.0 in omega (arith, n, m, at, low)
 
-last_round : (order : Order) (host : List ℕ) (libs : List (List ℕ)) (front : List Segment) (k : ℕ) (o : Option Fault) → added order host libs ≡ front → k ≡ length front
+last_round : (order : Order) (host : List ℕ) (libs : List (List ℕ)) (prefix : List Segment) (k : ℕ) (o : Option Fault) → added order host libs ≡ prefix → k ≡ length prefix
     → Least (Precedes (OfAdded k)) (InRound order host libs k) o → Least Earlier (FromRound order host libs k) (option_map (λ f. (OfAdded k, f)) o)
-last_round order host libs front k o is at l = least_same (λ p t. (k, t.0, omega arith, t.1, t.2)) from (tagged (OfAdded k) l)
+last_round order host libs prefix k o is at l = least_same (λ p t. (k, t.0, omega arith, t.1, t.2)) from (tagged (OfAdded k) l)
   where
     from : (p : Place) → FromRound order host libs k p → (f : Fault) × (p ≡ (OfAdded k, f)) × InRound order host libs k f
     from p t =
-        let same : t.0 ≡ k = last_is order host libs front k t.0 t.1 is at t.2 t.4 in
+        let same : t.0 ≡ k = last_is order host libs prefix k t.0 t.1 is at t.2 t.4 in
         (t.1, subst (λ (n : ℕ). p ≡ (OfAdded n, t.1)) same t.3, subst (λ (n : ℕ). InRound order host libs n t.1) same t.4)
 
 -- where no name is left, nothing stands
-no_name : (order : Order) (host : List ℕ) (libs : List (List ℕ)) (front : List Segment) (k : ℕ) → added order host libs ≡ front → k ≡ length front → slice_get (sought order host libs front) k ≡ None → (p : Place) → FromRound order host libs k p → ⊥
-no_name order host libs front k is at none p t =
-    let same : t.0 ≡ k = last_is order host libs front k t.0 t.1 is at t.2 t.4 in
+no_name : (order : Order) (host : List ℕ) (libs : List (List ℕ)) (prefix : List Segment) (k : ℕ) → added order host libs ≡ prefix → k ≡ length prefix → slice_get (sought order host libs prefix) k ≡ None → (p : Place) → FromRound order host libs k p → ⊥
+no_name order host libs prefix k is at none p t =
+    let same : t.0 ≡ k = last_is order host libs prefix k t.0 t.1 is at t.2 t.4 in
     let named = (subst (λ (n : ℕ). InRound order host libs n t.1) same t.4).1.1 in
-    let front_is : take k (added order host libs) ≡ front =
-    ap (λ (ss : List Segment). take k ss) (is ∙ sym (append-nil front)) ∙ (ap (λ (n : ℕ). take n (front ++ [])) at ∙ take_front front []) in
-    let first = ap (λ (ss : List Segment). slice_get (sought order host libs ss) k) front_is ∙ none in
+    let prefix_is : take k (added order host libs) ≡ prefix =
+    ap (λ (ss : List Segment). take k ss) (is ∙ sym (append-nil prefix)) ∙ (ap (λ (n : ℕ). take n (prefix ++ [])) at ∙ take_prefix prefix []) in
+    let first = ap (λ (ss : List Segment). slice_get (sought order host libs ss) k) prefix_is ∙ none in
     cc
 
 -- the rounds from one on, with the faults' steps
 abbrev RoundsHave : Order → List ℕ → List (List ℕ) → List ℕ → Type 0
 RoundsHave order host libs left =
-    (front : List Segment) (used : List ℕ) (k : ℕ) (row : List UnitReference)
-    → added order host libs ≡ front ++ (rest_of order host libs left k row).added → k ≡ length front → empty_slots order host ≡ used ++ left → k ≡ length used → sought order host libs front ≡ row
+    (prefix : List Segment) (used : List ℕ) (k : ℕ) (row : List UnitReference)
+    → added order host libs ≡ prefix ++ (rest_of order host libs left k row).added → k ≡ length prefix → empty_slots order host ≡ used ++ left → k ≡ length used → sought order host libs prefix ≡ row
     → (o : Option Place) × Least Earlier (FromRound order host libs k) o × (option_map (λ (x : Place). x.1) o ≡ (rest_of order host libs left k row).fault)
 
 -- the slot that is used next
@@ -266,19 +266,19 @@ of_name order host libs slot left k row None = record { added = []; fault = None
 of_name order host libs slot left k row (Some g) = of_fault order host libs left k row (added_segment order host libs g slot) (placed_fault order host libs g slot)
 
 rounds_have : OneStop → (order : Order) (host : List ℕ) (libs : List (List ℕ)) (left : List ℕ) → RoundsHave order host libs left
-rounds_have law order host libs [] front used k row is at slots_are used_at row_is = go (slice_get row k) refl
+rounds_have law order host libs [] prefix used k row is at slots_are used_at row_is = go (slice_get row k) refl
   where
-    ends : added order host libs ≡ front
-    ends = is ∙ append-nil front
+    ends : added order host libs ≡ prefix
+    ends = is ∙ append-nil prefix
 
     go : (x : Option UnitReference) → slice_get row k ≡ x → (o : Option Place) × Least Earlier (FromRound order host libs k) o × (option_map (λ (p : Place). p.1) o ≡ option_map (unplaced_fault order libs) x)
-    go None e = (None, nothing (no_name order host libs front k ends at (ap (λ (r : List UnitReference). slice_get r k) row_is ∙ e)), refl)
+    go None e = (None, nothing (no_name order host libs prefix k ends at (ap (λ (r : List UnitReference). slice_get r k) row_is ∙ e)), refl)
     go (Some g) e = (
       Some (OfAdded k, unplaced_fault order libs g),
-      last_round order host libs front k (Some (unplaced_fault order libs g)) ends at (the_round law order host libs front [] k g None is at (ap (λ (r : List UnitReference). slice_get r k) row_is ∙ e) (ap (λ (xs : List ℕ). slice_get xs k) slots_are ∙ next_slot used [] k used_at)),
+      last_round order host libs prefix k (Some (unplaced_fault order libs g)) ends at (the_round law order host libs prefix [] k g None is at (ap (λ (r : List UnitReference). slice_get r k) row_is ∙ e) (ap (λ (xs : List ℕ). slice_get xs k) slots_are ∙ next_slot used [] k used_at)),
       refl,
     )
-rounds_have law order host libs (slot ∷ left) front used k row is at slots_are used_at row_is = go (rounds_have law order host libs left) (slice_get row k) refl is
+rounds_have law order host libs (slot ∷ left) prefix used k row is at slots_are used_at row_is = go (rounds_have law order host libs left) (slice_get row k) refl is
   where
     Have : Rounds → Type 0
     Have r = (o : Option Place) × Least Earlier (FromRound order host libs k) o × (option_map (λ (x : Place). x.1) o ≡ r.fault)
@@ -286,21 +286,21 @@ rounds_have law order host libs (slot ∷ left) front used k row is at slots_are
     slot_at : slice_get (empty_slots order host) k ≡ Some slot
     slot_at = ap (λ (xs : List ℕ). slice_get xs k) slots_are ∙ next_slot used (slot ∷ left) k used_at
 
-    named : (g : UnitReference) → slice_get row k ≡ Some g → slice_get (sought order host libs front) k ≡ Some g
+    named : (g : UnitReference) → slice_get row k ≡ Some g → slice_get (sought order host libs prefix) k ≡ Some g
     named g e = ap (λ (r : List UnitReference). slice_get r k) row_is ∙ e
 
-    segment : RoundsHave order host libs left → (g : UnitReference) → slice_get row k ≡ Some g → (o : Option Segment) → added order host libs ≡ front ++ (of_segment order host libs left k row o).added → ((f : Fault) → InRound order host libs k f → ⊥) → Have (of_segment order host libs left k row o)
-    segment later g e None is none = (None, nothing (λ p t. none t.1 (subst (λ (n : ℕ). InRound order host libs n t.1) (last_is order host libs front k t.0 t.1 (is ∙ append-nil front) at t.2 t.4) t.4)), refl)
+    segment : RoundsHave order host libs left → (g : UnitReference) → slice_get row k ≡ Some g → (o : Option Segment) → added order host libs ≡ prefix ++ (of_segment order host libs left k row o).added → ((f : Fault) → InRound order host libs k f → ⊥) → Have (of_segment order host libs left k row o)
+    segment later g e None is none = (None, nothing (λ p t. none t.1 (subst (λ (n : ℕ). InRound order host libs n t.1) (last_is order host libs prefix k t.0 t.1 (is ∙ append-nil prefix) at t.2 t.4) t.4)), refl)
     segment later g e (Some s) is none = (r.0, least_same to from r.1, r.2)
       where
         r : (o : Option Place) × Least Earlier (FromRound order host libs (k + 1)) o × (option_map (λ (x : Place). x.1) o ≡ (rest_of order host libs left (k + 1) (sought_from (own_units order host libs) row (references_of s))).fault)
         r =
-            later (front ++ s ∷ []) (used ++ slot ∷ []) (k + 1) (sought_from (own_units order host libs) row (references_of s))
-            (is ∙ sym (append_assoc front (s ∷ []) (rest_of order host libs left (k + 1) (sought_from (own_units order host libs) row (references_of s))).added))
-            (let l = longer front s in omega (arith, l, at))
+            later (prefix ++ s ∷ []) (used ++ slot ∷ []) (k + 1) (sought_from (own_units order host libs) row (references_of s))
+            (is ∙ sym (append_assoc prefix (s ∷ []) (rest_of order host libs left (k + 1) (sought_from (own_units order host libs) row (references_of s))).added))
+            (let l = longer prefix s in omega (arith, l, at))
             (slots_are ∙ sym (append_assoc used (slot ∷ []) left))
             (let l = longer used slot in omega (arith, l, used_at))
-            (sought_more order host libs front s ∙ ap (λ (xs : List UnitReference). sought_from (own_units order host libs) xs (references_of s)) row_is)
+            (sought_more order host libs prefix s ∙ ap (λ (xs : List UnitReference). sought_from (own_units order host libs) xs (references_of s)) row_is)
 
         to : (p : Place) → FromRound order host libs (k + 1) p → FromRound order host libs k p
         to p t = (t.0, t.1, (let a = t.2 in omega (arith, a)), t.3, t.4)
@@ -312,19 +312,19 @@ rounds_have law order host libs (slot ∷ left) front used k row is at slots_are
         ]
 
     fault : RoundsHave order host libs left → (g : UnitReference) → slice_get row k ≡ Some g → (o : Option Fault) → placed_fault order host libs g slot ≡ o
-        → added order host libs ≡ front ++ (of_fault order host libs left k row (added_segment order host libs g slot) o).added → Have (of_fault order host libs left k row (added_segment order host libs g slot) o)
+        → added order host libs ≡ prefix ++ (of_fault order host libs left k row (added_segment order host libs g slot) o).added → Have (of_fault order host libs left k row (added_segment order host libs g slot) o)
     fault later g e (Some f) p is = (
       Some (OfAdded k, f),
-      last_round order host libs front k (Some f) (is ∙ append-nil front) at
-          (subst (λ (o : Option Fault). Least (Precedes (OfAdded k)) (InRound order host libs k) o) p (the_round law order host libs front [] k g (Some slot) is at (named g e) slot_at)),
+      last_round order host libs prefix k (Some f) (is ∙ append-nil prefix) at
+          (subst (λ (o : Option Fault). Least (Precedes (OfAdded k)) (InRound order host libs k) o) p (the_round law order host libs prefix [] k g (Some slot) is at (named g e) slot_at)),
       refl,
     )
     fault later g e None p is =
         segment later g e (added_segment order host libs g slot) is
-        (quiet (subst (λ (o : Option Fault). Least (Precedes (OfAdded k)) (InRound order host libs k) o) p (the_round law order host libs front _ k g (Some slot) is at (named g e) slot_at)))
+        (quiet (subst (λ (o : Option Fault). Least (Precedes (OfAdded k)) (InRound order host libs k) o) p (the_round law order host libs prefix _ k g (Some slot) is at (named g e) slot_at)))
 
-    go : RoundsHave order host libs left → (x : Option UnitReference) → slice_get row k ≡ x → added order host libs ≡ front ++ (of_name order host libs slot left k row x).added → Have (of_name order host libs slot left k row x)
-    go later None e is = (None, nothing (no_name order host libs front k (is ∙ append-nil front) at (ap (λ (r : List UnitReference). slice_get r k) row_is ∙ e)), refl)
+    go : RoundsHave order host libs left → (x : Option UnitReference) → slice_get row k ≡ x → added order host libs ≡ prefix ++ (of_name order host libs slot left k row x).added → Have (of_name order host libs slot left k row x)
+    go later None e is = (None, nothing (no_name order host libs prefix k (is ∙ append-nil prefix) at (ap (λ (r : List UnitReference). slice_get r k) row_is ∙ e)), refl)
     go later (Some g) e is = fault later g e (placed_fault order host libs g slot) refl is
 
 -- the rounds begin with the names that the host's own segments seek

@@ -43,17 +43,17 @@ segment_summed order all s free h =
     ap (λ (es : List Edit). if is_linked s.role then Byte (length s.code - 2) s.slot ∷ ((if is_host s.role then data_edits order (total_words all) s.code else []) ++ es) else [])
     (records_summed (known_of all) s.code (λ n. private_offset all s.slot n) s.records 0 free (λ n. ap (λ (m : ℕ). private_offset all s.slot m) (omega arith) ∙ h n))
 
-all_summed : (order : Order) (all front rest : List Segment) (from : ℕ) → all ≡ front ++ rest → AreBelow from front → Ascends from rest
-    → edited_from order (known_of all) (total_words all) (next_of (host_records all) + all_words (map owner_of front)) rest ≡ map (summed order all) rest
-all_summed order all front [] from is below ascends = refl
-all_summed order all front (s ∷ rest) from is below ascends =
-    let start = next_of (host_records all) + all_words (map owner_of front) in
-    let count = words_split front (s ∷ []) in
+all_summed : (order : Order) (all prefix rest : List Segment) (from : ℕ) → all ≡ prefix ++ rest → AreBelow from prefix → Ascends from rest
+    → edited_from order (known_of all) (total_words all) (next_of (host_records all) + all_words (map owner_of prefix)) rest ≡ map (summed order all) rest
+all_summed order all prefix [] from is below ascends = refl
+all_summed order all prefix (s ∷ rest) from is below ascends =
+    let start = next_of (host_records all) + all_words (map owner_of prefix) in
+    let count = words_split prefix (s ∷ []) in
     let mine : segment_edits order (known_of all) (total_words all) start s ≡ summed_edits order all s =
-    segment_summed order all s start (offset_in all front s rest from is below ascends) in
+    segment_summed order all s start (offset_in all prefix s rest from is below ascends) in
     let later : edited_from order (known_of all) (total_words all) (start + private_words s.records) rest ≡ map (summed order all) rest =
     ap (λ (n : ℕ). edited_from order (known_of all) (total_words all) n rest) (omega (arith, count))
-    ∙ all_summed order all (front ++ s ∷ []) rest (s.slot + 1) (is ∙ sym (append_assoc front (s ∷ []) rest)) (below_more (s.slot + 1) front s (below_from from s.slot front ascends.0 below) (omega arith)) ascends.1 in
+    ∙ all_summed order all (prefix ++ s ∷ []) rest (s.slot + 1) (is ∙ sym (append_assoc prefix (s ∷ []) rest)) (below_more (s.slot + 1) prefix s (below_from from s.slot prefix ascends.0 below) (omega arith)) ascends.1 in
     ap (λ (es : List Edit). made es ∷ edited_from order (known_of all) (total_words all) (start + private_words s.records) rest) mine
     ∙ ap (λ (es : List Edited). summed order all s ∷ es) later
   where

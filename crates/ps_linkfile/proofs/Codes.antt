@@ -9,15 +9,15 @@ use Rattle.ps_resolve.specs.Plans.{Origin}
 use Rattle.ps_patch.specs.Patched.{patched_or_zero}
 use Rattle.ps_linkfile.specs.LinkedFile.{all_blocks, padded}
 use Rattle.ps_linkfile.specs.Writing.{extent_of_origin, padded_codes, HaveEdits}
-use Rattle.ps_linkfile.specs.Outcomes.{AppendsFront}
+use Rattle.ps_linkfile.specs.Outcomes.{AppendsPrefix}
 use Rattle.ps_linkfile.proofs.Extents.{all_blocks-cons}
-use Rattle.ps_linkfile.proofs.Fronts.{appends_twice, front_more}
+use Rattle.ps_linkfile.proofs.Prefixes.{appends_twice, prefix_more}
 
 -- the codes of the first so many sources were appended
-pub record CodesSoFar (order : Order) (os : List Origin) (ds : List (List Edit)) (count : ℕ) (old new : Option (List ℕ)) (front : List ℕ) : Type 0 where
+pub record CodesSoFar (order : Order) (os : List Origin) (ds : List (List Edit)) (count : ℕ) (old new : Option (List ℕ)) (prefix : List ℕ) : Type 0 where
   pub left : HaveEdits (drop count os) (drop count ds)
-  pub joined : front ++ padded_codes order (drop count os) (drop count ds) ≡ padded_codes order os ds
-  pub written : Appends old new front
+  pub joined : prefix ++ padded_codes order (drop count os) (drop count ds) ≡ padded_codes order os ds
+  pub written : Appends old new prefix
 
 -- a source and its edits
 pub record IsAt (os : List Origin) (ds : List (List Edit)) (count : ℕ) (o : Origin) (d : List Edit) : Type 0 where
@@ -27,27 +27,27 @@ pub record IsAt (os : List Origin) (ds : List (List Edit)) (count : ℕ) (o : Or
 pub edits_here : (os : List Origin) (ds : List (List Edit)) (count : ℕ) (o : Origin) (d : List Edit) → IsAt os ds count o d → HaveEdits (drop count os) (drop count ds) → HaveEdits (o ∷ drop (count + 1) os) (d ∷ drop (count + 1) ds)
 edits_here os ds count o d at h = subst (λ (es : List (List Edit)). HaveEdits (o ∷ drop (count + 1) os) es) at.edits (subst (λ (ps : List Origin). HaveEdits ps (drop count ds)) at.origin h)
 
-joined_here : (order : Order) (os : List Origin) (ds : List (List Edit)) (count : ℕ) (o : Origin) (d : List Edit) (front : List ℕ) → IsAt os ds count o d
-    → front ++ padded_codes order (drop count os) (drop count ds) ≡ padded_codes order os ds
-    → front ++ (padded order o.code d ++ padded_codes order (drop (count + 1) os) (drop (count + 1) ds)) ≡ padded_codes order os ds
-joined_here order os ds count o d front at h =
-    subst (λ (es : List (List Edit)). front ++ padded_codes order (o ∷ drop (count + 1) os) es ≡ padded_codes order os ds) at.edits
-    (subst (λ (ps : List Origin). front ++ padded_codes order ps (drop count ds) ≡ padded_codes order os ds) at.origin h)
+joined_here : (order : Order) (os : List Origin) (ds : List (List Edit)) (count : ℕ) (o : Origin) (d : List Edit) (prefix : List ℕ) → IsAt os ds count o d
+    → prefix ++ padded_codes order (drop count os) (drop count ds) ≡ padded_codes order os ds
+    → prefix ++ (padded order o.code d ++ padded_codes order (drop (count + 1) os) (drop (count + 1) ds)) ≡ padded_codes order os ds
+joined_here order os ds count o d prefix at h =
+    subst (λ (es : List (List Edit)). prefix ++ padded_codes order (o ∷ drop (count + 1) os) es ≡ padded_codes order os ds) at.edits
+    (subst (λ (ps : List Origin). prefix ++ padded_codes order ps (drop count ds) ≡ padded_codes order os ds) at.origin h)
 
 -- one code more
-pub codes_more : (order : Order) (os : List Origin) (ds : List (List Edit)) (count : ℕ) (a b c : Option (List ℕ)) (front : List ℕ) (o : Origin) (d : List Edit)
-    → IsAt os ds count o d → CodesSoFar order os ds count a b front → Appends b c (padded order o.code d) → CodesSoFar order os ds (count + 1) a c (front ++ padded order o.code d)
-codes_more order os ds count a b c front o d at h k = record {
+pub codes_more : (order : Order) (os : List Origin) (ds : List (List Edit)) (count : ℕ) (a b c : Option (List ℕ)) (prefix : List ℕ) (o : Origin) (d : List Edit)
+    → IsAt os ds count o d → CodesSoFar order os ds count a b prefix → Appends b c (padded order o.code d) → CodesSoFar order os ds (count + 1) a c (prefix ++ padded order o.code d)
+codes_more order os ds count a b c prefix o d at h k = record {
   left = (edits_here os ds count o d at h.left).1;
-  joined = append_assoc front (padded order o.code d) (padded_codes order (drop (count + 1) os) (drop (count + 1) ds)) ∙ joined_here order os ds count o d front at h.joined;
-  written = appends_twice a b c front (padded order o.code d) h.written k;
+  joined = append_assoc prefix (padded order o.code d) (padded_codes order (drop (count + 1) os) (drop (count + 1) ds)) ∙ joined_here order os ds count o d prefix at h.joined;
+  written = appends_twice a b c prefix (padded order o.code d) h.written k;
 }
 
--- a front of one code more
-pub codes_front : (order : Order) (os : List Origin) (ds : List (List Edit)) (count : ℕ) (a b c : Option (List ℕ)) (front : List ℕ) (o : Origin) (d : List Edit)
-    → IsAt os ds count o d → CodesSoFar order os ds count a b front → AppendsFront b c (padded order o.code d) → AppendsFront a c (padded_codes order os ds)
-codes_front order os ds count a b c front o d at h k =
-    front_more a b c front (padded order o.code d) (padded_codes order (drop (count + 1) os) (drop (count + 1) ds)) (padded_codes order os ds) (joined_here order os ds count o d front at h.joined) h.written k
+-- a prefix of one code more
+pub codes_prefix : (order : Order) (os : List Origin) (ds : List (List Edit)) (count : ℕ) (a b c : Option (List ℕ)) (prefix : List ℕ) (o : Origin) (d : List Edit)
+    → IsAt os ds count o d → CodesSoFar order os ds count a b prefix → AppendsPrefix b c (padded order o.code d) → AppendsPrefix a c (padded_codes order os ds)
+codes_prefix order os ds count a b c prefix o d at h k =
+    prefix_more a b c prefix (padded order o.code d) (padded_codes order (drop (count + 1) os) (drop (count + 1) ds)) (padded_codes order os ds) (joined_here order os ds count o d prefix at h.joined) h.written k
 
 -- the codes are whole blocks
 pub codes_len : (order : Order) (os : List Origin) (ds : List (List Edit)) → HaveEdits os ds → length (padded_codes order os ds) ≡ 512 * all_blocks (map extent_of_origin os)

@@ -1,4 +1,4 @@
-pub mod Fronts
+pub mod Prefixes
 pub mod Extents
 pub mod Rising
 pub mod Pairs

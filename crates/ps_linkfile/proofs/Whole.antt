@@ -30,7 +30,7 @@ use Rattle.ps_linkfile.specs.LinkedFile.{Extent, all_blocks, block_of, pair_of, 
 use Rattle.ps_linkfile.specs.Writing.{Ascend}
 use Rattle.ps_linkfile.proofs.Extents.{Left, left_start, left_more, first_block, all_blocks-cons}
 use Rattle.ps_linkfile.proofs.Pairs.{pair_four, pairs_at, pairs_len, pairs_are}
-use Rattle.ps_linkfile.proofs.Fronts.{image_is}
+use Rattle.ps_linkfile.proofs.Prefixes.{image_is}
 use Rattle.ps_linkfile.proofs.Plans.{extent_of_edited, extents_ascend, edited_extents, of_all_edited, to_all_edited}
 
 -- a part of a list, by its places
@@ -133,16 +133,16 @@ laid_is order file block (e ∷ es) len laid =
     ∙ (ap (λ (xs : List ℕ). xs ++ drop (512 * n) rest) first ∙ ap (λ (xs : List ℕ). padded_segment order e ++ xs) (behind_it ∙ others))
 
 -- the codes stand where they are put
-codes_laid : (order : Order) (front : List ℕ) (block : ℕ) (es : List Edited) → length front ≡ 512 * block → Laid order (front ++ flat_map (padded_segment order) es) block es
-codes_laid order front block [] len = tt
-codes_laid order front block (e ∷ es) len =
+codes_laid : (order : Order) (prefix : List ℕ) (block : ℕ) (es : List Edited) → length prefix ≡ 512 * block → Laid order (prefix ++ flat_map (padded_segment order) es) block es
+codes_laid order prefix block [] len = tt
+codes_laid order prefix block (e ∷ es) len =
     let n = blocks (length e.segment.code) in
     let code = padded_segment order e in
     let rest = flat_map (padded_segment order) es in
-    let joined : (front ++ code) ++ rest ≡ front ++ (code ++ rest) = append_assoc front code rest in (
-      (λ p lt. behind front (code ++ rest) (512 * block) p len ∙ (get_or_append_left code rest 0 p (omega (arith, padded_len order e)) ∙ padded_at order e p lt)),
+    let joined : (prefix ++ code) ++ rest ≡ prefix ++ (code ++ rest) = append_assoc prefix code rest in (
+      (λ p lt. behind prefix (code ++ rest) (512 * block) p len ∙ (get_or_append_left code rest 0 p (omega (arith, padded_len order e)) ∙ padded_at order e p lt)),
       subst (λ (file : List ℕ). Laid order file (block + n) es) joined
-          (codes_laid order (front ++ code) (block + n) es (length-append front code ∙ omega (arith, len, padded_len order e))),
+          (codes_laid order (prefix ++ code) (block + n) es (length-append prefix code ∙ omega (arith, len, padded_len order e))),
     )
 
 -- a host whose first fault is none has its dictionary whole
@@ -208,23 +208,23 @@ pub stored_parts : (z d1 d2 d3 pairs names mid tail : List ℕ) → length z ≡
 stored_parts z d1 d2 d3 pairs names mid tail lz hm lp ln lt h1 h2 h3 =
     let at1 : 0 + length pairs ≡ 64 = omega (arith, lp) in
     let first : d1 ≡ pairs ++ drop 64 z = h1 ∙ ap (λ n. pairs ++ drop n z) at1 in
-    let front1 : take 64 d1 ≡ pairs = ap (λ (xs : List ℕ). take 64 xs) first ∙ take_at pairs (drop 64 z) 64 lp in
+    let prefix1 : take 64 d1 ≡ pairs = ap (λ (xs : List ℕ). take 64 xs) first ∙ take_at pairs (drop 64 z) 64 lp in
     let rest1 : drop (64 + length names) d1 ≡ drop 192 z =
     ap (λ n. drop (64 + n) d1) ln
     ∙ (ap (λ (xs : List ℕ). drop (64 + 128) xs) first
     ∙ (sym (drop-drop 128 64 (pairs ++ drop 64 z)) ∙ (ap (λ (xs : List ℕ). drop 128 xs) (drop_at pairs (drop 64 z) 64 lp) ∙ drop-drop 128 64 z))) in
     let second : d2 ≡ pairs ++ (names ++ drop 192 z) =
-    h2 ∙ (ap (λ (xs : List ℕ). xs ++ (names ++ drop (64 + length names) d1)) front1 ∙ ap (λ (xs : List ℕ). pairs ++ (names ++ xs)) rest1) in
+    h2 ∙ (ap (λ (xs : List ℕ). xs ++ (names ++ drop (64 + length names) d1)) prefix1 ∙ ap (λ (xs : List ℕ). pairs ++ (names ++ xs)) rest1) in
     let parted : drop 192 z ≡ mid ++ drop 256 z =
     sym (take-append-drop 64 (drop 192 z)) ∙ (ap (λ (xs : List ℕ). xs ++ drop 64 (drop 192 z)) hm ∙ ap (λ (xs : List ℕ). mid ++ xs) (drop-drop 64 192 z)) in
     let third : d2 ≡ (pairs ++ (names ++ mid)) ++ drop 256 z =
     second ∙ (ap (λ (xs : List ℕ). pairs ++ (names ++ xs)) parted ∙ regrouped pairs names mid (drop 256 z)) in
     let mid_len : length mid ≡ 64 = ap (λ (xs : List ℕ). length xs) (sym hm) ∙ (length-take 64 (drop 192 z) ∙ omega (arith, length-drop 192 z, lz)) in
-    let front_len : length (pairs ++ (names ++ mid)) ≡ 256 = length-append pairs (names ++ mid) ∙ omega (arith, length-append names mid, lp, ln, mid_len) in
-    let front2 : take 256 d2 ≡ pairs ++ (names ++ mid) = ap (λ (xs : List ℕ). take 256 xs) third ∙ take_at (pairs ++ (names ++ mid)) (drop 256 z) 256 front_len in
-    let whole_len : length d2 ≡ 512 = ap (λ (xs : List ℕ). length xs) third ∙ (length-append (pairs ++ (names ++ mid)) (drop 256 z) ∙ omega (arith, front_len, length-drop 256 z, lz)) in
+    let prefix_len : length (pairs ++ (names ++ mid)) ≡ 256 = length-append pairs (names ++ mid) ∙ omega (arith, length-append names mid, lp, ln, mid_len) in
+    let prefix2 : take 256 d2 ≡ pairs ++ (names ++ mid) = ap (λ (xs : List ℕ). take 256 xs) third ∙ take_at (pairs ++ (names ++ mid)) (drop 256 z) 256 prefix_len in
+    let whole_len : length d2 ≡ 512 = ap (λ (xs : List ℕ). length xs) third ∙ (length-append (pairs ++ (names ++ mid)) (drop 256 z) ∙ omega (arith, prefix_len, length-drop 256 z, lz)) in
     let rest2 : drop (256 + length tail) d2 ≡ [] = drop_all (256 + length tail) d2 (omega (arith, whole_len, lt)) in
-    h3 ∙ (ap (λ (xs : List ℕ). xs ++ (tail ++ drop (256 + length tail) d2)) front2
+    h3 ∙ (ap (λ (xs : List ℕ). xs ++ (tail ++ drop (256 + length tail) d2)) prefix2
     ∙ (ap (λ (xs : List ℕ). (pairs ++ (names ++ mid)) ++ (tail ++ xs)) rest2
     ∙ (ap (λ (xs : List ℕ). (pairs ++ (names ++ mid)) ++ xs) (append-nil tail) ∙ sym (regrouped pairs names mid tail))))
   where
@@ -307,11 +307,11 @@ file_there order all_names host all es is ascend named long = made (flat_map (pa
         let names_128 : length names ≡ 128 = ap (λ (xs : List ℕ). length xs) n ∙ named in
         let tail_256 : length tail ≡ 256 = ap (λ (xs : List ℕ). length xs) t ∙ part_len host 256 512 (omega (arith, long)) in
         let codes_are : length codes ≡ 512 * all_blocks all = ap (λ (xs : List ℕ). length xs) c ∙ (codes_len order es ∙ ap (λ (cs : List Extent). 512 * all_blocks cs) is) in
-        let front : length (pairs ++ (names ++ (replicate 64 0 ++ tail))) ≡ 512 = head_len pairs names tail pairs_64 names_128 tail_256 in
-        let size : length file ≡ 512 * (1 + all_blocks all) = whole_size (pairs ++ (names ++ (replicate 64 0 ++ tail))) codes (all_blocks all) front codes_are in
+        let prefix : length (pairs ++ (names ++ (replicate 64 0 ++ tail))) ≡ 512 = head_len pairs names tail pairs_64 names_128 tail_256 in
+        let size : length file ≡ 512 * (1 + all_blocks all) = whole_size (pairs ++ (names ++ (replicate 64 0 ++ tail))) codes (all_blocks all) prefix codes_are in
         let room : 512 ≤ length file = room_of (length file) (all_blocks all) size in
         let at = parts_at pairs names tail codes file (record { whole = refl; pairs_len = pairs_64; names_len = names_128; tail_len = tail_256 }) in
-        let laid : Laid order file 1 es = subst (λ (xs : List ℕ). Laid order ((pairs ++ (names ++ (replicate 64 0 ++ tail))) ++ xs) 1 es) (sym c) (codes_laid order (pairs ++ (names ++ (replicate 64 0 ++ tail))) 1 es front) in
+        let laid : Laid order file 1 es = subst (λ (xs : List ℕ). Laid order ((pairs ++ (names ++ (replicate 64 0 ++ tail))) ++ xs) 1 es) (sym c) (codes_laid order (pairs ++ (names ++ (replicate 64 0 ++ tail))) 1 es prefix) in
         record {
           size = size;
           pairs = pair_part order all file room (λ j l. at.in_pairs j l ∙ ap (λ (xs : List ℕ). get_or xs j 0) p);

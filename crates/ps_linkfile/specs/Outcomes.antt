@@ -12,8 +12,8 @@ use Rattle.ps_linkfile.specs.declared.error.LinkError.{LinkError}
 use Rattle.ps_linkfile.specs.declared.error.LinkError.TheVariants.{Refused, Memory, Write}
 
 -- known bytes grow by a prefix of these
-abbrev pub AppendsFront : Option (List ℕ) → Option (List ℕ) → List ℕ → Type 0
-AppendsFront old new bytes = (n : ℕ) × Appends old new (take n bytes)
+abbrev pub AppendsPrefix : Option (List ℕ) → Option (List ℕ) → List ℕ → Type 0
+AppendsPrefix old new bytes = (n : ℕ) × Appends old new (take n bytes)
 
 -- known bytes grow by the linked file
 abbrev pub AppendsLinkedFile : List ℕ → List (List ℕ) → Option (List ℕ) → Option (List ℕ) → Type 0
@@ -49,7 +49,7 @@ LeavesUntouched Memory old new = new ≡ old
 LeavesUntouched (Write fault) old new = ⊤
 
 -- where a write failed, known bytes grew by a prefix of the linked file
-abbrev pub LeavesFront : List ℕ → List (List ℕ) → LinkError → Option (List ℕ) → Option (List ℕ) → Type 0
-LeavesFront host libs (Refused fault) old new = ⊤
-LeavesFront host libs Memory old new = ⊤
-LeavesFront host libs (Write fault) old new = (file : List ℕ) × (LinkedFile host libs file × AppendsFront old new file)
+abbrev pub LeavesPrefix : List ℕ → List (List ℕ) → LinkError → Option (List ℕ) → Option (List ℕ) → Type 0
+LeavesPrefix host libs (Refused fault) old new = ⊤
+LeavesPrefix host libs Memory old new = ⊤
+LeavesPrefix host libs (Write fault) old new = (file : List ℕ) × (LinkedFile host libs file × AppendsPrefix old new file)

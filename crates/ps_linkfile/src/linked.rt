@@ -4,7 +4,7 @@ ghost use Rattle.std.specs.Io.KnownBytes.{Appends};
 ghost use Rattle.ps_resolve.specs.Standing.{NoneStands};
 ghost use Rattle.ps_linkfile.specs.LinkedFile.{all_blocks, summary_of};
 ghost use Rattle.ps_linkfile.specs.Writing.{extents_of, file_of, summary_in, StandsFor};
-ghost use Rattle.ps_linkfile.specs.Outcomes.{AppendsFront, AppendsLinkedFile, NamesFirst, IsUnprepared, IsUnlinked, LeavesUntouched, LeavesFront};
+ghost use Rattle.ps_linkfile.specs.Outcomes.{AppendsPrefix, AppendsLinkedFile, NamesFirst, IsUnprepared, IsUnlinked, LeavesUntouched, LeavesPrefix};
 ghost use Rattle.ps_linkfile.specs.Counts.{AreAtMost, IfDevice, IfStalled, NoneFailed, OneError, OneStall, RisesByBytes, RisesByPieces};
 
 use crate::counts::Counts;
@@ -63,7 +63,7 @@ impl<'a, A: Allocator + Copy> Linked<'a, A> {
     pub fn write<W: Write>(&self, out: &mut W) -> Result<Summary, WriteFault>
         ensures file { OnOk result (Appends (W.contents out.old) (W.contents out.new) (file_of self.now)) }
         ensures summary { IfOk result (λ s. s ≡ summary_in self.now) }
-        ensures front { OnErr result (AppendsFront (W.contents out.old) (W.contents out.new) (file_of self.now)) }
+        ensures prefix { OnErr result (AppendsPrefix (W.contents out.old) (W.contents out.new) (file_of self.now)) }
     {
         write_file(&self.plan, out, &mut Counts::new())?;
         Ok(self.summary())
@@ -82,7 +82,7 @@ impl<'a, A: Allocator + Copy> Linked<'a, A> {
         requires { AreAtMost (W.counts out.old) 4294967296 }
         ensures file { OnOk result (Appends (W.contents out.old) (W.contents out.new) (file_of self.now)) }
         ensures summary { IfOk result (λ s. s ≡ summary_in self.now) }
-        ensures front { OnErr result (AppendsFront (W.contents out.old) (W.contents out.new) (file_of self.now)) }
+        ensures prefix { OnErr result (AppendsPrefix (W.contents out.old) (W.contents out.new) (file_of self.now)) }
         ensures bytes { RisesByBytes (W.counts out.old) (W.counts out.new) (length (file_of self.now)) }
         ensures blocks { RisesByPieces (W.counts out.old) (W.counts out.new) (summary_in self.now).blocks }
         ensures ok { OnOk result (NoneFailed (W.counts out.old) (W.counts out.new)) }
@@ -143,7 +143,7 @@ pub fn link<'a, A: Allocator + Copy, W: Write>(
     ensures error { IfErr result (IsUnlinked host.now (contents libs.now)) }
     ensures first { IfErr result (NamesFirst host.now (contents libs.now)) }
     ensures untouched { IfErr result (λ e. LeavesUntouched e out.old out.new) }
-    ensures front { IfErr result (λ e. LeavesFront host.now (contents libs.now) e (W.contents out.old) (W.contents out.new)) }
+    ensures prefix { IfErr result (λ e. LeavesPrefix host.now (contents libs.now) e (W.contents out.old) (W.contents out.new)) }
 {
     first_of_all();
     let linked = prepare(alloc, host, libs)?;

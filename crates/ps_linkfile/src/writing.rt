@@ -5,7 +5,7 @@ ghost use Rattle.ps_words.specs.Words.{blocks};
 ghost use Rattle.ps_codefile.specs.Dictionary.{block_len};
 ghost use Rattle.ps_linkfile.specs.LinkedFile.{all_blocks, padded};
 ghost use Rattle.ps_linkfile.specs.Writing.{extents_of, file_of, padded_codes, summary_in, HaveEdits, IsReady};
-ghost use Rattle.ps_linkfile.specs.Outcomes.{AppendsFront};
+ghost use Rattle.ps_linkfile.specs.Outcomes.{AppendsPrefix};
 ghost use Rattle.ps_linkfile.specs.Counts.{AreAtMost, CanCount, NoneFailed, OneFailed, Rises};
 
 use crate::dictionary::dictionary_of;
@@ -25,7 +25,7 @@ fn write_all_of<W: Write, T: Tally<W>>(
 ) -> Result<(), WriteFault>
     requires { CanCount (T.counts tally.old out.old) (length bytes.now) }
     ensures all { OnOk result (Appends (W.contents out.old) (W.contents out.new) bytes.now) }
-    ensures front { OnErr result (AppendsFront (W.contents out.old) (W.contents out.new) bytes.now) }
+    ensures prefix { OnErr result (AppendsPrefix (W.contents out.old) (W.contents out.new) bytes.now) }
     ensures writes { Rises (T.counts tally.old out.old) (T.counts tally.new out.new) (length bytes.now) 1 }
     ensures ok { OnOk result (NoneFailed (T.counts tally.old out.old) (T.counts tally.new out.new)) }
     ensures failed { IfErr result (λ fault. OneFailed fault (T.counts tally.old out.old) (T.counts tally.new out.new)) }
@@ -52,7 +52,7 @@ fn write_code<W: Write, T: Tally<W>>(
     requires edits { AreEdits (length code.now) edits.now }
     requires room { CanCount (T.counts tally.old out.old) (block_len * blocks (length code.now)) }
     ensures all { OnOk result (Appends (W.contents out.old) (W.contents out.new) (padded order code.now edits.now)) }
-    ensures front { OnErr result (AppendsFront (W.contents out.old) (W.contents out.new) (padded order code.now edits.now)) }
+    ensures prefix { OnErr result (AppendsPrefix (W.contents out.old) (W.contents out.new) (padded order code.now edits.now)) }
     ensures writes { Rises (T.counts tally.old out.old) (T.counts tally.new out.new) (block_len * blocks (length code.now)) (blocks (length code.now)) }
     ensures ok { OnOk result (NoneFailed (T.counts tally.old out.old) (T.counts tally.new out.new)) }
     ensures failed { IfErr result (λ fault. OneFailed fault (T.counts tally.old out.old) (T.counts tally.new out.new)) }
@@ -76,7 +76,7 @@ fn write_codes<A: Allocator + Copy, W: Write, T: Tally<W>>(
     requires edits { HaveEdits plan.now.origins plan.now.edits }
     requires room { CanCount (T.counts tally.old out.old) (block_len * all_blocks (extents_of plan.now)) }
     ensures all { OnOk result (Appends (W.contents out.old) (W.contents out.new) (padded_codes plan.now.order plan.now.origins plan.now.edits)) }
-    ensures front { OnErr result (AppendsFront (W.contents out.old) (W.contents out.new) (padded_codes plan.now.order plan.now.origins plan.now.edits)) }
+    ensures prefix { OnErr result (AppendsPrefix (W.contents out.old) (W.contents out.new) (padded_codes plan.now.order plan.now.origins plan.now.edits)) }
     ensures writes { Rises (T.counts tally.old out.old) (T.counts tally.new out.new) (block_len * all_blocks (extents_of plan.now)) (all_blocks (extents_of plan.now)) }
     ensures ok { OnOk result (NoneFailed (T.counts tally.old out.old) (T.counts tally.new out.new)) }
     ensures failed { IfErr result (λ fault. OneFailed fault (T.counts tally.old out.old) (T.counts tally.new out.new)) }
@@ -96,7 +96,7 @@ pub(crate) fn write_file<A: Allocator + Copy, W: Write, T: Tally<W>>(
     requires ready { IsReady plan.now }
     requires counts { AreAtMost (T.counts tally.old out.old) 4294967296 }
     ensures all { OnOk result (Appends (W.contents out.old) (W.contents out.new) (file_of plan.now)) }
-    ensures front { OnErr result (AppendsFront (W.contents out.old) (W.contents out.new) (file_of plan.now)) }
+    ensures prefix { OnErr result (AppendsPrefix (W.contents out.old) (W.contents out.new) (file_of plan.now)) }
     ensures writes { Rises (T.counts tally.old out.old) (T.counts tally.new out.new) (length (file_of plan.now)) (summary_in plan.now).blocks }
     ensures ok { OnOk result (NoneFailed (T.counts tally.old out.old) (T.counts tally.new out.new)) }
     ensures failed { IfErr result (λ fault. OneFailed fault (T.counts tally.old out.old) (T.counts tally.new out.new)) }

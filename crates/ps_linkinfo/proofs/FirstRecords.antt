@@ -1,4 +1,4 @@
--- The records that stand at the front of some bytes.
+-- The first records of some bytes.
 use Rattle.std.proofs.Common.{◌≡◌, ℕ, suc, ◌+◌, ◌-◌, ◌≤◌, List, [], ◌∷◌, length, drop, take, add-one, None, refl, sym, ◌∙◌, ap, subst, arith}
 use Rattle.std.proofs.lemmas.List.{take_rest}
 use Rattle.ps_words.specs.declared.order.Order.{Order}
@@ -7,7 +7,7 @@ use Rattle.ps_linkinfo.specs.Numbered.{first_records, numbered}
 use Rattle.ps_linkinfo.specs.declared.record.LinkRecord.{LinkRecord as Record}
 use Rattle.ps_linkinfo.proofs.Readings.{record_is, no_fault}
 
--- the first n records are spelled at the front
+-- the first n records are spelled
 abbrev pub AreFirst : ℕ → Order → List ℕ → Type 0
 AreFirst n order x = AreSpelled order x (first_records n order x)
 
@@ -18,15 +18,15 @@ one_more i n le ne = let e : n - i ≡ n - (i + 1) + 1 = grind arith in e ∙ ad
 pub next_up : (i n : ℕ) → i ≤ n → (i ≡ n → ⊥) → i + 1 ≤ n
 next_up i n le ne = grind arith
 
--- where there is a record, no fault stands at the front
-pub front_good : (n m : ℕ) (order : Order) (x : List ℕ) → n ≡ suc m → AreFirst n order x → bad order x ≡ None
-front_good n m order x e h =
+-- where there is a record, no fault stands at its place
+pub first_good : (n m : ℕ) (order : Order) (x : List ℕ) → n ≡ suc m → AreFirst n order x → bad order x ≡ None
+first_good n m order x e h =
     let s : AreFirst (suc m) order x = subst (λ (k : ℕ). AreFirst k order x) e h in
     no_fault order x (record_at order x).body s.0.body s.0.whole
 
 -- and it is whole
-pub front_whole : (n m : ℕ) (order : Order) (x : List ℕ) → n ≡ suc m → AreFirst n order x → size_of (record_at order x) ≤ length x
-front_whole n m order x e h =
+pub first_whole : (n m : ℕ) (order : Order) (x : List ℕ) → n ≡ suc m → AreFirst n order x → size_of (record_at order x) ≤ length x
+first_whole n m order x e h =
     let s : AreFirst (suc m) order x = subst (λ (k : ℕ). AreFirst k order x) e h in
     s.0.whole
 

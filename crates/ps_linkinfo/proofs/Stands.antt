@@ -14,7 +14,7 @@ use Rattle.ps_linkinfo.specs.declared.record.Body.{Body}
 use Rattle.ps_linkinfo.specs.declared.record.Body.TheVariants.{UnitRef, PublRef, PrivRef, PublDef, ConstDef, Eof}
 use Rattle.ps_linkinfo.specs.declared.record.LinkRecord.{LinkRecord as Record}
 
--- a body that stands whole at the front
+-- a body that stands whole and first
 abbrev StandsWhole : Order → List ℕ → Body → Type 0
 StandsWhole order x b = IsBody order x b × (16 + list_len (length (refs_of b)) ≤ length x)
 
@@ -105,7 +105,7 @@ ends_more : (r : Record) (rs : List Record) → is_eof r ≡ false → EndsOnce 
 ends_more r [] e h = absurd h
 ends_more r (s ∷ rs) e h = (e, h)
 
--- a record more in front
+-- one record more before them
 is_read_more : (order : Order) (x : List ℕ) (r : Record) → BeginsWith order x r → is_eof r ≡ false → (rs : List Record) (why : Option Reason) → IsRead order (drop (size_of r) x) (rs, why) → IsRead order x (r ∷ rs, why)
 is_read_more order x r b e rs None h = record { spelled = (b, h.spelled); ends = ends_more r rs e h.ends }
 is_read_more order x r b e rs (Some why) h = record { spelled = (b, h.spelled); goes_on = (e, h.goes_on); stops = subst (λ (y : List ℕ). bad order y ≡ Some why) (sym (behind_cons r rs x)) h.stops }

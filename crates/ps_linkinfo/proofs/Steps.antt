@@ -54,7 +54,7 @@ read_more order x p q =
     enough (length x / 16) (length (drop (size_of r) x) / 16 + 1) order (drop (size_of r) x) (omega (arith, length-drop (size_of r) x)) (omega arith) in
     as_suc order x ∙ rw (p, q, fuel, read_from)
 
--- what a walk that is not over has left, by what stands at its front
+-- what a walk that is not over has left, by what stands first in it
 pub left_end : (w : Walk) (why : Reason) → w.ended ≡ false → bad w.order (drop w.used w.bytes) ≡ Some why → left w ≡ Err why ∷ []
 unfolding items_at
 left_end w why e b = rw e (ap items_of (read_end w.order (drop w.used w.bytes) why b))

@@ -150,7 +150,7 @@ reading_and_fault rs why is read h =
     let p = records_and_fault rs read.0 why read.1 is h in
     ap (λ (ss : List Record). (ss, read.1)) p.0 ∙ ap (λ (w : Option Reason). (rs, w)) p.1
 
--- where the items have a record, one stands at the front
+-- where the items have a record, one stands first
 pub stands_first : (order : Order) (bytes : List ℕ) (rs : List Record) (r : Record) (is : List (Result Record Reason)) → ok_items rs ++ Ok r ∷ is ≡ items_of (reading order bytes) → bad order bytes ≡ None
 stands_first order bytes rs r is h = at (bad order bytes) refl
   where

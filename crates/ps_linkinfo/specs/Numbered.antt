@@ -10,7 +10,7 @@ abbrev pub numbered : ℕ → List Record → List (ℕ × Record)
 numbered i [] = []
 numbered i (r ∷ rs) = (i, r) ∷ numbered (i + 1) rs
 
--- the n records that stand at the front of the bytes, one after another
+-- the first n records of the bytes, one after another
 abbrev pub first_records : ℕ → Order → List ℕ → List Record
 first_records zero order bytes = []
 first_records (suc n) order bytes =

@@ -31,11 +31,11 @@ refs_of (Eof next) = []
 abbrev pub size_of : Record → ℕ
 size_of r = 16 + list_len (length (refs_of r.body))
 
--- the first n words of the list of the record at the front of x
+-- the first n words of the list of the first record of x
 abbrev pub refs_at : Order → List ℕ → ℕ → List ℕ
 refs_at order x n = map (λ i. word_at order x (16 + 2 * i)) (range_with_len 0 n)
 
--- the words at the front of x spell the body, a line for each type: 1 UNITREF of format 1 BYTE, 3 PUBLREF and 4 PRIVREF of format 2 BIG, 7 PUBLDEF, 8 CONSTDEF, 0 EOFMARK
+-- the first words of x spell the body, a line for each type: 1 UNITREF of format 1 BYTE, 3 PUBLREF and 4 PRIVREF of format 2 BIG, 7 PUBLDEF, 8 CONSTDEF, 0 EOFMARK
 abbrev pub IsBody : Order → List ℕ → Body → Type 0
 IsBody order x (UnitRef refs) = (word_at order x 8 ≡ 1) × (word_at order x 10 ≡ 1) × (refs ≡ refs_at order x (word_at order x 12))
 IsBody order x (PublRef refs) = (word_at order x 8 ≡ 3) × (word_at order x 10 ≡ 2) × (refs ≡ refs_at order x (word_at order x 12))
@@ -93,7 +93,7 @@ type_fault kind =
 abbrev pub format_of : ℕ → Option ℕ
 format_of kind = if kind == 1 then Some 1 else (if kind == 3 || kind == 4 then Some 2 else None)
 
--- why no reference record of this format stands at the front: format 0 is WORD, of native code
+-- why no reference record of this format stands first: format 0 is WORD, of native code
 abbrev pub bad_format : Order → List ℕ → ℕ → Option Reason
 bad_format order bytes format =
     let given = word_at order bytes 10 in
@@ -101,7 +101,7 @@ bad_format order bytes format =
     else (if not (given == format) then Some reason.BadFormat
     else (if nat_lt (length bytes) (16 + list_len (word_at order bytes 12)) then Some reason.RecordsTruncated else None))
 
--- why no record stands at the front of the bytes, by the first that fits: fewer than 16 bytes, its type, its format, a list that is not whole
+-- why no record stands first in the bytes, by the first that fits: fewer than 16 bytes, its type, its format, a list that is not whole
 abbrev pub bad : Order → List ℕ → Option Reason
 bad order bytes =
     let kind = word_at order bytes 8 in
@@ -114,7 +114,7 @@ pub record Stops (order : Order) (bytes : List ℕ) (rs : List Record) (why : Re
   pub goes_on : AllByRecursion (λ r. is_eof r ≡ false) rs
   pub stops : bad order (drop (used_by rs) bytes) ≡ Some why
 
--- what the words at the front of x spell, where no fault stands
+-- what the first words of x spell, where no fault stands
 abbrev pub body_at : Order → List ℕ → Body
 body_at order x =
     let kind = word_at order x 8 in

@@ -3,7 +3,7 @@ ghost use Rattle.ps_linkinfo.specs.Records.{reading};
 ghost use Rattle.ps_linkinfo.specs.Counts.{definitions_in, privates_in, publics_in, units_in, references_in, next_of, digest_of};
 ghost use Rattle.ps_linkinfo.specs.Numbered.{numbered as numbered_spec};
 
-use crate::front::{fault_at, record_at};
+use crate::first::{fault_at, record_at};
 use crate::numbered::NumberedRecords;
 use crate::record::Body;
 use crate::tally::Tally;

@@ -7,7 +7,7 @@
 //! Source: the records and the numbers of their types are those of the published II.0 Linker source. That a list of references comes in pieces of eight words, and which records are refused, is this project's profile.
 #![tactic(auto)]
 
-mod front;
+mod first;
 mod information;
 mod laws;
 mod layout;

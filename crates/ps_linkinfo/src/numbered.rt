@@ -3,7 +3,7 @@ ghost use Rattle.std.specs.Iterator.{YieldsFirst, item_count};
 ghost use Rattle.ps_linkinfo.specs.Records.{AreSpelled};
 ghost use Rattle.ps_linkinfo.specs.Numbered.{first_records, numbered as numbered_spec};
 
-use crate::front::record_at;
+use crate::first::record_at;
 use crate::record::LinkRecord;
 use ps_words::Order;
 use std::iter::FusedIterator;

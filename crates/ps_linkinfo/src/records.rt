@@ -3,7 +3,7 @@ ghost use Rattle.std.specs.Iterator.{YieldsFirst};
 ghost use Rattle.ps_linkinfo.specs.Walk.{Advances, whole_walk};
 ghost use Rattle.ps_linkinfo.specs.Left.{left};
 
-use crate::front::record_from;
+use crate::first::record_from;
 use crate::record::LinkRecord;
 use ps_words::{Order, Reason};
 use std::marker::Model;

@@ -54,10 +54,10 @@ pub sought-append : (units : List (List ℕ × ℕ)) (row xs ys : List UnitRefer
 sought-append units row [] ys = refl
 sought-append units row (x ∷ xs) ys = sought-append units (if is_had units row x.name then row else row ++ x ∷ []) xs ys
 
--- the front of a row stays
-pub row_front : (units : List (List ℕ × ℕ)) (n : ℕ) (row gs : List UnitReference) → n ≤ length row → take n (sought_from units row gs) ≡ take n row
-row_front units n row [] h = refl
-row_front units n row (g ∷ gs) h = by (λ r l. row_front units n r gs l) (is_had units row g.name) refl
+-- the prefix of a row stays
+pub row_prefix : (units : List (List ℕ × ℕ)) (n : ℕ) (row gs : List UnitReference) → n ≤ length row → take n (sought_from units row gs) ≡ take n row
+row_prefix units n row [] h = refl
+row_prefix units n row (g ∷ gs) h = by (λ r l. row_prefix units n r gs l) (is_had units row g.name) refl
   where
     by : ((r : List UnitReference) → n ≤ length r → take n (sought_from units r gs) ≡ take n r) → (b : Bool) → is_had units row g.name ≡ b → take n (sought_from units row (g ∷ gs)) ≡ take n row
     by rest true e = rw e (rest row h)
@@ -71,7 +71,7 @@ kept units row gs = by (cases_lt (length row) 10)
     by (inl h) = ap (λ (r : List UnitReference). take 10 (sought_from units r gs)) (take_all 10 row (omega arith))
     by (inr h) =
         let long : length (take 10 row) ≡ 10 = length-take-le 10 row h in
-        row_front units 10 (take 10 row) gs (omega (arith, long)) ∙ (take_all 10 (take 10 row) (omega (arith, long)) ∙ sym (row_front units 10 row gs h))
+        row_prefix units 10 (take 10 row) gs (omega (arith, long)) ∙ (take_all 10 (take 10 row) (omega (arith, long)) ∙ sym (row_prefix units 10 row gs h))
 
 -- one name more, which is had, or for which there is no place, or which is kept
 pub kept_had : (units : List (List ℕ × ℕ)) (row : List UnitReference) (g : UnitReference) → length row ≤ 10 → is_had units row g.name ≡ true → row ≡ take 10 (sought_from units row (g ∷ []))

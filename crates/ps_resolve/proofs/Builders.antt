@@ -29,7 +29,7 @@ use Rattle.ps_resolve.specs.declared.allotment.Private.{Private}
 use Rattle.ps_resolve.specs.declared.definitions.Def.{Def}
 use Rattle.ps_resolve.specs.declared.linkage.Stop.{Stop}
 use Rattle.ps_resolve.specs.declared.linkage.Stop.TheVariants.{Refused, Memory}
-use Rattle.ps_resolve.proofs.LookingBack.{is_again, again, take_front, longer, of_test, defines_is, asks_is, definitions_carried, reason_at, record_fault, privates_carried}
+use Rattle.ps_resolve.proofs.LookingBack.{is_again, again, take_prefix, longer, of_test, defines_is, asks_is, definitions_carried, reason_at, record_fault, privates_carried}
 use Rattle.ps_resolve.proofs.Allots.{skip_privates}
 use Rattle.ps_resolve.proofs.Doubles.{none_entries}
 use Rattle.ps_resolve.proofs.Rises.{behind}
@@ -149,16 +149,16 @@ all_are : (ss : List Owner) → words_taken_by (flat_map (λ q. q.records) ss) �
 all_are [] = refl
 all_are (s ∷ ss) = omega (arith, sum_by-append (λ (q : Record). words_taken q.body) s.records (flat_map (λ (q : Owner). q.records) ss), words_are s.records, all_are ss)
 
-one_behind : (front : List Owner) (s : Owner) → all_words (front ++ s ∷ []) ≡ all_words front + private_words s.records
+one_behind : (prefix : List Owner) (s : Owner) → all_words (prefix ++ s ∷ []) ≡ all_words prefix + private_words s.records
 one_behind [] s = omega arith
-one_behind (q ∷ front) s = omega (arith, one_behind front s)
+one_behind (q ∷ prefix) s = omega (arith, one_behind prefix s)
 
--- the offset at a record of the first segment behind a front
-offset_is : (base : ℕ) (front : List Owner) (s : Owner) (rest : List Owner) (rec : ℕ) → offset_at base (front ++ s ∷ rest) (length front) s rec ≡ base + all_words front + private_words (take rec s.records)
-offset_is base front s rest rec =
-    let a = ap (λ (qs : List Owner). words_taken_by (flat_map (λ (q : Owner). q.records) qs ++ take rec s.records)) (take_front front (s ∷ rest)) in
-    let b = sum_by-append (λ (q : Record). words_taken q.body) (flat_map (λ (q : Owner). q.records) front) (take rec s.records) in
-    omega (arith, a, b, all_are front, words_are (take rec s.records))
+-- the offset at a record of the first segment behind a prefix
+offset_is : (base : ℕ) (prefix : List Owner) (s : Owner) (rest : List Owner) (rec : ℕ) → offset_at base (prefix ++ s ∷ rest) (length prefix) s rec ≡ base + all_words prefix + private_words (take rec s.records)
+offset_is base prefix s rest rec =
+    let a = ap (λ (qs : List Owner). words_taken_by (flat_map (λ (q : Owner). q.records) qs ++ take rec s.records)) (take_prefix prefix (s ∷ rest)) in
+    let b = sum_by-append (λ (q : Record). words_taken q.body) (flat_map (λ (q : Owner). q.records) prefix) (take rec s.records) in
+    omega (arith, a, b, all_are prefix, words_are (take rec s.records))
 
 -- 3. privates
 -- what h was made of
@@ -178,19 +178,19 @@ module _ (base : ℕ) (ss : List Owner) where
   segment_fault k = first_of (record_faults k) (enumerate_from 0 k.1.records)
 
   -- the search that carries the offset so far is the one that looks back over the segments
-  segments_carried : (front rest : List Owner) (n : ℕ) → ss ≡ front ++ rest → n ≡ length front
-      → first_private_fault (base + all_words front) rest ≡ first_of segment_fault (enumerate_from n rest)
-  segments_carried front [] n is e = refl
-  segments_carried front (s ∷ rest) n is e =
-      let start = base + all_words front in
+  segments_carried : (prefix rest : List Owner) (n : ℕ) → ss ≡ prefix ++ rest → n ≡ length prefix
+      → first_private_fault (base + all_words prefix) rest ≡ first_of segment_fault (enumerate_from n rest)
+  segments_carried prefix [] n is e = refl
+  segments_carried prefix (s ∷ rest) n is e =
+      let start = base + all_words prefix in
       let h : Reason → ℕ → Fault = λ why rec. in_record s.file s.slot rec why in
       let mine : option_map (λ (f : ℕ × Reason). h f.1 f.0) (private_fault 0 start [] s.records) ≡ segment_fault (n, s) =
       ap (λ (m : ℕ). option_map (λ (f : ℕ × Reason). h f.1 f.0) (private_fault 0 m [] s.records)) (omega arith)
       ∙ privates_carried h (λ rec. offset_at base ss n s rec) start [] s.records 0 refl
-      (λ rec. ap (λ (qs : List Owner). offset_at base qs n s rec) is ∙ (ap (λ (k : ℕ). offset_at base (front ++ s ∷ rest) k s rec) e ∙ offset_is base front s rest rec)) in
+      (λ rec. ap (λ (qs : List Owner). offset_at base qs n s rec) is ∙ (ap (λ (k : ℕ). offset_at base (prefix ++ s ∷ rest) k s rec) e ∙ offset_is base prefix s rest rec)) in
       let later : first_private_fault (start + private_words s.records) rest ≡ first_of segment_fault (enumerate_from (n + 1) rest) =
-      ap (λ (m : ℕ). first_private_fault m rest) (omega (arith, one_behind front s))
-      ∙ segments_carried (front ++ s ∷ []) rest (n + 1) (is ∙ sym (append_assoc front (s ∷ []) rest)) (omega (arith, longer front s, e)) in
+      ap (λ (m : ℕ). first_private_fault m rest) (omega (arith, one_behind prefix s))
+      ∙ segments_carried (prefix ++ s ∷ []) rest (n + 1) (is ∙ sym (append_assoc prefix (s ∷ []) rest)) (omega (arith, longer prefix s, e)) in
       ap (λ (o : Option Fault). option_or o (first_private_fault (start + private_words s.records) rest)) mine ∙ ap (option_or (segment_fault (n, s))) later
 
   segments_back : first_private_fault base ss ≡ first_of segment_fault (enumerate_from 0 ss)

@@ -6,14 +6,14 @@ use Rattle.ps_resolve.specs.Privates.{words_in, allotted, private_words, all_all
 use Rattle.ps_resolve.specs.Offsets.{FollowOn}
 use Rattle.ps_resolve.specs.declared.allotment.Private.{Private}
 
--- one in front
+-- one more before
 follow_cons : (next : ℕ) (p : Private) (ps : List Private) → p.offset ≡ next → FollowOn (next + p.words) ps → FollowOn next (p ∷ ps)
 follow_cons next p ps e h zero d lt = omega (arith, e)
 follow_cons next p ps e h (suc k) d lt = h k d (omega arith) ∙ (let s = sum_by-cons (λ (q : Private). q.words) p (take k ps) in omega (arith, s))
 
-in_front : (slot : ℕ) (rs : List Record) (rec next : ℕ) (tail : List Private) → FollowOn (next + private_words rs) tail → FollowOn next (allotted slot rec next rs ++ tail)
-in_front slot [] rec next tail h = λ k d lt. h k d lt ∙ omega arith
-in_front slot (r ∷ rs) rec next tail h = at (words_in r.body) refl (λ rec next. in_front slot rs rec next tail)
+prefixed : (slot : ℕ) (rs : List Record) (rec next : ℕ) (tail : List Private) → FollowOn (next + private_words rs) tail → FollowOn next (allotted slot rec next rs ++ tail)
+prefixed slot [] rec next tail h = λ k d lt. h k d lt ∙ omega arith
+prefixed slot (r ∷ rs) rec next tail h = at (words_in r.body) refl (λ rec next. prefixed slot rs rec next tail)
   where
     at : (w : Option ℕ) → words_in r.body ≡ w → ((rec next : ℕ) → FollowOn (next + private_words rs) tail → FollowOn next (allotted slot rec next rs ++ tail)) → FollowOn next (allotted slot rec next (r ∷ rs) ++ tail)
     at None e again = rw (e, allotted) (again (rec + 1) next (let same : private_words (r ∷ rs) ≡ private_words rs = rw (e, private_words) refl in rw (← same) h))
@@ -24,4 +24,4 @@ in_front slot (r ∷ rs) rec next tail h = at (words_in r.body) refl (λ rec nex
 
 pub follow : (next : ℕ) (ss : List Owner) → FollowOn next (all_allotted next ss)
 follow next [] = λ k d lt. absurd (omega arith)
-follow next (s ∷ ss) = in_front s.slot s.records 0 next (all_allotted (next + private_words s.records) ss) (follow (next + private_words s.records) ss)
+follow next (s ∷ ss) = prefixed s.slot s.records 0 next (all_allotted (next + private_words s.records) ss) (follow (next + private_words s.records) ss)

@@ -28,7 +28,7 @@ use Rattle.ps_resolve.specs.declared.definitions.Def.{Def}
 pub of_test : (b : Bool) → Decides b (b ≡ true)
 of_test b = (λ e. e, λ e. e)
 
--- a test of the items of a front
+-- a test of the items of a prefix
 pub any_of_take : {A : Type 0} (test : A → Bool) (P : A → Type 0) → ((a : A) → Decides (test a) (P a)) → (n : ℕ) (items : List A) → Decides (list_any test (take n items)) (SomeBelow n (λ i. (q : A) × (slice_get items i ≡ Some q) × P q))
 any_of_take test P d zero items = (λ e. absurd (false≢true e), λ t. absurd (omega (arith, t.1)))
 any_of_take test P d (suc n) [] = (λ e. absurd (false≢true e), λ t. absurd (let e = t.2.1 in cc))
@@ -52,14 +52,14 @@ again test records rec r =
     (any_of_take (λ q. test q.body && bytes_eq r.name q.name) (λ q. (test q.body ≡ true) × (q.name ≡ r.name))
     (λ q. Decides-and (test q.body) (bytes_eq r.name q.name) (of_test (test q.body)) (Decides-like (bytes_eq r.name q.name) (λ e. sym e) (λ e. sym e) (bytes_eq-Decides r.name q.name))) rec records)
 
--- a front of a list
-pub take_front : {A : Type 0} (front rest : List A) → take (length front) (front ++ rest) ≡ front
-take_front [] rest = refl
-take_front (a ∷ front) rest = ap (λ (xs : List _). a ∷ xs) (take_front front rest)
+-- a prefix of a list
+pub take_prefix : {A : Type 0} (prefix rest : List A) → take (length prefix) (prefix ++ rest) ≡ prefix
+take_prefix [] rest = refl
+take_prefix (a ∷ prefix) rest = ap (λ (xs : List _). a ∷ xs) (take_prefix prefix rest)
 
-pub longer : {A : Type 0} (front : List A) (a : A) → length (front ++ a ∷ []) ≡ length front + 1
+pub longer : {A : Type 0} (prefix : List A) (a : A) → length (prefix ++ a ∷ []) ≡ length prefix + 1
 longer [] a = refl
-longer (b ∷ front) a = let h = longer front a in omega (arith, h)
+longer (b ∷ prefix) a = let h = longer prefix a in omega (arith, h)
 
 -- a record defines a name where it has a definition
 pub defines_is : (b : Body) → is_definition b ≡ is_some (def_in b)
@@ -74,70 +74,70 @@ abbrev defined : List ℕ → Record → Bool
 defined name q = is_definition q.body && bytes_eq name q.name
 
 -- the definitions have the name where a record does
-known : (name : List ℕ) (front : List Record) → is_some (definition_of name (definitions front)) ≡ list_any (defined name) front
+known : (name : List ℕ) (prefix : List Record) → is_some (definition_of name (definitions prefix)) ≡ list_any (defined name) prefix
 known name [] = refl
-known name (q ∷ front) =
-    go (def_in q.body) (known name front) ∙ ap (λ (b : Bool). (b && bytes_eq name q.name) || list_any (defined name) front) (sym (defines_is q.body))
+known name (q ∷ prefix) =
+    go (def_in q.body) (known name prefix) ∙ ap (λ (b : Bool). (b && bytes_eq name q.name) || list_any (defined name) prefix) (sym (defines_is q.body))
   where
-    go : (o : Option Def) → is_some (definition_of name (definitions front)) ≡ list_any (defined name) front
-        → is_some (definition_of name (cons_option (elim o [ None ↦ None | Some d ↦ Some (q.name, d) ]) (definitions front))) ≡ ((is_some o && bytes_eq name q.name) || list_any (defined name) front)
+    go : (o : Option Def) → is_some (definition_of name (definitions prefix)) ≡ list_any (defined name) prefix
+        → is_some (definition_of name (cons_option (elim o [ None ↦ None | Some d ↦ Some (q.name, d) ]) (definitions prefix))) ≡ ((is_some o && bytes_eq name q.name) || list_any (defined name) prefix)
     go None e = e
     go (Some d) e = at (bytes_eq name q.name)
       where
-        at : (b : Bool) → is_some (if b then Some d else definition_of name (definitions front)) ≡ (b || list_any (defined name) front)
+        at : (b : Bool) → is_some (if b then Some d else definition_of name (definitions prefix)) ≡ (b || list_any (defined name) prefix)
         at true = refl
         at false = e
 
-more_definitions : (front : List Record) (r : Record) → definitions (front ++ r ∷ []) ≡ definitions front ++ cons_option (definition_in r) []
+more_definitions : (prefix : List Record) (r : Record) → definitions (prefix ++ r ∷ []) ≡ definitions prefix ++ cons_option (definition_in r) []
 more_definitions [] r = refl
-more_definitions (q ∷ front) r = go (definition_in q) (more_definitions front r)
+more_definitions (q ∷ prefix) r = go (definition_in q) (more_definitions prefix r)
   where
-    go : (o : Option (List ℕ × Def)) → definitions (front ++ r ∷ []) ≡ definitions front ++ cons_option (definition_in r) [] → cons_option o (definitions (front ++ r ∷ [])) ≡ cons_option o (definitions front) ++ cons_option (definition_in r) []
+    go : (o : Option (List ℕ × Def)) → definitions (prefix ++ r ∷ []) ≡ definitions prefix ++ cons_option (definition_in r) [] → cons_option o (definitions (prefix ++ r ∷ [])) ≡ cons_option o (definitions prefix) ++ cons_option (definition_in r) []
     go None e = e
     go (Some d) e = ap (λ (ds : List (List ℕ × Def)). d ∷ ds) e
 
 -- the search that carries the definitions so far is the one that looks back
-pub definitions_carried : (h : ℕ → Fault) (front rs : List Record) (rec : ℕ) → rec ≡ length front
-    → option_map h (doubled_from rec (definitions front) rs) ≡ first_of (λ (r : ℕ × Record). fault_if (is_again is_definition (front ++ rs) r) (h r.0)) (enumerate_from rec rs)
-definitions_carried h front [] rec e = refl
-definitions_carried h front (r ∷ rs) rec e = go (def_in r.body) refl (definitions_carried h (front ++ r ∷ []) rs (rec + 1) (let l = longer front r in omega (arith, l, e)))
+pub definitions_carried : (h : ℕ → Fault) (prefix rs : List Record) (rec : ℕ) → rec ≡ length prefix
+    → option_map h (doubled_from rec (definitions prefix) rs) ≡ first_of (λ (r : ℕ × Record). fault_if (is_again is_definition (prefix ++ rs) r) (h r.0)) (enumerate_from rec rs)
+definitions_carried h prefix [] rec e = refl
+definitions_carried h prefix (r ∷ rs) rec e = go (def_in r.body) refl (definitions_carried h (prefix ++ r ∷ []) rs (rec + 1) (let l = longer prefix r in omega (arith, l, e)))
   where
     all : List Record
-    all = front ++ r ∷ rs
+    all = prefix ++ r ∷ rs
 
     later : List Record → Option Fault
     later records = first_of (λ (q : ℕ × Record). fault_if (is_again is_definition records q) (h q.0)) (enumerate_from (rec + 1) rs)
 
-    front_is : take rec all ≡ front
-    front_is = ap (λ (n : ℕ). take n all) e ∙ take_front front (r ∷ rs)
+    prefix_is : take rec all ≡ prefix
+    prefix_is = ap (λ (n : ℕ). take n all) e ∙ take_prefix prefix (r ∷ rs)
 
     go : (o : Option Def) → def_in r.body ≡ o
-        → option_map h (doubled_from (rec + 1) (definitions (front ++ r ∷ [])) rs) ≡ later ((front ++ r ∷ []) ++ rs)
-        → option_map h (doubled_from rec (definitions front) (r ∷ rs)) ≡ option_or (fault_if (is_again is_definition all (rec, r)) (h rec)) (later all)
+        → option_map h (doubled_from (rec + 1) (definitions (prefix ++ r ∷ [])) rs) ≡ later ((prefix ++ r ∷ []) ++ rs)
+        → option_map h (doubled_from rec (definitions prefix) (r ∷ rs)) ≡ option_or (fault_if (is_again is_definition all (rec, r)) (h rec)) (later all)
     go None d more =
-        let same : definitions (front ++ r ∷ []) ≡ definitions front = more_definitions front r ∙ rw (d, cons_option) (append-nil (definitions front)) in
-        let step : option_map h (doubled_from (rec + 1) (definitions front) rs) ≡ later all = rw (← same) (more ∙ ap later (append_assoc front (r ∷ []) rs)) in
+        let same : definitions (prefix ++ r ∷ []) ≡ definitions prefix = more_definitions prefix r ∙ rw (d, cons_option) (append-nil (definitions prefix)) in
+        let step : option_map h (doubled_from (rec + 1) (definitions prefix) rs) ≡ later all = rw (← same) (more ∙ ap later (append_assoc prefix (r ∷ []) rs)) in
         let none : is_definition r.body ≡ false = defines_is r.body ∙ ap is_some d in
         rw (d, doubled_from, is_again) (rw none step)
-    go (Some d) defines more = at (is_some (definition_of r.name (definitions front))) refl
+    go (Some d) defines more = at (is_some (definition_of r.name (definitions prefix))) refl
       where
-        same : definitions (front ++ r ∷ []) ≡ definitions front ++ (r.name, d) ∷ []
-        same = more_definitions front r ∙ rw (defines, cons_option) refl
+        same : definitions (prefix ++ r ∷ []) ≡ definitions prefix ++ (r.name, d) ∷ []
+        same = more_definitions prefix r ∙ rw (defines, cons_option) refl
 
-        step : option_map h (doubled_from (rec + 1) (definitions front ++ (r.name, d) ∷ []) rs) ≡ later all
-        step = rw (← same) (more ∙ ap later (append_assoc front (r ∷ []) rs))
+        step : option_map h (doubled_from (rec + 1) (definitions prefix ++ (r.name, d) ∷ []) rs) ≡ later all
+        step = rw (← same) (more ∙ ap later (append_assoc prefix (r ∷ []) rs))
 
         one : is_definition r.body ≡ true
         one = defines_is r.body ∙ ap is_some defines
 
-        at : (b : Bool) → is_some (definition_of r.name (definitions front)) ≡ b
-            → option_map h (doubled_from rec (definitions front) (r ∷ rs)) ≡ option_or (fault_if (is_again is_definition all (rec, r)) (h rec)) (later all)
+        at : (b : Bool) → is_some (definition_of r.name (definitions prefix)) ≡ b
+            → option_map h (doubled_from rec (definitions prefix) (r ∷ rs)) ≡ option_or (fault_if (is_again is_definition all (rec, r)) (h rec)) (later all)
         at true known_is =
-            let found : list_any (defined r.name) front ≡ true = sym (known r.name front) ∙ known_is in
-            rw (defines, doubled_from, is_again) (rw (known_is, one, front_is, found) refl)
+            let found : list_any (defined r.name) prefix ≡ true = sym (known r.name prefix) ∙ known_is in
+            rw (defines, doubled_from, is_again) (rw (known_is, one, prefix_is, found) refl)
         at false known_is =
-            let found : list_any (defined r.name) front ≡ false = sym (known r.name front) ∙ known_is in
-            rw (defines, doubled_from, is_again) (rw (known_is, one, front_is, found) step)
+            let found : list_any (defined r.name) prefix ≡ false = sym (known r.name prefix) ∙ known_is in
+            rw (defines, doubled_from, is_again) (rw (known_is, one, prefix_is, found) step)
 
 -- a record asks for a private where that takes words
 pub asks_is : (b : Body) → is_private_reference b ≡ is_some (words_in b)
@@ -148,36 +148,36 @@ asks_is (PublDef value) = refl
 asks_is (ConstDef value) = refl
 asks_is (Eof next) = refl
 
--- the names of the privates of a front
+-- the names of the privates of a prefix
 abbrev pub names : List Record → List (List ℕ)
 names rs = map (λ (q : Record). q.name) (filter (λ (q : Record). is_private_reference q.body) rs)
 
 abbrev private_named : List ℕ → Record → Bool
 private_named name q = is_private_reference q.body && bytes_eq name q.name
 
-seen_is : (name : List ℕ) (front : List Record) → list_any (bytes_eq name) (names front) ≡ list_any (private_named name) front
+seen_is : (name : List ℕ) (prefix : List Record) → list_any (bytes_eq name) (names prefix) ≡ list_any (private_named name) prefix
 seen_is name [] = refl
-seen_is name (q ∷ front) = go (is_private_reference q.body) (seen_is name front)
+seen_is name (q ∷ prefix) = go (is_private_reference q.body) (seen_is name prefix)
   where
-    go : (b : Bool) → list_any (bytes_eq name) (names front) ≡ list_any (private_named name) front
-        → list_any (bytes_eq name) (map (λ (q : Record). q.name) (if b then q ∷ filter (λ (q : Record). is_private_reference q.body) front else filter (λ (q : Record). is_private_reference q.body) front)) ≡ ((b && bytes_eq name q.name) || list_any (private_named name) front)
+    go : (b : Bool) → list_any (bytes_eq name) (names prefix) ≡ list_any (private_named name) prefix
+        → list_any (bytes_eq name) (map (λ (q : Record). q.name) (if b then q ∷ filter (λ (q : Record). is_private_reference q.body) prefix else filter (λ (q : Record). is_private_reference q.body) prefix)) ≡ ((b && bytes_eq name q.name) || list_any (private_named name) prefix)
     go true e = ap (λ (b : Bool). bytes_eq name q.name || b) e
     go false e = e
 
-more_names : (front : List Record) (r : Record) → names (front ++ r ∷ []) ≡ names front ++ names (r ∷ [])
-more_names front r =
-    ap (λ (qs : List Record). map (λ (q : Record). q.name) qs) (filter-append (λ (q : Record). is_private_reference q.body) front (r ∷ []))
-    ∙ map-append (λ (q : Record). q.name) (filter (λ (q : Record). is_private_reference q.body) front) (filter (λ (q : Record). is_private_reference q.body) (r ∷ []))
+more_names : (prefix : List Record) (r : Record) → names (prefix ++ r ∷ []) ≡ names prefix ++ names (r ∷ [])
+more_names prefix r =
+    ap (λ (qs : List Record). map (λ (q : Record). q.name) qs) (filter-append (λ (q : Record). is_private_reference q.body) prefix (r ∷ []))
+    ∙ map-append (λ (q : Record). q.name) (filter (λ (q : Record). is_private_reference q.body) prefix) (filter (λ (q : Record). is_private_reference q.body) (r ∷ []))
 
-pub more_words : (front : List Record) (r : Record) → private_words (front ++ r ∷ []) ≡ private_words front + words_taken r.body
+pub more_words : (prefix : List Record) (r : Record) → private_words (prefix ++ r ∷ []) ≡ private_words prefix + words_taken r.body
 more_words [] r = go (words_in r.body) refl
   where
     go : (w : Option ℕ) → words_in r.body ≡ w → private_words (r ∷ []) ≡ private_words [] + words_taken r.body
     go None e = rw (e, private_words, words_taken) refl
     go (Some w) e = rw (e, private_words, words_taken) (omega arith)
-more_words (q ∷ front) r = go (words_in q.body) refl (more_words front r)
+more_words (q ∷ prefix) r = go (words_in q.body) refl (more_words prefix r)
   where
-    go : (w : Option ℕ) → words_in q.body ≡ w → private_words (front ++ r ∷ []) ≡ private_words front + words_taken r.body → private_words (q ∷ (front ++ r ∷ [])) ≡ private_words (q ∷ front) + words_taken r.body
+    go : (w : Option ℕ) → words_in q.body ≡ w → private_words (prefix ++ r ∷ []) ≡ private_words prefix + words_taken r.body → private_words (q ∷ (prefix ++ r ∷ [])) ≡ private_words (q ∷ prefix) + words_taken r.body
     go None e h = rw (e, private_words) h
     go (Some w) e h = rw (e, private_words) (omega (arith, h))
 
@@ -191,62 +191,62 @@ abbrev pub record_fault : (Reason → ℕ → Fault) → (ℕ → ℕ) → List 
 record_fault h offset records r = option_map (λ why. h why r.0) (reason_at offset records r)
 
 -- the search that carries the names and the offset so far is the one that looks back
-pub privates_carried : (h : Reason → ℕ → Fault) (offset : ℕ → ℕ) (base : ℕ) (front rs : List Record) (rec : ℕ) → rec ≡ length front
-    → ((n : ℕ) → offset n ≡ base + private_words (take n (front ++ rs)))
-    → option_map (λ (f : ℕ × Reason). h f.1 f.0) (private_fault rec (base + private_words front) (names front) rs) ≡ first_of (record_fault h offset (front ++ rs)) (enumerate_from rec rs)
-privates_carried h offset base front [] rec e offsets = refl
-privates_carried h offset base front (r ∷ rs) rec e offsets =
-    go (words_in r.body) refl (privates_carried h offset base (front ++ r ∷ []) rs (rec + 1) (let l = longer front r in omega (arith, l, e)) (λ n. offsets n ∙ ap (λ (records : List Record). base + private_words (take n records)) (sym (append_assoc front (r ∷ []) rs))))
+pub privates_carried : (h : Reason → ℕ → Fault) (offset : ℕ → ℕ) (base : ℕ) (prefix rs : List Record) (rec : ℕ) → rec ≡ length prefix
+    → ((n : ℕ) → offset n ≡ base + private_words (take n (prefix ++ rs)))
+    → option_map (λ (f : ℕ × Reason). h f.1 f.0) (private_fault rec (base + private_words prefix) (names prefix) rs) ≡ first_of (record_fault h offset (prefix ++ rs)) (enumerate_from rec rs)
+privates_carried h offset base prefix [] rec e offsets = refl
+privates_carried h offset base prefix (r ∷ rs) rec e offsets =
+    go (words_in r.body) refl (privates_carried h offset base (prefix ++ r ∷ []) rs (rec + 1) (let l = longer prefix r in omega (arith, l, e)) (λ n. offsets n ∙ ap (λ (records : List Record). base + private_words (take n records)) (sym (append_assoc prefix (r ∷ []) rs))))
   where
     all : List Record
-    all = front ++ r ∷ rs
+    all = prefix ++ r ∷ rs
 
     later : List Record → Option Fault
     later records = first_of (record_fault h offset records) (enumerate_from (rec + 1) rs)
 
-    front_is : take rec all ≡ front
-    front_is = ap (λ (n : ℕ). take n all) e ∙ take_front front (r ∷ rs)
+    prefix_is : take rec all ≡ prefix
+    prefix_is = ap (λ (n : ℕ). take n all) e ∙ take_prefix prefix (r ∷ rs)
 
-    at_offset : offset rec ≡ base + private_words front
-    at_offset = offsets rec ∙ ap (λ (records : List Record). base + private_words records) front_is
+    at_offset : offset rec ≡ base + private_words prefix
+    at_offset = offsets rec ∙ ap (λ (records : List Record). base + private_words records) prefix_is
 
     Faults : ℕ → List (List ℕ) → Option Fault
     Faults free seen = option_map (λ (f : ℕ × Reason). h f.1 f.0) (private_fault (rec + 1) free seen rs)
 
     go : (w : Option ℕ) → words_in r.body ≡ w
-        → Faults (base + private_words (front ++ r ∷ [])) (names (front ++ r ∷ [])) ≡ later ((front ++ r ∷ []) ++ rs)
-        → option_map (λ (f : ℕ × Reason). h f.1 f.0) (private_fault rec (base + private_words front) (names front) (r ∷ rs)) ≡ option_or (record_fault h offset all (rec, r)) (later all)
+        → Faults (base + private_words (prefix ++ r ∷ [])) (names (prefix ++ r ∷ [])) ≡ later ((prefix ++ r ∷ []) ++ rs)
+        → option_map (λ (f : ℕ × Reason). h f.1 f.0) (private_fault rec (base + private_words prefix) (names prefix) (r ∷ rs)) ≡ option_or (record_fault h offset all (rec, r)) (later all)
     go None p more =
-        let same_words : private_words (front ++ r ∷ []) ≡ private_words front = more_words front r ∙ rw (p, words_taken) (omega arith) in
+        let same_words : private_words (prefix ++ r ∷ []) ≡ private_words prefix = more_words prefix r ∙ rw (p, words_taken) (omega arith) in
         let none : is_private_reference r.body ≡ false = asks_is r.body ∙ ap is_some p in
-        let same_names : names (front ++ r ∷ []) ≡ names front = more_names front r ∙ rw (none, filter) (append-nil (names front)) in
-        let step : Faults (base + private_words front) (names front) ≡ later all = rw (← same_words, ← same_names) (more ∙ ap later (append_assoc front (r ∷ []) rs)) in
+        let same_names : names (prefix ++ r ∷ []) ≡ names prefix = more_names prefix r ∙ rw (none, filter) (append-nil (names prefix)) in
+        let step : Faults (base + private_words prefix) (names prefix) ≡ later all = rw (← same_words, ← same_names) (more ∙ ap later (append_assoc prefix (r ∷ []) rs)) in
         rw (p, private_fault, is_again) (rw none step)
-    go (Some w) p more = at (list_any (bytes_eq r.name) (names front)) refl (nat_lt 32767 (base + private_words front + w)) refl
+    go (Some w) p more = at (list_any (bytes_eq r.name) (names prefix)) refl (nat_lt 32767 (base + private_words prefix + w)) refl
       where
         one : is_private_reference r.body ≡ true
         one = asks_is r.body ∙ ap is_some p
 
-        same_words : private_words (front ++ r ∷ []) ≡ private_words front + w
-        same_words = more_words front r ∙ rw (p, words_taken) refl
+        same_words : private_words (prefix ++ r ∷ []) ≡ private_words prefix + w
+        same_words = more_words prefix r ∙ rw (p, words_taken) refl
 
-        same_names : names (front ++ r ∷ []) ≡ names front ++ r.name ∷ []
-        same_names = more_names front r ∙ rw (one, filter) refl
+        same_names : names (prefix ++ r ∷ []) ≡ names prefix ++ r.name ∷ []
+        same_names = more_names prefix r ∙ rw (one, filter) refl
 
-        again_at : (free : ℕ) → base + private_words (front ++ r ∷ []) ≡ free → Faults free (names front ++ r.name ∷ []) ≡ later all
-        again_at free is = rw (← is, ← same_names) (more ∙ ap later (append_assoc front (r ∷ []) rs))
+        again_at : (free : ℕ) → base + private_words (prefix ++ r ∷ []) ≡ free → Faults free (names prefix ++ r.name ∷ []) ≡ later all
+        again_at free is = rw (← is, ← same_names) (more ∙ ap later (append_assoc prefix (r ∷ []) rs))
 
-        step : Faults (base + private_words front + w) (names front ++ r.name ∷ []) ≡ later all
-        step = again_at (base + private_words front + w) (omega (arith, same_words))
+        step : Faults (base + private_words prefix + w) (names prefix ++ r.name ∷ []) ≡ later all
+        step = again_at (base + private_words prefix + w) (omega (arith, same_words))
 
-        at : (b : Bool) → list_any (bytes_eq r.name) (names front) ≡ b → (c : Bool) → nat_lt 32767 (base + private_words front + w) ≡ c
-            → option_map (λ (f : ℕ × Reason). h f.1 f.0) (private_fault rec (base + private_words front) (names front) (r ∷ rs)) ≡ option_or (record_fault h offset all (rec, r)) (later all)
+        at : (b : Bool) → list_any (bytes_eq r.name) (names prefix) ≡ b → (c : Bool) → nat_lt 32767 (base + private_words prefix + w) ≡ c
+            → option_map (λ (f : ℕ × Reason). h f.1 f.0) (private_fault rec (base + private_words prefix) (names prefix) (r ∷ rs)) ≡ option_or (record_fault h offset all (rec, r)) (later all)
         at true seen c full =
-            let found : list_any (private_named r.name) front ≡ true = sym (seen_is r.name front) ∙ seen in
-            rw (p, private_fault, is_again) (rw (seen, one, front_is, found) refl)
+            let found : list_any (private_named r.name) prefix ≡ true = sym (seen_is r.name prefix) ∙ seen in
+            rw (p, private_fault, is_again) (rw (seen, one, prefix_is, found) refl)
         at false seen true full =
-            let found : list_any (private_named r.name) front ≡ false = sym (seen_is r.name front) ∙ seen in
-            rw (p, private_fault, is_again) (rw (seen, one, front_is, found, at_offset, full) refl)
+            let found : list_any (private_named r.name) prefix ≡ false = sym (seen_is r.name prefix) ∙ seen in
+            rw (p, private_fault, is_again) (rw (seen, one, prefix_is, found, at_offset, full) refl)
         at false seen false full =
-            let found : list_any (private_named r.name) front ≡ false = sym (seen_is r.name front) ∙ seen in
-            rw (p, private_fault, is_again) (rw (seen, one, front_is, found, at_offset, full) step)
+            let found : list_any (private_named r.name) prefix ≡ false = sym (seen_is r.name prefix) ∙ seen in
+            rw (p, private_fault, is_again) (rw (seen, one, prefix_is, found, at_offset, full) step)

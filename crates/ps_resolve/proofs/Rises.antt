@@ -26,9 +26,9 @@ rec_before a b s r h = grind (arith, nat_tests)
 itself : (a b : ℕ) → (nat_lt a a || (a == a && nat_le b b)) ≡ true
 itself a b = grind (arith, nat_tests)
 
-in_front : (slot : ℕ) (rs : List Record) (rec next : ℕ) (tail : List Private) → RiseFrom (slot + 1) 0 tail → RiseFrom slot rec (allotted slot rec next rs ++ tail)
-in_front slot [] rec next tail h = weaker (slot + 1) 0 slot rec tail (λ p k. slot_over slot rec p.slot p.rec k) h
-in_front slot (r ∷ rs) rec next tail h = at (words_in r.body) refl (λ rec next. in_front slot rs rec next tail h)
+prefixed : (slot : ℕ) (rs : List Record) (rec next : ℕ) (tail : List Private) → RiseFrom (slot + 1) 0 tail → RiseFrom slot rec (allotted slot rec next rs ++ tail)
+prefixed slot [] rec next tail h = weaker (slot + 1) 0 slot rec tail (λ p k. slot_over slot rec p.slot p.rec k) h
+prefixed slot (r ∷ rs) rec next tail h = at (words_in r.body) refl (λ rec next. prefixed slot rs rec next tail h)
   where
     at : (w : Option ℕ) → words_in r.body ≡ w → ((rec next : ℕ) → RiseFrom slot rec (allotted slot rec next rs ++ tail)) → RiseFrom slot rec (allotted slot rec next (r ∷ rs) ++ tail)
     at None e again = rw (e, allotted) (weaker slot (rec + 1) slot rec (allotted slot (rec + 1) next rs ++ tail) (λ p k. rec_before slot rec p.slot p.rec k) (again (rec + 1) next))
@@ -38,7 +38,7 @@ pub rise : (next from : ℕ) (ss : List Owner) → AscendFrom from (map (λ s. s
 rise next from [] h = tt
 rise next from (s ∷ ss) h =
     weaker s.slot 0 from 0 (all_allotted next (s ∷ ss)) (λ p k. slot_before from s.slot p.slot p.rec h.0 k)
-    (in_front s.slot s.records 0 next (all_allotted (next + private_words s.records) ss) (rise (next + private_words s.records) (s.slot + 1) ss h.1))
+    (prefixed s.slot s.records 0 next (all_allotted (next + private_words s.records) ss) (rise (next + private_words s.records) (s.slot + 1) ss h.1))
 
 chained : (a b s r t u : ℕ) → (nat_lt a s || (a == s && nat_le b r)) ≡ true → (nat_lt s t || (s == t && nat_le (r + 1) u)) ≡ true → (nat_lt a t || (a == t && nat_le b u)) ≡ true
 chained a b s r t u h k = grind (arith, nat_tests)

@@ -298,8 +298,3 @@ impl<A: Allocator + Copy> Allotment<A> {
         self.next_free
     }
 }
-
-/// A law of allotments: each private begins where the words of all before it end.
-pub fn privates_follow()
-    ensures { (next : ℕ) (segments : List Owner) → FollowOn next (all_allotted next segments) }
-{}

@@ -1,15 +1,15 @@
 //! The tests, by what they are about.
 mod added_units;
+mod allocations;
 mod answers;
 mod changed_bytes;
 mod cuts;
 mod dictionary;
-mod growths;
 mod host_faults;
 mod in_place;
 mod in_place_faults;
 mod largest_codes;
-mod link_growths;
+mod link_allocations;
 mod marks;
 mod most_records;
 mod order_of_faults;
@@ -19,7 +19,7 @@ mod plan;
 mod record_kinds;
 mod record_walk;
 mod records;
-mod records_growths;
+mod records_allocations;
 mod slots;
 mod tables;
 mod texts;

@@ -17,24 +17,24 @@ pub struct Refusing<B: Allocator> {
 
 impl<B: Allocator> Refusing<B> {
     /// Refuses the allocation of that number alone; none where it is 0.
-    pub fn once(inner: B, growth: u64) -> Refusing<B> {
+    pub fn once(inner: B, allocation: u64) -> Refusing<B> {
         Refusing {
             inner,
-            gate: Gate::new(growth, growth),
+            gate: Gate::new(allocation, allocation),
         }
     }
 
     /// Refuses the allocation of that number and each later one.
-    pub fn from(inner: B, growth: u64) -> Refusing<B> {
+    pub fn from(inner: B, allocation: u64) -> Refusing<B> {
         Refusing {
             inner,
-            gate: Gate::new(growth, u64::MAX),
+            gate: Gate::new(allocation, u64::MAX),
         }
     }
 
     /// How many allocations were asked for, those that were refused among them.
-    pub fn growths(&self) -> u64 {
-        self.gate.growths.get()
+    pub fn allocations(&self) -> u64 {
+        self.gate.allocations.get()
     }
 
     /// Whether an allocation was refused.
@@ -46,7 +46,7 @@ impl<B: Allocator> Refusing<B> {
 /// Counts allocations and says which of them pass.
 #[derive(Drop)]
 struct Gate {
-    growths: Cell<u64>,
+    allocations: Cell<u64>,
     refused: Cell<bool>,
     first: u64,
     last: u64,
@@ -55,7 +55,7 @@ struct Gate {
 impl Gate {
     fn new(first: u64, last: u64) -> Gate {
         Gate {
-            growths: Cell::new(0),
+            allocations: Cell::new(0),
             refused: Cell::new(false),
             first,
             last,
@@ -64,9 +64,9 @@ impl Gate {
 
     /// Counts an allocation, and returns whether it is refused.
     fn refuses(&self) -> bool {
-        let growth = self.growths.get().saturating_add(1);
-        self.growths.set(growth);
-        let refused = self.first <= growth && growth <= self.last;
+        let allocation = self.allocations.get().saturating_add(1);
+        self.allocations.set(allocation);
+        let refused = self.first <= allocation && allocation <= self.last;
         if refused {
             self.refused.set(true);
         }

@@ -1,7 +1,7 @@
 //! Units that only a unit names: they are sought in the libraries and added in empty slots of the host.
+use super::allocations::Allocating;
 use super::answers::{LITTLE, links, refuses};
-use super::growths::Growing;
-use super::link_growths::Link;
+use super::link_allocations::Link;
 use super::tables::{
     AMPLE, AMPLE_OR_NONE, AMPLE_OR_REFUSED, Base, Memory, Refusal, Row, Table, link_tables,
     refuse_tables,
@@ -275,7 +275,7 @@ fn no_slot_is_left(rt: HostRuntime) -> Result<(), Fail> {
         linked: &[],
     };
     let fault = "refused 35 NoSlot file 1 slot 7 record 0";
-    Memory::NoGrowth.answers(&rt, "sixteen segments", &call, fault)?;
+    Memory::NoAllocation.answers(&rt, "sixteen segments", &call, fault)?;
     let library = library.with(alloc, &[Length(3, 0)])?;
     let libraries = [library.as_slice()];
     let fault = "refused 13 MissingUnit file 1 slot 7 record 0";

@@ -1,6 +1,6 @@
 //! Sixteen segments of the largest codes, all operands, and ten libraries. It takes under a second as compiled, and minutes under `rt try`, which wants `--seconds 600`.
 use super::answers::{LITTLE, links, refuses};
-use super::link_growths::{Link, answers_each_call};
+use super::link_allocations::{Link, answers_each_call};
 use super::most_records::references;
 use crate::base::{BASE_LENGTH, COUNT, DEMO, base_host, base_library, linked_base_pair};
 use crate::code_file::Change::{Code, Entry, Records, Resized};

@@ -1,6 +1,6 @@
 //! A hundred thousand definitions, private variables and records, a record of as many references as one can have, and texts of megabytes. It takes under a second as compiled, and minutes under `rt try`, which wants `--seconds 600`.
 use super::answers::LITTLE;
-use super::link_growths::{Link, answers_each_call};
+use super::link_allocations::{Link, answers_each_call};
 use super::plan::builds_definitions;
 use super::texts::SLOTS_OF_THE_LIBRARY;
 use crate::base::{COUNT, STATE, base_host, base_library, linked_base_pair};

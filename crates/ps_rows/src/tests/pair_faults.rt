@@ -327,7 +327,7 @@ const OTHER_ORDER: [Refusal<'static>; 1] = [(
     "refused 3 OrderMismatch file 1",
 )];
 
-/// The refusals of a host that wants its unit from a library, with ample memory and with none, or with each growth refused where memory is taken before them.
+/// The refusals of a host that wants its unit from a library, with ample memory and with none, or with each allocation refused where memory is taken before them.
 const FAULTS: [Table<'static, Refusal<'static>>; 12] = [
     (Base::Pair, AMPLE_OR_NONE, &LIBRARIES),
     (Base::HostAlone, AMPLE_OR_NONE, &HOST_ALONE),

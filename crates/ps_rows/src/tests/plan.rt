@@ -1,5 +1,5 @@
 //! The calls that a plan is made by, each by itself.
-use super::growths::{Growing, OUT_OF_MEMORY, refuses_each_growth};
+use super::allocations::{Allocating, OUT_OF_MEMORY, refuses_each_allocation};
 use crate::base::{
     COUNT, DEMO_SLOT, LIBRARY_RECORDS, STATE, UTIL_ENTRY, UTIL_SLOT, base_host, base_library,
 };
@@ -84,7 +84,7 @@ struct BuildDefinitions<'a> {
     host: Linkage<'a>,
 }
 
-impl<'a> Growing for BuildDefinitions<'a> {
+impl<'a> Allocating for BuildDefinitions<'a> {
     fn answer<A: Allocator + Copy>(&self, alloc: Global, heap: A) -> Result<String, AllocError> {
         match Definitions::build(heap, &self.host) {
             Ok(definitions) => describe_definitions(alloc, &definitions),
@@ -100,7 +100,7 @@ struct BuildAllotment<'a> {
     segment: Linkage<'a>,
 }
 
-impl<'a> Growing for BuildAllotment<'a> {
+impl<'a> Allocating for BuildAllotment<'a> {
     fn answer<A: Allocator + Copy>(&self, alloc: Global, heap: A) -> Result<String, AllocError> {
         match Allotment::build(heap, self.next, &[self.segment]) {
             Ok(allotment) => describe_allotment(alloc, &allotment),
@@ -165,7 +165,7 @@ fn definitions_by_index_and_by_name(rt: HostRuntime) -> Result<(), Fail> {
         let call = BuildDefinitions {
             host: host_linkage(host.as_slice())?,
         };
-        refuses_each_growth(&rt, "the base host", &call, "COUNT    Public 3; ")?;
+        refuses_each_allocation(&rt, "the base host", &call, "COUNT    Public 3; ")?;
         builds_definitions(&rt, &call.host, &[COUNT_IS_3], &STATE)?;
     }
     let records = [
@@ -208,7 +208,7 @@ fn the_unit_s_private_variable(rt: HostRuntime) -> Result<(), Fail> {
             segment: unit_linkage(library.as_slice(), order)?,
         };
         let answer = "slot 7 record 1 STATE    offset 8 words 4; words 4 next 12";
-        refuses_each_growth(&rt, "the unit", &call, answer)?;
+        refuses_each_allocation(&rt, "the unit", &call, answer)?;
         match Allotment::build(alloc, 8, &[call.segment]) {
             Ok(allotment) => has_offsets(&rt, &allotment),
             Err(_) => assert!(rt; false, "no allotment"),
@@ -229,7 +229,7 @@ fn refuses_definitions(
     let call = BuildDefinitions {
         host: host_linkage(host.as_slice())?,
     };
-    refuses_each_growth(rt, what, &call, fault)
+    refuses_each_allocation(rt, what, &call, fault)
 }
 
 /// Checks that there is no allotment, from this offset on, to a unit with these records.
@@ -246,7 +246,7 @@ fn refuses_allotment(
         next,
         segment: unit_linkage(library.as_slice(), Order::Little)?,
     };
-    refuses_each_growth(rt, what, &call, fault)
+    refuses_each_allocation(rt, what, &call, fault)
 }
 
 #[test]

@@ -1,7 +1,7 @@
 //! Tables of links, each of changed base files.
+use super::allocations::{makes_no_allocation, refuses_each_allocation};
 use super::answers::{LITTLE, links};
-use super::growths::{makes_no_growth, refuses_each_growth};
-use super::link_growths::Link;
+use super::link_allocations::Link;
 use crate::added::{library_of_a_used_unit, linked_used_unit};
 use crate::base::{
     LIBRARY_RECORDS, base_host, base_library, linked_base_pair, linked_segments, util_code,
@@ -43,17 +43,17 @@ pub(crate) enum Memory {
     /// As much as it asks for.
     Ample,
     /// None, and it asks for none.
-    NoGrowth,
-    /// Each growth is refused in turn, and the link is made again with ample memory.
-    EachGrowthRefused,
+    NoAllocation,
+    /// Each allocation is refused in turn, and the link is made again with ample memory.
+    EachAllocationRefused,
 }
 
 /// The memories that the links of a table are made with: ample memory, and where the second word says so, the other one too.
 pub(crate) const AMPLE: &[Memory] = &[Memory::Ample];
 
-pub(crate) const AMPLE_OR_NONE: &[Memory] = &[Memory::Ample, Memory::NoGrowth];
+pub(crate) const AMPLE_OR_NONE: &[Memory] = &[Memory::Ample, Memory::NoAllocation];
 
-pub(crate) const AMPLE_OR_REFUSED: &[Memory] = &[Memory::Ample, Memory::EachGrowthRefused];
+pub(crate) const AMPLE_OR_REFUSED: &[Memory] = &[Memory::Ample, Memory::EachAllocationRefused];
 
 /// A table of links or of refusals, the files that its entries change, and the memories that each is tried with.
 pub(crate) type Table<'a, Entry> = (Base, &'a [Memory], &'a [Entry]);
@@ -69,8 +69,8 @@ impl Memory {
     ) -> Result<(), Fail> {
         match self {
             Memory::Ample => links(rt, what, link.host, link.libraries, answer, link.linked),
-            Memory::NoGrowth => makes_no_growth(rt, what, link, answer),
-            Memory::EachGrowthRefused => refuses_each_growth(rt, what, link, answer),
+            Memory::NoAllocation => makes_no_allocation(rt, what, link, answer),
+            Memory::EachAllocationRefused => refuses_each_allocation(rt, what, link, answer),
         }
     }
 }

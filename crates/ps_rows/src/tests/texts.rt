@@ -1,6 +1,6 @@
 //! The map of a link and the show of a code file, as text.
+use super::allocations::{Allocating, makes_no_allocation, refuses_each_allocation};
 use super::answers::LITTLE;
-use super::growths::{Growing, makes_no_growth, refuses_each_growth};
 use super::tables::Base;
 use crate::base::{BASE_LENGTH, COUNT, base_host, base_library};
 use crate::code_file::Change::{Bytes, Records, Resized};
@@ -84,7 +84,7 @@ pub(crate) struct Map<'a> {
     pub libraries: &'a [&'a [u8]],
 }
 
-impl<'a> Growing for Map<'a> {
+impl<'a> Allocating for Map<'a> {
     fn answer<A: Allocator + Copy>(&self, alloc: Global, heap: A) -> Result<String, AllocError> {
         text_of(alloc, map_text(heap, self.host, self.libraries))
     }
@@ -96,7 +96,7 @@ pub(crate) struct Show<'a> {
     pub file: &'a [u8],
 }
 
-impl<'a> Growing for Show<'a> {
+impl<'a> Allocating for Show<'a> {
     fn answer<A: Allocator + Copy>(&self, alloc: Global, heap: A) -> Result<String, AllocError> {
         text_of(alloc, show_text(heap, self.file))
     }
@@ -126,7 +126,7 @@ fn maps_of_pairs(rt: HostRuntime) -> Result<(), Fail> {
             host: host.as_slice(),
             libraries: &[library.as_slice()],
         };
-        refuses_each_growth(&rt, what, &call, map)?;
+        refuses_each_allocation(&rt, what, &call, map)?;
     }
     let host = base_host(alloc, LITTLE)?.with(alloc, &[Records(2, &DEFINITIONS)])?;
     let library = base_library(alloc, LITTLE)?;
@@ -134,7 +134,7 @@ fn maps_of_pairs(rt: HostRuntime) -> Result<(), Fail> {
         host: host.as_slice(),
         libraries: &[library.as_slice()],
     };
-    refuses_each_growth(&rt, "a constant", &call, MAP_WITH_A_CONSTANT)
+    refuses_each_allocation(&rt, "a constant", &call, MAP_WITH_A_CONSTANT)
 }
 
 /// Checks the show of a file.
@@ -147,7 +147,7 @@ pub(crate) fn shows(
     let call = Show {
         file: file.as_slice(),
     };
-    refuses_each_growth(rt, what, &call, text)
+    refuses_each_allocation(rt, what, &call, text)
 }
 
 /// Lengths to which the base library is cut, and the lines of its show behind those of the slots.
@@ -189,15 +189,15 @@ fn maps_and_shows_that_are_refused(rt: HostRuntime) -> Result<(), Fail> {
         libraries: &[],
     };
     let refused = "refused 13 MissingUnit file 0 slot 7";
-    makes_no_growth(&rt, "no library", &call, refused)?;
+    makes_no_allocation(&rt, "no library", &call, refused)?;
     let short = CodeFile::new(alloc, LITTLE, 511)?;
     let call = Show {
         file: short.as_slice(),
     };
-    makes_no_growth(&rt, "short", &call, "refused 1 ShortFile file 0")?;
+    makes_no_allocation(&rt, "short", &call, "refused 1 ShortFile file 0")?;
     let mixed = CodeFile::new(alloc, LITTLE, 512)?.with(alloc, &[Bytes(192, &[1, 1])])?;
     let call = Show {
         file: mixed.as_slice(),
     };
-    makes_no_growth(&rt, "mixed", &call, "refused 2 NoOrder file 0")
+    makes_no_allocation(&rt, "mixed", &call, "refused 2 NoOrder file 0")
 }

@@ -52,7 +52,7 @@ fn told(
 }
 
 /// Writes the linked file to a counting writer, and checks the answer, the counts, that each write that was counted was made once,
-/// and that the front of the linked file was taken for which it has room.
+/// and that the prefix of the linked file was taken for which it has room.
 fn tells(
     rt: &(impl Abort + AllocGlobal),
     linked: &Linked<'_>,
@@ -67,8 +67,8 @@ fn tells(
     assert_eq!(rt; counted, wanted, "{room} {per_write}");
     let made = (inner.writes(), inner.failures());
     assert_eq!(rt; made, (wanted.writes, wanted.errors), "{room} {per_write}");
-    let front = file.get(..room).unwrap_or(&[]);
-    assert_eq!(rt; inner.written(), front, "{room} {per_write}");
+    let prefix = file.get(..room).unwrap_or(&[]);
+    assert_eq!(rt; inner.written(), prefix, "{room} {per_write}");
     Ok(())
 }
 

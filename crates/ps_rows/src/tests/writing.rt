@@ -1,13 +1,13 @@
 //! What a writer is given that takes little, stalls or fails.
 use super::answers::{LITTLE, text_of};
-use super::link_growths::Link;
+use super::link_allocations::Link;
 use super::writers::{Full, Room};
 use crate::base::{base_host, base_library, linked_base_pair};
 use crate::in_place::{linked_unit_in_place, unit_in_place};
 use std::process::Abort;
 use std::test::Fail;
 
-/// Links into a writer with room for so many bytes, of which a write takes at most so many. Checks the answer, that the front of
+/// Links into a writer with room for so many bytes, of which a write takes at most so many. Checks the answer, that the prefix of
 /// the linked file was taken for which there is room, and how many writes there were and how many of them failed.
 fn writes(
     rt: &(impl Abort + AllocGlobal),
@@ -21,8 +21,8 @@ fn writes(
     let answered = ps_linkfile::link(alloc, link.host, link.libraries, &mut out);
     let text = text_of(alloc, answered)?;
     assert_eq!(rt; text.as_str(), answer, "{room} {per_write}");
-    let front = link.linked.get(..room).unwrap_or(&[]);
-    assert_eq!(rt; out.written(), front, "{room} {per_write}");
+    let prefix = link.linked.get(..room).unwrap_or(&[]);
+    assert_eq!(rt; out.written(), prefix, "{room} {per_write}");
     assert_eq!(rt;
         (out.writes(), out.failures()),
         counts,

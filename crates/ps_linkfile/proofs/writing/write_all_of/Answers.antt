@@ -1,6 +1,6 @@
 use Rattle.std.proofs.Common.{◌≡◌, ◌+◌, ◌-◌, arith, drop, length, length-take, length-drop, subst, sym, take}
 use Rattle.ps_linkfile.specs.declared.counts.Counts.{Counts}
-use Rattle.ps_linkfile.proofs.Fronts.{appends_more}
+use Rattle.ps_linkfile.proofs.Prefixes.{appends_more}
 use Rattle.ps_linkfile.proofs.Rising.{Progress, progress}
 use Rattle.ps_linkfile.proofs.writing.write_all_of.Goals as goal
 

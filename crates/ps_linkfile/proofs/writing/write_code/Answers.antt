@@ -2,12 +2,12 @@ use Rattle.std.proofs.Common.{◌≡◌, ◌∙◌, ◌*◌, ◌+◌, ◌++◌, 
 use Rattle.std.specs.Prelude.{min}
 use Rattle.std.specs.List.{range_with_len}
 use Rattle.std.specs.Io.KnownBytes.{Appends}
-use Rattle.ps_linkfile.specs.Outcomes.{AppendsFront}
+use Rattle.ps_linkfile.specs.Outcomes.{AppendsPrefix}
 use Rattle.ps_words.specs.Words.{blocks}
 use Rattle.ps_patch.specs.Patched.{patched_or_zero}
 use Rattle.ps_patch.specs.Patcher.{Patching}
 use Rattle.std.proofs.lemmas.Result.{err_from_is_err_and}
-use Rattle.ps_linkfile.proofs.Fronts.{appends_twice, image_is, image_split, front_more, on_err_always}
+use Rattle.ps_linkfile.proofs.Prefixes.{appends_twice, image_is, image_split, prefix_more, on_err_always}
 use Rattle.ps_linkfile.proofs.Rising.{none_after, one_after, rises_none, rises_then, room_left}
 use Rattle.ps_linkfile.proofs.writing.write_code.Goals as goal
 
@@ -52,8 +52,8 @@ returns-in_err-write_all_of-clause-failed g c =
     let p = err_from_is_err_and c.from_residual.result c.from_residual.ensures.1 in
     rw (p.1, p.2) (one_after _ _ _ _ c.loop-at.invariant.none c.in_err-write_all_of.ensures.failed)
 
-pub returns-in_err-write_all_of-clause-front : goal.returns-in_err-write_all_of-clause-front
-returns-in_err-write_all_of-clause-front g c =
+pub returns-in_err-write_all_of-clause-prefix : goal.returns-in_err-write_all_of-clause-prefix
+returns-in_err-write_all_of-clause-prefix g c =
     let n = length c.args.code.now in
     let at = c.loop-at.at in
     let f = patched_or_zero c.args.order c.args.code.now c.args.edits.now in
@@ -67,10 +67,10 @@ returns-in_err-write_all_of-clause-front g c =
     let whole = 512 * blocks n in
     let rest = map f (range_with_len (512 * at + 512) (whole - (512 * at + 512))) in
     on_err_always c.from_residual.result
-    (front_more _ _ _ (map f (range_with_len 0 (512 * at))) (map f (range_with_len (512 * at) 512)) rest _
+    (prefix_more _ _ _ (map f (range_with_len 0 (512 * at))) (map f (range_with_len (512 * at) 512)) rest _
     (ap (λ us. map f (range_with_len 0 (512 * at)) ++ us) (sym (image_split f (512 * at) 512 (whole - (512 * at + 512)) (whole - 512 * at) (512 * at + 512) (omega arith) refl))
     ∙ sym (image_split f 0 (512 * at) (whole - 512 * at) whole (512 * at) (omega arith) (omega arith)))
-    c.loop-at.invariant.written (subst (λ (xs : List ℕ). AppendsFront (g.W.Write.contents c.loop-at.out) (g.W.Write.contents c.write_all_of.new.out) xs) block c.in_err-write_all_of.ensures.front))
+    c.loop-at.invariant.written (subst (λ (xs : List ℕ). AppendsPrefix (g.W.Write.contents c.loop-at.out) (g.W.Write.contents c.write_all_of.new.out) xs) block c.in_err-write_all_of.ensures.prefix))
 
 pub returns-clause-writes : goal.returns-clause-writes
 returns-clause-writes g c =

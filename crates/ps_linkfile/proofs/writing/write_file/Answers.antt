@@ -3,8 +3,8 @@ use Rattle.std.proofs.lemmas.Result.{IfErr-weaker, on_err_weaker, on_ok_weaker}
 use Rattle.std.specs.Io.KnownBytes.{Appends}
 use Rattle.ps_linkfile.specs.LinkedFile.{all_blocks, dictionary}
 use Rattle.ps_linkfile.specs.Writing.{extents_of, padded_codes}
-use Rattle.ps_linkfile.specs.Outcomes.{AppendsFront}
-use Rattle.ps_linkfile.proofs.Fronts.{appends_twice, front_last, front_then, on_err_always}
+use Rattle.ps_linkfile.specs.Outcomes.{AppendsPrefix}
+use Rattle.ps_linkfile.proofs.Prefixes.{appends_twice, prefix_last, prefix_then, on_err_always}
 use Rattle.ps_linkfile.proofs.Codes.{codes_len}
 use Rattle.ps_linkfile.proofs.Rising.{few_of_all, none_after, one_after, rises_then, room_for, room_left}
 use Rattle.ps_linkfile.proofs.writing.write_file.Goals as goal
@@ -12,12 +12,12 @@ use Rattle.ps_linkfile.proofs.writing.write_file.Goals as goal
 pub write_all_of-requires : goal.write_all_of-requires
 write_all_of-requires g c = room_for _ _ c.requires.counts (omega arith)
 
-pub returns-in_err-write_all_of-clause-front : goal.returns-in_err-write_all_of-clause-front
-returns-in_err-write_all_of-clause-front g c =
+pub returns-in_err-write_all_of-clause-prefix : goal.returns-in_err-write_all_of-clause-prefix
+returns-in_err-write_all_of-clause-prefix g c =
     let plan = c.args.plan.now in
     on_err_always c.from_residual.result
-    (front_then _ _ (dictionary plan.order plan.names plan.host (extents_of plan)) (padded_codes plan.order plan.origins plan.edits)
-    (subst (λ (bytes : List ℕ). AppendsFront (g.W.Write.contents c.args.out.now) (g.W.Write.contents c.write_all_of.new.out) bytes) c.dictionary_of.ensures c.in_err-write_all_of.ensures.front))
+    (prefix_then _ _ (dictionary plan.order plan.names plan.host (extents_of plan)) (padded_codes plan.order plan.origins plan.edits)
+    (subst (λ (bytes : List ℕ). AppendsPrefix (g.W.Write.contents c.args.out.now) (g.W.Write.contents c.write_all_of.new.out) bytes) c.dictionary_of.ensures c.in_err-write_all_of.ensures.prefix))
 
 pub returns-in_err-write_all_of-clause-writes : goal.returns-in_err-write_all_of-clause-writes
 returns-in_err-write_all_of-clause-writes g c =
@@ -45,13 +45,13 @@ returns-clause-all g c =
     (subst (λ (bytes : List ℕ). Appends (g.W.Write.contents c.args.out.now) (g.W.Write.contents c.write_all_of.new.out) bytes) c.dictionary_of.ensures c.in_ok-write_all_of.ensures.all))
     c.write_codes.ensures.all
 
-pub returns-clause-front : goal.returns-clause-front
-returns-clause-front g c =
+pub returns-clause-prefix : goal.returns-clause-prefix
+returns-clause-prefix g c =
     let plan = c.args.plan.now in
     on_err_weaker c.write_codes.result
-    (front_last _ _ _ (dictionary plan.order plan.names plan.host (extents_of plan)) (padded_codes plan.order plan.origins plan.edits)
+    (prefix_last _ _ _ (dictionary plan.order plan.names plan.host (extents_of plan)) (padded_codes plan.order plan.origins plan.edits)
     (subst (λ (bytes : List ℕ). Appends (g.W.Write.contents c.args.out.now) (g.W.Write.contents c.write_all_of.new.out) bytes) c.dictionary_of.ensures c.in_ok-write_all_of.ensures.all))
-    c.write_codes.ensures.front
+    c.write_codes.ensures.prefix
 
 pub returns-clause-writes : goal.returns-clause-writes
 returns-clause-writes g c =

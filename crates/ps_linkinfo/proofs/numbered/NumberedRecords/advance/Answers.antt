@@ -2,13 +2,13 @@ use Rattle.std.proofs.Common.{◌≡◌, ◌∙◌, ◌-◌, ◌+◌, ap, sym, s
 use Rattle.ps_linkinfo.specs.Records.{record_at, size_of}
 use Rattle.ps_linkinfo.specs.Numbered.{first_records, numbered}
 use Rattle.ps_linkinfo.specs.declared.record.LinkRecord.{LinkRecord as Record}
-use Rattle.ps_linkinfo.proofs.FirstRecords.{AreFirst, front_good, rest_spelled, numbered_first, part_is, one_more, next_up}
+use Rattle.ps_linkinfo.proofs.FirstRecords.{AreFirst, first_good, rest_spelled, numbered_first, part_is, one_more, next_up}
 use Rattle.ps_linkinfo.proofs.numbered.NumberedRecords.advance.Goals as goal
 
 pub record_at-record-requires : goal.record_at-record-requires
 record_at-record-requires c =
     let w = c.self.inside in
-    front_good (w.end - w.index) (w.end - (w.index + 1)) w.order w.rest.now (one_more w.index w.end c.self.invariant.0 c.if-index-self.false) c.self.invariant.1
+    first_good (w.end - w.index) (w.end - (w.index + 1)) w.order w.rest.now (one_more w.index w.end c.self.invariant.0 c.if-index-self.false) c.self.invariant.1
 
 pub invariant_of-self : goal.invariant_of-self
 invariant_of-self c =

@@ -1,6 +1,6 @@
 //! `link` and its parts where memory is wanting, and how often it is asked for.
+use super::allocations::{Allocating, OUT_OF_MEMORY, refused_allocations};
 use super::answers::text_of;
-use super::growths::{Growing, OUT_OF_MEMORY, refused_growths};
 use super::tables::Base;
 use super::texts::Map;
 use super::writers::{Full, Room};
@@ -19,7 +19,7 @@ pub(crate) struct Link<'a> {
     pub linked: &'a [u8],
 }
 
-impl<'a> Growing for Link<'a> {
+impl<'a> Allocating for Link<'a> {
     /// The writer takes no memory; without a Summary nothing may be written.
     fn answer<A: Allocator + Copy>(&self, alloc: Global, heap: A) -> Result<String, AllocError> {
         let mut out = Room::new(alloc, self.linked.len(), usize::MAX, Full::Stalls)?;
@@ -50,7 +50,7 @@ struct Resolve<'a> {
     link: Link<'a>,
 }
 
-impl<'a> Growing for Resolve<'a> {
+impl<'a> Allocating for Resolve<'a> {
     /// How many edits each segment of the plan has, and how many private words there are.
     fn answer<A: Allocator + Copy>(&self, alloc: Global, heap: A) -> Result<String, AllocError> {
         match resolve(heap, self.link.host, self.link.libraries) {
@@ -78,7 +78,7 @@ struct Prepare<'a> {
     link: Link<'a>,
 }
 
-impl<'a> Growing for Prepare<'a> {
+impl<'a> Allocating for Prepare<'a> {
     fn answer<A: Allocator + Copy>(&self, alloc: Global, heap: A) -> Result<String, AllocError> {
         let mut out = Room::new(alloc, self.link.linked.len(), usize::MAX, Full::Stalls)?;
         match prepare(heap, self.link.host, self.link.libraries) {
@@ -92,7 +92,11 @@ impl<'a> Growing for Prepare<'a> {
 }
 
 /// Checks the answer of a call with ample memory.
-fn answers(rt: &(impl Abort + AllocGlobal), call: &impl Growing, answer: &str) -> Result<(), Fail> {
+fn answers(
+    rt: &(impl Abort + AllocGlobal),
+    call: &impl Allocating,
+    answer: &str,
+) -> Result<(), Fail> {
     let alloc = rt.alloc();
     let text = call.answer(alloc, alloc)?;
     assert_eq!(rt; text.as_str(), answer);
@@ -193,21 +197,21 @@ fn writing_grows_nothing(
     summary: &str,
 ) -> Result<(), Fail> {
     let linked = prepare(heap, link.host, link.libraries)?;
-    assert_eq!(rt; heap.growths(), planning);
+    assert_eq!(rt; heap.allocations(), planning);
     writes_each_way(rt, &linked, summary, link.linked)?;
-    assert_eq!(rt; heap.growths(), planning);
+    assert_eq!(rt; heap.allocations(), planning);
     Ok(())
 }
 
-/// Checks the answers of `resolve` and of `prepare` with each growth refused in turn, that both are refused as many, and that a linked file is written without any.
+/// Checks the answers of `resolve` and of `prepare` with each allocation refused in turn, that both are refused as many, and that a linked file is written without any.
 fn only_the_plan_grows(
     rt: &(impl Abort + AllocGlobal),
     link: Link<'_>,
     planned: &str,
     summary: &str,
 ) -> Result<(), Fail> {
-    let planning = refused_growths(rt, "resolve", &Resolve { link }, planned)?;
-    let preparing = refused_growths(rt, "prepare", &Prepare { link }, summary)?;
+    let planning = refused_allocations(rt, "resolve", &Resolve { link }, planned)?;
+    let preparing = refused_allocations(rt, "prepare", &Prepare { link }, summary)?;
     assert!(rt; planning > 0);
     assert_eq!(rt; preparing, planning);
     let heap = Refusing::once(rt.alloc(), 0);

@@ -1,50 +1,50 @@
--- Fronts of what is to be written, and lists that are a function of their places.
+-- Prefixes of what is to be written, and lists that are a function of their places.
 use Rattle.std.proofs.Common.{◌≡◌, ℕ, zero, suc, ◌+◌, ◌-◌, ◌<◌, List, [], ◌∷◌, ◌++◌, length, take, drop, map, get_or, Option, Some, None, Result, Ok, Err, OnErr, refl, sym, ◌∙◌, ap, subst, append_assoc, arith, length-drop}
 use Rattle.std.proofs.lemmas.List.{append-nil, take_all, take-append-drop, ext_get_or}
 use Rattle.std.proofs.Math.Seq.{take-append_seam, take-add}
 use Rattle.std.proofs.lemmas.List.FromFn.{length-map-range_with_len, get_or-map-range_with_len}
 use Rattle.std.specs.Io.KnownBytes.{Appends}
 use Rattle.std.specs.List.{range_with_len}
-use Rattle.ps_linkfile.specs.Outcomes.{AppendsFront}
+use Rattle.ps_linkfile.specs.Outcomes.{AppendsPrefix}
 
 -- what stays as it was grew by nothing
 pub appends_none : (o : Option (List ℕ)) → Appends o o []
 appends_none None = tt
 appends_none (Some xs) = sym (append-nil xs)
 
--- two growths after one another
+-- two additions after one another
 pub appends_twice : (a b c : Option (List ℕ)) (xs ys : List ℕ) → Appends a b xs → Appends b c ys → Appends a c (xs ++ ys)
 appends_twice None b c xs ys h k = tt
 appends_twice (Some xa) None c xs ys h k = absurd h
 appends_twice (Some xa) (Some xb) None xs ys h k = absurd k
 appends_twice (Some xa) (Some xb) (Some xc) xs ys h k = k ∙ (ap (λ (zs : List ℕ). zs ++ ys) h ∙ append_assoc xa xs ys)
 
--- a front and then a front of the rest
+-- a prefix and then a prefix of the rest
 pub appends_more : (a b c : Option (List ℕ)) (i n : ℕ) (bs : List ℕ) → Appends a b (take i bs) → Appends b c (take n (take (length bs - i) (drop i bs))) → Appends a c (take (i + n) bs)
 appends_more a b c i n bs h k =
     let whole = take_all (length bs - i) (drop i bs) (omega (arith, length-drop i bs)) in
     rw take-add (appends_twice a b c (take i bs) (take n (drop i bs)) h (subst (λ (xs : List ℕ). Appends b c (take n xs)) whole k))
 
--- a front, with what is left
-pub front_from : (a c : Option (List ℕ)) (front rest bs : List ℕ) → front ++ rest ≡ bs → Appends a c front → AppendsFront a c bs
-front_from a c front rest bs e h = (length front, rw (← e, take-append_seam) h)
+-- a prefix, with what is left
+pub prefix_from : (a c : Option (List ℕ)) (prefix rest bs : List ℕ) → prefix ++ rest ≡ bs → Appends a c prefix → AppendsPrefix a c bs
+prefix_from a c prefix rest bs e h = (length prefix, rw (← e, take-append_seam) h)
 
--- some bytes, and then a front of more, of which still more may follow
-pub front_more : (a b c : Option (List ℕ)) (xs ys zs bs : List ℕ) → xs ++ (ys ++ zs) ≡ bs → Appends a b xs → AppendsFront b c ys → AppendsFront a c bs
-front_more a b c xs ys zs bs e h k =
-    front_from a c (xs ++ take k.0 ys) (drop k.0 ys ++ zs) bs
+-- some bytes, and then a prefix of more, of which still more may follow
+pub prefix_more : (a b c : Option (List ℕ)) (xs ys zs bs : List ℕ) → xs ++ (ys ++ zs) ≡ bs → Appends a b xs → AppendsPrefix b c ys → AppendsPrefix a c bs
+prefix_more a b c xs ys zs bs e h k =
+    prefix_from a c (xs ++ take k.0 ys) (drop k.0 ys ++ zs) bs
     (append_assoc xs (take k.0 ys) (drop k.0 ys ++ zs) ∙ (ap (λ (us : List ℕ). xs ++ us) (sym (append_assoc (take k.0 ys) (drop k.0 ys) zs) ∙ ap (λ (us : List ℕ). us ++ zs) (take-append-drop k.0 ys)) ∙ e))
     (appends_twice a b c xs (take k.0 ys) h k.1)
 
--- a front, of which more may follow
-pub front_then : (a c : Option (List ℕ)) (ys zs : List ℕ) → AppendsFront a c ys → AppendsFront a c (ys ++ zs)
-front_then a c ys zs k =
-    front_from a c (take k.0 ys) (drop k.0 ys ++ zs) (ys ++ zs)
+-- a prefix, of which more may follow
+pub prefix_then : (a c : Option (List ℕ)) (ys zs : List ℕ) → AppendsPrefix a c ys → AppendsPrefix a c (ys ++ zs)
+prefix_then a c ys zs k =
+    prefix_from a c (take k.0 ys) (drop k.0 ys ++ zs) (ys ++ zs)
     (sym (append_assoc (take k.0 ys) (drop k.0 ys) zs) ∙ ap (λ (us : List ℕ). us ++ zs) (take-append-drop k.0 ys)) k.1
 
--- some bytes, and then a front of the rest
-pub front_last : (a b c : Option (List ℕ)) (xs ys : List ℕ) → Appends a b xs → AppendsFront b c ys → AppendsFront a c (xs ++ ys)
-front_last a b c xs ys h k = front_more a b c xs ys [] (xs ++ ys) (ap (λ (us : List ℕ). xs ++ us) (append-nil ys)) h k
+-- some bytes, and then a prefix of the rest
+pub prefix_last : (a b c : Option (List ℕ)) (xs ys : List ℕ) → Appends a b xs → AppendsPrefix b c ys → AppendsPrefix a c (xs ++ ys)
+prefix_last a b c xs ys h k = prefix_more a b c xs ys [] (xs ++ ys) (ap (λ (us : List ℕ). xs ++ us) (append-nil ys)) h k
 
 -- what is f of its place, from a on
 pub image_is : (f : ℕ → ℕ) (a n : ℕ) (xs : List ℕ) → length xs ≡ n → ((k : ℕ) → k < n → get_or xs k 0 ≡ f (a + k)) → xs ≡ map f (range_with_len a n)

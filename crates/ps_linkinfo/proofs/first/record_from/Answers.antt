@@ -2,7 +2,7 @@ use Rattle.std.proofs.Common.{◌≡◌, ◌∙◌, None, drop, ap, subst, sym}
 use Rattle.ps_linkinfo.specs.Records.{BeginsWith, bad, record_at}
 use Rattle.ps_linkinfo.specs.declared.record.LinkRecord.{LinkRecord as Record}
 use Rattle.ps_linkinfo.proofs.Stands.{begins_at}
-use Rattle.ps_linkinfo.proofs.front.record_from.Goals as goal
+use Rattle.ps_linkinfo.proofs.first.record_from.Goals as goal
 
 pub returns-in-None-clause-ok : goal.returns-in-None-clause-ok
 returns-in-None-clause-ok c =

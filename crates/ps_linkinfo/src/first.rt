@@ -1,4 +1,4 @@
-//! The record that stands at the front of some bytes.
+//! The first record of some bytes.
 ghost use Rattle.std.specs.Prelude.{◌≡◌, ◌≤◌, ◌*◌, ◌+◌, length, drop, IfOk, IfErr, Some, None};
 ghost use Rattle.ps_words.specs.Words.{word_at};
 ghost use Rattle.ps_linkinfo.specs.Records.{BeginsWith, bad, bad_format, refs_at as refs_at_spec, body_at as body_at_spec, record_at as record_at_spec, list_len as list_len_spec};
@@ -12,7 +12,7 @@ use crate::record::{Body, LinkRecord};
 use crate::refs::Refs;
 use ps_words::{Order, Reason, get};
 
-/// Why no reference record of this format stands at the front.
+/// Why no reference record of this format stands first.
 #[inline(always)]
 fn format_fault(order: Order, rest: &[u8], format: u16) -> Option<Reason>
     requires { 16 ≤ length rest.now }
@@ -32,7 +32,7 @@ fn format_fault(order: Order, rest: &[u8], format: u16) -> Option<Reason>
     None
 }
 
-/// Why no record stands at the front.
+/// Why no record stands first.
 #[inline(always)]
 pub(crate) fn fault_at(order: Order, rest: &[u8]) -> Option<Reason>
     ensures { result ≡ bad order rest.now }
@@ -50,7 +50,7 @@ pub(crate) fn fault_at(order: Order, rest: &[u8]) -> Option<Reason>
     }
 }
 
-/// The references of the record at the front, whose list is whole.
+/// The references of the first record, whose list is whole.
 #[inline(always)]
 fn refs_at(order: Order, rest: &[u8]) -> Refs<'_>
     requires { 16 + list_len_spec (word_at order rest.now 12) ≤ length rest.now }
@@ -60,7 +60,7 @@ fn refs_at(order: Order, rest: &[u8]) -> Refs<'_>
     Refs::new(order, &rest[RECORD_LEN..RECORD_LEN + WORD_LEN * count])
 }
 
-/// The body of the record at the front, where no fault stands.
+/// The body of the first record, where no fault stands.
 #[inline(always)]
 fn body_at(order: Order, rest: &[u8]) -> Body<'_>
     requires { bad order rest.now ≡ None }
@@ -80,7 +80,7 @@ fn body_at(order: Order, rest: &[u8]) -> Body<'_>
     }
 }
 
-/// The record at the front, where no fault stands.
+/// The first record, where no fault stands.
 #[inline(always)]
 pub(crate) fn record_at(order: Order, rest: &[u8]) -> LinkRecord<'_>
     requires { bad order rest.now ≡ None }
