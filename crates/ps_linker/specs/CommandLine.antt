@@ -39,8 +39,8 @@ abbrev pub texts : List (Bor Text) → List Text
 texts args = map (λ arg. arg.now) args
 
 -- clap takes these args
-abbrev pub IsTaken : List Text → Type 0
-IsTaken args = takes pslink_app args ≡ true
+abbrev pub AreTaken : List Text → Type 0
+AreTaken args = takes pslink_app args ≡ true
 
 -- the command that args name, and what is named for it
 abbrev pub named_in : List Text → Option (Text × List Row)

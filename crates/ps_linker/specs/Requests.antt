@@ -23,19 +23,19 @@ abbrev pub is_library : Text → List Text → Bool
 is_library path libraries = list_any (λ library. bytes_eq library path) libraries
 
 -- the command that is named, with the files that are named for it; a link writes no file that is named as a library
-abbrev pub IsNamed : {A : Type 0} → Request A → Option (Text × List Row) → Type 0
-IsNamed (request.Text text) named = ⊥
-IsNamed (request.Link inputs out) named = (rows : List Row) × (named ≡ Some (codes "link", rows)) × NamesInputs inputs rows × (first_of (codes "OUT") rows ≡ Some out.now)
+abbrev pub IsNamedCommand : {A : Type 0} → Request A → Option (Text × List Row) → Type 0
+IsNamedCommand (request.Text text) named = ⊥
+IsNamedCommand (request.Link inputs out) named = (rows : List Row) × (named ≡ Some (codes "link", rows)) × NamesInputs inputs rows × (first_of (codes "OUT") rows ≡ Some out.now)
     × (is_library out.now (libraries_of rows) ≡ false)
-IsNamed (request.Map inputs) named = (rows : List Row) × (named ≡ Some (codes "map", rows)) × NamesInputs inputs rows
-IsNamed (request.Show file) named = (rows : List Row) × (named ≡ Some (codes "show", rows)) × (first_of (codes "FILE") rows ≡ Some file.now)
+IsNamedCommand (request.Map inputs) named = (rows : List Row) × (named ≡ Some (codes "map", rows)) × NamesInputs inputs rows
+IsNamedCommand (request.Show file) named = (rows : List Row) × (named ≡ Some (codes "show", rows)) × (first_of (codes "FILE") rows ≡ Some file.now)
 
 -- the help or the version, or the command that is named
-abbrev pub AsksFor : {A : Type 0} → Request A → Option (Text × List Row) → Type 0
-AsksFor {A} (request.Text text) named = (kind_of text ≡ DisplayHelp) ⊎ (kind_of text ≡ DisplayVersion)
-AsksFor {A} (request.Link inputs out) named = IsNamed {A = A} (request.Link inputs out) named
-AsksFor {A} (request.Map inputs) named = IsNamed {A = A} (request.Map inputs) named
-AsksFor {A} (request.Show file) named = IsNamed {A = A} (request.Show file) named
+abbrev pub IsAsked : {A : Type 0} → Request A → Option (Text × List Row) → Type 0
+IsAsked {A} (request.Text text) named = (kind_of text ≡ DisplayHelp) ⊎ (kind_of text ≡ DisplayVersion)
+IsAsked {A} (request.Link inputs out) named = IsNamedCommand {A = A} (request.Link inputs out) named
+IsAsked {A} (request.Map inputs) named = IsNamedCommand {A = A} (request.Map inputs) named
+IsAsked {A} (request.Show file) named = IsNamedCommand {A = A} (request.Show file) named
 
 -- the command that is named leaves out a file that it needs, or no command is named
 abbrev pub LeavesOut : Option (Text × List Row) → Type 0

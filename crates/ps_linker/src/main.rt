@@ -4,7 +4,7 @@
 
 ghost use Rattle.std.specs.Prelude.{◌≡◌, ◌≢◌, ◌≤◌, IfErr, IfOk, map, string_bytes};
 ghost use Rattle.std.specs.Process.{exit_status};
-ghost use Rattle.ps_linker.specs.CommandLine.{IsTaken, named_in};
+ghost use Rattle.ps_linker.specs.CommandLine.{AreTaken, named_in};
 ghost use Rattle.ps_linker.specs.Printed.{Prints};
 ghost use Rattle.ps_linker.specs.Reading.{Reads};
 ghost use Rattle.ps_linker.specs.Requests.{WritesLibrary};
@@ -69,9 +69,9 @@ fn run_args<R: CodeFiles + AllocGlobal, O: Write, E: Write>(
 ) -> ExitCode
     ensures known { exit_status result ≤ 4 }
     ensures silent { exit_status result ≡ 0 → err.new ≡ err.old }
-    ensures printed { IsTaken (map string_bytes given.now) → exit_status result ≡ 0 → Prints (Reads (R.opened rt.now) R.Opened.remaining) (named_in (map string_bytes given.now)) (O.contents out.old) (O.contents out.new) }
-    ensures misused { IsTaken (map string_bytes given.now) → WritesLibrary (named_in (map string_bytes given.now)) → exit_status result ≢ 4 → exit_status result ≡ 2 }
-    ensures usage { IsTaken (map string_bytes given.now) → exit_status result ≡ 2 → WritesLibrary (named_in (map string_bytes given.now)) }
+    ensures printed { AreTaken (map string_bytes given.now) → exit_status result ≡ 0 → Prints (Reads (R.opened rt.now) R.Opened.remaining) (named_in (map string_bytes given.now)) (O.contents out.old) (O.contents out.new) }
+    ensures misused { AreTaken (map string_bytes given.now) → WritesLibrary (named_in (map string_bytes given.now)) → exit_status result ≢ 4 → exit_status result ≡ 2 }
+    ensures usage { AreTaken (map string_bytes given.now) → exit_status result ≡ 2 → WritesLibrary (named_in (map string_bytes given.now)) }
     ensures unprinted { exit_status result ≢ 0 → exit_status result ≢ 3 → out.new ≡ out.old }
 {
     match slices(rt.alloc(), given) {

@@ -2,8 +2,8 @@
 ghost use Rattle.std.specs.Prelude.{◌≡◌, ◌≢◌, ◌⊎◌, IfErr, IfOk, Some, None, codes, map, false};
 ghost use Rattle.clap.specs.Words.{app_of, first_of, found_of, kind_of, rows_of, rule_of, subcommand_rows_of};
 ghost use Rattle.clap.specs.declared.Command.TheViews.{out-Command};
-ghost use Rattle.ps_linker.specs.CommandLine.{IsTaken, file_rule, libraries_rule, link_app, map_app, named_in, pslink_app, show_app, texts};
-ghost use Rattle.ps_linker.specs.Requests.{AsksFor, IsNamed, LeavesOut, NamesInputs, WritesLibrary, libraries_of};
+ghost use Rattle.ps_linker.specs.CommandLine.{AreTaken, file_rule, libraries_rule, link_app, map_app, named_in, pslink_app, show_app, texts};
+ghost use Rattle.ps_linker.specs.Requests.{IsAsked, IsNamedCommand, LeavesOut, NamesInputs, WritesLibrary, libraries_of};
 ghost use Rattle.ps_linker.specs.Statuses.{status_of};
 
 use crate::error::CommandError;
@@ -97,13 +97,13 @@ pub fn parse<'a, A: Allocator + Copy>(
     alloc: A,
     args: &'a [&'a str],
 ) -> Result<Request<'a, A>, CommandError<'a>>
-    ensures asked { IfOk result (λ r. AsksFor r (named_in (texts args.now))) }
+    ensures asked { IfOk result (λ r. IsAsked r (named_in (texts args.now))) }
 
     // Args that clap takes name a command, and ask for no help.
-    ensures named { IsTaken (texts args.now) → IfOk result (λ r. IsNamed r (named_in (texts args.now))) }
+    ensures named { AreTaken (texts args.now) → IfOk result (λ r. IsNamedCommand r (named_in (texts args.now))) }
 
     // Args that clap takes are refused because memory runs out, or as wrong usage where OUT is named as a library too.
-    ensures refused { IsTaken (texts args.now) → IfErr result (λ e. e ≢ CommandError.Memory → (status_of e ≡ 2) × WritesLibrary (named_in (texts args.now))) }
+    ensures refused { AreTaken (texts args.now) → IfErr result (λ e. e ≢ CommandError.Memory → (status_of e ≡ 2) × WritesLibrary (named_in (texts args.now))) }
 {
     match matches(heap, args) {
         Ok(matches) => request_of(heap, alloc, &matches),
@@ -117,7 +117,7 @@ pub fn parse<'a, A: Allocator + Copy>(
 /// What `clap` finds in the args.
 fn matches<'a>(heap: Global, args: &'a [&'a str]) -> Result<ArgMatches<'a>, clap::Error>
     ensures found { IfOk result (λ m. subcommand_rows_of m ≡ named_in (texts args.now)) }
-    ensures memory { IsTaken (texts args.now) → IfErr result (λ e. kind_of e ≡ ErrorKind.OutOfMemory) }
+    ensures memory { AreTaken (texts args.now) → IfErr result (λ e. kind_of e ≡ ErrorKind.OutOfMemory) }
 {
     command(heap)?.try_get_matches_from(args)
 }
@@ -128,7 +128,7 @@ fn request_of<'a, A: Allocator + Copy>(
     alloc: A,
     matches: &ArgMatches<'a>,
 ) -> Result<Request<'a, A>, CommandError<'a>>
-    ensures named { IfOk result (λ r. IsNamed r (subcommand_rows_of matches.now)) }
+    ensures named { IfOk result (λ r. IsNamedCommand r (subcommand_rows_of matches.now)) }
     ensures refused { IfErr result (λ e. e ≢ CommandError.Memory → LeavesOut (subcommand_rows_of matches.now) ⊎ ((status_of e ≡ 2) × WritesLibrary (subcommand_rows_of matches.now))) }
 {
     match matches.subcommand() {
@@ -144,7 +144,7 @@ fn link_of<'a, A: Allocator + Copy>(
     alloc: A,
     found: &ArgMatches<'a>,
 ) -> Result<Request<'a, A>, CommandError<'a>>
-    ensures named { IfOk result (λ r. IsNamed r (Some (codes "link", rows_of (found_of found.now)))) }
+    ensures named { IfOk result (λ r. IsNamedCommand r (Some (codes "link", rows_of (found_of found.now)))) }
     ensures refused { IfErr result (λ e. e ≢ CommandError.Memory → LeavesOut (Some (codes "link", rows_of (found_of found.now))) ⊎ ((status_of e ≡ 2) × WritesLibrary (Some (codes "link", rows_of (found_of found.now))))) }
 {
     let inputs = inputs_of(heap, alloc, found)?;
@@ -160,7 +160,7 @@ fn map_of<'a, A: Allocator + Copy>(
     alloc: A,
     found: &ArgMatches<'a>,
 ) -> Result<Request<'a, A>, CommandError<'a>>
-    ensures named { IfOk result (λ r. IsNamed r (Some (codes "map", rows_of (found_of found.now)))) }
+    ensures named { IfOk result (λ r. IsNamedCommand r (Some (codes "map", rows_of (found_of found.now)))) }
     ensures refused { IfErr result (λ e. e ≢ CommandError.Memory → LeavesOut (Some (codes "map", rows_of (found_of found.now)))) }
 {
     let inputs = inputs_of(heap, alloc, found)?;
@@ -171,7 +171,7 @@ fn show_of<'a, A: Allocator + Copy>(
     heap: Global,
     found: &ArgMatches<'a>,
 ) -> Result<Request<'a, A>, CommandError<'a>>
-    ensures named { IfOk result (λ r. IsNamed r (Some (codes "show", rows_of (found_of found.now)))) }
+    ensures named { IfOk result (λ r. IsNamedCommand r (Some (codes "show", rows_of (found_of found.now)))) }
     ensures refused { IfErr result (λ e. e ≢ CommandError.Memory → LeavesOut (Some (codes "show", rows_of (found_of found.now)))) }
 {
     let file = file_of(heap, found, "FILE")?;

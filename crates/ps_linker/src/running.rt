@@ -1,7 +1,7 @@
 //! One command, from its args to its status.
 ghost use Rattle.std.specs.Prelude.{◌≡◌, ◌≢◌, ◌≤◌, IfErr, IfOk, IsErrAnd, OnOk, map};
 ghost use Rattle.ps_linkfile.specs.Writing.{summary_in};
-ghost use Rattle.ps_linker.specs.CommandLine.{IsTaken, named_in, texts};
+ghost use Rattle.ps_linker.specs.CommandLine.{AreTaken, named_in, texts};
 ghost use Rattle.ps_linker.specs.Printed.{Prints, PrintsLine, PrintsMap, PrintsShow};
 ghost use Rattle.ps_linker.specs.Reading.{Reads};
 ghost use Rattle.ps_linker.specs.Requests.{WritesLibrary};
@@ -41,11 +41,11 @@ pub fn run<R: CodeFiles + AllocGlobal, A: Allocator + Copy, O: Write, E: Write>(
     ensures silent { result ≡ 0 → err.new ≡ err.old }
 
     // What was done printed what its command prints, and nothing else.
-    ensures printed { IsTaken (texts args.now) → result ≡ 0 → Prints (Reads (R.opened rt.now) R.Opened.remaining) (named_in (texts args.now)) (O.contents out.old) (O.contents out.new) }
+    ensures printed { AreTaken (texts args.now) → result ≡ 0 → Prints (Reads (R.opened rt.now) R.Opened.remaining) (named_in (texts args.now)) (O.contents out.old) (O.contents out.new) }
 
     // Of args that clap takes, those that name OUT as a library too are wrong usage, unless memory runs out, and no others.
-    ensures misused { IsTaken (texts args.now) → WritesLibrary (named_in (texts args.now)) → result ≢ 4 → result ≡ 2 }
-    ensures usage { IsTaken (texts args.now) → result ≡ 2 → WritesLibrary (named_in (texts args.now)) }
+    ensures misused { AreTaken (texts args.now) → WritesLibrary (named_in (texts args.now)) → result ≢ 4 → result ≡ 2 }
+    ensures usage { AreTaken (texts args.now) → result ≡ 2 → WritesLibrary (named_in (texts args.now)) }
 
     // Only what was done, or a fault of standard output itself, leaves anything there.
     ensures unprinted { result ≢ 0 → result ≢ 3 → out.new ≡ out.old }
@@ -62,10 +62,10 @@ fn carry_out<'a, R: CodeFiles + AllocGlobal, A: Allocator + Copy, O: Write>(
     args: &'a [&'a str],
     out: &mut O,
 ) -> Result<(), CommandError<'a>>
-    ensures ok { IsTaken (texts args.now) → OnOk result (Prints (Reads (R.opened rt.now) R.Opened.remaining) (named_in (texts args.now)) (O.contents out.old) (O.contents out.new)) }
+    ensures ok { AreTaken (texts args.now) → OnOk result (Prints (Reads (R.opened rt.now) R.Opened.remaining) (named_in (texts args.now)) (O.contents out.old) (O.contents out.new)) }
     ensures err { IfErr result (λ e. status_of e ≢ 3 → out.new ≡ out.old) }
-    ensures misused { IsTaken (texts args.now) → WritesLibrary (named_in (texts args.now)) → IsErrAnd result (λ e. status_of e ≢ 4 → status_of e ≡ 2) }
-    ensures usage { IsTaken (texts args.now) → IfErr result (λ e. status_of e ≡ 2 → WritesLibrary (named_in (texts args.now))) }
+    ensures misused { AreTaken (texts args.now) → WritesLibrary (named_in (texts args.now)) → IsErrAnd result (λ e. status_of e ≢ 4 → status_of e ≡ 2) }
+    ensures usage { AreTaken (texts args.now) → IfErr result (λ e. status_of e ≡ 2 → WritesLibrary (named_in (texts args.now))) }
 {
     match request::parse(rt.alloc(), alloc, args)? {
         Request::Text(text) => print_text(rt.alloc(), text, out),

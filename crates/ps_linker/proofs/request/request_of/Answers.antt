@@ -1,7 +1,7 @@
 use Rattle.std.proofs.Common.{◌≡◌, ◌⊎◌, ◌∙◌, ap, sym, subst, codes, Some, inl}
 use Rattle.std.proofs.lemmas.Result.{IfErr-weaker, IfOk-weaker}
 use Rattle.clap.specs.Words.{found_of, rows_of, subcommand_rows_of}
-use Rattle.ps_linker.specs.Requests.{IsNamed, LeavesOut, WritesLibrary}
+use Rattle.ps_linker.specs.Requests.{IsNamedCommand, LeavesOut, WritesLibrary}
 use Rattle.ps_linker.specs.Statuses.{status_of}
 use Rattle.ps_linker.proofs.Named.{both}
 use Rattle.ps_linker.proofs.request.request_of.Goals as goal
@@ -11,21 +11,21 @@ returns-in-Some-link-default-clause-named g c =
     let met = c.in-Some-link-default in
     let named : Some (codes "link") ≡ _ = ap Some (sym met.is-link) ∙ met.ensures.name in
     let is : subcommand_rows_of c.args.matches.now ≡ Some (codes "link", rows_of (found_of met.found.now)) = both _ _ _ _ _ named met.ensures.rows in
-    IfOk-weaker c.link_of.result _ _ (λ r names. subst (IsNamed r) (sym is) names) c.link_of.ensures.named
+    IfOk-weaker c.link_of.result _ _ (λ r names. subst (IsNamedCommand r) (sym is) names) c.link_of.ensures.named
 
 pub returns-in-Some-map-default-clause-named : goal.returns-in-Some-map-default-clause-named
 returns-in-Some-map-default-clause-named g c =
     let met = c.in-Some-map-default in
     let named : Some (codes "map") ≡ _ = ap Some (sym met.is-map) ∙ met.ensures.name in
     let is : subcommand_rows_of c.args.matches.now ≡ Some (codes "map", rows_of (found_of met.found.now)) = both _ _ _ _ _ named met.ensures.rows in
-    IfOk-weaker c.map_of.result _ _ (λ r names. subst (IsNamed r) (sym is) names) c.map_of.ensures.named
+    IfOk-weaker c.map_of.result _ _ (λ r names. subst (IsNamedCommand r) (sym is) names) c.map_of.ensures.named
 
 pub returns-in-Some-show-default-clause-named : goal.returns-in-Some-show-default-clause-named
 returns-in-Some-show-default-clause-named g c =
     let met = c.in-Some-show-default in
     let named : Some (codes "show") ≡ _ = ap Some (sym met.is-show) ∙ met.ensures.name in
     let is : subcommand_rows_of c.args.matches.now ≡ Some (codes "show", rows_of (found_of met.found.now)) = both _ _ _ _ _ named met.ensures.rows in
-    IfOk-weaker c.show_of.result _ _ (λ r names. subst (IsNamed r) (sym is) names) c.show_of.ensures.named
+    IfOk-weaker c.show_of.result _ _ (λ r names. subst (IsNamedCommand r) (sym is) names) c.show_of.ensures.named
 
 pub returns-in-Some-link-default-clause-refused : goal.returns-in-Some-link-default-clause-refused
 returns-in-Some-link-default-clause-refused g c =
