@@ -7,3 +7,4 @@ pub mod Walks
 pub mod Names
 pub mod FirstRecords
 pub mod Tallies
+pub mod Digests

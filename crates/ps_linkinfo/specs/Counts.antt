@@ -90,7 +90,7 @@ with_own_name s r = if names_its_own r then sip.write s r.name else s
 abbrev pub digest_of : List Record → DefaultHasher
 digest_of rs = fold with_own_name sip.initial rs
 
--- all of these together
+-- how many there are of all of these
 abbrev pub tally_of : List Record → Tally
 tally_of rs = record {
   records = length rs;
@@ -99,5 +99,4 @@ tally_of rs = record {
   publics = publics_in rs;
   units = units_in rs;
   references = references_in rs;
-  digest = digest_of rs;
 }

@@ -8,7 +8,7 @@ use crate::numbered::NumberedRecords;
 use crate::record::Body;
 use crate::tally::Tally;
 use ps_words::{Order, Reason};
-use std::hash::DefaultHasher;
+use std::hash::{DefaultHasher, Hasher};
 use std::marker::Model;
 
 /// Why link information was not read.
@@ -202,7 +202,13 @@ impl<'a> LinkInformation<'a> {
     pub fn digest(&self) -> DefaultHasher
         ensures { result ≡ digest_of self.now }
     {
-        self.tally.digest
+        let mut digest = DefaultHasher::new();
+        for (_, record) in self.records() {
+            if record.names_its_own() {
+                digest.write(&record.name);
+            }
+        }
+        digest
     }
 
     /// Each record with its index, from 0.

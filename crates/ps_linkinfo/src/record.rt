@@ -1,4 +1,5 @@
 ghost use Rattle.std.specs.Prelude.{◌≡◌, ◌≤◌};
+ghost use Rattle.ps_linkinfo.specs.Counts.{names_its_own as names_its_own_spec};
 ghost use Rattle.ps_linkinfo.specs.Records.{size_of, is_eof as is_eof_spec};
 
 use crate::layout::{RECORD_LEN, list_len};
@@ -55,5 +56,15 @@ impl LinkRecord<'_> {
         ensures { result ≡ is_eof_spec self.now }
     {
         matches!(self.body, Body::Eof(_))
+    }
+
+    /// Whether its name is that of a definition or of a private.
+    pub(crate) fn names_its_own(&self) -> bool
+        ensures { result ≡ names_its_own_spec self.now }
+    {
+        matches!(
+            self.body,
+            Body::PublDef(_) | Body::ConstDef(_) | Body::PrivRef { .. }
+        )
     }
 }

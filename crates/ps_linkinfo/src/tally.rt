@@ -3,7 +3,6 @@ ghost use Rattle.ps_linkinfo.specs.Counts.{tally_of};
 ghost use Rattle.ps_linkinfo.specs.declared.record.LinkRecord.{LinkRecord as Record};
 
 use crate::record::{Body, LinkRecord};
-use std::hash::{DefaultHasher, Hasher};
 
 /// What records come to.
 #[derive(Clone, Copy, Debug)]
@@ -20,8 +19,6 @@ pub(crate) struct Tally {
     pub(crate) units: usize,
     /// How many references they have.
     pub(crate) references: usize,
-    /// What has taken in the names of the definitions and of the privates.
-    pub(crate) digest: DefaultHasher,
 }
 
 impl Tally {
@@ -36,7 +33,6 @@ impl Tally {
             publics: 0,
             units: 0,
             references: 0,
-            digest: DefaultHasher::new(),
         }
     }
 
@@ -60,12 +56,8 @@ impl Tally {
             Body::PrivRef { refs, .. } => {
                 self.privates += 1;
                 self.references += refs.len();
-                self.digest.write(&entry.name);
             }
-            Body::PublDef(_) | Body::ConstDef(_) => {
-                self.definitions += 1;
-                self.digest.write(&entry.name);
-            }
+            Body::PublDef(_) | Body::ConstDef(_) => self.definitions += 1,
             Body::Eof(_) => {}
         }
     }
