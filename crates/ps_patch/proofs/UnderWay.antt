@@ -1,62 +1,60 @@
--- A patcher moves on by one place.
-use Rattle.std.proofs.Common.{◌≡◌, ℕ, ◌+◌, ◌≤◌, ◌<◌, List, [], ◌∷◌, length, drop, get_or, sym, ◌∙◌, ap, subst, arith, None}
-use Rattle.std.specs.Prelude.{find}
-use Rattle.std.proofs.Math.ListN.{drop_of_length-le}
-use Rattle.ps_words.specs.Edits.{AreApart, covers, patched, place_of, width}
+-- A patcher moves on by a block.
+use Rattle.std.proofs.Common.{◌≡◌, ℕ, ◌+◌, ◌-◌, ◌≤◌, ◌<◌, List, [], ◌∷◌, length, drop, get_or, sym, ◌∙◌, subst, refl, arith, All, Bool, true, false}
+use Rattle.std.specs.Prelude.{find, min, nat_lt}
+use Rattle.std.proofs.Math.ListN.{drop_of_length-le, get_or-eq_default}
+use Rattle.std.proofs.lemmas.Bool.{ltb-false, ltb-true}
+use Rattle.std.proofs.lemmas.List.Elements.{All-drop}
+use Rattle.ps_words.specs.Edits.{IsInside, covers, patched, place_of, width}
 use Rattle.ps_words.specs.declared.edit.Edit.{Edit}
-use Rattle.ps_words.specs.declared.edit.Edit.TheVariants.{Big, Byte, Word}
+use Rattle.ps_patch.specs.Patched.{patched_from, patched_or_zero}
 use Rattle.ps_patch.specs.Patcher.{EndsBehind, IsUnderWay, Patching}
-use Rattle.ps_patch.proofs.Finds.{apart_one, drop_one, find_next, find_none}
+use Rattle.ps_patch.proofs.Finds.{drop_one, find_past}
 
-some_width : (e : Edit) → 0 < width e
-some_width (Big place value) = omega arith
-some_width (Byte place value) = omega arith
-some_width (Word place value) = omega arith
+pub ends_behind_one : (es : List Edit) (at : ℕ) (d : Edit) (place : ℕ) → at < length es → place < place_of (get_or es at d) + width (get_or es at d) → EndsBehind place (drop at es)
+ends_behind_one es at d place h lt = subst (λ (xs : List Edit). EndsBehind place xs) (sym (drop_one es at d h)) lt
 
-ends_behind : (es : List Edit) (from place : ℕ) → AreApart from es → place ≤ from → EndsBehind place es
-ends_behind [] from place apart h = tt
-ends_behind (e ∷ es) from place apart h = omega (arith, apart.0, some_width e)
+pub ends_behind_none : (es : List Edit) (at place : ℕ) → length es ≤ at → EndsBehind place (drop at es)
+ends_behind_none es at place h = subst (λ (xs : List Edit). EndsBehind place xs) (sym (drop_of_length-le es h)) tt
 
--- the last place of an edit is done
-pub one_over : (t : Patching) (next : ℕ) (d : Edit) → IsUnderWay t next → t.position < length t.code → next < length t.edits → t.position + 1 ≡ place_of (get_or t.edits next d) + width (get_or t.edits next d) → IsUnderWay (record t { position = t.position + 1 }) (next + 1)
-one_over t next d way inside h end =
-    let e = get_or t.edits next d in
-    let apart = apart_one t.edits next d h way.are_edits.apart in
+ends_behind_less : (es : List Edit) (less place : ℕ) → less ≤ place → EndsBehind place es → EndsBehind less es
+ends_behind_less [] less place le h = tt
+ends_behind_less (e ∷ es) less place le h = omega (arith, h)
+
+-- the edits before `to` cover nothing behind the block, and the one at `to` ends behind it
+pub block_over : (t : Patching) (next to count : ℕ) → IsUnderWay t next → count ≡ min 512 (length t.code - t.position) → to ≤ length t.edits → ((p : ℕ) → t.position + 512 ≤ p → find (covers p) (drop next t.edits) ≡ find (covers p) (drop to t.edits)) → EndsBehind (t.position + 512) (drop to t.edits) → IsUnderWay (record t { position = t.position + count }) to
+block_over t next to count way is within before over =
     record {
       are_edits = way.are_edits;
-      position_within = omega arith;
-      next_within = omega arith;
-      before = λ p le. way.before p (omega arith) ∙ (ap (λ (xs : List Edit). find (covers p) xs) (drop_one t.edits next d h) ∙ find_next e (drop (next + 1) t.edits) p (omega arith));
-      over = ends_behind (drop (next + 1) t.edits) (place_of e + width e) (t.position + 1) apart.1 (omega arith);
+      position_within = omega (arith, way.position_within);
+      next_within = within;
+      before = λ p le. at p le (nat_lt p (t.position + 512)) refl;
+      over = ends_behind_less (drop to t.edits) (t.position + count) (t.position + 512) (omega arith) over;
     }
+  where
+    at : (p : ℕ) → t.position + count ≤ p → (b : Bool) → nat_lt p (t.position + 512) ≡ b → find (covers p) t.edits ≡ find (covers p) (drop to t.edits)
+    at p le false off = let behind = ltb-false p (t.position + 512) off in way.before p (omega arith) ∙ before p behind
+    at p le true on =
+        let lt = ltb-true p (t.position + 512) on in
+        let past : length t.code ≤ p = omega (arith, way.position_within) in
+        let inside = way.are_edits.inside in
+        find_past (length t.code) t.edits p inside past ∙ sym (find_past (length t.code) (drop to t.edits) p (All-drop (IsInside (length t.code)) to t.edits inside) past)
 
--- a place before the last one of the next edit is done
-pub none_over : (t : Patching) (next : ℕ) (d : Edit) → IsUnderWay t next → t.position < length t.code → next < length t.edits → t.position + 1 < place_of (get_or t.edits next d) + width (get_or t.edits next d) → IsUnderWay (record t { position = t.position + 1 }) next
-none_over t next d way inside h more =
-    record {
-      are_edits = way.are_edits;
-      position_within = omega arith;
-      next_within = omega arith;
-      before = λ p le. way.before p (omega arith);
-      over = subst (λ (xs : List Edit). EndsBehind (t.position + 1) xs) (sym (drop_one t.edits next d h)) more;
-    }
+-- past the code's end all that its edits leave is 0
+patched_past : (t : Patching) (p : ℕ) → All (IsInside (length t.code)) t.edits → patched t.order t.code t.edits p ≡ patched_or_zero t.order t.code t.edits p
+patched_past t p inside = at (nat_lt p (length t.code)) refl
+  where
+    at : (b : Bool) → nat_lt p (length t.code) ≡ b → patched t.order t.code t.edits p ≡ patched_or_zero t.order t.code t.edits p
+    at true on = rw on
+    at false off =
+        let past = ltb-false p (length t.code) off in
+        let none = find_past (length t.code) t.edits p inside past in
+        let zero : get_or t.code p 0 ≡ 0 = get_or-eq_default t.code 0 past in
+        rw (off, none) zero
 
--- the next edit ends behind the position
-pub next_ends_behind : (t : Patching) (next : ℕ) (d : Edit) → IsUnderWay t next → next < length t.edits → t.position < place_of (get_or t.edits next d) + width (get_or t.edits next d)
-next_ends_behind t next d way h = subst (λ (xs : List Edit). EndsBehind t.position xs) (drop_one t.edits next d h) way.over
-
--- a place before the next edit keeps its byte
-pub kept_before : (t : Patching) (next : ℕ) (d : Edit) → IsUnderWay t next → next < length t.edits → t.position < place_of (get_or t.edits next d) → patched t.order t.code t.edits t.position ≡ get_or t.code t.position 0
-kept_before t next d way h lt =
-    let e = get_or t.edits next d in
-    let none : find (covers t.position) t.edits ≡ None =
-    way.before t.position (omega arith)
-    ∙ (ap (λ (xs : List Edit). find (covers t.position) xs) (drop_one t.edits next d h)
-    ∙ find_none (e ∷ drop (next + 1) t.edits) (place_of e) t.position (omega arith, (apart_one t.edits next d h way.are_edits.apart).1) lt) in
-    rw none
-
--- and so does one behind all edits
-pub kept_behind_all : (t : Patching) (next : ℕ) → IsUnderWay t next → length t.edits ≤ next → patched t.order t.code t.edits t.position ≡ get_or t.code t.position 0
-kept_behind_all t next way h =
-    let none : find (covers t.position) t.edits ≡ None = way.before t.position (omega arith) ∙ ap (λ (xs : List Edit). find (covers t.position) xs) (drop_of_length-le t.edits h) in
-    rw none
+-- a place of the block that the edits from `next` on are stored in
+pub block_patched : (t : Patching) (next k copied new : ℕ) → IsUnderWay t next → copied ≡ get_or t.code (t.position + k) 0 → new ≡ patched_from t.order (drop next t.edits) (t.position + k) copied → new ≡ patched_or_zero t.order t.code t.edits (t.position + k)
+block_patched t next k copied new way same is =
+    let p = t.position + k in
+    let found : find (covers p) t.edits ≡ find (covers p) (drop next t.edits) = way.before p (omega arith) in
+    let all : patched_from t.order (drop next t.edits) p copied ≡ patched t.order t.code t.edits p = rw (found, same) in
+    is ∙ (all ∙ patched_past t p way.are_edits.inside)

@@ -1,6 +1,7 @@
-ghost use Rattle.std.specs.Prelude.{◌≡◌, ℕ, ◌<◌, ◌+◌, ◌-◌, length, min, slice_index};
-ghost use Rattle.ps_words.specs.Edits.{AreEdits, IsStorable, patched, place_of, stored, width};
-ghost use Rattle.ps_patch.specs.Patched.{patched_or_zero};
+ghost use Rattle.std.specs.Prelude.{◌≡◌, ℕ, ◌<◌, ◌≤◌, ◌+◌, ◌-◌, ◌^◌, ◌==◌, if◌then◌else◌, All, drop, find, length, min, slice_index};
+ghost use Rattle.ps_words.specs.Edits.{AreApart, AreEdits, IsStorable, covers, place_of, stored, width};
+ghost use Rattle.ps_patch.specs.Patched.{patched_by, patched_from, patched_or_zero};
+ghost use Rattle.ps_patch.specs.Patcher.{EndsBehind};
 
 use ps_words::{BLOCK_SIZE, Edit, Order, put, put_big};
 use std::marker::Model;
@@ -46,6 +47,82 @@ fn stored_bytes(order: Order, edit: Edit) -> [u8; 2]
     bytes
 }
 
+/// The place behind the last byte that an edit stores.
+fn end_of(edit: Edit) -> usize
+    ensures { result ≡ place_of edit + width edit }
+{
+    match edit {
+        Edit::Byte { place, .. } => place as usize + 1,
+        Edit::Big { place, .. } | Edit::Word { place, .. } => place as usize + 2,
+    }
+}
+
+/// Stores a byte at a place of the code, where the block that begins at `from` has that place.
+fn store_byte(block: &mut [u8; BLOCK_SIZE], from: usize, place: usize, byte: u8)
+    ensures { (k : ℕ) → k < 512 → slice_index block.new k
+        ≡ (if from + k == place then byte else slice_index block.old k) }
+{
+    if from <= place && place - from < BLOCK_SIZE {
+        block[place - from] = byte;
+    }
+}
+
+/// Stores what the block of the code that begins at `from` has of an edit.
+fn store_in_block(order: Order, edit: Edit, from: usize, block: &mut [u8; BLOCK_SIZE])
+    requires { IsStorable edit }
+    ensures { (k : ℕ) → k < 512 → slice_index block.new k
+        ≡ patched_by order edit (from + k) (slice_index block.old k) }
+{
+    let bytes = stored_bytes(order, edit);
+    store_byte(block, from, edit.place(), bytes[0]);
+    if edit.width() == 2 {
+        store_byte(block, from, edit.place() + 1, bytes[1]);
+    }
+}
+
+/// Stores what the block of the code that begins at `from` has of the edits from `next` on. Returns
+/// the index of the first that ends behind the block, and the number of the edits where none does.
+fn store_all(
+    order: Order,
+    edits: &[Edit],
+    next: usize,
+    from: usize,
+    block: &mut [u8; BLOCK_SIZE],
+) -> usize
+    requires storable { All IsStorable edits.now }
+    requires apart { AreApart 0 edits.now }
+    requires next { next ≤ length edits.now }
+    requires small { from + 512 < 2 ^ 64 }
+    ensures block { (k : ℕ) → k < 512 → slice_index block.new k
+        ≡ patched_from order (drop next edits.now) (from + k) (slice_index block.old k) }
+    ensures within { result ≤ length edits.now }
+    ensures before { (p : ℕ) → from + 512 ≤ p
+        → find (covers p) (drop next edits.now) ≡ find (covers p) (drop result edits.now) }
+    ensures over { EndsBehind (from + 512) (drop result edits.now) }
+{
+    for index in next..edits.len() {
+        let edit = edits[index];
+        store_in_block(order, edit, from, block);
+        if end_of(edit) > from + BLOCK_SIZE {
+            return index;
+        }
+    }
+    edits.len()
+}
+
+/// Puts the bytes of the code from `from` on in the block, with zeros past the code's end, and
+/// returns how many of them are code.
+fn copy_block(code: &[u8], from: usize, block: &mut [u8; BLOCK_SIZE]) -> usize
+    requires { from ≤ length code.now }
+    ensures block { (k : ℕ) → k < 512 → slice_index block.new k ≡ slice_index code.now (from + k) }
+    ensures count { result ≡ min 512 (length code.now - from) }
+{
+    let count = (code.len() - from).min(BLOCK_SIZE);
+    *block = [0; BLOCK_SIZE];
+    block[..count].copy_from_slice(&code[from..from + count]);
+    count
+}
+
 impl<'a> Patcher<'a> {
     /// A patcher of a segment's code, at the code's first byte.
     ///
@@ -65,28 +142,6 @@ impl<'a> Patcher<'a> {
         }
     }
 
-    /// The byte of the patched code at the position, which moves on by one.
-    fn next_byte(&mut self) -> u8
-        requires { self.old.position < length self.old.code }
-        ensures byte { result ≡ patched self.old.order self.old.code self.old.edits self.old.position }
-        ensures moves { self.new ≡ record self.old { position = self.old.position + 1 } }
-    {
-        let position = self.position;
-        self.position += 1;
-        if self.next < self.edits.len() {
-            let edit = self.edits[self.next];
-            let place = edit.place();
-            if place <= position {
-                let at = position - place;
-                if at + 1 == edit.width() {
-                    self.next += 1;
-                }
-                return stored_bytes(self.order, edit)[at];
-            }
-        }
-        self.code[position]
-    }
-
     /// Puts the next 512 bytes of the patched code in the block, with zeros past the code's end,
     /// and returns how many of them are code: 512, or fewer at the end, and 0 when none is left.
     ///
@@ -98,10 +153,9 @@ impl<'a> Patcher<'a> {
         ensures count { result ≡ min 512 (length self.old.code - self.old.position) }
         ensures moves { self.new ≡ record self.old { position = self.old.position + result } }
     {
-        let count = (self.code.len() - self.position).min(BLOCK_SIZE);
-        for (at, byte) in block.iter_mut().enumerate() {
-            *byte = if at < count { self.next_byte() } else { 0 };
-        }
+        let count = copy_block(self.code, self.position, block);
+        self.next = store_all(self.order, self.edits, self.next, self.position, block);
+        self.position += count;
         count
     }
 }

@@ -7,7 +7,7 @@ use ps_words::{Edit, Order, put, put_big};
 /// Stores an edit in the code.
 fn store(order: Order, code: &mut [u8], edit: Edit)
     requires { IsInside (length code.old) edit }
-    ensures { (p : ℕ) → slice_index code.new p ≡ patched_by order code.old edit p }
+    ensures { (p : ℕ) → slice_index code.new p ≡ patched_by order edit p (slice_index code.old p) }
 {
     match edit {
         Edit::Big { place, value } => put_big(code, place as usize, value),
