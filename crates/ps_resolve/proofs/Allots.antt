@@ -1,16 +1,22 @@
 -- One record more of the privates.
-use Rattle.std.proofs.Common.{◌≡◌, ℕ, ◌+◌, ◌<◌, ◌≤◌, ◌++◌, List, [], ◌∷◌, length, length-append, Bool, true, false, cond, is_some, Option, Some, None, refl, sym, ◌∙◌, ap, arith, append_assoc}
-use Rattle.std.specs.Prelude.{nat_lt, not}
-use Rattle.std.specs.List.{list_any}
+use Rattle.std.proofs.Common.{◌≡◌, ℕ, ◌+◌, ◌<◌, ◌≤◌, ◌++◌, List, [], ◌∷◌, length, length-append, Bool, true, false, cond, is_some, Option, Some, None, refl, sym, ◌∙◌, ap, subst, arith, append_assoc}
+use Rattle.std.specs.Prelude.{nat_eq, nat_lt}
+use Rattle.std.specs.Option.{option_eq}
+use Rattle.std.specs.Bool.{Decides}
+use Rattle.std.specs.List.{list_any, slice_get}
 use Rattle.std.specs.Str.{bytes_eq}
-use Rattle.std.proofs.lemmas.Bool.Decides.{nat_tests}
+use Rattle.std.proofs.lemmas.Bool.{false≢true}
+use Rattle.std.proofs.lemmas.Bool.Decides.{Decides-eqb, nat_tests}
+use Rattle.std.proofs.lemmas.Option.{same_Some}
 use Rattle.ps_words.specs.declared.fault.Reason.TheVariants as reason
 use Rattle.ps_linkinfo.specs.Counts.{is_private_reference, privates_in}
 use Rattle.ps_resolve.specs.Privates.{Owner, words_in, allotted, private_words, private_fault, all_allotted, first_private_fault, IsUnallotted, AreUnallotted}
-use Rattle.ps_linkinfo.specs.declared.record.Body.{Body}
-use Rattle.ps_linkinfo.specs.declared.record.Body.TheVariants.{UnitRef, PublRef, PrivRef, PublDef, ConstDef, Eof}
 use Rattle.ps_linkinfo.specs.declared.record.LinkRecord.{LinkRecord as Record}
+use Rattle.ps_resolve.specs.Builders.{FindsNamesake, IsFirstNamesake}
+use Rattle.ps_resolve.specs.Standing.Definitions.{HasEarlierNamesake}
 use Rattle.ps_resolve.proofs.Apart.{one_more}
+use Rattle.ps_resolve.proofs.LookingBack.{asks_is, names}
+use Rattle.ps_resolve.proofs.EarlierNames.{Stands, further, looked, one_name, same_names, there}
 use Rattle.ps_resolve.specs.declared.linkage.Stop.{Stop}
 use Rattle.ps_resolve.specs.declared.linkage.Stop.TheVariants.{Refused, Memory}
 use Rattle.ps_words.specs.declared.fault.Fault.{Fault}
@@ -43,21 +49,7 @@ module _ (slot rec next : ℕ) (seen : List (List ℕ)) (ps : List Private) (r :
   pub more_length : (w : ℕ) → words_in r.body ≡ Some w → length ps < length (ps ++ allotted slot rec next (r ∷ rs))
   more_length w h = rw (more_privates w h, append_assoc) (omega (arith, length-append ps (record { slot = slot; rec = rec; name = r.name; offset = next; words = w } ∷ allotted slot (rec + 1) (next + w) rs)))
 
--- with the privates so far, those of the records from this index on are all, and so with words and faults
-pub record Allots (slot next : ℕ) (before : List Private) (all : List Record) (ps : List Private) (seen : List (List ℕ)) (free n : ℕ) (rs : List Record) : Type 0 where
-  pub privates : ps ++ allotted slot n free rs ≡ before ++ allotted slot 0 next all
-  pub words : free + private_words rs ≡ next + private_words all
-  pub first : private_fault n free seen rs ≡ private_fault 0 next [] all
-
 -- what asks for a private is counted
-asks_is : (b : Body) → is_private_reference b ≡ is_some (words_in b)
-asks_is (UnitRef refs) = refl
-asks_is (PublRef refs) = refl
-asks_is (PrivRef words refs) = refl
-asks_is (PublDef value) = refl
-asks_is (ConstDef value) = refl
-asks_is (Eof next) = refl
-
 pub privates_counted : (slot n next : ℕ) (rs : List Record) → length (allotted slot n next rs) ≡ privates_in rs
 privates_counted slot n next [] = refl
 privates_counted slot n next (r ∷ rs) = at (λ m free. privates_counted slot m free rs) (words_in r.body) refl
@@ -104,13 +96,106 @@ module _ (n next : ℕ) (seen : List (List ℕ)) (r : Record) (rs : List Record)
       far_test : (m : ℕ) → 32767 < m → nat_lt 32767 m ≡ true
       far_test m h = grind (arith, nat_tests)
 
-pub not_false : (b : Bool) → not b ≡ false → b ≡ true
-not_false true h = refl
-not_false false h = cc
+-- With the privates so far, those of the records from this index on are all, and so with words and faults. The first that is doubled, if there is one, is none of those before.
+pub record Allots (slot next : ℕ) (doubled : Option ℕ) (before : List Private) (all : List Record) (ps : List Private) (free n : ℕ) (rs : List Record) : Type 0 where
+  pub stands : Stands all n rs
+  pub later : (m : ℕ) → doubled ≡ Some m → n ≤ m
+  pub privates : ps ++ allotted slot n free rs ≡ before ++ allotted slot 0 next all
+  pub words : free + private_words rs ≡ next + private_words all
+  pub first : private_fault n free (names stands.prefix) rs ≡ private_fault 0 next [] all
 
-pub not_true : (b : Bool) → not b ≡ true → b ≡ false
-not_true true h = cc
-not_true false h = refl
+pub allots : (slot next : ℕ) (doubled : Option ℕ) (before : List Private) (all : List Record) → Allots slot next doubled before all before next 0 all
+allots slot next doubled before all = record { stands = record { prefix = []; whole = refl; count = refl }; later = λ m e. omega arith; privates = refl; words = refl; first = refl }
+
+-- what the test of the first that is doubled says
+pub is_doubled : (d : Option ℕ) (n : ℕ) → option_eq nat_eq d (Some n) ≡ true → d ≡ Some n
+is_doubled None n h = absurd (false≢true h)
+is_doubled (Some m) n h = ap (λ (k : ℕ). Some k) ((Decides-eqb m n).0 h)
+
+pub not_doubled : (d : Option ℕ) (n : ℕ) → option_eq nat_eq d (Some n) ≡ false → d ≡ Some n → ⊥
+not_doubled None n h e = cc
+not_doubled (Some m) n h e = false≢true (sym h ∙ (Decides-eqb m n).1 (same_Some m n e))
+
+over : (n m : ℕ) → n ≤ m → (m ≡ n → ⊥) → n + 1 ≤ m
+over n m le other = at (nat_lt n m) refl
+  where
+    same : (n m : ℕ) → n ≤ m → nat_lt n m ≡ false → m ≡ n
+    same n m le h = grind (arith, nat_tests)
+
+    below : (n m : ℕ) → nat_lt n m ≡ true → n + 1 ≤ m
+    below n m h = grind (arith, nat_tests)
+
+    at : (b : Bool) → nat_lt n m ≡ b → n + 1 ≤ m
+    at true h = below n m h
+    at false h = absurd (other (same n m le h))
+
+module _ (slot next : ℕ) (doubled : Option ℕ) (before : List Private) (all : List Record) (ps : List Private) (free n : ℕ) (r : Record) (rs : List Record) (found : FindsNamesake is_private_reference all doubled) (a : Allots slot next doubled before all ps free n (r ∷ rs)) where
+  here : slice_get all n ≡ Some r
+  here = there all n r rs a.stands
+
+  -- the record of the first that is doubled has an earlier namesake, and no other so far has
+  doubled_here : doubled ≡ Some n → HasEarlierNamesake is_private_reference all n r
+  doubled_here e =
+      let first : IsFirstNamesake is_private_reference all n = subst (λ (d : Option ℕ). FindsNamesake is_private_reference all d) e found in
+      let same : first.item ≡ r = same_Some _ _ (sym first.there ∙ here) in
+      subst (λ (q : Record). HasEarlierNamesake is_private_reference all n q) same first.again
+
+  not_here : (doubled ≡ Some n → ⊥) → HasEarlierNamesake is_private_reference all n r → ⊥
+  not_here other h = at doubled refl
+    where
+      at : (d : Option ℕ) → doubled ≡ d → ⊥
+      at None e = (subst (λ (o : Option ℕ). FindsNamesake is_private_reference all o) e found) n r here h
+      at (Some m) e =
+          let first : IsFirstNamesake is_private_reference all m = subst (λ (o : Option ℕ). FindsNamesake is_private_reference all o) e found in
+          first.first n r (omega (arith, over n m (a.later m e) (λ same. other (e ∙ ap (λ (k : ℕ). Some k) same)))) here h
+
+  on : (doubled ≡ Some n → ⊥) → (m : ℕ) → doubled ≡ Some m → n + 1 ≤ m
+  on other m e = over n m (a.later m e) (λ same. other (e ∙ ap (λ (k : ℕ). Some k) same))
+
+  asks : (w : Option ℕ) → words_in r.body ≡ w → is_private_reference r.body ≡ is_some w
+  asks w h = asks_is r.body ∙ ap is_some h
+
+  pub allot_on : words_in r.body ≡ None → Allots slot next doubled before all ps free (n + 1) rs
+  allot_on passed = record {
+    stands = further all n r rs a.stands;
+    later = on (λ e. false≢true (sym (asks None passed) ∙ (doubled_here e).0));
+    privates = sym (skip_privates slot n free [] ps r rs passed) ∙ a.privates;
+    words = ap (λ (k : ℕ). free + k) (sym (skip_words slot n free [] ps r rs passed)) ∙ a.words;
+    first =
+        ap (λ (seen : List (List ℕ)). private_fault (n + 1) free seen rs) (same_names a.stands.prefix r (asks None passed))
+        ∙ sym (skip_fault slot n free (names a.stands.prefix) ps r rs passed)
+        ∙ a.first;
+  }
+
+  module _ (w : ℕ) (some : words_in r.body ≡ Some w) where
+    is_seen : Decides (list_any (bytes_eq r.name) (names a.stands.prefix)) (HasEarlierNamesake is_private_reference all n r)
+    is_seen = looked all n r rs a.stands (asks (Some w) some)
+
+    fresh : (doubled ≡ Some n → ⊥) → list_any (bytes_eq r.name) (names a.stands.prefix) ≡ false
+    fresh other = not_seen (list_any (bytes_eq r.name) (names a.stands.prefix)) (λ e. not_here other (is_seen.0 e))
+      where
+        not_seen : (b : Bool) → (b ≡ true → ⊥) → b ≡ false
+        not_seen true h = absurd (h refl)
+        not_seen false h = refl
+
+    pub allot_more : (doubled ≡ Some n → ⊥) → free + w ≤ 32767
+        → Allots slot next doubled before all (ps ++ record { slot = slot; rec = n; name = r.name; offset = free; words = w } ∷ []) (free + w) (n + 1) rs
+    allot_more other fits = record {
+      stands = further all n r rs a.stands;
+      later = on other;
+      privates = sym (more_privates slot n free [] ps r rs w some) ∙ a.privates;
+      words = omega (arith, more_words slot n free [] ps r rs w some, a.words);
+      first =
+          ap (λ (seen : List (List ℕ)). private_fault (n + 1) (free + w) seen rs) (one_name a.stands.prefix r (asks (Some w) some))
+          ∙ sym (more_fault slot n free (names a.stands.prefix) ps r rs w some (fresh other) fits)
+          ∙ a.first;
+    }
+
+    pub doubled_fault : doubled ≡ Some n → private_fault 0 next [] all ≡ Some (n, reason.DoubledPrivate)
+    doubled_fault e = sym a.first ∙ again_fault n free (names a.stands.prefix) r rs w some (is_seen.1 (doubled_here e))
+
+    pub room_fault : (doubled ≡ Some n → ⊥) → 32767 < free + w → private_fault 0 next [] all ≡ Some (n, reason.NoRoom)
+    room_fault other lt = sym a.first ∙ far_fault n free (names a.stands.prefix) r rs w some (fresh other) lt
 
 -- a stop at the first segment that is left is one at all
 module _ (o : Owner) (rest all : List Owner) (next free : ℕ) where

@@ -152,10 +152,10 @@ asks_is (Eof next) = refl
 abbrev pub names : List Record → List (List ℕ)
 names rs = map (λ (q : Record). q.name) (filter (λ (q : Record). is_private_reference q.body) rs)
 
-abbrev private_named : List ℕ → Record → Bool
+abbrev pub private_named : List ℕ → Record → Bool
 private_named name q = is_private_reference q.body && bytes_eq name q.name
 
-seen_is : (name : List ℕ) (prefix : List Record) → list_any (bytes_eq name) (names prefix) ≡ list_any (private_named name) prefix
+pub seen_is : (name : List ℕ) (prefix : List Record) → list_any (bytes_eq name) (names prefix) ≡ list_any (private_named name) prefix
 seen_is name [] = refl
 seen_is name (q ∷ prefix) = go (is_private_reference q.body) (seen_is name prefix)
   where
@@ -164,7 +164,7 @@ seen_is name (q ∷ prefix) = go (is_private_reference q.body) (seen_is name pre
     go true e = ap (λ (b : Bool). bytes_eq name q.name || b) e
     go false e = e
 
-more_names : (prefix : List Record) (r : Record) → names (prefix ++ r ∷ []) ≡ names prefix ++ names (r ∷ [])
+pub more_names : (prefix : List Record) (r : Record) → names (prefix ++ r ∷ []) ≡ names prefix ++ names (r ∷ [])
 more_names prefix r =
     ap (λ (qs : List Record). map (λ (q : Record). q.name) qs) (filter-append (λ (q : Record). is_private_reference q.body) prefix (r ∷ []))
     ∙ map-append (λ (q : Record). q.name) (filter (λ (q : Record). is_private_reference q.body) prefix) (filter (λ (q : Record). is_private_reference q.body) (r ∷ []))

@@ -1,7 +1,8 @@
 -- The builders of definitions and of allotments, said plainly: where each refuses, and how the privates of an allotment stand.
 -- Source: the link records PUBLDEF, CONSTDEF and PRIVREF are those of the published II.0 Linker source; that a name is defined once, and the order of the privates, are this project's profile.
-use Rattle.std.specs.Prelude.{◌≡◌, ℕ, ◌+◌, ◌<◌, ◌≤◌, List, [], ◌∷◌, ◌++◌, slice_get, take, sum_by, Bool, true, Option, Some}
-use Rattle.std.specs.List.{enumerate_from, filter_map, flat_map}
+use Rattle.std.specs.Prelude.{◌≡◌, ℕ, ◌+◌, ◌<◌, ◌≤◌, List, [], ◌∷◌, ◌++◌, slice_get, take, map, sum_by, Bool, true, Option, Some, None}
+use Rattle.std.specs.Int.{w64, from_be_bytes}
+use Rattle.std.specs.List.{enumerate_from, filter, filter_map, flat_map}
 use Rattle.std.specs.Option.{option_map}
 use Rattle.ps_linkinfo.specs.declared.record.Body.{Body}
 use Rattle.ps_linkinfo.specs.declared.record.LinkRecord.{LinkRecord as Record}
@@ -31,10 +32,19 @@ pub record IsFirstNamesake (test : Body → Bool) (rs : List Record) (rec : ℕ)
   pub again : HasEarlierNamesake test rs rec item
   pub first : (lesser : ℕ) (r : Record) → lesser < rec → slice_get rs lesser ≡ Some r → HasEarlierNamesake test rs lesser r → ⊥
 
+-- the first record of this kind that has the name of an earlier record of this kind, or that there is none
+abbrev pub FindsNamesake : (Body → Bool) → List Record → Option ℕ → Type 0
+FindsNamesake test rs None = HaveNoNamesakes test rs
+FindsNamesake test rs (Some rec) = IsFirstNamesake test rs rec
+
 -- Why the definitions of a segment are not built: its first record that defines the name of an earlier definition is refused; or memory ran out, and a record defines a name.
 abbrev pub StopsDefinitions : ℕ → ℕ → List Record → Stop → Type 0
 StopsDefinitions file slot rs (Refused fault) = (rec : ℕ) × IsFirstNamesake is_definition rs rec × (fault ≡ in_record file slot rec reason.DoubledDefinition)
 StopsDefinitions file slot rs Memory = SomeItem rs (λ rec r. is_definition r.body ≡ true)
+
+-- the names of the records that ask for privates, each as a number
+abbrev pub private_numbers : List Record → List ℕ
+private_numbers rs = map (λ r. from_be_bytes w64 r.name) (filter (λ r. is_private_reference r.body) rs)
 
 -- 2. privates, of segments in the order of their slots
 -- the offset at record `rec` of segment k, which is s: the base offset, and the words of all privates of the segments before it and of the records before it in its own

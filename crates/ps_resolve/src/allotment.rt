@@ -2,17 +2,14 @@ ghost use Rattle.std.specs.Prelude.{◌≡◌, ◌<◌, ◌≤◌, ◌+◌, ◌+
 ghost use Rattle.ps_resolve.specs.Linkable.{AscendFrom};
 ghost use Rattle.ps_resolve.specs.Offsets.{FollowOn, offset_listed};
 ghost use Rattle.ps_words.specs.FaultPlaces.{in_record};
-ghost use Rattle.indexmap.specs.IndexSet.{hasher_of};
-ghost use Rattle.ps_linkinfo.specs.Counts.{digest_of, privates_in};
 ghost use Rattle.ps_resolve.specs.declared.linkage.Stop.TheVariants.{Refused, Memory};
 ghost use Rattle.ps_resolve.specs.Privates.{words_in, allotted, private_words, private_fault, all_allotted, all_words, first_private_fault, owner_of, owner_of_linkage, allotment_of, IsUnallotted, AreUnallotted, Owner};
 ghost use Rattle.ps_resolve.specs.Builders.{HaveOwnNames, HaveRoom, StopsPrivates, asked_of, all_asked, AreByRecord, words_of_all};
 ghost use Rattle.ps_resolve.specs.Views.{segment_of};
 
 use crate::linkage::{Linkage, Stop};
-use crate::name_hasher::NameHasher;
+use crate::namesakes::first_doubled;
 use crate::segment::Segment;
-use indexmap::IndexSet;
 use ps_linkinfo::{Body, LinkInformation};
 use ps_words::{Fault, Name, Reason};
 use std::alloc::{Allocator, Global};
@@ -26,16 +23,16 @@ const MAX_NEXT_FREE: usize = 32767;
 /// Source: the published II.0 Linker source, the link record PRIVREF.
 #[derive(Clone, Copy, Debug, PartialEq, Eq)]
 pub struct Private {
-    /// The slot of its segment in the host's segment dictionary, 0 to 15.
-    pub slot: u8,
     /// The index, from 0, of its record in the segment's link information.
-    pub rec: usize,
-    /// Its name, which no other private of its segment has.
-    pub name: Name,
+    pub rec: u32,
     /// Its base offset in words, 0 to 32767.
     pub offset: u16,
     /// How many words it takes, 0 to 32767.
     pub words: u16,
+    /// Its name, which no other private of its segment has.
+    pub name: Name,
+    /// The slot of its segment in the host's segment dictionary, 0 to 15.
+    pub slot: u8,
 }
 
 /// How many words a private of a record takes.
@@ -49,21 +46,15 @@ fn words_of_private(body: &Body) -> Option<u16>
     }
 }
 
-/// A set for the names of the privates of these records, by hashes that are keyed by them.
-fn private_names<A: Allocator + Copy>(
-    alloc: A,
-    records: &LinkInformation,
-) -> Result<IndexSet<Name, NameHasher, A>, Stop>
-    ensures empty { IfOk result (λ names. names.keys ≡ []) }
-    ensures keyed { IfOk result (λ names. hasher_of names ≡ digest_of records.now) }
-    ensures stop { IfErr result (λ stop. (stop ≡ Memory) × (0 < privates_in records.now)) }
+/// The index of a record, which takes four bytes: more records than those are not held in memory.
+fn narrow(rec: usize) -> Result<u32, Stop>
+    ensures value { IfOk result (λ n. n ≡ rec) }
+    ensures stop { IfErr result (λ stop. stop ≡ Memory) }
 {
-    let names = IndexSet::with_capacity_and_hasher(
-        alloc,
-        records.privates(),
-        NameHasher::of(records),
-    )?;
-    Ok(names)
+    match u32::try_from(rec) {
+        Err(_) => Err(Stop::Memory),
+        Ok(n) => Ok(n),
+    }
 }
 
 /// A fault of a record.
@@ -90,23 +81,23 @@ fn allot<A: Allocator + Copy>(
     if records.privates() == 0 {
         return Ok(next);
     }
-    let mut names = private_names(alloc, records)?;
+    let doubled = first_doubled(alloc, records)?;
+    privates.reserve_exact(records.privates())?;
     let mut free = next;
     for (rec, record) in records.records() {
         if let Some(words) = words_of_private(&record.body) {
-            if names.contains(&record.name) {
+            if doubled == Some(rec) {
                 return Err(refused(file, slot, rec, Reason::DoubledPrivate));
             }
             if free as usize + words as usize > MAX_NEXT_FREE {
                 return Err(refused(file, slot, rec, Reason::NoRoom));
             }
-            names.insert(record.name)?;
             privates.push(Private {
-                slot,
-                rec,
-                name: record.name,
+                rec: narrow(rec)?,
                 offset: free,
                 words,
+                name: record.name,
+                slot,
             })?;
             free += words;
         }
@@ -221,7 +212,8 @@ impl<A: Allocator + Copy> Allotment<A> {
     /// The link information has to read without a fault: up to the first fault its records are taken.
     /// Refuses, at the first private where one of them stands, `DoubledPrivate` where an earlier one of
     /// its segment has its name, and then `NoRoom` where the offset behind it is over 32767, with the
-    /// file and the slot of its segment. Returns `Memory` only where there is a private.
+    /// file and the slot of its segment. Returns `Memory` only where there is a private; so it does where
+    /// the index of a private's record takes more than four bytes, in link information of 64 GiB.
     ///
     /// Source: this project's profile.
     pub fn build(alloc: A, next: u16, segments: &[Linkage]) -> Result<Self, Stop>
@@ -269,9 +261,12 @@ impl<A: Allocator + Copy> Allotment<A> {
         ensures { result ≡ offset_listed slot rec self.now.privates }
     {
         let privates = self.privates.as_slice();
-        let first = privates.partition_point(|p| p.slot < slot || p.slot == slot && p.rec < rec);
+        let first = privates.partition_point(|p| p.slot < slot
+            || p.slot == slot && (p.rec as usize) < rec);
         match privates.get(first) {
-            Some(private) if private.slot == slot && private.rec == rec => Some(private.offset),
+            Some(private) if private.slot == slot && private.rec as usize == rec => {
+                Some(private.offset)
+            }
             _ => None,
         }
     }

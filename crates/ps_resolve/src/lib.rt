@@ -12,6 +12,7 @@ mod linkage;
 mod linking;
 mod name_hasher;
 mod names;
+mod namesakes;
 mod places;
 mod plan;
 mod reading;

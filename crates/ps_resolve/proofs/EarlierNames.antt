@@ -1,0 +1,207 @@
+-- Privates of a name that an earlier one has: that none is, where the numbers of the names differ, and the first of them.
+use Rattle.std.proofs.Common.{◌≡◌, ℕ, zero, suc, ◌+◌, ◌<◌, ◌==◌, ◌++◌, List, [], ◌∷◌, length, take, Bool, true, false, Some, None, refl, sym, ◌∙◌, ap, subst, arith, append_assoc, append-nil}
+use Rattle.std.specs.Prelude.{◌&&◌, nat_lt, not}
+use Rattle.std.specs.Bool.{Decides}
+use Rattle.std.specs.Int.{w64, from_be_bytes}
+use Rattle.std.specs.List.{AllByRecursion, IsAllAdjacentAnswer, IsDistinct, filter, list_any, slice_get}
+use Rattle.std.specs.List.Sorted.{IsPermutation, IsStrictlyIncreasing}
+use Rattle.std.specs.Str.{bytes_eq}
+use Rattle.std.proofs.lemmas.Bool.{false≢true}
+use Rattle.std.proofs.lemmas.Bool.Decides.{Decides-ltb, nat_tests}
+use Rattle.std.proofs.lemmas.List.Kept.{AllPairs-from_increasing}
+use Rattle.std.proofs.lemmas.List.Sorted.{IsPermutation-sym}
+use Rattle.std.proofs.lemmas.Map.Keys.{IsDistinct-head, IsDistinct-tail, IsDistinct-from_apart, IsDistinct-IsPermutation}
+use Rattle.std.proofs.lemmas.Option.{same_Some, slice_get_within}
+use Rattle.ps_linkinfo.specs.Counts.{is_private_reference}
+use Rattle.ps_linkinfo.specs.declared.record.LinkRecord.{LinkRecord as Record}
+use Rattle.ps_resolve.specs.Builders.{HaveNoNamesakes, IsFirstNamesake, private_numbers}
+use Rattle.ps_resolve.specs.Standing.Definitions.{HasEarlierNamesake}
+use Rattle.ps_resolve.proofs.LookingBack.{again, is_again, longer, names, more_names, private_named, seen_is, take_prefix}
+
+abbrev number : Record → ℕ
+number r = from_be_bytes w64 r.name
+
+abbrev is_same : ℕ → ℕ → Bool
+is_same x y = x == y
+
+below_differs : (x y : ℕ) → x < y → (x == y) ≡ false
+below_differs x y h = grind (arith, nat_tests)
+
+equal_is : (x y : ℕ) → x ≡ y → (x == y) ≡ false → ⊥
+equal_is x y e h = absurd (grind (arith, nat_tests))
+
+flips : (x y : ℕ) → is_same x y ≡ is_same y x
+flips x y = at (x == y) refl (y == x) refl
+  where
+    at : (a : Bool) → (x == y) ≡ a → (b : Bool) → (y == x) ≡ b → a ≡ b
+    at true p true q = refl
+    at false p false q = refl
+    at true p false q = absurd (grind (arith, nat_tests))
+    at false p true q = absurd (grind (arith, nat_tests))
+
+-- 1. numbers of names
+-- a private more, and another record
+pub taken : (r : Record) (rs : List Record) → is_private_reference r.body ≡ true → private_numbers (r ∷ rs) ≡ number r ∷ private_numbers rs
+taken r rs h = rw (h, filter) refl
+
+pub passed : (r : Record) (rs : List Record) → is_private_reference r.body ≡ false → private_numbers (r ∷ rs) ≡ private_numbers rs
+passed r rs h = rw (h, filter) refl
+
+pub more_numbers : (xs : List ℕ) (r : Record) (rs : List Record) → is_private_reference r.body ≡ true → xs ++ private_numbers (r ∷ rs) ≡ (xs ++ number r ∷ []) ++ private_numbers rs
+more_numbers xs r rs h = ap (λ (ys : List ℕ). xs ++ ys) (taken r rs h) ∙ sym (append_assoc xs (number r ∷ []) (private_numbers rs))
+
+-- these numbers and those of the records that are left are all
+abbrev pub AreNumbers : List Record → List ℕ → ℕ → List Record → Type 0
+AreNumbers all xs n rs = xs ++ private_numbers rs ≡ private_numbers all
+
+-- what all numbers are, that of a private is
+all_numbers : (P : ℕ → Type 0) (rs : List Record) → AllByRecursion P (private_numbers rs) → (n : ℕ) (r : Record) → slice_get rs n ≡ Some r → is_private_reference r.body ≡ true → P (number r)
+all_numbers P [] all n r there is = cc
+all_numbers P (s ∷ ss) all zero r there is =
+    let same : s ≡ r = same_Some _ _ there in
+    let here : is_private_reference s.body ≡ true = subst (λ (q : Record). is_private_reference q.body ≡ true) (sym same) is in
+    subst (λ (q : Record). P (number q)) same (subst (λ (xs : List ℕ). AllByRecursion P xs) (taken s ss here) all).0
+all_numbers P (s ∷ ss) all (suc n) r there is = all_numbers P ss (rest (is_private_reference s.body) refl) n r there is
+  where
+    rest : (b : Bool) → is_private_reference s.body ≡ b → AllByRecursion P (private_numbers ss)
+    rest true h = (subst (λ (xs : List ℕ). AllByRecursion P xs) (taken s ss h) all).1
+    rest false h = subst (λ (xs : List ℕ). AllByRecursion P xs) (passed s ss h) all
+
+none_again : (rs : List Record) → IsDistinct is_same (private_numbers rs) → (rec other : ℕ) (r q : Record) → slice_get rs rec ≡ Some r → is_private_reference r.body ≡ true
+    → other < rec → slice_get rs other ≡ Some q → is_private_reference q.body ≡ true → q.name ≡ r.name → ⊥
+none_again [] d rec other r q there is lt before was name = let none : None ≡ Some r = there in cc
+none_again (s ∷ ss) d zero other r q there is lt before was name = absurd (omega (arith, lt))
+none_again (s ∷ ss) d (suc n) zero r q there is lt before was name =
+    let same : s ≡ q = same_Some _ _ before in
+    let here : is_private_reference s.body ≡ true = subst (λ (x : Record). is_private_reference x.body ≡ true) (sym same) was in
+    let apart : IsDistinct is_same (number s ∷ private_numbers ss) = subst (λ (xs : List ℕ). IsDistinct is_same xs) (taken s ss here) d in
+    let differ : is_same (number s) (number r) ≡ false = all_numbers (λ (y : ℕ). is_same (number s) y ≡ false) ss (IsDistinct-head is_same (number s) (private_numbers ss) apart) n r there is in
+    let equal : number s ≡ number r = ap (λ (x : Record). number x) same ∙ ap (λ (bytes : List ℕ). from_be_bytes w64 bytes) name in
+    equal_is (number s) (number r) equal differ
+none_again (s ∷ ss) d (suc n) (suc m) r q there is lt before was name = none_again ss (rest (is_private_reference s.body) refl) n m r q there is (omega (arith, lt)) before was name
+  where
+    rest : (b : Bool) → is_private_reference s.body ≡ b → IsDistinct is_same (private_numbers ss)
+    rest true h = IsDistinct-tail is_same (number s) (private_numbers ss) (subst (λ (xs : List ℕ). IsDistinct is_same xs) (taken s ss h) d)
+    rest false h = subst (λ (xs : List ℕ). IsDistinct is_same xs) (passed s ss h) d
+
+-- what the test of neighbours says
+pub ascends : (xs : List ℕ) (r : Bool) → IsAllAdjacentAnswer (λ x y b. b ≡ nat_lt x y) xs r → r ≡ true → IsStrictlyIncreasing xs
+ascends xs true h e = λ k lt. (Decides-ltb _ _).0 (sym (h k 0 lt))
+ascends xs false h e = absurd (false≢true e)
+
+-- where their numbers, in any order, ascend, no two privates have the same name
+pub own_names : (rs : List Record) (ys : List ℕ) → IsPermutation (private_numbers rs) ys → IsStrictlyIncreasing ys → HaveNoNamesakes is_private_reference rs
+own_names rs ys moved ascends rec r there h = none_again rs distinct rec h.1.0 r h.1.2.0 there h.0 h.1.1 h.1.2.1 h.1.2.2.0 h.1.2.2.1
+  where
+    sorted : IsDistinct is_same ys
+    sorted = IsDistinct-from_apart is_same ys (λ i j d lt le. below_differs _ _ (AllPairs-from_increasing ys ascends i j d lt le))
+
+    distinct : IsDistinct is_same (private_numbers rs)
+    distinct = IsDistinct-IsPermutation is_same flips ys (private_numbers rs) (IsPermutation-sym (private_numbers rs) ys moved) sorted
+
+-- 2. what was seen of the records
+-- a record behind a prefix
+pub at_end : (prefix : List Record) (r : Record) (rs : List Record) → slice_get (prefix ++ r ∷ rs) (length prefix) ≡ Some r
+at_end [] r rs = refl
+at_end (p ∷ prefix) r rs = at_end prefix r rs
+
+pub same_names : (prefix : List Record) (r : Record) → is_private_reference r.body ≡ false → names (prefix ++ r ∷ []) ≡ names prefix
+same_names prefix r h = more_names prefix r ∙ rw (h, filter) (append-nil (names prefix))
+
+pub one_name : (prefix : List Record) (r : Record) → is_private_reference r.body ≡ true → names (prefix ++ r ∷ []) ≡ names prefix ++ r.name ∷ []
+one_name prefix r h = more_names prefix r ∙ rw (h, filter) refl
+
+-- the records from this index on are left, behind the others
+pub record Stands (all : List Record) (n : ℕ) (rs : List Record) : Type 0 where
+  pub prefix : List Record
+  pub whole : all ≡ prefix ++ rs
+  pub count : n ≡ length prefix
+
+abbrev pub further : (all : List Record) (n : ℕ) (r : Record) (rs : List Record) → Stands all n (r ∷ rs) → Stands all (n + 1) rs
+further all n r rs s = record {
+  prefix = s.prefix ++ r ∷ [];
+  whole = s.whole ∙ sym (append_assoc s.prefix (r ∷ []) rs);
+  count = let l = longer s.prefix r in omega (arith, l, s.count);
+}
+
+pub there : (all : List Record) (n : ℕ) (r : Record) (rs : List Record) → Stands all n (r ∷ rs) → slice_get all n ≡ Some r
+there all n r rs s = ap (λ (xs : List Record). slice_get xs n) s.whole ∙ ap (λ (k : ℕ). slice_get (s.prefix ++ r ∷ rs) k) s.count ∙ at_end s.prefix r rs
+
+-- the name is among those of the privates before it just where a private before it has the name
+pub looked : (all : List Record) (n : ℕ) (r : Record) (rs : List Record) (s : Stands all n (r ∷ rs)) → is_private_reference r.body ≡ true
+    → Decides (list_any (bytes_eq r.name) (names s.prefix)) (HasEarlierNamesake is_private_reference all n r)
+looked all n r rs s is = subst (λ (b : Bool). Decides b (HasEarlierNamesake is_private_reference all n r)) test (again is_private_reference all n r)
+  where
+    before : take n all ≡ s.prefix
+    before = ap (λ (xs : List Record). take n xs) s.whole ∙ ap (λ (k : ℕ). take k (s.prefix ++ r ∷ rs)) s.count ∙ take_prefix s.prefix (r ∷ rs)
+
+    test : is_again is_private_reference all (n, r) ≡ list_any (bytes_eq r.name) (names s.prefix)
+    test =
+        ap (λ (b : Bool). b && list_any (private_named r.name) (take n all)) is
+        ∙ ap (λ (xs : List Record). list_any (private_named r.name) xs) before
+        ∙ sym (seen_is r.name s.prefix)
+
+-- the names of the privates so far, none of which an earlier one has
+pub record Seeks (all : List Record) (seen : List (List ℕ)) (n : ℕ) (rs : List Record) : Type 0 where
+  pub stands : Stands all n rs
+  pub same : seen ≡ names stands.prefix
+  pub none : (lesser : ℕ) (q : Record) → lesser < n → slice_get all lesser ≡ Some q → HasEarlierNamesake is_private_reference all lesser q → ⊥
+
+pub seeks : (all : List Record) → Seeks all [] 0 all
+seeks all = record { stands = record { prefix = []; whole = refl; count = refl }; same = refl; none = λ lesser q lt. absurd (omega (arith, lt)) }
+
+-- whether a name was new
+pub not_new : (b x : Bool) → b ≡ false → b ≡ not x → x ≡ true
+not_new b true h e = refl
+not_new b false h e = absurd (false≢true (sym h ∙ e))
+
+pub newly : (b x : Bool) → b ≡ true → b ≡ not x → x ≡ false
+newly b false h e = refl
+newly b true h e = absurd (false≢true (sym (sym h ∙ e)))
+
+module _ (all : List Record) (seen : List (List ℕ)) (n : ℕ) (r : Record) (rs : List Record) (s : Seeks all seen n (r ∷ rs)) where
+  this_is : (q : Record) → slice_get all n ≡ Some q → r ≡ q
+  this_is q e = same_Some _ _ (sym (there all n r rs s.stands) ∙ e)
+
+  none_more : (HasEarlierNamesake is_private_reference all n r → ⊥) → (lesser : ℕ) (q : Record) → lesser < n + 1 → slice_get all lesser ≡ Some q → HasEarlierNamesake is_private_reference all lesser q → ⊥
+  none_more fresh lesser q lt e h = at (nat_lt lesser n) refl
+    where
+      below : (k m : ℕ) → nat_lt k m ≡ true → k < m
+      below k m e = grind (arith, nat_tests)
+
+      last : (k m : ℕ) → k < m + 1 → nat_lt k m ≡ false → k ≡ m
+      last k m lt e = grind (arith, nat_tests)
+
+      at : (b : Bool) → nat_lt lesser n ≡ b → ⊥
+      at true t = s.none lesser q (below lesser n t) e h
+      at false t =
+          let here : lesser ≡ n = last lesser n lt t in
+          let is : slice_get all n ≡ Some q = subst (λ (k : ℕ). slice_get all k ≡ Some q) here e in
+          fresh (subst (λ (x : Record). HasEarlierNamesake is_private_reference all n x) (sym (this_is q is)) (subst (λ (k : ℕ). HasEarlierNamesake is_private_reference all k q) here h))
+
+  pub seek_on : is_private_reference r.body ≡ false → Seeks all seen (n + 1) rs
+  seek_on other = record {
+    stands = further all n r rs s.stands;
+    same = s.same ∙ sym (same_names s.stands.prefix r other);
+    none = none_more (λ h. false≢true (sym other ∙ h.0));
+  }
+
+  pub seek_more : is_private_reference r.body ≡ true → list_any (bytes_eq r.name) seen ≡ false → Seeks all (seen ++ r.name ∷ []) (n + 1) rs
+  seek_more is new = record {
+    stands = further all n r rs s.stands;
+    same = ap (λ (xs : List (List ℕ)). xs ++ r.name ∷ []) s.same ∙ sym (one_name s.stands.prefix r is);
+    none = none_more (λ h. false≢true (sym (ap (λ (xs : List (List ℕ)). list_any (bytes_eq r.name) xs) (sym s.same) ∙ new) ∙ (looked all n r rs s.stands is).1 h));
+  }
+
+  pub seek_found : is_private_reference r.body ≡ true → list_any (bytes_eq r.name) seen ≡ true → IsFirstNamesake is_private_reference all n
+  seek_found is old = record {
+    item = r;
+    there = there all n r rs s.stands;
+    again = (looked all n r rs s.stands is).0 (ap (λ (xs : List (List ℕ)). list_any (bytes_eq r.name) xs) (sym s.same) ∙ old);
+    first = s.none;
+  }
+
+pub seek_end : (all : List Record) (seen : List (List ℕ)) (n : ℕ) → Seeks all seen n [] → HaveNoNamesakes is_private_reference all
+seek_end all seen n s rec r e h =
+    let long = ap length (s.stands.whole ∙ append-nil s.stands.prefix) in
+    s.none rec r (omega (arith, long, s.stands.count, slice_get_within all rec r e)) e h

@@ -1,0 +1,103 @@
+ghost use Rattle.std.specs.Prelude.{◌≡◌, ◌<◌, [], true, IfOk, IfErr};
+ghost use Rattle.std.specs.List.Sorted.{IsStrictlyIncreasing};
+ghost use Rattle.indexmap.specs.IndexSet.{hasher_of};
+ghost use Rattle.ps_linkinfo.specs.Counts.{digest_of, is_private_reference, privates_in};
+ghost use Rattle.ps_resolve.specs.Builders.{HaveNoNamesakes, FindsNamesake, private_numbers};
+ghost use Rattle.ps_resolve.specs.declared.linkage.Stop.TheVariants.{Memory};
+
+use crate::linkage::Stop;
+use crate::name_hasher::NameHasher;
+use indexmap::IndexSet;
+use ps_linkinfo::{Body, LinkInformation};
+use ps_words::Name;
+use std::alloc::Allocator;
+
+/// A record asks for a private.
+fn is_private(body: &Body) -> bool
+    ensures { result ≡ is_private_reference body.now }
+{
+    matches!(body, Body::PrivRef { .. })
+}
+
+/// The names of the privates of these records, each as a number.
+fn numbers_of<A: Allocator + Copy>(alloc: A, records: &LinkInformation) -> Result<Vec<u64, A>, Stop>
+    ensures numbers { IfOk result (λ numbers. numbers.items ≡ private_numbers records.now) }
+    ensures stop { IfErr result (λ stop. stop ≡ Memory) }
+{
+    let mut numbers = Vec::with_capacity(alloc, records.privates())?;
+    for (_, record) in records.records() {
+        if is_private(&record.body) {
+            numbers.push(u64::from_be_bytes(record.name))?;
+        }
+    }
+    Ok(numbers)
+}
+
+/// Each number is below the next.
+fn ascend(numbers: &[u64]) -> bool
+    ensures { result ≡ true → IsStrictlyIncreasing numbers.now }
+{
+    numbers.is_sorted_by(|a, b| a < b)
+}
+
+/// No private of these records has the name of another: their names, sorted, ascend.
+fn have_own_names<A: Allocator + Copy>(alloc: A, records: &LinkInformation) -> Result<bool, Stop>
+    ensures own { IfOk result (λ own. own ≡ true
+        → HaveNoNamesakes is_private_reference records.now) }
+    ensures stop { IfErr result (λ stop. stop ≡ Memory) }
+{
+    let mut numbers = numbers_of(alloc, records)?;
+    numbers.sort_unstable();
+    Ok(ascend(numbers.as_slice()))
+}
+
+/// A set for the names of the privates of these records, by hashes that are keyed by them.
+fn private_names<A: Allocator + Copy>(
+    alloc: A,
+    records: &LinkInformation,
+) -> Result<IndexSet<Name, NameHasher, A>, Stop>
+    ensures empty { IfOk result (λ names. names.keys ≡ []) }
+    ensures keyed { IfOk result (λ names. hasher_of names ≡ digest_of records.now) }
+    ensures stop { IfErr result (λ stop. (stop ≡ Memory) × (0 < privates_in records.now)) }
+{
+    let names = IndexSet::with_capacity_and_hasher(
+        alloc,
+        records.privates(),
+        NameHasher::of(records),
+    )?;
+    Ok(names)
+}
+
+/// Looks each private's name up among those before it.
+fn first_found_again<A: Allocator + Copy>(
+    alloc: A,
+    records: &LinkInformation,
+) -> Result<Option<usize>, Stop>
+    ensures found { IfOk result (FindsNamesake is_private_reference records.now) }
+    ensures stop { IfErr result (λ stop. stop ≡ Memory) }
+{
+    let mut names = private_names(alloc, records)?;
+    for (rec, record) in records.records() {
+        if is_private(&record.body) && !names.insert(record.name)? {
+            return Ok(Some(rec));
+        }
+    }
+    Ok(None)
+}
+
+/// The index, from 0, of the first PRIVREF record that has the name of an earlier one.
+///
+/// Sorted numbers tell whether any two names are equal far sooner than a table of the names, most of
+/// whose places are in no cache. Only where two are, a table finds which of them comes first.
+pub(crate) fn first_doubled<A: Allocator + Copy>(
+    alloc: A,
+    records: &LinkInformation,
+) -> Result<Option<usize>, Stop>
+    ensures found { IfOk result (FindsNamesake is_private_reference records.now) }
+    ensures stop { IfErr result (λ stop. stop ≡ Memory) }
+{
+    if have_own_names(alloc, records)? {
+        return Ok(None);
+    }
+    first_found_again(alloc, records)
+}
