@@ -176,6 +176,13 @@ impl<'a> Procs<'a> {
         })
     }
 
+    /// The code that they stand in.
+    pub fn code(&self) -> &'a [u8]
+        ensures { result.now ≡ self.now.code }
+    {
+        self.code
+    }
+
     /// The number of procedures, 0 to 255.
     pub fn count(&self) -> usize
         ensures { result ≡ procedures self.now.code }

@@ -1,16 +1,16 @@
 -- One segment more of those that are linked one after another.
 use Rattle.std.proofs.Common.{◌≡◌, ℕ, ◌+◌, ◌<◌, ◌≤◌, ◌++◌, List, [], ◌∷◌, length, map, get_or, drop, Bool, true, false, Option, Some, None, refl, sym, ◌∙◌, ap, subst, arith}
-use Rattle.std.specs.Prelude.{IfSome, if◌then◌else◌}
+use Rattle.std.specs.Prelude.{IfSome, if◌then◌else◌, ⊤}
 use Rattle.std.specs.Option.{option_to_list}
 use Rattle.ps_words.specs.declared.order.Order.{Order}
 use Rattle.ps_words.specs.declared.edit.Edit.{Edit}
 use Rattle.ps_words.specs.declared.fault.Fault.{Fault}
-use Rattle.ps_codefile.specs.Procedures.{is_reserved}
 use Rattle.ps_resolve.specs.Privates.{owner_of, private_words, all_words}
-use Rattle.ps_resolve.specs.Edits.{IsOfSegment, IsOfTable, AreOfReferences}
+use Rattle.ps_resolve.specs.Edits.{IsOfTable, AreOfReferences}
+use Rattle.ps_resolve.specs.Stops.{IsStop}
 use Rattle.ps_resolve.specs.Views.{segment_of}
 use Rattle.ps_resolve.specs.Sources.{Segment, is_host}
-use Rattle.ps_resolve.specs.References.{Known, records_fault}
+use Rattle.ps_resolve.specs.References.{Known}
 use Rattle.ps_resolve.specs.Linking.{Edited, segment_edits, edited_from}
 use Rattle.ps_resolve.specs.Faults.{segment_fault, references_fault_from}
 use Rattle.ps_resolve.specs.Plans.{LinksSegment, LinkSegments}
@@ -41,7 +41,7 @@ module _ (order : Order) (known : Known) (ss : List SegmentView) (i : ℕ) (v : 
   room_at total h lt = omega (arith, words_head)
 
   pub stop_at : (base : ℕ) (stop : Stop) → references_fault_from order known free (map segment_of (drop i ss)) ≡ references_fault_from order known base (map segment_of ss)
-      → IsOfSegment v.file v.slot (records_fault known (is_reserved order v.code.now) v.code.now 0 free [] (segment_of v).records) stop → AreOfReferences order known base (map segment_of ss) stop
+      → IsStop ⊤ (segment_fault order known free (segment_of v)) stop → AreOfReferences order known base (map segment_of ss) stop
   stop_at base (Refused fault) h d = sym h ∙ ap (references_fault_from order known free) head_is ∙ keep _ _ fault d
   stop_at base Memory h d = tt
 

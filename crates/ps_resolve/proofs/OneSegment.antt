@@ -1,6 +1,6 @@
 -- The edits of one segment link it.
 use Rattle.std.proofs.Common.{◌≡◌, ℕ, ◌+◌, ◌-◌, ◌++◌, List, [], ◌∷◌, length, Bool, true, false, Option, Some, None, Result, Ok, Err, refl, sym, ◌∙◌, ap, subst, arith}
-use Rattle.std.specs.Prelude.{IsPermutation, if◌then◌else◌}
+use Rattle.std.specs.Prelude.{IfOk, IsPermutation, if◌then◌else◌}
 use Rattle.std.specs.Option.{option_map, option_to_list}
 use Rattle.std.proofs.lemmas.List.Sorted.{IsPermutation-refl, IsPermutation-sym}
 use Rattle.std.proofs.lemmas.List.Elements.{All-nil}
@@ -27,6 +27,10 @@ unless_ok (Some why) x y h = cc
 pub unless_err : (o : Option Reason) (x : ProcedureTables) (why : Reason) → ◌≡◌ {A = Result ProcedureTables Reason} (Err why) (unless o x) → o ≡ None → ⊥
 unless_err None x why h k = cc
 unless_err (Some e) x why h k = cc
+
+pub if_both : {X Y : Type 0} (r : Result X Y) (P Q R : X → Type 0) → ((x : X) → P x → Q x → R x) → IfOk r P → IfOk r Q → IfOk r R
+if_both (Ok x) P Q R h p q = h x p q
+if_both (Err y) P Q R h p q = tt
 
 if_true : {X : Type 0} (b : Bool) (x y : X) → b ≡ true → (if b then x else y) ≡ x
 if_true true x y h = refl

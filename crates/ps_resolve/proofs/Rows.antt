@@ -1,7 +1,7 @@
 -- One record more of a segment.
 use Rattle.std.proofs.Common.{◌≡◌, ◌∙◌, ℕ, ◌+◌, ◌++◌, List, [], ◌∷◌, length, map, Bool, true, false, cond, Option, Some, None, Ok, Err, refl, sym, ap, append_assoc}
+use Rattle.std.specs.Prelude.{⊤}
 use Rattle.std.specs.Option.{option_map, option_or}
-use Rattle.std.specs.List.{list_any}
 use Rattle.ps_linkinfo.specs.Records.{refs_of}
 use Rattle.ps_linkinfo.specs.Counts.{is_private_reference, is_public_reference, is_unit_reference, privates_in, publics_in, units_in as units_asked}
 use Rattle.ps_resolve.specs.Privates.{private_words, words_in}
@@ -11,19 +11,18 @@ use Rattle.ps_linkinfo.specs.declared.record.LinkRecord.{LinkRecord as Record}
 use Rattle.ps_words.specs.declared.fault.Reason.{Reason}
 use Rattle.ps_words.specs.declared.edit.Edit.{Edit}
 use Rattle.std.proofs.Common.{arith}
-use Rattle.ps_resolve.specs.Operands.{edit_of, is_in, operands, refs_fault}
-use Rattle.ps_resolve.specs.Marks.{Marks}
-use Rattle.ps_resolve.specs.References.{Known, words_taken, FindsOne, target_in, target_of, records_fault, record_edits, records_edits}
+use Rattle.ps_words.specs.FaultPlaces.{in_reference}
+use Rattle.ps_codefile.specs.Procedures.{is_reserved, ProcedureTables}
+use Rattle.ps_resolve.specs.Faults.{in_segment}
+use Rattle.ps_resolve.specs.Operands.{edit_of, operands, refs_fault}
+use Rattle.ps_resolve.specs.Marks.{AreTaken}
+use Rattle.ps_resolve.specs.Stops.{IsStop}
+use Rattle.ps_resolve.specs.References.{Known, words_taken, target_in, target_of, records_fault, record_edits, records_edits}
 use Rattle.ps_resolve.specs.declared.references.Target.{Target}
 use Rattle.ps_resolve.specs.declared.references.Target.TheVariants.{Slot}
 use Rattle.ps_resolve.proofs.Apart.{one_more}
-use Rattle.ps_resolve.specs.declared.segments.RecordStop.{RecordStop}
-use Rattle.ps_resolve.specs.declared.segments.RecordStop.TheVariants.{Refused, Memory}
-
--- where the first list of checks has a fault, it is that of both
-pub finds_first : (stop : RecordStop) (a b : Option (ℕ × (Option ℕ × Reason))) → FindsOne (Err stop) a → FindsOne (Err stop) (option_or a b)
-finds_first (Refused rec reference why) a b h = rw h refl
-finds_first Memory a b h = tt
+use Rattle.ps_resolve.specs.declared.linkage.Stop.{Stop}
+use Rattle.ps_resolve.specs.declared.linkage.Stop.TheVariants.{Refused, Memory}
 
 pub words_are : (r : Record) (rs : List Record) → private_words (r ∷ rs) ≡ words_taken r.body + private_words rs
 words_are r rs = at (words_in r.body) refl
@@ -36,9 +35,20 @@ module _ (known : Known) (R : ℕ → Bool) (code : List ℕ) (rec off : ℕ) (o
   pub record_refused : (why : Reason) → target_of known off r ≡ Err why → records_fault known R code rec off os (r ∷ rs) ≡ Some (rec, (None, why))
   record_refused why h = rw (h, records_fault) refl
 
-  pub references_refused : (t : Target) (stop : RecordStop) → target_of known off r ≡ Ok t → FindsOne (Err stop) (option_map (λ f. (rec, (Some f.0, f.1))) (refs_fault R code t 0 os (refs_of r.body)))
-      → FindsOne (Err stop) (records_fault known R code rec off os (r ∷ rs))
-  references_refused t stop h k = rw (h, records_fault) (finds_first stop _ _ k)
+  -- where a reference of the record has a fault, that is the first of all
+  pub references_refused : (file slot : ℕ) (t : Target) (stop : Stop) → target_of known off r ≡ Ok t
+      → IsStop ⊤ (option_map (λ f. in_reference file slot rec f.0 f.1) (refs_fault R code t 0 os (refs_of r.body))) stop
+      → IsStop ⊤ (option_map (in_segment file slot) (records_fault known R code rec off os (r ∷ rs))) stop
+  references_refused file slot t stop h k =
+      let rest = records_fault known R code (rec + 1) (off + words_taken r.body) (os ++ operands t (refs_of r.body)) rs in
+      rw (h, records_fault) (at stop (refs_fault R code t 0 os (refs_of r.body)) rest k)
+    where
+      at : (stop : Stop) (o : Option (ℕ × Reason)) (rest : Option (ℕ × (Option ℕ × Reason)))
+          → IsStop ⊤ (option_map (λ f. in_reference file slot rec f.0 f.1) o) stop
+          → IsStop ⊤ (option_map (in_segment file slot) (option_or (option_map (λ f. (rec, (Some f.0, f.1))) o) rest)) stop
+      at Memory o rest k = tt
+      at (Refused fault) (Some f) rest k = k
+      at (Refused fault) None rest k = cc
 
   pub record_by : (t : Target) → target_of known off r ≡ Ok t → records_fault known R code rec off os (r ∷ rs)
       ≡ option_or (option_map (λ f. (rec, (Some f.0, f.1))) (refs_fault R code t 0 os (refs_of r.body))) (records_fault known R code (rec + 1) (off + words_taken r.body) (os ++ operands t (refs_of r.body)) rs)
@@ -52,9 +62,10 @@ module _ (known : Known) (R : ℕ → Bool) (code : List ℕ) (rec off : ℕ) (o
   edits_more es t h = rw (h, record_edits) (sym (append_assoc es (map (edit_of code t) (refs_of r.body)) (records_edits known code (off + words_taken r.body) rs)))
 
 -- With these edits and these places taken, what the records from this index on come to is what all come to, the first of whose privates has the offset `free`: their edits, their first fault, and their words.
-pub record Links (known : Known) (R : ℕ → Bool) (code : List ℕ) (free : ℕ) (all : List Record) (old : List Edit) (next : ℕ) (edits : List Edit) (taken : List ℕ) (n : ℕ) (rs : List Record) : Type 0 where
-  pub listed : edits ++ records_edits known code next rs ≡ old ++ records_edits known code free all
-  pub first : (os : List (ℕ × ℕ)) × Marks (length code) taken (λ p. list_any (is_in p) os) × (records_fault known R code n next os rs ≡ records_fault known R code 0 free [] all)
+pub record Links (known : Known) (tables : ProcedureTables) (free : ℕ) (all : List Record) (old : List Edit) (next : ℕ) (edits : List Edit) (taken : List ℕ) (n : ℕ) (rs : List Record) : Type 0 where
+  pub listed : edits ++ records_edits known tables.code next rs ≡ old ++ records_edits known tables.code free all
+  pub first : (os : List (ℕ × ℕ)) × AreTaken (length tables.code) taken os
+      × (records_fault known (is_reserved tables.order tables.code) tables.code n next os rs ≡ records_fault known (is_reserved tables.order tables.code) tables.code 0 free [] all)
   pub words : next + private_words rs ≡ free + private_words all
 
 -- where no record asks for anything, there is no edit, no fault and no word

@@ -1,5 +1,5 @@
 -- One reference more.
-use Rattle.std.proofs.Common.{◌≡◌, ℕ, ◌+◌, ◌<◌, ◌++◌, List, [], ◌∷◌, length, map, take, drop, get_or, Bool, Option, None, sym, ◌∙◌, ap, add-one, append_assoc}
+use Rattle.std.proofs.Common.{◌≡◌, ℕ, ◌+◌, ◌<◌, ◌++◌, List, [], ◌∷◌, length, map, take, drop, get_or, Bool, Option, Some, None, sym, ◌∙◌, ap, add-one, append_assoc}
 use Rattle.std.proofs.Math.Seq.{drop-cons, take-suc}
 use Rattle.std.proofs.lemmas.List.{map-append}
 use Rattle.std.specs.Option.{option_map, option_or}
@@ -19,6 +19,14 @@ map_one f xs i h = rw (take_one xs i h) (map-append f (take i xs) (get_or xs i 0
 
 pub operands_one : (t : Target) (os : List (ℕ × ℕ)) (xs : List ℕ) (i : ℕ) → i < length xs → os ++ operands t (take (i + 1) xs) ≡ (os ++ operands t (take i xs)) ++ (get_or xs i 0, width_of t) ∷ []
 operands_one t os xs i h = ap (λ (zs : List (ℕ × ℕ)). os ++ zs) (map_one (λ x. (x, width_of t)) xs i h) ∙ sym (append_assoc os (operands t (take i xs)) ((get_or xs i 0, width_of t) ∷ []))
+
+-- one that does not stand is the first fault
+pub fault_here : (R : ℕ → Bool) (code : List ℕ) (t : Target) (os : List (ℕ × ℕ)) (xs : List ℕ) (i : ℕ) → i < length xs
+    → (why : Reason) → reference_reason R code (os ++ operands t (take i xs)) t (get_or xs i 0) ≡ Some why
+    → refs_fault R code t i (os ++ operands t (take i xs)) (drop i xs) ≡ Some (i, why)
+fault_here R code t os xs i h why some =
+    ap (λ (ys : List ℕ). refs_fault R code t i (os ++ operands t (take i xs)) ys) (drop_one xs i h)
+    ∙ ap (λ (o : Option Reason). option_or (option_map (λ why. (i, why)) o) (refs_fault R code t (i + 1) ((os ++ operands t (take i xs)) ++ (get_or xs i 0, width_of t) ∷ []) (drop (i + 1) xs))) some
 
 -- a reference that stands is passed over
 pub fault_one : (R : ℕ → Bool) (code : List ℕ) (t : Target) (os : List (ℕ × ℕ)) (xs : List ℕ) (i : ℕ) → i < length xs

@@ -12,6 +12,7 @@ use Rattle.ps_resolve.specs.Symbols.{definitions}
 use Rattle.ps_resolve.specs.Linking.{Edited, edited, linked_byte, data_size}
 use Rattle.ps_resolve.specs.Faults.{linking_fault}
 use Rattle.ps_resolve.specs.AllFaults.{first_fault, reading_fault}
+use Rattle.ps_resolve.specs.Stops.{IsStop}
 use Rattle.ps_resolve.specs.declared.definitions.Def.{Def}
 use Rattle.ps_resolve.specs.declared.allotment.Private.{Private}
 use Rattle.ps_resolve.specs.declared.plan.Source.{Source}
@@ -77,8 +78,7 @@ IsPlan host libs plan = IsPlanOf (order_of host) host (segments (order_of host) 
 
 -- why there is no plan of a link of these segments: their first fault, or memory ran out
 abbrev pub AreStopped : Order → List Segment → Stop → Type 0
-AreStopped order segs (Refused fault) = linking_fault order segs ≡ Some fault
-AreStopped order segs Memory = ⊤
+AreStopped order segs = IsStop ⊤ (linking_fault order segs)
 
 -- why there is no plan: the first fault of all, or memory ran out where nothing that is looked at before has a fault
 abbrev pub IsStopped : List ℕ → List (List ℕ) → Stop → Type 0

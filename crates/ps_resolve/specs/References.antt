@@ -1,6 +1,6 @@
 -- The references of a segment: what their operands become, and the first fault of them.
 -- Source: the link records UNITREF, PUBLREF and PRIVREF are those of the published II.0 Linker source; which fault comes first is this project's profile.
-use Rattle.std.specs.Prelude.{◌≡◌, ℕ, ◌+◌, List, [], ◌∷◌, ◌++◌, map, Bool, Option, Some, None, Result, Ok, Err, ⊤, sum_by}
+use Rattle.std.specs.Prelude.{ℕ, ◌+◌, List, [], ◌∷◌, ◌++◌, map, Bool, Option, Some, None, Result, Ok, Err, sum_by}
 use Rattle.std.specs.Option.{option_map, option_or}
 use Rattle.std.specs.Map.{lookup}
 use Rattle.std.specs.Str.{bytes_eq}
@@ -19,8 +19,6 @@ use Rattle.ps_resolve.specs.declared.definitions.Def.{Def}
 use Rattle.ps_resolve.specs.declared.definitions.DefKind.TheVariants.{Public, Constant}
 use Rattle.ps_resolve.specs.declared.references.Target.{Target}
 use Rattle.ps_resolve.specs.declared.references.Target.TheVariants.{Slot, Base}
-use Rattle.ps_resolve.specs.declared.segments.RecordStop.{RecordStop}
-use Rattle.ps_resolve.specs.declared.segments.RecordStop.TheVariants.{Refused, Memory}
 
 -- definitions, and slots of units by name
 pub record Known : Type 0 where
@@ -72,9 +70,3 @@ record_edits known code off r = elim (target_of known off r) [ Err why ↦ [] | 
 abbrev pub records_edits : Known → List ℕ → ℕ → List Record → List Edit
 records_edits known code off [] = []
 records_edits known code off (r ∷ rs) = record_edits known code off r ++ records_edits known code (off + words_taken r.body) rs
-
--- this is the first fault, or there is none, or memory ran out
-abbrev pub FindsOne : Result (Unit {0}) RecordStop → Option (ℕ × (Option ℕ × Reason)) → Type 0
-FindsOne (Ok done) fault = fault ≡ None
-FindsOne (Err (Refused rec reference why)) fault = fault ≡ Some (rec, (reference, why))
-FindsOne (Err Memory) fault = ⊤

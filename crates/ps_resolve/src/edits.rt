@@ -1,34 +1,29 @@
-ghost use Rattle.std.specs.Prelude.{◌≡◌, ℕ, ◌<◌, ◌≤◌, ◌+◌, ◌-◌, ◌∷◌, ◌++◌, [], count_by, length, IfOk, IfErr, IfSome, IsPermutation};
+ghost use Rattle.std.specs.Prelude.{◌≡◌, ℕ, ◌<◌, ◌≤◌, ◌+◌, ◌-◌, ◌∷◌, ◌++◌, length, IfOk, OnOk, IfErr, IfSome, None, IsPermutation, ⊤};
 ghost use Rattle.std.specs.Option.{option_to_list};
-ghost use Rattle.ps_words.specs.Edits.{AreEdits, covers};
+ghost use Rattle.ps_words.specs.Edits.{AreEdits};
 ghost use Rattle.ps_words.specs.declared.edit.Edit.TheVariants.{Byte};
-ghost use Rattle.ps_codefile.specs.Procedures.{is_reserved};
-ghost use Rattle.ps_resolve.specs.References.{records_fault, records_edits};
+ghost use Rattle.ps_resolve.specs.References.{records_edits};
 ghost use Rattle.ps_resolve.specs.Privates.{private_words};
-ghost use Rattle.ps_resolve.specs.declared.segments.RecordStop.TheVariants.{Memory};
-ghost use Rattle.ps_resolve.specs.Edits.{FindsFault, IsOfTable};
+ghost use Rattle.ps_resolve.specs.Edits.{IsOfTable};
+ghost use Rattle.ps_resolve.specs.Faults.{segment_fault};
+ghost use Rattle.ps_resolve.specs.Stops.{IsStop};
+ghost use Rattle.ps_resolve.specs.Views.{segment_of};
+ghost use Rattle.ps_resolve.specs.declared.linkage.Stop.TheVariants.{Memory};
 
+use crate::linkage::Stop;
 use crate::names::Names;
 use crate::segment::Segment;
-use crate::segments::{RecordStop, add_records};
+use crate::segments::add_records;
 use crate::sorting::sorted;
 use ps_codefile::Procs;
 use ps_words::Edit;
-use std::alloc::{AllocError, Allocator};
+use std::alloc::Allocator;
 
 /// How far from the end of a linked segment's code its number stands, in bytes.
 const NUMBER_FROM_END: usize = 2;
 
 /// How many edits of a linked segment are no reference's, at most.
 const MOST_OWN_EDITS: usize = 2;
-
-impl From<AllocError> for RecordStop {
-    ghost from_gives = { λ _ e. e ≡ Memory };
-
-    fn from(_e: AllocError) -> RecordStop {
-        RecordStop::Memory
-    }
-}
 
 /// The edits of a linked segment that are no reference's: its number, and `own`. There is room for
 /// as many more as `references`.
@@ -38,7 +33,7 @@ fn own_edits<A: Allocator + Copy>(
     code: &[u8],
     own: Option<Edit>,
     references: usize,
-) -> Result<Vec<Edit, A>, RecordStop>
+) -> Result<Vec<Edit, A>, Stop>
     requires small { length code.now ≤ 32767 }
     requires large { 4 ≤ length code.now }
     ensures items { IfOk result (λ edits. edits.items ≡ Byte (length code.now - 2) slot ∷ option_to_list own) }
@@ -67,7 +62,7 @@ pub(crate) fn edits_of<A: Allocator + Copy>(
     segment: &Segment,
     free: u16,
     own: Option<Edit>,
-) -> Result<(Vec<Edit, A>, u16), RecordStop>
+) -> Result<(Vec<Edit, A>, u16), Stop>
     requires small { length segment.now.code.now ≤ 32767 }
     requires large { 4 ≤ length segment.now.code.now }
     requires room { free + private_words segment.now.records < 65536 }
@@ -76,18 +71,16 @@ pub(crate) fn edits_of<A: Allocator + Copy>(
     ensures same { IfOk result (λ found. IsPermutation
         (Byte (length segment.now.code.now - 2) segment.now.slot ∷ (option_to_list own
         ++ records_edits names.now segment.now.code.now free segment.now.records)) found.0.items) }
-    ensures once { IfOk result (λ found. (p : ℕ) → count_by (covers p)
-        (Byte (length segment.now.code.now - 2) segment.now.slot ∷ (option_to_list own
-        ++ records_edits names.now segment.now.code.now free segment.now.records)) ≤ 1) }
     ensures ready { IfOk result (λ found. AreEdits (length segment.now.code.now) found.0.items) }
     ensures end { IfOk result (λ found. found.1 ≡ free + private_words segment.now.records) }
-    ensures fault { FindsFault result (records_fault names.now
-        (is_reserved procedures.now.order procedures.now.code) segment.now.code.now
-        0 free [] segment.now.records) }
+    ensures sound { OnOk result
+        (segment_fault procedures.now.order names.now free (segment_of segment.now) ≡ None) }
+    ensures stop { IfErr result (IsStop ⊤
+        (segment_fault procedures.now.order names.now free (segment_of segment.now))) }
 {
     let code = segment.code;
     let mut edits = own_edits(alloc, segment.slot, code, own, segment.records.references())?;
-    let end = add_records(names, procedures, &segment.records, free, code, &mut edits)?;
+    let end = add_records(names, procedures, segment, free, &mut edits)?;
     let ordered = sorted(alloc, code.len(), edits)?;
     Ok((ordered, end))
 }

@@ -1,7 +1,8 @@
 ghost use Rattle.std.specs.Prelude.{◌≡◌};
-ghost use Rattle.ps_resolve.specs.declared.linkage.Stop.TheVariants.{Memory};
+ghost use Rattle.ps_words.specs.FaultPlaces.{in_record, in_reference};
+ghost use Rattle.ps_resolve.specs.declared.linkage.Stop.TheVariants.{Memory, Refused};
 
-use ps_words::{Fault, Order};
+use ps_words::{Fault, Order, Reason};
 use std::alloc::{AllocError, AllocFailed};
 
 /// The link information of a segment, and where a fault of it stands.
@@ -15,6 +16,33 @@ pub struct Linkage<'a> {
     pub order: Order,
     /// The file from the first record on. What stands behind the end mark is not read.
     pub bytes: &'a [u8],
+}
+
+/// Where a record stands.
+#[derive(Clone, Copy)]
+pub(crate) struct RecordPlace {
+    /// The file that its segment comes from: 0 is the host file, k the k-th library, from 1.
+    pub(crate) file: usize,
+    /// The segment's slot in the host's segment dictionary, 0 to 15.
+    pub(crate) slot: u8,
+    /// The record's index, from 0, in the segment's link information.
+    pub(crate) rec: usize,
+}
+
+impl RecordPlace {
+    /// The record has this fault.
+    pub(crate) fn refused(self, reason: Reason) -> Stop
+        ensures { result ≡ Refused (in_record self.file self.slot self.rec reason) }
+    {
+        Stop::Refused(Fault::in_record(self.file, self.slot, self.rec, reason))
+    }
+
+    /// The record's reference of this index, from 0, has this fault.
+    pub(crate) fn reference_refused(self, reference: usize, reason: Reason) -> Stop
+        ensures { result ≡ Refused (in_reference self.file self.slot self.rec reference reason) }
+    {
+        Stop::Refused(Fault::in_reference(self.file, self.slot, self.rec, reference, reason))
+    }
 }
 
 /// Why nothing was built.

@@ -1,18 +1,16 @@
-ghost use Rattle.std.specs.Prelude.{◌≡◌, ℕ, ◌<◌, ◌≤◌, ◌+◌, ◌∷◌, [], length, map, All, true, Option, None, Some, Err, IfOk, IfErr, IfSome, IsSome, if◌then◌else◌};
+ghost use Rattle.std.specs.Prelude.{◌≡◌, ℕ, ◌<◌, ◌≤◌, ◌+◌, ◌∷◌, [], length, map, All, true, None, IfOk, OnOk, IfErr, IfSome, IsSome, if◌then◌else◌, ⊤};
 ghost use Rattle.std.specs.Option.{option_map, option_to_list};
-ghost use Rattle.ps_resolve.specs.Edits.{IsOfSegment, IsOfTable, AreOfReferences};
+ghost use Rattle.ps_resolve.specs.Edits.{IsOfTable, AreOfReferences};
 ghost use Rattle.ps_resolve.specs.Faults.{segment_fault, references_fault_from, linking_fault};
 ghost use Rattle.ps_resolve.specs.Added.{slot_names};
 ghost use Rattle.ps_resolve.specs.Linkable.{AscendFrom, HasOneHost};
 ghost use Rattle.ps_resolve.specs.Linking.{segment_edits as segment_edits_spec, data_edits, edited_from};
 ghost use Rattle.ps_resolve.specs.Plans.{AreStopped, IsPlanOf, LinksSegment, LinkSegments, origin_of, origin_of_source};
 ghost use Rattle.ps_resolve.specs.Privates.{owner_of, private_words, all_words};
-ghost use Rattle.ps_codefile.specs.Procedures.{is_reserved};
-ghost use Rattle.ps_resolve.specs.References.{FindsOne, records_fault};
 ghost use Rattle.ps_resolve.specs.Sources.{Segment as SegmentSpec, is_linked as is_linked_spec, is_host as is_host_spec, host_of as host_of_spec};
+ghost use Rattle.ps_resolve.specs.Stops.{IsStop};
 ghost use Rattle.ps_resolve.specs.Views.{segment_of, IsSound};
 ghost use Rattle.ps_resolve.specs.declared.linkage.Stop.TheVariants.{Memory};
-ghost use Rattle.ps_words.specs.declared.fault.Reason.{Reason as FaultReason};
 
 use crate::allotment::Allotment;
 use crate::data_size::grown_data_size;
@@ -23,11 +21,10 @@ use crate::names::Names;
 use crate::plan::{Plan, Source};
 use crate::roles::{is_host, is_linked};
 use crate::segment::Segment;
-use crate::segments::RecordStop;
 use crate::slots::HOST_FILE;
 use ps_codefile::Procs;
 use ps_words::laws::edits_patch_alike_in_any_order;
-use ps_words::{Edit, Fault, Name, Order};
+use ps_words::{Edit, Name, Order};
 use std::alloc::Allocator;
 
 /// The host's own segment.
@@ -41,26 +38,6 @@ fn host_of<'a>(segments: &[Segment<'a>]) -> Option<Segment<'a>>
         }
     }
     None
-}
-
-/// A stop at a record of the segment.
-fn stop_of(segment: &Segment, stop: RecordStop) -> Stop
-    ensures { (fault : Option (ℕ × (Option ℕ × FaultReason))) → FindsOne (Err stop) fault → IsOfSegment segment.now.file segment.now.slot fault result }
-{
-    match stop {
-        RecordStop::Memory => Stop::Memory,
-        RecordStop::Refused {
-            rec,
-            reference,
-            reason,
-        } => Stop::Refused(Fault {
-            reason,
-            file: segment.file,
-            slot: Some(segment.slot),
-            rec: Some(rec),
-            reference,
-        }),
-    }
 }
 
 /// The edits of a segment whose references are resolved.
@@ -79,20 +56,14 @@ fn linked_edits<A: Allocator + Copy>(
     ensures links { (words : ℕ) → option_to_list own ≡ (if is_host_spec segment.now.role then data_edits order words segment.now.code.now else [])
         → IfOk result (λ found. LinksSegment order (record { segment = segment_of segment.now; edits = segment_edits_spec order names.now words free (segment_of segment.now) }) found.0.items) }
     ensures end { IfOk result (λ found. found.1 ≡ free + private_words segment.now.records) }
-    ensures sound { IfOk result (λ _. segment_fault order names.now free (segment_of segment.now) ≡ None) }
-    ensures stop { IfErr result (IsOfSegment segment.now.file segment.now.slot
-        (records_fault names.now (is_reserved order segment.now.code.now) segment.now.code.now
-        0 free [] segment.now.records)) }
+    ensures sound { OnOk result (segment_fault order names.now free (segment_of segment.now) ≡ None) }
+    ensures stop { IfErr result
+        (IsStop ⊤ (segment_fault order names.now free (segment_of segment.now))) }
 {
     edits_patch_alike_in_any_order();
     match Procs::read(order, segment.code, is_host(segment.role)) {
         Err(_) => unreachable!(),
-        Ok(procedures) => {
-            match edits_of(alloc, names, &procedures, segment, free, own) {
-                Err(stop) => Err(stop_of(segment, stop)),
-                Ok(found) => Ok(found),
-            }
-        }
+        Ok(procedures) => edits_of(alloc, names, &procedures, segment, free, own),
     }
 }
 
@@ -112,10 +83,9 @@ fn segment_edits<A: Allocator + Copy>(
     ensures links { (words : ℕ) → option_to_list own ≡ (if is_host_spec segment.now.role then data_edits order words segment.now.code.now else [])
         → IfOk result (λ found. LinksSegment order (record { segment = segment_of segment.now; edits = segment_edits_spec order names.now words free (segment_of segment.now) }) found.0.items) }
     ensures end { IfOk result (λ found. found.1 ≡ free + private_words segment.now.records) }
-    ensures sound { IfOk result (λ _. segment_fault order names.now free (segment_of segment.now) ≡ None) }
-    ensures stop { IfErr result (IsOfSegment segment.now.file segment.now.slot
-        (records_fault names.now (is_reserved order segment.now.code.now) segment.now.code.now
-        0 free [] segment.now.records)) }
+    ensures sound { OnOk result (segment_fault order names.now free (segment_of segment.now) ≡ None) }
+    ensures stop { IfErr result
+        (IsStop ⊤ (segment_fault order names.now free (segment_of segment.now))) }
 {
     if is_linked(segment.role) {
         linked_edits(alloc, order, names, segment, free, own)

@@ -1,16 +1,24 @@
-ghost use Rattle.std.specs.Prelude.{◌≡◌, ℕ, ◌<◌, ◌≤◌, ◌+◌, ◌++◌, ◌∷◌, [], List, length, map, OnOk, IfNone};
+ghost use Rattle.std.specs.Prelude.{◌≡◌, ℕ, ◌<◌, ◌≤◌, ◌+◌, ◌++◌, ◌∷◌, [], List, length, map, nat_lt, OnOk, IfOk, IfErr, None, ⊤};
 ghost use Rattle.std.specs.List.{range_with_len, list_any};
+ghost use Rattle.std.specs.Result.{result_err};
+ghost use Rattle.ps_words.specs.declared.fault.Reason.TheVariants.{OperandTooLarge};
 ghost use Rattle.ps_resolve.specs.Places.{has};
+ghost use Rattle.ps_resolve.specs.Searches.{fault_if};
 ghost use Rattle.ps_codefile.specs.Procedures.{is_reserved};
-ghost use Rattle.ps_resolve.specs.Operands.{width_of as width_of_spec, edit_of, value_of as value_of_spec, reference_reason, refs_fault, operands, is_in};
-ghost use Rattle.ps_resolve.specs.Marks.{Marks, Finds};
-ghost use Rattle.ps_resolve.specs.declared.references.RefStop.TheVariants.{Memory};
+ghost use Rattle.ps_resolve.specs.Operands.{width_of as width_of_spec, edit_of, value_of, operands};
+ghost use Rattle.ps_resolve.specs.Marks.{AreTaken};
+ghost use Rattle.ps_resolve.specs.Edits.{reason_in, refs_fault_at};
+ghost use Rattle.ps_resolve.specs.Stops.{IsStop};
 
+use crate::linkage::{RecordPlace, Stop};
 use crate::places::Places;
 use ps_codefile::Procs;
 use ps_linkinfo::Refs;
 use ps_words::{Edit, Reason, get_big};
-use std::alloc::{AllocFailed, Allocator};
+use std::alloc::Allocator;
+
+/// The greatest BIG operand.
+const MAX_OPERAND: usize = 32767;
 
 /// What a reference's operand becomes: the number of a slot, or its displacement and a base.
 #[derive(Clone, Copy)]
@@ -53,71 +61,59 @@ fn is_any_reserved(procedures: &Procs, target: Target, x: usize) -> bool
     }
 }
 
-/// What the BIG operand at x becomes, which lies in the code: its displacement and the base. There is nothing to check for a byte.
-fn value_of(code: &[u8], target: Target, x: usize) -> usize
-    requires { x + width_of_spec target ≤ length code.now }
-    ensures { result ≡ value_of_spec code.now target x }
-{
-    match target {
-        Target::Slot(_) => 0,
-        Target::Base(base) => get_big(code, x) as usize + base as usize,
-    }
-}
-
-/// Why there is no operand at x, where these places are taken.
-fn reason_at(
-    code: &[u8],
-    procedures: &Procs,
-    taken: &Places,
-    target: Target,
-    x: usize,
-) -> Option<Reason>
-    requires small { length code.now ≤ 32767 }
-    requires word { x < 65536 }
-    ensures inside { IfNone result (x + width_of_spec target ≤ length code.now) }
-    ensures fits { IfNone result (value_of_spec code.now target x ≤ 32767) }
-    ensures reason { (os : List (ℕ × ℕ)) → Marks (length code.now) taken.now.words (λ p. list_any (is_in p) os)
-        → result ≡ reference_reason (is_reserved procedures.now.order procedures.now.code) code.now os target x }
-{
-    if x + width_of(target) > code.len() {
-        return Some(Reason::OutsideCode);
-    }
-    if is_any_reserved(procedures, target, x) {
-        return Some(Reason::ReservedPlace);
-    }
-    if any_of(taken, target, x) {
-        return Some(Reason::Overlap);
-    }
-    if value_of(code, target, x) > 32767 {
-        return Some(Reason::OperandTooLarge);
-    }
-    None
-}
-
-/// What is stored there.
-fn edit_at(code: &[u8], target: Target, x: usize) -> Edit
+/// What is stored for the operand at x, which lies in the code; a BIG operand has to have room for it.
+fn stored_at(code: &[u8], target: Target, x: usize) -> Result<Edit, Reason>
     requires inside { x + width_of_spec target ≤ length code.now }
-    requires small { value_of_spec code.now target x ≤ 32767 }
     requires word { x < 65536 }
-    ensures { result ≡ edit_of code.now target x }
+    ensures edit { IfOk result (λ edit. edit ≡ edit_of code.now target x) }
+    ensures reason { result_err result
+        ≡ fault_if (nat_lt 32767 (value_of code.now target x)) OperandTooLarge }
 {
     match target {
-        Target::Slot(slot) => Edit::Byte {
+        Target::Slot(slot) => Ok(Edit::Byte {
             place: x as u16,
             value: slot,
-        },
-        Target::Base(_) => Edit::Big {
-            place: x as u16,
-            value: value_of(code, target, x) as u16,
-        },
+        }),
+        Target::Base(base) => {
+            let value = get_big(code, x) as usize + base as usize;
+            if value > MAX_OPERAND {
+                return Err(Reason::OperandTooLarge);
+            }
+            Ok(Edit::Big {
+                place: x as u16,
+                value: value as u16,
+            })
+        }
     }
+}
+
+/// The edit of the operand at x, where these places are taken; or why there is none.
+fn edit_at(procedures: &Procs, taken: &Places, target: Target, x: usize) -> Result<Edit, Reason>
+    requires small { length procedures.now.code ≤ 32767 }
+    requires word { x < 65536 }
+    ensures inside { IfOk result (λ _. x + width_of_spec target ≤ length procedures.now.code) }
+    ensures edit { IfOk result (λ edit. edit ≡ edit_of procedures.now.code target x) }
+    ensures reason { (os : List (ℕ × ℕ)) → AreTaken (length procedures.now.code) taken.now.words os
+        → result_err result ≡ reason_in procedures.now os target x }
+{
+    let code = procedures.code();
+    if x + width_of(target) > code.len() {
+        return Err(Reason::OutsideCode);
+    }
+    if is_any_reserved(procedures, target, x) {
+        return Err(Reason::ReservedPlace);
+    }
+    if any_of(taken, target, x) {
+        return Err(Reason::Overlap);
+    }
+    stored_at(code, target, x)
 }
 
 /// Adds the places of the operand.
 fn mark(taken: &mut Places, target: Target, x: usize)
     requires { x + width_of_spec target ≤ 32768 }
-    ensures { (n : ℕ) (os : List (ℕ × ℕ)) → n ≤ 32768 → Marks n taken.old.words (λ p. list_any (is_in p) os)
-        → Marks n taken.new.words (λ p. list_any (is_in p) (os ++ (x, width_of_spec target) ∷ [])) }
+    ensures { (n : ℕ) (os : List (ℕ × ℕ)) → n ≤ 32768 → AreTaken n taken.old.words os
+        → AreTaken n taken.new.words (os ++ (x, width_of_spec target) ∷ []) }
 {
     taken.insert(x);
     if let Target::Base(_) = target {
@@ -125,49 +121,35 @@ fn mark(taken: &mut Places, target: Target, x: usize)
     }
 }
 
-/// Why not all references were taken in.
-#[derive(Drop)]
-pub enum RefStop {
-    /// The reference of this index has this fault.
-    Refused { reference: usize, reason: Reason },
-    /// Memory ran out.
-    Memory,
-}
-
-impl<T: Drop> From<AllocFailed<T>> for RefStop {
-    ghost from_gives = { λ _ e. e ≡ Memory };
-
-    fn from(_e: AllocFailed<T>) -> RefStop {
-        RefStop::Memory
-    }
-}
-
-/// Adds the edits of a record's references, or finds its first fault.
+/// Adds the edits of the references of the record that stands there, or finds their first fault.
 pub(crate) fn add_references<A: Allocator>(
-    code: &[u8],
     procedures: &Procs,
     taken: &mut Places,
+    place: RecordPlace,
     target: Target,
     refs: &Refs,
     edits: &mut Vec<Edit, A>,
-) -> Result<(), RefStop>
-    requires { length code.now ≤ 32767 }
-    ensures ok { OnOk result (edits.new.items ≡ edits.old.items ++ map (edit_of code.now target) refs.now) }
-    ensures fault { (os : List (ℕ × ℕ)) → Marks (length code.now) taken.old.words (λ p. list_any (is_in p) os)
-        → Finds result (refs_fault (is_reserved procedures.now.order procedures.now.code) code.now target 0 os refs.now) }
-    ensures taken { (os : List (ℕ × ℕ)) → Marks (length code.now) taken.old.words (λ p. list_any (is_in p) os)
-        → OnOk result (Marks (length code.now) taken.new.words (λ p. list_any (is_in p) (os ++ operands target refs.now))) }
+) -> Result<(), Stop>
+    requires { length procedures.now.code ≤ 32767 }
+    ensures edits { OnOk result (edits.new.items
+        ≡ edits.old.items ++ map (edit_of procedures.now.code target) refs.now) }
+    ensures sound { (os : List (ℕ × ℕ)) → AreTaken (length procedures.now.code) taken.old.words os
+        → OnOk result (refs_fault_at place procedures.now target os refs.now ≡ None) }
+    ensures stop { (os : List (ℕ × ℕ)) → AreTaken (length procedures.now.code) taken.old.words os
+        → IfErr result (IsStop ⊤ (refs_fault_at place procedures.now target os refs.now)) }
+    ensures taken { (os : List (ℕ × ℕ)) → AreTaken (length procedures.now.code) taken.old.words os
+        → OnOk result (AreTaken (length procedures.now.code) taken.new.words
+        (os ++ operands target refs.now)) }
 {
     for i in 0..refs.len() {
         let x = refs.get(i) as usize;
-        if let Some(reason) = reason_at(code, procedures, taken, target, x) {
-            return Err(RefStop::Refused {
-                reference: i,
-                reason,
-            });
+        match edit_at(procedures, taken, target, x) {
+            Err(reason) => return Err(place.reference_refused(i, reason)),
+            Ok(edit) => {
+                mark(taken, target, x);
+                edits.push(edit)?;
+            }
         }
-        mark(taken, target, x);
-        edits.push(edit_at(code, target, x))?;
     }
     Ok(())
 }

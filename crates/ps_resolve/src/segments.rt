@@ -1,49 +1,25 @@
-ghost use Rattle.std.specs.Prelude.{◌≡◌, ℕ, ◌<◌, ◌≤◌, ◌+◌, ◌++◌, [], List, length, map, OnOk, IfOk, Ok, Err, Option, Some, true};
-ghost use Rattle.std.specs.Option.{option_map};
-ghost use Rattle.ps_words.specs.declared.fault.Reason.{Reason};
-ghost use Rattle.std.specs.List.{list_any};
+ghost use Rattle.std.specs.Prelude.{◌≡◌, ℕ, ◌<◌, ◌≤◌, ◌+◌, ◌++◌, List, length, map, OnOk, IfOk, IfErr, None, true, ⊤};
 ghost use Rattle.ps_linkinfo.specs.Counts.{privates_in, publics_in, units_in};
 ghost use Rattle.ps_linkinfo.specs.Records.{refs_of};
-ghost use Rattle.ps_codefile.specs.Procedures.{is_reserved};
-ghost use Rattle.ps_resolve.specs.Operands.{edit_of, operands, refs_fault, is_in};
-ghost use Rattle.ps_resolve.specs.Marks.{Marks, Finds};
-ghost use Rattle.ps_resolve.specs.References.{target_of as target_of_spec, words_taken as words_taken_spec, records_fault, records_edits, FindsOne};
-ghost use Rattle.ps_resolve.specs.Edits.{FindsFault};
+ghost use Rattle.ps_resolve.specs.Operands.{edit_of, operands};
+ghost use Rattle.ps_resolve.specs.Marks.{AreTaken};
+ghost use Rattle.ps_resolve.specs.References.{target_of as target_of_spec, words_taken as words_taken_spec, records_edits};
+ghost use Rattle.ps_resolve.specs.Edits.{refs_fault_at};
+ghost use Rattle.ps_resolve.specs.Faults.{segment_fault};
 ghost use Rattle.ps_resolve.specs.Privates.{private_words};
-ghost use Rattle.ps_resolve.specs.declared.segments.RecordStop.TheVariants.{Memory};
+ghost use Rattle.ps_resolve.specs.Stops.{IsStop};
+ghost use Rattle.ps_resolve.specs.Views.{segment_of};
 
 use crate::definitions::DefKind;
+use crate::linkage::{RecordPlace, Stop};
 use crate::names::Names;
 use crate::places::Places;
-use crate::references::{RefStop, Target, add_references};
+use crate::references::{Target, add_references};
+use crate::segment::Segment;
 use ps_codefile::Procs;
 use ps_linkinfo::{Body, LinkInformation, LinkRecord};
 use ps_words::{Edit, Reason};
-use std::alloc::{AllocFailed, Allocator};
-
-/// Why not all records were taken in.
-#[derive(Drop)]
-pub enum RecordStop {
-    /// The record of this index, or its reference of this index, has this fault.
-    Refused {
-        /// The index of the record, from 0.
-        rec: usize,
-        /// The index of the reference, from 0, where the reason is of a reference.
-        reference: Option<usize>,
-        /// Why it is refused.
-        reason: Reason,
-    },
-    /// Memory ran out.
-    Memory,
-}
-
-impl<T: Drop> From<AllocFailed<T>> for RecordStop {
-    ghost from_gives = { λ _ e. e ≡ Memory };
-
-    fn from(_e: AllocFailed<T>) -> RecordStop {
-        RecordStop::Memory
-    }
-}
+use std::alloc::Allocator;
 
 /// What the operands of the record's references become.
 fn target_of<A: Allocator + Copy>(
@@ -81,41 +57,33 @@ fn words_taken(body: &Body) -> u16
     }
 }
 
-/// Adds the edits of a record, or finds its first fault.
+/// Adds the edits of the record that stands there, or finds the first fault of its references.
 fn add_body<A: Allocator>(
-    code: &[u8],
     procedures: &Procs,
     taken: &mut Places,
+    place: RecordPlace,
     target: Target,
     body: &Body,
     edits: &mut Vec<Edit, A>,
-) -> Result<(), RefStop>
-    requires { length code.now ≤ 32767 }
-    ensures ok { OnOk result (edits.new.items ≡ edits.old.items ++ map (edit_of code.now target) (refs_of body.now)) }
-    ensures fault { (os : List (ℕ × ℕ)) → Marks (length code.now) taken.old.words (λ p. list_any (is_in p) os)
-        → Finds result (refs_fault (is_reserved procedures.now.order procedures.now.code) code.now target 0 os (refs_of body.now)) }
-    ensures taken { (os : List (ℕ × ℕ)) → Marks (length code.now) taken.old.words (λ p. list_any (is_in p) os)
-        → OnOk result (Marks (length code.now) taken.new.words (λ p. list_any (is_in p) (os ++ operands target (refs_of body.now)))) }
+) -> Result<(), Stop>
+    requires { length procedures.now.code ≤ 32767 }
+    ensures edits { OnOk result (edits.new.items
+        ≡ edits.old.items ++ map (edit_of procedures.now.code target) (refs_of body.now)) }
+    ensures sound { (os : List (ℕ × ℕ)) → AreTaken (length procedures.now.code) taken.old.words os
+        → OnOk result (refs_fault_at place procedures.now target os (refs_of body.now) ≡ None) }
+    ensures stop { (os : List (ℕ × ℕ)) → AreTaken (length procedures.now.code) taken.old.words os
+        → IfErr result (IsStop ⊤ (refs_fault_at place procedures.now target os (refs_of body.now))) }
+    ensures taken { (os : List (ℕ × ℕ)) → AreTaken (length procedures.now.code) taken.old.words os
+        → OnOk result (AreTaken (length procedures.now.code) taken.new.words
+        (os ++ operands target (refs_of body.now))) }
 {
     match body {
-        Body::UnitRef(refs) => add_references(code, procedures, taken, target, refs, edits),
-        Body::PublRef(refs) => add_references(code, procedures, taken, target, refs, edits),
-        Body::PrivRef { refs, .. } => add_references(code, procedures, taken, target, refs, edits),
+        Body::UnitRef(refs) => add_references(procedures, taken, place, target, refs, edits),
+        Body::PublRef(refs) => add_references(procedures, taken, place, target, refs, edits),
+        Body::PrivRef { refs, .. } => {
+            add_references(procedures, taken, place, target, refs, edits)
+        }
         Body::PublDef(_) | Body::ConstDef(_) | Body::Eof(_) => Ok(()),
-    }
-}
-
-/// A reference's fault as its record's.
-fn in_record(rec: usize, stop: RefStop) -> RecordStop
-    ensures { (fault : Option (ℕ × Reason)) → Finds (Err stop) fault → FindsOne (Err result) (option_map (λ f. (rec, (Some f.0, f.1))) fault) }
-{
-    match stop {
-        RefStop::Memory => RecordStop::Memory,
-        RefStop::Refused { reference, reason } => RecordStop::Refused {
-            rec,
-            reference: Some(reference),
-            reason,
-        },
     }
 }
 
@@ -133,38 +101,38 @@ fn asks_for_nothing(records: &LinkInformation) -> bool
 pub(crate) fn add_records<A: Allocator + Copy>(
     names: &Names<A>,
     procedures: &Procs,
-    records: &LinkInformation,
+    segment: &Segment,
     free: u16,
-    code: &[u8],
     edits: &mut Vec<Edit, A>,
-) -> Result<u16, RecordStop>
-    requires small { length code.now ≤ 32767 }
-    requires room { free + private_words records.now < 65536 }
-    ensures ok { OnOk result (edits.new.items ≡ edits.old.items
-        ++ records_edits names.now code.now free records.now) }
-    ensures end { IfOk result (λ end. end ≡ free + private_words records.now) }
-    ensures fault { FindsFault result (records_fault names.now
-        (is_reserved procedures.now.order procedures.now.code) code.now 0 free [] records.now) }
+) -> Result<u16, Stop>
+    requires small { length segment.now.code.now ≤ 32767 }
+    requires own_code { procedures.now.code ≡ segment.now.code.now }
+    requires room { free + private_words segment.now.records < 65536 }
+    ensures edits { OnOk result (edits.new.items ≡ edits.old.items
+        ++ records_edits names.now segment.now.code.now free segment.now.records) }
+    ensures end { IfOk result (λ end. end ≡ free + private_words segment.now.records) }
+    ensures sound { OnOk result
+        (segment_fault procedures.now.order names.now free (segment_of segment.now) ≡ None) }
+    ensures stop { IfErr result (IsStop ⊤
+        (segment_fault procedures.now.order names.now free (segment_of segment.now))) }
 {
+    let records = &segment.records;
     if asks_for_nothing(records) {
         return Ok(free);
     }
     let mut taken = Places::new();
     let mut next = free;
     for (rec, record) in records.records() {
+        let place = RecordPlace {
+            file: segment.file,
+            slot: segment.slot,
+            rec,
+        };
         match target_of(names, next, &record) {
-            Err(reason) => {
-                return Err(RecordStop::Refused {
-                    rec,
-                    reference: None,
-                    reason,
-                });
-            }
+            Err(reason) => return Err(place.refused(reason)),
             Ok(target) => {
-                match add_body(code, procedures, &mut taken, target, &record.body, edits) {
-                    Err(stop) => return Err(in_record(rec, stop)),
-                    Ok(()) => next += words_taken(&record.body),
-                }
+                add_body(procedures, &mut taken, place, target, &record.body, edits)?;
+                next += words_taken(&record.body);
             }
         }
     }
