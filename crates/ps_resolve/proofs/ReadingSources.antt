@@ -66,6 +66,10 @@ all_of_one P f (Some x) h = All-cons P (f x) [] h (All-nil P)
 pub all_more : {X Y : Type 0} (P : Y → Type 0) (f : X → Y) (xs : List X) (o : Option X) → All P (map f xs) → IfSome o (λ x. P (f x)) → All P (map f (xs ++ option_to_list o))
 all_more P f xs o all h = subst (λ ys. All P ys) (sym (map-append f xs (option_to_list o))) (All-append P (map f xs) (map f (option_to_list o)) all (all_of_one P f o h))
 
+pub all_with : {X : Type 0} (P : X → Type 0) (xs : List X) (o : Option X) → All P xs → IfSome o P → All P (xs ++ option_to_list o)
+all_with P xs None all h = All-append P xs [] all (All-nil P)
+all_with P xs (Some x) all h = All-append P xs (x ∷ []) all (All-cons P x [] h (All-nil P))
+
 pub kept_on : {X Y : Type 0} (f : X → Y) (h : ℕ → Option Y) (xs : List X) (o : Option X) (i n : ℕ) → i < n → option_map f o ≡ h i
     → map f xs ++ filter_map h (range_with_len i (n - i)) ≡ map f (xs ++ option_to_list o) ++ filter_map h (range_with_len (i + 1) (n - (i + 1)))
 kept_on {X} {Y} f h xs o i n lt is =

@@ -36,4 +36,4 @@ slots_are (s ∷ ss) = rw (slots_are ss) refl
 
 -- a segment of none of the files, which is read past the end of a list
 abbrev pub blank : SegmentView
-blank = record { slot = 0; name = []; role = Empty; added = false; file = 0; index = 0; code = record { ref_ptr = (0, 0); now = [] }; records = [] }
+blank = record { slot = 0; name = []; role = Empty; added = false; file = 0; index = 0; code = record { ref_ptr = (0, 0); now = [] }; block = 0; records = [] }

@@ -1,12 +1,15 @@
 -- The segments that the files have, seen as the segments of the link, and what is known of them once the files were read without a fault.
 -- Source: this project's profile.
-use Rattle.std.specs.Prelude.{◌≡◌, ◌≤◌, ◌==◌, if◌then◌else◌, ℕ, List, [], length, Bool, true, false, Option, None}
-use Rattle.std.specs.List.{find, filter_map}
+use Rattle.std.specs.Prelude.{◌≡◌, ◌≤◌, ◌*◌, ◌==◌, if◌then◌else◌, ℕ, List, [], length, drop, Bool, true, false, Option, None}
+use Rattle.std.specs.List.{find, filter_map, Contains}
 use Rattle.std.specs.Option.{option_or}
 use Rattle.ps_words.specs.declared.order.Order.{Order}
-use Rattle.ps_codefile.specs.Dictionary.{slots}
+use Rattle.ps_codefile.specs.Dictionary.{slots, block_len, information_of}
+use Rattle.ps_codefile.specs.declared.entry.Entry.{Entry}
+use Rattle.ps_linkinfo.specs.Records.{reading}
+use Rattle.ps_linkinfo.specs.declared.record.LinkRecord.{LinkRecord as Record}
 use Rattle.ps_codefile.specs.Procedures.{tables_fault}
-use Rattle.ps_resolve.specs.Sources.{Segment, is_linked, is_host, is_empty}
+use Rattle.ps_resolve.specs.Sources.{Segment, is_linked, is_host, is_empty, file_at}
 use Rattle.ps_resolve.specs.Faults.{is_role}
 use Rattle.ps_resolve.specs.declared.segment.Segment.{Segment as SegmentView}
 
@@ -21,6 +24,19 @@ segment_of s = record {
   code = s.code.now;
   records = s.records;
 }
+
+-- the records of an entry's link information, which has no fault
+abbrev pub IsRowOf : Order → List ℕ → Entry → List Record → Type 0
+IsRowOf order file e rs = reading order (information_of file e) ≡ (rs, None)
+
+-- the link information of the segment, where its references are resolved, begins in its block of its file, and its records are all that stand there
+abbrev pub IsPlaced : Order → List ℕ → List (List ℕ) → SegmentView → Type 0
+IsPlaced order host libs s = is_linked s.role ≡ true → reading order (drop (block_len * s.block) (file_at host libs s.file)) ≡ (s.records, None)
+
+-- one of the segments has these records, which are resolved, and its link information begins in this block of this file
+abbrev pub HasRow : List SegmentView → ℕ → ℕ → List Record → Type 0
+HasRow segs file block rs =
+    (s : SegmentView) × Contains segs s × (is_linked s.role ≡ true) × (s.file ≡ file) × (s.block ≡ block) × (s.records ≡ rs)
 
 abbrev pub is_in_slot : ℕ → Segment → Bool
 is_in_slot slot s = s.slot == slot

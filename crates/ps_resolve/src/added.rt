@@ -9,12 +9,12 @@ ghost use Rattle.ps_resolve.specs.Sources.{is_named, is_empty as is_empty_role, 
 ghost use Rattle.ps_resolve.specs.Added.{unit_references, all_unit_references, is_had as is_had_spec, is_missing, sought_from, empty_slots as empty_slots_spec, unplaced_fault, placed_fault, added_segment, rounds_in, rounds_of};
 ghost use Rattle.ps_resolve.specs.Faults.{is_role, libraries_fault};
 ghost use Rattle.ps_resolve.specs.Names.{units_by_name};
-ghost use Rattle.ps_resolve.specs.Views.{segment_of, IsSound};
+ghost use Rattle.ps_resolve.specs.Views.{segment_of, IsSound, IsPlaced};
 
 use crate::names::slot_of;
 use crate::segment::Segment;
 use crate::slots::{SLOTS, is_empty};
-use crate::sources::read_segment;
+use crate::sources::{known_records, read_segment};
 use crate::units::{UnitSource, chosen_library, entries_reason};
 use arrayvec::ArrayVec;
 use ps_codefile::{Dict, Role, is_nameless};
@@ -191,17 +191,21 @@ fn no_slot(order: Order, libs: &[&[u8]], sought: &UnitReference) -> Fault
     Fault::in_record(sought.file, sought.slot, sought.rec, reason)
 }
 
-/// The segment that a name brings into a slot, or the first fault of its unit.
+/// The segment that a name brings into a slot, or the first fault of its unit. `known` are segments
+/// that were added before.
 fn read_added<'a>(
     order: Order,
     libs: &'a [&'a [u8]],
     sought: &UnitReference,
     slot: u8,
+    known: &[Segment<'a>],
 ) -> Result<Segment<'a>, Fault>
     requires slots { slot < 16 }
     requires libraries { libraries_fault order (contents libs.now) ≡ None }
+    requires placed { (host : List ℕ) → All (IsPlaced order host (contents libs.now)) known.now }
     ensures fault { (host : List ℕ) → result_err result ≡ placed_fault order host (contents libs.now) sought.now slot }
     ensures segment { (host : List ℕ) → IfOk result (λ s. added_segment order host (contents libs.now) sought.now slot ≡ Some (segment_of s)) }
+    ensures placed { (host : List ℕ) → IfOk result (IsPlaced order host (contents libs.now)) }
     ensures sound { IfOk result (λ s. IsSound order (segment_of s)) }
 {
     match unit_named(order, sought.name, libs) {
@@ -209,13 +213,15 @@ fn read_added<'a>(
         Some(unit) => match entries_reason(&unit.dict, sought.name, unit.index) {
             Some(reason) => Err(Fault::in_slot(unit.library + 1, slot, reason)),
             None => {
+                let file = unit.library + 1;
                 match read_segment(
                     slot,
                     sought.name,
                     Role::Wanted,
                     &unit.dict,
-                    unit.library + 1,
+                    file,
                     unit.index,
+                    known_records(known, &unit.dict, file, unit.index),
                 ) {
                     Err(fault) => Err(fault),
                     Ok(segment) => Ok(Segment {
@@ -247,6 +253,7 @@ fn add_in<'a>(
     requires in_range { All (λ slot. slot < 16) slots.now }
     ensures fault { (host : List ℕ) → result_err result ≡ (rounds_in order host (contents libs.now) (map segment_of own.now) slots.now).fault }
     ensures added { (host : List ℕ) → IfOk result (λ added. map segment_of added.items ≡ (rounds_in order host (contents libs.now) (map segment_of own.now) slots.now).added) }
+    ensures placed { (host : List ℕ) → IfOk result (λ added. All (IsPlaced order host (contents libs.now)) added.items) }
     ensures sound { IfOk result (λ added. All (IsSound order) (map segment_of added.items)) }
 {
     let mut row = sought_by(own);
@@ -254,7 +261,7 @@ fn add_in<'a>(
     for slot in slots {
         match sought_at(&row, added.len()) {
             None => return Ok(added),
-            Some(sought) => match read_added(order, libs, &sought, *slot) {
+            Some(sought) => match read_added(order, libs, &sought, *slot, added.as_slice()) {
                 Err(fault) => return Err(fault),
                 Ok(segment) => {
                     seek_records(own, &mut row, &segment);
@@ -283,6 +290,7 @@ pub(crate) fn add_units<'a>(
     requires { libraries_fault host.now.order (contents libs.now) ≡ None }
     ensures fault { result_err result ≡ (rounds_of host.now.order host.now.file (contents libs.now) (map segment_of own.now)).fault }
     ensures added { IfOk result (λ added. map segment_of added.items ≡ (rounds_of host.now.order host.now.file (contents libs.now) (map segment_of own.now)).added) }
+    ensures placed { IfOk result (λ added. All (IsPlaced host.now.order host.now.file (contents libs.now)) added.items) }
     ensures sound { IfOk result (λ added. All (IsSound host.now.order) (map segment_of added.items)) }
 {
     let slots = empty_slots(host);

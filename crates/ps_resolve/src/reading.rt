@@ -1,4 +1,5 @@
-ghost use Rattle.std.specs.Prelude.{◌≡◌, ◌<◌, ◌≤◌, length, map, Some, None, IfOk, IfErr, IsSome, All};
+ghost use Rattle.std.specs.Prelude.{◌≡◌, ◌<◌, ◌≤◌, List, ℕ, length, map, Some, None, IfOk, IfErr, IfSome, IsSome, All};
+ghost use Rattle.ps_words.specs.declared.order.Order.{Order as ByteOrder};
 ghost use Rattle.std.specs.List.{find};
 ghost use Rattle.std.specs.Option.{option_map, option_or};
 ghost use Rattle.std.specs.Result.{result_err};
@@ -7,7 +8,7 @@ ghost use Rattle.ps_resolve.specs.Added.{segments, slot_name as slot_name_spec, 
 ghost use Rattle.ps_resolve.specs.Faults.{slots_fault as slots_fault_spec, no_host_fault as no_host_fault_spec, libraries_fault as libraries_fault_spec};
 ghost use Rattle.ps_resolve.specs.AllFaults.{reading_fault, reading_rest};
 ghost use Rattle.ps_resolve.specs.Linkable.{AscendFrom, HasOneHost};
-ghost use Rattle.ps_resolve.specs.Views.{segment_of, IsSound, is_in_slot, segment_in_slot, segments_in_slots};
+ghost use Rattle.ps_resolve.specs.Views.{segment_of, IsSound, IsPlaced, is_in_slot, segment_in_slot, segments_in_slots};
 
 use crate::added::add_units;
 use crate::libraries::libraries_fault;
@@ -21,6 +22,8 @@ use ps_words::{Fault, Name, Order};
 /// The segment that stands in a slot.
 fn segment_in<'a>(segments: &[Segment<'a>], slot: u8) -> Option<Segment<'a>>
     ensures found { option_map segment_of result ≡ find (is_in_slot slot) (map segment_of segments.now) }
+    ensures placed { (order : ByteOrder) (host : List ℕ) (libs : List (List ℕ))
+        → All (IsPlaced order host libs) segments.now → IfSome result (IsPlaced order host libs) }
 {
     for segment in segments {
         if segment.slot == slot {
@@ -38,7 +41,10 @@ fn segment_of_slot<'a>(
     slot: u8,
 ) -> Option<Segment<'a>>
     requires { slot < 16 }
-    ensures { option_map segment_of result ≡ segment_in_slot host.now.order host.now.file (map segment_of own.now) (map segment_of added.now) slot }
+    ensures found { option_map segment_of result ≡ segment_in_slot host.now.order host.now.file (map segment_of own.now) (map segment_of added.now) slot }
+    ensures placed { (libs : List (List ℕ)) → All (IsPlaced host.now.order host.now.file libs) own.now
+        → All (IsPlaced host.now.order host.now.file libs) added.now
+        → IfSome result (IsPlaced host.now.order host.now.file libs) }
 {
     if let Some(segment) = segment_in(own, slot) {
         return Some(segment);
@@ -58,6 +64,9 @@ fn by_slot<'a>(
     requires own { All (IsSound host.now.order) (map segment_of own.now) }
     requires added { All (IsSound host.now.order) (map segment_of added.now) }
     ensures segments { map segment_of result.items ≡ segments_in_slots host.now.order host.now.file (map segment_of own.now) (map segment_of added.now) }
+    ensures placed { (libs : List (List ℕ)) → All (IsPlaced host.now.order host.now.file libs) own.now
+        → All (IsPlaced host.now.order host.now.file libs) added.now
+        → All (IsPlaced host.now.order host.now.file libs) result.items }
     ensures sound { All (IsSound host.now.order) (map segment_of result.items) }
 {
     let mut segments = ArrayVec::new();
@@ -94,6 +103,7 @@ fn read_all<'a>(host: &Dict<'a>, libs: &'a [&'a [u8]]) -> Result<ArrayVec<Segmen
     requires { libraries_fault_spec host.now.order (contents libs.now) ≡ None }
     ensures fault { result_err result ≡ reading_rest host.now.order host.now.file (contents libs.now) }
     ensures segments { IfOk result (λ s. map segment_of s.items ≡ segments host.now.order host.now.file (contents libs.now)) }
+    ensures placed { IfOk result (λ s. All (IsPlaced host.now.order host.now.file (contents libs.now)) s.items) }
     ensures sound { IfOk result (λ s. All (IsSound host.now.order) (map segment_of s.items)) }
 {
     match read_slots(host, libs) {
@@ -132,6 +142,7 @@ fn read_sources<'a>(
     ensures fault { result_err result ≡ option_or (slots_fault_spec host.now.order host.now.file) (option_or (no_host_fault_spec host.now.order host.now.file)
         (option_or (libraries_fault_spec host.now.order (contents libs.now)) (reading_rest host.now.order host.now.file (contents libs.now)))) }
     ensures segments { IfOk result (λ s. map segment_of s.items ≡ segments host.now.order host.now.file (contents libs.now)) }
+    ensures placed { IfOk result (λ s. All (IsPlaced host.now.order host.now.file (contents libs.now)) s.items) }
     ensures sound { IfOk result (λ s. All (IsSound host.now.order) (map segment_of s.items)) }
 {
     match files_fault(host, libs) {
@@ -157,6 +168,7 @@ pub(crate) fn read_segments<'a>(host: &'a [u8], libs: &'a [&'a [u8]]) -> Result<
     ensures order { IfOk result (λ r. r.order ≡ order_of host.now) }
     ensures segments { IfOk result (λ r. map segment_of r.segments.items ≡ segments (order_of host.now) host.now (contents libs.now)) }
     ensures names { IfOk result (λ r. r.names ≡ slot_names_spec host.now (map segment_of r.segments.items)) }
+    ensures placed { IfOk result (λ r. All (IsPlaced r.order host.now (contents libs.now)) r.segments.items) }
     ensures sound { IfOk result (λ r. All (IsSound r.order) (map segment_of r.segments.items)) }
     ensures ascending { IfOk result (λ r. AscendFrom 0 (map (λ s. s.slot) (map segment_of r.segments.items))) }
     ensures host { IfOk result (λ r. IsSome (host_of (map segment_of r.segments.items))) }

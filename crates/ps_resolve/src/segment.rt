@@ -1,5 +1,7 @@
-ghost use Rattle.std.specs.Prelude.{◌≡◌};
+ghost use Rattle.std.specs.Prelude.{◌≡◌, IfSome};
+ghost use Rattle.ps_resolve.specs.Views.{HasRow};
 
+use crate::roles::is_linked;
 use ps_codefile::Role;
 use ps_linkinfo::LinkInformation;
 use ps_words::Name;
@@ -20,6 +22,8 @@ pub(crate) struct Segment<'a> {
     /// The slot of its entry in that file, 0 to 15.
     pub(crate) index: u8,
     pub(crate) code: &'a [u8],
+    /// The block of that file, from 0, in which its link information begins.
+    pub(crate) block: usize,
     /// Its link information, read whole; no records where the segment is linked already.
     pub(crate) records: LinkInformation<'a>,
 }
@@ -37,7 +41,25 @@ impl<'a> Segment<'a> {
             file: self.file,
             index: self.index,
             code: self.code,
+            block: self.block,
             records: self.records.copied(),
         }
     }
+}
+
+/// The link information that begins in this block of this file, where a linked one of the segments
+/// has it.
+pub(crate) fn row_of<'a>(
+    segments: &[Segment<'a>],
+    file: usize,
+    block: usize,
+) -> Option<LinkInformation<'a>>
+    ensures { IfSome result (HasRow segments.now file block) }
+{
+    for segment in segments {
+        if is_linked(segment.role) && segment.file == file && segment.block == block {
+            return Some(segment.records.copied());
+        }
+    }
+    None
 }

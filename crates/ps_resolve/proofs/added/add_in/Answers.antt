@@ -5,12 +5,12 @@ use Rattle.ps_words.specs.declared.fault.Fault.{Fault}
 use Rattle.ps_resolve.specs.Sources.{Segment, units_of}
 use Rattle.ps_resolve.specs.Added.{Rounds, sought_from, unit_references, all_unit_references, rounds_from}
 use Rattle.ps_resolve.specs.Names.{units_by_name}
-use Rattle.ps_resolve.specs.Views.{segment_of, IsSound}
+use Rattle.ps_resolve.specs.Views.{segment_of, IsSound, IsPlaced}
 use Rattle.ps_resolve.specs.declared.added.UnitReference.{UnitReference}
 use Rattle.ps_resolve.specs.declared.segment.Segment.{Segment as SegmentView}
 use Rattle.ps_resolve.proofs.Adding.{at_round, kept, no_name_left, no_slot_left, round_refused, round_adds, joined, joined_more}
 use Rattle.ps_resolve.proofs.ReadingLibraries.{files}
-use Rattle.ps_resolve.proofs.ReadingSources.{all_more}
+use Rattle.ps_resolve.proofs.ReadingSources.{all_more, all_with}
 use Rattle.ps_resolve.proofs.Segs.{drop_at, units_are}
 use Rattle.ps_resolve.proofs.added.add_in.Goals as goal
 
@@ -20,7 +20,10 @@ loop-slot-init c =
     let row = sought_from (units_of own) [] (all_unit_references own) in
     let units : units_of own ≡ units_by_name c.args.own.now = units_are c.args.own.now in
     let is : c.sought_by-row.result.items ≡ take 10 row = c.sought_by-row.ensures ∙ sym (ap (λ (u : List (List ℕ × ℕ)). take 10 (sought_from u [] (all_unit_references own))) units) in
-    rw c.new-added.ensures (record { rounds = (row, is, λ host. refl); count = refl; sound = All-nil (IsSound c.args.order) })
+    rw c.new-added.ensures (record { rounds = (row, is, λ host. refl); count = refl; placed = λ host. All-nil (IsPlaced c.args.order host (files c.args.libs.now)); sound = All-nil (IsSound c.args.order) })
+
+pub read_added-requires-clause-placed : goal.read_added-requires-clause-placed
+read_added-requires-clause-placed c = λ host. rw c.as_slice.ensures.value (c.loop-slot.invariant.placed host)
 
 -- all rounds are those so far, where no name is left
 pub returns-in-None-clause-fault : goal.returns-in-None-clause-fault
@@ -92,6 +95,7 @@ loop-slot-preserved c =
     record {
       rounds = (next, is, on);
       count = omega (arith, ap length c.push.ensures.items, length-append old (c.in-Ok.segment ∷ []), inv.count);
+      placed = λ host. rw c.push.ensures.items (all_with (IsPlaced order host libs) old (Some c.in-Ok.segment) (inv.placed host) (c.in-Ok.ensures.placed host));
       sound = rw c.push.ensures.items (all_more (IsSound order) segment_of old (Some c.in-Ok.segment) inv.sound c.in-Ok.ensures.sound);
     }
 

@@ -1,11 +1,12 @@
-use Rattle.std.proofs.Common.{◌∙◌, ◌+◌, Some, sym, ap, subst}
+use Rattle.std.proofs.Common.{◌∙◌, ◌+◌, [], Some, sym, ap, subst}
+use Rattle.std.specs.Prelude.{All}
 use Rattle.std.specs.List.{find}
 use Rattle.std.specs.Option.{option_map}
 use Rattle.ps_words.specs.declared.order.Order.{Order}
 use Rattle.ps_words.specs.declared.fault.Fault.{Fault}
 use Rattle.ps_codefile.specs.Dictionary.{slots, is_linked_kind}
 use Rattle.ps_resolve.specs.Added.{as_added}
-use Rattle.ps_resolve.specs.Views.{segment_of, IsSound}
+use Rattle.ps_resolve.specs.Views.{segment_of, IsSound, IsPlaced}
 use Rattle.ps_codefile.specs.declared.entry.Role.TheVariants.{Wanted}
 use Rattle.ps_resolve.specs.Sources.{is_named, segment_from}
 use Rattle.ps_resolve.specs.Faults.{entries_reason, code_fault}
@@ -24,6 +25,20 @@ read_segment-requires-clause-kind c =
     let name = c.args.sought.now.name in
     let entry = ap (λ (o : Order). find (is_named o name unit.dict.file) slots) c.in-Some.ensures.order ∙ c.in-Some.ensures.entry in
     λ linked. ap is_linked_kind (kind_is unit.dict.order name unit.dict.file unit.index (sym c.entries_reason.ensures ∙ c.in-None-entries_reason.is) entry)
+
+pub read_segment-requires-clause-known : goal.read_segment-requires-clause-known
+read_segment-requires-clause-known c =
+    let unit = c.in-Some.unit in
+    let libs = files c.args.libs.now in
+    let file = chosen_file c.args.order c.args.sought.now.name libs unit.library unit.dict.file [] c.in-Some.ensures.library in
+    c.known_records.ensures [] libs file (subst (λ (o : Order). All (IsPlaced o [] libs) c.args.known.now) (sym c.in-Some.ensures.order) (c.requires.placed []))
+
+pub returns-in-Ok-clause-placed : goal.returns-in-Ok-clause-placed
+returns-in-Ok-clause-placed c = λ host.
+    let unit = c.in-Some.unit in
+    let libs = files c.args.libs.now in
+    let file = chosen_file c.args.order c.args.sought.now.name libs unit.library unit.dict.file host c.in-Some.ensures.library in
+    subst (λ (o : Order). IsPlaced o host libs c.in-Ok.segment) c.in-Some.ensures.order (c.in-Ok.ensures.placed host libs file)
 
 pub returns-in-Some-entries_reason-clause-fault : goal.returns-in-Some-entries_reason-clause-fault
 returns-in-Some-entries_reason-clause-fault c = λ host.

@@ -38,5 +38,6 @@ returns-in-Ok-add_units c =
       segments = c.by_slot.ensures.segments
           ∙ (ap (λ (segs : List Segment). segments_in_slots host.order host.file segs (map segment_of c.as_slice-added.result.now)) own
           ∙ (ap (segments_in_slots host.order host.file (own_segments host.order host.file libs)) others ∙ in_slots_are host.order host.file libs));
+      placed = c.by_slot.ensures.placed libs (rw c.as_slice-own.ensures.value c.in-Ok.ensures.placed) (rw c.as_slice-added.ensures.value c.in-Ok-add_units.ensures.placed);
       sound = c.by_slot.ensures.sound;
     }

@@ -1,9 +1,10 @@
-use Rattle.std.proofs.Common.{◌≡◌, ◌∙◌, List, ℕ, map, Some, None, sym, ap}
+use Rattle.std.proofs.Common.{◌≡◌, ◌∙◌, List, ℕ, map, Some, None, sym, ap, subst}
+use Rattle.std.specs.Prelude.{All}
 use Rattle.ps_words.specs.declared.order.Order.{Order}
 use Rattle.ps_words.specs.declared.fault.Fault.{Fault}
 use Rattle.ps_codefile.specs.Dictionary.{Opened}
 use Rattle.ps_resolve.specs.Added.{segments, added_fault, slot_names}
-use Rattle.ps_resolve.specs.Views.{segment_of}
+use Rattle.ps_resolve.specs.Views.{segment_of, IsPlaced}
 use Rattle.ps_resolve.specs.declared.segment.Segment.{Segment as SegmentView}
 use Rattle.ps_resolve.proofs.ReadingLibraries.{files}
 use Rattle.std.specs.Option.{option_or}
@@ -37,6 +38,12 @@ pub returns-in-Ok-read_sources-clause-segments : goal.returns-in-Ok-read_sources
 returns-in-Ok-read_sources-clause-segments c =
     let is = host_is c.args.host.now c.in-Ok.dict (sym c.read.ensures ∙ c.in-Ok.is) in
     c.in-Ok-read_sources.ensures.segments ∙ ap (λ (o : Opened). segments o.order o.file (files c.args.libs.now)) is
+
+pub returns-in-Ok-read_sources-clause-placed : goal.returns-in-Ok-read_sources-clause-placed
+returns-in-Ok-read_sources-clause-placed c =
+    let is = host_is c.args.host.now c.in-Ok.dict (sym c.read.ensures ∙ c.in-Ok.is) in
+    let items : List SegmentView = c.in-Ok-read_sources.segments.items in
+    rw c.order.ensures (subst (λ (bytes : List ℕ). All (IsPlaced c.in-Ok.dict.order bytes (files c.args.libs.now)) items) (ap (λ (o : Opened). o.file) is) c.in-Ok-read_sources.ensures.placed)
 
 pub returns-in-Ok-read_sources-clause-sound : goal.returns-in-Ok-read_sources-clause-sound
 returns-in-Ok-read_sources-clause-sound c = rw c.order.ensures c.in-Ok-read_sources.ensures.sound
