@@ -10,3 +10,4 @@ pub mod Whole
 pub mod Maps
 pub mod Shows
 pub mod ReferenceText
+pub mod Written

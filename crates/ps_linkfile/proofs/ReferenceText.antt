@@ -1,7 +1,6 @@
 -- The text of references, which is written from the last one on.
 use Rattle.std.proofs.Common.{◌≡◌, ℕ, ◌+◌, ◌-◌, ◌<◌, ◌≤◌, ◌++◌, List, ◌∷◌, length, take, drop, get_or, sym, ◌∙◌, ap, arith, add-one, refl}
-use Rattle.std.specs.Prelude.{OnOk, Result, Ok, Err, decimal, if◌then◌else◌, min}
-use Rattle.std.specs.Result.{is_ok}
+use Rattle.std.specs.Prelude.{decimal, min}
 use Rattle.std.specs.List.{flat_map}
 use Rattle.std.specs.Str.{IsAscii}
 use Rattle.std.proofs.Math.Seq.{drop-cons}
@@ -40,8 +39,3 @@ pub piece_is : (xs : List ℕ) (i end : ℕ) → i ≤ length xs → end ≡ min
 piece_is xs i end h is =
     let count : end - i ≡ min 64 (length (drop i xs)) = omega (arith, h, is, length-drop i xs) in
     ap (λ (n : ℕ). take n (drop i xs)) count ∙ take_min 64 (drop i xs)
-
--- what a call adds is the text
-pub added : {T E : Type 0} (r : Result T E) (new old words text : List ℕ) → new ≡ (if is_ok r then old ++ words else old) → words ≡ text → OnOk r (new ≡ old ++ text)
-added (Ok x) new old words text h e = h ∙ ap (λ (bs : List ℕ). old ++ bs) e
-added (Err x) new old words text h e = tt

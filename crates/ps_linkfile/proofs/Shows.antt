@@ -2,14 +2,18 @@
 use Rattle.std.proofs.Common.{◌≡◌, ℕ, suc, ◌+◌, ◌-◌, ◌<◌, ◌≤◌, List, [], ◌∷◌, ◌++◌, length, length-append, map, append_assoc, append-nil, Bool, true, false, if◌then◌else◌, Option, Some, None, Result, Ok, Err, refl, sym, ◌∙◌, ap, arith}
 use Rattle.std.specs.List.{flat_map, filter, enumerate_from, range_with_len}
 use Rattle.ps_words.specs.FaultPlaces.{in_file}
+use Rattle.std.specs.Prelude.{codes}
+use Rattle.ps_words.specs.declared.order.Order.{Order}
 use Rattle.ps_words.specs.declared.order.Order.TheVariants.{Little}
 use Rattle.ps_words.specs.declared.fault.Reason.{Reason}
 use Rattle.ps_words.specs.declared.fault.Reason.TheVariants as reason
-use Rattle.ps_codefile.specs.Dictionary.{Opened, FileOrder, Zero, Ordered, Mixed, file_order, opened_as, opened_beside_as}
+use Rattle.ps_codefile.specs.Dictionary.{Opened, FileOrder, Zero, Ordered, Mixed, file_order, opened_as, opened_beside_as, entry_at, code_of, information_of}
+use Rattle.ps_linkinfo.specs.Records.{reading}
 use Rattle.ps_linkinfo.specs.Left.{items_of}
 use Rattle.ps_linkinfo.specs.declared.record.LinkRecord.{LinkRecord as Record}
 use Rattle.ps_resolve.specs.Sources.{known_order}
-use Rattle.ps_linkfile.specs.ShowText.{record_line, record_lines, fault_line, shown_file, show_of, order_fault}
+use Rattle.ps_linkfile.specs.Lines.{line, two_digits, fault_words}
+use Rattle.ps_linkfile.specs.ShowText.{unit_names, record_line, record_lines, fault_line, has_links, links_lines, shown_file, show_of, order_fault}
 
 -- a file whose kind words show an order
 pub record Shows (short : Bool) (of : FileOrder) (file : List ℕ) (shown : FileOrder) (o : Opened) : Type 0 where
@@ -42,29 +46,6 @@ beside_fault false Mixed file why other h k = cc
 pub shown_is : (file : List ℕ) (found : FileOrder) (o : Opened) → found ≡ file_order file → o ≡ record { order = known_order (file_order file); file = file } → shown_file found o.order o.file ≡ show_of file
 unfolding show_of
 shown_is file found o h k = ap (λ (f : FileOrder). shown_file f o.order o.file) h ∙ ap (λ (q : Opened). shown_file (file_order file) q.order q.file) k
-
--- a text that begins with this one and goes on here
-grown : (text new here rest all : List ℕ) → text ++ (here ++ rest) ≡ all → new ≡ text ++ here → new ++ rest ≡ all
-grown text new here rest all h e = ap (λ (xs : List ℕ). xs ++ rest) e ∙ (append_assoc text here rest ∙ h)
-
-ended : (text rest all : List ℕ) → rest ≡ [] → text ++ rest ≡ all → text ≡ all
-ended text rest all e h = sym (append-nil text) ∙ (ap (λ (xs : List ℕ). text ++ xs) (sym e) ∙ h)
-
-pub three : (text a b c x y z : List ℕ) → x ≡ text ++ a → y ≡ x ++ b → z ≡ y ++ c → z ≡ text ++ ((a ++ b) ++ c)
-three text a b c x y z p q r =
-    r ∙ (ap (λ (xs : List ℕ). xs ++ c) (q ∙ (ap (λ (xs : List ℕ). xs ++ b) p ∙ append_assoc text a b)) ∙ append_assoc text (a ++ b) c)
-
-module _ (f : ℕ → List ℕ) (text all : List ℕ) (i n : ℕ) where
-  -- the lines of one slot more
-  pub slot_more : (new : List ℕ) → i < n → text ++ flat_map f (range_with_len i (n - i)) ≡ all → new ≡ text ++ f i → new ++ flat_map f (range_with_len (i + 1) (n - (i + 1))) ≡ all
-  slot_more new lt h e =
-      let left : n - i ≡ suc (n - (i + 1)) = omega arith in
-      grown text new (f i) _ all (ap (λ (k : ℕ). text ++ flat_map f (range_with_len i k)) (sym left) ∙ h) e
-
-  pub slots_over : n ≤ i → text ++ flat_map f (range_with_len i (n - i)) ≡ all → text ≡ all
-  slots_over le h =
-      let left : n - i ≡ 0 = omega arith in
-      ended text (flat_map f (range_with_len i (n - i))) all (ap (λ (k : ℕ). flat_map f (range_with_len i k)) left) h
 
 -- the names of those that pass, with one number more
 pub names_more : {X : Type 0} (test : ℕ → Bool) (name : ℕ → X) (xs new all : List X) (i n : ℕ) → i < n → xs ++ map name (filter test (range_with_len i (n - i))) ≡ all
@@ -114,18 +95,23 @@ lines_of_reading units read =
     let at : 0 + length read.0 ≡ length read.0 = omega arith in
     lines_of_items units 0 read.0 read.1 ∙ ap (λ (k : ℕ). flat_map (record_line units) (enumerate_from 0 read.0) ++ fault_line k read.1) at
 
-module _ (units : List (List ℕ)) (text all : List ℕ) (n : ℕ) (i : Result Record Reason) (old items : List (Result Record Reason)) where
-  -- the line of one record more
-  pub record_more : (new : List ℕ) (r : Record) → old ≡ i ∷ items → i ≡ Ok r → text ++ item_lines units n old ≡ all → new ≡ text ++ record_line units (n, r) → new ++ item_lines units (n + 1) items ≡ all
-  record_more new r p q h e =
-      let is = p ∙ ap (λ (j : Result Record Reason). j ∷ items) q in
-      grown text new (record_line units (n, r)) (item_lines units (n + 1) items) all (ap (λ (xs : List (Result Record Reason)). text ++ item_lines units n xs) (sym is) ∙ h) e
+module _ (units : List (List ℕ)) (n : ℕ) (i : Result Record Reason) (old items : List (Result Record Reason)) where
+  -- the line of a record, and those behind it
+  pub record_next : (r : Record) → old ≡ i ∷ items → i ≡ Ok r → item_lines units n old ≡ record_line units (n, r) ++ item_lines units (n + 1) items
+  record_next r p q = ap (item_lines units n) (p ∙ ap (λ (j : Result Record Reason). j ∷ items) q)
 
-  -- the line of a fault
-  pub fault_more : (new : List ℕ) (why : Reason) → old ≡ i ∷ items → i ≡ Err why → text ++ item_lines units n old ≡ all → new ≡ text ++ fault_line n (Some why) → new ++ item_lines units n items ≡ all
-  fault_more new why p q h e =
-      let is = p ∙ ap (λ (j : Result Record Reason). j ∷ items) q in
-      grown text new (fault_line n (Some why)) (item_lines units n items) all (ap (λ (xs : List (Result Record Reason)). text ++ item_lines units n xs) (sym is) ∙ h) e
+  -- the line of a fault, and those behind it
+  pub fault_next : (why : Reason) → old ≡ i ∷ items → i ≡ Err why → item_lines units n old ≡ fault_line n (Some why) ++ item_lines units n items
+  fault_next why p q = ap (item_lines units n) (p ∙ ap (λ (j : Result Record Reason). j ∷ items) q)
 
-pub lines_over : (units : List (List ℕ)) (text all : List ℕ) (n : ℕ) (old : List (Result Record Reason)) → old ≡ [] → text ++ item_lines units n old ≡ all → text ≡ all
-lines_over units text all n old e h = ended text (item_lines units n old) all (ap (λ (xs : List (Result Record Reason)). item_lines units n xs) e) h
+-- the lines of a slot whose code is refused
+pub links_of_fault : (order : Order) (file : List ℕ) (slot : ℕ) (why : Reason) → has_links (entry_at order file slot) ≡ true → code_of file (entry_at order file slot) ≡ Err why
+    → line (codes "links " ++ two_digits slot) ++ line (fault_words why) ≡ links_lines order file slot
+unfolding links_lines
+links_of_fault order file slot why h k = rw (h, k) refl
+
+-- the lines of a slot whose code is in the file
+pub links_of_records : (order : Order) (file : List ℕ) (slot : ℕ) (code : List ℕ) → has_links (entry_at order file slot) ≡ true → code_of file (entry_at order file slot) ≡ Ok code
+    → line (codes "links " ++ two_digits slot) ++ record_lines (unit_names order file) (reading order (information_of file (entry_at order file slot))) ≡ links_lines order file slot
+unfolding links_lines
+links_of_records order file slot code h k = rw (h, k) refl

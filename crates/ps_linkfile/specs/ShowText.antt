@@ -113,3 +113,9 @@ abbrev pub IsUnshown : List ℕ → LinkError → Type 0
 IsUnshown file (Refused fault) = show_fault file ≡ Some fault
 IsUnshown file Memory = show_fault file ≡ None
 IsUnshown file (Write fault) = ⊥
+
+-- the same of a call that takes no memory and writes the text: a write failed only where no fault stands
+abbrev pub IsUnwritten : List ℕ → LinkError → Type 0
+IsUnwritten file (Refused fault) = show_fault file ≡ Some fault
+IsUnwritten file Memory = ⊥
+IsUnwritten file (Write fault) = show_fault file ≡ None

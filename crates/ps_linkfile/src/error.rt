@@ -1,6 +1,6 @@
 ghost use Rattle.std.specs.Prelude.{◌≡◌};
 ghost use Rattle.ps_linkfile.specs.Outcomes.{error_of};
-ghost use Rattle.ps_linkfile.specs.declared.error.LinkError.TheVariants.{Memory, Write};
+ghost use Rattle.ps_linkfile.specs.declared.error.LinkError.TheVariants.{Memory, Refused, Write};
 
 use ps_resolve::Stop;
 use ps_words::Fault;
@@ -45,6 +45,14 @@ impl From<Stop> for LinkError {
             Stop::Refused(fault) => LinkError::Refused(fault),
             Stop::Memory => LinkError::Memory,
         }
+    }
+}
+
+impl From<Fault> for LinkError {
+    ghost from_gives = { λ fault error. error ≡ Refused fault };
+
+    fn from(fault: Fault) -> LinkError {
+        LinkError::Refused(fault)
     }
 }
 

@@ -1,11 +1,12 @@
 //! What the lines of text that map and show print are made of.
 ghost use Rattle.std.specs.Prelude.{◌≡◌, ◌++◌, ◌∷◌, [], OnOk, string_bytes};
+ghost use Rattle.std.specs.Fmt.{WritesOnOk};
 ghost use Rattle.ps_linkfile.specs.Lines.{shown, shown_byte, two_digits};
 
 use itoa::{Buffer, Integer};
 use ps_words::{Name, Reason};
 use std::alloc::{AllocError, Allocator};
-use std::fmt;
+use std::fmt::{self, Formatter};
 
 /// Adds a number behind this text.
 #[inline(always)]
@@ -18,6 +19,19 @@ pub(crate) fn add_number<A: Allocator, I: Integer>(
 {
     text.push_str(before)?;
     text.push_str(Buffer::new().format(number))
+}
+
+/// Writes a number behind this text.
+#[inline(always)]
+pub(crate) fn write_number<W: fmt::Write, I: Integer>(
+    text: &mut Formatter<W>,
+    before: &str,
+    number: I,
+) -> fmt::Result
+    ensures { WritesOnOk W.write_str_gives text.old result (before.now ++ I.text number) text.new }
+{
+    text.write_str(before)?;
+    text.write_str(Buffer::new().format(number))
 }
 
 /// Adds a name as a line shows it, in eight characters.

@@ -1,12 +1,13 @@
 //! The text of a record's references, which is made a piece at a time.
-ghost use Rattle.std.specs.Prelude.{◌≡◌, ◌<◌, ◌≤◌, ◌+◌, ◌-◌, ◌++◌, OnOk, drop, length, string_bytes, take};
+ghost use Rattle.std.specs.Prelude.{◌≡◌, ◌<◌, ◌≤◌, ◌+◌, ◌-◌, ◌++◌, drop, length, take};
+ghost use Rattle.std.specs.Fmt.{WritesOnOk};
 ghost use Rattle.std.specs.List.{flat_map};
 ghost use Rattle.std.specs.Str.{IsAscii};
 ghost use Rattle.ps_linkfile.specs.ShowText.{reference};
 
 use itoa::write_digits;
 use ps_linkinfo::Refs;
-use std::alloc::{AllocError, Allocator};
+use std::fmt::{self, Formatter};
 
 /// How many references a piece has, but for the last.
 pub(crate) const PIECE: usize = 64;
@@ -47,19 +48,19 @@ fn write_piece(refs: &Refs, from: usize, end: usize, piece: &mut [u8; PIECE_LEN]
 }
 
 /// Adds the text of the references from the index `from` on, of 64 at most.
-pub(crate) fn add_piece<A: Allocator>(
-    text: &mut String<A>,
+pub(crate) fn add_piece<W: fmt::Write>(
+    text: &mut Formatter<W>,
     refs: &Refs,
     from: usize,
-) -> Result<(), AllocError>
+) -> fmt::Result
     requires { from ≤ length refs.now }
-    ensures { OnOk result (string_bytes text.new ≡ string_bytes text.old ++ flat_map reference (take 64 (drop from refs.now))) }
+    ensures { WritesOnOk W.write_str_gives text.old result (flat_map reference (take 64 (drop from refs.now))) text.new }
 {
     let mut piece = [0; PIECE_LEN];
     let end = refs.len().min(from + PIECE);
     let start = write_piece(refs, from, end, &mut piece);
     match str::from_utf8(&piece[start..]) {
         Err(_) => unreachable!(),
-        Ok(words) => text.push_str(words),
+        Ok(words) => text.write_str(words),
     }
 }

@@ -1,5 +1,7 @@
 //! What a code file has, as text.
-ghost use Rattle.std.specs.Prelude.{◌≡◌, ◌<◌, ◌++◌, ◌∷◌, [], if◌then◌else◌, None, Some, IfOk, IfErr, OnOk, decimal, string_bytes};
+ghost use Rattle.std.specs.Prelude.{◌≡◌, ◌<◌, ◌++◌, ◌∷◌, [], if◌then◌else◌, None, Some, IfOk, IfErr, OnOk, decimal};
+ghost use Rattle.std.specs.Fmt.{WritesOnOk};
+ghost use Rattle.std.specs.Io.KnownBytes.{Appends};
 ghost use Rattle.std.specs.List.{flat_map};
 ghost use Rattle.ps_words.specs.FaultPlaces.{in_file};
 ghost use Rattle.ps_codefile.specs.Dictionary.{slots, file_order, entry_at};
@@ -8,17 +10,20 @@ ghost use Rattle.arrayvec.specs.ArrayVec.{array_vec_len};
 ghost use Rattle.ps_resolve.specs.Faults.{is_role};
 ghost use Rattle.ps_resolve.specs.Sources.{known_order, is_unit as is_unit_role};
 ghost use Rattle.ps_linkfile.specs.Lines.{line, shown};
-ghost use Rattle.ps_linkfile.specs.ShowText.{order_words, slot_line, references, unit_names as unit_names_spec, is_listed as is_listed_spec, unlisted_word as unlisted_word_spec, record_line, fault_line, record_lines, has_links as has_links_spec, links_lines, shown_file, show_of, order_shown, show_fault, IsUnshown};
+ghost use Rattle.ps_linkfile.specs.Outcomes.{LeavesUntouched};
+ghost use Rattle.ps_linkfile.specs.ShowText.{order_words, slot_line, references, unit_names as unit_names_spec, is_listed as is_listed_spec, unlisted_word as unlisted_word_spec, record_line, fault_line, record_lines, has_links as has_links_spec, links_lines, show_of, order_shown, show_fault, IsUnshown, IsUnwritten};
 
 use crate::error::LinkError;
-use crate::lines::{FaultWords, Shown, TwoDigits, add_name, add_number};
+use crate::lines::{FaultWords, Shown, TwoDigits, write_number};
 use crate::pieces::{PIECE, add_piece};
+use crate::stream::write_text;
 use arrayvec::ArrayVec;
 use ps_codefile::{Dict, Entry, Role};
 use ps_linkinfo::{Body, LinkRecord, Records, Refs, walk_from_start};
 use ps_words::{Fault, Name, Order, Reason};
-use std::alloc::{AllocError, Allocator};
-use std::fmt::Write as _;
+use std::alloc::Allocator;
+use std::fmt::{self, Display, Formatter};
+use std::io::Write;
 
 /// How many slots a segment dictionary has.
 const SLOTS: u8 = 16;
@@ -39,29 +44,49 @@ fn refused(reason: Reason) -> Fault
     }
 }
 
-/// The file seen through its dictionary, and the byte order that its kind words show. Where they
-/// show none, for all are 0, its words are read as little-endian.
-fn read(file: &[u8]) -> Result<(Dict<'_>, Option<Order>), Fault>
-    ensures order { IfOk result (λ read. order_shown read.1 ≡ file_order file.now) }
-    ensures dict { IfOk result (λ read. read.0 ≡ record { order = known_order (file_order file.now); file = file.now }) }
+/// A file seen through its dictionary, and the byte order that its kind words show.
+#[derive(Drop)]
+struct ShownFile<'a> {
+    dict: Dict<'a>,
+    order: Option<Order>,
+}
+
+impl fmt::Display for ShownFile<'_> {
+    ghost use Rattle.std.specs.Prelude.{Some};
+    ghost use Rattle.ps_linkfile.specs.ShowText.{order_shown, shown_file};
+
+    ghost output = { λ f. Some (shown_file (order_shown f.order) f.dict.order f.dict.file) };
+
+    fn fmt<W: fmt::Write>(&self, f: &mut Formatter<W>) -> fmt::Result {
+        add_order(f, self.order)?;
+        add_slots(f, &self.dict)?;
+        add_all_links(f, &self.dict)
+    }
+}
+
+/// The file that is shown. Where its kind words show no byte order, for all are 0, its words are
+/// read as little-endian.
+fn read(file: &[u8]) -> Result<ShownFile<'_>, Fault>
+    ensures order { IfOk result (λ shown. order_shown shown.order ≡ file_order file.now) }
+    ensures dict { IfOk result (λ shown. shown.dict ≡ record { order = known_order (file_order file.now); file = file.now }) }
     ensures sound { IfOk result (λ _. show_fault file.now ≡ None) }
     ensures fault { IfErr result (λ fault. show_fault file.now ≡ Some fault) }
 {
     match Dict::read(file) {
         Ok(dict) => {
-            let order = dict.order();
-            Ok((dict, Some(order)))
+            let order = Some(dict.order());
+            Ok(ShownFile { dict, order })
         }
         Err(_) => match Dict::read_beside(file, Order::Little) {
-            Ok(dict) => Ok((dict, None)),
+            Ok(dict) => Ok(ShownFile { dict, order: None }),
             Err(reason) => Err(refused(reason)),
         },
     }
 }
 
 /// Adds the line of the byte order.
-fn add_order<A: Allocator>(text: &mut String<A>, order: Option<Order>) -> Result<(), AllocError>
-    ensures { OnOk result (string_bytes text.new ≡ string_bytes text.old ++ line (order_words (order_shown order))) }
+fn add_order<W: fmt::Write>(text: &mut Formatter<W>, order: Option<Order>) -> fmt::Result
+    ensures { WritesOnOk W.write_str_gives text.old result (line (order_words (order_shown order))) text.new }
 {
     let order = match order {
         None => "unknown",
@@ -73,9 +98,9 @@ fn add_order<A: Allocator>(text: &mut String<A>, order: Option<Order>) -> Result
 
 /// Adds the line of a slot.
 #[tactic(auto, unfolding(crate::specs::ShowText::slot_line))]
-fn add_slot<A: Allocator>(text: &mut String<A>, dict: &Dict, slot: u8) -> Result<(), AllocError>
+fn add_slot<W: fmt::Write>(text: &mut Formatter<W>, dict: &Dict, slot: u8) -> fmt::Result
     requires { slot < 16 }
-    ensures { OnOk result (string_bytes text.new ≡ string_bytes text.old ++ slot_line dict.now.order dict.now.file slot) }
+    ensures { WritesOnOk W.write_str_gives text.old result (slot_line dict.now.order dict.now.file slot) text.new }
 {
     let Entry {
         address,
@@ -93,8 +118,8 @@ fn add_slot<A: Allocator>(text: &mut String<A>, dict: &Dict, slot: u8) -> Result
 }
 
 /// Adds the line of each slot.
-fn add_slots<A: Allocator>(text: &mut String<A>, dict: &Dict) -> Result<(), AllocError>
-    ensures { OnOk result (string_bytes text.new ≡ string_bytes text.old ++ flat_map (slot_line dict.now.order dict.now.file) slots) }
+fn add_slots<W: fmt::Write>(text: &mut Formatter<W>, dict: &Dict) -> fmt::Result
+    ensures { WritesOnOk W.write_str_gives text.old result (flat_map (slot_line dict.now.order dict.now.file) slots) text.new }
 {
     for slot in 0..SLOTS {
         add_slot(text, dict, slot)?;
@@ -151,10 +176,10 @@ fn unlisted_word(units: &[Name], name: Name) -> &'static str
 }
 
 /// Adds the references of a record.
-fn add_references<A: Allocator>(text: &mut String<A>, refs: &Refs) -> Result<(), AllocError>
-    ensures { OnOk result (string_bytes text.new ≡ string_bytes text.old ++ references refs.now) }
+fn add_references<W: fmt::Write>(text: &mut Formatter<W>, refs: &Refs) -> fmt::Result
+    ensures { WritesOnOk W.write_str_gives text.old result (references refs.now) text.new }
 {
-    text.push_str(" at")?;
+    text.write_str(" at")?;
     for index in 0..refs.len().div_ceil(PIECE) {
         add_piece(text, refs, PIECE * index)?;
     }
@@ -162,68 +187,68 @@ fn add_references<A: Allocator>(text: &mut String<A>, refs: &Refs) -> Result<(),
 }
 
 /// Adds what the line of a record begins with: its index, the word of its kind and its name.
-fn add_head<A: Allocator>(
-    text: &mut String<A>,
+fn add_head<W: fmt::Write>(
+    text: &mut Formatter<W>,
     rec: usize,
     kind: &str,
     name: Name,
-) -> Result<(), AllocError>
-    ensures { OnOk result (string_bytes text.new ≡ string_bytes text.old ++ decimal rec ++ kind.now ++ shown name) }
+) -> fmt::Result
+    ensures { WritesOnOk W.write_str_gives text.old result (decimal rec ++ kind.now ++ shown name) text.new }
 {
-    add_number(text, "", rec)?;
-    text.push_str(kind)?;
-    add_name(text, name)
+    write_number(text, "", rec)?;
+    text.write_str(kind)?;
+    Shown(name).fmt(text)
 }
 
 /// Adds the line of a record, which has the index `rec` in its segment's link information, in a file
 /// with these units.
-fn add_record<A: Allocator>(
-    text: &mut String<A>,
+fn add_record<W: fmt::Write>(
+    text: &mut Formatter<W>,
     units: &[Name],
     rec: usize,
     entry: &LinkRecord,
-) -> Result<(), AllocError>
-    ensures { OnOk result (string_bytes text.new ≡ string_bytes text.old ++ record_line units.now (rec, entry.now)) }
+) -> fmt::Result
+    ensures { WritesOnOk W.write_str_gives text.old result (record_line units.now (rec, entry.now)) text.new }
 {
     match &entry.body {
         Body::UnitRef(refs) => {
             add_head(text, rec, " UNITREF ", entry.name)?;
             add_references(text, refs)?;
-            text.push_str(unlisted_word(units, entry.name))?;
-            text.push_str("\n")
+            text.write_str(unlisted_word(units, entry.name))?;
+            text.write_str("\n")
         }
         Body::PublRef(refs) => {
             add_head(text, rec, " PUBLREF ", entry.name)?;
             add_references(text, refs)?;
-            text.push_str("\n")
+            text.write_str("\n")
         }
         Body::PrivRef { words, refs } => {
             add_head(text, rec, " PRIVREF ", entry.name)?;
-            add_number(text, " words ", *words)?;
+            write_number(text, " words ", *words)?;
             add_references(text, refs)?;
-            text.push_str("\n")
+            text.write_str("\n")
         }
         Body::PublDef(value) => {
             add_head(text, rec, " PUBLDEF ", entry.name)?;
-            add_number(text, " value ", *value)?;
-            text.push_str("\n")
+            write_number(text, " value ", *value)?;
+            text.write_str("\n")
         }
         Body::ConstDef(value) => {
             add_head(text, rec, " CONSTDEF ", entry.name)?;
-            add_number(text, " value ", *value)?;
-            text.push_str("\n")
+            write_number(text, " value ", *value)?;
+            text.write_str("\n")
         }
         Body::Eof(next) => writeln!(text, "{rec} EOFMARK next {next}"),
     }
 }
 
 /// Adds the line of a fault that stands in place of the record of index `rec`.
-fn add_record_fault<A: Allocator>(
-    text: &mut String<A>,
+fn add_record_fault<W: fmt::Write>(
+    text: &mut Formatter<W>,
     rec: usize,
     reason: Reason,
-) -> Result<(), AllocError>
-    ensures { OnOk result (string_bytes text.new ≡ string_bytes text.old ++ fault_line rec (Some reason)) }
+) -> fmt::Result
+    ensures { WritesOnOk W.write_str_gives text.old result (fault_line rec (Some reason)) text.new }
 {
     let fault = FaultWords(reason);
     writeln!(text, "{rec} {fault}")
@@ -231,13 +256,13 @@ fn add_record_fault<A: Allocator>(
 
 /// Adds the lines of link information in a file with these units: of each record up to its end, or
 /// up to the first fault and that fault.
-fn add_records<A: Allocator>(
-    text: &mut String<A>,
+fn add_records<W: fmt::Write>(
+    text: &mut Formatter<W>,
     units: &[Name],
     order: Order,
     information: &[u8],
-) -> Result<(), AllocError>
-    ensures { OnOk result (string_bytes text.new ≡ string_bytes text.old ++ record_lines units.now (reading order information.now)) }
+) -> fmt::Result
+    ensures { WritesOnOk W.write_str_gives text.old result (record_lines units.now (reading order information.now)) text.new }
 {
     walk_from_start();
     let mut rec = 0;
@@ -263,15 +288,15 @@ fn has_links(dict: &Dict, slot: u8) -> bool
 
 /// Adds the link information of a slot, where it has a segment with one, in a file with these units.
 #[tactic(auto, unfolding(crate::specs::ShowText::links_lines))]
-fn add_links<A: Allocator>(
-    text: &mut String<A>,
+fn add_links<W: fmt::Write>(
+    text: &mut Formatter<W>,
     dict: &Dict,
     units: &[Name],
     slot: u8,
-) -> Result<(), AllocError>
+) -> fmt::Result
     requires in_range { slot < 16 }
     requires units { units.now ≡ unit_names_spec dict.now.order dict.now.file }
-    ensures { OnOk result (string_bytes text.new ≡ string_bytes text.old ++ links_lines dict.now.order dict.now.file slot) }
+    ensures { WritesOnOk W.write_str_gives text.old result (links_lines dict.now.order dict.now.file slot) text.new }
 {
     if !has_links(dict, slot) {
         return Ok(());
@@ -284,27 +309,14 @@ fn add_links<A: Allocator>(
 }
 
 /// Adds the link information of each slot.
-fn add_all_links<A: Allocator>(text: &mut String<A>, dict: &Dict) -> Result<(), AllocError>
-    ensures { OnOk result (string_bytes text.new ≡ string_bytes text.old ++ flat_map (links_lines dict.now.order dict.now.file) slots) }
+fn add_all_links<W: fmt::Write>(text: &mut Formatter<W>, dict: &Dict) -> fmt::Result
+    ensures { WritesOnOk W.write_str_gives text.old result (flat_map (links_lines dict.now.order dict.now.file) slots) text.new }
 {
     let units = unit_names(dict);
     for slot in 0..SLOTS {
         add_links(text, dict, units.as_slice(), slot)?;
     }
     Ok(())
-}
-
-/// Adds all lines of a file.
-fn add_file<A: Allocator>(
-    text: &mut String<A>,
-    dict: &Dict,
-    order: Option<Order>,
-) -> Result<(), AllocError>
-    ensures { OnOk result (string_bytes text.new ≡ string_bytes text.old ++ shown_file (order_shown order) dict.now.order dict.now.file) }
-{
-    add_order(text, order)?;
-    add_slots(text, dict)?;
-    add_all_links(text, dict)
 }
 
 /// What a code file has, as ASCII lines: its byte order; its sixteen slots; and for each slot with a
@@ -328,12 +340,20 @@ pub fn show_text<A: Allocator + Copy>(alloc: A, file: &[u8]) -> Result<Vec<u8, A
     ensures sound { IfOk result (λ _. show_fault file.now ≡ None) }
     ensures error { IfErr result (IsUnshown file.now) }
 {
-    match read(file) {
-        Err(fault) => Err(LinkError::Refused(fault)),
-        Ok((dict, order)) => {
-            let mut text = String::new(alloc);
-            add_file(&mut text, &dict, order)?;
-            Ok(text.into_bytes())
-        }
-    }
+    Ok(read(file)?.to_string(alloc)?.into_bytes())
+}
+
+/// Writes the text that `show_text` returns, in pieces. It takes no memory.
+///
+/// Refuses `Refused` as `show_text` does, of the same files; nothing was written then. Refuses `Write`
+/// where the writer failed, which is not called again, and then has a prefix of the text. Never
+/// returns `Memory`.
+/// Source: UCSD Pascal II.0 manual, code file format; the text is this project's profile.
+pub fn write_show<W: Write>(file: &[u8], out: &mut W) -> Result<(), LinkError>
+    ensures written { OnOk result (Appends (W.contents out.old) (W.contents out.new) (show_of file.now)) }
+    ensures sound { OnOk result (show_fault file.now ≡ None) }
+    ensures error { IfErr result (IsUnwritten file.now) }
+    ensures untouched { IfErr result (λ e. LeavesUntouched e out.old out.new) }
+{
+    Ok(write_text(read(file)?, out)?)
 }

@@ -18,7 +18,7 @@ use std::alloc::Allocator;
 use std::io::Write;
 
 /// Writes all bytes, by one write a turn. No write is made again after an error.
-fn write_all_of<W: Write, T: Tally<W>>(
+pub(crate) fn write_all_of<W: Write, T: Tally<W>>(
     out: &mut W,
     tally: &mut T,
     bytes: &[u8],

@@ -1,10 +1,11 @@
-use Rattle.std.proofs.Common.{◌≡◌, ◌≤◌, ◌+◌, ◌-◌, ◌∙◌, ℕ, List, drop, take, length, ap, arith, string_bytes}
+use Rattle.std.proofs.Common.{◌≡◌, ◌≤◌, ◌+◌, ◌-◌, ◌∙◌, ℕ, List, drop, take, length, ap, arith, subst}
 use Rattle.std.specs.Prelude.{min}
+use Rattle.std.specs.Fmt.{WritesOnOk}
 use Rattle.std.specs.List.{flat_map}
 use Rattle.std.proofs.lemmas.List.{length-drop, take_all}
 use Rattle.std.proofs.lemmas.Str.{IsAscii-take, IsUtf8-from_ascii}
 use Rattle.ps_linkfile.specs.ShowText.{reference}
-use Rattle.ps_linkfile.proofs.ReferenceText.{added, piece_is}
+use Rattle.ps_linkfile.proofs.ReferenceText.{piece_is}
 use Rattle.ps_linkfile.proofs.pieces.add_piece.Goals as goal
 
 pub unreachable-requires : goal.unreachable-requires
@@ -23,4 +24,4 @@ returns g c =
     let words : c.in-Ok.words.now ≡ flat_map reference (take 64 (drop from refs)) =
     c.in-Ok.ensures.cases.0 ∙ (take_all (384 - start) text long ∙ (c.write_piece-start.ensures.text
     ∙ ap (flat_map reference) (piece_is refs from c.min-end.result c.requires (c.min-end.ensures ∙ ap (λ (n : ℕ). min n (from + 64)) c.len.ensures.len)))) in
-    added c.push_str.result (string_bytes c.push_str.new.self) (string_bytes c.args.text.now) c.in-Ok.words.now (flat_map reference (take 64 (drop from refs))) c.push_str.ensures.bytes words
+    subst (λ (bs : List ℕ). WritesOnOk g.W.Write.write_str_gives c.args.text.now c.write_str.result bs c.write_str.new.self) words c.write_str.ensures.writes

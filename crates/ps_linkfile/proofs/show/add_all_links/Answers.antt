@@ -1,12 +1,15 @@
-use Rattle.std.proofs.Common.{string_bytes}
+use Rattle.std.proofs.Common.{refl, rules}
 use Rattle.ps_linkfile.specs.ShowText.{links_lines}
-use Rattle.ps_linkfile.proofs.Shows.{slot_more, slots_over}
+use Rattle.ps_linkfile.proofs.Written.{none_yet, some_more, all_written, slots_left, slots_over}
 use Rattle.ps_linkfile.proofs.show.add_all_links.Goals as goal
+
+pub loop-slot-init : goal.loop-slot-init
+loop-slot-init g c = none_yet _ c.args.text.now _ _ refl
 
 pub loop-slot-preserved : goal.loop-slot-preserved
 loop-slot-preserved g c =
-    slot_more (links_lines c.args.dict.now.order c.args.dict.now.file) (string_bytes c.loop-slot.text) _ c.loop-slot.slot 16 _ c.loop-slot-test.true c.loop-slot.invariant c.in_ok-add_links.ensures
+    some_more _ _ _ c.loop-slot.text _ _ _ _ (slots_left (links_lines c.args.dict.now.order c.args.dict.now.file) c.loop-slot.slot 16 c.loop-slot-test.true) c.loop-slot.invariant (λ plain. c.in_ok-add_links.ensures plain (search rules))
 
 pub returns : goal.returns
-returns g c =
-    slots_over (links_lines c.args.dict.now.order c.args.dict.now.file) (string_bytes c.loop-slot.text) _ c.loop-slot.slot 16 c.loop-slot-test.false c.loop-slot.invariant
+returns g c plain ok =
+    all_written _ _ _ c.loop-slot.text _ (slots_over (links_lines c.args.dict.now.order c.args.dict.now.file) c.loop-slot.slot 16 c.loop-slot-test.false) c.loop-slot.invariant plain

@@ -1,10 +1,9 @@
-use Rattle.std.proofs.Common.{◌∙◌, ◌++◌, List, ℕ, length, string_bytes, ap, arith, Result}
-use Rattle.ps_words.specs.declared.fault.Reason.{Reason}
+use Rattle.std.proofs.Common.{◌∙◌, length, ap, arith, rules}
 use Rattle.ps_linkinfo.specs.Records.{reading}
 use Rattle.ps_linkinfo.specs.Walk.{whole_walk}
 use Rattle.ps_linkinfo.specs.Left.{left}
-use Rattle.ps_linkinfo.specs.declared.record.LinkRecord.{LinkRecord as Record}
-use Rattle.ps_linkfile.proofs.Shows.{item_lines, lines_of_reading, record_more, fault_more, lines_over}
+use Rattle.ps_linkfile.proofs.Shows.{item_lines, lines_of_reading, record_next, fault_next}
+use Rattle.ps_linkfile.proofs.Written.{none_yet, some_more, all_written}
 use Rattle.ps_linkfile.proofs.show.add_records.Goals as goal
 
 pub loop-item-init : goal.loop-item-init
@@ -16,8 +15,7 @@ loop-item-init g c =
     rw start (record {
       can = tt;
       finite = tt;
-      lines = ap (λ (xs : List (Result Record Reason)). string_bytes c.args.text.now ++ item_lines c.args.units.now 0 xs) (c.walk_from_start.ensures.items order bytes)
-          ∙ ap (λ (xs : List ℕ). string_bytes c.args.text.now ++ xs) (lines_of_reading c.args.units.now (reading order bytes));
+      lines = none_yet _ c.args.text.now _ _ (ap (item_lines c.args.units.now 0) (c.walk_from_start.ensures.items order bytes) ∙ lines_of_reading c.args.units.now (reading order bytes));
       few = omega (arith, few);
     })
 
@@ -28,7 +26,7 @@ loop-item-preserved-in-Ok g c =
     record {
       can = tt;
       finite = tt;
-      lines = record_more c.args.units.now (string_bytes c.loop-item.text) _ c.loop-item.rec _ _ (left c.next.new.self) _ c.in-Ok.entry more c.in-Ok.is inv.lines c.in_ok-add_record-in-Ok.ensures;
+      lines = some_more _ _ _ c.loop-item.text _ _ _ _ (record_next c.args.units.now c.loop-item.rec _ _ (left c.next.new.self) c.in-Ok.entry more c.in-Ok.is) inv.lines (λ plain. c.in_ok-add_record-in-Ok.ensures plain (search rules));
       few = omega (arith, inv.few, ap length more);
     }
 
@@ -39,10 +37,10 @@ loop-item-preserved g c =
     record {
       can = tt;
       finite = tt;
-      lines = fault_more c.args.units.now (string_bytes c.loop-item.text) _ c.loop-item.rec _ _ (left c.next.new.self) _ c.in-Err.reason more c.in-Err.is inv.lines c.in_ok-add_record_fault-in-Err.ensures;
+      lines = some_more _ _ _ c.loop-item.text _ _ _ _ (fault_next c.args.units.now c.loop-item.rec _ _ (left c.next.new.self) c.in-Err.reason more c.in-Err.is) inv.lines (λ plain. c.in_ok-add_record_fault-in-Err.ensures plain (search rules));
       few = omega (arith, inv.few, ap length more);
     }
 
 pub returns : goal.returns
-returns g c =
-    lines_over c.args.units.now (string_bytes c.loop-item.text) _ c.loop-item.rec (left c.loop-item.item-iterator) c.in-None.ensures.steps.1.0 c.loop-item.invariant.lines
+returns g c plain ok =
+    all_written _ _ _ c.loop-item.text _ (ap (item_lines c.args.units.now c.loop-item.rec) c.in-None.ensures.steps.1.0) c.loop-item.invariant.lines plain

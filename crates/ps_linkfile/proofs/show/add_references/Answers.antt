@@ -1,18 +1,19 @@
-use Rattle.std.proofs.Common.{◌≡◌, ◌++◌, ◌+◌, ◌*◌, ◌∙◌, ℕ, List, drop, take, ap, append_assoc, arith, string_bytes}
+use Rattle.std.proofs.Common.{◌≡◌, ◌++◌, ◌+◌, ◌*◌, ◌∙◌, ℕ, List, drop, take, ap, arith, refl, rules, sym}
 use Rattle.std.specs.List.{flat_map}
-use Rattle.ps_linkfile.specs.ShowText.{reference}
+use Rattle.ps_linkfile.specs.ShowText.{reference, references}
 use Rattle.ps_linkfile.proofs.ReferenceText.{one_piece}
+use Rattle.ps_linkfile.proofs.Written.{none_yet, some_more}
 use Rattle.ps_linkfile.proofs.show.add_references.Goals as goal
+
+pub loop-index-init : goal.loop-index-init
+loop-index-init g c =
+    let refs : List ℕ = c.args.refs.now in
+    some_more _ _ _ c.args.text.now _ _ (references refs) (flat_map reference refs) refl (none_yet _ c.args.text.now (references refs) (references refs) refl) (λ plain. c.in_ok-write_str.ensures.writes plain (search rules))
 
 pub loop-index-preserved : goal.loop-index-preserved
 loop-index-preserved g c =
     let refs : List ℕ = c.args.refs.now in
     let i : ℕ = c.loop-index.index in
-    let old : List ℕ = string_bytes c.loop-index.text in
-    let piece : List ℕ = flat_map reference (take 64 (drop (64 * i) refs)) in
-    let rest : List ℕ = flat_map reference (drop (64 * (i + 1)) refs) in
     let next : 64 * (i + 1) ≡ 64 * i + 64 = omega arith in
-    ap (λ (bs : List ℕ). bs ++ rest) c.in_ok-add_piece.ensures
-    ∙ (append_assoc old piece rest
-    ∙ (ap (λ (bs : List ℕ). old ++ bs) (ap (λ (n : ℕ). piece ++ flat_map reference (drop n refs)) next ∙ one_piece refs (64 * i) 64)
-    ∙ c.loop-index.invariant))
+    let split = ap (λ (n : ℕ). flat_map reference (take 64 (drop (64 * i) refs)) ++ flat_map reference (drop n refs)) next ∙ one_piece refs (64 * i) 64 in
+    some_more _ _ _ c.loop-index.text _ _ _ _ (sym split) c.loop-index.invariant (λ plain. c.in_ok-add_piece.ensures plain (search rules))

@@ -1,10 +1,11 @@
-use Rattle.std.proofs.Common.{◌≡◌, ◌++◌, ◌*◌, ℕ, List, drop, string_bytes}
+use Rattle.std.proofs.Common.{◌*◌, ℕ, List, drop}
 use Rattle.std.specs.List.{flat_map}
 use Rattle.ps_linkfile.specs.ShowText.{reference, references}
+use Rattle.ps_linkfile.proofs.Written.{Written}
 use Rattle.ps_linkfile.proofs.show.add_references.Given as goal
 
--- the text so far and the references that are left are all
+-- the references that are left are still to be written
 abbrev pub invariant-loop-index : goal.invariant-loop-index
 invariant-loop-index g l =
     let refs : List ℕ = l.refs in
-    string_bytes l.text ++ flat_map reference (drop (64 * l.index) refs) ≡ string_bytes l.fn.text ++ references refs
+    Written g.W.Write.write_str_gives l.fn.text (references refs) (flat_map reference (drop (64 * l.index) refs)) l.text

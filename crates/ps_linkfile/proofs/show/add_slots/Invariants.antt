@@ -1,11 +1,11 @@
-use Rattle.std.proofs.Common.{◌≡◌, ◌++◌, ◌-◌, string_bytes}
+use Rattle.std.proofs.Common.{◌-◌}
 use Rattle.std.specs.List.{flat_map, range_with_len}
 use Rattle.ps_codefile.specs.Dictionary.{slots}
 use Rattle.ps_linkfile.specs.ShowText.{slot_line}
+use Rattle.ps_linkfile.proofs.Written.{Written}
 use Rattle.ps_linkfile.proofs.show.add_slots.Given as goal
 
--- the text so far and the lines of the slots that are left are all
+-- the lines of the slots that are left are still to be written
 abbrev pub invariant-loop-slot : goal.invariant-loop-slot
 invariant-loop-slot g l =
-    string_bytes l.text ++ flat_map (slot_line l.dict.order l.dict.file) (range_with_len l.slot (16 - l.slot))
-    ≡ string_bytes l.fn.text ++ flat_map (slot_line l.dict.order l.dict.file) slots
+    Written g.W.Write.write_str_gives l.fn.text (flat_map (slot_line l.dict.order l.dict.file) slots) (flat_map (slot_line l.dict.order l.dict.file) (range_with_len l.slot (16 - l.slot))) l.text

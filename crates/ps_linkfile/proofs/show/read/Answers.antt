@@ -10,7 +10,7 @@ pub returns-in-Ok : goal.returns-in-Ok
 returns-in-Ok c =
     let file = c.args.file.now in
     let is = read_shows (ltb (length file) 512) (file_order file) file c.in-Ok.dict (sym c.read.ensures ∙ c.in-Ok.is) in
-    record { order = ap (λ (o : Order). Ordered o) c.order-order.ensures ∙ is.order; dict = is.dict; sound = is.sound; fault = tt }
+    record { order = ap (λ (o : Order). Ordered o) c.order.ensures ∙ is.order; dict = is.dict; sound = is.sound; fault = tt }
 
 pub returns-in-Ok-read_beside : goal.returns-in-Ok-read_beside
 returns-in-Ok-read_beside c =
