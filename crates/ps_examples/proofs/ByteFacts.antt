@@ -1,7 +1,7 @@
 -- The facts of linked bytes on the small files, computed.
 use Rattle.std.proofs.Common.{true, ◌≡◌, ℕ, zero, suc, ◌+◌, ◌-◌, ◌≤◌, List, [], ◌∷◌, Option, Some, refl, sym, ap, subst, ◌∙◌, inl, inr, arith}
 use Rattle.std.specs.Prelude.{◌⊎◌, slice_get, slice_index}
-use Rattle.ps_examples.specs.Files.{blank, aux, count, state}
+use Rattle.ps_examples.specs.Files.{blank, aux, count, state, nobody}
 use Rattle.ps_resolve.specs.Added.{empty_slots, rounds, segments}
 use Rattle.ps_resolve.specs.Standing.References.{operand_width}
 use Rattle.ps_resolve.specs.Standing.Privates.{private_offset}
@@ -40,6 +40,18 @@ pub a_private_of_a_second_unit : private_offset with_two_units 8 1 ≡ 12
 unfolding own_segments empty_slots rounds segments
 a_private_of_a_second_unit = refl
 
+pub a_private_of_a_first_unit : private_offset with_two_units 7 1 ≡ 8
+unfolding own_segments empty_slots rounds segments
+a_private_of_a_first_unit = refl
+
+pub words_of_two_units : all_private_words with_two_units ≡ 8
+unfolding own_segments empty_slots rounds segments
+words_of_two_units = refl
+
+pub a_second_private_operand : Becomes with_two_privates util_segment 1 nobody (PrivRef 4 (4 ∷ [])) 4 (128 ∷ 14 ∷ [])
+unfolding own_segments empty_slots rounds segments
+a_second_private_operand = (8, (1, record { name = blank; body = Eof 8 }, (0, demo_segment, refl, (refl, refl)), refl), refl)
+
 pub a_displaced_public_operand : Becomes pair displaced_segment 0 count (PublRef (1 ∷ [])) 1 (129 ∷ 3 ∷ [])
 unfolding own_segments empty_slots rounds segments
 a_displaced_public_operand = (3, (0, record { name = count; body = PublDef 3 }, (0, demo_segment, refl, (refl, refl)), (refl, refl)), refl)
@@ -53,6 +65,9 @@ its_place = ((refl, refl), (omega arith, omega arith))
 
 pub a_number_place : IsNumberPlace util_segment 22
 a_number_place = (refl, refl)
+
+pub a_number_place_of_the_host : IsNumberPlace demo_segment 16
+a_number_place_of_the_host = (refl, refl)
 
 pub a_size_place : IsSizePlace Little demo_segment 12 1 5
 a_size_place = (refl, refl, omega arith, refl)

@@ -5,3 +5,5 @@ pub mod ByteFacts
 pub mod SegmentOrigins
 pub mod NotLinked
 pub mod NotOrigins
+pub mod WholeLinks
+pub mod NotWholeLinks

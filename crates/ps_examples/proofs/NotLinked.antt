@@ -1,16 +1,18 @@
 -- What is not said of linked bytes on the small files, computed.
-use Rattle.std.proofs.Common.{◌≡◌, ℕ, zero, suc, List, [], ◌∷◌, Some, false, true, refl, ap, ◌∙◌, arith}
-use Rattle.std.specs.Prelude.{slice_get}
+use Rattle.std.proofs.Common.{◌≡◌, ℕ, zero, suc, ◌+◌, List, [], ◌∷◌, Some, false, true, refl, sym, ap, ◌∙◌, arith}
+use Rattle.std.specs.Prelude.{slice_get, slice_index}
 use Rattle.std.proofs.lemmas.Bool.{false≢true}
 use Rattle.ps_examples.specs.Files.{blank, util, aux, tools, count, state}
 use Rattle.ps_resolve.specs.Added.{empty_slots, rounds, segments}
-use Rattle.ps_resolve.specs.LinkedBytes.{IsSlotOf, IsPublic, IsNumberPlace, IsSizePlace, IsLinkedByte}
-use Rattle.ps_examples.specs.Segments.{count_reference, demo_segment, util_segment, tools_segment, pair, with_plain, with_constant, with_unused}
+use Rattle.ps_resolve.specs.LinkedBytes.{Becomes, IsSlotOf, IsPublic, IsBase, IsNumberPlace, IsSizePlace, IsLinkedByte}
+use Rattle.ps_examples.specs.Segments.{count_reference, demo_segment, util_segment, using_segment, aux_segment, tools_segment, pair, three, with_plain, with_constant, with_unused}
 use Rattle.ps_linkinfo.specs.declared.record.Body.{Body}
-use Rattle.ps_linkinfo.specs.declared.record.Body.TheVariants.{PublDef, ConstDef, Eof}
+use Rattle.ps_linkinfo.specs.declared.record.Body.TheVariants.{UnitRef, PrivRef, PublDef, ConstDef, Eof}
 use Rattle.ps_linkinfo.specs.declared.record.LinkRecord.{LinkRecord as Record}
 use Rattle.ps_resolve.specs.Sources.{Segment, is_host, is_unit, own_segments}
 use Rattle.ps_examples.proofs.ByteFacts.{its_operand, a_number_place, before, same, heads, of_first, no_host}
+use Rattle.ps_resolve.specs.Standing.Privates.{words_before}
+use Rattle.ps_words.specs.Words.{operand_bytes, displacement_at}
 use Rattle.ps_words.specs.declared.order.Order.TheVariants.{Little}
 
 pub not_the_input_s_number : IsLinkedByte Little pair util_segment 22 2 → ⊥
@@ -119,3 +121,51 @@ a_constant_is_not_public t = go t.0 t.1 (of_first (record demo_segment { records
     go : (k : ℕ) (d : Record) → slice_get (record { name = count; body = ConstDef 3 } ∷ []) k ≡ Some d → d.body ≡ PublDef 3 → ⊥
     go zero d e is = constant_is 3 3 (ap (λ (x : Record). x.body) (same (record { name = count; body = ConstDef 3 }) d e) ∙ is)
     go (suc k) d e is = cc
+
+-- base offsets
+other_base : (a b : ℕ) → ◌≡◌ {A = Body} (Eof a) (Eof b) → a ≡ b
+other_base a b e = cc
+
+definition_is : (a b : ℕ) → ◌≡◌ {A = Body} (PublDef a) (Eof b) → ⊥
+definition_is a b e = cc
+
+-- the base offset of the pair is 8
+base_of_pair : (base : ℕ) → IsBase pair base → 8 ≡ base
+unfolding own_segments empty_slots rounds segments
+base_of_pair base t = go t.0 t.1 (of_first demo_segment (util_segment ∷ []) no_host t.0 t.1 t.2) t.3
+  where
+    go : (k : ℕ) (r : Record) → slice_get demo_segment.records k ≡ Some r → r.body ≡ Eof base → 8 ≡ base
+    go zero r e is = absurd (definition_is 3 base (ap (λ (x : Record). x.body) (same (record { name = count; body = PublDef 3 }) r e) ∙ is))
+    go (suc zero) r e is = other_base 8 base (ap (λ (x : Record). x.body) (same (record { name = blank; body = Eof 8 }) r e) ∙ is)
+    go (suc (suc k)) r e is = absurd (cc)
+
+pub a_unit_s_end_mark_gives_no_base : IsBase pair 0 → ⊥
+a_unit_s_end_mark_gives_no_base t = let h : 8 ≡ 0 = base_of_pair 0 t in omega (arith, h)
+
+pub a_definition_gives_no_base : IsBase pair 3 → ⊥
+a_definition_gives_no_base t = let h : 8 ≡ 3 = base_of_pair 3 t in omega (arith, h)
+
+-- operands
+pub not_the_slot_of_another_unit : Becomes three using_segment 0 aux (UnitRef (2 ∷ [])) 2 (7 ∷ []) → ⊥
+unfolding own_segments empty_slots rounds segments
+not_the_slot_of_another_unit t = go t.0 (heads _ _ _ _ t.2) t.1.0 t.1.1 t.1.2 t.1.3.0 t.1.3.1 t.1.3.2
+  where
+    go : (slot : ℕ) → 7 ≡ slot → (k : ℕ) (q : Segment) → slice_get (demo_segment ∷ using_segment ∷ aux_segment ∷ []) k ≡ Some q → is_unit q.role ≡ true → q.name ≡ aux → q.slot ≡ slot → ⊥
+    go slot h zero q e u n at = no_unit (ap (λ (x : Segment). is_unit x.role) (same demo_segment q e) ∙ u)
+    go slot h (suc zero) q e u n at = util_aux (ap (λ (x : Segment). x.name) (same using_segment q e) ∙ n)
+    go slot h (suc (suc zero)) q e u n at = let a : 8 ≡ slot = ap (λ (x : Segment). x.slot) (same aux_segment q e) ∙ at in omega (arith, a, h)
+    go slot h (suc (suc (suc k))) q e u n at = cc
+
+pub not_without_the_base : Becomes pair util_segment 1 state (PrivRef 4 (4 ∷ [])) 4 (128 ∷ 2 ∷ []) → ⊥
+unfolding own_segments empty_slots rounds segments
+not_without_the_base t = let h : 128 ∷ 2 ∷ [] ≡ 128 ∷ 10 ∷ [] = t.2 ∙ ap (λ (b : ℕ). operand_bytes (displacement_at util_segment.code 4 + (b + words_before pair 7 1))) (sym (base_of_pair t.0 t.1)) in
+    let e : 2 ≡ 10 = ap (λ (bs : List ℕ). slice_index bs 1) h in omega (arith, e)
+
+pub a_definition_has_no_operand : (bytes : List ℕ) → Becomes pair demo_segment 0 count (PublDef 3) 1 bytes → ⊥
+a_definition_has_no_operand bytes t = t
+
+pub a_constant_has_no_operand : (bytes : List ℕ) → Becomes pair demo_segment 0 count (ConstDef 3) 1 bytes → ⊥
+a_constant_has_no_operand bytes t = t
+
+pub an_end_mark_has_no_operand : (bytes : List ℕ) → Becomes pair demo_segment 1 blank (Eof 8) 1 bytes → ⊥
+an_end_mark_has_no_operand bytes t = t

@@ -1,15 +1,16 @@
 -- Where segments of the small files do not come from, computed.
 use Rattle.std.proofs.Common.{◌≡◌, ℕ, zero, suc, ◌<◌, ◌≤◌, List, [], ◌∷◌, Option, Some, None, Result, Ok, Err, true, false, refl, sym, ap, subst, ◌∙◌, inl, inr, arith}
 use Rattle.std.specs.Prelude.{◌⊎◌, slice_get, slice_index, take}
+use Rattle.std.specs.List.{AllByRecursion}
 use Rattle.ps_codefile.specs.Dictionary.{entry_at, is_filled, code_of}
-use Rattle.ps_examples.specs.Files.{host, library, put_at, with_slot, blank, util, aux, count, state, util_code}
+use Rattle.ps_examples.specs.Files.{host, library, host_with_tools, library_past_the_last, put_at, with_slot, blank, util, aux, count, state, nobody, util_code}
 use Rattle.ps_linkinfo.specs.Counts.{is_unit_reference}
 use Rattle.ps_resolve.specs.Standing.Sources.{IsNamed}
 use Rattle.ps_codefile.specs.declared.entry.Role.TheVariants as role
-use Rattle.ps_examples.specs.Segments.{count_reference, state_reference, end_mark, demo_segment, util_segment, using_segment, aux_segment, self_segment, count_segment, past_segment, tools_segment}
+use Rattle.ps_examples.specs.Segments.{count_reference, state_reference, end_mark, demo_segment, util_segment, using_segment, aux_segment, self_segment, nobody_segment, count_segment, past_segment, tools_segment}
 use Rattle.ps_linkinfo.specs.declared.record.LinkRecord.{LinkRecord as Record}
 use Rattle.ps_resolve.specs.Sources.{Segment}
-use Rattle.ps_resolve.specs.Origins.{HasOne, AsksFor, IsOwn, IsAddedUnit, IsUnitOf, IsSliceOf, IsRead}
+use Rattle.ps_resolve.specs.Origins.{HasOne, AsksFor, IsOwn, IsAddedUnit, IsInPlace, IsUnitOf, IsSliceOf, IsRead}
 use Rattle.ps_examples.proofs.ByteFacts.{same, heads}
 use Rattle.ps_examples.proofs.NotLinked.{util_aux}
 use Rattle.ps_words.specs.declared.fault.Reason.{Reason}
@@ -61,32 +62,54 @@ not_past_an_empty_slot u = let t = u.next 8 (omega arith) (omega arith) refl in 
 pub not_of_another_role_than_wanted : (segs : List Segment) → IsAddedUnit Little host segs (record aux_segment { role = role.Unit }) → ⊥
 not_of_another_role_than_wanted segs u = let h = u.role in cc
 
-asks_for : (s : Segment) (name : List ℕ) (a b c : Record) → s.records ≡ a ∷ b ∷ c ∷ [] → (a.name ≡ name → ⊥) → (b.name ≡ name → ⊥) → (c.name ≡ name → ⊥) → AsksFor s name → ⊥
-asks_for s name a b c rs f g h t = go t.0 t.1 (sym (ap (λ (xs : List Record). slice_get xs t.0) rs) ∙ t.2) t.3.1
-  where
-    go : (k : ℕ) (r : Record) → slice_get (a ∷ b ∷ c ∷ []) k ≡ Some r → r.name ≡ name → ⊥
-    go zero r e n = f (ap (λ (x : Record). x.name) (same a r e) ∙ n)
-    go (suc zero) r e n = g (ap (λ (x : Record). x.name) (same b r e) ∙ n)
-    go (suc (suc zero)) r e n = h (ap (λ (x : Record). x.name) (same c r e) ∙ n)
-    go (suc (suc (suc k))) r e n = cc
+-- no item passes
+pub none_passes : {A : Type 0} (P : A → Type 0) (xs : List A) → AllByRecursion (λ x. P x → ⊥) xs → (k : ℕ) (x : A) → slice_get xs k ≡ Some x → P x → ⊥
+none_passes P [] all k x e p = cc
+none_passes P (y ∷ ys) all zero x e p = all.0 (subst P (sym (same y x e)) p)
+none_passes P (y ∷ ys) all (suc k) x e p = none_passes P ys all.1 k x e p
 
-count_aux : count ≡ aux → ⊥
+-- no record of the segment has the name
+pub no_name : (s : Segment) (name : List ℕ) → AllByRecursion (λ (r : Record). r.name ≡ name → ⊥) s.records → AsksFor s name → ⊥
+no_name s name all t = none_passes (λ (r : Record). r.name ≡ name) s.records all t.0 t.1 t.2 t.3.1
+
+pub count_aux : count ≡ aux → ⊥
 count_aux e = let h : 67 ≡ 65 = heads _ _ _ _ e in omega (arith, h)
 
-state_aux : state ≡ aux → ⊥
+pub state_aux : state ≡ aux → ⊥
 state_aux e = let h : 83 ≡ 65 = heads _ _ _ _ e in omega (arith, h)
 
-blank_aux : blank ≡ aux → ⊥
+pub blank_aux : blank ≡ aux → ⊥
 blank_aux e = let h : 32 ≡ 65 = heads _ _ _ _ e in omega (arith, h)
 
 pub not_asked_for_by_itself_alone : IsAddedUnit Little host (util_segment ∷ self_segment ∷ []) self_segment → ⊥
 not_asked_for_by_itself_alone u = let t = u.asked in go t.0 t.1 t.2 t.3.0 t.3.1
   where
     go : (k : ℕ) (q : Segment) → slice_get (util_segment ∷ self_segment ∷ []) k ≡ Some q → (q.added ≡ false) ⊎ (q.slot < 8) → AsksFor q aux → ⊥
-    go zero q e b t = asks_for util_segment aux count_reference state_reference end_mark refl count_aux state_aux blank_aux (subst (λ (x : Segment). AsksFor x aux) (sym (same util_segment q e)) t)
+    go zero q e b t = no_name util_segment aux (count_aux, (state_aux, (blank_aux, tt))) (subst (λ (x : Segment). AsksFor x aux) (sym (same util_segment q e)) t)
     go (suc zero) q e (inl h) t = let s = same self_segment q e in false≢true (sym (ap (λ (x : Segment). x.added) s ∙ h))
     go (suc zero) q e (inr h) t = let s : 8 ≡ q.slot = ap (λ (x : Segment). x.slot) (same self_segment q e) in omega (arith, s, h)
     go (suc (suc k)) q e b t = cc
+
+aux_nobody : aux ≡ nobody → ⊥
+aux_nobody e = let h : 65 ≡ 78 = heads _ _ _ _ e in omega (arith, h)
+
+count_nobody : count ≡ nobody → ⊥
+count_nobody e = let h : 67 ≡ 78 = heads _ _ _ _ e in omega (arith, h)
+
+state_nobody : state ≡ nobody → ⊥
+state_nobody e = let h : 83 ≡ 78 = heads _ _ _ _ e in omega (arith, h)
+
+blank_nobody : blank ≡ nobody → ⊥
+blank_nobody e = let h : 32 ≡ 78 = heads _ _ _ _ e in omega (arith, h)
+
+pub not_asked_for_by_another_name : IsAddedUnit Little host (using_segment ∷ nobody_segment ∷ []) nobody_segment → ⊥
+not_asked_for_by_another_name u = let t = u.asked in none_passes (λ (q : Segment). AsksFor q nobody) (using_segment ∷ nobody_segment ∷ []) (of_using, (of_itself, tt)) t.0 t.1 t.2 t.3.1
+  where
+    of_using : AsksFor using_segment nobody → ⊥
+    of_using t = no_name using_segment nobody (aux_nobody, (blank_nobody, tt)) t
+
+    of_itself : AsksFor nobody_segment nobody → ⊥
+    of_itself t = no_name nobody_segment nobody (count_nobody, (state_nobody, (blank_nobody, tt))) t
 
 pub not_asked_for_by_a_publ_ref : IsAddedUnit Little host (util_segment ∷ count_segment ∷ []) count_segment → ⊥
 not_asked_for_by_a_publ_ref u = let t = u.asked in go t.0 t.1 t.2 t.3.1
@@ -110,6 +133,13 @@ not_of_a_name_of_blanks segs u = false≢true (sym u.named)
 
 pub not_of_a_name_that_the_host_has : (segs : List Segment) → IsAddedUnit Little host segs (record aux_segment { name = util }) → ⊥
 not_of_a_name_that_the_host_has segs u = u.free (7, omega arith, (inr refl, refl))
+
+-- in place
+pub not_in_place_in_a_library : IsInPlace (record demo_segment { file = 1 }) → ⊥
+not_in_place_in_a_library t = let h : 1 ≡ 0 = t.0 in omega (arith, h)
+
+pub not_in_place_at_another_entry : IsInPlace (record demo_segment { index = 2 }) → ⊥
+not_in_place_at_another_entry t = let h : 2 ≡ 1 = t.1 in omega (arith, h)
 
 -- the unit of a name
 pub not_in_the_host : IsUnitOf Little library [] util 0 2 → ⊥
@@ -137,7 +167,7 @@ not_in_a_file_that_is_not_there u = nothing_there u.library u.file
     nothing_there : (f : List ℕ) → ◌≡◌ {A = Option (List ℕ)} None (Some f) → ⊥
     nothing_there f e = cc
 
-pub not_an_entry_past_the_last : (name : List ℕ) → IsUnitOf Little host (library ∷ []) name 1 16 → ⊥
+pub not_an_entry_past_the_last : (name : List ℕ) → IsUnitOf Little host (library_past_the_last ∷ []) name 1 16 → ⊥
 not_an_entry_past_the_last name u = let h = u.within in omega (arith, h)
 
 -- code and records
@@ -161,8 +191,11 @@ not_of_an_odd_length r =
 pub not_of_another_file : IsRead Little host (library ∷ []) (record util_segment { file = 0 }) → ⊥
 not_of_another_file r = unaddressed (util_code Little) (subst (λ (f : List ℕ). code_of f (entry_at Little f 2) ≡ Ok (util_code Little)) (sym (same host r.source r.file)) r.code)
 
+pub not_read_past_the_last_entry : IsRead Little host (library_past_the_last ∷ []) (record util_segment { index = 16 }) → ⊥
+not_read_past_the_last_entry r = let h : 16 < 16 = r.within in omega (arith, h)
+
 pub not_without_its_records : IsRead Little host (library ∷ []) (record util_segment { records = [] }) → ⊥
 not_without_its_records r = (r.records refl).ends
 
-pub not_with_records_of_its_own : (libs : List (List ℕ)) → IsRead Little host libs (record tools_segment { records = count_reference ∷ [] }) → ⊥
+pub not_with_records_of_its_own : (libs : List (List ℕ)) → IsRead Little host_with_tools libs (record tools_segment { records = count_reference ∷ [] }) → ⊥
 not_with_records_of_its_own libs r = let h : count_reference ∷ [] ≡ [] = r.unread refl in cc

@@ -7,15 +7,15 @@ use Rattle.std.proofs.lemmas.Bool.{cases_lt, false≢true}
 use Rattle.std.proofs.lemmas.Bool.Decides.{Decides-eqb}
 use Rattle.std.proofs.lemmas.Slice.Eq.{bytes_eq-Decides}
 use Rattle.ps_codefile.specs.Dictionary.{entry_at, is_filled}
-use Rattle.ps_examples.specs.Files.{host, library, host_with_tools, put_at, util, aux, util_code}
+use Rattle.ps_examples.specs.Files.{host, library, host_with_tools, put_at, util, aux, tools, util_code}
 use Rattle.ps_resolve.specs.Added.{empty_slots, rounds, segments}
 use Rattle.ps_resolve.specs.Standing.Slots.{HasRole}
 use Rattle.ps_resolve.specs.Standing.Sources.{IsNamed, HasEntry}
 use Rattle.ps_codefile.specs.declared.entry.Role.TheVariants as role
-use Rattle.ps_examples.specs.Segments.{demo_segment, util_segment, using_segment, aux_segment, tools_segment, pair, three, with_plain}
+use Rattle.ps_examples.specs.Segments.{demo_segment, util_segment, using_segment, aux_segment, naming_segment, named_segment, tools_segment, pair, three, with_plain}
 use Rattle.ps_resolve.specs.Sources.{Segment, own_segments}
 use Rattle.ps_resolve.specs.Sought.{HasSlot}
-use Rattle.ps_resolve.specs.Origins.{HasOne, IsOwn, IsAddedUnit, IsFile, IsInPlace, IsUnitOf, IsSliceOf, IsRead}
+use Rattle.ps_resolve.specs.Origins.{IsTaken, HasOne, IsOwn, IsAddedUnit, IsFile, IsInPlace, IsUnitOf, IsSliceOf, IsRead}
 use Rattle.ps_words.specs.declared.order.Order.TheVariants.{Little}
 
 pub an_added_unit_s_segments : three ≡ demo_segment ∷ using_segment ∷ aux_segment ∷ []
@@ -194,3 +194,23 @@ an_added_unit = record {
   where
     wanted : (slot : ℕ) → slot ≡ 7 → HasRole Little host slot role.Empty → ⊥
     wanted slot at has = let h : HasRole Little host 7 role.Empty = subst (λ (k : ℕ). HasRole Little host k role.Empty) at has in cc
+
+pub a_unit_that_an_added_one_names : IsAddedUnit Little host (using_segment ∷ naming_segment ∷ named_segment ∷ []) named_segment
+a_unit_that_an_added_one_names = record {
+  empty = refl;
+  low = omega arith;
+  next = taken;
+  role = refl;
+  asked = (1, naming_segment, refl, (inr (omega arith), (0, _, refl, (refl, refl))));
+  named = refl;
+  free = no_slot_has tools refl;
+}
+  where
+    is_wanted : (slot : ℕ) → slot ≡ 7 → HasRole Little host slot role.Empty → ⊥
+    is_wanted slot at has = let h : HasRole Little host 7 role.Empty = subst (λ (k : ℕ). HasRole Little host k role.Empty) at has in cc
+
+    taken : (slot : ℕ) → 7 ≤ slot → slot < 9 → HasRole Little host slot role.Empty → IsTaken (using_segment ∷ naming_segment ∷ named_segment ∷ []) slot
+    taken slot low lt has = elim (cases_lt slot 8) [
+      | inl l ↦ absurd (is_wanted slot (omega (arith, low, l)) has)
+      | inr l ↦ (1, naming_segment, refl, omega (arith, l, lt))
+    ]

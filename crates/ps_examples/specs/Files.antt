@@ -125,6 +125,10 @@ host = host_in Little
 abbrev pub library : List ℕ
 library = library_in Little
 
+-- the library with bytes behind its kinds and behind its pairs that look like an entry 16 of UTIL's code
+abbrev pub library_past_the_last : List ℕ
+library_past_the_last = put_at 64 (1 ∷ 0 ∷ 24 ∷ 0 ∷ []) (put_at 224 (3 ∷ []) library)
+
 -- the host with UTIL in place, whose code has its slot's number, in block 3, and this link information in block 4
 abbrev pub host_in_place : Order → List ℕ → List ℕ
 host_in_place order information =

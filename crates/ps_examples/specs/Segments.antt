@@ -71,6 +71,17 @@ aux_segment = record {
 abbrev pub self_segment : Segment
 self_segment = record aux_segment { records = aux_reference ∷ [] }
 
+-- AUX under a name that nothing asks for
+abbrev pub nobody_segment : Segment
+nobody_segment = record aux_segment { name = nobody }
+
+-- AUX that names TOOLS, and TOOLS, which is added for it in slot 9
+abbrev pub naming_segment : Segment
+naming_segment = record aux_segment { records = record { name = tools; body = UnitRef (2 ∷ []) } ∷ end_mark ∷ [] }
+
+abbrev pub named_segment : Segment
+named_segment = record aux_segment { slot = 9; name = tools }
+
 -- a unit of the name COUNT
 abbrev pub count_segment : Segment
 count_segment = record aux_segment { name = count; records = [] }

@@ -1,13 +1,15 @@
-ghost use Rattle.std.specs.Prelude.{◌≡◌, ℕ, [], ◌∷◌};
-ghost use Rattle.ps_examples.specs.Files.{util, aux, tools, count, state};
+ghost use Rattle.std.specs.Prelude.{◌≡◌, ℕ, List, [], ◌∷◌};
+ghost use Rattle.ps_examples.specs.Files.{blank, util, aux, tools, count, state, nobody};
 ghost use Rattle.ps_examples.specs.Segments.{state_reference, demo_segment, util_segment};
 ghost use Rattle.ps_examples.specs.Segments.{using_segment, tools_segment, displaced_segment};
 ghost use Rattle.ps_examples.specs.Segments.{pair, three, with_plain, with_two_privates};
 ghost use Rattle.ps_examples.specs.Segments.{with_two_units, with_constant, with_unused};
 ghost use Rattle.ps_linkinfo.specs.declared.record.Body.TheVariants.{UnitRef, PublRef, PrivRef};
+ghost use Rattle.ps_linkinfo.specs.declared.record.Body.TheVariants.{PublDef, ConstDef, Eof};
 ghost use Rattle.ps_resolve.specs.Standing.Privates.{private_offset};
 ghost use Rattle.ps_resolve.specs.LinkedBytes.{Reaches, Becomes};
-ghost use Rattle.ps_resolve.specs.LinkedBytes.{IsSlotOf, IsPublic, IsNumberPlace, IsSizePlace};
+ghost use Rattle.ps_resolve.specs.LinkedBytes.{IsSlotOf, IsPublic, IsBase, all_private_words};
+ghost use Rattle.ps_resolve.specs.LinkedBytes.{IsNumberPlace, IsSizePlace};
 ghost use Rattle.ps_resolve.specs.LinkedBytes.{IsLinkedByte};
 ghost use Rattle.ps_words.specs.declared.order.Order.TheVariants.{Little};
 
@@ -19,15 +21,20 @@ pub fn facts_of_bytes()
     ensures a_private { private_offset pair 7 1 ≡ 8 }
     ensures a_second_private { private_offset with_two_privates 7 1 ≡ 12 }
     ensures a_private_of_a_second_unit { private_offset with_two_units 8 1 ≡ 12 }
+    ensures a_private_of_a_first_unit { private_offset with_two_units 7 1 ≡ 8 }
+    ensures words_of_two_units { all_private_words with_two_units ≡ 8 }
     ensures a_public_operand { Becomes pair
         util_segment 0 count (PublRef (1 ∷ [])) 1 (128 ∷ 3 ∷ []) }
     ensures a_displaced_public_operand { Becomes pair
         displaced_segment 0 count (PublRef (1 ∷ [])) 1 (129 ∷ 3 ∷ []) }
     ensures a_private_operand { Becomes pair
         util_segment 1 state (PrivRef 4 (4 ∷ [])) 4 (128 ∷ 10 ∷ []) }
+    ensures a_second_private_operand { Becomes with_two_privates
+        util_segment 1 nobody (PrivRef 4 (4 ∷ [])) 4 (128 ∷ 14 ∷ []) }
     ensures a_unit_operand { Becomes three using_segment 0 aux (UnitRef (2 ∷ [])) 2 (8 ∷ []) }
     ensures its_place { Reaches util_segment 1 state_reference 0 4 5 }
     ensures a_number_place { IsNumberPlace util_segment 22 }
+    ensures a_number_place_of_the_host { IsNumberPlace demo_segment 16 }
     ensures a_size_place { IsSizePlace Little demo_segment 12 1 5 }
     ensures a_reference { IsLinkedByte Little pair util_segment 2 3 }
     ensures a_number { IsLinkedByte Little pair util_segment 22 7 }
@@ -46,6 +53,18 @@ pub fn bytes_that_are_not_linked()
     ensures a_plain_segment_has_no_number { IsNumberPlace tools_segment 3 → ⊥ }
     ensures a_unit_has_no_data_size { (t j p : ℕ) → IsSizePlace Little util_segment t j p → ⊥ }
     ensures a_data_size_has_two_bytes { IsSizePlace Little demo_segment 12 2 6 → ⊥ }
+    ensures a_unit_s_end_mark_gives_no_base { IsBase pair 0 → ⊥ }
+    ensures a_definition_gives_no_base { IsBase pair 3 → ⊥ }
+    ensures not_the_slot_of_another_unit { Becomes three
+        using_segment 0 aux (UnitRef (2 ∷ [])) 2 (7 ∷ []) → ⊥ }
+    ensures not_without_the_base { Becomes pair
+        util_segment 1 state (PrivRef 4 (4 ∷ [])) 4 (128 ∷ 2 ∷ []) → ⊥ }
+    ensures a_definition_has_no_operand { (bytes : List ℕ)
+        → Becomes pair demo_segment 0 count (PublDef 3) 1 bytes → ⊥ }
+    ensures a_constant_has_no_operand { (bytes : List ℕ)
+        → Becomes pair demo_segment 0 count (ConstDef 3) 1 bytes → ⊥ }
+    ensures an_end_mark_has_no_operand { (bytes : List ℕ)
+        → Becomes pair demo_segment 1 blank (Eof 8) 1 bytes → ⊥ }
     ensures a_plain_segment_is_no_unit { IsSlotOf with_plain tools 8 → ⊥ }
     ensures not_the_unit_of_another_name { IsSlotOf pair aux 7 → ⊥ }
     ensures not_another_slot { IsSlotOf pair util 1 → ⊥ }

@@ -21,6 +21,7 @@ mod refused_tables;
 mod refused_types;
 mod roles;
 mod texts;
+mod whole_links;
 
 pub use added_units::{order_of_added_units, units_that_are_added};
 pub use byte_facts::{bytes_that_are_not_linked, facts_of_bytes};
@@ -42,3 +43,4 @@ pub use refused_tables::faults_of_tables;
 pub use refused_types::faults_of_types;
 pub use roles::roles_of_slots;
 pub use texts::{map_texts, show_texts};
+pub use whole_links::{facts_of_all_segments, lists_of_no_link};

@@ -2,10 +2,11 @@ ghost use Rattle.std.specs.Prelude.{◌≡◌, ℕ, List, [], ◌∷◌, take};
 ghost use Rattle.ps_codefile.specs.Dictionary.{entry_at};
 ghost use Rattle.ps_codefile.specs.declared.entry.Role.TheVariants as role;
 ghost use Rattle.ps_examples.specs.Files.{host, library, host_with_tools, put_at, with_slot};
-ghost use Rattle.ps_examples.specs.Files.{blank, util, aux, util_code};
+ghost use Rattle.ps_examples.specs.Files.{blank, util, aux, util_code, library_past_the_last};
 ghost use Rattle.ps_examples.specs.Segments.{demo_segment, util_segment, using_segment};
 ghost use Rattle.ps_examples.specs.Segments.{aux_segment, self_segment, count_segment};
-ghost use Rattle.ps_examples.specs.Segments.{past_segment, tools_segment};
+ghost use Rattle.ps_examples.specs.Segments.{past_segment, tools_segment, nobody_segment};
+ghost use Rattle.ps_examples.specs.Segments.{naming_segment, named_segment};
 ghost use Rattle.ps_examples.specs.Segments.{count_reference, pair, three, with_plain};
 ghost use Rattle.ps_resolve.specs.Origins.{HasOne, IsOwn, IsAddedUnit, IsFile, IsInPlace};
 ghost use Rattle.ps_resolve.specs.Origins.{IsUnitOf, IsSliceOf, IsRead};
@@ -23,6 +24,8 @@ pub fn origins_of_segments()
     ensures a_host_segment_is_own { IsOwn Little host demo_segment }
     ensures a_wanted_unit_is_own { IsOwn Little host util_segment }
     ensures an_added_unit { IsAddedUnit Little host three aux_segment }
+    ensures a_unit_that_an_added_one_names { IsAddedUnit Little host
+        (using_segment ∷ naming_segment ∷ named_segment ∷ []) named_segment }
     ensures in_place { IsInPlace demo_segment }
     ensures in_the_library { IsUnitOf Little host (library ∷ []) util 1 2 }
     ensures in_the_second { IsUnitOf Little host (put_at 80 aux library ∷ library ∷ []) util 2 2 }
@@ -52,12 +55,16 @@ pub fn segments_of_no_link()
         → IsAddedUnit Little host segs (record aux_segment { role = role.Unit }) → ⊥ }
     ensures not_asked_for_by_itself_alone { IsAddedUnit Little host
         (util_segment ∷ self_segment ∷ []) self_segment → ⊥ }
+    ensures not_asked_for_by_another_name { IsAddedUnit Little host
+        (using_segment ∷ nobody_segment ∷ []) nobody_segment → ⊥ }
     ensures not_asked_for_by_a_publ_ref { IsAddedUnit Little host
         (util_segment ∷ count_segment ∷ []) count_segment → ⊥ }
     ensures not_of_a_name_of_blanks { (segs : List Segment)
         → IsAddedUnit Little host segs (record aux_segment { name = blank }) → ⊥ }
     ensures not_of_a_name_that_the_host_has { (segs : List Segment)
         → IsAddedUnit Little host segs (record aux_segment { name = util }) → ⊥ }
+    ensures not_in_place_in_a_library { IsInPlace (record demo_segment { file = 1 }) → ⊥ }
+    ensures not_in_place_at_another_entry { IsInPlace (record demo_segment { index = 2 }) → ⊥ }
     ensures not_in_the_host { IsUnitOf Little library [] util 0 2 → ⊥ }
     ensures not_in_a_later_library { IsUnitOf Little host (library ∷ library ∷ []) util 2 2 → ⊥ }
     ensures not_the_entry_of_another_name { IsUnitOf Little host (library ∷ []) aux 1 2 → ⊥ }
@@ -70,7 +77,7 @@ pub fn segments_of_no_link()
     ensures not_in_a_file_that_is_not_there { IsUnitOf Little host
         (put_at 80 aux library ∷ []) util 2 2 → ⊥ }
     ensures not_an_entry_past_the_last { (name : List ℕ)
-        → IsUnitOf Little host (library ∷ []) name 1 16 → ⊥ }
+        → IsUnitOf Little host (library_past_the_last ∷ []) name 1 16 → ⊥ }
     ensures not_cut { IsSliceOf
         (take 530 library) (entry_at Little library 2) (take 18 (util_code Little)) → ⊥ }
     ensures not_other_bytes { IsSliceOf library
@@ -79,8 +86,10 @@ pub fn segments_of_no_link()
         (record util_segment { code = take 23 (util_code Little) }) → ⊥ }
     ensures not_of_another_file { IsRead Little host (library ∷ [])
         (record util_segment { file = 0 }) → ⊥ }
+    ensures not_read_past_the_last_entry { IsRead Little host (library_past_the_last ∷ [])
+        (record util_segment { index = 16 }) → ⊥ }
     ensures not_without_its_records { IsRead Little host (library ∷ [])
         (record util_segment { records = [] }) → ⊥ }
-    ensures not_with_records_of_its_own { (libs : List (List ℕ))
-        → IsRead Little host libs (record tools_segment { records = count_reference ∷ [] }) → ⊥ }
+    ensures not_with_records_of_its_own { (libs : List (List ℕ)) → IsRead Little
+        host_with_tools libs (record tools_segment { records = count_reference ∷ [] }) → ⊥ }
 {}

@@ -1,0 +1,84 @@
+-- Lists of segments that are not those of the small links, computed.
+use Rattle.std.proofs.Common.{◌≡◌, ℕ, zero, suc, ◌<◌, List, [], ◌∷◌, Some, Result, Ok, true, false, refl, sym, ap, subst, ◌∙◌, inl, inr, arith}
+use Rattle.std.specs.Prelude.{◌⊎◌, slice_get, All}
+use Rattle.std.proofs.lemmas.Bool.{false≢true}
+use Rattle.ps_codefile.specs.Dictionary.{entry_at}
+use Rattle.ps_codefile.specs.declared.entry.Role.{Role}
+use Rattle.ps_codefile.specs.declared.entry.Role.TheVariants as role
+use Rattle.ps_examples.specs.Files.{host, library, library_of_used, util_information, count, aux}
+use Rattle.ps_examples.specs.Segments.{demo_segment, util_segment, using_segment, aux_segment, past_segment, tools_segment}
+use Rattle.ps_examples.proofs.ByteFacts.{same}
+use Rattle.ps_examples.proofs.NotLinked.{util_aux}
+use Rattle.ps_examples.proofs.NotOrigins.{a_slot_without_one, not_without_its_records, none_passes, no_name, count_aux, state_aux, blank_aux}
+use Rattle.ps_examples.proofs.WholeLinks.{used, added_is}
+use Rattle.ps_resolve.specs.Added.{added}
+use Rattle.ps_resolve.specs.Origins.{HasOne, AsksFor, HaveOneEach, AreBySlot, AreOwn, AreAdded, AreOfRounds, AreInPlace, AreOfLibraries, AreRead}
+use Rattle.ps_resolve.specs.Sources.{Segment}
+use Rattle.ps_resolve.specs.Standing.Phrases.{SomeItem}
+use Rattle.ps_words.specs.declared.fault.Reason.{Reason}
+use Rattle.ps_words.specs.declared.order.Order.TheVariants.{Little}
+
+-- the host's slot 7 is not empty
+filled : ◌≡◌ {A = Result Role Reason} (Ok role.Wanted) (Ok role.Empty) → ⊥
+filled e = cc
+
+pub a_segment_is_missing : HaveOneEach host (demo_segment ∷ []) → ⊥
+a_segment_is_missing h = a_slot_without_one (h 7 (omega arith) (λ e. filled e))
+
+pub a_segment_is_there_twice : HaveOneEach host (demo_segment ∷ util_segment ∷ util_segment ∷ []) → ⊥
+a_segment_is_there_twice h = go (h 7 (omega arith) (λ e. filled e))
+  where
+    go : HasOne (demo_segment ∷ util_segment ∷ util_segment ∷ []) 7 → ⊥
+    go t = let a : 1 ≡ t.0 = t.3.1 1 util_segment refl refl in let b : 2 ≡ t.0 = t.3.1 2 util_segment refl refl in omega (arith, a, b)
+
+-- by slot
+pub turned_round : AreBySlot (util_segment ∷ demo_segment ∷ []) → ⊥
+turned_round t = let h : 7 < 1 = t.0 0 1 util_segment demo_segment (omega arith) refl refl in omega (arith, h)
+
+pub two_of_one_slot : AreBySlot (util_segment ∷ util_segment ∷ []) → ⊥
+two_of_one_slot t = let h : 7 < 7 = t.0 0 1 util_segment util_segment (omega arith) refl refl in omega (arith, h)
+
+pub in_slot_16 : AreBySlot (demo_segment ∷ (record util_segment { slot = 16 }) ∷ []) → ⊥
+in_slot_16 t = let h : 16 < 16 = t.1 1 demo_segment (omega arith) in omega (arith, h)
+
+-- the host's own, and those that were added
+other_role : ◌≡◌ {A = Result Role Reason} (Ok role.Empty) (Ok role.Wanted) → ⊥
+other_role e = cc
+
+pub one_of_its_own_in_an_empty_slot : AreOwn host (demo_segment ∷ util_segment ∷ (record aux_segment { added = false }) ∷ []) → ⊥
+one_of_its_own_in_an_empty_slot h = let o = h 2 demo_segment (omega arith) refl in other_role o.role
+
+pub one_is_added_that_nothing_names : AreAdded host (demo_segment ∷ util_segment ∷ aux_segment ∷ []) → ⊥
+one_is_added_that_nothing_names h = let u = h 2 demo_segment (omega arith) refl in let t = u.asked in none_passes (λ (q : Segment). AsksFor q aux) (demo_segment ∷ util_segment ∷ aux_segment ∷ []) (of_demo, (of_unit util_segment refl, (of_unit aux_segment refl, tt))) t.0 t.1 t.2 t.3.1
+  where
+    of_demo : AsksFor demo_segment aux → ⊥
+    of_demo t = no_name demo_segment aux (count_aux, (blank_aux, tt)) t
+
+    of_unit : (s : Segment) → util_segment.records ≡ s.records → AsksFor s aux → ⊥
+    of_unit s e t = no_name util_segment aux (count_aux, (state_aux, (blank_aux, tt))) (t.0, t.1, ap (λ rs. slice_get rs t.0) e ∙ t.2, t.3)
+
+-- the rounds
+slot_of : (a b : Segment) → a ≡ b → a.slot ≡ b.slot
+slot_of a b e = ap (λ (s : Segment). s.slot) e
+
+pub one_is_added_in_no_round : AreOfRounds host used (demo_segment ∷ using_segment ∷ aux_segment ∷ past_segment ∷ []) → ⊥
+one_is_added_in_no_round h = let t = subst Past added_is (h.0 3 demo_segment (omega arith) refl) in none_passes (λ (q : Segment). q ≡ past_segment) (aux_segment ∷ []) (λ e. let s : 8 ≡ 9 = slot_of aux_segment past_segment e in omega (arith, s), tt) t.0 t.1 t.2 t.3
+  where
+    Past : List Segment → Type 0
+    Past more = SomeItem more (λ k q. q ≡ past_segment)
+
+pub the_added_one_is_missing : AreOfRounds host used (demo_segment ∷ using_segment ∷ (record aux_segment { added = false }) ∷ []) → ⊥
+the_added_one_is_missing h = let t = (subst Missing added_is h.1) 0 demo_segment (omega arith) in none_passes (λ (q : Segment). q ≡ aux_segment) (demo_segment ∷ using_segment ∷ (record aux_segment { added = false }) ∷ []) (λ e. let s : 1 ≡ 8 = slot_of demo_segment aux_segment e in omega (arith, s), (λ e. let s : 7 ≡ 8 = slot_of using_segment aux_segment e in omega (arith, s), (λ e. false≢true (ap (λ (s : Segment). s.added) e), tt))) t.0 t.1 t.2 t.3
+  where
+    Missing : List Segment → Type 0
+    Missing more = All (λ s. SomeItem (demo_segment ∷ using_segment ∷ (record aux_segment { added = false }) ∷ []) (λ k q. q ≡ s)) more
+
+-- files
+pub a_plain_one_of_a_library : AreInPlace (demo_segment ∷ util_segment ∷ (record tools_segment { file = 1 }) ∷ []) → ⊥
+a_plain_one_of_a_library h = let t = h 2 demo_segment (omega arith) (λ e. cc) in let f : 1 ≡ 0 = t.0 in omega (arith, f)
+
+pub an_added_one_of_another_entry : AreOfLibraries host used (demo_segment ∷ using_segment ∷ (record aux_segment { index = 2 }) ∷ []) → ⊥
+an_added_one_of_another_entry h = let u = h 2 demo_segment (omega arith) refl in util_aux (subst (λ (f : List ℕ). (entry_at Little f 2).name ≡ aux) (sym (same (library_of_used (util_information Little)) u.library u.file)) u.entry.1)
+
+pub one_without_its_records : AreRead host (library ∷ []) (demo_segment ∷ (record util_segment { records = [] }) ∷ []) → ⊥
+one_without_its_records h = not_without_its_records (h 1 demo_segment (omega arith))

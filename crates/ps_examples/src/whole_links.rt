@@ -1,0 +1,50 @@
+ghost use Rattle.std.specs.Prelude.{[], ◌∷◌, false};
+ghost use Rattle.ps_examples.specs.Files.{host, library, library_of_used, util_information};
+ghost use Rattle.ps_examples.specs.Segments.{demo_segment, util_segment, using_segment};
+ghost use Rattle.ps_examples.specs.Segments.{aux_segment, past_segment, tools_segment};
+ghost use Rattle.ps_examples.specs.Segments.{pair, three, with_plain};
+ghost use Rattle.ps_resolve.specs.Origins.{HaveOneEach, AreBySlot, AreOwn, AreAdded};
+ghost use Rattle.ps_resolve.specs.Origins.{AreOfRounds, AreInPlace, AreOfLibraries, AreRead};
+ghost use Rattle.ps_words.specs.declared.order.Order.TheVariants.{Little};
+
+/// What is said of all segments of a link, on a host and its libraries.
+pub fn facts_of_all_segments()
+    ensures a_segment_for_each_slot { HaveOneEach host pair }
+    ensures by_slot { AreBySlot pair }
+    ensures the_host_s_own { AreOwn host three }
+    ensures the_added_one { AreAdded host three }
+    ensures the_rounds_have_it { AreOfRounds host
+        (library_of_used (util_information Little) ∷ []) three }
+    ensures two_in_place { AreInPlace with_plain }
+    ensures two_of_libraries { AreOfLibraries host
+        (library_of_used (util_information Little) ∷ []) three }
+    ensures read_from_two_files { AreRead host (library ∷ []) pair }
+{}
+
+/// Lists of segments that are not those of a link.
+pub fn lists_of_no_link()
+    ensures a_segment_is_missing { HaveOneEach host (demo_segment ∷ []) → ⊥ }
+    ensures a_segment_is_there_twice { HaveOneEach host
+        (demo_segment ∷ util_segment ∷ util_segment ∷ []) → ⊥ }
+    ensures turned_round { AreBySlot (util_segment ∷ demo_segment ∷ []) → ⊥ }
+    ensures two_of_one_slot { AreBySlot (util_segment ∷ util_segment ∷ []) → ⊥ }
+    ensures in_slot_16 { AreBySlot
+        (demo_segment ∷ (record util_segment { slot = 16 }) ∷ []) → ⊥ }
+    ensures one_of_its_own_in_an_empty_slot { AreOwn host
+        (demo_segment ∷ util_segment ∷ (record aux_segment { added = false }) ∷ []) → ⊥ }
+    ensures one_is_added_that_nothing_names { AreAdded host
+        (demo_segment ∷ util_segment ∷ aux_segment ∷ []) → ⊥ }
+    ensures one_is_added_in_no_round { AreOfRounds host
+        (library_of_used (util_information Little) ∷ [])
+        (demo_segment ∷ using_segment ∷ aux_segment ∷ past_segment ∷ []) → ⊥ }
+    ensures the_added_one_is_missing { AreOfRounds host
+        (library_of_used (util_information Little) ∷ [])
+        (demo_segment ∷ using_segment ∷ (record aux_segment { added = false }) ∷ []) → ⊥ }
+    ensures a_plain_one_of_a_library { AreInPlace
+        (demo_segment ∷ util_segment ∷ (record tools_segment { file = 1 }) ∷ []) → ⊥ }
+    ensures an_added_one_of_another_entry { AreOfLibraries host
+        (library_of_used (util_information Little) ∷ [])
+        (demo_segment ∷ using_segment ∷ (record aux_segment { index = 2 }) ∷ []) → ⊥ }
+    ensures one_without_its_records { AreRead host (library ∷ [])
+        (demo_segment ∷ (record util_segment { records = [] }) ∷ []) → ⊥ }
+{}
