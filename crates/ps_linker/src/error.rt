@@ -2,7 +2,9 @@
 ghost use Rattle.std.specs.Prelude.{◌≡◌, ◌≢◌};
 ghost use Rattle.clap.specs.Words.{kind_of};
 ghost use Rattle.clap.specs.declared.error.ErrorKind.TheVariants.{OutOfMemory};
-ghost use Rattle.ps_linker.specs.declared.error.CommandError.TheVariants.{Memory, Usage};
+ghost use Rattle.ps_linker.specs.declared.error.CommandError.TheVariants.{Memory, StandardOutput, Usage};
+ghost use Rattle.ps_linkfile.specs.declared.error.LinkError.TheVariants.{Write};
+ghost use Rattle.ps_linkfile.specs.declared.error.WriteFault.{WriteFault};
 ghost use Rattle.ps_linker.specs.Statuses.{status_of};
 
 use clap::error::ErrorKind;
@@ -64,9 +66,9 @@ impl From<clap::Error> for CommandError<'_> {
 }
 
 impl From<LinkError> for CommandError<'_> {
-    ghost from_gives = { λ _ e. status_of e ≢ 2 };
+    ghost from_gives = { λ error e. (status_of e ≢ 2) × ((fault : WriteFault) → error ≡ Write fault → e ≡ StandardOutput) };
 
-    /// The calls that check files and make texts return no `Write`; a file that is written is named where it is written.
+    /// What could not be written is standard output, since a file is named where it is written.
     fn from(error: LinkError) -> Self {
         match error {
             LinkError::Refused(fault) => CommandError::Refused(fault),

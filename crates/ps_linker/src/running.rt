@@ -126,7 +126,7 @@ fn map<'a, R: CodeFiles, A: Allocator + Copy, O: Write>(
     output::print(out, text.as_slice())
 }
 
-/// Prints what the file at `path` has.
+/// Prints what the file at `path` has. Its text is written in pieces, and takes no memory.
 fn show<'a, R: CodeFiles, A: Allocator + Copy, O: Write>(
     rt: &R,
     alloc: A,
@@ -138,8 +138,7 @@ fn show<'a, R: CodeFiles, A: Allocator + Copy, O: Write>(
     ensures usage { IfErr result (λ e. status_of e ≢ 2) }
 {
     let file = files::read(rt, alloc, path)?;
-    let text = ps_linkfile::show_text(alloc, file.as_slice())?;
-    output::print(out, text.as_slice())
+    Ok(ps_linkfile::write_show(file.as_slice(), out)?)
 }
 
 /// Creates or empties the file at `path`, and writes the linked file to it.

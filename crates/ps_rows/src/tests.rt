@@ -20,6 +20,7 @@ mod record_kinds;
 mod record_walk;
 mod records;
 mod records_allocations;
+mod show_writing;
 mod slots;
 mod tables;
 mod texts;

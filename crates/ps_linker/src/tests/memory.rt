@@ -88,7 +88,7 @@ fn each_allocation_is_refused(rt: HostRuntime) -> Result<(), Fail> {
         ),
         (link.as_slice(), true, SUMMARY_OF_PAIR, Some(LINKED_PAIR), 5),
         (map.as_slice(), false, MAP_OF_PAIR, None, 5),
-        (show.as_slice(), false, SHOWN_LIBRARY, None, 2),
+        (show.as_slice(), false, SHOWN_LIBRARY, None, 1),
     ];
     for (args, was_there, printed, linked, least) in rows {
         let refused = refused_allocations(&rt, args, was_there, printed, linked)?;

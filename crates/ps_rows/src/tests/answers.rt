@@ -8,7 +8,7 @@ use std::test::Fail;
 /// The byte order of most inputs.
 pub(crate) const LITTLE: Order = Order::Little;
 
-/// A link's answer: the program's line for a Summary, the fault's text, or a word for each other error.
+/// A link's answer: the program's line for a Summary, or the text of an error.
 pub(crate) fn text_of(
     alloc: Global,
     answer: Result<Summary, LinkError>,
@@ -23,12 +23,19 @@ pub(crate) fn text_of(
         ) => {
             format!(in alloc; "segments {segments} private words {private_words} blocks {blocks}")
         }
-        Err(LinkError::Refused(fault)) => format!(in alloc; "{fault}"),
-        Err(LinkError::Memory) => String::from_str(alloc, "out of memory"),
-        Err(LinkError::Write(WriteFault::Device(error))) => {
+        Err(error) => text_of_error(alloc, error),
+    }
+}
+
+/// An error: the fault's text, or a word for each other one.
+pub(crate) fn text_of_error(alloc: Global, error: LinkError) -> Result<String, AllocError> {
+    match error {
+        LinkError::Refused(fault) => format!(in alloc; "{fault}"),
+        LinkError::Memory => String::from_str(alloc, "out of memory"),
+        LinkError::Write(WriteFault::Device(error)) => {
             format!(in alloc; "device error {:?}", error.kind())
         }
-        Err(LinkError::Write(WriteFault::Stalled)) => String::from_str(alloc, "stalled"),
+        LinkError::Write(WriteFault::Stalled) => String::from_str(alloc, "stalled"),
     }
 }
 

@@ -2,6 +2,7 @@
 use super::answers::LITTLE;
 use super::link_allocations::{Link, answers_each_call};
 use super::plan::builds_definitions;
+use super::show_writing::writes_long_show;
 use super::texts::SLOTS_OF_THE_LIBRARY;
 use crate::base::{COUNT, STATE, base_host, base_library, linked_base_pair};
 use crate::code_file::Change::{Records, Resized};
@@ -238,5 +239,5 @@ fn a_show_of_megabytes(rt: HostRuntime) -> Result<(), Fail> {
     let text = show_text(alloc, library.as_slice())?;
     assert!(rt; text.as_slice() == wanted.as_bytes(), "another text");
     assert!(rt; text.len() > 2_000_000);
-    Ok(())
+    writes_long_show(&rt, library.as_slice(), wanted.as_str())
 }

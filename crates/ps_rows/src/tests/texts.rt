@@ -1,7 +1,9 @@
 //! The map of a link and the show of a code file, as text.
 use super::allocations::{Allocating, makes_no_allocation, refuses_each_allocation};
 use super::answers::LITTLE;
+use super::show_writing::{writes, writes_show};
 use super::tables::Base;
+use super::writers::Full;
 use crate::base::{BASE_LENGTH, COUNT, base_host, base_library};
 use crate::code_file::Change::{Bytes, Records, Resized};
 use crate::code_file::CodeFile;
@@ -137,7 +139,7 @@ fn maps_of_pairs(rt: HostRuntime) -> Result<(), Fail> {
     refuses_each_allocation(&rt, "a constant", &call, MAP_WITH_A_CONSTANT)
 }
 
-/// Checks the show of a file.
+/// Checks the show of a file, as a text and written.
 pub(crate) fn shows(
     rt: &(impl Abort + AllocGlobal),
     what: &str,
@@ -147,7 +149,8 @@ pub(crate) fn shows(
     let call = Show {
         file: file.as_slice(),
     };
-    refuses_each_allocation(rt, what, &call, text)
+    refuses_each_allocation(rt, what, &call, text)?;
+    writes_show(rt, file.as_slice(), text)
 }
 
 /// Lengths to which the base library is cut, and the lines of its show behind those of the slots.
@@ -194,10 +197,15 @@ fn maps_and_shows_that_are_refused(rt: HostRuntime) -> Result<(), Fail> {
     let call = Show {
         file: short.as_slice(),
     };
-    makes_no_allocation(&rt, "short", &call, "refused 1 ShortFile file 0")?;
+    let refused = "refused 1 ShortFile file 0";
+    makes_no_allocation(&rt, "short", &call, refused)?;
+    let writer = (512, usize::MAX, Full::Fails);
+    writes(&rt, (short.as_slice(), ""), writer, refused, (0, 0))?;
     let mixed = CodeFile::new(alloc, LITTLE, 512)?.with(alloc, &[Bytes(192, &[1, 1])])?;
     let call = Show {
         file: mixed.as_slice(),
     };
-    makes_no_allocation(&rt, "mixed", &call, "refused 2 NoOrder file 0")
+    let refused = "refused 2 NoOrder file 0";
+    makes_no_allocation(&rt, "mixed", &call, refused)?;
+    writes(&rt, (mixed.as_slice(), ""), writer, refused, (0, 0))
 }
