@@ -1,11 +1,11 @@
 -- The facts of linked bytes on the small files, computed.
 use Rattle.std.proofs.Common.{true, ◌≡◌, ℕ, zero, suc, ◌+◌, ◌-◌, ◌≤◌, List, [], ◌∷◌, Option, Some, refl, sym, ap, subst, ◌∙◌, inl, inr, arith}
 use Rattle.std.specs.Prelude.{◌⊎◌, slice_get, slice_index}
-use Rattle.ps_examples.specs.Files.{blank, aux, count, state, nobody}
+use Rattle.ps_examples.specs.Files.{blank, aux, count, state, nobody, demo_code}
 use Rattle.ps_resolve.specs.Added.{empty_slots, rounds, segments}
 use Rattle.ps_resolve.specs.Standing.References.{operand_width}
 use Rattle.ps_resolve.specs.Standing.Privates.{private_offset}
-use Rattle.ps_resolve.specs.LinkedBytes.{IsReference, Reaches, Becomes, IsHostRecord, IsPublic, all_private_words, IsNumberPlace, IsSizePlace, IsLinkedByte}
+use Rattle.ps_resolve.specs.LinkedBytes.{IsReference, Reaches, Becomes, IsHostRecord, IsPublic, all_private_words, IsNumberPlace, IsSizePlace, IsLinkedByte, IsOnePlace}
 use Rattle.ps_examples.specs.Segments.{count_reference, state_reference, end_mark, demo_segment, util_segment, using_segment, aux_segment, displaced_segment, pair, three, with_two_privates, with_two_units}
 use Rattle.ps_linkinfo.specs.Records.{refs_of}
 use Rattle.ps_linkinfo.specs.declared.record.Body.{Body}
@@ -14,7 +14,9 @@ use Rattle.ps_linkinfo.specs.declared.record.LinkRecord.{LinkRecord as Record}
 use Rattle.ps_resolve.specs.Sources.{own_segments, Segment, is_host}
 use Rattle.ps_resolve.specs.Linking.{grown_data_size}
 use Rattle.ps_words.specs.Words.{word_bytes, operand_bytes, displacement_at}
-use Rattle.ps_words.specs.declared.order.Order.TheVariants.{Little}
+use Rattle.ps_codefile.specs.Procedures.{table_of}
+use Rattle.ps_words.specs.declared.order.Order.{Order}
+use Rattle.ps_words.specs.declared.order.Order.TheVariants.{Little, Big}
 
 pub segments_are : pair ≡ demo_segment ∷ util_segment ∷ []
 unfolding own_segments empty_slots rounds segments
@@ -152,26 +154,45 @@ a_reference = record {
     at : (rec x : ℕ) (r : Record) → rec ≡ 0 → r ≡ count_reference → x ≡ 1 → Fact rec r x
     at rec x r a b c = subst (λ (n : ℕ). Fact n r x) (sym a) (subst (λ (q : Record). Fact 0 q x) (sym b) (subst (λ (n : ℕ). Fact 0 count_reference n) (sym c) here))
 
+-- place 2 has one of them alone
+sole : (y i x : ℕ) → slice_get (y ∷ []) i ≡ Some x → i ≡ 0
+sole y zero x e = refl
+sole y (suc i) x e = absurd (cc)
+
+reference_at_2 : (rec i x : ℕ) (r : Record) → Reaches util_segment rec r i x 2 → (rec ≡ 0) × (i ≡ 0)
+reference_at_2 rec i x r u = elim (references rec i x r u.0) [
+  | inl h ↦ (h.0, sole 1 i x (subst (λ (q : Record). slice_get (refs_of q.body) i ≡ Some x) h.1 u.0.1))
+  | inr h ↦ absurd (let b = u.1.0 in omega (arith, h, b))
+]
+
+pub a_place_of_one_reference : IsOnePlace Little util_segment 2
+a_place_of_one_reference = record {
+  references = λ rec i x other j y r q u v. let a = reference_at_2 rec i x r u in let b = reference_at_2 other j y q v in (a.0 ∙ sym b.0, a.1 ∙ sym b.1);
+  number = λ rec i x r u n. let e = n.1 in omega (arith, e);
+  size = λ rec i x t j r u z. let e = z.0 in cc;
+  own = λ t j n z. let e = z.0 in cc;
+}
+
 -- the data size of the host: it has no references
 pub unreferenced : (rec i x : ℕ) (r : Record) → IsReference demo_segment rec r i x → ⊥
 unreferenced zero i x r t = nowhere i x (subst (λ (q : Record). slice_get (refs_of q.body) i ≡ Some x) (sym (same (record { name = count; body = PublDef 3 }) r t.0)) t.1)
 unreferenced (suc zero) i x r t = nowhere i x (subst (λ (q : Record). slice_get (refs_of q.body) i ≡ Some x) (sym (same (record { name = blank; body = Eof 8 }) r t.0)) t.1)
 unreferenced (suc (suc rec)) i x r t = absurd (let e = t.0 in cc)
 
-size_byte : ℕ → ℕ → ℕ
-size_byte t j = slice_index (word_bytes Little (grown_data_size Little demo_segment.code (all_private_words pair) t)) j
+size_byte : Order → Segment → ℕ → ℕ → ℕ
+size_byte order s t j = slice_index (word_bytes order (grown_data_size order s.code (all_private_words pair) t)) j
 
-of_size : (p n t j : ℕ) → p + 8 ≡ 12 + n → IsSizePlace Little demo_segment t j p → size_byte 12 n ≡ size_byte t j
-of_size p n t j at z =
-    let table : 12 ≡ t = same 12 t z.1 in
+of_size : (order : Order) (s : Segment) (p n t j : ℕ) → table_of order s.code 1 ≡ Some 12 → p + 8 ≡ 12 + n → IsSizePlace order s t j p → size_byte order s 12 n ≡ size_byte order s t j
+of_size order s p n t j is at z =
+    let table : 12 ≡ t = same 12 t (sym is ∙ z.1) in
     let e = z.3 in
-    subst (λ (m : ℕ). size_byte 12 n ≡ size_byte m j) table (subst (λ (m : ℕ). size_byte 12 n ≡ size_byte 12 m) (omega (arith, e, at, table)) refl)
+    subst (λ (m : ℕ). size_byte order s 12 n ≡ size_byte order s m j) table (subst (λ (m : ℕ). size_byte order s 12 n ≡ size_byte order s 12 m) (omega (arith, e, at, table)) refl)
 
 pub a_size_byte : IsLinkedByte Little pair demo_segment 4 18
 unfolding own_segments empty_slots rounds segments size_byte
 a_size_byte = record {
   number = λ n. absurd (let e = n.1 in omega (arith, e));
-  size = λ t j z. of_size 4 0 t j refl z;
+  size = λ t j z. of_size Little demo_segment 4 0 t j refl refl z;
   reference = λ rec i x r u. absurd (unreferenced rec i x r u.0);
   kept = λ n z u. absurd (z 12 0 (refl, refl, omega arith, refl));
 }
@@ -180,7 +201,16 @@ pub its_second_byte : IsLinkedByte Little pair demo_segment 5 0
 unfolding own_segments empty_slots rounds segments size_byte
 its_second_byte = record {
   number = λ n. absurd (let e = n.1 in omega (arith, e));
-  size = λ t j z. of_size 5 1 t j refl z;
+  size = λ t j z. of_size Little demo_segment 5 1 t j refl refl z;
+  reference = λ rec i x r u. absurd (unreferenced rec i x r u.0);
+  kept = λ n z u. absurd (z 12 1 (refl, refl, omega arith, refl));
+}
+
+pub a_size_byte_of_a_big_endian_host : IsLinkedByte Big pair (record demo_segment { code = demo_code Big }) 5 18
+unfolding own_segments empty_slots rounds segments size_byte
+a_size_byte_of_a_big_endian_host = record {
+  number = λ n. absurd (let e = n.1 in omega (arith, e));
+  size = λ t j z. of_size Big (record demo_segment { code = demo_code Big }) 5 1 t j refl refl z;
   reference = λ rec i x r u. absurd (unreferenced rec i x r u.0);
   kept = λ n z u. absurd (z 12 1 (refl, refl, omega arith, refl));
 }

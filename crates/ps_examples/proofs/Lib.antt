@@ -7,3 +7,5 @@ pub mod NotLinked
 pub mod NotOrigins
 pub mod WholeLinks
 pub mod NotWholeLinks
+pub mod BuilderFacts
+pub mod NotBuilt

@@ -4,10 +4,10 @@ use Rattle.std.specs.Prelude.{slice_get, slice_index}
 use Rattle.std.proofs.lemmas.Bool.{false≢true}
 use Rattle.ps_examples.specs.Files.{blank, util, aux, tools, count, state}
 use Rattle.ps_resolve.specs.Added.{empty_slots, rounds, segments}
-use Rattle.ps_resolve.specs.LinkedBytes.{Becomes, IsSlotOf, IsPublic, IsBase, IsNumberPlace, IsSizePlace, IsLinkedByte}
-use Rattle.ps_examples.specs.Segments.{count_reference, demo_segment, util_segment, using_segment, aux_segment, tools_segment, pair, three, with_plain, with_constant, with_unused}
+use Rattle.ps_resolve.specs.LinkedBytes.{Becomes, IsSlotOf, IsPublic, IsBase, IsNumberPlace, IsSizePlace, IsLinkedByte, IsOnePlace}
+use Rattle.ps_examples.specs.Segments.{count_reference, aux_reference, meeting_segment, twice_segment, numbered_segment, sized_segment, demo_segment, util_segment, using_segment, aux_segment, tools_segment, pair, three, with_plain, with_constant, with_unused}
 use Rattle.ps_linkinfo.specs.declared.record.Body.{Body}
-use Rattle.ps_linkinfo.specs.declared.record.Body.TheVariants.{UnitRef, PrivRef, PublDef, ConstDef, Eof}
+use Rattle.ps_linkinfo.specs.declared.record.Body.TheVariants.{UnitRef, PublRef, PrivRef, PublDef, ConstDef, Eof}
 use Rattle.ps_linkinfo.specs.declared.record.LinkRecord.{LinkRecord as Record}
 use Rattle.ps_resolve.specs.Sources.{Segment, is_host, is_unit, own_segments}
 use Rattle.ps_examples.proofs.ByteFacts.{its_operand, a_number_place, before, same, heads, of_first, no_host}
@@ -48,7 +48,7 @@ util_tools e = let h : 85 ≡ 84 = heads _ _ _ _ e in omega (arith, h)
 pub util_aux : util ≡ aux → ⊥
 util_aux e = let h : 85 ≡ 65 = heads _ _ _ _ e in omega (arith, h)
 
-count_state : count ≡ state → ⊥
+pub count_state : count ≡ state → ⊥
 count_state e = let h : 67 ≡ 83 = heads _ _ _ _ e in omega (arith, h)
 
 abbrev Named : List Segment → List ℕ → Type 0
@@ -169,3 +169,16 @@ a_constant_has_no_operand bytes t = t
 
 pub an_end_mark_has_no_operand : (bytes : List ℕ) → Becomes pair demo_segment 1 blank (Eof 8) 1 bytes → ⊥
 an_end_mark_has_no_operand bytes t = t
+
+-- places of more than one thing
+pub a_place_of_two_records : IsOnePlace Little meeting_segment 2 → ⊥
+a_place_of_two_records o = let t = o.references 0 0 1 1 0 2 count_reference aux_reference ((refl, refl), (omega arith, omega arith)) ((refl, refl), (omega arith, omega arith)) in let e : 0 ≡ 1 = t.0 in omega (arith, e)
+
+pub a_place_twice_of_a_record : IsOnePlace Little twice_segment 2 → ⊥
+a_place_twice_of_a_record o = let t = o.references 0 0 1 0 1 2 (record { name = count; body = PublRef (1 ∷ 2 ∷ []) }) (record { name = count; body = PublRef (1 ∷ 2 ∷ []) }) ((refl, refl), (omega arith, omega arith)) ((refl, refl), (omega arith, omega arith)) in let e : 0 ≡ 1 = t.1 in omega (arith, e)
+
+pub a_reference_at_the_number : IsOnePlace Little numbered_segment 22 → ⊥
+a_reference_at_the_number o = o.number 0 0 22 (record { name = aux; body = UnitRef (22 ∷ []) }) ((refl, refl), (omega arith, omega arith)) (refl, refl)
+
+pub a_reference_at_the_data_size : IsOnePlace Little sized_segment 4 → ⊥
+a_reference_at_the_data_size o = o.size 0 0 4 12 0 (record { name = count; body = PublRef (4 ∷ []) }) ((refl, refl), (omega arith, omega arith)) (refl, refl, omega arith, refl)

@@ -3,7 +3,7 @@ use Rattle.std.proofs.Common.{◌≡◌, ℕ, zero, suc, ◌<◌, ◌≤◌, Lis
 use Rattle.std.specs.Prelude.{◌⊎◌, slice_get, slice_index, take}
 use Rattle.std.specs.List.{AllByRecursion}
 use Rattle.ps_codefile.specs.Dictionary.{entry_at, is_filled, code_of}
-use Rattle.ps_examples.specs.Files.{host, library, host_with_tools, library_past_the_last, put_at, with_slot, blank, util, aux, count, state, nobody, util_code}
+use Rattle.ps_examples.specs.Files.{host, library, host_with_tools, host_without_7, library_past_the_last, put_at, with_slot, blank, util, aux, count, state, nobody, util_code}
 use Rattle.ps_linkinfo.specs.Counts.{is_unit_reference}
 use Rattle.ps_resolve.specs.Standing.Sources.{IsNamed}
 use Rattle.ps_codefile.specs.declared.entry.Role.TheVariants as role
@@ -18,6 +18,12 @@ use Rattle.ps_words.specs.declared.fault.Reason.TheVariants as reason
 use Rattle.ps_codefile.specs.declared.entry.Role.{Role}
 use Rattle.std.proofs.lemmas.Bool.{false≢true}
 use Rattle.ps_words.specs.declared.order.Order.TheVariants.{Little}
+
+-- no item passes
+pub none_passes : {A : Type 0} (P : A → Type 0) (xs : List A) → AllByRecursion (λ x. P x → ⊥) xs → (k : ℕ) (x : A) → slice_get xs k ≡ Some x → P x → ⊥
+none_passes P [] all k x e p = cc
+none_passes P (y ∷ ys) all zero x e p = all.0 (subst P (sym (same y x e)) p)
+none_passes P (y ∷ ys) all (suc k) x e p = none_passes P ys all.1 k x e p
 
 -- two segments of a slot
 pub a_slot_with_two : HasOne (aux_segment ∷ tools_segment ∷ []) 8 → ⊥
@@ -59,14 +65,14 @@ not_past_an_empty_slot u = let t = u.next 8 (omega arith) (omega arith) refl in 
     go (suc (suc zero)) s e at = let h : 9 ≡ 8 = ap (λ (x : Segment). x.slot) (same past_segment s e) ∙ at in omega (arith, h)
     go (suc (suc (suc k))) s e at = cc
 
+pub not_past_slot_7 : IsAddedUnit Little host_without_7 ((record using_segment { slot = 9 }) ∷ aux_segment ∷ []) aux_segment → ⊥
+not_past_slot_7 u = let t = u.next 7 (omega arith) (omega arith) refl in none_passes (λ (q : Segment). q.slot ≡ 7) ((record using_segment { slot = 9 }) ∷ aux_segment ∷ []) (of 9 (omega arith), (of 8 (omega arith), tt)) t.0 t.1 t.2 t.3
+  where
+    of : (n : ℕ) → 7 < n → n ≡ 7 → ⊥
+    of n lt e = omega (arith, lt, e)
+
 pub not_of_another_role_than_wanted : (segs : List Segment) → IsAddedUnit Little host segs (record aux_segment { role = role.Unit }) → ⊥
 not_of_another_role_than_wanted segs u = let h = u.role in cc
-
--- no item passes
-pub none_passes : {A : Type 0} (P : A → Type 0) (xs : List A) → AllByRecursion (λ x. P x → ⊥) xs → (k : ℕ) (x : A) → slice_get xs k ≡ Some x → P x → ⊥
-none_passes P [] all k x e p = cc
-none_passes P (y ∷ ys) all zero x e p = all.0 (subst P (sym (same y x e)) p)
-none_passes P (y ∷ ys) all (suc k) x e p = none_passes P ys all.1 k x e p
 
 -- no record of the segment has the name
 pub no_name : (s : Segment) (name : List ℕ) → AllByRecursion (λ (r : Record). r.name ≡ name → ⊥) s.records → AsksFor s name → ⊥
@@ -154,9 +160,9 @@ not_the_entry_of_another_name u = util_aux (subst (λ (f : List ℕ). (entry_at 
 pub not_an_entry_without_a_length : IsUnitOf Little host (with_slot Little 2 util 3 1 0 library ∷ []) util 1 2 → ⊥
 not_an_entry_without_a_length u = false≢true (subst (λ (f : List ℕ). is_filled (entry_at Little f 2) ≡ true) (sym (same (with_slot Little 2 util 3 1 0 library) u.library u.file)) u.entry.0)
 
-pub not_one_of_two_entries : IsUnitOf Little host (with_slot Little 3 util 3 1 24 library ∷ []) util 1 2 → ⊥
+pub not_one_of_two_entries : IsUnitOf Little host (with_slot Little 15 util 3 1 24 library ∷ []) util 1 2 → ⊥
 not_one_of_two_entries u =
-    let h : 3 ≡ 2 = u.only 3 (omega arith) (subst (λ (f : List ℕ). IsNamed Little util f 3) (same (with_slot Little 3 util 3 1 24 library) u.library u.file) (refl, refl)) in omega (arith, h)
+    let h : 15 ≡ 2 = u.only 15 (omega arith) (subst (λ (f : List ℕ). IsNamed Little util f 15) (same (with_slot Little 15 util 3 1 24 library) u.library u.file) (refl, refl)) in omega (arith, h)
 
 pub not_an_entry_of_another_kind : IsUnitOf Little host (put_at 196 (5 ∷ []) library ∷ []) util 1 2 → ⊥
 not_an_entry_of_another_kind u = let h : 5 ≡ 3 = subst (λ (f : List ℕ). (entry_at Little f 2).kind ≡ 3) (sym (same (put_at 196 (5 ∷ []) library) u.library u.file)) u.kind in omega (arith, h)

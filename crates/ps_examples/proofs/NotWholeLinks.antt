@@ -1,22 +1,22 @@
 -- Lists of segments that are not those of the small links, computed.
-use Rattle.std.proofs.Common.{◌≡◌, ℕ, zero, suc, ◌<◌, List, [], ◌∷◌, Some, Result, Ok, true, false, refl, sym, ap, subst, ◌∙◌, inl, inr, arith}
-use Rattle.std.specs.Prelude.{◌⊎◌, slice_get, All}
+use Rattle.std.proofs.Common.{◌≡◌, ℕ, ◌<◌, List, [], ◌∷◌, Result, Ok, false, refl, sym, ap, subst, ◌∙◌, inr, arith}
+use Rattle.std.specs.Prelude.{slice_get, All}
 use Rattle.std.proofs.lemmas.Bool.{false≢true}
 use Rattle.ps_codefile.specs.Dictionary.{entry_at}
 use Rattle.ps_codefile.specs.declared.entry.Role.{Role}
 use Rattle.ps_codefile.specs.declared.entry.Role.TheVariants as role
-use Rattle.ps_examples.specs.Files.{host, library, library_of_used, util_information, count, aux}
-use Rattle.ps_examples.specs.Segments.{demo_segment, util_segment, using_segment, aux_segment, past_segment, tools_segment}
+use Rattle.ps_examples.specs.Files.{host, library, host_in, library_of_used, library_of_used_big, util_information, put_at, with_slot, util, aux, tools, util_code}
+use Rattle.ps_examples.specs.Segments.{demo_segment, util_segment, using_segment, aux_segment, past_segment, again_segment, tools_segment}
 use Rattle.ps_examples.proofs.ByteFacts.{same}
 use Rattle.ps_examples.proofs.NotLinked.{util_aux}
 use Rattle.ps_examples.proofs.NotOrigins.{a_slot_without_one, not_without_its_records, none_passes, no_name, count_aux, state_aux, blank_aux}
 use Rattle.ps_examples.proofs.WholeLinks.{used, added_is}
-use Rattle.ps_resolve.specs.Added.{added}
+use Rattle.ps_resolve.specs.Added.{empty_slots, rounds, added}
 use Rattle.ps_resolve.specs.Origins.{HasOne, AsksFor, HaveOneEach, AreBySlot, AreOwn, AreAdded, AreOfRounds, AreInPlace, AreOfLibraries, AreRead}
-use Rattle.ps_resolve.specs.Sources.{Segment}
+use Rattle.ps_resolve.specs.Sources.{Segment, own_segments}
 use Rattle.ps_resolve.specs.Standing.Phrases.{SomeItem}
 use Rattle.ps_words.specs.declared.fault.Reason.{Reason}
-use Rattle.ps_words.specs.declared.order.Order.TheVariants.{Little}
+use Rattle.ps_words.specs.declared.order.Order.TheVariants.{Little, Big}
 
 -- the host's slot 7 is not empty
 filled : ◌≡◌ {A = Result Role Reason} (Ok role.Wanted) (Ok role.Empty) → ⊥
@@ -24,6 +24,18 @@ filled e = cc
 
 pub a_segment_is_missing : HaveOneEach host (demo_segment ∷ []) → ⊥
 a_segment_is_missing h = a_slot_without_one (h 7 (omega arith) (λ e. filled e))
+
+pub a_big_endian_one_is_missing : HaveOneEach (host_in Big) (demo_segment ∷ []) → ⊥
+a_big_endian_one_is_missing h = a_slot_without_one (h 7 (omega arith) (λ e. filled e))
+
+plain : ◌≡◌ {A = Result Role Reason} (Ok role.Plain) (Ok role.Empty) → ⊥
+plain e = cc
+
+pub the_first_slot_s_is_missing : HaveOneEach (with_slot Little 0 tools 0 1 18 host) (demo_segment ∷ util_segment ∷ []) → ⊥
+the_first_slot_s_is_missing h = let t = h 0 (omega arith) (λ e. plain e) in none_passes (λ (s : Segment). s.slot ≡ 0) (demo_segment ∷ util_segment ∷ []) (λ e. let n : 1 ≡ 0 = e in omega (arith, n), (λ e. let n : 7 ≡ 0 = e in omega (arith, n), tt)) t.0 t.1 t.2 t.3.0
+
+pub the_last_slot_s_is_missing : HaveOneEach (with_slot Little 15 tools 0 1 18 host) (demo_segment ∷ util_segment ∷ []) → ⊥
+the_last_slot_s_is_missing h = let t = h 15 (omega arith) (λ e. plain e) in none_passes (λ (s : Segment). s.slot ≡ 15) (demo_segment ∷ util_segment ∷ []) (λ e. let n : 1 ≡ 15 = e in omega (arith, n), (λ e. let n : 7 ≡ 15 = e in omega (arith, n), tt)) t.0 t.1 t.2 t.3.0
 
 pub a_segment_is_there_twice : HaveOneEach host (demo_segment ∷ util_segment ∷ util_segment ∷ []) → ⊥
 a_segment_is_there_twice h = go (h 7 (omega arith) (λ e. filled e))
@@ -57,6 +69,9 @@ one_is_added_that_nothing_names h = let u = h 2 demo_segment (omega arith) refl 
     of_unit : (s : Segment) → util_segment.records ≡ s.records → AsksFor s aux → ⊥
     of_unit s e t = no_name util_segment aux (count_aux, (state_aux, (blank_aux, tt))) (t.0, t.1, ap (λ rs. slice_get rs t.0) e ∙ t.2, t.3)
 
+pub one_is_added_of_a_name_that_the_host_has : AreAdded (host_in Big) (again_segment ∷ (record aux_segment { name = util }) ∷ []) → ⊥
+one_is_added_of_a_name_that_the_host_has h = let u = h 1 demo_segment (omega arith) refl in u.free (7, omega arith, (inr refl, refl))
+
 -- the rounds
 slot_of : (a b : Segment) → a ≡ b → a.slot ≡ b.slot
 slot_of a b e = ap (λ (s : Segment). s.slot) e
@@ -72,6 +87,17 @@ the_added_one_is_missing h = let t = (subst Missing added_is h.1) 0 demo_segment
   where
     Missing : List Segment → Type 0
     Missing more = All (λ s. SomeItem (demo_segment ∷ using_segment ∷ (record aux_segment { added = false }) ∷ []) (λ k q. q ≡ s)) more
+
+-- what the rounds of big-endian files add
+big_is : added Big (host_in Big) (library_of_used_big ∷ []) ≡ (record aux_segment { code = put_at 22 (3 ∷ []) (util_code Big) }) ∷ []
+unfolding own_segments empty_slots rounds
+big_is = refl
+
+pub the_big_endian_one_is_missing : AreOfRounds (host_in Big) (library_of_used_big ∷ []) (demo_segment ∷ using_segment ∷ []) → ⊥
+the_big_endian_one_is_missing h = let t = (subst Missing big_is h.1) 0 demo_segment (omega arith) in none_passes (λ (q : Segment). q ≡ record aux_segment { code = put_at 22 (3 ∷ []) (util_code Big) }) (demo_segment ∷ using_segment ∷ []) (λ e. let s : 1 ≡ 8 = ap (λ (x : Segment). x.slot) e in omega (arith, s), (λ e. let s : 7 ≡ 8 = ap (λ (x : Segment). x.slot) e in omega (arith, s), tt)) t.0 t.1 t.2 t.3
+  where
+    Missing : List Segment → Type 0
+    Missing more = All (λ s. SomeItem (demo_segment ∷ using_segment ∷ []) (λ k q. q ≡ s)) more
 
 -- files
 pub a_plain_one_of_a_library : AreInPlace (demo_segment ∷ util_segment ∷ (record tools_segment { file = 1 }) ∷ []) → ⊥

@@ -6,8 +6,8 @@ use Rattle.std.specs.Str.{bytes_eq}
 use Rattle.std.proofs.lemmas.Bool.{cases_lt, false≢true}
 use Rattle.std.proofs.lemmas.Bool.Decides.{Decides-eqb}
 use Rattle.std.proofs.lemmas.Slice.Eq.{bytes_eq-Decides}
-use Rattle.ps_codefile.specs.Dictionary.{entry_at, is_filled}
-use Rattle.ps_examples.specs.Files.{host, library, host_with_tools, put_at, util, aux, tools, util_code}
+use Rattle.ps_codefile.specs.Dictionary.{entry_at, is_filled, information_of}
+use Rattle.ps_examples.specs.Files.{host, library, host_with_tools, host_without_7, library_of_the_last, put_at, with_slot, util, aux, tools, util_code}
 use Rattle.ps_resolve.specs.Added.{empty_slots, rounds, segments}
 use Rattle.ps_resolve.specs.Standing.Slots.{HasRole}
 use Rattle.ps_resolve.specs.Standing.Sources.{IsNamed, HasEntry}
@@ -16,6 +16,8 @@ use Rattle.ps_examples.specs.Segments.{demo_segment, util_segment, using_segment
 use Rattle.ps_resolve.specs.Sources.{Segment, own_segments}
 use Rattle.ps_resolve.specs.Sought.{HasSlot}
 use Rattle.ps_resolve.specs.Origins.{IsTaken, HasOne, IsOwn, IsAddedUnit, IsFile, IsInPlace, IsUnitOf, IsSliceOf, IsRead}
+use Rattle.ps_linkinfo.specs.Records.{Spells}
+use Rattle.ps_words.specs.declared.order.Order.{Order}
 use Rattle.ps_words.specs.declared.order.Order.TheVariants.{Little}
 
 pub an_added_unit_s_segments : three ≡ demo_segment ∷ using_segment ∷ aux_segment ∷ []
@@ -47,11 +49,11 @@ fails (suc n) test none i h = elim (cases_lt i n) [
     here false e = refl
 
 -- the only filled entry of a name
-abbrev other_entry : List ℕ → List ℕ → ℕ → ℕ → Bool
-other_entry name file i k = is_filled (entry_at Little file k) && (bytes_eq (entry_at Little file k).name name && not (k == i))
+abbrev other_entry : Order → List ℕ → List ℕ → ℕ → ℕ → Bool
+other_entry order name file i k = is_filled (entry_at order file k) && (bytes_eq (entry_at order file k).name name && not (k == i))
 
-pub only_entry : (name file : List ℕ) (i : ℕ) → any_below 16 (other_entry name file i) ≡ false → (k : ℕ) → k < 16 → IsNamed Little name file k → k ≡ i
-only_entry name file i all k h n = go (k == i) (Decides-eqb k i) (fails 16 (other_entry name file i) all k h)
+pub only_entry : (order : Order) (name file : List ℕ) (i : ℕ) → any_below 16 (other_entry order name file i) ≡ false → (k : ℕ) → k < 16 → IsNamed order name file k → k ≡ i
+only_entry order name file i all k h n = go (k == i) (Decides-eqb k i) (fails 16 (other_entry order name file i) all k h)
   where
     test : (a b c : Bool) → a ≡ true → b ≡ true → (a && (b && not c)) ≡ false → c ≡ true
     test true true true p q e = refl
@@ -59,8 +61,8 @@ only_entry name file i all k h n = go (k == i) (Decides-eqb k i) (fails 16 (othe
     test true false c p q e = absurd (cc)
     test false b c p q e = absurd (cc)
 
-    go : (b : Bool) → Decides b (k ≡ i) → (is_filled (entry_at Little file k) && (bytes_eq (entry_at Little file k).name name && not b)) ≡ false → k ≡ i
-    go b d e = d.0 (test (is_filled (entry_at Little file k)) (bytes_eq (entry_at Little file k).name name) b n.0 ((bytes_eq-Decides (entry_at Little file k).name name).1 n.1) e)
+    go : (b : Bool) → Decides b (k ≡ i) → (is_filled (entry_at order file k) && (bytes_eq (entry_at order file k).name name && not b)) ≡ false → k ≡ i
+    go b d e = d.0 (test (is_filled (entry_at order file k)) (bytes_eq (entry_at order file k).name name) b n.0 ((bytes_eq-Decides (entry_at order file k).name name).1 n.1) e)
 
 -- no entry of a name
 pub no_entry : (name file : List ℕ) → any_below 16 (λ k. is_filled (entry_at Little file k) && bytes_eq (entry_at Little file k).name name) ≡ false → HasEntry Little name file → ⊥
@@ -105,7 +107,7 @@ in_the_library = record {
   first = λ lesser other low lt is has. omega (arith, low, lt);
   within = omega arith;
   entry = (refl, refl);
-  only = only_entry util library 2 refl;
+  only = only_entry Little util library 2 refl;
   kind = refl;
 }
 
@@ -117,7 +119,7 @@ in_the_second = record {
   first = before;
   within = omega arith;
   entry = (refl, refl);
-  only = only_entry util library 2 refl;
+  only = only_entry Little util library 2 refl;
   kind = refl;
 }
   where
@@ -127,6 +129,43 @@ in_the_second = record {
         no_entry util (put_at 80 aux library) refl
         (subst (λ (f : List ℕ). HasEntry Little util f) (sym (same (put_at 80 aux library) other is)) has)
     before (suc (suc k)) other low lt is has = omega (arith, lt)
+
+pub not_in_the_host_that_has_the_name : IsUnitOf Little (with_slot Little 8 util 0 1 18 host) (library ∷ []) util 1 2
+not_in_the_host_that_has_the_name = record {
+  library = library;
+  file = refl;
+  beside = omega arith;
+  first = λ lesser other low lt is has. omega (arith, low, lt);
+  within = omega arith;
+  entry = (refl, refl);
+  only = only_entry Little util library 2 refl;
+  kind = refl;
+}
+
+-- what would be entry 17 has the name too
+pub the_only_one_of_sixteen : IsUnitOf Little host (put_at 200 util library ∷ []) util 1 2
+the_only_one_of_sixteen = record {
+  library = put_at 200 util library;
+  file = refl;
+  beside = omega arith;
+  first = λ lesser other low lt is has. omega (arith, low, lt);
+  within = omega arith;
+  entry = (refl, refl);
+  only = only_entry Little util (put_at 200 util library) 2 refl;
+  kind = refl;
+}
+
+pub in_the_last_entry : IsUnitOf Little host (library_of_the_last ∷ []) util 1 15
+in_the_last_entry = record {
+  library = library_of_the_last;
+  file = refl;
+  beside = omega arith;
+  first = λ lesser other low lt is has. omega (arith, low, lt);
+  within = omega arith;
+  entry = (refl, refl);
+  only = only_entry Little util library_of_the_last 15 refl;
+  kind = refl;
+}
 
 pub its_slice : IsSliceOf library (entry_at Little library 2) (util_code Little)
 its_slice = (leb-true 536 1536 refl, refl)
@@ -145,6 +184,19 @@ read_from_the_host = record {
   unread = λ h. absurd (cc);
 }
 
+-- the records of UTIL
+spelled : Spells Little (information_of library (entry_at Little library 2)) util_segment.records
+spelled = record {
+  spelled = (
+    record { whole = leb-true 32 512 refl; name = refl; body = (refl, refl, refl) },
+    (
+      record { whole = leb-true 32 480 refl; name = refl; body = (refl, refl, refl, refl) },
+      (record { whole = leb-true 16 448 refl; name = refl; body = (refl, refl) }, tt),
+    ),
+  );
+  ends = (refl, (refl, refl));
+}
+
 pub read_from_the_library : IsRead Little host (library ∷ []) util_segment
 read_from_the_library = record {
   source = library;
@@ -152,16 +204,18 @@ read_from_the_library = record {
   within = omega arith;
   code = refl;
   slice = its_slice;
-  records = λ h. record {
-    spelled = (
-      record { whole = leb-true 32 512 refl; name = refl; body = (refl, refl, refl) },
-      (
-        record { whole = leb-true 32 480 refl; name = refl; body = (refl, refl, refl, refl) },
-        (record { whole = leb-true 16 448 refl; name = refl; body = (refl, refl) }, tt),
-      ),
-    );
-    ends = (refl, (refl, refl));
-  };
+  records = λ h. spelled;
+  unread = λ h. absurd (cc);
+}
+
+pub read_from_the_last_entry : IsRead Little host (library_of_the_last ∷ []) (record util_segment { index = 15 })
+read_from_the_last_entry = record {
+  source = library_of_the_last;
+  file = refl;
+  within = omega arith;
+  code = refl;
+  slice = (leb-true 536 1536 refl, refl);
+  records = λ h. spelled;
   unread = λ h. absurd (cc);
 }
 
@@ -177,8 +231,8 @@ a_plain_one_is_not_read = record {
 }
 
 -- AUX
-no_slot_has : (name : List ℕ) → any_below 16 (λ k. bytes_eq (entry_at Little host k).name name) ≡ false → HasSlot Little host name → ⊥
-no_slot_has name all t = false≢true (sym (fails 16 (λ k. bytes_eq (entry_at Little host k).name name) all t.0 t.1) ∙ (bytes_eq-Decides (entry_at Little host t.0).name name).1 t.2.1)
+no_slot_has : (file name : List ℕ) → any_below 16 (λ k. bytes_eq (entry_at Little file k).name name) ≡ false → HasSlot Little file name → ⊥
+no_slot_has file name all t = false≢true (sym (fails 16 (λ k. bytes_eq (entry_at Little file k).name name) all t.0 t.1) ∙ (bytes_eq-Decides (entry_at Little file t.0).name name).1 t.2.1)
 
 pub an_added_unit : IsAddedUnit Little host three aux_segment
 unfolding own_segments empty_slots rounds segments
@@ -189,7 +243,7 @@ an_added_unit = record {
   role = refl;
   asked = (1, using_segment, refl, (inl refl, (0, _, refl, (refl, refl))));
   named = refl;
-  free = no_slot_has aux refl;
+  free = no_slot_has host aux refl;
 }
   where
     wanted : (slot : ℕ) → slot ≡ 7 → HasRole Little host slot role.Empty → ⊥
@@ -203,7 +257,7 @@ a_unit_that_an_added_one_names = record {
   role = refl;
   asked = (1, naming_segment, refl, (inr (omega arith), (0, _, refl, (refl, refl))));
   named = refl;
-  free = no_slot_has tools refl;
+  free = no_slot_has host tools refl;
 }
   where
     is_wanted : (slot : ℕ) → slot ≡ 7 → HasRole Little host slot role.Empty → ⊥
@@ -214,3 +268,14 @@ a_unit_that_an_added_one_names = record {
       | inl l ↦ absurd (is_wanted slot (omega (arith, low, l)) has)
       | inr l ↦ (1, naming_segment, refl, omega (arith, l, lt))
     ]
+
+pub an_added_unit_in_slot_7 : IsAddedUnit Little host_without_7 ((record using_segment { slot = 9 }) ∷ (record aux_segment { slot = 7 }) ∷ []) (record aux_segment { slot = 7 })
+an_added_unit_in_slot_7 = record {
+  empty = refl;
+  low = omega arith;
+  next = λ slot low lt has. absurd (omega (arith, low, lt));
+  role = refl;
+  asked = (0, record using_segment { slot = 9 }, refl, (inl refl, (0, _, refl, (refl, refl))));
+  named = refl;
+  free = no_slot_has host_without_7 aux refl;
+}

@@ -1,5 +1,5 @@
 -- What is said of all segments of the small links, computed.
-use Rattle.std.proofs.Common.{◌≡◌, ℕ, zero, suc, ◌<◌, List, [], ◌∷◌, Some, Result, Ok, Err, Bool, true, false, refl, sym, ap, subst, ◌∙◌, arith}
+use Rattle.std.proofs.Common.{◌≡◌, ℕ, zero, suc, ◌<◌, List, [], ◌∷◌, Some, Result, Ok, Err, Bool, true, false, refl, sym, ap, subst, ◌∙◌, arith, leb-true}
 use Rattle.std.specs.Prelude.{◌≢◌, ◌==◌, ◌&&◌, ◌||◌, not, slice_get, All}
 use Rattle.std.proofs.lemmas.Bool.{true≢false}
 use Rattle.std.proofs.lemmas.Bool.Decides.{Decides-eqb}
@@ -7,7 +7,7 @@ use Rattle.std.proofs.lemmas.List.Elements.{All-from_recursion}
 use Rattle.ps_codefile.specs.declared.entry.Role.{Role}
 use Rattle.ps_codefile.specs.declared.entry.Role.TheVariants as role
 use Rattle.ps_codefile.specs.Dictionary.{entry_at, role_of}
-use Rattle.ps_examples.specs.Files.{host, library, library_of_used, util_information, util, aux}
+use Rattle.ps_examples.specs.Files.{host, library, host_in, library_in, library_of_used, util_information, util, aux, util_code}
 use Rattle.ps_examples.specs.Segments.{demo_segment, util_segment, using_segment, aux_segment, tools_segment, pair, three, with_plain}
 use Rattle.ps_examples.proofs.ByteFacts.{same, segments_are}
 use Rattle.ps_examples.proofs.SegmentOrigins.{fails, only_entry, an_added_unit_s_segments, a_plain_segment_s, a_slot_has_one, an_added_unit, read_from_the_host, read_from_the_library}
@@ -16,7 +16,7 @@ use Rattle.ps_resolve.specs.Origins.{HasOne, IsOwn, IsAddedUnit, IsInPlace, IsUn
 use Rattle.ps_resolve.specs.Sources.{Segment, own_segments, is_empty}
 use Rattle.ps_resolve.specs.Standing.Phrases.{SomeItem}
 use Rattle.ps_resolve.specs.Standing.Sources.{IsNamed}
-use Rattle.ps_words.specs.declared.order.Order.TheVariants.{Little}
+use Rattle.ps_words.specs.declared.order.Order.TheVariants.{Little, Big}
 use Rattle.ps_words.specs.declared.fault.Reason.{Reason}
 
 -- the libraries of the added unit
@@ -106,7 +106,7 @@ two_in_place = subst (λ (segs : List Segment). AreInPlace segs) (sym a_plain_se
 pub two_of_libraries : AreOfLibraries host used three
 two_of_libraries = subst (λ (segs : List Segment). AreOfLibraries host used segs) (sym an_added_unit_s_segments)
     (All-from_recursion (λ (s : Segment). s.role ≡ role.Wanted → IsUnitOf Little host used s.name s.file s.index) (demo_segment ∷ using_segment ∷ aux_segment ∷ [])
-    (λ h. absurd (cc), (λ h. entry_of util 2 (omega arith) (refl, refl) (only_entry util (library_of_used (util_information Little)) 2 refl) refl, (λ h. entry_of aux 3 (omega arith) (refl, refl) (only_entry aux (library_of_used (util_information Little)) 3 refl) refl, tt))))
+    (λ h. absurd (cc), (λ h. entry_of util 2 (omega arith) (refl, refl) (only_entry Little util (library_of_used (util_information Little)) 2 refl) refl, (λ h. entry_of aux 3 (omega arith) (refl, refl) (only_entry Little aux (library_of_used (util_information Little)) 3 refl) refl, tt))))
   where
     entry_of : (name : List ℕ) (i : ℕ) → i < 16 → IsNamed Little name (library_of_used (util_information Little)) i → ((other : ℕ) → other < 16 → IsNamed Little name (library_of_used (util_information Little)) other → other ≡ i) → (entry_at Little (library_of_used (util_information Little)) i).kind ≡ 3 → IsUnitOf Little host used name 1 i
     entry_of name i within entry only kind = record {
@@ -123,3 +123,56 @@ two_of_libraries = subst (λ (segs : List Segment). AreOfLibraries host used seg
 pub read_from_two_files : AreRead host (library ∷ []) pair
 read_from_two_files = subst (λ (segs : List Segment). AreRead host (library ∷ []) segs) (sym segments_are)
     (All-from_recursion (λ (s : Segment). IsRead Little host (library ∷ []) s) (demo_segment ∷ util_segment ∷ []) (read_from_the_host, (read_from_the_library, tt)))
+
+-- the last slot
+pub in_slot_15 : AreBySlot ((record util_segment { slot = 15 }) ∷ [])
+in_slot_15 = (rise, All-from_recursion (λ (s : Segment). s.slot < 16) ((record util_segment { slot = 15 }) ∷ []) (omega arith, tt))
+  where
+    rise : (i j : ℕ) (s q : Segment) → i < j → slice_get ((record util_segment { slot = 15 }) ∷ []) i ≡ Some s → slice_get ((record util_segment { slot = 15 }) ∷ []) j ≡ Some q → s.slot < q.slot
+    rise i zero s q lt e f = absurd (omega (arith, lt))
+    rise i (suc j) s q lt e f = absurd (cc)
+
+-- big-endian
+pub the_same_big_endian : AreOwn (host_in Big) pair
+the_same_big_endian = subst (λ (segs : List Segment). AreOwn (host_in Big) segs) (sym segments_are)
+    (All-from_recursion (λ (s : Segment). s.added ≡ false → IsOwn Big (host_in Big) s) (demo_segment ∷ util_segment ∷ [])
+    (λ h. record { role = refl; filled = λ e. cc; name = refl }, (λ h. record { role = refl; filled = λ e. cc; name = refl }, tt)))
+
+pub one_of_a_big_endian_library : AreOfLibraries (host_in Big) (library_in Big ∷ []) pair
+one_of_a_big_endian_library = subst (λ (segs : List Segment). AreOfLibraries (host_in Big) (library_in Big ∷ []) segs) (sym segments_are)
+    (All-from_recursion (λ (s : Segment). s.role ≡ role.Wanted → IsUnitOf Big (host_in Big) (library_in Big ∷ []) s.name s.file s.index) (demo_segment ∷ util_segment ∷ []) (λ h. absurd (cc), (λ h. util_is, tt)))
+  where
+    util_is : IsUnitOf Big (host_in Big) (library_in Big ∷ []) util 1 2
+    util_is = record {
+      library = library_in Big;
+      file = refl;
+      beside = omega arith;
+      first = λ lesser other low lt is has. omega (arith, low, lt);
+      within = omega arith;
+      entry = (refl, refl);
+      only = only_entry Big util (library_in Big) 2 refl;
+      kind = refl;
+    }
+
+pub read_from_a_big_endian_library : AreRead (host_in Big) (library_in Big ∷ []) ((record util_segment { code = util_code Big }) ∷ [])
+read_from_a_big_endian_library = All-from_recursion (λ (s : Segment). IsRead Big (host_in Big) (library_in Big ∷ []) s) ((record util_segment { code = util_code Big }) ∷ []) (of_util, tt)
+  where
+    of_util : IsRead Big (host_in Big) (library_in Big ∷ []) (record util_segment { code = util_code Big })
+    of_util = record {
+      source = library_in Big;
+      file = refl;
+      within = omega arith;
+      code = refl;
+      slice = (leb-true 536 1536 refl, refl);
+      records = λ h. record {
+        spelled = (
+          record { whole = leb-true 32 512 refl; name = refl; body = (refl, refl, refl) },
+          (
+            record { whole = leb-true 32 480 refl; name = refl; body = (refl, refl, refl, refl) },
+            (record { whole = leb-true 16 448 refl; name = refl; body = (refl, refl) }, tt),
+          ),
+        );
+        ends = (refl, (refl, refl));
+      };
+      unread = λ h. absurd (cc);
+    }

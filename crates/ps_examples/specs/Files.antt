@@ -125,6 +125,14 @@ host = host_in Little
 abbrev pub library : List ℕ
 library = library_in Little
 
+-- the library with UTIL in its last slot
+abbrev pub library_of_the_last : List ℕ
+library_of_the_last = with_slot Little 15 util 3 1 24 (with_slot Little 2 blank 0 0 0 library)
+
+-- the host whose slot 7 is empty, and which wants UTIL in slot 9
+abbrev pub host_without_7 : List ℕ
+host_without_7 = with_slot Little 7 blank 0 0 0 (with_slot Little 9 util 3 0 0 host)
+
 -- the library with bytes behind its kinds and behind its pairs that look like an entry 16 of UTIL's code
 abbrev pub library_past_the_last : List ℕ
 library_past_the_last = put_at 64 (1 ∷ 0 ∷ 24 ∷ 0 ∷ []) (put_at 224 (3 ∷ []) library)
@@ -169,6 +177,11 @@ library_of_two_blocks information =
 -- a library whose UTIL names AUX alone, which has this link information
 abbrev pub library_of_used : List ℕ → List ℕ
 library_of_used information = with_aux aux_code information (library_with Little (unit_ref Little aux (2 ∷ []) ++ eof_mark Little 0))
+
+-- the same, big-endian
+abbrev pub library_of_used_big : List ℕ
+library_of_used_big =
+    with_slot Big 3 aux 3 3 24 (library_with Big (unit_ref Big aux (2 ∷ []) ++ eof_mark Big 0)) ++ filled_to 512 (put_at 22 (3 ∷ []) (util_code Big)) ++ filled_to 512 (util_information Big)
 
 -- the host whose slots from 8 on, n of them, have a segment that is linked already, without a name: the same five bytes in block 3
 abbrev pub filled_host : ℕ → List ℕ

@@ -71,6 +71,10 @@ aux_segment = record {
 abbrev pub self_segment : Segment
 self_segment = record aux_segment { records = aux_reference ∷ [] }
 
+-- UTIL that names itself
+abbrev pub again_segment : Segment
+again_segment = record util_segment { records = record { name = util; body = UnitRef (2 ∷ []) } ∷ [] }
+
 -- AUX under a name that nothing asks for
 abbrev pub nobody_segment : Segment
 nobody_segment = record aux_segment { name = nobody }
@@ -115,6 +119,20 @@ with_two_units = segments_of (wanting_aux host) (library_of_two ∷ [])
 -- UTIL with an operand at 1 whose displacement is 256
 abbrev pub displaced_segment : Segment
 displaced_segment = record util_segment { code = put_at 1 (129 ∷ []) (util_code Little) }
+
+-- UTIL with two records whose operands meet at 2, with one whose two do, and with one that has its operand at the number of the slot
+abbrev pub meeting_segment : Segment
+meeting_segment = record util_segment { records = count_reference ∷ aux_reference ∷ [] }
+
+abbrev pub twice_segment : Segment
+twice_segment = record util_segment { records = record { name = count; body = PublRef (1 ∷ 2 ∷ []) } ∷ [] }
+
+abbrev pub numbered_segment : Segment
+numbered_segment = record util_segment { records = record { name = aux; body = UnitRef (22 ∷ []) } ∷ [] }
+
+-- the host's segment with an operand at the data size
+abbrev pub sized_segment : Segment
+sized_segment = record demo_segment { records = record { name = count; body = PublRef (4 ∷ []) } ∷ [] }
 
 -- AUX past the slot that is empty
 abbrev pub past_segment : Segment

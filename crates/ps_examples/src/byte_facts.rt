@@ -1,21 +1,24 @@
 ghost use Rattle.std.specs.Prelude.{◌≡◌, ℕ, List, [], ◌∷◌};
 ghost use Rattle.ps_examples.specs.Files.{blank, util, aux, tools, count, state, nobody};
+ghost use Rattle.ps_examples.specs.Files.{demo_code};
 ghost use Rattle.ps_examples.specs.Segments.{state_reference, demo_segment, util_segment};
 ghost use Rattle.ps_examples.specs.Segments.{using_segment, tools_segment, displaced_segment};
 ghost use Rattle.ps_examples.specs.Segments.{pair, three, with_plain, with_two_privates};
 ghost use Rattle.ps_examples.specs.Segments.{with_two_units, with_constant, with_unused};
+ghost use Rattle.ps_examples.specs.Segments.{meeting_segment, twice_segment};
+ghost use Rattle.ps_examples.specs.Segments.{numbered_segment, sized_segment};
 ghost use Rattle.ps_linkinfo.specs.declared.record.Body.TheVariants.{UnitRef, PublRef, PrivRef};
 ghost use Rattle.ps_linkinfo.specs.declared.record.Body.TheVariants.{PublDef, ConstDef, Eof};
 ghost use Rattle.ps_resolve.specs.Standing.Privates.{private_offset};
 ghost use Rattle.ps_resolve.specs.LinkedBytes.{Reaches, Becomes};
 ghost use Rattle.ps_resolve.specs.LinkedBytes.{IsSlotOf, IsPublic, IsBase, all_private_words};
 ghost use Rattle.ps_resolve.specs.LinkedBytes.{IsNumberPlace, IsSizePlace};
-ghost use Rattle.ps_resolve.specs.LinkedBytes.{IsLinkedByte};
-ghost use Rattle.ps_words.specs.declared.order.Order.TheVariants.{Little};
+ghost use Rattle.ps_resolve.specs.LinkedBytes.{IsLinkedByte, IsOnePlace};
+ghost use Rattle.ps_words.specs.declared.order.Order.TheVariants.{Little, Big};
 
 /// The facts of linked bytes on a host and its library: which segments there are, what their
 /// references become, and of each kind of place a byte: of a reference's operand, of the number
-/// of a slot, of the data size, and one that is kept.
+/// of a slot, of the data size, and one that is kept; and a place of one reference alone.
 pub fn facts_of_bytes()
     ensures segments { pair ≡ demo_segment ∷ util_segment ∷ [] }
     ensures a_private { private_offset pair 7 1 ≡ 8 }
@@ -40,11 +43,15 @@ pub fn facts_of_bytes()
     ensures a_number { IsLinkedByte Little pair util_segment 22 7 }
     ensures a_size_byte { IsLinkedByte Little pair demo_segment 4 18 }
     ensures its_second_byte { IsLinkedByte Little pair demo_segment 5 0 }
+    ensures a_size_byte_of_a_big_endian_host { IsLinkedByte Big
+        pair (record demo_segment { code = demo_code Big }) 5 18 }
     ensures a_kept_byte { IsLinkedByte Little pair util_segment 0 165 }
+    ensures a_place_of_one_reference { IsOnePlace Little util_segment 2 }
 {}
 
 /// What is not said of linked bytes: no other byte stands at a place of each kind, and what is no
-/// number's place, no data size, no unit of a name and no value of one.
+/// number's place, no data size, no base offset, no unit of a name, no value of one, and no place
+/// of one reference alone.
 pub fn bytes_that_are_not_linked()
     ensures not_the_input_s_operand { IsLinkedByte Little pair util_segment 2 0 → ⊥ }
     ensures not_the_input_s_number { IsLinkedByte Little pair util_segment 22 2 → ⊥ }
@@ -71,4 +78,8 @@ pub fn bytes_that_are_not_linked()
     ensures a_constant_is_not_public { IsPublic with_constant count 3 → ⊥ }
     ensures not_the_value_of_another_name { IsPublic pair state 3 → ⊥ }
     ensures a_unit_defines_nothing { IsPublic with_unused state 9 → ⊥ }
+    ensures a_place_of_two_records { IsOnePlace Little meeting_segment 2 → ⊥ }
+    ensures a_place_twice_of_a_record { IsOnePlace Little twice_segment 2 → ⊥ }
+    ensures a_reference_at_the_number { IsOnePlace Little numbered_segment 22 → ⊥ }
+    ensures a_reference_at_the_data_size { IsOnePlace Little sized_segment 4 → ⊥ }
 {}

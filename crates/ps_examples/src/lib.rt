@@ -2,6 +2,7 @@
 #![tactic(auto)]
 
 mod added_units;
+mod builders;
 mod byte_facts;
 mod libraries;
 mod linked_files;
@@ -24,6 +25,7 @@ mod texts;
 mod whole_links;
 
 pub use added_units::{order_of_added_units, units_that_are_added};
+pub use builders::{facts_of_builders, what_no_builder_does};
 pub use byte_facts::{bytes_that_are_not_linked, facts_of_bytes};
 pub use libraries::choice_of_libraries;
 pub use linked_files::{linked_bytes, more_linked_bytes};

@@ -2,7 +2,8 @@ ghost use Rattle.std.specs.Prelude.{◌≡◌, ℕ, List, [], ◌∷◌, take};
 ghost use Rattle.ps_codefile.specs.Dictionary.{entry_at};
 ghost use Rattle.ps_codefile.specs.declared.entry.Role.TheVariants as role;
 ghost use Rattle.ps_examples.specs.Files.{host, library, host_with_tools, put_at, with_slot};
-ghost use Rattle.ps_examples.specs.Files.{blank, util, aux, util_code, library_past_the_last};
+ghost use Rattle.ps_examples.specs.Files.{blank, util, aux, util_code, host_without_7};
+ghost use Rattle.ps_examples.specs.Files.{library_of_the_last, library_past_the_last};
 ghost use Rattle.ps_examples.specs.Segments.{demo_segment, util_segment, using_segment};
 ghost use Rattle.ps_examples.specs.Segments.{aux_segment, self_segment, count_segment};
 ghost use Rattle.ps_examples.specs.Segments.{past_segment, tools_segment, nobody_segment};
@@ -26,12 +27,21 @@ pub fn origins_of_segments()
     ensures an_added_unit { IsAddedUnit Little host three aux_segment }
     ensures a_unit_that_an_added_one_names { IsAddedUnit Little host
         (using_segment ∷ naming_segment ∷ named_segment ∷ []) named_segment }
+    ensures an_added_unit_in_slot_7 { IsAddedUnit Little host_without_7 ((record using_segment
+        { slot = 9 }) ∷ (record aux_segment { slot = 7 }) ∷ []) (record aux_segment { slot = 7 }) }
     ensures in_place { IsInPlace demo_segment }
     ensures in_the_library { IsUnitOf Little host (library ∷ []) util 1 2 }
     ensures in_the_second { IsUnitOf Little host (put_at 80 aux library ∷ library ∷ []) util 2 2 }
+    ensures not_in_the_host_that_has_the_name { IsUnitOf Little
+        (with_slot Little 8 util 0 1 18 host) (library ∷ []) util 1 2 }
+    ensures the_only_one_of_sixteen { IsUnitOf Little
+        host (put_at 200 util library ∷ []) util 1 2 }
+    ensures in_the_last_entry { IsUnitOf Little host (library_of_the_last ∷ []) util 1 15 }
     ensures its_slice { IsSliceOf library (entry_at Little library 2) (util_code Little) }
     ensures read_from_the_host { IsRead Little host (library ∷ []) demo_segment }
     ensures read_from_the_library { IsRead Little host (library ∷ []) util_segment }
+    ensures read_from_the_last_entry { IsRead Little host (library_of_the_last ∷ [])
+        (record util_segment { index = 15 }) }
     ensures a_plain_one_is_not_read { IsRead Little host_with_tools (library ∷ []) tools_segment }
 {}
 
@@ -51,6 +61,8 @@ pub fn segments_of_no_link()
         → IsAddedUnit Little host segs (record aux_segment { slot = 6 }) → ⊥ }
     ensures not_past_an_empty_slot { IsAddedUnit Little host
         (demo_segment ∷ using_segment ∷ past_segment ∷ []) past_segment → ⊥ }
+    ensures not_past_slot_7 { IsAddedUnit Little host_without_7
+        ((record using_segment { slot = 9 }) ∷ aux_segment ∷ []) aux_segment → ⊥ }
     ensures not_of_another_role_than_wanted { (segs : List Segment)
         → IsAddedUnit Little host segs (record aux_segment { role = role.Unit }) → ⊥ }
     ensures not_asked_for_by_itself_alone { IsAddedUnit Little host
@@ -71,7 +83,7 @@ pub fn segments_of_no_link()
     ensures not_an_entry_without_a_length { IsUnitOf Little host
         (with_slot Little 2 util 3 1 0 library ∷ []) util 1 2 → ⊥ }
     ensures not_one_of_two_entries { IsUnitOf Little host
-        (with_slot Little 3 util 3 1 24 library ∷ []) util 1 2 → ⊥ }
+        (with_slot Little 15 util 3 1 24 library ∷ []) util 1 2 → ⊥ }
     ensures not_an_entry_of_another_kind { IsUnitOf Little host
         (put_at 196 (5 ∷ []) library ∷ []) util 1 2 → ⊥ }
     ensures not_in_a_file_that_is_not_there { IsUnitOf Little host

@@ -1,29 +1,41 @@
 ghost use Rattle.std.specs.Prelude.{[], ◌∷◌, false};
-ghost use Rattle.ps_examples.specs.Files.{host, library, library_of_used, util_information};
+ghost use Rattle.ps_examples.specs.Files.{host, library, host_in, library_in, library_of_used};
+ghost use Rattle.ps_examples.specs.Files.{library_of_used_big, util_information, with_slot};
+ghost use Rattle.ps_examples.specs.Files.{util, tools, util_code};
 ghost use Rattle.ps_examples.specs.Segments.{demo_segment, util_segment, using_segment};
-ghost use Rattle.ps_examples.specs.Segments.{aux_segment, past_segment, tools_segment};
-ghost use Rattle.ps_examples.specs.Segments.{pair, three, with_plain};
+ghost use Rattle.ps_examples.specs.Segments.{aux_segment, past_segment, again_segment};
+ghost use Rattle.ps_examples.specs.Segments.{tools_segment, pair, three, with_plain};
 ghost use Rattle.ps_resolve.specs.Origins.{HaveOneEach, AreBySlot, AreOwn, AreAdded};
 ghost use Rattle.ps_resolve.specs.Origins.{AreOfRounds, AreInPlace, AreOfLibraries, AreRead};
-ghost use Rattle.ps_words.specs.declared.order.Order.TheVariants.{Little};
+ghost use Rattle.ps_words.specs.declared.order.Order.TheVariants.{Little, Big};
 
 /// What is said of all segments of a link, on a host and its libraries.
 pub fn facts_of_all_segments()
     ensures a_segment_for_each_slot { HaveOneEach host pair }
     ensures by_slot { AreBySlot pair }
+    ensures in_slot_15 { AreBySlot ((record util_segment { slot = 15 }) ∷ []) }
     ensures the_host_s_own { AreOwn host three }
+    ensures the_same_big_endian { AreOwn (host_in Big) pair }
     ensures the_added_one { AreAdded host three }
     ensures the_rounds_have_it { AreOfRounds host
         (library_of_used (util_information Little) ∷ []) three }
     ensures two_in_place { AreInPlace with_plain }
     ensures two_of_libraries { AreOfLibraries host
         (library_of_used (util_information Little) ∷ []) three }
+    ensures one_of_a_big_endian_library { AreOfLibraries (host_in Big) (library_in Big ∷ []) pair }
     ensures read_from_two_files { AreRead host (library ∷ []) pair }
+    ensures read_from_a_big_endian_library { AreRead (host_in Big) (library_in Big ∷ [])
+        ((record util_segment { code = util_code Big }) ∷ []) }
 {}
 
 /// Lists of segments that are not those of a link.
 pub fn lists_of_no_link()
     ensures a_segment_is_missing { HaveOneEach host (demo_segment ∷ []) → ⊥ }
+    ensures a_big_endian_one_is_missing { HaveOneEach (host_in Big) (demo_segment ∷ []) → ⊥ }
+    ensures the_first_slot_s_is_missing { HaveOneEach
+        (with_slot Little 0 tools 0 1 18 host) (demo_segment ∷ util_segment ∷ []) → ⊥ }
+    ensures the_last_slot_s_is_missing { HaveOneEach
+        (with_slot Little 15 tools 0 1 18 host) (demo_segment ∷ util_segment ∷ []) → ⊥ }
     ensures a_segment_is_there_twice { HaveOneEach host
         (demo_segment ∷ util_segment ∷ util_segment ∷ []) → ⊥ }
     ensures turned_round { AreBySlot (util_segment ∷ demo_segment ∷ []) → ⊥ }
@@ -34,12 +46,16 @@ pub fn lists_of_no_link()
         (demo_segment ∷ util_segment ∷ (record aux_segment { added = false }) ∷ []) → ⊥ }
     ensures one_is_added_that_nothing_names { AreAdded host
         (demo_segment ∷ util_segment ∷ aux_segment ∷ []) → ⊥ }
+    ensures one_is_added_of_a_name_that_the_host_has { AreAdded (host_in Big)
+        (again_segment ∷ (record aux_segment { name = util }) ∷ []) → ⊥ }
     ensures one_is_added_in_no_round { AreOfRounds host
         (library_of_used (util_information Little) ∷ [])
         (demo_segment ∷ using_segment ∷ aux_segment ∷ past_segment ∷ []) → ⊥ }
     ensures the_added_one_is_missing { AreOfRounds host
         (library_of_used (util_information Little) ∷ [])
         (demo_segment ∷ using_segment ∷ (record aux_segment { added = false }) ∷ []) → ⊥ }
+    ensures the_big_endian_one_is_missing { AreOfRounds (host_in Big)
+        (library_of_used_big ∷ []) (demo_segment ∷ using_segment ∷ []) → ⊥ }
     ensures a_plain_one_of_a_library { AreInPlace
         (demo_segment ∷ util_segment ∷ (record tools_segment { file = 1 }) ∷ []) → ⊥ }
     ensures an_added_one_of_another_entry { AreOfLibraries host
