@@ -18,7 +18,8 @@ use std::marker::Model;
 /// The last offset that may be free behind a private, in words.
 const MAX_NEXT_FREE: usize = 32767;
 
-/// A private variable of a segment, which its PRIVREF record asks for.
+/// A private variable of a segment, which its PRIVREF record asks for. A link may have millions, so
+/// its fields stand by their widths, and it takes twenty bytes.
 ///
 /// Source: the published II.0 Linker source, the link record PRIVREF.
 #[derive(Clone, Copy, Debug, PartialEq, Eq)]
@@ -46,7 +47,7 @@ fn words_of_private(body: &Body) -> Option<u16>
     }
 }
 
-/// The index of a record, which takes four bytes: more records than those are not held in memory.
+/// The index of a record in four bytes. Memory for more records than that is not to be had.
 fn narrow(rec: usize) -> Result<u32, Stop>
     ensures value { IfOk result (λ n. n ≡ rec) }
     ensures stop { IfErr result (λ stop. stop ≡ Memory) }
