@@ -2,6 +2,7 @@ pub mod Searches
 pub mod Sources
 pub mod Symbols
 pub mod Stops
+pub mod ByName
 pub mod Places
 pub mod Operands
 pub mod Marks

@@ -1,18 +1,21 @@
-ghost use Rattle.std.specs.Prelude.{◌≡◌, ◌<◌, ◌==◌, ◌∷◌, [], length, slice_get, Some, None, IfOk, IfErr};
+ghost use Rattle.std.specs.Prelude.{◌≡◌, ◌<◌, ◌^◌, ◌==◌, ◌∷◌, [], All, length, slice_get, Some, None, IfOk, IfErr, MatchOption};
+ghost use Rattle.std.specs.Bool.{MatchBool};
+ghost use Rattle.std.specs.Int.{w64, to_be_bytes};
+ghost use Rattle.std.specs.List.Sorted.{IsNonDecreasingBy};
 ghost use Rattle.indexmap.specs.IndexMap.{hasher_of};
-ghost use Rattle.ps_linkinfo.specs.Counts.{digest_of};
+ghost use Rattle.ps_linkinfo.specs.Counts.{definitions_in, digest_of, is_definition};
 ghost use Rattle.ps_linkinfo.specs.Records.{reading};
+ghost use Rattle.ps_resolve.specs.ByName.{number, ranked as ranked_spec, AreByName, HasTwins, IsOrder, NamesRise};
 ghost use Rattle.ps_resolve.specs.Symbols.{definitions, definition_of, def_in, doubled};
 ghost use Rattle.ps_resolve.specs.Stops.{IsDoubled};
 ghost use Rattle.ps_resolve.specs.Builders.{HaveNoNamesakes, StopsDefinitions};
-ghost use Rattle.ps_linkinfo.specs.Counts.{is_definition};
 
 use crate::linkage::{Linkage, Stop};
 use crate::name_hasher::NameHasher;
 use indexmap::IndexMap;
 use ps_linkinfo::{Body, LinkInformation, LinkRecord};
 use ps_words::{Fault, Name, Reason};
-use std::alloc::{Allocator, Global};
+use std::alloc::{AllocError, Allocator, Global};
 use std::marker::Model;
 
 /// What a definition of the host's segment is of.
@@ -35,22 +38,39 @@ pub struct Def {
     pub value: u16,
 }
 
+/// A definition under its name, and how many definitions stand before it in the records.
+#[derive(Clone, Copy)]
+pub(crate) struct Named {
+    /// Its name.
+    pub(crate) name: Name,
+    /// What is defined.
+    pub(crate) def: Def,
+    /// Its index among the definitions, in the order of the records.
+    pub(crate) rank: u32,
+}
+
 /// The definitions of the host's segment by their names, in the order of their records.
 ///
-/// Names are looked up by a hash that is keyed by the records themselves, so no list of names can
-/// be prepared for it.
+/// A name is looked up by halving, so no list of names can be prepared for which it takes longer.
+/// A definition takes 20 bytes.
 #[derive(Drop)]
 pub struct Definitions<A: Allocator + Copy = Global> {
-    by_name: IndexMap<Name, Def, NameHasher, A>,
+    /// All of them, by name.
+    by_name: Vec<Named, A>,
+    /// Where each stands in `by_name`, in the order of the records.
+    order: Vec<u32, A>,
 }
 
 impl<A: Allocator + Copy> Model for Definitions<A> {
     ghost use Rattle.std.specs.Prelude.{List, ℕ};
+    ghost use Rattle.ps_resolve.specs.ByName.{in_order, IsTable};
     ghost use Rattle.ps_resolve.specs.declared.definitions.Def.{Def};
 
     ghost Value = { List (List ℕ × Def) };
 
-    ghost view = { λ d. d.by_name.entries };
+    ghost view = { λ d. in_order d.by_name.items d.order.items };
+
+    ghost invariant = { λ d. IsTable d.by_name.items d.order.items };
 }
 
 /// What a record defines.
@@ -70,32 +90,128 @@ fn def_of(entry: &LinkRecord) -> Option<Def>
     }
 }
 
-/// The definitions of a segment in this slot, by hashes that are keyed by their names.
-fn table_of<A: Allocator + Copy>(
+/// A name as one number, its first byte the highest.
+#[inline(always)]
+#[tactic(auto, unfolding(crate::specs::ByName::number))]
+fn number_of(name: Name) -> u64
+    ensures number { result ≡ number name }
+    ensures back { to_be_bytes w64 result ≡ name }
+{
+    u64::from_be_bytes(name)
+}
+
+/// All definitions of a segment, in the order of their records.
+fn ranked<A: Allocator + Copy>(
     alloc: A,
-    file: usize,
-    slot: u8,
     records: &LinkInformation,
-) -> Result<IndexMap<Name, Def, NameHasher, A>, Stop>
-    ensures entries { IfOk result (λ m. m.entries ≡ definitions records.now) }
-    ensures once { IfOk result (λ _. doubled records.now ≡ None) }
+) -> Result<Vec<Named, A>, AllocError>
+    requires { definitions_in records.now < 2 ^ 32 }
+    ensures { IfOk result (λ all. all.items ≡ ranked_spec 0 (definitions records.now)) }
+{
+    let mut all = Vec::with_capacity(alloc, records.definitions())?;
+    for (_, record) in records.records() {
+        if let Some(def) = def_of(&record) {
+            let rank = all.len() as u32;
+            all.push(Named {
+                name: record.name,
+                def,
+                rank,
+            })?;
+        }
+    }
+    Ok(all)
+}
+
+/// Each name is below the next, so that no two are the same. They stand in their order.
+fn are_distinct(sorted: &[Named]) -> bool
+    requires { IsNonDecreasingBy (λ n. number n.name) sorted.now }
+    ensures { MatchBool result (NamesRise sorted.now) (HasTwins sorted.now) }
+{
+    for i in 1..sorted.len() {
+        if number_of(sorted[i - 1].name) == number_of(sorted[i].name) {
+            return false;
+        }
+    }
+    true
+}
+
+/// All definitions of a segment by their names; `None` where a name is defined twice.
+fn sorted<A: Allocator + Copy>(
+    alloc: A,
+    records: &LinkInformation,
+) -> Result<Option<Vec<Named, A>>, AllocError>
+    requires { definitions_in records.now < 2 ^ 32 }
+    ensures { IfOk result (λ found. MatchOption found (doubled records.now ≡ None → ⊥)
+        (λ all. AreByName (definitions records.now) all.items)) }
+{
+    let mut all = ranked(alloc, records)?;
+    all.sort_unstable_by_key(|named| number_of(named.name));
+    if are_distinct(all.as_slice()) {
+        Ok(Some(all))
+    } else {
+        Ok(None)
+    }
+}
+
+/// For each rank the index of the definition that has it.
+fn order_of<A: Allocator + Copy>(alloc: A, by_name: &[Named]) -> Result<Vec<u32, A>, AllocError>
+    requires few { length by_name.now < 2 ^ 32 }
+    requires ranks { All (λ n. n.rank < length by_name.now) by_name.now }
+    ensures { IfOk result (λ order. IsOrder by_name.now order.items) }
+{
+    let mut order = Vec::from_elem(alloc, 0, by_name.len())?;
+    for (index, named) in by_name.iter().enumerate() {
+        order[named.rank as usize] = index as u32;
+    }
+    Ok(order)
+}
+
+/// No definitions yet, by hashes that are keyed by the names of these records: so no list of names
+/// can be prepared for it.
+fn keyed_table<A: Allocator + Copy>(
+    alloc: A,
+    records: &LinkInformation,
+) -> Result<IndexMap<Name, Def, NameHasher, A>, AllocError>
+    ensures empty { IfOk result (λ m. m.entries ≡ []) }
     ensures keyed { IfOk result (λ m. hasher_of m ≡ digest_of records.now) }
-    ensures stop { IfErr result (IsDoubled file slot records.now) }
 {
     let count = records.definitions();
-    let mut by_name = IndexMap::with_capacity_and_hasher(alloc, count, NameHasher::of(records))?;
-    if count == 0 {
-        return Ok(by_name);
-    }
+    let by_name = IndexMap::with_capacity_and_hasher(alloc, count, NameHasher::of(records))?;
+    Ok(by_name)
+}
+
+/// The index of the first record that defines a name again, in a walk over all. It takes a table
+/// by hashes, which the definitions of a segment without such a record do not take.
+fn first_doubled<A: Allocator + Copy>(
+    alloc: A,
+    records: &LinkInformation,
+) -> Result<Option<usize>, AllocError>
+    ensures { IfOk result (λ rec. rec ≡ doubled records.now) }
+{
+    let mut by_name = keyed_table(alloc, records)?;
     for (rec, record) in records.records() {
         if let Some(def) = def_of(&record) {
             if by_name.insert(record.name, def)?.is_some() {
-                let reason = Reason::DoubledDefinition;
-                return Err(Stop::Refused(Fault::in_record(file, slot, rec, reason)));
+                return Ok(Some(rec));
             }
         }
     }
-    Ok(by_name)
+    Ok(None)
+}
+
+/// Why definitions of which two have one name are not built.
+fn refusal<A: Allocator + Copy>(alloc: A, file: usize, slot: u8, records: &LinkInformation) -> Stop
+    requires { doubled records.now ≡ None → ⊥ }
+    ensures { IsDoubled file slot records.now result }
+{
+    match first_doubled(alloc, records) {
+        Err(_) => Stop::Memory,
+        Ok(None) => unreachable!(),
+        Ok(Some(rec)) => {
+            let reason = Reason::DoubledDefinition;
+            Stop::Refused(Fault::in_record(file, slot, rec, reason))
+        }
+    }
 }
 
 impl<A: Allocator + Copy> Definitions<A> {
@@ -103,7 +219,8 @@ impl<A: Allocator + Copy> Definitions<A> {
     ///
     /// The link information has to read without a fault: up to the first fault its records are taken.
     /// Refuses `DoubledDefinition` at the first record that defines a name again, with the file and
-    /// the slot of `host`. Returns `Memory` only where there is a definition.
+    /// the slot of `host`. Returns `Memory` only where there is a definition: where memory runs out,
+    /// and where there are more than 4294967295 of them.
     ///
     /// Source: the published II.0 Linker source; that a name is defined once is this project's profile.
     pub fn build(alloc: A, host: &Linkage) -> Result<Self, Stop>
@@ -130,22 +247,43 @@ impl<A: Allocator + Copy> Definitions<A> {
         ensures once { IfOk result (λ _. doubled records.now ≡ None) }
         ensures stop { IfErr result (IsDoubled file slot records.now) }
     {
-        let by_name = table_of(alloc, file, slot, records)?;
-        Ok(Definitions { by_name })
+        let count = records.definitions();
+        if count == 0 {
+            return Ok(Definitions {
+                by_name: Vec::new(alloc),
+                order: Vec::new(alloc),
+            });
+        }
+        if count > u32::MAX as usize {
+            return Err(Stop::Memory);
+        }
+        match sorted(alloc, records)? {
+            None => Err(refusal(alloc, file, slot, records)),
+            Some(by_name) => {
+                let order = order_of(alloc, by_name.as_slice())?;
+                Ok(Definitions { by_name, order })
+            }
+        }
     }
 
     /// The definition of the name, eight bytes; `None` where the host's segment does not define it.
     pub fn look(&self, name: &Name) -> Option<Def>
         ensures { result ≡ definition_of name.now self.now }
     {
-        self.by_name.get(name).copied()
+        let by_name = self.by_name.as_slice();
+        let number = number_of(*name);
+        let first = by_name.partition_point(|named| number_of(named.name) < number);
+        match by_name.get(first) {
+            Some(named) if named.name == *name => Some(named.def),
+            _ => None,
+        }
     }
 
     /// How many definitions there are.
     pub fn len(&self) -> usize
         ensures { result ≡ length self.now }
     {
-        self.by_name.len()
+        self.order.len()
     }
 
     /// There is no definition.
@@ -160,9 +298,8 @@ impl<A: Allocator + Copy> Definitions<A> {
         requires { i < length self.now }
         ensures { slice_get self.now i ≡ Some result }
     {
-        match self.by_name.get_index(i) {
-            None => unreachable!(),
-            Some((name, def)) => (*name, *def),
-        }
+        let named = &self.by_name[self.order[i] as usize];
+        let name = named.name;
+        (name, named.def)
     }
 }
