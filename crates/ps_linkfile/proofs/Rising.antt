@@ -1,6 +1,6 @@
 -- How the counts of a writer rise while a file is written.
 use Rattle.std.proofs.Common.{◌≡◌, ◌≢◌, ◌∙◌, ℕ, ◌+◌, ◌*◌, ◌-◌, ◌≤◌, ◌<◌, List, [], ◌∷◌, length, map, drop, Ok, ap, subst, refl, arith}
-use Rattle.std.specs.Prelude.{All}
+use Rattle.std.specs.Prelude.{All, min}
 use Rattle.std.proofs.lemmas.Bool.Decides.{nat_tests}
 use Rattle.std.specs.declared.io.Error.{Error}
 use Rattle.ps_words.specs.Words.{blocks}
@@ -17,7 +17,7 @@ use Rattle.ps_linkfile.proofs.Extents.{all_blocks-cons, few_codes, few_blocks}
 -- the counts after the first i of so many bytes went out; while some are left, each write was short
 pub record Progress (old new : Counts) (size i : ℕ) : Type 0 where
   pub by_bytes : new.writes ≤ old.writes + i
-  pub by_pieces : new.writes + old.shorts ≤ old.writes + 1 + new.shorts
+  pub by_pieces : new.writes + old.shorts ≤ old.writes + min 1 i + new.shorts
   pub unfinished : i < size → new.writes + old.shorts ≤ old.writes + new.shorts
   pub shorts : new.shorts ≤ old.shorts + i
   pub errors : new.errors ≡ old.errors

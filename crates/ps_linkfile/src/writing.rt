@@ -1,8 +1,10 @@
-ghost use Rattle.std.specs.Prelude.{◌*◌, length, IfErr, OnOk, OnErr};
+ghost use Rattle.std.specs.Prelude.{◌≡◌, ◌≤◌, ◌*◌, length, map, min, All, IfErr, OnOk, OnErr};
+ghost use Rattle.std.specs.List.{flat_map, range_with_len};
 ghost use Rattle.std.specs.Io.KnownBytes.{Appends};
 ghost use Rattle.ps_words.specs.Edits.{AreEdits};
 ghost use Rattle.ps_words.specs.Words.{blocks};
-ghost use Rattle.ps_codefile.specs.Dictionary.{block_len};
+ghost use Rattle.ps_codefile.specs.Dictionary.{block_len, max_code_len};
+ghost use Rattle.ps_patch.specs.Patched.{patched_or_zero};
 ghost use Rattle.ps_linkfile.specs.LinkedFile.{all_blocks, padded};
 ghost use Rattle.ps_linkfile.specs.Writing.{extents_of, file_of, padded_codes, summary_in, HaveEdits, IsReady};
 ghost use Rattle.ps_linkfile.specs.Outcomes.{AppendsPrefix};
@@ -17,6 +19,9 @@ use ps_words::{BLOCK_SIZE, Edit, Order, blocks_of};
 use std::alloc::Allocator;
 use std::io::Write;
 
+/// How many blocks a code takes at most.
+const MOST_BLOCKS: usize = 64;
+
 /// Writes all bytes, by one write a turn. No write is made again after an error.
 pub(crate) fn write_all_of<W: Write, T: Tally<W>>(
     out: &mut W,
@@ -26,7 +31,7 @@ pub(crate) fn write_all_of<W: Write, T: Tally<W>>(
     requires { CanCount (T.counts tally.old out.old) (length bytes.now) }
     ensures all { OnOk result (Appends (W.contents out.old) (W.contents out.new) bytes.now) }
     ensures prefix { OnErr result (AppendsPrefix (W.contents out.old) (W.contents out.new) bytes.now) }
-    ensures writes { Rises (T.counts tally.old out.old) (T.counts tally.new out.new) (length bytes.now) 1 }
+    ensures writes { Rises (T.counts tally.old out.old) (T.counts tally.new out.new) (length bytes.now) (min 1 (length bytes.now)) }
     ensures ok { OnOk result (NoneFailed (T.counts tally.old out.old) (T.counts tally.new out.new)) }
     ensures failed { IfErr result (λ fault. OneFailed fault (T.counts tally.old out.old) (T.counts tally.new out.new)) }
 {
@@ -41,7 +46,21 @@ pub(crate) fn write_all_of<W: Write, T: Tally<W>>(
     Ok(())
 }
 
-/// Writes a code with its edits, in whole blocks, each through the same 512 bytes.
+/// Puts a code with its edits in the blocks, one after another.
+fn fill_blocks(order: Order, code: &[u8], edits: &[Edit], room: &mut [[u8; BLOCK_SIZE]])
+    requires edits { AreEdits (length code.now) edits.now }
+    requires few { length room.old ≤ blocks (length code.now) }
+    ensures { flat_map (λ block. block) room.new ≡ map (patched_or_zero order code.now edits.now) (range_with_len 0 (block_len * length room.old)) }
+{
+    let mut patcher = Patcher::new(order, code, edits);
+    let mut block = [0; BLOCK_SIZE];
+    for to in room.iter_mut() {
+        patcher.fill(&mut block);
+        *to = block;
+    }
+}
+
+/// Writes a code with its edits, in whole blocks, all of them at once.
 fn write_code<W: Write, T: Tally<W>>(
     order: Order,
     code: &[u8],
@@ -49,6 +68,7 @@ fn write_code<W: Write, T: Tally<W>>(
     out: &mut W,
     tally: &mut T,
 ) -> Result<(), WriteFault>
+    requires small { length code.now ≤ max_code_len }
     requires edits { AreEdits (length code.now) edits.now }
     requires room { CanCount (T.counts tally.old out.old) (block_len * blocks (length code.now)) }
     ensures all { OnOk result (Appends (W.contents out.old) (W.contents out.new) (padded order code.now edits.now)) }
@@ -57,14 +77,10 @@ fn write_code<W: Write, T: Tally<W>>(
     ensures ok { OnOk result (NoneFailed (T.counts tally.old out.old) (T.counts tally.new out.new)) }
     ensures failed { IfErr result (λ fault. OneFailed fault (T.counts tally.old out.old) (T.counts tally.new out.new)) }
 {
-    let mut patcher = Patcher::new(order, code, edits);
-    let mut block = [0; BLOCK_SIZE];
-    let blocks = blocks_of(code.len());
-    for at in 0..blocks {
-        patcher.fill(&mut block);
-        write_all_of(out, tally, &block)?;
-    }
-    Ok(())
+    let mut room = [[0; BLOCK_SIZE]; MOST_BLOCKS];
+    let used = &mut room[..blocks_of(code.len())];
+    fill_blocks(order, code, edits, used);
+    write_all_of(out, tally, used.as_flattened())
 }
 
 /// Writes the code of each segment, by slot.
@@ -73,6 +89,7 @@ fn write_codes<A: Allocator + Copy, W: Write, T: Tally<W>>(
     out: &mut W,
     tally: &mut T,
 ) -> Result<(), WriteFault>
+    requires sizes { All (λ c. c.size ≤ max_code_len) (extents_of plan.now) }
     requires edits { HaveEdits plan.now.origins plan.now.edits }
     requires room { CanCount (T.counts tally.old out.old) (block_len * all_blocks (extents_of plan.now)) }
     ensures all { OnOk result (Appends (W.contents out.old) (W.contents out.new) (padded_codes plan.now.order plan.now.origins plan.now.edits)) }

@@ -9,7 +9,7 @@ use Rattle.ps_linkfile.specs.LinkedFile.{padded}
 use Rattle.ps_linkfile.specs.Outcomes.{AppendsPrefix}
 use Rattle.ps_linkfile.proofs.Prefixes.{appends_none, on_err_always}
 use Rattle.ps_linkfile.proofs.Codes.{edits_here, codes_more, codes_prefix}
-use Rattle.ps_linkfile.proofs.Views.{no_source, is_at}
+use Rattle.ps_linkfile.proofs.Views.{no_source, is_at, seen_small, size_at}
 use Rattle.ps_linkfile.proofs.Rising.{blocks_done, blocks_more, blocks_none, blocks_room, blocks_stop, one_after}
 use Rattle.ps_linkfile.proofs.writing.write_codes.Goals as goal
 
@@ -26,6 +26,11 @@ write_code-requires-clause-edits g c =
     let o = origin_of_source (get_or ss k no_source) in
     let at = is_at ss c.args.plan.now.origins c.args.plan.now.edits k c.edits.result.now c.sources-source-items.ensures.origins c.loop-k-test.true c.edits.ensures in
     (edits_here c.args.plan.now.origins c.args.plan.now.edits k o c.edits.result.now at c.loop-k.invariant.codes.1.left).0
+
+pub write_code-requires-clause-small : goal.write_code-requires-clause-small
+write_code-requires-clause-small g c =
+    let ss = c.sources-source-items.result.now in
+    size_at ss c.loop-k.k (seen_small ss c.args.plan.now.origins c.sources-source-items.ensures.origins c.requires.sizes) c.loop-k-test.true
 
 pub returns-in_err-write_code-clause-prefix : goal.returns-in_err-write_code-clause-prefix
 returns-in_err-write_code-clause-prefix g c =

@@ -1,5 +1,6 @@
 use Rattle.std.proofs.Common.{◌≡◌, ◌+◌, ◌*◌, ◌∙◌, ℕ, List, ap, arith, length, length-append, subst, sym}
 use Rattle.std.proofs.lemmas.Result.{IfErr-weaker, on_err_weaker, on_ok_weaker}
+use Rattle.std.specs.Prelude.{min}
 use Rattle.std.specs.Io.KnownBytes.{Appends}
 use Rattle.ps_linkfile.specs.LinkedFile.{all_blocks, dictionary}
 use Rattle.ps_linkfile.specs.Writing.{extents_of, padded_codes}
@@ -34,7 +35,7 @@ pub write_codes-requires-clause-room : goal.write_codes-requires-clause-room
 write_codes-requires-clause-room g c =
     let n = all_blocks (extents_of c.args.plan.now) in
     let few = few_of_all (extents_of c.args.plan.now) c.requires.ready.slots c.requires.ready.sizes in
-    room_left _ _ (512 + 512 * n) (length c.dictionary_of.result) 1 (512 * n) (room_for _ (512 + 512 * n) c.requires.counts (omega (arith, few)))
+    room_left _ _ (512 + 512 * n) (length c.dictionary_of.result) (min 1 (length c.dictionary_of.result)) (512 * n) (room_for _ (512 + 512 * n) c.requires.counts (omega (arith, few)))
     c.write_all_of.ensures.writes c.in_ok-write_all_of.ensures.ok (omega arith)
 
 pub returns-clause-all : goal.returns-clause-all
@@ -60,7 +61,7 @@ returns-clause-writes g c =
     let first : length (dictionary plan.order plan.names plan.host (extents_of plan)) ≡ 512 = ap (λ (bytes : List ℕ). length bytes) (sym c.dictionary_of.ensures) ∙ omega arith in
     let rest : length (padded_codes plan.order plan.origins plan.edits) ≡ 512 * n = codes_len plan.order plan.origins plan.edits c.requires.ready.edits in
     let whole = length-append (dictionary plan.order plan.names plan.host (extents_of plan)) (padded_codes plan.order plan.origins plan.edits) in
-    rises_then _ _ _ (length c.dictionary_of.result) 1 (512 * n) n _ (1 + n) c.write_all_of.ensures.writes c.write_codes.ensures.writes (omega (arith, first, rest, whole)) (omega arith)
+    rises_then _ _ _ (length c.dictionary_of.result) (min 1 (length c.dictionary_of.result)) (512 * n) n _ (1 + n) c.write_all_of.ensures.writes c.write_codes.ensures.writes (omega (arith, first, rest, whole)) (omega arith)
 
 pub returns-clause-ok : goal.returns-clause-ok
 returns-clause-ok g c = on_ok_weaker c.write_codes.result (none_after _ _ _ c.in_ok-write_all_of.ensures.ok) c.write_codes.ensures.ok
