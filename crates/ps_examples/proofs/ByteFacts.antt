@@ -137,22 +137,31 @@ a_number = record {
   kept = λ n z u. absurd (n a_number_place);
 }
 
+-- what the operand of COUNT becomes, at place p
+OperandByte : ℕ → ℕ → ℕ → ℕ → Record → Type 0
+OperandByte p b rec x r = (bytes : List ℕ) × Becomes pair util_segment rec r.name r.body x bytes × (b ≡ slice_index bytes (p - x))
+
+of_count : (p b rec x : ℕ) (r : Record) → OperandByte p b 0 1 count_reference → OfCount rec x r → OperandByte p b rec x r
+of_count p b rec x r here h =
+    subst (λ (n : ℕ). OperandByte p b n x r) (sym h.0) (subst (λ (q : Record). OperandByte p b 0 x q) (sym h.1) (subst (λ (n : ℕ). OperandByte p b 0 n count_reference) (sym h.2) here))
+
 pub a_reference : IsLinkedByte Little pair util_segment 2 3
+unfolding OperandByte
 a_reference = record {
   number = λ n. absurd (let e = n.1 in omega (arith, e));
   size = λ t j z. absurd (let e = z.0 in cc);
-  reference = λ rec i x r u. elim (references rec i x r u.0) [ inl h ↦ at rec x r h.0 h.1 h.2 | inr h ↦ absurd (let b = u.1.0 in omega (arith, h, b)) ];
+  reference = λ rec i x r u. elim (references rec i x r u.0) [ inl h ↦ of_count 2 3 rec x r (128 ∷ 3 ∷ [], a_public_operand, refl) h | inr h ↦ absurd (let b = u.1.0 in omega (arith, h, b)) ];
   kept = λ n z u. absurd (u 0 0 1 count_reference ((refl, refl), (omega arith, omega arith)));
 }
-  where
-    Fact : ℕ → Record → ℕ → Type 0
-    Fact rec r x = (bytes : List ℕ) × Becomes pair util_segment rec r.name r.body x bytes × (3 ≡ slice_index bytes (2 - x))
 
-    here : Fact 0 count_reference 1
-    here = (128 ∷ 3 ∷ [], a_public_operand, refl)
-
-    at : (rec x : ℕ) (r : Record) → rec ≡ 0 → r ≡ count_reference → x ≡ 1 → Fact rec r x
-    at rec x r a b c = subst (λ (n : ℕ). Fact n r x) (sym a) (subst (λ (q : Record). Fact 0 q x) (sym b) (subst (λ (n : ℕ). Fact 0 count_reference n) (sym c) here))
+pub a_reference_s_first_byte : IsLinkedByte Little pair util_segment 1 128
+unfolding OperandByte
+a_reference_s_first_byte = record {
+  number = λ n. absurd (let e = n.1 in omega (arith, e));
+  size = λ t j z. absurd (let e = z.0 in cc);
+  reference = λ rec i x r u. elim (references rec i x r u.0) [ inl h ↦ of_count 1 128 rec x r (128 ∷ 3 ∷ [], a_public_operand, refl) h | inr h ↦ absurd (let b = u.1.0 in omega (arith, h, b)) ];
+  kept = λ n z u. absurd (u 0 0 1 count_reference ((refl, refl), (omega arith, omega arith)));
+}
 
 -- place 2 has one of them alone
 sole : (y i x : ℕ) → slice_get (y ∷ []) i ≡ Some x → i ≡ 0

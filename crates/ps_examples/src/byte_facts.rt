@@ -40,6 +40,7 @@ pub fn facts_of_bytes()
     ensures a_number_place_of_the_host { IsNumberPlace demo_segment 16 }
     ensures a_size_place { IsSizePlace Little demo_segment 12 1 5 }
     ensures a_reference { IsLinkedByte Little pair util_segment 2 3 }
+    ensures a_reference_s_first_byte { IsLinkedByte Little pair util_segment 1 128 }
     ensures a_number { IsLinkedByte Little pair util_segment 22 7 }
     ensures a_size_byte { IsLinkedByte Little pair demo_segment 4 18 }
     ensures its_second_byte { IsLinkedByte Little pair demo_segment 5 0 }
