@@ -74,41 +74,50 @@ added words i j room = at (j / 64 == i / 64) refl (j == i) refl
 le_test : (base place : ℕ) → base ≤ place → nat_le base place ≡ true
 le_test base place h = grind (arith, nat_tests)
 
-pub none_marked : (base n place : ℕ) → marks base (replicate n 0) place ≡ false
-none_marked base n place = rw (none_in n (place - base)) (and_false (nat_le base place))
-  where
-    and_false : (b : Bool) → (b && false) ≡ false
-    and_false true = refl
-    and_false false = refl
+and_false : (b : Bool) → (b && false) ≡ false
+and_false true = refl
+and_false false = refl
 
--- the test of the bit of a place
-pub marked : (base : ℕ) (words : List ℕ) (place : ℕ) → base ≤ place → (bit_and (get_or words ((place - base) / 64) 0 / 2 ^ ((place - base) % 64)) 1 == 1) ≡ marks base words place
-marked base words place h = rw (le_test base place h) (tested words (place - base))
+-- of an empty set no place
+pub none_marked : (base : ℕ) (words : List ℕ) (place : ℕ) → ((i : ℕ) → has words i ≡ false) → marks base words place ≡ false
+none_marked base words place none = rw (none (place - base)) (and_false (nat_le base place))
+
+-- the place of a bit
+pub marked : (base : ℕ) (words : List ℕ) (place : ℕ) → base ≤ place → has words (place - base) ≡ marks base words place
+marked base words place h = rw (le_test base place h)
 
 -- no place past the end of the set
 pub unmarked : (base : ℕ) (words : List ℕ) (place : ℕ) → length words ≤ (place - base) / 64 → marks base words place ≡ false
 unmarked base words place h = rw (none_past words (place - base) h) (and_false (nat_le base place))
-  where
-    and_false : (b : Bool) → (b && false) ≡ false
-    and_false true = refl
-    and_false false = refl
 
--- a place that is added
-pub marked_more : (base : ℕ) (words : List ℕ) (place q : ℕ) → base ≤ place → (place - base) / 64 < length words
-    → marks base (set words ((place - base) / 64) (bit_or (get_or words ((place - base) / 64) 0) (1 * 2 ^ ((place - base) % 64) % 2 ^ 64))) q ≡ (marks base words q || q == place)
-marked_more base words place q le room = at (nat_le base q) refl
+-- a run of places that is added
+pub marked_more : (base : ℕ) (old new : List ℕ) (start end q : ℕ) → base ≤ start
+    → ((i : ℕ) → has new i ≡ (has old i || is_between (start - base) (end - base) i)) → marks base new q ≡ (marks base old q || is_between start end q)
+marked_more base old new start end q le more = at (nat_le base q) refl
   where
-    new : List ℕ
-    new = set words ((place - base) / 64) (bit_or (get_or words ((place - base) / 64) 0) (1 * 2 ^ ((place - base) % 64) % 2 ^ 64))
-
-    at : (b : Bool) → nat_le base q ≡ b → marks base new q ≡ (marks base words q || q == place)
+    at : (b : Bool) → nat_le base q ≡ b → marks base new q ≡ (marks base old q || is_between start end q)
     at true e =
         let above : base ≤ q = grind (arith, nat_tests) in
-        let same : (q - base == place - base) ≡ (q == place) = grind (arith, nat_tests) in
-        rw (e, added words (place - base) (q - base) room, same)
+        let same : is_between (start - base) (end - base) (q - base) ≡ is_between start end q = grind (arith, nat_tests) in
+        rw (e, more (q - base), same)
     at false e =
-        let apart : (q == place) ≡ false = grind (arith, nat_tests) in
+        let apart : is_between start end q ≡ false = grind (arith, nat_tests) in
         rw (e, apart)
+
+-- a run of places that is added to none
+pub marked_first : (base : ℕ) (old new : List ℕ) (start end q : ℕ) → base ≤ start → ((i : ℕ) → has old i ≡ false)
+    → ((i : ℕ) → has new i ≡ (has old i || is_between (start - base) (end - base) i)) → marks base new q ≡ (is_between start end q || false)
+marked_first base old new start end q le none more = marked_more base old new start end q le more ∙ (rw (none_marked base old q none) (sym (or_false (is_between start end q))))
+  where
+    or_false : (b : Bool) → (b || false) ≡ b
+    or_false true = refl
+    or_false false = refl
+
+-- a set from the first place on
+pub from_first : (base : ℕ) (words : List ℕ) (place : ℕ) → base ≡ 0 → marks base words place ≡ has words place
+from_first base words place e =
+    let same : place - base ≡ place = omega (arith, e) in
+    sym (marked base words place (omega (arith, e))) ∙ ap (has words) same
 
 -- one more place
 between_more : (start place q : ℕ) → start ≤ place → (is_between start place q || q == place) ≡ is_between start (place + 1) q

@@ -1,5 +1,4 @@
 -- Sets of places of a code, a bit for each place, and the places of an attribute table.
--- They belong to this crate alone: contracts of other crates speak of `is_reserved`.
 use Rattle.std.specs.Prelude.{ℕ, ◌+◌, ◌-◌, ◌/◌, ◌%◌, ◌^◌, ◌<◌, ◌≤◌, ◌==◌, ◌&&◌, List, slice_index, length, Bool, nat_le, nat_lt, false, Option, All, is_some, [], ◌∷◌, ◌≡◌, map}
 use Rattle.std.specs.Int.{bit_at}
 use Rattle.std.specs.Option.{option_map_or, ForSome}
@@ -48,8 +47,9 @@ abbrev pub has_first : List (Option ℕ) → Bool
 has_first [] = false
 has_first (table ∷ rest) = is_some table
 
--- What is kept of the procedure tables of a code: each procedure's, and the set of the reserved places.
+-- What is kept of the procedure tables of a code: each procedure's, and the set of the reserved places, which stands for those from `base` on.
 pub record Keeps (order : Order) (code : List ℕ) (tables : List (Option ℕ)) (base : ℕ) (words : List ℕ) : Type 0 where
   pub whole : dictionary_len code ≤ length code
   pub listed : tables ≡ map (table_of order code) (numbers code)
+  pub from : base ≡ length code - span
   pub reserved : (place : ℕ) → marks base words place ≡ is_reserved order code place

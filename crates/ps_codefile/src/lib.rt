@@ -11,4 +11,5 @@ mod tests;
 
 pub use dictionary::Dict;
 pub use entry::{Entry, Role, is_nameless};
+pub use places::Places;
 pub use procedures::Procs;

@@ -2,7 +2,7 @@ ghost use Rattle.std.specs.Prelude.{◌≡◌, ℕ, ◌<◌, ◌≤◌, ◌-◌,
 ghost use Rattle.std.specs.List.{list_all, list_any};
 ghost use Rattle.std.specs.Option.{ForSome};
 ghost use Rattle.ps_codefile.specs.Procedures.{procedures, dictionary_len, dictionary_start, table_of, is_placed, numbers, is_in_table, is_reserved as is_reserved_spec, read_tables as read_tables_spec};
-ghost use Rattle.ps_codefile.specs.Places.{span, marks, is_between, passes, IsWhole, AreWhole, HasRoom, has_first};
+ghost use Rattle.ps_codefile.specs.Places.{span, has, marks, is_between, passes, IsWhole, AreWhole, HasRoom, has_first};
 
 use crate::places::{Places, SPAN};
 use arrayvec::ArrayVec;
@@ -30,6 +30,8 @@ pub struct Procs<'a> {
     order: Order,
     code: &'a [u8],
     tables: ArrayVec<Option<usize>, MAX_PROCEDURES>,
+    /// The first place that the set has room for.
+    base: usize,
     reserved: Places,
 }
 
@@ -41,7 +43,7 @@ impl<'a> Model for Procs<'a> {
 
     ghost view = { λ p. record { order = p.order; code = p.code.now } };
 
-    ghost invariant = { λ p. Keeps p.order p.code.now p.tables.items p.reserved.base p.reserved.words };
+    ghost invariant = { λ p. Keeps p.order p.code.now p.tables.items p.base p.reserved.words };
 }
 
 /// The place of procedure `p`'s table, where it has one.
@@ -117,31 +119,43 @@ fn has_native(code: &[u8], tables: &[Option<usize>]) -> bool
     false
 }
 
-/// Adds the ten bytes of a table, where there is one.
-fn reserve(places: &mut Places, table: Option<usize>)
-    requires { ForSome table (HasRoom places.old.base) }
-    ensures base { places.new.base ≡ places.old.base }
-    ensures added { (q : ℕ) → marks places.new.base places.new.words q ≡ (marks places.old.base places.old.words q || passes (is_in_table q) table) }
+/// Adds the ten bytes of a table, where there is one, to a set that stands for the places from `base` on.
+fn reserve(places: &mut Places, base: usize, table: Option<usize>)
+    requires { ForSome table (HasRoom base) }
+    ensures { (q : ℕ) → marks base places.new.words q ≡ (marks base places.old.words q || passes (is_in_table q) table) }
 {
     match table {
-        Some(t) => places.insert_all(t - TABLE_WORDS, t + TABLE_NUMBERS),
+        Some(t) => places.insert_all(t - TABLE_WORDS - base, t + TABLE_NUMBERS - base),
         None => {}
     }
 }
 
-/// The places of the procedure dictionary and of all tables.
-fn reserved_places(code: &[u8], start: usize, tables: &[Option<usize>]) -> Places
+/// The places of the procedure dictionary and of all tables, in a set for the places from `base` on.
+fn reserved_places(code: &[u8], base: usize, start: usize, tables: &[Option<usize>]) -> Places
     requires whole { dictionary_len code.now ≤ length code.now }
+    requires base { base ≡ length code.now - span }
     requires starts { start ≡ dictionary_start code.now }
+    requires near { base ≤ start }
     requires inside { AreWhole code.now tables.now }
-    ensures { (q : ℕ) → marks result.base result.words q ≡ (is_between start (length code.now) q || list_any (passes (is_in_table q)) tables.now) }
+    ensures { (q : ℕ) → marks base result.words q ≡ (is_between start (length code.now) q || list_any (passes (is_in_table q)) tables.now) }
 {
-    let mut places = Places::new(code.len().saturating_sub(SPAN));
-    places.insert_all(start, code.len());
+    let mut places = Places::new();
+    places.insert_all(start - base, code.len() - base);
     for table in tables {
-        reserve(&mut places, *table);
+        reserve(&mut places, base, *table);
     }
     places
+}
+
+/// A set that stands for the places from `base` on has the place.
+fn is_marked(places: &Places, base: usize, place: usize) -> bool
+    ensures { result ≡ marks base places.now.words place }
+{
+    if place < base {
+        return false;
+    }
+    let i = place - base;
+    i < SPAN && places.contains(i)
 }
 
 impl<'a> Procs<'a> {
@@ -167,11 +181,13 @@ impl<'a> Procs<'a> {
         if has_native(code, tables.as_slice()) {
             return Err(Reason::NativeProcedure);
         }
-        let reserved = reserved_places(code, start, tables.as_slice());
+        let base = code.len().saturating_sub(SPAN);
+        let reserved = reserved_places(code, base, start, tables.as_slice());
         Ok(Procs {
             order,
             code,
             tables,
+            base,
             reserved,
         })
     }
@@ -212,6 +228,14 @@ impl<'a> Procs<'a> {
     pub fn is_reserved(&self, place: usize) -> bool
         ensures { result ≡ is_reserved_spec self.now.order self.now.code place }
     {
-        self.reserved.contains(place)
+        is_marked(&self.reserved, self.base, place)
+    }
+
+    /// The reserved places of a code of at most 66112 bytes.
+    pub fn reserved(&self) -> Places
+        requires { length self.now.code ≤ span }
+        ensures { (place : ℕ) → has result.words place ≡ is_reserved_spec self.now.order self.now.code place }
+    {
+        self.reserved.copied()
     }
 }

@@ -1,5 +1,5 @@
 -- One record more of a segment.
-use Rattle.std.proofs.Common.{◌≡◌, ◌∙◌, ℕ, ◌+◌, ◌++◌, List, [], ◌∷◌, length, map, Bool, true, false, cond, Option, Some, None, Ok, Err, refl, sym, ap, append_assoc}
+use Rattle.std.proofs.Common.{◌≡◌, ◌∙◌, ℕ, ◌+◌, ◌++◌, List, [], ◌∷◌, map, Bool, true, false, cond, Option, Some, None, Ok, Err, refl, sym, ap, append_assoc}
 use Rattle.std.specs.Prelude.{⊤}
 use Rattle.std.specs.Option.{option_map, option_or}
 use Rattle.ps_linkinfo.specs.Records.{refs_of}
@@ -64,7 +64,7 @@ module _ (known : Known) (R : ℕ → Bool) (code : List ℕ) (rec off : ℕ) (o
 -- With these edits and these places taken, what the records from this index on come to is what all come to, the first of whose privates has the offset `free`: their edits, their first fault, and their words.
 pub record Links (known : Known) (tables : ProcedureTables) (free : ℕ) (all : List Record) (old : List Edit) (next : ℕ) (edits : List Edit) (taken : List ℕ) (n : ℕ) (rs : List Record) : Type 0 where
   pub listed : edits ++ records_edits known tables.code next rs ≡ old ++ records_edits known tables.code free all
-  pub first : (os : List (ℕ × ℕ)) × AreTaken (length tables.code) taken os
+  pub first : (os : List (ℕ × ℕ)) × AreTaken tables taken os
       × (records_fault known (is_reserved tables.order tables.code) tables.code n next os rs ≡ records_fault known (is_reserved tables.order tables.code) tables.code 0 free [] all)
   pub words : next + private_words rs ≡ free + private_words all
 

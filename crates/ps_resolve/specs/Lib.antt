@@ -3,7 +3,6 @@ pub mod Sources
 pub mod Symbols
 pub mod Stops
 pub mod ByName
-pub mod Places
 pub mod Operands
 pub mod Marks
 pub mod References

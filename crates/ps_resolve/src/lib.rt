@@ -13,7 +13,6 @@ mod linking;
 mod name_hasher;
 mod names;
 mod namesakes;
-mod places;
 mod plan;
 mod reading;
 mod references;

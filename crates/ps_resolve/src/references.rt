@@ -1,18 +1,17 @@
-ghost use Rattle.std.specs.Prelude.{◌≡◌, ℕ, ◌<◌, ◌≤◌, ◌+◌, ◌++◌, ◌∷◌, [], List, length, map, nat_lt, OnOk, IfOk, IfErr, None, ⊤};
+ghost use Rattle.std.specs.Prelude.{◌≡◌, ℕ, ◌<◌, ◌≤◌, ◌+◌, ◌++◌, ◌||◌, List, length, map, nat_lt, OnOk, IfOk, IfErr, None, ⊤};
 ghost use Rattle.std.specs.List.{range_with_len, list_any};
 ghost use Rattle.std.specs.Result.{result_err};
 ghost use Rattle.ps_words.specs.declared.fault.Reason.TheVariants.{OperandTooLarge};
-ghost use Rattle.ps_resolve.specs.Places.{has};
+ghost use Rattle.ps_codefile.specs.Places.{has};
 ghost use Rattle.ps_resolve.specs.Searches.{fault_if};
 ghost use Rattle.ps_codefile.specs.Procedures.{is_reserved};
-ghost use Rattle.ps_resolve.specs.Operands.{width_of as width_of_spec, edit_of, value_of, operands};
+ghost use Rattle.ps_resolve.specs.Operands.{width_of as width_of_spec, edit_of, value_of, operands, is_in};
 ghost use Rattle.ps_resolve.specs.Marks.{AreTaken};
 ghost use Rattle.ps_resolve.specs.Edits.{reason_in, refs_fault_at};
 ghost use Rattle.ps_resolve.specs.Stops.{IsStop};
 
 use crate::linkage::{RecordPlace, Stop};
-use crate::places::Places;
-use ps_codefile::Procs;
+use ps_codefile::{Places, Procs};
 use ps_linkinfo::Refs;
 use ps_words::{Edit, Reason, get_big};
 use std::alloc::Allocator;
@@ -93,17 +92,17 @@ fn edit_at(procedures: &Procs, taken: &Places, target: Target, x: usize) -> Resu
     requires word { x < 65536 }
     ensures inside { IfOk result (λ _. x + width_of_spec target ≤ length procedures.now.code) }
     ensures edit { IfOk result (λ edit. edit ≡ edit_of procedures.now.code target x) }
-    ensures reason { (os : List (ℕ × ℕ)) → AreTaken (length procedures.now.code) taken.now.words os
+    ensures reason { (os : List (ℕ × ℕ)) → AreTaken procedures.now taken.now.words os
         → result_err result ≡ reason_in procedures.now os target x }
 {
     let code = procedures.code();
     if x + width_of(target) > code.len() {
         return Err(Reason::OutsideCode);
     }
-    if is_any_reserved(procedures, target, x) {
-        return Err(Reason::ReservedPlace);
-    }
     if any_of(taken, target, x) {
+        if is_any_reserved(procedures, target, x) {
+            return Err(Reason::ReservedPlace);
+        }
         return Err(Reason::Overlap);
     }
     stored_at(code, target, x)
@@ -112,8 +111,8 @@ fn edit_at(procedures: &Procs, taken: &Places, target: Target, x: usize) -> Resu
 /// Adds the places of the operand.
 fn mark(taken: &mut Places, target: Target, x: usize)
     requires { x + width_of_spec target ≤ 32768 }
-    ensures { (n : ℕ) (os : List (ℕ × ℕ)) → n ≤ 32768 → AreTaken n taken.old.words os
-        → AreTaken n taken.new.words (os ++ (x, width_of_spec target) ∷ []) }
+    ensures { (p : ℕ) → has taken.new.words p
+        ≡ (has taken.old.words p || is_in p (x, width_of_spec target)) }
 {
     taken.insert(x);
     if let Target::Base(_) = target {
@@ -133,12 +132,12 @@ pub(crate) fn add_references<A: Allocator>(
     requires { length procedures.now.code ≤ 32767 }
     ensures edits { OnOk result (edits.new.items
         ≡ edits.old.items ++ map (edit_of procedures.now.code target) refs.now) }
-    ensures sound { (os : List (ℕ × ℕ)) → AreTaken (length procedures.now.code) taken.old.words os
+    ensures sound { (os : List (ℕ × ℕ)) → AreTaken procedures.now taken.old.words os
         → OnOk result (refs_fault_at place procedures.now target os refs.now ≡ None) }
-    ensures stop { (os : List (ℕ × ℕ)) → AreTaken (length procedures.now.code) taken.old.words os
+    ensures stop { (os : List (ℕ × ℕ)) → AreTaken procedures.now taken.old.words os
         → IfErr result (IsStop ⊤ (refs_fault_at place procedures.now target os refs.now)) }
-    ensures taken { (os : List (ℕ × ℕ)) → AreTaken (length procedures.now.code) taken.old.words os
-        → OnOk result (AreTaken (length procedures.now.code) taken.new.words
+    ensures taken { (os : List (ℕ × ℕ)) → AreTaken procedures.now taken.old.words os
+        → OnOk result (AreTaken procedures.now taken.new.words
         (os ++ operands target refs.now)) }
 {
     for i in 0..refs.len() {

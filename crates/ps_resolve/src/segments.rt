@@ -13,10 +13,9 @@ ghost use Rattle.ps_resolve.specs.Views.{segment_of};
 use crate::definitions::DefKind;
 use crate::linkage::{RecordPlace, Stop};
 use crate::names::Names;
-use crate::places::Places;
 use crate::references::{Target, add_references};
 use crate::segment::Segment;
-use ps_codefile::Procs;
+use ps_codefile::{Places, Procs};
 use ps_linkinfo::{Body, LinkInformation, LinkRecord};
 use ps_words::{Edit, Reason};
 use std::alloc::Allocator;
@@ -69,12 +68,12 @@ fn add_body<A: Allocator>(
     requires { length procedures.now.code ≤ 32767 }
     ensures edits { OnOk result (edits.new.items
         ≡ edits.old.items ++ map (edit_of procedures.now.code target) (refs_of body.now)) }
-    ensures sound { (os : List (ℕ × ℕ)) → AreTaken (length procedures.now.code) taken.old.words os
+    ensures sound { (os : List (ℕ × ℕ)) → AreTaken procedures.now taken.old.words os
         → OnOk result (refs_fault_at place procedures.now target os (refs_of body.now) ≡ None) }
-    ensures stop { (os : List (ℕ × ℕ)) → AreTaken (length procedures.now.code) taken.old.words os
+    ensures stop { (os : List (ℕ × ℕ)) → AreTaken procedures.now taken.old.words os
         → IfErr result (IsStop ⊤ (refs_fault_at place procedures.now target os (refs_of body.now))) }
-    ensures taken { (os : List (ℕ × ℕ)) → AreTaken (length procedures.now.code) taken.old.words os
-        → OnOk result (AreTaken (length procedures.now.code) taken.new.words
+    ensures taken { (os : List (ℕ × ℕ)) → AreTaken procedures.now taken.old.words os
+        → OnOk result (AreTaken procedures.now taken.new.words
         (os ++ operands target (refs_of body.now))) }
 {
     match body {
@@ -120,7 +119,7 @@ pub(crate) fn add_records<A: Allocator + Copy>(
     if asks_for_nothing(records) {
         return Ok(free);
     }
-    let mut taken = Places::new();
+    let mut taken = procedures.reserved();
     let mut next = free;
     for (rec, record) in records.records() {
         let place = RecordPlace {

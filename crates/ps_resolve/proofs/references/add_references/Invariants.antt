@@ -1,4 +1,4 @@
-use Rattle.std.proofs.Common.{◌≡◌, ℕ, ◌++◌, List, length, map, take, drop}
+use Rattle.std.proofs.Common.{◌≡◌, ℕ, ◌++◌, List, map, take, drop}
 use Rattle.ps_resolve.specs.Operands.{edit_of, refs_fault, operands}
 use Rattle.ps_resolve.specs.Marks.{AreTaken}
 use Rattle.ps_codefile.specs.Procedures.{is_reserved}
@@ -11,7 +11,7 @@ invariant-loop-i g l =
     let fault_from = refs_fault (is_reserved l.procedures.order code) code l.target in
     record {
       edits : l.edits.items ≡ l.fn.edits.items ++ map (edit_of code l.target) (take l.i l.refs);
-      fault : (os : List (ℕ × ℕ)) → AreTaken (length code) l.fn.taken.words os
+      fault : (os : List (ℕ × ℕ)) → AreTaken l.procedures l.fn.taken.words os
           → fault_from l.i (os ++ operands l.target (take l.i l.refs)) (drop l.i l.refs) ≡ fault_from 0 os l.refs;
-      taken : (os : List (ℕ × ℕ)) → AreTaken (length code) l.fn.taken.words os → AreTaken (length code) l.taken.words (os ++ operands l.target (take l.i l.refs));
+      taken : (os : List (ℕ × ℕ)) → AreTaken l.procedures l.fn.taken.words os → AreTaken l.procedures l.taken.words (os ++ operands l.target (take l.i l.refs));
     }

@@ -1,4 +1,4 @@
-use Rattle.std.proofs.Common.{ℕ, length, ◌+◌, ◌++◌, ◌∙◌, [], sym, subst, arith, refl, Option, append-nil, List, ap}
+use Rattle.std.proofs.Common.{ℕ, ◌+◌, ◌++◌, ◌∙◌, [], sym, subst, arith, refl, Option, append-nil, List, ap}
 use Rattle.std.specs.Prelude.{⊤}
 use Rattle.std.proofs.lemmas.Result.{err_from_is_err_and}
 use Rattle.std.specs.Option.{option_map}
@@ -14,6 +14,7 @@ use Rattle.ps_resolve.specs.Views.{segment_of}
 use Rattle.ps_resolve.specs.declared.linkage.Stop.{Stop}
 use Rattle.ps_resolve.proofs.Numbers.{one, none}
 use Rattle.ps_resolve.proofs.Once.{map_none}
+use Rattle.ps_resolve.proofs.Takes.{first_taken}
 use Rattle.ps_resolve.proofs.Rows.{Links, no_links, record_refused, references_refused, record_stands, edits_more, words_are}
 use Rattle.ps_resolve.proofs.segments.add_records.Goals as goal
 
@@ -38,8 +39,7 @@ returns-then-asks_for_nothing-clause-sound g c =
 
 pub loop-rec-init : goal.loop-rec-init
 loop-rec-init g c =
-    let few = ap length c.requires.own_code in
-    (0, c.args.segment.now.records, c.into_iter-rec-iterator.ensures.into_iter_gives ∙ c.records-rec-items.ensures, record { listed = refl; first = ([], (λ p h. c.new-taken.ensures p (omega (arith, h, few, c.requires.small))), refl); words = refl })
+    (0, c.args.segment.now.records, c.into_iter-rec-iterator.ensures.into_iter_gives ∙ c.records-rec-items.ensures, record { listed = refl; first = ([], first_taken c.args.procedures.now c.reserved-taken.result.words c.reserved-taken.ensures, refl); words = refl })
 
 pub overflow_add-next : goal.overflow_add-next
 overflow_add-next g c =

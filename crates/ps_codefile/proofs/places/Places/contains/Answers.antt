@@ -1,15 +1,5 @@
-use Rattle.std.proofs.Common.{◌≡◌, ◌≤◌, ◌-◌, ◌/◌, ◌∙◌, length, false, sym, arith}
-use Rattle.std.specs.Prelude.{nat_lt}
-use Rattle.std.proofs.lemmas.Bool.Decides.{nat_tests}
-use Rattle.ps_codefile.proofs.Bits.{marked, unmarked}
+use Rattle.ps_codefile.proofs.Bits.{tested}
 use Rattle.ps_codefile.proofs.places.Places.contains.Goals as goal
 
-pub returns-then-i-lt-SPAN : goal.returns-then-i-lt-SPAN
-returns-then-i-lt-SPAN c = marked c.args.self.now.base c.args.self.now.words c.args.place (omega arith)
-
-pub returns-else-i-lt-SPAN : goal.returns-else-i-lt-SPAN
-returns-else-i-lt-SPAN c =
-    let i = c.args.place - c.args.self.now.base in
-    let outside : nat_lt i 66112 ≡ false = grind (arith, nat_tests) in
-    let past : length c.args.self.now.words ≤ i / 64 = omega arith in
-    outside ∙ sym (unmarked c.args.self.now.base c.args.self.now.words c.args.place past)
+pub returns : goal.returns
+returns c = tested c.args.self.now.words c.args.place

@@ -25,6 +25,7 @@ invariant_of-result c =
     let got = c.in_ok-tables.ensures.ok in
     record {
       whole = omega arith;
+      from = omega arith;
       listed = got.1;
       reserved = λ q. c.reserved_places-reserved.ensures q ∙ (ap (λ (ts : List (Option ℕ)). is_between (dictionary_start c.args.code.now) (length c.args.code.now) q || list_any (passes (is_in_table q)) ts) c.as_slice-3.ensures.value ∙ reserved_from c.args.order c.args.code.now items q got.1);
     }
