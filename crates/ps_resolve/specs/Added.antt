@@ -1,6 +1,6 @@
 -- Units that only a unit names: which names are sought in the libraries, which empty slot each takes, the segments that are added so, and then all segments of a link.
 -- Source: this project's profile.
-use Rattle.std.specs.Prelude.{ℕ, ◌+◌, ◌==◌, ◌||◌, if◌then◌else◌, List, [], ◌∷◌, ◌++◌, map, slice_get, Bool, true, Option, Some, None, is_some, is_none}
+use Rattle.std.specs.Prelude.{◌≡◌, ◌⊎◌, ◌≤◌, ℕ, ◌+◌, ◌==◌, ◌||◌, if◌then◌else◌, List, [], ◌∷◌, ◌++◌, length, map, slice_get, All, Bool, true, Option, Some, None, is_some, is_none}
 use Rattle.std.specs.List.{range_with_len, list_any, filter, filter_map, flat_map, find}
 use Rattle.std.specs.Map.{lookup}
 use Rattle.std.specs.Option.{option_map, option_map_or, option_or, option_and_then}
@@ -37,6 +37,14 @@ is_had units row name = is_some (lookup (bytes_eq name) units) || list_any (λ g
 abbrev pub sought_from : List (List ℕ × ℕ) → List UnitReference → List UnitReference → List UnitReference
 sought_from units row [] = row
 sought_from units row (g ∷ gs) = sought_from units (if is_had units row g.name then row else row ++ g ∷ []) gs
+
+-- a unit in a slot of the host has the name that the record asks for, or it is in the row, where the record is a UNITREF
+abbrev pub IsHad : List (List ℕ × ℕ) → List UnitReference → Record → Type 0
+IsHad units row r = is_unit_reference r.body ≡ true → is_had units row r.name ≡ true
+
+-- so it is with all of the records, or the row has ten names, of which no more are kept
+abbrev pub AreHad : List (List ℕ × ℕ) → List UnitReference → List Record → Type 0
+AreHad units row rs = (10 ≤ length row) ⊎ All (IsHad units row) rs
 
 -- the slots that units may be added in, ascending
 unfoldable pub empty_slots : Order → List ℕ → List ℕ

@@ -1,6 +1,6 @@
 -- The references of a segment: what their operands become, and the first fault of them.
 -- Source: the link records UNITREF, PUBLREF and PRIVREF are those of the published II.0 Linker source; which fault comes first is this project's profile.
-use Rattle.std.specs.Prelude.{ℕ, ◌+◌, List, [], ◌∷◌, ◌++◌, map, Bool, Option, Some, None, Result, Ok, Err, sum_by}
+use Rattle.std.specs.Prelude.{◌≡◌, ℕ, ◌+◌, List, [], ◌∷◌, ◌++◌, map, Bool, Option, Some, None, Result, Ok, Err, All, sum_by}
 use Rattle.std.specs.Option.{option_map, option_or}
 use Rattle.std.specs.Map.{lookup}
 use Rattle.std.specs.Str.{bytes_eq}
@@ -44,6 +44,13 @@ target_in known off name (Eof next) = Ok (Slot 0)
 
 abbrev pub target_of : Known → ℕ → Record → Result Target Reason
 target_of known off r = target_in known off r.name r.body
+
+-- the record is no UNITREF or PUBLREF of a name that stands for nothing, or for a constant
+abbrev pub HasTarget : Known → Record → Type 0
+HasTarget known r = (t : Target) × (target_of known 0 r ≡ Ok t)
+
+abbrev pub HaveTargets : Known → List Record → Type 0
+HaveTargets known rs = All (HasTarget known) rs
 
 -- how many words a record's private takes
 abbrev pub words_taken : Body → ℕ

@@ -1,6 +1,6 @@
 -- The segments that the files have, seen as the segments of the link, and what is known of them once the files were read without a fault.
 -- Source: this project's profile.
-use Rattle.std.specs.Prelude.{◌≡◌, ◌≤◌, ◌*◌, ◌==◌, if◌then◌else◌, ℕ, List, [], length, drop, Bool, true, false, Option, None}
+use Rattle.std.specs.Prelude.{◌≡◌, ◌≤◌, ◌*◌, ◌==◌, if◌then◌else◌, ℕ, All, List, [], length, drop, Bool, true, false, Option, None}
 use Rattle.std.specs.List.{find, filter_map, Contains}
 use Rattle.std.specs.Option.{option_or}
 use Rattle.ps_words.specs.declared.order.Order.{Order}
@@ -32,6 +32,14 @@ IsRowOf order file e rs = reading order (information_of file e) ≡ (rs, None)
 -- the link information of the segment, where its references are resolved, begins in its block of its file, and its records are all that stand there
 abbrev pub IsPlaced : Order → List ℕ → List (List ℕ) → SegmentView → Type 0
 IsPlaced order host libs s = is_linked s.role ≡ true → reading order (drop (block_len * s.block) (file_at host libs s.file)) ≡ (s.records, None)
+
+-- where the link information of two linked segments begins in one block of one file, they have the same records
+abbrev pub IsLike : SegmentView → SegmentView → Type 0
+IsLike s q = is_linked s.role ≡ true → is_linked q.role ≡ true → s.file ≡ q.file → s.block ≡ q.block → s.records ≡ q.records
+
+-- so it is with any two of the segments
+abbrev pub AreAlike : List SegmentView → Type 0
+AreAlike segs = All (λ s. All (IsLike s) segs) segs
 
 -- one of the segments has these records, which are resolved, and its link information begins in this block of this file
 abbrev pub HasRow : List SegmentView → ℕ → ℕ → List Record → Type 0

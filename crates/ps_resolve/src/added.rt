@@ -6,10 +6,10 @@ ghost use Rattle.std.specs.Str.{bytes_eq};
 ghost use Rattle.arrayvec.specs.ArrayVec.{array_vec_len};
 ghost use Rattle.ps_codefile.specs.Dictionary.{slots, is_nameless as is_nameless_spec};
 ghost use Rattle.ps_resolve.specs.Sources.{is_named, is_empty as is_empty_role, chosen_library as chosen_library_spec, contents};
-ghost use Rattle.ps_resolve.specs.Added.{unit_references, all_unit_references, is_had as is_had_spec, is_missing, sought_from, empty_slots as empty_slots_spec, unplaced_fault, placed_fault, added_segment, rounds_in, rounds_of};
+ghost use Rattle.ps_resolve.specs.Added.{AreHad, unit_references, all_unit_references, is_had as is_had_spec, is_missing, sought_from, empty_slots as empty_slots_spec, unplaced_fault, placed_fault, added_segment, rounds_in, rounds_of};
 ghost use Rattle.ps_resolve.specs.Faults.{is_role, libraries_fault};
 ghost use Rattle.ps_resolve.specs.Names.{units_by_name};
-ghost use Rattle.ps_resolve.specs.Views.{segment_of, IsSound, IsPlaced};
+ghost use Rattle.ps_resolve.specs.Views.{segment_of, IsSound, IsPlaced, IsLike, AreAlike};
 
 use crate::names::slot_of;
 use crate::segment::Segment;
@@ -152,13 +152,34 @@ fn seek_records(own: &[Segment], row: &mut ArrayVec<UnitReference, 10>, segment:
     }
 }
 
+/// Adds the names that the records of a segment seek behind the row. Those of records that an earlier
+/// segment has too are had.
+fn seek_unseen<'a>(
+    own: &[Segment<'a>],
+    row: &mut ArrayVec<UnitReference, 10>,
+    earlier: &[Segment<'a>],
+    segment: &Segment<'a>,
+)
+    requires few { length row.old.items ≤ 10 }
+    requires alike { All (IsLike segment.now) earlier.now }
+    requires had { All (λ s. AreHad (units_by_name own.now) row.old.items s.records) earlier.now }
+    ensures { row.new.items ≡ take 10 (sought_from (units_by_name own.now) row.old.items
+        (unit_references segment.now.file segment.now.slot 0 segment.now.records)) }
+{
+    if segment.shares_with(earlier) {
+        return;
+    }
+    seek_records(own, row, segment);
+}
+
 /// The names that the host's own segments seek.
-fn sought_by(own: &[Segment]) -> ArrayVec<UnitReference, 10>
+fn sought_by<'a>(own: &[Segment<'a>]) -> ArrayVec<UnitReference, 10>
+    requires { AreAlike own.now }
     ensures { result.items ≡ take 10 (sought_from (units_by_name own.now) [] (all_unit_references (map segment_of own.now))) }
 {
     let mut row: ArrayVec<UnitReference, MAX_SOUGHT> = ArrayVec::new();
-    for segment in own {
-        seek_records(own, &mut row, segment);
+    for (index, segment) in own.iter().enumerate() {
+        seek_unseen(own, &mut row, &own[..index], segment);
     }
     row
 }
@@ -249,6 +270,7 @@ fn add_in<'a>(
     slots: &[u8],
 ) -> Result<ArrayVec<Segment<'a>, 9>, Fault>
     requires libraries { libraries_fault order (contents libs.now) ≡ None }
+    requires alike { AreAlike own.now }
     requires few { length slots.now ≤ 9 }
     requires in_range { All (λ slot. slot < 16) slots.now }
     ensures fault { (host : List ℕ) → result_err result ≡ (rounds_in order host (contents libs.now) (map segment_of own.now) slots.now).fault }
@@ -287,7 +309,8 @@ pub(crate) fn add_units<'a>(
     libs: &'a [&'a [u8]],
     own: &[Segment<'a>],
 ) -> Result<ArrayVec<Segment<'a>, 9>, Fault>
-    requires { libraries_fault host.now.order (contents libs.now) ≡ None }
+    requires libraries { libraries_fault host.now.order (contents libs.now) ≡ None }
+    requires alike { AreAlike own.now }
     ensures fault { result_err result ≡ (rounds_of host.now.order host.now.file (contents libs.now) (map segment_of own.now)).fault }
     ensures added { IfOk result (λ added. map segment_of added.items ≡ (rounds_of host.now.order host.now.file (contents libs.now) (map segment_of own.now)).added) }
     ensures placed { IfOk result (λ added. All (IsPlaced host.now.order host.now.file (contents libs.now)) added.items) }

@@ -1,4 +1,4 @@
-ghost use Rattle.std.specs.Prelude.{◌≡◌, ℕ, ◌<◌, ◌≤◌, ◌+◌, ◌∷◌, [], length, map, All, true, None, IfOk, OnOk, IfErr, IfSome, IsSome, if◌then◌else◌, ⊤};
+ghost use Rattle.std.specs.Prelude.{◌≡◌, ℕ, ◌<◌, ◌≤◌, ◌+◌, ◌∷◌, [], List, length, map, All, true, None, IfOk, OnOk, IfErr, IfSome, IsSome, if◌then◌else◌, ⊤};
 ghost use Rattle.std.specs.Option.{option_map, option_to_list};
 ghost use Rattle.ps_resolve.specs.Edits.{IsOfTable, AreOfReferences};
 ghost use Rattle.ps_resolve.specs.Faults.{segment_fault, references_fault_from, linking_fault};
@@ -7,9 +7,12 @@ ghost use Rattle.ps_resolve.specs.Linkable.{AscendFrom, HasOneHost};
 ghost use Rattle.ps_resolve.specs.Linking.{segment_edits as segment_edits_spec, data_edits, edited_from};
 ghost use Rattle.ps_resolve.specs.Plans.{AreStopped, IsPlanOf, LinksSegment, LinkSegments, origin_of, origin_of_source};
 ghost use Rattle.ps_resolve.specs.Privates.{owner_of, private_words, all_words};
+ghost use Rattle.ps_resolve.specs.References.{HaveTargets};
 ghost use Rattle.ps_resolve.specs.Sources.{Segment as SegmentSpec, is_linked as is_linked_spec, is_host as is_host_spec, host_of as host_of_spec};
 ghost use Rattle.ps_resolve.specs.Stops.{IsStop};
-ghost use Rattle.ps_resolve.specs.Views.{segment_of, IsSound};
+ghost use Rattle.ps_resolve.specs.Views.{segment_of, IsSound, IsLike, AreAlike, HasRow};
+ghost use Rattle.ps_linkinfo.specs.Counts.{privates_in, references_in};
+ghost use Rattle.ps_linkinfo.specs.declared.record.LinkRecord.{LinkRecord as Record};
 ghost use Rattle.ps_resolve.specs.declared.linkage.Stop.TheVariants.{Memory};
 
 use crate::allotment::Allotment;
@@ -94,6 +97,49 @@ fn segment_edits<A: Allocator + Copy>(
     }
 }
 
+/// The segment has the records of an earlier one, so what they name is found, and none of them has a
+/// reference or asks for a private.
+fn is_resolved<'a>(earlier: &[Segment<'a>], segment: &Segment<'a>) -> bool
+    ensures linked { result ≡ true → is_linked_spec segment.now.role ≡ true }
+    ensures row { result ≡ true → (records : List Record) × HasRow earlier.now segment.now.file segment.now.block records }
+    ensures references { result ≡ true → references_in segment.now.records ≡ 0 }
+    ensures privates { result ≡ true → privates_in segment.now.records ≡ 0 }
+{
+    segment.records.references() == 0
+        && segment.records.privates() == 0
+        && segment.shares_with(earlier)
+}
+
+/// The edits of a segment behind others whose references are resolved, as `segment_edits` gives them.
+/// Records that an earlier segment has too are not looked at again, where they change nothing.
+fn next_edits<'a, A: Allocator + Copy>(
+    alloc: A,
+    order: Order,
+    names: &Names<A>,
+    earlier: &[Segment<'a>],
+    segment: &Segment<'a>,
+    free: u16,
+    own: Option<Edit>,
+) -> Result<(Vec<Edit, A>, u16), Stop>
+    requires sound { IsSound order (segment_of segment.now) }
+    requires room { free + private_words segment.now.records < 65536 }
+    requires table { IfSome own (IsOfTable order segment.now.code.now) }
+    requires alike { All (IsLike segment.now) earlier.now }
+    requires named { All (λ s. HaveTargets names.now s.records) earlier.now }
+    ensures links { (words : ℕ) → option_to_list own ≡ (if is_host_spec segment.now.role then data_edits order words segment.now.code.now else [])
+        → IfOk result (λ found. LinksSegment order (record { segment = segment_of segment.now; edits = segment_edits_spec order names.now words free (segment_of segment.now) }) found.0.items) }
+    ensures end { IfOk result (λ found. found.1 ≡ free + private_words segment.now.records) }
+    ensures sound { OnOk result (segment_fault order names.now free (segment_of segment.now) ≡ None) }
+    ensures named { OnOk result (HaveTargets names.now segment.now.records) }
+    ensures stop { IfErr result
+        (IsStop ⊤ (segment_fault order names.now free (segment_of segment.now))) }
+{
+    if is_resolved(earlier, segment) {
+        return segment_edits(alloc, order, names, &segment.without_records(), free, own);
+    }
+    segment_edits(alloc, order, names, segment, free, own)
+}
+
 /// The edit of the data size, where the segment is the host's.
 fn own_edit(segment: &Segment, size: Edit) -> Option<Edit>
     ensures value { option_to_list result ≡ (if is_host_spec segment.now.role then size ∷ [] else []) }
@@ -118,6 +164,7 @@ fn all_edits<A: Allocator + Copy>(
     requires sound { All (IsSound order) (map segment_of segments.now) }
     requires room { base + all_words (map owner_of (map segment_of segments.now)) < 65536 }
     requires table { All (λ s. is_host_spec s.role ≡ true → IsOfTable order s.code size) (map segment_of segments.now) }
+    requires alike { AreAlike segments.now }
     ensures links { (words : ℕ) → All (λ s. is_host_spec s.role ≡ true → data_edits order words s.code ≡ size ∷ []) (map segment_of segments.now)
         → IfOk result (λ edits. LinkSegments order (edited_from order names.now words base (map segment_of segments.now)) (map (λ e. e.items) edits.items)) }
     ensures sound { IfOk result (λ _. references_fault_from order names.now base (map segment_of segments.now) ≡ None) }
@@ -125,8 +172,10 @@ fn all_edits<A: Allocator + Copy>(
 {
     let mut edits = Vec::new(alloc);
     let mut free = base;
-    for segment in segments {
-        match segment_edits(alloc, order, names, segment, free, own_edit(segment, size)) {
+    for (index, segment) in segments.iter().enumerate() {
+        let earlier = &segments[..index];
+        let own = own_edit(segment, size);
+        match next_edits(alloc, order, names, earlier, segment, free, own) {
             Err(stop) => return Err(stop),
             Ok((found, end)) => {
                 edits.push(found)?;
@@ -173,6 +222,7 @@ pub(crate) fn link_segments<'a, A: Allocator + Copy>(
     requires one_host { HasOneHost (map segment_of segments.now) }
     requires ascending { AscendFrom 0 (map (λ s. s.slot) (map segment_of segments.now)) }
     requires whole { 512 ≤ length host.now }
+    requires alike { AreAlike segments.now }
     requires names { names ≡ slot_names host.now (map segment_of segments.now) }
     ensures plan { IfOk result (IsPlanOf order host.now (map segment_of segments.now)) }
     ensures sound { IfOk result (λ _. linking_fault order (map segment_of segments.now) ≡ None) }

@@ -27,12 +27,20 @@ impl<'k, 'a, A: Allocator + Copy> Model for Names<'k, 'a, A> {
     ghost view = { λ n. record { definitions = n.definitions.now; units = units_by_name n.segments.now } };
 }
 
+/// The names are the same. Each is compared as one word, which takes less than byte by byte.
+#[inline(always)]
+fn is_same_name(name: Name, other: Name) -> bool
+    ensures { result ≡ bytes_eq name other }
+{
+    u64::from_le_bytes(name) == u64::from_le_bytes(other)
+}
+
 /// The slot of the unit of this name.
 pub(crate) fn slot_of(segments: &[Segment], name: Name) -> Option<u8>
     ensures { result ≡ lookup (bytes_eq name) (units_by_name segments.now) }
 {
     for segment in segments {
-        if is_unit(segment.role) && name == segment.name {
+        if is_unit(segment.role) && is_same_name(name, segment.name) {
             return Some(segment.slot);
         }
     }

@@ -1,4 +1,6 @@
-ghost use Rattle.std.specs.Prelude.{◌≡◌, IfSome};
+ghost use Rattle.std.specs.Prelude.{◌≡◌, [], List, true, IfSome};
+ghost use Rattle.ps_linkinfo.specs.declared.record.LinkRecord.{LinkRecord as Record};
+ghost use Rattle.ps_resolve.specs.Sources.{is_linked as is_linked_spec};
 ghost use Rattle.ps_resolve.specs.Views.{HasRow};
 
 use crate::roles::is_linked;
@@ -44,6 +46,26 @@ impl<'a> Segment<'a> {
             block: self.block,
             records: self.records.copied(),
         }
+    }
+
+    /// The same segment without its records.
+    pub(crate) fn without_records(&self) -> Segment<'a>
+        ensures { result ≡ record self.now { records = [] } }
+    {
+        Segment {
+            records: LinkInformation::none(),
+            ..self.copied()
+        }
+    }
+
+    /// One of these segments is linked, and its link information begins in the same block of the same
+    /// file as that of this linked segment.
+    pub(crate) fn shares_with(&self, segments: &[Segment<'a>]) -> bool
+        ensures linked { result ≡ true → is_linked_spec self.now.role ≡ true }
+        ensures row { result ≡ true
+            → (records : List Record) × HasRow segments.now self.now.file self.now.block records }
+    {
+        is_linked(self.role) && row_of(segments, self.file, self.block).is_some()
     }
 }
 

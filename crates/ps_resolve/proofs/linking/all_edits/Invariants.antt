@@ -1,23 +1,25 @@
-use Rattle.std.proofs.Common.{◌≡◌, ℕ, ◌+◌, ◌++◌, ◌∷◌, [], List, map, drop, true}
+use Rattle.std.proofs.Common.{◌≡◌, ℕ, ◌+◌, ◌++◌, ◌∷◌, [], List, map, take, drop, true}
 use Rattle.std.specs.Prelude.{All}
 use Rattle.ps_words.specs.declared.edit.Edit.{Edit}
 use Rattle.ps_resolve.specs.Faults.{references_fault_from}
 use Rattle.ps_resolve.specs.Linking.{data_edits, edited_from}
 use Rattle.ps_resolve.specs.Plans.{LinkSegments}
 use Rattle.ps_resolve.specs.Privates.{owner_of, all_words}
+use Rattle.ps_resolve.specs.References.{HaveTargets}
 use Rattle.ps_resolve.specs.Views.{segment_of}
 use Rattle.ps_resolve.specs.Sources.{is_host}
 use Rattle.ps_resolve.proofs.linking.all_edits.Given as goal
 
 -- the edits so far and those of the segments that are left link all; so it is with words, and with the first fault
-abbrev pub invariant-loop-segment : goal.invariant-loop-segment
-invariant-loop-segment g l =
+abbrev pub invariant-loop-index : goal.invariant-loop-index
+invariant-loop-index g l =
     let all = map segment_of l.segments in
-    let rest = map segment_of (drop l.segment-index l.segments) in
+    let rest = map segment_of (drop l.index l.segments) in
     record {
       words : l.free + all_words (map owner_of rest) ≡ l.base + all_words (map owner_of all);
       first : references_fault_from l.order l.names l.free rest ≡ references_fault_from l.order l.names l.base all;
       links : (words : ℕ) → All (λ s. is_host s.role ≡ true → data_edits l.order words s.code ≡ l.size ∷ []) all
           → (behind : List (List Edit)) → LinkSegments l.order (edited_from l.order l.names words l.free rest) behind
           → LinkSegments l.order (edited_from l.order l.names words l.base all) (map (λ e. e.items) l.edits.items ++ behind);
+      named : All (λ s. HaveTargets l.names s.records) (take l.index l.segments);
     }

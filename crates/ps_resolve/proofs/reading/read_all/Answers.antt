@@ -5,8 +5,14 @@ use Rattle.ps_resolve.specs.Views.{segment_of, segments_in_slots}
 use Rattle.ps_resolve.specs.Faults.{sources_fault}
 use Rattle.ps_resolve.proofs.InSlots.{in_slots_are}
 use Rattle.ps_resolve.proofs.ReadingLibraries.{files}
+use Rattle.ps_resolve.proofs.Sharing.{placed_alike}
 use Rattle.ps_resolve.proofs.Stages.{skip, keep}
 use Rattle.ps_resolve.proofs.reading.read_all.Goals as goal
+
+pub add_units-requires-clause-alike : goal.add_units-requires-clause-alike
+add_units-requires-clause-alike c =
+    let host = c.args.host.now in
+    rw c.as_slice-own.ensures.value (placed_alike host.order host.file (files c.args.libs.now) c.in-Ok.segments.items c.in-Ok.ensures.placed)
 
 pub returns-in-Err-clause-fault : goal.returns-in-Err-clause-fault
 returns-in-Err-clause-fault c =

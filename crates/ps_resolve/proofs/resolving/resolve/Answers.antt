@@ -9,6 +9,8 @@ use Rattle.ps_resolve.specs.Faults.{linking_fault}
 use Rattle.ps_resolve.specs.AllFaults.{first_fault}
 use Rattle.ps_resolve.specs.Plans.{AreStopped, IsPlanOf, IsStopped}
 use Rattle.ps_resolve.proofs.FirstFaults.{if_ok, if_err, first_read, first_linked, stopped}
+use Rattle.ps_resolve.proofs.ReadingLibraries.{files}
+use Rattle.ps_resolve.proofs.Sharing.{placed_alike}
 use Rattle.ps_resolve.proofs.resolving.resolve.Goals as goal
 
 pub returns-in-Err-clause-stop : goal.returns-in-Err-clause-stop
@@ -36,3 +38,7 @@ returns-in-Ok g c =
 pub link_segments-requires-clause-names : goal.link_segments-requires-clause-names
 link_segments-requires-clause-names g c =
     c.in-Ok.ensures.names ∙ ap (λ (ss : List SegmentView). slot_names c.args.host.now (map segment_of ss)) (sym c.as_slice.ensures.value)
+
+pub link_segments-requires-clause-alike : goal.link_segments-requires-clause-alike
+link_segments-requires-clause-alike g c =
+    rw c.as_slice.ensures.value (placed_alike c.in-Ok.files.order c.args.host.now (files c.args.libs.now) c.in-Ok.files.segments.items c.in-Ok.ensures.placed)
