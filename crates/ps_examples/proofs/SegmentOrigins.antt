@@ -130,8 +130,8 @@ in_the_second = record {
         (subst (λ (f : List ℕ). HasEntry Little util f) (sym (same (put_at 80 aux library) other is)) has)
     before (suc (suc k)) other low lt is has = omega (arith, lt)
 
-pub not_in_the_host_that_has_the_name : IsUnitOf Little (with_slot Little 8 util 0 1 18 host) (library ∷ []) util 1 2
-not_in_the_host_that_has_the_name = record {
+pub in_the_library_and_in_the_host : IsUnitOf Little (with_slot Little 8 util 0 1 18 host) (library ∷ []) util 1 2
+in_the_library_and_in_the_host = record {
   library = library;
   file = refl;
   beside = omega arith;

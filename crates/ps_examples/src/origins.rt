@@ -27,12 +27,13 @@ pub fn origins_of_segments()
     ensures an_added_unit { IsAddedUnit Little host three aux_segment }
     ensures a_unit_that_an_added_one_names { IsAddedUnit Little host
         (using_segment ∷ naming_segment ∷ named_segment ∷ []) named_segment }
-    ensures an_added_unit_in_slot_7 { IsAddedUnit Little host_without_7 ((record using_segment
-        { slot = 9 }) ∷ (record aux_segment { slot = 7 }) ∷ []) (record aux_segment { slot = 7 }) }
+    ensures an_added_unit_in_slot_7 { IsAddedUnit Little host_without_7
+        ((record using_segment { slot = 9 }) ∷ (record aux_segment { slot = 7 }) ∷ [])
+        (record aux_segment { slot = 7 }) }
     ensures in_place { IsInPlace demo_segment }
     ensures in_the_library { IsUnitOf Little host (library ∷ []) util 1 2 }
     ensures in_the_second { IsUnitOf Little host (put_at 80 aux library ∷ library ∷ []) util 2 2 }
-    ensures not_in_the_host_that_has_the_name { IsUnitOf Little
+    ensures in_the_library_and_in_the_host { IsUnitOf Little
         (with_slot Little 8 util 0 1 18 host) (library ∷ []) util 1 2 }
     ensures the_only_one_of_sixteen { IsUnitOf Little
         host (put_at 200 util library ∷ []) util 1 2 }
