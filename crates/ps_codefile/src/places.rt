@@ -49,7 +49,8 @@ impl Places {
     pub(crate) fn insert_all(&mut self, start: usize, end: usize)
         requires ordered { start ≤ end }
         requires high { end ≤ span }
-        ensures { (q : ℕ) → has self.new.words q ≡ (has self.old.words q || is_between start end q) }
+        ensures { (q : ℕ) → has self.new.words q
+            ≡ (has self.old.words q || is_between start end q) }
     {
         for place in start..end {
             self.insert(place);

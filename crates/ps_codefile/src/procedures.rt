@@ -122,7 +122,8 @@ fn has_native(code: &[u8], tables: &[Option<usize>]) -> bool
 /// Adds the ten bytes of a table, where there is one, to a set that stands for the places from `base` on.
 fn reserve(places: &mut Places, base: usize, table: Option<usize>)
     requires { ForSome table (HasRoom base) }
-    ensures { (q : ℕ) → marks base places.new.words q ≡ (marks base places.old.words q || passes (is_in_table q) table) }
+    ensures { (q : ℕ) → marks base places.new.words q
+        ≡ (marks base places.old.words q || passes (is_in_table q) table) }
 {
     match table {
         Some(t) => places.insert_all(t - TABLE_WORDS - base, t + TABLE_NUMBERS - base),
@@ -137,7 +138,8 @@ fn reserved_places(code: &[u8], base: usize, start: usize, tables: &[Option<usiz
     requires starts { start ≡ dictionary_start code.now }
     requires near { base ≤ start }
     requires inside { AreWhole code.now tables.now }
-    ensures { (q : ℕ) → marks base result.words q ≡ (is_between start (length code.now) q || list_any (passes (is_in_table q)) tables.now) }
+    ensures { (q : ℕ) → marks base result.words q
+        ≡ (is_between start (length code.now) q || list_any (passes (is_in_table q)) tables.now) }
 {
     let mut places = Places::new();
     places.insert_all(start - base, code.len() - base);
@@ -234,7 +236,8 @@ impl<'a> Procs<'a> {
     /// The reserved places of a code of at most 66112 bytes.
     pub fn reserved(&self) -> Places
         requires { length self.now.code ≤ span }
-        ensures { (place : ℕ) → has result.words place ≡ is_reserved_spec self.now.order self.now.code place }
+        ensures { (place : ℕ) → has result.words place
+            ≡ is_reserved_spec self.now.order self.now.code place }
     {
         self.reserved.copied()
     }

@@ -36,7 +36,8 @@ fn own_edits<A: Allocator + Copy>(
 ) -> Result<Vec<Edit, A>, Stop>
     requires small { length code.now ≤ 32767 }
     requires large { 4 ≤ length code.now }
-    ensures items { IfOk result (λ edits. edits.items ≡ Byte (length code.now - 2) slot ∷ option_to_list own) }
+    ensures items { IfOk result (λ edits. edits.items
+        ≡ Byte (length code.now - 2) slot ∷ option_to_list own) }
     ensures stop { IfErr result (λ stop. stop ≡ Memory) }
 {
     let mut edits = Vec::with_capacity(alloc, references.saturating_add(MOST_OWN_EDITS))?;

@@ -59,7 +59,8 @@ fn linked_edits<A: Allocator + Copy>(
     ensures links { (words : ℕ) → option_to_list own ≡ (if is_host_spec segment.now.role then data_edits order words segment.now.code.now else [])
         → IfOk result (λ found. LinksSegment order (record { segment = segment_of segment.now; edits = segment_edits_spec order names.now words free (segment_of segment.now) }) found.0.items) }
     ensures end { IfOk result (λ found. found.1 ≡ free + private_words segment.now.records) }
-    ensures sound { OnOk result (segment_fault order names.now free (segment_of segment.now) ≡ None) }
+    ensures sound { OnOk result
+        (segment_fault order names.now free (segment_of segment.now) ≡ None) }
     ensures stop { IfErr result
         (IsStop ⊤ (segment_fault order names.now free (segment_of segment.now))) }
 {
@@ -86,7 +87,8 @@ fn segment_edits<A: Allocator + Copy>(
     ensures links { (words : ℕ) → option_to_list own ≡ (if is_host_spec segment.now.role then data_edits order words segment.now.code.now else [])
         → IfOk result (λ found. LinksSegment order (record { segment = segment_of segment.now; edits = segment_edits_spec order names.now words free (segment_of segment.now) }) found.0.items) }
     ensures end { IfOk result (λ found. found.1 ≡ free + private_words segment.now.records) }
-    ensures sound { OnOk result (segment_fault order names.now free (segment_of segment.now) ≡ None) }
+    ensures sound { OnOk result
+        (segment_fault order names.now free (segment_of segment.now) ≡ None) }
     ensures stop { IfErr result
         (IsStop ⊤ (segment_fault order names.now free (segment_of segment.now))) }
 {

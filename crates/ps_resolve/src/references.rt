@@ -52,7 +52,8 @@ fn any_of(places: &Places, target: Target, x: usize) -> bool
 /// Whether one of the places of the operand is reserved.
 fn is_any_reserved(procedures: &Procs, target: Target, x: usize) -> bool
     requires { x + width_of_spec target ≤ 32768 }
-    ensures { result ≡ list_any (is_reserved procedures.now.order procedures.now.code) (range_with_len x (width_of_spec target)) }
+    ensures { result ≡ list_any (is_reserved procedures.now.order procedures.now.code)
+        (range_with_len x (width_of_spec target)) }
 {
     match target {
         Target::Slot(_) => procedures.is_reserved(x),

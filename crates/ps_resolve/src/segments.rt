@@ -71,7 +71,8 @@ fn add_body<A: Allocator>(
     ensures sound { (os : List (ℕ × ℕ)) → AreTaken procedures.now taken.old.words os
         → OnOk result (refs_fault_at place procedures.now target os (refs_of body.now) ≡ None) }
     ensures stop { (os : List (ℕ × ℕ)) → AreTaken procedures.now taken.old.words os
-        → IfErr result (IsStop ⊤ (refs_fault_at place procedures.now target os (refs_of body.now))) }
+        → IfErr result
+        (IsStop ⊤ (refs_fault_at place procedures.now target os (refs_of body.now))) }
     ensures taken { (os : List (ℕ × ℕ)) → AreTaken procedures.now taken.old.words os
         → OnOk result (AreTaken procedures.now taken.new.words
         (os ++ operands target (refs_of body.now))) }
