@@ -8,10 +8,11 @@ const WORDS: usize = 1033;
 /// How many places a set has room for.
 pub(crate) const SPAN: usize = WORDS * WORD_BITS;
 
-/// A set of places, each below 66112: a bit for each.
+/// A set of places, each below 66112.
 #[derive(Drop)]
 pub struct Places {
-    words: [u64; WORDS],
+    /// A bit for each place, from the lowest bit of the first word on. Any bits are a set.
+    pub words: [u64; WORDS],
 }
 
 impl Places {
