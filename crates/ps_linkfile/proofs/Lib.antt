@@ -11,3 +11,4 @@ pub mod Maps
 pub mod Shows
 pub mod ReferenceText
 pub mod Written
+pub mod ShownNames

@@ -58,13 +58,37 @@ pub(crate) fn add_two_digits<A: Allocator>(
 }
 
 /// A byte of a name as a line shows it: itself where ASCII prints it, and otherwise a question mark.
-fn shown_char(byte: u8) -> char
+fn shown_code(byte: u8) -> u8
     ensures { result ≡ shown_byte byte }
 {
     match byte {
-        b' '..=b'~' => byte as char,
-        _ => '?',
+        b' '..=b'~' => byte,
+        _ => b'?',
     }
+}
+
+/// The same as a character.
+fn shown_char(byte: u8) -> char
+    ensures { result ≡ shown_byte byte }
+{
+    shown_code(byte) as char
+}
+
+/// A name as a line shows it, all of it at once.
+fn shown_codes(name: Name) -> [u8; 8]
+    ensures { result ≡ shown name }
+{
+    let [a, b, c, d, e, f, g, h] = name;
+    [
+        shown_code(a),
+        shown_code(b),
+        shown_code(c),
+        shown_code(d),
+        shown_code(e),
+        shown_code(f),
+        shown_code(g),
+        shown_code(h),
+    ]
 }
 
 /// Adds a slot and a name behind this text.
@@ -92,10 +116,11 @@ impl fmt::Display for Shown {
     ghost output = { λ name. Some (shown name.0) };
 
     fn fmt<W: fmt::Write>(&self, f: &mut fmt::Formatter<W>) -> fmt::Result {
-        for byte in &self.0 {
-            f.write_char(shown_char(*byte))?;
+        let codes = shown_codes(self.0);
+        match str::from_utf8(&codes) {
+            Err(_) => unreachable!(),
+            Ok(text) => f.write_str(text),
         }
-        Ok(())
     }
 }
 

@@ -18,6 +18,7 @@ use crate::lines::{FaultWords, Shown, TwoDigits, write_number};
 use crate::pieces::{PIECE, add_piece};
 use crate::stream::write_text;
 use arrayvec::ArrayVec;
+use itoa::Buffer;
 use ps_codefile::{Dict, Entry, Role};
 use ps_linkinfo::{Body, LinkRecord, Records, Refs, walk_from_start};
 use ps_words::{Fault, Name, Order, Reason};
@@ -195,7 +196,7 @@ fn add_head<W: fmt::Write>(
 ) -> fmt::Result
     ensures { WritesOnOk W.write_str_gives text.old result (decimal rec ++ kind.now ++ shown name) text.new }
 {
-    write_number(text, "", rec)?;
+    text.write_str(Buffer::new().format(rec))?;
     text.write_str(kind)?;
     Shown(name).fmt(text)
 }

@@ -1,8 +1,0 @@
-use Rattle.std.proofs.Common.{take}
-use Rattle.std.specs.Fmt.{HasWritten, IsPlainFormatter}
-use Rattle.ps_linkfile.specs.Lines.{shown}
-use Rattle.ps_linkfile.proofs.lines.ShownDisplay.fmt.Given as goal
-
--- the bytes so far are shown
-abbrev pub invariant-loop-byte : goal.invariant-loop-byte
-invariant-loop-byte g l = IsPlainFormatter l.initial.f → HasWritten g.W.Write.write_str_gives l.initial.f (shown (take l.byte-index l.byte-items)) l.f
