@@ -178,7 +178,8 @@ impl<'a> Dict<'a> {
     /// before the code does.
     pub fn code(&self, slot: u8) -> Result<&'a [u8], Reason>
         requires { slot < 16 }
-        ensures { IsViewOf (λ code. code.now) result (code_of self.now.file (entry_at self.now.order self.now.file slot)) }
+        ensures { IsViewOf (λ code. code.now) result
+            (code_of self.now.file (entry_at self.now.order self.now.file slot)) }
     {
         let entry = self.entry(slot);
         if entry.has_bad_length() {
@@ -199,7 +200,8 @@ impl<'a> Dict<'a> {
     /// linked segment begins; empty where that block lies past the file's end.
     pub fn after(&self, slot: u8) -> &'a [u8]
         requires { slot < 16 }
-        ensures { result.now ≡ information_of self.now.file (entry_at self.now.order self.now.file slot) }
+        ensures { result.now ≡ information_of self.now.file
+            (entry_at self.now.order self.now.file slot) }
     {
         let entry = self.entry(slot);
         let start = BLOCK_SIZE * (entry.address as usize + blocks_of(entry.length as usize));

@@ -52,8 +52,10 @@ fn read_table(order: Order, code: &[u8], start: usize, p: usize) -> Result<Optio
     requires starts { start ≡ dictionary_start code.now }
     requires low { 1 ≤ p }
     requires high { p ≤ procedures code.now }
-    ensures ok { IfOk result (λ table. (is_placed order code.now p ≡ true) × (table ≡ table_of order code.now p) × ForSome table (IsWhole code.now)) }
-    ensures bad { IfErr result (λ why. (is_placed order code.now p ≡ false) × (why ≡ Reason.BadProcDict)) }
+    ensures ok { IfOk result (λ table. (is_placed order code.now p ≡ true)
+        × (table ≡ table_of order code.now p) × ForSome table (IsWhole code.now)) }
+    ensures bad { IfErr result (λ why. (is_placed order code.now p ≡ false)
+        × (why ≡ Reason.BadProcDict)) }
 {
     let place = code.len() - NUMBERS - WORD * p;
     let content = get(order, code, place) as usize;
@@ -78,8 +80,12 @@ fn read_tables(
 ) -> Result<ArrayVec<Option<usize>, MAX_PROCEDURES>, Reason>
     requires whole { dictionary_len code.now ≤ length code.now }
     requires starts { start ≡ dictionary_start code.now }
-    ensures ok { IfOk result (λ tables. (list_all (is_placed order code.now) (numbers code.now) ≡ true) × (tables.items ≡ map (table_of order code.now) (numbers code.now)) × AreWhole code.now tables.items) }
-    ensures bad { IfErr result (λ why. (list_all (is_placed order code.now) (numbers code.now) ≡ false) × (why ≡ Reason.BadProcDict)) }
+    ensures ok { IfOk result (λ tables.
+        (list_all (is_placed order code.now) (numbers code.now) ≡ true)
+        × (tables.items ≡ map (table_of order code.now) (numbers code.now))
+        × AreWhole code.now tables.items) }
+    ensures bad { IfErr result (λ why. (list_all (is_placed order code.now) (numbers code.now)
+        ≡ false) × (why ≡ Reason.BadProcDict)) }
 {
     let count = code[code.len() - 1] as usize;
     let mut tables = ArrayVec::new();

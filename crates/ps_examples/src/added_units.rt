@@ -7,29 +7,81 @@ ghost use Rattle.ps_words.specs.declared.order.Order.TheVariants.{Little};
 
 /// Which names are sought in the libraries, and which slots their units take.
 pub fn units_that_are_added()
-    ensures a_unit_that_only_a_unit_names { first_fault host (library_of_used (util_information Little) ∷ []) ≡ None }
-    ensures each_name_of_its_records_is_sought { first_fault host (with_aux aux_code (util_information Little) (library_with Little (unit_ref Little aux (2 ∷ []) ++ unit_ref Little nobody [] ++ eof_mark Little 0)) ∷ []) ≡ Some (in_record 1 7 1 reason.MissingUnit) }
-    ensures its_own_records_are_looked_at { first_fault host (library_of_used (unit_ref Little aux (2 ∷ []) ++ unit_ref Little nobody [] ++ eof_mark Little 0) ∷ []) ≡ Some (in_record 1 8 1 reason.MissingUnit) }
-    ensures the_first_empty_slot_is_below_the_unit { first_fault (with_slot Little 7 blank 0 0 0 (with_slot Little 9 util 3 0 0 host)) (put_at 198 (5 ∷ []) (library_of_used (util_information Little)) ∷ []) ≡ Some (in_slot 1 7 (reason.NotAUnit 5)) }
-    ensures one_slot_is_enough_for_one_name { first_fault (filled_host 7) (library_of_used (unit_ref Little aux (2 ∷ []) ++ unit_ref Little util (5 ∷ []) ++ eof_mark Little 0) ∷ []) ≡ None }
-    ensures one_slot_is_not_enough_for_two { first_fault (filled_host 7) (with_slot Little 4 tools 3 3 24 (library_of_used (publ_ref Little count (1 ∷ []) ++ unit_ref Little tools [] ++ eof_mark Little 0)) ∷ []) ≡ Some (in_record 1 15 1 reason.NoSlot) }
-    ensures no_slot_is_left { first_fault (filled_host 8) (library_of_used (util_information Little) ∷ []) ≡ Some (in_record 1 7 0 reason.NoSlot) }
-    ensures there_is_no_slot_behind_the_last { first_fault (put_at 64 (zeros 8) (filled_host 8)) (library_of_used (util_information Little) ∷ []) ≡ Some (in_record 1 7 0 reason.NoSlot) }
-    ensures a_linked_segment_of_the_name_is_no_unit { first_fault host_with_tools (library_with Little (unit_ref Little tools (2 ∷ []) ++ eof_mark Little 0) ∷ []) ≡ Some (in_record 1 7 0 reason.MissingUnit) }
-    ensures a_name_of_blanks_is_missing { first_fault host (with_slot Little 3 blank 3 1 24 (library_with Little (unit_ref Little blank (2 ∷ []) ++ eof_mark Little 0)) ∷ []) ≡ Some (in_record 1 7 0 reason.MissingUnit) }
-    ensures a_unit_in_place_may_be_named_by_blanks { first_fault (put_at 120 blank (host_in_place Little (unit_ref Little blank (2 ∷ []) ++ eof_mark Little 0))) [] ≡ None }
+    ensures a_unit_that_only_a_unit_names { first_fault host
+        (library_of_used (util_information Little) ∷ []) ≡ None }
+    ensures each_name_of_its_records_is_sought { first_fault host
+        (with_aux aux_code (util_information Little)
+        (library_with Little (unit_ref Little aux (2 ∷ []) ++ unit_ref Little nobody []
+        ++ eof_mark Little 0)) ∷ []) ≡ Some (in_record 1 7 1 reason.MissingUnit) }
+    ensures its_own_records_are_looked_at { first_fault host
+        (library_of_used (unit_ref Little aux (2 ∷ []) ++ unit_ref Little nobody []
+        ++ eof_mark Little 0) ∷ []) ≡ Some (in_record 1 8 1 reason.MissingUnit) }
+    ensures the_first_empty_slot_is_below_the_unit { first_fault
+        (with_slot Little 7 blank 0 0 0 (with_slot Little 9 util 3 0 0 host))
+        (put_at 198 (5 ∷ []) (library_of_used (util_information Little)) ∷ [])
+        ≡ Some (in_slot 1 7 (reason.NotAUnit 5)) }
+    ensures one_slot_is_enough_for_one_name { first_fault (filled_host 7)
+        (library_of_used (unit_ref Little aux (2 ∷ []) ++ unit_ref Little util (5 ∷ [])
+        ++ eof_mark Little 0) ∷ []) ≡ None }
+    ensures one_slot_is_not_enough_for_two { first_fault (filled_host 7)
+        (with_slot Little 4 tools 3 3 24 (library_of_used
+        (publ_ref Little count (1 ∷ []) ++ unit_ref Little tools [] ++ eof_mark Little 0)) ∷ [])
+        ≡ Some (in_record 1 15 1 reason.NoSlot) }
+    ensures no_slot_is_left { first_fault (filled_host 8)
+        (library_of_used (util_information Little) ∷ []) ≡ Some (in_record 1 7 0 reason.NoSlot) }
+    ensures there_is_no_slot_behind_the_last { first_fault (put_at 64 (zeros 8) (filled_host 8))
+        (library_of_used (util_information Little) ∷ []) ≡ Some (in_record 1 7 0 reason.NoSlot) }
+    ensures a_linked_segment_of_the_name_is_no_unit { first_fault host_with_tools
+        (library_with Little (unit_ref Little tools (2 ∷ []) ++ eof_mark Little 0) ∷ [])
+        ≡ Some (in_record 1 7 0 reason.MissingUnit) }
+    ensures a_name_of_blanks_is_missing { first_fault host
+        (with_slot Little 3 blank 3 1 24 (library_with Little
+        (unit_ref Little blank (2 ∷ []) ++ eof_mark Little 0)) ∷ [])
+        ≡ Some (in_record 1 7 0 reason.MissingUnit) }
+    ensures a_unit_in_place_may_be_named_by_blanks { first_fault
+        (put_at 120 blank (host_in_place Little
+        (unit_ref Little blank (2 ∷ []) ++ eof_mark Little 0))) [] ≡ None }
 {}
 
 /// Which fault is named where several stand that have to do with an added unit.
 pub fn order_of_added_units()
-    ensures the_name_of_a_lesser_slot_comes_first { first_fault (host_with Little (publ_def Little count 3 ++ unit_ref Little nobody [] ++ eof_mark Little 8)) (library_with Little (unit_ref Little tools (2 ∷ []) ++ eof_mark Little 0) ∷ []) ≡ Some (in_record 0 1 1 reason.MissingUnit) }
-    ensures a_slot_s_own_code_before_a_missing_unit { first_fault (with_slot Little 8 blank 0 1 32768 host) (library_with Little (unit_ref Little nobody [] ++ eof_mark Little 0) ∷ []) ≡ Some (in_slot 0 8 reason.BadLength) }
-    ensures a_missing_unit_before_no_slot { first_fault (filled_host 8) (library_with Little (unit_ref Little aux (2 ∷ []) ++ eof_mark Little 0) ∷ []) ≡ Some (in_record 1 7 0 reason.MissingUnit) }
-    ensures no_slot_before_a_doubled_unit { first_fault (filled_host 8) (with_slot Little 4 aux 5 3 24 (library_of_used (util_information Little)) ∷ []) ≡ Some (in_record 1 7 0 reason.NoSlot) }
-    ensures a_doubled_unit_before_its_kind { first_fault host (with_slot Little 4 aux 5 3 24 (put_at 198 (5 ∷ []) (library_of_used (util_information Little))) ∷ []) ≡ Some (in_slot 1 8 reason.DoubledUnit) }
-    ensures its_kind_before_its_code { first_fault host (put_at 198 (5 ∷ []) (put_at 1554 (0 ∷ []) (library_of_used (util_information Little))) ∷ []) ≡ Some (in_slot 1 8 (reason.NotAUnit 5)) }
-    ensures its_code_before_its_records { first_fault host (put_at 1554 (0 ∷ []) (put_at 2056 (15 ∷ []) (library_of_used (util_information Little))) ∷ []) ≡ Some (in_slot 1 8 reason.NativeProcedure) }
-    ensures its_records_before_the_next_name { first_fault host (put_at 2056 (15 ∷ []) (with_aux aux_code (util_information Little) (library_with Little (unit_ref Little aux (2 ∷ []) ++ unit_ref Little nobody [] ++ eof_mark Little 0))) ∷ []) ≡ Some (in_record 1 8 0 reason.UnknownRecord) }
-    ensures a_missing_unit_before_a_doubled_definition { first_fault (host_with Little (publ_def Little count 3 ++ publ_def Little count 4 ++ eof_mark Little 8)) (library_with Little (unit_ref Little nobody (2 ∷ []) ++ eof_mark Little 0) ∷ []) ≡ Some (in_record 1 7 0 reason.MissingUnit) }
-    ensures an_added_unit_in_a_lesser_slot_comes_first { first_fault (with_slot Little 7 blank 0 0 0 (with_slot Little 9 util 3 0 0 host)) (with_aux aux_code (publ_ref Little cuont (1 ∷ []) ++ eof_mark Little 0) (library_with Little (unit_ref Little aux (2 ∷ []) ++ publ_ref Little cuont (4 ∷ []) ++ eof_mark Little 0)) ∷ []) ≡ Some (in_record 1 7 0 reason.MissingDefinition) }
+    ensures the_name_of_a_lesser_slot_comes_first { first_fault
+        (host_with Little (publ_def Little count 3 ++ unit_ref Little nobody []
+        ++ eof_mark Little 8)) (library_with Little
+        (unit_ref Little tools (2 ∷ []) ++ eof_mark Little 0) ∷ [])
+        ≡ Some (in_record 0 1 1 reason.MissingUnit) }
+    ensures a_slot_s_own_code_before_a_missing_unit { first_fault
+        (with_slot Little 8 blank 0 1 32768 host)
+        (library_with Little (unit_ref Little nobody [] ++ eof_mark Little 0) ∷ [])
+        ≡ Some (in_slot 0 8 reason.BadLength) }
+    ensures a_missing_unit_before_no_slot { first_fault (filled_host 8)
+        (library_with Little (unit_ref Little aux (2 ∷ []) ++ eof_mark Little 0) ∷ [])
+        ≡ Some (in_record 1 7 0 reason.MissingUnit) }
+    ensures no_slot_before_a_doubled_unit { first_fault (filled_host 8)
+        (with_slot Little 4 aux 5 3 24 (library_of_used (util_information Little)) ∷ [])
+        ≡ Some (in_record 1 7 0 reason.NoSlot) }
+    ensures a_doubled_unit_before_its_kind { first_fault host
+        (with_slot Little 4 aux 5 3 24 (put_at 198 (5 ∷ [])
+        (library_of_used (util_information Little))) ∷ [])
+        ≡ Some (in_slot 1 8 reason.DoubledUnit) }
+    ensures its_kind_before_its_code { first_fault host
+        (put_at 198 (5 ∷ []) (put_at 1554 (0 ∷ []) (library_of_used (util_information Little)))
+        ∷ []) ≡ Some (in_slot 1 8 (reason.NotAUnit 5)) }
+    ensures its_code_before_its_records { first_fault host
+        (put_at 1554 (0 ∷ []) (put_at 2056 (15 ∷ []) (library_of_used (util_information Little)))
+        ∷ []) ≡ Some (in_slot 1 8 reason.NativeProcedure) }
+    ensures its_records_before_the_next_name { first_fault host
+        (put_at 2056 (15 ∷ []) (with_aux aux_code (util_information Little)
+        (library_with Little (unit_ref Little aux (2 ∷ []) ++ unit_ref Little nobody []
+        ++ eof_mark Little 0))) ∷ []) ≡ Some (in_record 1 8 0 reason.UnknownRecord) }
+    ensures a_missing_unit_before_a_doubled_definition { first_fault
+        (host_with Little (publ_def Little count 3 ++ publ_def Little count 4
+        ++ eof_mark Little 8)) (library_with Little
+        (unit_ref Little nobody (2 ∷ []) ++ eof_mark Little 0) ∷ [])
+        ≡ Some (in_record 1 7 0 reason.MissingUnit) }
+    ensures an_added_unit_in_a_lesser_slot_comes_first { first_fault
+        (with_slot Little 7 blank 0 0 0 (with_slot Little 9 util 3 0 0 host))
+        (with_aux aux_code (publ_ref Little cuont (1 ∷ []) ++ eof_mark Little 0)
+        (library_with Little (unit_ref Little aux (2 ∷ []) ++ publ_ref Little cuont (4 ∷ [])
+        ++ eof_mark Little 0)) ∷ []) ≡ Some (in_record 1 7 0 reason.MissingDefinition) }
 {}

@@ -7,12 +7,22 @@ ghost use Rattle.ps_words.specs.declared.order.Order.TheVariants.{Little};
 
 /// Which library a unit is taken from, and which of its entries count.
 pub fn choice_of_libraries()
-    ensures the_first_library_that_has_the_unit { first_fault host (library ∷ put_at 196 (5 ∷ []) library ∷ []) ≡ None }
-    ensures a_library_that_has_the_name_is_not_passed_over { first_fault host (put_at 196 (5 ∷ []) library ∷ library ∷ []) ≡ Some (in_slot 1 7 (reason.NotAUnit 5)) }
-    ensures a_library_without_the_name_is_passed_over { first_fault host (put_at 80 aux library ∷ put_at 530 (0 ∷ []) library ∷ []) ≡ Some (in_slot 2 7 reason.NativeProcedure) }
-    ensures an_entry_without_a_length_does_not_count { first_fault host (with_slot Little 3 util 3 1 0 library ∷ []) ≡ None }
-    ensures a_unit_without_an_address_does_not_count { first_fault host (with_slot Little 3 util 3 0 24 library ∷ []) ≡ None }
-    ensures an_entry_of_another_kind_counts { first_fault host (with_slot Little 3 util 2 1 24 library ∷ []) ≡ Some (in_slot 1 7 reason.DoubledUnit) }
-    ensures an_entry_of_another_kind_counts_at_address_0 { first_fault host (put_at 8 (0 ∷ []) (put_at 196 (5 ∷ []) library) ∷ []) ≡ Some (in_slot 1 7 (reason.NotAUnit 5)) }
-    ensures other_entries_are_not_looked_at { first_fault host (with_slot Little 3 aux 2 1 24 library ∷ []) ≡ None }
+    ensures the_first_library_that_has_the_unit { first_fault host
+        (library ∷ put_at 196 (5 ∷ []) library ∷ []) ≡ None }
+    ensures a_library_that_has_the_name_is_not_passed_over { first_fault host
+        (put_at 196 (5 ∷ []) library ∷ library ∷ []) ≡ Some (in_slot 1 7 (reason.NotAUnit 5)) }
+    ensures a_library_without_the_name_is_passed_over { first_fault host
+        (put_at 80 aux library ∷ put_at 530 (0 ∷ []) library ∷ [])
+        ≡ Some (in_slot 2 7 reason.NativeProcedure) }
+    ensures an_entry_without_a_length_does_not_count { first_fault host
+        (with_slot Little 3 util 3 1 0 library ∷ []) ≡ None }
+    ensures a_unit_without_an_address_does_not_count { first_fault host
+        (with_slot Little 3 util 3 0 24 library ∷ []) ≡ None }
+    ensures an_entry_of_another_kind_counts { first_fault host
+        (with_slot Little 3 util 2 1 24 library ∷ []) ≡ Some (in_slot 1 7 reason.DoubledUnit) }
+    ensures an_entry_of_another_kind_counts_at_address_0 { first_fault host
+        (put_at 8 (0 ∷ []) (put_at 196 (5 ∷ []) library) ∷ [])
+        ≡ Some (in_slot 1 7 (reason.NotAUnit 5)) }
+    ensures other_entries_are_not_looked_at { first_fault host
+        (with_slot Little 3 aux 2 1 24 library ∷ []) ≡ None }
 {}

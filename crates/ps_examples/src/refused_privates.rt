@@ -7,11 +7,29 @@ ghost use Rattle.ps_words.specs.declared.order.Order.TheVariants.{Little};
 
 /// What is wrong with definitions and private variables where there are several.
 pub fn faults_of_privates()
-    ensures two_units_may_have_a_private_of_one_name { first_fault (wanting_aux host) (library_of_two ∷ []) ≡ None }
-    ensures the_privates_of_both_units_take_room { first_fault (wanting_aux (host_with Little (publ_def Little count 3 ++ eof_mark Little 32760))) (library_of_two ∷ []) ≡ Some (in_record 1 8 1 reason.NoRoom) }
-    ensures the_privates_of_the_host_take_room { first_fault (host_with Little (publ_def Little count 3 ++ priv_ref Little state 32760 [] ++ eof_mark Little 0)) (library_with Little (priv_ref Little state 8 [] ++ eof_mark Little 0) ∷ []) ≡ Some (in_record 1 7 0 reason.NoRoom) }
-    ensures a_private_of_no_words_needs_an_offset { first_fault (host_with Little (publ_def Little count 3 ++ eof_mark Little 40000)) (library_with Little (priv_ref Little state 0 [] ++ eof_mark Little 0) ∷ []) ≡ Some (in_record 1 7 0 reason.NoRoom) }
-    ensures without_privates_the_end_mark_may_be_large { first_fault (host_with Little (publ_def Little count 3 ++ eof_mark Little 40000)) (library_with Little (publ_ref Little count (1 ∷ []) ++ eof_mark Little 0) ∷ []) ≡ None }
-    ensures a_private_is_doubled_after_another { first_fault host (library_with Little (priv_ref Little state 4 [] ++ priv_ref Little nobody 4 [] ++ priv_ref Little state 4 [] ++ eof_mark Little 0) ∷ []) ≡ Some (in_record 1 7 2 reason.DoubledPrivate) }
-    ensures a_definition_is_doubled_after_another { first_fault (host_with Little (publ_def Little count 3 ++ const_def Little limit 9 ++ publ_def Little count 4 ++ eof_mark Little 8)) (library ∷ []) ≡ Some (in_record 0 1 2 reason.DoubledDefinition) }
+    ensures two_units_may_have_a_private_of_one_name { first_fault (wanting_aux host)
+        (library_of_two ∷ []) ≡ None }
+    ensures the_privates_of_both_units_take_room { first_fault
+        (wanting_aux (host_with Little (publ_def Little count 3 ++ eof_mark Little 32760)))
+        (library_of_two ∷ []) ≡ Some (in_record 1 8 1 reason.NoRoom) }
+    ensures the_privates_of_the_host_take_room { first_fault
+        (host_with Little (publ_def Little count 3 ++ priv_ref Little state 32760 []
+        ++ eof_mark Little 0)) (library_with Little
+        (priv_ref Little state 8 [] ++ eof_mark Little 0) ∷ [])
+        ≡ Some (in_record 1 7 0 reason.NoRoom) }
+    ensures a_private_of_no_words_needs_an_offset { first_fault
+        (host_with Little (publ_def Little count 3 ++ eof_mark Little 40000))
+        (library_with Little (priv_ref Little state 0 [] ++ eof_mark Little 0) ∷ [])
+        ≡ Some (in_record 1 7 0 reason.NoRoom) }
+    ensures without_privates_the_end_mark_may_be_large { first_fault
+        (host_with Little (publ_def Little count 3 ++ eof_mark Little 40000))
+        (library_with Little (publ_ref Little count (1 ∷ []) ++ eof_mark Little 0) ∷ []) ≡ None }
+    ensures a_private_is_doubled_after_another { first_fault host
+        (library_with Little (priv_ref Little state 4 [] ++ priv_ref Little nobody 4 []
+        ++ priv_ref Little state 4 [] ++ eof_mark Little 0) ∷ [])
+        ≡ Some (in_record 1 7 2 reason.DoubledPrivate) }
+    ensures a_definition_is_doubled_after_another { first_fault
+        (host_with Little (publ_def Little count 3 ++ const_def Little limit 9
+        ++ publ_def Little count 4 ++ eof_mark Little 8)) (library ∷ [])
+        ≡ Some (in_record 0 1 2 reason.DoubledDefinition) }
 {}

@@ -7,13 +7,21 @@ ghost use Rattle.ps_words.specs.declared.order.Order.TheVariants.{Little};
 
 /// What is wrong with the source of a slot: the library that has a unit, or the code.
 pub fn faults_of_sources()
-    ensures the_length_is_odd { first_fault (put_at 6 (17 ∷ []) host) (library ∷ []) ≡ Some (in_slot 0 1 reason.BadLength) }
-    ensures the_address_is_0 { first_fault (put_at 4 (0 ∷ []) host) (library ∷ []) ≡ Some (in_slot 0 1 reason.BadAddress) }
+    ensures the_length_is_odd { first_fault (put_at 6 (17 ∷ []) host) (library ∷ [])
+        ≡ Some (in_slot 0 1 reason.BadLength) }
+    ensures the_address_is_0 { first_fault (put_at 4 (0 ∷ []) host) (library ∷ [])
+        ≡ Some (in_slot 0 1 reason.BadAddress) }
     ensures the_unit_is_missing { first_fault host [] ≡ Some (in_slot 0 7 reason.MissingUnit) }
-    ensures the_entry_is_no_unit { first_fault host (put_at 196 (5 ∷ []) library ∷ []) ≡ Some (in_slot 1 7 (reason.NotAUnit 5)) }
-    ensures the_unit_is_there_twice { first_fault host (with_slot Little 3 util 3 1 24 library ∷ []) ≡ Some (in_slot 1 7 reason.DoubledUnit) }
-    ensures the_code_is_cut { first_fault (take 529 host) (library ∷ []) ≡ Some (in_slot 0 1 reason.Truncated) }
-    ensures the_host_has_no_outer_block { first_fault (put_at 526 (0 ∷ []) host) (library ∷ []) ≡ Some (in_slot 0 1 reason.BadProcDict) }
-    ensures a_native_procedure { first_fault host (put_at 530 (0 ∷ []) library ∷ []) ≡ Some (in_slot 1 7 reason.NativeProcedure) }
-    ensures a_linked_library_has_no_unit { first_fault host (with_slot Little 2 util 0 1 24 library ∷ []) ≡ Some (in_slot 1 7 (reason.NotAUnit 0)) }
+    ensures the_entry_is_no_unit { first_fault host (put_at 196 (5 ∷ []) library ∷ [])
+        ≡ Some (in_slot 1 7 (reason.NotAUnit 5)) }
+    ensures the_unit_is_there_twice { first_fault host
+        (with_slot Little 3 util 3 1 24 library ∷ []) ≡ Some (in_slot 1 7 reason.DoubledUnit) }
+    ensures the_code_is_cut { first_fault (take 529 host) (library ∷ [])
+        ≡ Some (in_slot 0 1 reason.Truncated) }
+    ensures the_host_has_no_outer_block { first_fault (put_at 526 (0 ∷ []) host) (library ∷ [])
+        ≡ Some (in_slot 0 1 reason.BadProcDict) }
+    ensures a_native_procedure { first_fault host (put_at 530 (0 ∷ []) library ∷ [])
+        ≡ Some (in_slot 1 7 reason.NativeProcedure) }
+    ensures a_linked_library_has_no_unit { first_fault host
+        (with_slot Little 2 util 0 1 24 library ∷ []) ≡ Some (in_slot 1 7 (reason.NotAUnit 0)) }
 {}

@@ -7,11 +7,26 @@ ghost use Rattle.ps_words.specs.declared.order.Order.TheVariants.{Little};
 
 /// What is wrong with the definitions, the private variables and the host's data size.
 pub fn faults_of_symbols()
-    ensures a_definition_is_doubled { first_fault (host_with Little (publ_def Little count 3 ++ publ_def Little count 4 ++ eof_mark Little 8)) (library ∷ []) ≡ Some (in_record 0 1 1 reason.DoubledDefinition) }
-    ensures a_constant_doubles_a_public_one { first_fault (host_with Little (publ_def Little count 3 ++ const_def Little count 4 ++ eof_mark Little 8)) (library ∷ []) ≡ Some (in_record 0 1 1 reason.DoubledDefinition) }
-    ensures a_private_is_doubled { first_fault host (library_with Little (publ_ref Little count (1 ∷ []) ++ priv_ref Little state 4 (4 ∷ []) ++ priv_ref Little state 4 [] ++ eof_mark Little 0) ∷ []) ≡ Some (in_record 1 7 2 reason.DoubledPrivate) }
-    ensures a_private_has_no_room { first_fault (host_with Little (publ_def Little count 3 ++ eof_mark Little 32760)) (library_with Little (publ_ref Little count (1 ∷ []) ++ priv_ref Little state 8 (4 ∷ []) ++ eof_mark Little 0) ∷ []) ≡ Some (in_record 1 7 1 reason.NoRoom) }
-    ensures a_private_just_has_room { first_fault (host_with Little (publ_def Little count 3 ++ eof_mark Little 32760)) (library_with Little (publ_ref Little count (1 ∷ []) ++ priv_ref Little state 7 (4 ∷ []) ++ eof_mark Little 0) ∷ []) ≡ None }
-    ensures the_data_size_is_too_large { first_fault (put_at 516 (248 ∷ 255 ∷ []) host) (library ∷ []) ≡ Some (in_slot 0 1 reason.DataTooLarge) }
-    ensures the_data_size_just_fits { first_fault (put_at 516 (247 ∷ 255 ∷ []) host) (library ∷ []) ≡ None }
+    ensures a_definition_is_doubled { first_fault
+        (host_with Little (publ_def Little count 3 ++ publ_def Little count 4
+        ++ eof_mark Little 8)) (library ∷ []) ≡ Some (in_record 0 1 1 reason.DoubledDefinition) }
+    ensures a_constant_doubles_a_public_one { first_fault
+        (host_with Little (publ_def Little count 3 ++ const_def Little count 4
+        ++ eof_mark Little 8)) (library ∷ []) ≡ Some (in_record 0 1 1 reason.DoubledDefinition) }
+    ensures a_private_is_doubled { first_fault host
+        (library_with Little (publ_ref Little count (1 ∷ []) ++ priv_ref Little state 4 (4 ∷ [])
+        ++ priv_ref Little state 4 [] ++ eof_mark Little 0) ∷ [])
+        ≡ Some (in_record 1 7 2 reason.DoubledPrivate) }
+    ensures a_private_has_no_room { first_fault
+        (host_with Little (publ_def Little count 3 ++ eof_mark Little 32760))
+        (library_with Little (publ_ref Little count (1 ∷ []) ++ priv_ref Little state 8 (4 ∷ [])
+        ++ eof_mark Little 0) ∷ []) ≡ Some (in_record 1 7 1 reason.NoRoom) }
+    ensures a_private_just_has_room { first_fault
+        (host_with Little (publ_def Little count 3 ++ eof_mark Little 32760))
+        (library_with Little (publ_ref Little count (1 ∷ []) ++ priv_ref Little state 7 (4 ∷ [])
+        ++ eof_mark Little 0) ∷ []) ≡ None }
+    ensures the_data_size_is_too_large { first_fault (put_at 516 (248 ∷ 255 ∷ []) host)
+        (library ∷ []) ≡ Some (in_slot 0 1 reason.DataTooLarge) }
+    ensures the_data_size_just_fits { first_fault (put_at 516 (247 ∷ 255 ∷ []) host) (library ∷ [])
+        ≡ None }
 {}

@@ -10,10 +10,15 @@ ghost use Rattle.ps_words.specs.declared.order.Order.TheVariants.{Little, Big};
 /// What map prints of a link.
 pub fn map_texts()
     ensures a_host_and_its_library { map_of host (library ∷ []) ≡ map_of_the_pair }
-    ensures a_constant_after_the_public_variable { map_of (host_with Little (publ_def Little count 3 ++ const_def Little limit 9 ++ eof_mark Little 8)) (library ∷ []) ≡ map_with_a_constant }
-    ensures a_unit_in_place { map_of (host_in_place Little (publ_ref Little count (1 ∷ []) ++ eof_mark Little 0)) [] ≡ map_in_place }
-    ensures two_units_of_one_library { map_of (wanting_aux host) (library_of_two ∷ []) ≡ map_of_two }
-    ensures a_unit_that_only_a_unit_names { map_of host (library_of_used (util_information Little) ∷ []) ≡ map_of_an_added_unit }
+    ensures a_constant_after_the_public_variable { map_of
+        (host_with Little (publ_def Little count 3 ++ const_def Little limit 9
+        ++ eof_mark Little 8)) (library ∷ []) ≡ map_with_a_constant }
+    ensures a_unit_in_place { map_of (host_in_place Little
+        (publ_ref Little count (1 ∷ []) ++ eof_mark Little 0)) [] ≡ map_in_place }
+    ensures two_units_of_one_library { map_of (wanting_aux host) (library_of_two ∷ [])
+        ≡ map_of_two }
+    ensures a_unit_that_only_a_unit_names { map_of host
+        (library_of_used (util_information Little) ∷ []) ≡ map_of_an_added_unit }
 {}
 
 /// What show prints of a file, of a slot, and of the link information of a slot.
@@ -21,16 +26,27 @@ pub fn show_texts()
     ensures the_library { show_of library ≡ show_of_the_library }
     ensures the_library_cut_in_its_end_mark { show_of (take 1103 library) ≡ show_without_an_end }
     ensures the_library_cut_in_its_code { show_of (take 535 library) ≡ show_without_a_code }
-    ensures the_linked_file_of_a_host_and_its_library { show_of (linked_file host (library ∷ [])) ≡ show_of_the_linked_file }
+    ensures the_linked_file_of_a_host_and_its_library { show_of (linked_file host (library ∷ []))
+        ≡ show_of_the_linked_file }
     ensures the_host_big_endian { show_of (host_in Big) ≡ show_of_the_big_endian_host }
     ensures a_name_of_zero_bytes { shown (zeros 8) ≡ codes "????????" }
     ensures a_name_of_bytes_at_the_edges { shown (31 ∷ 32 ∷ 126 ∷ 127 ∷ 255 ∷ []) ≡ codes "? ~??" }
-    ensures a_slot_named_by_zero_bytes { slot_line Little (put_at 88 (zeros 8) library) 3 ≡ slot_without_a_name }
-    ensures a_slot_with_interface_text { slot_line Little (put_at 228 (5 ∷ []) library) 2 ≡ slot_with_a_text }
-    ensures a_record_of_every_kind { links_lines Little (library_with Little (unit_ref Little util (2 ∷ []) ++ publ_ref Little count (1 ∷ 4 ∷ []) ++ priv_ref Little state 4 [] ++ const_def Little limit 9 ++ eof_mark Little 0)) 2 ≡ links_of_every_kind }
-    ensures a_unit_that_the_file_has_not { links_lines Little (library_with Little (unit_ref Little aux (2 ∷ []) ++ eof_mark Little 0)) 2 ≡ links_of_an_unlisted_unit }
-    ensures an_unknown_record { links_lines Little (put_at 1032 (15 ∷ []) library) 2 ≡ links_of_an_unknown_record }
-    ensures a_code_of_odd_length { links_lines Little (put_at 10 (23 ∷ []) library) 2 ≡ links_of_a_bad_length }
-    ensures a_host_segment_at_address_0 { links_lines Little (put_at 4 (0 ∷ []) host) 1 ≡ links_of_a_bad_address }
+    ensures a_slot_named_by_zero_bytes { slot_line Little (put_at 88 (zeros 8) library) 3
+        ≡ slot_without_a_name }
+    ensures a_slot_with_interface_text { slot_line Little (put_at 228 (5 ∷ []) library) 2
+        ≡ slot_with_a_text }
+    ensures a_record_of_every_kind { links_lines Little
+        (library_with Little (unit_ref Little util (2 ∷ []) ++ publ_ref Little count (1 ∷ 4 ∷ [])
+        ++ priv_ref Little state 4 [] ++ const_def Little limit 9 ++ eof_mark Little 0)) 2
+        ≡ links_of_every_kind }
+    ensures a_unit_that_the_file_has_not { links_lines Little
+        (library_with Little (unit_ref Little aux (2 ∷ []) ++ eof_mark Little 0)) 2
+        ≡ links_of_an_unlisted_unit }
+    ensures an_unknown_record { links_lines Little (put_at 1032 (15 ∷ []) library) 2
+        ≡ links_of_an_unknown_record }
+    ensures a_code_of_odd_length { links_lines Little (put_at 10 (23 ∷ []) library) 2
+        ≡ links_of_a_bad_length }
+    ensures a_host_segment_at_address_0 { links_lines Little (put_at 4 (0 ∷ []) host) 1
+        ≡ links_of_a_bad_address }
     ensures a_unit_at_address_0 { links_lines Little (put_at 8 (0 ∷ []) library) 2 ≡ [] }
 {}

@@ -6,9 +6,12 @@ use ps_linkinfo::one_reading;
 
 /// Where no fault stands, each byte that the edits of a link make is the linked byte, as this is said plainly: the number of the slot, the data size of the host's outer block, what a reference becomes, or else the input's byte. There is one linked byte at each place, and no place of a segment is covered twice, by two references or by a reference and the number or the data size.
 pub fn bytes_are_linked()
-    ensures made { (host : List ℕ) (libs : List (List ℕ)) → NoneStands host libs → HaveLinkedBytes host libs }
-    ensures one { (host : List ℕ) (libs : List (List ℕ)) → NoneStands host libs → HaveOneLinkedByte host libs }
-    ensures apart { (host : List ℕ) (libs : List (List ℕ)) → NoneStands host libs → HaveApartPlaces host libs }
+    ensures made { (host : List ℕ) (libs : List (List ℕ)) → NoneStands host libs
+        → HaveLinkedBytes host libs }
+    ensures one { (host : List ℕ) (libs : List (List ℕ)) → NoneStands host libs
+        → HaveOneLinkedByte host libs }
+    ensures apart { (host : List ℕ) (libs : List (List ℕ)) → NoneStands host libs
+        → HaveApartPlaces host libs }
 {
     one_reading();
 }

@@ -100,8 +100,12 @@ pub fn read_inputs<'a, R: CodeFiles, A: Allocator + Copy>(
     alloc: A,
     inputs: &Inputs<'a, A>,
 ) -> Result<Contents<A>, CommandError<'a>>
-    ensures host { IfOk result (λ contents. Reads (R.opened rt.now) R.Opened.remaining inputs.now.host.now contents.host.items) }
-    ensures libraries { IfOk result (λ contents. AllZip (Reads (R.opened rt.now) R.Opened.remaining) (map (λ path. path.now) inputs.now.libraries.items) (map (λ library. library.items) contents.libraries.items)) }
+    ensures host { IfOk result (λ contents. Reads (R.opened rt.now) R.Opened.remaining
+        inputs.now.host.now contents.host.items) }
+    ensures libraries { IfOk result (λ contents. AllZip
+        (Reads (R.opened rt.now) R.Opened.remaining)
+        (map (λ path. path.now) inputs.now.libraries.items)
+        (map (λ library. library.items) contents.libraries.items)) }
     ensures err { IfErr result (λ e. status_of e ≢ 2) }
 {
     let host = read(rt, alloc, inputs.host)?;
@@ -119,7 +123,8 @@ pub fn read<'a, R: CodeFiles, A: Allocator + Copy>(
     path: &'a str,
 ) -> Result<Vec<u8, A>, CommandError<'a>>
     ensures bound { IfOk result (λ bytes. length bytes.items ≤ 67108864) }
-    ensures whole { IfOk result (λ bytes. Reads (R.opened rt.now) R.Opened.remaining path.entry.now bytes.items) }
+    ensures whole { IfOk result (λ bytes. Reads (R.opened rt.now) R.Opened.remaining path.entry.now
+        bytes.items) }
     ensures err { IfErr result (λ e. status_of e ≢ 2) }
 {
     let Ok(mut file) = rt.open(path) else {
@@ -142,7 +147,8 @@ fn read_to_end<F: Read, A: Allocator + Copy>(
     hint: usize,
 ) -> Result<Vec<u8, A>, ReadFault>
     ensures bound { IfOk result (λ bytes. length bytes.items ≤ 67108864) }
-    ensures whole { IfOk result (λ bytes. IfSome (F.remaining file.old) (λ left. bytes.items ≡ left)) }
+    ensures whole { IfOk result (λ bytes. IfSome (F.remaining file.old)
+        (λ left. bytes.items ≡ left)) }
 {
     let mut all = Vec::with_capacity(alloc, hint.min(LONGEST))?;
     let mut chunk = [0u8; CHUNK];

@@ -69,9 +69,14 @@ fn run_args<R: CodeFiles + AllocGlobal, O: Write, E: Write>(
 ) -> ExitCode
     ensures known { exit_status result ≤ 4 }
     ensures silent { exit_status result ≡ 0 → err.new ≡ err.old }
-    ensures printed { AreTaken (map string_bytes given.now) → exit_status result ≡ 0 → Prints (Reads (R.opened rt.now) R.Opened.remaining) (named_in (map string_bytes given.now)) (O.contents out.old) (O.contents out.new) }
-    ensures misused { AreTaken (map string_bytes given.now) → WritesLibrary (named_in (map string_bytes given.now)) → exit_status result ≢ 4 → exit_status result ≡ 2 }
-    ensures usage { AreTaken (map string_bytes given.now) → exit_status result ≡ 2 → WritesLibrary (named_in (map string_bytes given.now)) }
+    ensures printed { AreTaken (map string_bytes given.now) → exit_status result ≡ 0
+        → Prints (Reads (R.opened rt.now) R.Opened.remaining)
+        (named_in (map string_bytes given.now)) (O.contents out.old) (O.contents out.new) }
+    ensures misused { AreTaken (map string_bytes given.now)
+        → WritesLibrary (named_in (map string_bytes given.now)) → exit_status result ≢ 4
+        → exit_status result ≡ 2 }
+    ensures usage { AreTaken (map string_bytes given.now) → exit_status result ≡ 2
+        → WritesLibrary (named_in (map string_bytes given.now)) }
     ensures unprinted { exit_status result ≢ 0 → exit_status result ≢ 3 → out.new ≡ out.old }
 {
     match slices(rt.alloc(), given) {
@@ -82,7 +87,8 @@ fn run_args<R: CodeFiles + AllocGlobal, O: Write, E: Write>(
 
 /// The args, in their order.
 fn slices<'w>(alloc: Global, given: &'w [String]) -> Result<Vec<&'w str>, CommandError<'static>>
-    ensures ok { IfOk result (λ args. map (λ arg. arg.now) args.items ≡ map string_bytes given.now) }
+    ensures ok { IfOk result (λ args. map (λ arg. arg.now) args.items
+        ≡ map string_bytes given.now) }
     ensures err { IfErr result (λ e. e ≡ CommandError.Memory) }
 {
     let mut args = Vec::new(alloc);

@@ -100,10 +100,13 @@ pub fn parse<'a, A: Allocator + Copy>(
     ensures asked { IfOk result (λ r. IsAsked r (named_in (texts args.now))) }
 
     // Args that clap takes name a command, and ask for no help.
-    ensures named { AreTaken (texts args.now) → IfOk result (λ r. IsNamedCommand r (named_in (texts args.now))) }
+    ensures named { AreTaken (texts args.now)
+        → IfOk result (λ r. IsNamedCommand r (named_in (texts args.now))) }
 
     // Args that clap takes are refused because memory runs out, or as wrong usage where OUT is named as a library too.
-    ensures refused { AreTaken (texts args.now) → IfErr result (λ e. e ≢ CommandError.Memory → (status_of e ≡ 2) × WritesLibrary (named_in (texts args.now))) }
+    ensures refused { AreTaken (texts args.now)
+        → IfErr result (λ e. e ≢ CommandError.Memory
+        → (status_of e ≡ 2) × WritesLibrary (named_in (texts args.now))) }
 {
     match matches(heap, args) {
         Ok(matches) => request_of(heap, alloc, &matches),
@@ -117,7 +120,8 @@ pub fn parse<'a, A: Allocator + Copy>(
 /// What `clap` finds in the args.
 fn matches<'a>(heap: Global, args: &'a [&'a str]) -> Result<ArgMatches<'a>, clap::Error>
     ensures found { IfOk result (λ m. subcommand_rows_of m ≡ named_in (texts args.now)) }
-    ensures memory { AreTaken (texts args.now) → IfErr result (λ e. kind_of e ≡ ErrorKind.OutOfMemory) }
+    ensures memory { AreTaken (texts args.now)
+        → IfErr result (λ e. kind_of e ≡ ErrorKind.OutOfMemory) }
 {
     command(heap)?.try_get_matches_from(args)
 }
@@ -129,7 +133,9 @@ fn request_of<'a, A: Allocator + Copy>(
     matches: &ArgMatches<'a>,
 ) -> Result<Request<'a, A>, CommandError<'a>>
     ensures named { IfOk result (λ r. IsNamedCommand r (subcommand_rows_of matches.now)) }
-    ensures refused { IfErr result (λ e. e ≢ CommandError.Memory → LeavesOut (subcommand_rows_of matches.now) ⊎ ((status_of e ≡ 2) × WritesLibrary (subcommand_rows_of matches.now))) }
+    ensures refused { IfErr result (λ e. e ≢ CommandError.Memory
+        → LeavesOut (subcommand_rows_of matches.now)
+        ⊎ ((status_of e ≡ 2) × WritesLibrary (subcommand_rows_of matches.now))) }
 {
     match matches.subcommand() {
         Some(("link", found)) => link_of(heap, alloc, found),
@@ -144,8 +150,11 @@ fn link_of<'a, A: Allocator + Copy>(
     alloc: A,
     found: &ArgMatches<'a>,
 ) -> Result<Request<'a, A>, CommandError<'a>>
-    ensures named { IfOk result (λ r. IsNamedCommand r (Some (codes "link", rows_of (found_of found.now)))) }
-    ensures refused { IfErr result (λ e. e ≢ CommandError.Memory → LeavesOut (Some (codes "link", rows_of (found_of found.now))) ⊎ ((status_of e ≡ 2) × WritesLibrary (Some (codes "link", rows_of (found_of found.now))))) }
+    ensures named { IfOk result (λ r. IsNamedCommand r
+        (Some (codes "link", rows_of (found_of found.now)))) }
+    ensures refused { IfErr result (λ e. e ≢ CommandError.Memory
+        → LeavesOut (Some (codes "link", rows_of (found_of found.now)))
+        ⊎ ((status_of e ≡ 2) × WritesLibrary (Some (codes "link", rows_of (found_of found.now))))) }
 {
     let inputs = inputs_of(heap, alloc, found)?;
     let out = file_of(heap, found, "OUT")?;
@@ -160,8 +169,10 @@ fn map_of<'a, A: Allocator + Copy>(
     alloc: A,
     found: &ArgMatches<'a>,
 ) -> Result<Request<'a, A>, CommandError<'a>>
-    ensures named { IfOk result (λ r. IsNamedCommand r (Some (codes "map", rows_of (found_of found.now)))) }
-    ensures refused { IfErr result (λ e. e ≢ CommandError.Memory → LeavesOut (Some (codes "map", rows_of (found_of found.now)))) }
+    ensures named { IfOk result (λ r. IsNamedCommand r
+        (Some (codes "map", rows_of (found_of found.now)))) }
+    ensures refused { IfErr result (λ e. e ≢ CommandError.Memory
+        → LeavesOut (Some (codes "map", rows_of (found_of found.now)))) }
 {
     let inputs = inputs_of(heap, alloc, found)?;
     Ok(Request::Map { inputs })
@@ -171,8 +182,10 @@ fn show_of<'a, A: Allocator + Copy>(
     heap: Global,
     found: &ArgMatches<'a>,
 ) -> Result<Request<'a, A>, CommandError<'a>>
-    ensures named { IfOk result (λ r. IsNamedCommand r (Some (codes "show", rows_of (found_of found.now)))) }
-    ensures refused { IfErr result (λ e. e ≢ CommandError.Memory → LeavesOut (Some (codes "show", rows_of (found_of found.now)))) }
+    ensures named { IfOk result (λ r. IsNamedCommand r
+        (Some (codes "show", rows_of (found_of found.now)))) }
+    ensures refused { IfErr result (λ e. e ≢ CommandError.Memory
+        → LeavesOut (Some (codes "show", rows_of (found_of found.now)))) }
 {
     let file = file_of(heap, found, "FILE")?;
     Ok(Request::Show { file })
@@ -184,7 +197,8 @@ fn inputs_of<'a, A: Allocator + Copy>(
     found: &ArgMatches<'a>,
 ) -> Result<Inputs<'a, A>, CommandError<'a>>
     ensures named { IfOk result (λ inputs. NamesInputs inputs (rows_of (found_of found.now))) }
-    ensures refused { IfErr result (λ e. e ≢ CommandError.Memory → first_of (codes "HOST") (rows_of (found_of found.now)) ≡ None) }
+    ensures refused { IfErr result (λ e. e ≢ CommandError.Memory
+        → first_of (codes "HOST") (rows_of (found_of found.now)) ≡ None) }
 {
     let host = file_of(heap, found, "HOST")?;
     let libraries = libraries(alloc, found)?;
@@ -197,8 +211,10 @@ fn file_of<'a>(
     found: &ArgMatches<'a>,
     argument: &str,
 ) -> Result<&'a str, CommandError<'a>>
-    ensures named { IfOk result (λ path. first_of argument.now (rows_of (found_of found.now)) ≡ Some path.now) }
-    ensures refused { IfErr result (λ _. first_of argument.now (rows_of (found_of found.now)) ≡ None) }
+    ensures named { IfOk result (λ path. first_of argument.now (rows_of (found_of found.now))
+        ≡ Some path.now) }
+    ensures refused { IfErr result (λ _. first_of argument.now (rows_of (found_of found.now))
+        ≡ None) }
 {
     match found.get_str(argument) {
         Some(path) => Ok(path),
@@ -244,7 +260,8 @@ fn libraries<'a, A: Allocator + Copy>(
     alloc: A,
     found: &ArgMatches<'a>,
 ) -> Result<Vec<&'a str, A>, AllocError>
-    ensures { IfOk result (λ paths. map (λ path. path.now) paths.items ≡ libraries_of (rows_of (found_of found.now))) }
+    ensures { IfOk result (λ paths. map (λ path. path.now) paths.items
+        ≡ libraries_of (rows_of (found_of found.now))) }
 {
     match found.get_strs("LIB") {
         Some(paths) => Vec::from_slice(alloc, paths),

@@ -41,11 +41,15 @@ pub fn run<R: CodeFiles + AllocGlobal, A: Allocator + Copy, O: Write, E: Write>(
     ensures silent { result ≡ 0 → err.new ≡ err.old }
 
     // What was done printed what its command prints, and nothing else.
-    ensures printed { AreTaken (texts args.now) → result ≡ 0 → Prints (Reads (R.opened rt.now) R.Opened.remaining) (named_in (texts args.now)) (O.contents out.old) (O.contents out.new) }
+    ensures printed { AreTaken (texts args.now) → result ≡ 0
+        → Prints (Reads (R.opened rt.now) R.Opened.remaining) (named_in (texts args.now))
+        (O.contents out.old) (O.contents out.new) }
 
     // Of args that clap takes, those that name OUT as a library too are wrong usage, unless memory runs out, and no others.
-    ensures misused { AreTaken (texts args.now) → WritesLibrary (named_in (texts args.now)) → result ≢ 4 → result ≡ 2 }
-    ensures usage { AreTaken (texts args.now) → result ≡ 2 → WritesLibrary (named_in (texts args.now)) }
+    ensures misused { AreTaken (texts args.now) → WritesLibrary (named_in (texts args.now))
+        → result ≢ 4 → result ≡ 2 }
+    ensures usage { AreTaken (texts args.now) → result ≡ 2
+        → WritesLibrary (named_in (texts args.now)) }
 
     // Only what was done, or a fault of standard output itself, leaves anything there.
     ensures unprinted { result ≢ 0 → result ≢ 3 → out.new ≡ out.old }
@@ -62,10 +66,14 @@ fn carry_out<'a, R: CodeFiles + AllocGlobal, A: Allocator + Copy, O: Write>(
     args: &'a [&'a str],
     out: &mut O,
 ) -> Result<(), CommandError<'a>>
-    ensures ok { AreTaken (texts args.now) → OnOk result (Prints (Reads (R.opened rt.now) R.Opened.remaining) (named_in (texts args.now)) (O.contents out.old) (O.contents out.new)) }
+    ensures ok { AreTaken (texts args.now)
+        → OnOk result (Prints (Reads (R.opened rt.now) R.Opened.remaining)
+        (named_in (texts args.now)) (O.contents out.old) (O.contents out.new)) }
     ensures err { IfErr result (λ e. status_of e ≢ 3 → out.new ≡ out.old) }
-    ensures misused { AreTaken (texts args.now) → WritesLibrary (named_in (texts args.now)) → IsErrAnd result (λ e. status_of e ≢ 4 → status_of e ≡ 2) }
-    ensures usage { AreTaken (texts args.now) → IfErr result (λ e. status_of e ≡ 2 → WritesLibrary (named_in (texts args.now))) }
+    ensures misused { AreTaken (texts args.now) → WritesLibrary (named_in (texts args.now))
+        → IsErrAnd result (λ e. status_of e ≢ 4 → status_of e ≡ 2) }
+    ensures usage { AreTaken (texts args.now)
+        → IfErr result (λ e. status_of e ≡ 2 → WritesLibrary (named_in (texts args.now))) }
 {
     match request::parse(rt.alloc(), alloc, args)? {
         Request::Text(text) => print_text(rt.alloc(), text, out),
@@ -95,7 +103,9 @@ fn link<'a, R: CodeFiles, A: Allocator + Copy, O: Write>(
     path: &'a str,
     out: &mut O,
 ) -> Result<(), CommandError<'a>>
-    ensures ok { OnOk result (PrintsLine (Reads (R.opened rt.now) R.Opened.remaining) inputs.entry.host.now (map (λ path. path.now) inputs.entry.libraries.items) (O.contents out.old) (O.contents out.new)) }
+    ensures ok { OnOk result (PrintsLine (Reads (R.opened rt.now) R.Opened.remaining)
+        inputs.entry.host.now (map (λ path. path.now) inputs.entry.libraries.items)
+        (O.contents out.old) (O.contents out.new)) }
     ensures err { IfErr result (λ e. status_of e ≢ 3 → out.new ≡ out.old) }
     ensures usage { IfErr result (λ e. status_of e ≢ 2) }
 {
@@ -115,7 +125,9 @@ fn map<'a, R: CodeFiles, A: Allocator + Copy, O: Write>(
     inputs: Inputs<'a, A>,
     out: &mut O,
 ) -> Result<(), CommandError<'a>>
-    ensures ok { OnOk result (PrintsMap (Reads (R.opened rt.now) R.Opened.remaining) inputs.entry.host.now (map (λ path. path.now) inputs.entry.libraries.items) (O.contents out.old) (O.contents out.new)) }
+    ensures ok { OnOk result (PrintsMap (Reads (R.opened rt.now) R.Opened.remaining)
+        inputs.entry.host.now (map (λ path. path.now) inputs.entry.libraries.items)
+        (O.contents out.old) (O.contents out.new)) }
     ensures err { IfErr result (λ e. status_of e ≢ 3 → out.new ≡ out.old) }
     ensures usage { IfErr result (λ e. status_of e ≢ 2) }
 {
@@ -133,7 +145,8 @@ fn show<'a, R: CodeFiles, A: Allocator + Copy, O: Write>(
     path: &'a str,
     out: &mut O,
 ) -> Result<(), CommandError<'a>>
-    ensures ok { OnOk result (PrintsShow (Reads (R.opened rt.now) R.Opened.remaining) path.entry.now (O.contents out.old) (O.contents out.new)) }
+    ensures ok { OnOk result (PrintsShow (Reads (R.opened rt.now) R.Opened.remaining)
+        path.entry.now (O.contents out.old) (O.contents out.new)) }
     ensures err { IfErr result (λ e. status_of e ≢ 3 → out.new ≡ out.old) }
     ensures usage { IfErr result (λ e. status_of e ≢ 2) }
 {
@@ -165,7 +178,8 @@ fn views<'c, A: Allocator + Copy>(
     alloc: A,
     contents: &'c [Vec<u8, A>],
 ) -> Result<Vec<&'c [u8], A>, AllocError>
-    ensures { IfOk result (λ views. map (λ view. view.now) views.items ≡ map (λ content. content.items) contents.now) }
+    ensures { IfOk result (λ views. map (λ view. view.now) views.items
+        ≡ map (λ content. content.items) contents.now) }
 {
     let mut views = Vec::new(alloc);
     for content in contents {

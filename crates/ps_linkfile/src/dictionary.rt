@@ -13,8 +13,10 @@ use std::alloc::Allocator;
 /// and the code's length, and zeros for any other.
 fn pairs_of(order: Order, sources: &[Source]) -> [u8; NAMES]
     requires slots { Ascend 0 (map (λ s. extent_of_origin (origin_of_source s)) sources.now) }
-    requires sizes { All (λ c. c.size ≤ max_code_len) (map (λ s. extent_of_origin (origin_of_source s)) sources.now) }
-    ensures { result ≡ all_pairs order (map (λ s. extent_of_origin (origin_of_source s)) sources.now) }
+    requires sizes { All (λ c. c.size ≤ max_code_len)
+        (map (λ s. extent_of_origin (origin_of_source s)) sources.now) }
+    ensures { result ≡ all_pairs order (map (λ s. extent_of_origin (origin_of_source s))
+        sources.now) }
 {
     let mut pairs = [0; NAMES];
     let mut block = 1;
@@ -31,7 +33,8 @@ fn pairs_of(order: Order, sources: &[Source]) -> [u8; NAMES]
 /// Stores a part of the dictionary, from a place on.
 fn store(dictionary: &mut [u8], place: usize, part: &[u8])
     requires { place + length part.now ≤ length dictionary.old }
-    ensures stored { dictionary.new ≡ take place dictionary.old ++ (part.now ++ drop (place + length part.now) dictionary.old) }
+    ensures stored { dictionary.new ≡ take place dictionary.old
+        ++ (part.now ++ drop (place + length part.now) dictionary.old) }
     ensures length { length dictionary.new ≡ length dictionary.old }
 {
     dictionary[place..place + part.len()].copy_from_slice(part);
@@ -40,7 +43,8 @@ fn store(dictionary: &mut [u8], place: usize, part: &[u8])
 /// The segment dictionary of the linked file, which is its block 0.
 pub(crate) fn dictionary_of<A: Allocator + Copy>(plan: &Plan<'_, A>) -> [u8; BLOCK_SIZE]
     requires { IsReady plan.now }
-    ensures { result ≡ dictionary plan.now.order plan.now.names plan.now.host (extents_of plan.now) }
+    ensures { result ≡ dictionary plan.now.order plan.now.names plan.now.host
+        (extents_of plan.now) }
 {
     let mut dictionary = [0; BLOCK_SIZE];
     store(&mut dictionary, 0, &pairs_of(plan.order(), plan.sources()));

@@ -8,8 +8,10 @@ use ps_resolve::slot_names_are_whole;
 /// The linked file of a host and its libraries is one list and no other, and it is there wherever no
 /// fault stands.
 pub fn linked_file_is_one()
-    ensures one { (host : List ℕ) (libs : List (List ℕ)) (file : List ℕ) → LinkedFile host libs file → file ≡ linked_file host libs }
-    ensures there { (host : List ℕ) (libs : List (List ℕ)) → first_fault host libs ≡ None → LinkedFile host libs (linked_file host libs) }
+    ensures one { (host : List ℕ) (libs : List (List ℕ)) (file : List ℕ)
+        → LinkedFile host libs file → file ≡ linked_file host libs }
+    ensures there { (host : List ℕ) (libs : List (List ℕ)) → first_fault host libs ≡ None
+        → LinkedFile host libs (linked_file host libs) }
 {
     first_of_all();
     bytes_are_linked();

@@ -15,7 +15,8 @@ pub(crate) fn add_number<A: Allocator, I: Integer>(
     before: &str,
     number: I,
 ) -> Result<(), AllocError>
-    ensures { OnOk result (string_bytes text.new ≡ string_bytes text.old ++ before.now ++ I.text number) }
+    ensures { OnOk result (string_bytes text.new
+        ≡ string_bytes text.old ++ before.now ++ I.text number) }
 {
     text.push_str(before)?;
     text.push_str(Buffer::new().format(number))
@@ -50,7 +51,8 @@ pub(crate) fn add_two_digits<A: Allocator>(
     before: &str,
     number: u8,
 ) -> Result<(), AllocError>
-    ensures { OnOk result (string_bytes text.new ≡ string_bytes text.old ++ before.now ++ two_digits number) }
+    ensures { OnOk result (string_bytes text.new
+        ≡ string_bytes text.old ++ before.now ++ two_digits number) }
 {
     text.push_str(before)?;
     text.push((b'0' + number / 10) as char)?;
@@ -98,7 +100,8 @@ pub(crate) fn add_slot_name<A: Allocator>(
     slot: u8,
     name: Name,
 ) -> Result<(), AllocError>
-    ensures { OnOk result (string_bytes text.new ≡ string_bytes text.old ++ before.now ++ two_digits slot ++ (32 ∷ []) ++ shown name) }
+    ensures { OnOk result (string_bytes text.new
+        ≡ string_bytes text.old ++ before.now ++ two_digits slot ++ (32 ∷ []) ++ shown name) }
 {
     add_two_digits(text, before, slot)?;
     text.push_str(" ")?;

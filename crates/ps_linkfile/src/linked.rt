@@ -61,9 +61,11 @@ impl<'a, A: Allocator + Copy> Linked<'a, A> {
     /// write of at least one byte took none. The writer then has a prefix of the linked file.
     /// Source: this project's profile.
     pub fn write<W: Write>(&self, out: &mut W) -> Result<Summary, WriteFault>
-        ensures file { OnOk result (Appends (W.contents out.old) (W.contents out.new) (file_of self.now)) }
+        ensures file { OnOk result (Appends (W.contents out.old) (W.contents out.new)
+            (file_of self.now)) }
         ensures summary { IfOk result (λ s. s ≡ summary_in self.now) }
-        ensures prefix { OnErr result (AppendsPrefix (W.contents out.old) (W.contents out.new) (file_of self.now)) }
+        ensures prefix { OnErr result (AppendsPrefix (W.contents out.old) (W.contents out.new)
+            (file_of self.now)) }
     {
         write_file(&self.plan, out, &mut Counts::new())?;
         Ok(self.summary())
@@ -80,14 +82,20 @@ impl<'a, A: Allocator + Copy> Linked<'a, A> {
     /// Source: this project's profile.
     pub fn write_told<W: ToldWriter>(&self, out: &mut W) -> Result<Summary, WriteFault>
         requires { AreAtMost (W.counts out.old) 4294967296 }
-        ensures file { OnOk result (Appends (W.contents out.old) (W.contents out.new) (file_of self.now)) }
+        ensures file { OnOk result (Appends (W.contents out.old) (W.contents out.new)
+            (file_of self.now)) }
         ensures summary { IfOk result (λ s. s ≡ summary_in self.now) }
-        ensures prefix { OnErr result (AppendsPrefix (W.contents out.old) (W.contents out.new) (file_of self.now)) }
-        ensures bytes { RisesByBytes (W.counts out.old) (W.counts out.new) (length (file_of self.now)) }
-        ensures blocks { RisesByPieces (W.counts out.old) (W.counts out.new) (summary_in self.now).blocks }
+        ensures prefix { OnErr result (AppendsPrefix (W.contents out.old) (W.contents out.new)
+            (file_of self.now)) }
+        ensures bytes { RisesByBytes (W.counts out.old) (W.counts out.new)
+            (length (file_of self.now)) }
+        ensures blocks { RisesByPieces (W.counts out.old) (W.counts out.new)
+            (summary_in self.now).blocks }
         ensures ok { OnOk result (NoneFailed (W.counts out.old) (W.counts out.new)) }
-        ensures device { IfErr result (λ e. IfDevice e (OneError (W.counts out.old) (W.counts out.new))) }
-        ensures stalled { IfErr result (λ e. IfStalled e (OneStall (W.counts out.old) (W.counts out.new))) }
+        ensures device { IfErr result (λ e. IfDevice e
+            (OneError (W.counts out.old) (W.counts out.new))) }
+        ensures stalled { IfErr result (λ e. IfStalled e
+            (OneStall (W.counts out.old) (W.counts out.new))) }
     {
         write_file(&self.plan, out, &mut ByWriter)?;
         Ok(self.summary())
@@ -137,13 +145,15 @@ pub fn link<'a, A: Allocator + Copy, W: Write>(
     libs: &'a [&'a [u8]],
     out: &mut W,
 ) -> Result<Summary, LinkError>
-    ensures written { OnOk result (AppendsLinkedFile host.now (contents libs.now) (W.contents out.old) (W.contents out.new)) }
+    ensures written { OnOk result (AppendsLinkedFile host.now (contents libs.now)
+        (W.contents out.old) (W.contents out.new)) }
     ensures summary { IfOk result (λ s. s ≡ summary_of host.now (contents libs.now)) }
     ensures accepted { IfOk result (λ _. NoneStands host.now (contents libs.now)) }
     ensures error { IfErr result (IsUnlinked host.now (contents libs.now)) }
     ensures first { IfErr result (NamesFirst host.now (contents libs.now)) }
     ensures untouched { IfErr result (λ e. LeavesUntouched e out.old out.new) }
-    ensures prefix { IfErr result (λ e. LeavesPrefix host.now (contents libs.now) e (W.contents out.old) (W.contents out.new)) }
+    ensures prefix { IfErr result (λ e. LeavesPrefix host.now (contents libs.now) e
+        (W.contents out.old) (W.contents out.new)) }
 {
     first_of_all();
     let linked = prepare(alloc, host, libs)?;

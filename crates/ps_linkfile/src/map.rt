@@ -31,7 +31,9 @@ fn add_segment<A: Allocator>(
     name: Name,
     block: usize,
 ) -> Result<(), AllocError>
-    ensures { OnOk result (string_bytes text.new ≡ string_bytes text.old ++ code_line source.now.slot name source.now.file source.now.index block (length source.now.code.now) source.now.added) }
+    ensures { OnOk result (string_bytes text.new
+        ≡ string_bytes text.old ++ code_line source.now.slot name source.now.file source.now.index
+        block (length source.now.code.now) source.now.added) }
 {
     writeln!(
         text,
@@ -51,7 +53,9 @@ fn add_segments<A: Allocator + Copy>(
     plan: &Plan<'_, A>,
 ) -> Result<usize, AllocError>
     requires { IsReady plan.now }
-    ensures lines { OnOk result (string_bytes text.new ≡ string_bytes text.old ++ flat_map (source_line plan.now.names (extents_of plan.now)) plan.now.origins) }
+    ensures lines { OnOk result (string_bytes text.new
+        ≡ string_bytes text.old ++ flat_map (source_line plan.now.names (extents_of plan.now))
+        plan.now.origins) }
     ensures blocks { IfOk result (λ blocks. blocks ≡ 1 + all_blocks (extents_of plan.now)) }
 {
     let names = plan.names();
@@ -79,7 +83,8 @@ fn add_definition<A: Allocator>(
     name: Name,
     def: Def,
 ) -> Result<(), AllocError>
-    ensures { OnOk result (string_bytes text.new ≡ string_bytes text.old ++ definition_line (name, def)) }
+    ensures { OnOk result (string_bytes text.new
+        ≡ string_bytes text.old ++ definition_line (name, def)) }
 {
     text.push_str(kind_word(def.kind))?;
     text.push_str(" ")?;
@@ -93,7 +98,8 @@ fn add_definitions<A: Allocator + Copy>(
     text: &mut String<A>,
     definitions: &Definitions<A>,
 ) -> Result<(), AllocError>
-    ensures { OnOk result (string_bytes text.new ≡ string_bytes text.old ++ flat_map definition_line definitions.now) }
+    ensures { OnOk result (string_bytes text.new
+        ≡ string_bytes text.old ++ flat_map definition_line definitions.now) }
 {
     let count = definitions.len();
     for i in 0..count {
@@ -105,7 +111,8 @@ fn add_definitions<A: Allocator + Copy>(
 
 /// Adds the line of a private variable.
 fn add_private<A: Allocator>(text: &mut String<A>, private: &Private) -> Result<(), AllocError>
-    ensures { OnOk result (string_bytes text.new ≡ string_bytes text.old ++ private_line private.now) }
+    ensures { OnOk result (string_bytes text.new
+        ≡ string_bytes text.old ++ private_line private.now) }
 {
     add_slot_name(text, "private ", private.slot, private.name)?;
     add_number(text, " offset ", private.offset)?;
@@ -115,7 +122,8 @@ fn add_private<A: Allocator>(text: &mut String<A>, private: &Private) -> Result<
 
 /// Adds a line for each private variable, by slot and then by record.
 fn add_privates<A: Allocator>(text: &mut String<A>, privates: &[Private]) -> Result<(), AllocError>
-    ensures { OnOk result (string_bytes text.new ≡ string_bytes text.old ++ flat_map private_line privates.now) }
+    ensures { OnOk result (string_bytes text.new
+        ≡ string_bytes text.old ++ flat_map private_line privates.now) }
 {
     for private in privates {
         add_private(text, private)?;

@@ -37,7 +37,8 @@ fn write_piece(refs: &Refs, from: usize, end: usize, piece: &mut [u8; PIECE_LEN]
     requires within { end ≤ length refs.now }
     requires few { end ≤ from + 64 }
     ensures inside { result ≤ 384 }
-    ensures text { drop result piece.new ≡ flat_map reference (take (end - from) (drop from refs.now)) }
+    ensures text { drop result piece.new
+        ≡ flat_map reference (take (end - from) (drop from refs.now)) }
     ensures ascii { IsAscii (drop result piece.new) }
 {
     let mut start = PIECE_LEN;
@@ -54,7 +55,8 @@ pub(crate) fn add_piece<W: fmt::Write>(
     from: usize,
 ) -> fmt::Result
     requires { from ≤ length refs.now }
-    ensures { WritesOnOk W.write_str_gives text.old result (flat_map reference (take 64 (drop from refs.now))) text.new }
+    ensures { WritesOnOk W.write_str_gives text.old result
+        (flat_map reference (take 64 (drop from refs.now))) text.new }
 {
     let mut piece = [0; PIECE_LEN];
     let end = refs.len().min(from + PIECE);

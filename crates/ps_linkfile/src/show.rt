@@ -69,7 +69,8 @@ impl fmt::Display for ShownFile<'_> {
 /// read as little-endian.
 fn read(file: &[u8]) -> Result<ShownFile<'_>, Fault>
     ensures order { IfOk result (λ shown. order_shown shown.order ≡ file_order file.now) }
-    ensures dict { IfOk result (λ shown. shown.dict ≡ record { order = known_order (file_order file.now); file = file.now }) }
+    ensures dict { IfOk result (λ shown. shown.dict
+        ≡ record { order = known_order (file_order file.now); file = file.now }) }
     ensures sound { IfOk result (λ _. show_fault file.now ≡ None) }
     ensures fault { IfErr result (λ fault. show_fault file.now ≡ Some fault) }
 {
@@ -87,7 +88,8 @@ fn read(file: &[u8]) -> Result<ShownFile<'_>, Fault>
 
 /// Adds the line of the byte order.
 fn add_order<W: fmt::Write>(text: &mut Formatter<W>, order: Option<Order>) -> fmt::Result
-    ensures { WritesOnOk W.write_str_gives text.old result (line (order_words (order_shown order))) text.new }
+    ensures { WritesOnOk W.write_str_gives text.old result (line (order_words (order_shown order)))
+        text.new }
 {
     let order = match order {
         None => "unknown",
@@ -101,7 +103,8 @@ fn add_order<W: fmt::Write>(text: &mut Formatter<W>, order: Option<Order>) -> fm
 #[tactic(auto, unfolding(crate::specs::ShowText::slot_line))]
 fn add_slot<W: fmt::Write>(text: &mut Formatter<W>, dict: &Dict, slot: u8) -> fmt::Result
     requires { slot < 16 }
-    ensures { WritesOnOk W.write_str_gives text.old result (slot_line dict.now.order dict.now.file slot) text.new }
+    ensures { WritesOnOk W.write_str_gives text.old result
+        (slot_line dict.now.order dict.now.file slot) text.new }
 {
     let Entry {
         address,
@@ -120,7 +123,8 @@ fn add_slot<W: fmt::Write>(text: &mut Formatter<W>, dict: &Dict, slot: u8) -> fm
 
 /// Adds the line of each slot.
 fn add_slots<W: fmt::Write>(text: &mut Formatter<W>, dict: &Dict) -> fmt::Result
-    ensures { WritesOnOk W.write_str_gives text.old result (flat_map (slot_line dict.now.order dict.now.file) slots) text.new }
+    ensures { WritesOnOk W.write_str_gives text.old result
+        (flat_map (slot_line dict.now.order dict.now.file) slots) text.new }
 {
     for slot in 0..SLOTS {
         add_slot(text, dict, slot)?;
@@ -140,7 +144,9 @@ fn is_unit(dict: &Dict, slot: u8) -> bool
 fn add_unit(dict: &Dict, names: &mut ArrayVec<Name, 16>, slot: u8)
     requires in_range { slot < 16 }
     requires room { array_vec_len names.old < 16 }
-    ensures { names.new.items ≡ names.old.items ++ (if is_role is_unit_role dict.now.order dict.now.file slot then (entry_at dict.now.order dict.now.file slot).name ∷ [] else []) }
+    ensures { names.new.items ≡ names.old.items
+        ++ (if is_role is_unit_role dict.now.order dict.now.file slot
+        then (entry_at dict.now.order dict.now.file slot).name ∷ [] else []) }
 {
     if is_unit(dict, slot) {
         names.push(dict.entry(slot).name);
@@ -194,7 +200,8 @@ fn add_head<W: fmt::Write>(
     kind: &str,
     name: Name,
 ) -> fmt::Result
-    ensures { WritesOnOk W.write_str_gives text.old result (decimal rec ++ kind.now ++ shown name) text.new }
+    ensures { WritesOnOk W.write_str_gives text.old result (decimal rec ++ kind.now ++ shown name)
+        text.new }
 {
     text.write_str(Buffer::new().format(rec))?;
     text.write_str(kind)?;
@@ -209,7 +216,8 @@ fn add_record<W: fmt::Write>(
     rec: usize,
     entry: &LinkRecord,
 ) -> fmt::Result
-    ensures { WritesOnOk W.write_str_gives text.old result (record_line units.now (rec, entry.now)) text.new }
+    ensures { WritesOnOk W.write_str_gives text.old result (record_line units.now (rec, entry.now))
+        text.new }
 {
     match &entry.body {
         Body::UnitRef(refs) => {
@@ -263,7 +271,8 @@ fn add_records<W: fmt::Write>(
     order: Order,
     information: &[u8],
 ) -> fmt::Result
-    ensures { WritesOnOk W.write_str_gives text.old result (record_lines units.now (reading order information.now)) text.new }
+    ensures { WritesOnOk W.write_str_gives text.old result
+        (record_lines units.now (reading order information.now)) text.new }
 {
     walk_from_start();
     let mut rec = 0;
@@ -297,7 +306,8 @@ fn add_links<W: fmt::Write>(
 ) -> fmt::Result
     requires in_range { slot < 16 }
     requires units { units.now ≡ unit_names_spec dict.now.order dict.now.file }
-    ensures { WritesOnOk W.write_str_gives text.old result (links_lines dict.now.order dict.now.file slot) text.new }
+    ensures { WritesOnOk W.write_str_gives text.old result
+        (links_lines dict.now.order dict.now.file slot) text.new }
 {
     if !has_links(dict, slot) {
         return Ok(());
@@ -311,7 +321,8 @@ fn add_links<W: fmt::Write>(
 
 /// Adds the link information of each slot.
 fn add_all_links<W: fmt::Write>(text: &mut Formatter<W>, dict: &Dict) -> fmt::Result
-    ensures { WritesOnOk W.write_str_gives text.old result (flat_map (links_lines dict.now.order dict.now.file) slots) text.new }
+    ensures { WritesOnOk W.write_str_gives text.old result
+        (flat_map (links_lines dict.now.order dict.now.file) slots) text.new }
 {
     let units = unit_names(dict);
     for slot in 0..SLOTS {
@@ -351,7 +362,8 @@ pub fn show_text<A: Allocator + Copy>(alloc: A, file: &[u8]) -> Result<Vec<u8, A
 /// returns `Memory`.
 /// Source: UCSD Pascal II.0 manual, code file format; the text is this project's profile.
 pub fn write_show<W: Write>(file: &[u8], out: &mut W) -> Result<(), LinkError>
-    ensures written { OnOk result (Appends (W.contents out.old) (W.contents out.new) (show_of file.now)) }
+    ensures written { OnOk result (Appends (W.contents out.old) (W.contents out.new)
+        (show_of file.now)) }
     ensures sound { OnOk result (show_fault file.now ≡ None) }
     ensures error { IfErr result (IsUnwritten file.now) }
     ensures untouched { IfErr result (λ e. LeavesUntouched e out.old out.new) }

@@ -17,7 +17,8 @@ type Gathered = ArrayVec<u8, PIECE_LEN>;
 
 /// Writes what was gathered.
 fn flush<W: Write>(out: &mut W, gathered: &mut Gathered) -> Result<(), WriteFault>
-    ensures bytes { OnOk result (Appends (W.contents out.old) (W.contents out.new) gathered.old.items) }
+    ensures bytes { OnOk result (Appends (W.contents out.old) (W.contents out.new)
+        gathered.old.items) }
     ensures empty { OnOk result (gathered.new.items ≡ []) }
 {
     write_all_of(out, &mut Counts::new(), gathered.as_slice())?;
@@ -27,7 +28,8 @@ fn flush<W: Write>(out: &mut W, gathered: &mut Gathered) -> Result<(), WriteFaul
 
 /// Gathers these bytes, and writes what was gathered before where there is no room for them.
 fn gather<W: Write>(out: &mut W, gathered: &mut Gathered, bytes: &[u8]) -> Result<(), WriteFault>
-    ensures { OnOk result (Appends (append_known (W.contents out.old) gathered.old.items) (append_known (W.contents out.new) gathered.new.items) bytes.now) }
+    ensures { OnOk result (Appends (append_known (W.contents out.old) gathered.old.items)
+        (append_known (W.contents out.new) gathered.new.items) bytes.now) }
 {
     if gathered.try_extend_from_slice(bytes).is_ok() {
         return Ok(());
@@ -68,7 +70,8 @@ pub(crate) fn write_text<W: Write, D: Display + Drop>(
     text: D,
     out: &mut W,
 ) -> Result<(), WriteFault>
-    ensures { OnOk result (IfSome (D.output text) (Appends (W.contents out.old) (W.contents out.new))) }
+    ensures { OnOk result (IfSome (D.output text)
+        (Appends (W.contents out.old) (W.contents out.new))) }
 {
     let mut formatter = Formatter::new(Stream {
         out,

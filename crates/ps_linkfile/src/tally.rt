@@ -20,7 +20,8 @@ pub(crate) trait Tally<W: Write> {
         requires { CanCount (counts self.old out.old) 1 }
         ensures bound { WritesAtMost result bytes.now }
         ensures bytes { WriteAppends (W.contents out.old) (W.contents out.new) result bytes.now }
-        ensures counts { counts self.new out.new ≡ counted (counts self.old out.old) (length bytes.now) result };
+        ensures counts { counts self.new out.new
+            ≡ counted (counts self.old out.old) (length bytes.now) result };
 }
 
 impl<W: Write> Tally<W> for Counts {

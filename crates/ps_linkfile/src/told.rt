@@ -40,7 +40,8 @@ pub trait ToldWriter: Write {
     fn told_write(&mut self, bytes: &[u8]) -> io::Result<usize>
         requires { CanCount (counts self.old) 1 }
         ensures bound { WritesAtMost result bytes.now }
-        ensures bytes { WriteAppends (Self.contents self.old) (Self.contents self.new) result bytes.now }
+        ensures bytes { WriteAppends (Self.contents self.old) (Self.contents self.new) result
+            bytes.now }
         ensures counts { counts self.new ≡ counted (counts self.old) (length bytes.now) result };
 }
 
@@ -83,7 +84,8 @@ impl<W: Write> Write for Counting<W> {
 
     fn write(&mut self, buf: &[u8]) -> io::Result<usize>
         ensures bound { WritesAtMost result buf.now }
-        ensures bytes { WriteAppends (W.contents (inner_of self.old)) (W.contents (inner_of self.new)) result buf.now }
+        ensures bytes { WriteAppends (W.contents (inner_of self.old))
+            (W.contents (inner_of self.new)) result buf.now }
         ensures counts { counts_of self.new ≡ counts_of self.old }
     {
         self.inner.write(buf)

@@ -30,10 +30,14 @@ pub(crate) fn write_all_of<W: Write, T: Tally<W>>(
 ) -> Result<(), WriteFault>
     requires { CanCount (T.counts tally.old out.old) (length bytes.now) }
     ensures all { OnOk result (Appends (W.contents out.old) (W.contents out.new) bytes.now) }
-    ensures prefix { OnErr result (AppendsPrefix (W.contents out.old) (W.contents out.new) bytes.now) }
-    ensures writes { Rises (T.counts tally.old out.old) (T.counts tally.new out.new) (length bytes.now) (min 1 (length bytes.now)) }
-    ensures ok { OnOk result (NoneFailed (T.counts tally.old out.old) (T.counts tally.new out.new)) }
-    ensures failed { IfErr result (λ fault. OneFailed fault (T.counts tally.old out.old) (T.counts tally.new out.new)) }
+    ensures prefix { OnErr result (AppendsPrefix (W.contents out.old) (W.contents out.new)
+        bytes.now) }
+    ensures writes { Rises (T.counts tally.old out.old) (T.counts tally.new out.new)
+        (length bytes.now) (min 1 (length bytes.now)) }
+    ensures ok { OnOk result (NoneFailed (T.counts tally.old out.old)
+        (T.counts tally.new out.new)) }
+    ensures failed { IfErr result (λ fault. OneFailed fault (T.counts tally.old out.old)
+        (T.counts tally.new out.new)) }
 {
     let mut at = 0;
     while at < bytes.len() {
@@ -50,7 +54,9 @@ pub(crate) fn write_all_of<W: Write, T: Tally<W>>(
 fn fill_blocks(order: Order, code: &[u8], edits: &[Edit], room: &mut [[u8; BLOCK_SIZE]])
     requires edits { AreEdits (length code.now) edits.now }
     requires few { length room.old ≤ blocks (length code.now) }
-    ensures { flat_map (λ block. block) room.new ≡ map (patched_or_zero order code.now edits.now) (range_with_len 0 (block_len * length room.old)) }
+    ensures { flat_map (λ block. block) room.new
+        ≡ map (patched_or_zero order code.now edits.now)
+        (range_with_len 0 (block_len * length room.old)) }
 {
     let mut patcher = Patcher::new(order, code, edits);
     let mut block = [0; BLOCK_SIZE];
@@ -71,11 +77,16 @@ fn write_code<W: Write, T: Tally<W>>(
     requires small { length code.now ≤ max_code_len }
     requires edits { AreEdits (length code.now) edits.now }
     requires room { CanCount (T.counts tally.old out.old) (block_len * blocks (length code.now)) }
-    ensures all { OnOk result (Appends (W.contents out.old) (W.contents out.new) (padded order code.now edits.now)) }
-    ensures prefix { OnErr result (AppendsPrefix (W.contents out.old) (W.contents out.new) (padded order code.now edits.now)) }
-    ensures writes { Rises (T.counts tally.old out.old) (T.counts tally.new out.new) (block_len * blocks (length code.now)) (blocks (length code.now)) }
-    ensures ok { OnOk result (NoneFailed (T.counts tally.old out.old) (T.counts tally.new out.new)) }
-    ensures failed { IfErr result (λ fault. OneFailed fault (T.counts tally.old out.old) (T.counts tally.new out.new)) }
+    ensures all { OnOk result (Appends (W.contents out.old) (W.contents out.new)
+        (padded order code.now edits.now)) }
+    ensures prefix { OnErr result (AppendsPrefix (W.contents out.old) (W.contents out.new)
+        (padded order code.now edits.now)) }
+    ensures writes { Rises (T.counts tally.old out.old) (T.counts tally.new out.new)
+        (block_len * blocks (length code.now)) (blocks (length code.now)) }
+    ensures ok { OnOk result (NoneFailed (T.counts tally.old out.old)
+        (T.counts tally.new out.new)) }
+    ensures failed { IfErr result (λ fault. OneFailed fault (T.counts tally.old out.old)
+        (T.counts tally.new out.new)) }
 {
     let mut room = [[0; BLOCK_SIZE]; MOST_BLOCKS];
     let used = &mut room[..blocks_of(code.len())];
@@ -91,12 +102,18 @@ fn write_codes<A: Allocator + Copy, W: Write, T: Tally<W>>(
 ) -> Result<(), WriteFault>
     requires sizes { All (λ c. c.size ≤ max_code_len) (extents_of plan.now) }
     requires edits { HaveEdits plan.now.origins plan.now.edits }
-    requires room { CanCount (T.counts tally.old out.old) (block_len * all_blocks (extents_of plan.now)) }
-    ensures all { OnOk result (Appends (W.contents out.old) (W.contents out.new) (padded_codes plan.now.order plan.now.origins plan.now.edits)) }
-    ensures prefix { OnErr result (AppendsPrefix (W.contents out.old) (W.contents out.new) (padded_codes plan.now.order plan.now.origins plan.now.edits)) }
-    ensures writes { Rises (T.counts tally.old out.old) (T.counts tally.new out.new) (block_len * all_blocks (extents_of plan.now)) (all_blocks (extents_of plan.now)) }
-    ensures ok { OnOk result (NoneFailed (T.counts tally.old out.old) (T.counts tally.new out.new)) }
-    ensures failed { IfErr result (λ fault. OneFailed fault (T.counts tally.old out.old) (T.counts tally.new out.new)) }
+    requires room { CanCount (T.counts tally.old out.old)
+        (block_len * all_blocks (extents_of plan.now)) }
+    ensures all { OnOk result (Appends (W.contents out.old) (W.contents out.new)
+        (padded_codes plan.now.order plan.now.origins plan.now.edits)) }
+    ensures prefix { OnErr result (AppendsPrefix (W.contents out.old) (W.contents out.new)
+        (padded_codes plan.now.order plan.now.origins plan.now.edits)) }
+    ensures writes { Rises (T.counts tally.old out.old) (T.counts tally.new out.new)
+        (block_len * all_blocks (extents_of plan.now)) (all_blocks (extents_of plan.now)) }
+    ensures ok { OnOk result (NoneFailed (T.counts tally.old out.old)
+        (T.counts tally.new out.new)) }
+    ensures failed { IfErr result (λ fault. OneFailed fault (T.counts tally.old out.old)
+        (T.counts tally.new out.new)) }
 {
     for (k, source) in plan.sources().iter().enumerate() {
         write_code(plan.order(), source.code, plan.edits(k), out, tally)?;
@@ -112,11 +129,16 @@ pub(crate) fn write_file<A: Allocator + Copy, W: Write, T: Tally<W>>(
 ) -> Result<(), WriteFault>
     requires ready { IsReady plan.now }
     requires counts { AreAtMost (T.counts tally.old out.old) 4294967296 }
-    ensures all { OnOk result (Appends (W.contents out.old) (W.contents out.new) (file_of plan.now)) }
-    ensures prefix { OnErr result (AppendsPrefix (W.contents out.old) (W.contents out.new) (file_of plan.now)) }
-    ensures writes { Rises (T.counts tally.old out.old) (T.counts tally.new out.new) (length (file_of plan.now)) (summary_in plan.now).blocks }
-    ensures ok { OnOk result (NoneFailed (T.counts tally.old out.old) (T.counts tally.new out.new)) }
-    ensures failed { IfErr result (λ fault. OneFailed fault (T.counts tally.old out.old) (T.counts tally.new out.new)) }
+    ensures all { OnOk result (Appends (W.contents out.old) (W.contents out.new)
+        (file_of plan.now)) }
+    ensures prefix { OnErr result (AppendsPrefix (W.contents out.old) (W.contents out.new)
+        (file_of plan.now)) }
+    ensures writes { Rises (T.counts tally.old out.old) (T.counts tally.new out.new)
+        (length (file_of plan.now)) (summary_in plan.now).blocks }
+    ensures ok { OnOk result (NoneFailed (T.counts tally.old out.old)
+        (T.counts tally.new out.new)) }
+    ensures failed { IfErr result (λ fault. OneFailed fault (T.counts tally.old out.old)
+        (T.counts tally.new out.new)) }
 {
     write_all_of(out, tally, &dictionary_of(plan))?;
     write_codes(plan, out, tally)

@@ -11,7 +11,8 @@ ghost use Rattle.ps_linkinfo.specs.Left.{items_of, left, records_left, fault_lef
 pub fn one_reading()
     ensures one { (order : ByteOrder) (bytes : List ℕ) (rs others : List Record)
         → Spells order bytes rs → Spells order bytes others → others ≡ rs }
-    ensures never_both { (order : ByteOrder) (bytes : List ℕ) (rs before : List Record) (why : FaultReason)
+    ensures never_both { (order : ByteOrder) (bytes : List ℕ) (rs before : List Record)
+        (why : FaultReason)
         → Spells order bytes rs → Stops order bytes before why → ⊥ }
     ensures spells { (order : ByteOrder) (bytes : List ℕ) (rs : List Record)
         → Spells order bytes rs ↔ (reading order bytes ≡ (rs, None)) }
@@ -21,15 +22,20 @@ pub fn one_reading()
 
 /// The name of each record that is read has eight bytes.
 pub fn names_are_whole()
-    ensures { (order : ByteOrder) (bytes : List ℕ) → All (λ r. length r.name ≡ 8) (reading order bytes).0 }
+    ensures { (order : ByteOrder) (bytes : List ℕ)
+        → All (λ r. length r.name ≡ 8) (reading order bytes).0 }
 {}
 
 /// A walk from the start has all items of the reading to give: its records, then its fault, if any. A walk has one item at most for each 16 bytes, and one for a fault.
 pub fn walk_from_start()
-    ensures items { (order : ByteOrder) (bytes : List ℕ) → left (whole_walk order bytes) ≡ items_of (reading order bytes) }
-    ensures records { (order : ByteOrder) (bytes : List ℕ) → records_left (whole_walk order bytes) ≡ (reading order bytes).0 }
-    ensures fault { (order : ByteOrder) (bytes : List ℕ) → fault_left (whole_walk order bytes) ≡ (reading order bytes).1 }
-    ensures few_records { (order : ByteOrder) (bytes : List ℕ) → length (reading order bytes).0 ≤ length bytes / 16 }
+    ensures items { (order : ByteOrder) (bytes : List ℕ)
+        → left (whole_walk order bytes) ≡ items_of (reading order bytes) }
+    ensures records { (order : ByteOrder) (bytes : List ℕ)
+        → records_left (whole_walk order bytes) ≡ (reading order bytes).0 }
+    ensures fault { (order : ByteOrder) (bytes : List ℕ)
+        → fault_left (whole_walk order bytes) ≡ (reading order bytes).1 }
+    ensures few_records { (order : ByteOrder) (bytes : List ℕ)
+        → length (reading order bytes).0 ≤ length bytes / 16 }
     ensures few_items { (walk : Walk) → length (left walk) ≤ left_of walk }
 {}
 
@@ -40,5 +46,6 @@ pub fn walk_so_far()
         → HasGiven old rs → Advances old (Some (Ok r)) new → HasGiven new (rs ++ r ∷ []) }
     ensures fault { (old new : Walk) (rs : List Record) (why : FaultReason)
         → HasGiven old rs → Advances old (Some (Err why)) new → HasGiven new rs }
-    ensures one { (walk : Walk) (rs others : List Record) → HasGiven walk rs → HasGiven walk others → others ≡ rs }
+    ensures one { (walk : Walk) (rs others : List Record) → HasGiven walk rs → HasGiven walk others
+        → others ≡ rs }
 {}

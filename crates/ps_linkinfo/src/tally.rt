@@ -39,9 +39,11 @@ impl Tally {
     /// Takes in one record more.
     #[inline(always)]
     pub(crate) fn add(&mut self, entry: &LinkRecord)
-        requires few { (before : List Record) × (self.old ≡ tally_of before) × (length before < 2 ^ 62) }
+        requires few { (before : List Record) × (self.old ≡ tally_of before)
+            × (length before < 2 ^ 62) }
         requires room { self.old.references < 2 ^ 62 }
-        ensures { (before : List Record) → self.old ≡ tally_of before → self.new ≡ tally_of (before ++ entry.now ∷ []) }
+        ensures { (before : List Record) → self.old ≡ tally_of before
+            → self.new ≡ tally_of (before ++ entry.now ∷ []) }
     {
         self.records += 1;
         match &entry.body {

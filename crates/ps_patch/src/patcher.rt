@@ -131,7 +131,12 @@ impl<'a> Patcher<'a> {
     /// to be below 32768.
     pub fn new(order: Order, code: &'a [u8], edits: &'a [Edit]) -> Self
         requires { AreEdits (length code.now) edits.now }
-        ensures { result ≡ record { order = order; code = code.now; edits = edits.now; position = 0 } }
+        ensures { result ≡ record {
+          order = order;
+          code = code.now;
+          edits = edits.now;
+          position = 0;
+        } }
     {
         Patcher {
             order,

@@ -58,7 +58,8 @@ impl Default for UnitReference {
 fn add_empty(host: &Dict, slots: &mut ArrayVec<u8, 9>, slot: u8)
     requires in_range { slot < 16 }
     requires room { array_vec_len slots.old < 9 }
-    ensures { slots.new.items ≡ slots.old.items ++ (if is_role is_empty_role host.now.order host.now.file slot then slot ∷ [] else []) }
+    ensures { slots.new.items ≡ slots.old.items
+        ++ (if is_role is_empty_role host.now.order host.now.file slot then slot ∷ [] else []) }
 {
     if is_empty(host, slot) {
         slots.push(slot);
@@ -98,7 +99,8 @@ fn is_had(own: &[Segment], row: &ArrayVec<UnitReference, 10>, name: Name) -> boo
 /// Adds the reference behind the row, where its name is not had; a full row stays as it is.
 fn seek(own: &[Segment], row: &mut ArrayVec<UnitReference, 10>, reference: UnitReference)
     requires { length row.old.items ≤ 10 }
-    ensures { row.new.items ≡ take 10 (sought_from (units_by_name own.now) row.old.items (reference ∷ [])) }
+    ensures { row.new.items ≡ take 10 (sought_from (units_by_name own.now) row.old.items
+        (reference ∷ [])) }
 {
     if is_had(own, row, reference.name) {
         return;
@@ -117,7 +119,8 @@ fn seek_record(
     entry: &LinkRecord,
 )
     requires { length row.old.items ≤ 10 }
-    ensures { row.new.items ≡ take 10 (sought_from (units_by_name own.now) row.old.items (unit_references segment.now.file segment.now.slot rec (entry.now ∷ []))) }
+    ensures { row.new.items ≡ take 10 (sought_from (units_by_name own.now) row.old.items
+        (unit_references segment.now.file segment.now.slot rec (entry.now ∷ []))) }
 {
     match &entry.body {
         Body::UnitRef(_) => seek(
@@ -175,7 +178,8 @@ fn seek_unseen<'a>(
 /// The names that the host's own segments seek.
 fn sought_by<'a>(own: &[Segment<'a>]) -> ArrayVec<UnitReference, 10>
     requires { AreAlike own.now }
-    ensures { result.items ≡ take 10 (sought_from (units_by_name own.now) [] (all_unit_references (map segment_of own.now))) }
+    ensures { result.items ≡ take 10 (sought_from (units_by_name own.now) []
+        (all_unit_references (map segment_of own.now))) }
 {
     let mut row: ArrayVec<UnitReference, MAX_SOUGHT> = ArrayVec::new();
     for (index, segment) in own.iter().enumerate() {
@@ -188,8 +192,10 @@ fn sought_by<'a>(own: &[Segment<'a>]) -> ArrayVec<UnitReference, 10>
 fn unit_named<'a>(order: Order, name: Name, libs: &'a [&'a [u8]]) -> Option<UnitSource<'a>>
     requires { libraries_fault order (contents libs.now) ≡ None }
     ensures missing { is_none result ≡ is_missing order (contents libs.now) name }
-    ensures library { IfSome result (λ u. chosen_library_spec order name (contents libs.now) ≡ Some (u.library, u.dict.file)) }
-    ensures entry { IfSome result (λ u. find (is_named order name u.dict.file) slots ≡ Some u.index) }
+    ensures library { IfSome result (λ u. chosen_library_spec order name (contents libs.now)
+        ≡ Some (u.library, u.dict.file)) }
+    ensures entry { IfSome result (λ u. find (is_named order name u.dict.file) slots
+        ≡ Some u.index) }
     ensures order { IfSome result (λ u. u.dict.order ≡ order) }
     ensures in_range { IfSome result (λ u. u.index < 16) }
     ensures number { IfSome result (λ u. u.library < length libs.now) }
@@ -224,8 +230,11 @@ fn read_added<'a>(
     requires slots { slot < 16 }
     requires libraries { libraries_fault order (contents libs.now) ≡ None }
     requires placed { (host : List ℕ) → All (IsPlaced order host (contents libs.now)) known.now }
-    ensures fault { (host : List ℕ) → result_err result ≡ placed_fault order host (contents libs.now) sought.now slot }
-    ensures segment { (host : List ℕ) → IfOk result (λ s. added_segment order host (contents libs.now) sought.now slot ≡ Some (segment_of s)) }
+    ensures fault { (host : List ℕ)
+        → result_err result ≡ placed_fault order host (contents libs.now) sought.now slot }
+    ensures segment { (host : List ℕ)
+        → IfOk result (λ s. added_segment order host (contents libs.now) sought.now slot
+        ≡ Some (segment_of s)) }
     ensures placed { (host : List ℕ) → IfOk result (IsPlaced order host (contents libs.now)) }
     ensures sound { IfOk result (λ s. IsSound order (segment_of s)) }
 {
@@ -273,9 +282,14 @@ fn add_in<'a>(
     requires alike { AreAlike own.now }
     requires few { length slots.now ≤ 9 }
     requires in_range { All (λ slot. slot < 16) slots.now }
-    ensures fault { (host : List ℕ) → result_err result ≡ (rounds_in order host (contents libs.now) (map segment_of own.now) slots.now).fault }
-    ensures added { (host : List ℕ) → IfOk result (λ added. map segment_of added.items ≡ (rounds_in order host (contents libs.now) (map segment_of own.now) slots.now).added) }
-    ensures placed { (host : List ℕ) → IfOk result (λ added. All (IsPlaced order host (contents libs.now)) added.items) }
+    ensures fault { (host : List ℕ)
+        → result_err result ≡ (rounds_in order host (contents libs.now) (map segment_of own.now)
+        slots.now).fault }
+    ensures added { (host : List ℕ)
+        → IfOk result (λ added. map segment_of added.items
+        ≡ (rounds_in order host (contents libs.now) (map segment_of own.now) slots.now).added) }
+    ensures placed { (host : List ℕ)
+        → IfOk result (λ added. All (IsPlaced order host (contents libs.now)) added.items) }
     ensures sound { IfOk result (λ added. All (IsSound order) (map segment_of added.items)) }
 {
     let mut row = sought_by(own);
@@ -311,10 +325,16 @@ pub(crate) fn add_units<'a>(
 ) -> Result<ArrayVec<Segment<'a>, 9>, Fault>
     requires libraries { libraries_fault host.now.order (contents libs.now) ≡ None }
     requires alike { AreAlike own.now }
-    ensures fault { result_err result ≡ (rounds_of host.now.order host.now.file (contents libs.now) (map segment_of own.now)).fault }
-    ensures added { IfOk result (λ added. map segment_of added.items ≡ (rounds_of host.now.order host.now.file (contents libs.now) (map segment_of own.now)).added) }
-    ensures placed { IfOk result (λ added. All (IsPlaced host.now.order host.now.file (contents libs.now)) added.items) }
-    ensures sound { IfOk result (λ added. All (IsSound host.now.order) (map segment_of added.items)) }
+    ensures fault { result_err result ≡
+        (rounds_of host.now.order host.now.file (contents libs.now)
+        (map segment_of own.now)).fault }
+    ensures added { IfOk result (λ added. map segment_of added.items
+        ≡ (rounds_of host.now.order host.now.file (contents libs.now)
+        (map segment_of own.now)).added) }
+    ensures placed { IfOk result (λ added. All
+        (IsPlaced host.now.order host.now.file (contents libs.now)) added.items) }
+    ensures sound { IfOk result (λ added. All (IsSound host.now.order)
+        (map segment_of added.items)) }
 {
     let slots = empty_slots(host);
     add_in(host.order(), libs, own, slots.as_slice())

@@ -74,7 +74,8 @@ fn allot<A: Allocator + Copy>(
     next: u16,
     privates: &mut Vec<Private, A>,
 ) -> Result<u16, Stop>
-    ensures privates { IfOk result (λ _. privates.new.items ≡ privates.old.items ++ allotted slot 0 next records.now) }
+    ensures privates { IfOk result (λ _. privates.new.items
+        ≡ privates.old.items ++ allotted slot 0 next records.now) }
     ensures end { IfOk result (λ end. end ≡ next + private_words records.now) }
     ensures once { IfOk result (λ _. private_fault 0 next [] records.now ≡ None) }
     ensures stop { IfErr result (IsUnallotted file slot next records.now) }
@@ -228,8 +229,10 @@ impl<A: Allocator + Copy> Allotment<A> {
         ensures follow { IfOk result (λ a. FollowOn next a.privates) }
         ensures total { IfOk result (λ a. a.words ≡ words_of_all a.privates) }
         ensures end { IfOk result (λ a. a.next_free ≡ next + words_of_all a.privates) }
-        ensures found { IfOk result (λ a. a ≡ allotment_of next (map owner_of_linkage segments.now)) }
-        ensures once { IfOk result (λ _. first_private_fault next (map owner_of_linkage segments.now) ≡ None) }
+        ensures found { IfOk result (λ a. a
+            ≡ allotment_of next (map owner_of_linkage segments.now)) }
+        ensures once { IfOk result (λ _. first_private_fault next
+            (map owner_of_linkage segments.now) ≡ None) }
         ensures stop { IfErr result (AreUnallotted next (map owner_of_linkage segments.now)) }
     {
         Allotment::of_segments(alloc, next, segments)
@@ -243,7 +246,8 @@ impl<A: Allocator + Copy> Allotment<A> {
     ) -> Result<Self, Stop>
         requires { AscendFrom 0 (map (λ s. s.slot) (map S.owner segments.now)) }
         ensures found { IfOk result (λ a. a ≡ allotment_of next (map S.owner segments.now)) }
-        ensures once { IfOk result (λ _. first_private_fault next (map S.owner segments.now) ≡ None) }
+        ensures once { IfOk result (λ _. first_private_fault next (map S.owner segments.now)
+            ≡ None) }
         ensures stop { IfErr result (AreUnallotted next (map S.owner segments.now)) }
     {
         match allot_all(alloc, next, segments) {

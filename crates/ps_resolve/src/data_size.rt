@@ -63,7 +63,8 @@ pub(crate) fn grown_data_size(order: Order, host: &Segment, words: u16) -> Resul
     requires small { length host.now.code.now ≤ 32767 }
     requires large { 4 ≤ length host.now.code.now }
     requires sound { tables_fault order host.now.code.now true ≡ None }
-    ensures edit { IfOk result (λ d. data_edits order words host.now.code.now ≡ Word d.place d.size ∷ []) }
+    ensures edit { IfOk result (λ d. data_edits order words host.now.code.now
+        ≡ Word d.place d.size ∷ []) }
     ensures size { IfOk result (λ d. d.size ≡ data_size_of order words host.now.code.now) }
     ensures table { IfOk result (λ d. IsOfTable order host.now.code.now (Word d.place d.size)) }
     ensures fits { IfOk result (λ _. size_fault order words (segment_of host.now) ≡ None) }

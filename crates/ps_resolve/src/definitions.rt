@@ -224,13 +224,16 @@ impl<A: Allocator + Copy> Definitions<A> {
     ///
     /// Source: the published II.0 Linker source; that a name is defined once is this project's profile.
     pub fn build(alloc: A, host: &Linkage) -> Result<Self, Stop>
-        ensures found { IfOk result (λ d. d ≡ definitions (reading host.now.order host.now.bytes.now).0) }
+        ensures found { IfOk result (λ d. d
+            ≡ definitions (reading host.now.order host.now.bytes.now).0) }
         ensures names { IfOk result (λ _. HaveNoNamesakes is_definition
             (reading host.now.order host.now.bytes.now).0) }
         ensures refused { IfErr result (StopsDefinitions host.now.file host.now.slot
             (reading host.now.order host.now.bytes.now).0) }
-        ensures once { IfOk result (λ _. doubled (reading host.now.order host.now.bytes.now).0 ≡ None) }
-        ensures stop { IfErr result (IsDoubled host.now.file host.now.slot (reading host.now.order host.now.bytes.now).0) }
+        ensures once { IfOk result (λ _. doubled (reading host.now.order host.now.bytes.now).0
+            ≡ None) }
+        ensures stop { IfErr result (IsDoubled host.now.file host.now.slot
+            (reading host.now.order host.now.bytes.now).0) }
     {
         let records = LinkInformation::up_to_fault(host.order, host.bytes);
         Definitions::of_records(alloc, host.file, host.slot, &records)

@@ -8,7 +8,8 @@ use ps_linkinfo::names_are_whole;
 
 /// The names of the sixteen slots of a linked file have 128 bytes, eight each, where the host has a whole segment dictionary.
 pub fn slot_names_are_whole()
-    ensures { (order : ByteOrder) (host : List ℕ) (libs : List (List ℕ)) → 512 ≤ length host → length (flat_map (λ name. name) (slot_names host (segments order host libs))) ≡ 128 }
+    ensures { (order : ByteOrder) (host : List ℕ) (libs : List (List ℕ)) → 512 ≤ length host
+        → length (flat_map (λ name. name) (slot_names host (segments order host libs))) ≡ 128 }
 {
     names_are_whole();
 }

@@ -56,8 +56,15 @@ fn linked_edits<A: Allocator + Copy>(
     requires sound { IsSound order (segment_of segment.now) }
     requires room { free + private_words segment.now.records < 65536 }
     requires table { IfSome own (IsOfTable order segment.now.code.now) }
-    ensures links { (words : ℕ) → option_to_list own ≡ (if is_host_spec segment.now.role then data_edits order words segment.now.code.now else [])
-        → IfOk result (λ found. LinksSegment order (record { segment = segment_of segment.now; edits = segment_edits_spec order names.now words free (segment_of segment.now) }) found.0.items) }
+    ensures links { (words : ℕ)
+        → option_to_list own ≡ (if is_host_spec segment.now.role
+        then data_edits order words segment.now.code.now else [])
+        → IfOk result (λ found. LinksSegment order
+        (record {
+          segment = segment_of segment.now;
+          edits = segment_edits_spec order names.now
+              words free (segment_of segment.now);
+        }) found.0.items) }
     ensures end { IfOk result (λ found. found.1 ≡ free + private_words segment.now.records) }
     ensures sound { OnOk result
         (segment_fault order names.now free (segment_of segment.now) ≡ None) }
@@ -84,8 +91,15 @@ fn segment_edits<A: Allocator + Copy>(
     requires sound { IsSound order (segment_of segment.now) }
     requires room { free + private_words segment.now.records < 65536 }
     requires table { IfSome own (IsOfTable order segment.now.code.now) }
-    ensures links { (words : ℕ) → option_to_list own ≡ (if is_host_spec segment.now.role then data_edits order words segment.now.code.now else [])
-        → IfOk result (λ found. LinksSegment order (record { segment = segment_of segment.now; edits = segment_edits_spec order names.now words free (segment_of segment.now) }) found.0.items) }
+    ensures links { (words : ℕ)
+        → option_to_list own ≡ (if is_host_spec segment.now.role
+        then data_edits order words segment.now.code.now else [])
+        → IfOk result (λ found. LinksSegment order
+        (record {
+          segment = segment_of segment.now;
+          edits = segment_edits_spec order names.now
+              words free (segment_of segment.now);
+        }) found.0.items) }
     ensures end { IfOk result (λ found. found.1 ≡ free + private_words segment.now.records) }
     ensures sound { OnOk result
         (segment_fault order names.now free (segment_of segment.now) ≡ None) }
@@ -103,7 +117,8 @@ fn segment_edits<A: Allocator + Copy>(
 /// reference or asks for a private.
 fn is_resolved<'a>(earlier: &[Segment<'a>], segment: &Segment<'a>) -> bool
     ensures linked { result ≡ true → is_linked_spec segment.now.role ≡ true }
-    ensures row { result ≡ true → (records : List Record) × HasRow earlier.now segment.now.file segment.now.block records }
+    ensures row { result ≡ true
+        → (records : List Record) × HasRow earlier.now segment.now.file segment.now.block records }
     ensures references { result ≡ true → references_in segment.now.records ≡ 0 }
     ensures privates { result ≡ true → privates_in segment.now.records ≡ 0 }
 {
@@ -128,10 +143,18 @@ fn next_edits<'a, A: Allocator + Copy>(
     requires table { IfSome own (IsOfTable order segment.now.code.now) }
     requires alike { All (IsLike segment.now) earlier.now }
     requires named { All (λ s. HaveTargets names.now s.records) earlier.now }
-    ensures links { (words : ℕ) → option_to_list own ≡ (if is_host_spec segment.now.role then data_edits order words segment.now.code.now else [])
-        → IfOk result (λ found. LinksSegment order (record { segment = segment_of segment.now; edits = segment_edits_spec order names.now words free (segment_of segment.now) }) found.0.items) }
+    ensures links { (words : ℕ)
+        → option_to_list own ≡ (if is_host_spec segment.now.role
+        then data_edits order words segment.now.code.now else [])
+        → IfOk result (λ found. LinksSegment order
+        (record {
+          segment = segment_of segment.now;
+          edits = segment_edits_spec order names.now
+              words free (segment_of segment.now);
+        }) found.0.items) }
     ensures end { IfOk result (λ found. found.1 ≡ free + private_words segment.now.records) }
-    ensures sound { OnOk result (segment_fault order names.now free (segment_of segment.now) ≡ None) }
+    ensures sound { OnOk result (segment_fault order names.now free (segment_of segment.now)
+        ≡ None) }
     ensures named { OnOk result (HaveTargets names.now segment.now.records) }
     ensures stop { IfErr result
         (IsStop ⊤ (segment_fault order names.now free (segment_of segment.now))) }
@@ -144,7 +167,8 @@ fn next_edits<'a, A: Allocator + Copy>(
 
 /// The edit of the data size, where the segment is the host's.
 fn own_edit(segment: &Segment, size: Edit) -> Option<Edit>
-    ensures value { option_to_list result ≡ (if is_host_spec segment.now.role then size ∷ [] else []) }
+    ensures value { option_to_list result
+        ≡ (if is_host_spec segment.now.role then size ∷ [] else []) }
     ensures host { IfSome result (λ edit. (edit ≡ size) × (is_host_spec segment.now.role ≡ true)) }
 {
     if is_host(segment.role) {
@@ -165,12 +189,19 @@ fn all_edits<A: Allocator + Copy>(
 ) -> Result<Vec<Vec<Edit, A>, A>, Stop>
     requires sound { All (IsSound order) (map segment_of segments.now) }
     requires room { base + all_words (map owner_of (map segment_of segments.now)) < 65536 }
-    requires table { All (λ s. is_host_spec s.role ≡ true → IsOfTable order s.code size) (map segment_of segments.now) }
+    requires table { All (λ s. is_host_spec s.role ≡ true → IsOfTable order s.code size)
+        (map segment_of segments.now) }
     requires alike { AreAlike segments.now }
-    ensures links { (words : ℕ) → All (λ s. is_host_spec s.role ≡ true → data_edits order words s.code ≡ size ∷ []) (map segment_of segments.now)
-        → IfOk result (λ edits. LinkSegments order (edited_from order names.now words base (map segment_of segments.now)) (map (λ e. e.items) edits.items)) }
-    ensures sound { IfOk result (λ _. references_fault_from order names.now base (map segment_of segments.now) ≡ None) }
-    ensures stop { IfErr result (AreOfReferences order names.now base (map segment_of segments.now)) }
+    ensures links { (words : ℕ)
+        → All (λ s. is_host_spec s.role ≡ true → data_edits order words s.code ≡ size ∷ [])
+        (map segment_of segments.now)
+        → IfOk result (λ edits. LinkSegments order
+        (edited_from order names.now words base (map segment_of segments.now))
+        (map (λ e. e.items) edits.items)) }
+    ensures sound { IfOk result (λ _. references_fault_from order names.now base
+        (map segment_of segments.now) ≡ None) }
+    ensures stop { IfErr result (AreOfReferences order names.now base
+        (map segment_of segments.now)) }
 {
     let mut edits = Vec::new(alloc);
     let mut free = base;
@@ -193,7 +224,8 @@ fn sources_of<'a, A: Allocator + Copy>(
     alloc: A,
     segments: &[Segment<'a>],
 ) -> Result<Vec<Source<'a>, A>, Stop>
-    ensures origins { IfOk result (λ v. map origin_of_source v.items ≡ map origin_of (map segment_of segments.now)) }
+    ensures origins { IfOk result (λ v. map origin_of_source v.items
+        ≡ map origin_of (map segment_of segments.now)) }
     ensures stop { IfErr result (λ stop. stop ≡ Memory) }
 {
     let mut sources = Vec::new(alloc);

@@ -21,7 +21,8 @@ use ps_words::{Fault, Name, Order};
 
 /// The segment that stands in a slot.
 fn segment_in<'a>(segments: &[Segment<'a>], slot: u8) -> Option<Segment<'a>>
-    ensures found { option_map segment_of result ≡ find (is_in_slot slot) (map segment_of segments.now) }
+    ensures found { option_map segment_of result
+        ≡ find (is_in_slot slot) (map segment_of segments.now) }
     ensures placed { (order : ByteOrder) (host : List ℕ) (libs : List (List ℕ))
         → All (IsPlaced order host libs) segments.now → IfSome result (IsPlaced order host libs) }
 {
@@ -41,8 +42,11 @@ fn segment_of_slot<'a>(
     slot: u8,
 ) -> Option<Segment<'a>>
     requires { slot < 16 }
-    ensures found { option_map segment_of result ≡ segment_in_slot host.now.order host.now.file (map segment_of own.now) (map segment_of added.now) slot }
-    ensures placed { (libs : List (List ℕ)) → All (IsPlaced host.now.order host.now.file libs) own.now
+    ensures found { option_map segment_of result
+        ≡ segment_in_slot host.now.order host.now.file (map segment_of own.now)
+        (map segment_of added.now) slot }
+    ensures placed { (libs : List (List ℕ))
+        → All (IsPlaced host.now.order host.now.file libs) own.now
         → All (IsPlaced host.now.order host.now.file libs) added.now
         → IfSome result (IsPlaced host.now.order host.now.file libs) }
 {
@@ -63,8 +67,11 @@ fn by_slot<'a>(
 ) -> ArrayVec<Segment<'a>, 16>
     requires own { All (IsSound host.now.order) (map segment_of own.now) }
     requires added { All (IsSound host.now.order) (map segment_of added.now) }
-    ensures segments { map segment_of result.items ≡ segments_in_slots host.now.order host.now.file (map segment_of own.now) (map segment_of added.now) }
-    ensures placed { (libs : List (List ℕ)) → All (IsPlaced host.now.order host.now.file libs) own.now
+    ensures segments { map segment_of result.items
+        ≡ segments_in_slots host.now.order host.now.file (map segment_of own.now)
+        (map segment_of added.now) }
+    ensures placed { (libs : List (List ℕ))
+        → All (IsPlaced host.now.order host.now.file libs) own.now
         → All (IsPlaced host.now.order host.now.file libs) added.now
         → All (IsPlaced host.now.order host.now.file libs) result.items }
     ensures sound { All (IsSound host.now.order) (map segment_of result.items) }
@@ -101,9 +108,12 @@ fn slot_names(host: &Dict, segments: &[Segment]) -> [Name; 16]
 /// The segments of a host whose slots and libraries have no fault of their own, or the first fault of their sources.
 fn read_all<'a>(host: &Dict<'a>, libs: &'a [&'a [u8]]) -> Result<ArrayVec<Segment<'a>, 16>, Fault>
     requires { libraries_fault_spec host.now.order (contents libs.now) ≡ None }
-    ensures fault { result_err result ≡ reading_rest host.now.order host.now.file (contents libs.now) }
-    ensures segments { IfOk result (λ s. map segment_of s.items ≡ segments host.now.order host.now.file (contents libs.now)) }
-    ensures placed { IfOk result (λ s. All (IsPlaced host.now.order host.now.file (contents libs.now)) s.items) }
+    ensures fault { result_err result ≡ reading_rest host.now.order host.now.file
+        (contents libs.now) }
+    ensures segments { IfOk result (λ s. map segment_of s.items
+        ≡ segments host.now.order host.now.file (contents libs.now)) }
+    ensures placed { IfOk result (λ s. All
+        (IsPlaced host.now.order host.now.file (contents libs.now)) s.items) }
     ensures sound { IfOk result (λ s. All (IsSound host.now.order) (map segment_of s.items)) }
 {
     match read_slots(host, libs) {
@@ -123,7 +133,9 @@ fn read_all<'a>(host: &Dict<'a>, libs: &'a [&'a [u8]]) -> Result<ArrayVec<Segmen
 
 /// The first fault of the slots of the host, of its want of a host segment, or of the libraries.
 fn files_fault(host: &Dict, libs: &[&[u8]]) -> Option<Fault>
-    ensures { result ≡ option_or (slots_fault_spec host.now.order host.now.file) (option_or (no_host_fault_spec host.now.order host.now.file) (libraries_fault_spec host.now.order (contents libs.now))) }
+    ensures { result ≡ option_or (slots_fault_spec host.now.order host.now.file)
+        (option_or (no_host_fault_spec host.now.order host.now.file)
+        (libraries_fault_spec host.now.order (contents libs.now))) }
 {
     if let Some(fault) = slots_fault(host) {
         return Some(fault);
@@ -139,10 +151,14 @@ fn read_sources<'a>(
     host: &Dict<'a>,
     libs: &'a [&'a [u8]],
 ) -> Result<ArrayVec<Segment<'a>, 16>, Fault>
-    ensures fault { result_err result ≡ option_or (slots_fault_spec host.now.order host.now.file) (option_or (no_host_fault_spec host.now.order host.now.file)
-        (option_or (libraries_fault_spec host.now.order (contents libs.now)) (reading_rest host.now.order host.now.file (contents libs.now)))) }
-    ensures segments { IfOk result (λ s. map segment_of s.items ≡ segments host.now.order host.now.file (contents libs.now)) }
-    ensures placed { IfOk result (λ s. All (IsPlaced host.now.order host.now.file (contents libs.now)) s.items) }
+    ensures fault { result_err result ≡ option_or (slots_fault_spec host.now.order host.now.file)
+        (option_or (no_host_fault_spec host.now.order host.now.file)
+        (option_or (libraries_fault_spec host.now.order (contents libs.now))
+        (reading_rest host.now.order host.now.file (contents libs.now)))) }
+    ensures segments { IfOk result (λ s. map segment_of s.items
+        ≡ segments host.now.order host.now.file (contents libs.now)) }
+    ensures placed { IfOk result (λ s. All
+        (IsPlaced host.now.order host.now.file (contents libs.now)) s.items) }
     ensures sound { IfOk result (λ s. All (IsSound host.now.order) (map segment_of s.items)) }
 {
     match files_fault(host, libs) {
@@ -166,11 +182,15 @@ pub(crate) struct Reading<'a> {
 pub(crate) fn read_segments<'a>(host: &'a [u8], libs: &'a [&'a [u8]]) -> Result<Reading<'a>, Fault>
     ensures whole { IfOk result (λ _. 512 ≤ length host.now) }
     ensures order { IfOk result (λ r. r.order ≡ order_of host.now) }
-    ensures segments { IfOk result (λ r. map segment_of r.segments.items ≡ segments (order_of host.now) host.now (contents libs.now)) }
-    ensures names { IfOk result (λ r. r.names ≡ slot_names_spec host.now (map segment_of r.segments.items)) }
-    ensures placed { IfOk result (λ r. All (IsPlaced r.order host.now (contents libs.now)) r.segments.items) }
+    ensures segments { IfOk result (λ r. map segment_of r.segments.items
+        ≡ segments (order_of host.now) host.now (contents libs.now)) }
+    ensures names { IfOk result (λ r. r.names
+        ≡ slot_names_spec host.now (map segment_of r.segments.items)) }
+    ensures placed { IfOk result (λ r. All (IsPlaced r.order host.now (contents libs.now))
+        r.segments.items) }
     ensures sound { IfOk result (λ r. All (IsSound r.order) (map segment_of r.segments.items)) }
-    ensures ascending { IfOk result (λ r. AscendFrom 0 (map (λ s. s.slot) (map segment_of r.segments.items))) }
+    ensures ascending { IfOk result (λ r. AscendFrom 0
+        (map (λ s. s.slot) (map segment_of r.segments.items))) }
     ensures host { IfOk result (λ r. IsSome (host_of (map segment_of r.segments.items))) }
     ensures one_host { IfOk result (λ r. HasOneHost (map segment_of r.segments.items)) }
     ensures faultless { IfOk result (λ _. reading_fault host.now (contents libs.now) ≡ None) }

@@ -41,7 +41,8 @@ fn is_unit(host: &Dict, slot: u8) -> bool
 /// The slot has a unit of this name.
 fn is_unit_of(host: &Dict, name: Name, slot: u8) -> bool
     requires { slot < 16 }
-    ensures { result ≡ (is_role is_unit_role host.now.order host.now.file slot && bytes_eq (entry_at host.now.order host.now.file slot).name name) }
+    ensures { result ≡ (is_role is_unit_role host.now.order host.now.file slot
+        && bytes_eq (entry_at host.now.order host.now.file slot).name name) }
 {
     is_unit(host, slot) && host.entry(slot).name == name
 }
@@ -49,7 +50,8 @@ fn is_unit_of(host: &Dict, name: Name, slot: u8) -> bool
 /// One of the slots below `end` has the host's own segment.
 fn has_host_below(host: &Dict, end: u8) -> bool
     requires { end ≤ 16 }
-    ensures { result ≡ list_any (is_role is_host_role host.now.order host.now.file) (range_with_len 0 end) }
+    ensures { result ≡ list_any (is_role is_host_role host.now.order host.now.file)
+        (range_with_len 0 end) }
 {
     (0..end).any(|slot| is_host(host, slot))
 }
@@ -57,7 +59,8 @@ fn has_host_below(host: &Dict, end: u8) -> bool
 /// One of the slots below `end` has a unit of this name.
 fn has_unit_below(host: &Dict, name: Name, end: u8) -> bool
     requires { end ≤ 16 }
-    ensures { result ≡ list_any (λ s. is_role is_unit_role host.now.order host.now.file s && bytes_eq (entry_at host.now.order host.now.file s).name name) (range_with_len 0 end) }
+    ensures { result ≡ list_any (λ s. is_role is_unit_role host.now.order host.now.file s
+        && bytes_eq (entry_at host.now.order host.now.file s).name name) (range_with_len 0 end) }
 {
     (0..end).any(|slot| is_unit_of(host, name, slot))
 }

@@ -43,7 +43,8 @@ fn read_information<'a>(
     slot: u8,
 ) -> Result<LinkInformation<'a>, Fault>
     ensures fault { result_err result ≡ option_map
-        (in_record file slot (length (reading order information.now).0)) (reading order information.now).1 }
+        (in_record file slot (length (reading order information.now).0))
+        (reading order information.now).1 }
     ensures records { IfOk result (λ records. records ≡ (reading order information.now).0) }
 {
     match LinkInformation::read(order, information) {
@@ -72,7 +73,8 @@ pub(crate) fn known_records<'a>(
     requires { index < 16 }
     ensures { (host : List ℕ) (libs : List (List ℕ)) → file_at host libs file ≡ from.now.file
         → All (IsPlaced from.now.order host libs) known.now
-        → IfSome result (IsRowOf from.now.order from.now.file (entry_at from.now.order from.now.file index)) }
+        → IfSome result (IsRowOf from.now.order from.now.file
+        (entry_at from.now.order from.now.file index)) }
 {
     row_of(known, file, block_behind(from, index))
 }
@@ -100,8 +102,10 @@ fn read_records<'a>(
     requires large { is_linked_spec role ≡ true → 2 ≤ length code.now }
     requires known { IfSome known (λ records. reading order information.now ≡ (records, None)) }
     ensures fault { result_err result ≡ (if is_linked_spec role
-        then option_or (option_map (in_slot_spec file slot) (tables_fault_spec order code.now (is_host_spec role)))
-        (option_map (in_record file slot (length (reading order information.now).0)) (reading order information.now).1)
+        then option_or (option_map (in_slot_spec file slot)
+        (tables_fault_spec order code.now (is_host_spec role)))
+        (option_map (in_record file slot (length (reading order information.now).0))
+        (reading order information.now).1)
         else None) }
     ensures records { IfOk result (λ records.
         records ≡ (if is_linked_spec role then (reading order information.now).0 else [])) }
@@ -131,13 +135,18 @@ pub(crate) fn read_segment<'a>(
 ) -> Result<Segment<'a>, Fault>
     requires slots { slot < 16 }
     requires in_range { index < 16 }
-    requires known { IfSome known (IsRowOf from.now.order from.now.file (entry_at from.now.order from.now.file index)) }
-    requires kind { is_linked_spec role ≡ true → is_linked_kind (entry_at from.now.order from.now.file index).kind ≡ true }
+    requires known { IfSome known (IsRowOf from.now.order from.now.file
+        (entry_at from.now.order from.now.file index)) }
+    requires kind { is_linked_spec role ≡ true
+        → is_linked_kind (entry_at from.now.order from.now.file index).kind ≡ true }
     ensures fault { (host : List ℕ) (libs : List (List ℕ)) → file_at host libs file ≡ from.now.file
         → result_err result ≡ code_fault from.now.order host libs slot role (file, index) }
-    ensures segment { (host : List ℕ) (libs : List (List ℕ)) → file_at host libs file ≡ from.now.file
-        → IfOk result (λ s. segment_from from.now.order host libs slot name role (file, index) ≡ Some (segment_of s)) }
-    ensures placed { (host : List ℕ) (libs : List (List ℕ)) → file_at host libs file ≡ from.now.file
+    ensures segment { (host : List ℕ) (libs : List (List ℕ))
+        → file_at host libs file ≡ from.now.file
+        → IfOk result (λ s. segment_from from.now.order host libs slot name role (file, index)
+        ≡ Some (segment_of s)) }
+    ensures placed { (host : List ℕ) (libs : List (List ℕ))
+        → file_at host libs file ≡ from.now.file
         → IfOk result (IsPlaced from.now.order host libs) }
     ensures sound { IfOk result (λ s. IsSound from.now.order (segment_of s)) }
 {
@@ -183,9 +192,12 @@ fn read_role<'a>(
     requires role { role_of (entry_at host.now.order host.now.file slot) ≡ Ok role }
     requires libraries { libraries_fault_spec host.now.order (contents libs.now) ≡ None }
     requires placed { All (IsPlaced host.now.order host.now.file (contents libs.now)) known.now }
-    ensures fault { result_err result ≡ source_fault host.now.order host.now.file (contents libs.now) slot }
-    ensures segment { IfOk result (λ s. option_map segment_of s ≡ own_segment host.now.order host.now.file (contents libs.now) slot) }
-    ensures placed { IfOk result (λ s. IfSome s (IsPlaced host.now.order host.now.file (contents libs.now))) }
+    ensures fault { result_err result ≡ source_fault host.now.order host.now.file
+        (contents libs.now) slot }
+    ensures segment { IfOk result (λ s. option_map segment_of s
+        ≡ own_segment host.now.order host.now.file (contents libs.now) slot) }
+    ensures placed { IfOk result (λ s. IfSome s
+        (IsPlaced host.now.order host.now.file (contents libs.now))) }
     ensures sound { IfOk result (λ s. IfSome s (λ s. IsSound host.now.order (segment_of s))) }
 {
     let name = host.entry(slot).name;
@@ -223,9 +235,12 @@ fn read_slot<'a>(
     requires slots { slot < 16 }
     requires libraries { libraries_fault_spec host.now.order (contents libs.now) ≡ None }
     requires placed { All (IsPlaced host.now.order host.now.file (contents libs.now)) known.now }
-    ensures fault { result_err result ≡ source_fault host.now.order host.now.file (contents libs.now) slot }
-    ensures segment { IfOk result (λ s. option_map segment_of s ≡ own_segment host.now.order host.now.file (contents libs.now) slot) }
-    ensures placed { IfOk result (λ s. IfSome s (IsPlaced host.now.order host.now.file (contents libs.now))) }
+    ensures fault { result_err result ≡ source_fault host.now.order host.now.file
+        (contents libs.now) slot }
+    ensures segment { IfOk result (λ s. option_map segment_of s
+        ≡ own_segment host.now.order host.now.file (contents libs.now) slot) }
+    ensures placed { IfOk result (λ s. IfSome s
+        (IsPlaced host.now.order host.now.file (contents libs.now))) }
     ensures sound { IfOk result (λ s. IfSome s (λ s. IsSound host.now.order (segment_of s))) }
 {
     match host.role(slot) {
@@ -250,9 +265,12 @@ pub(crate) fn read_slots<'a>(
     libs: &'a [&'a [u8]],
 ) -> Result<ArrayVec<Segment<'a>, 16>, Fault>
     requires { libraries_fault_spec host.now.order (contents libs.now) ≡ None }
-    ensures fault { result_err result ≡ sources_fault host.now.order host.now.file (contents libs.now) }
-    ensures segments { IfOk result (λ s. map segment_of s.items ≡ own_segments host.now.order host.now.file (contents libs.now)) }
-    ensures placed { IfOk result (λ s. All (IsPlaced host.now.order host.now.file (contents libs.now)) s.items) }
+    ensures fault { result_err result ≡ sources_fault host.now.order host.now.file
+        (contents libs.now) }
+    ensures segments { IfOk result (λ s. map segment_of s.items
+        ≡ own_segments host.now.order host.now.file (contents libs.now)) }
+    ensures placed { IfOk result (λ s. All
+        (IsPlaced host.now.order host.now.file (contents libs.now)) s.items) }
     ensures sound { IfOk result (λ s. All (IsSound host.now.order) (map segment_of s.items)) }
 {
     let mut segments = ArrayVec::new();

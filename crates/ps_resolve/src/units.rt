@@ -34,7 +34,8 @@ fn is_named(dict: &Dict, name: Name, index: u8) -> bool
 /// One of the entries below `end` has this name.
 fn has_name_below(dict: &Dict, name: Name, end: u8) -> bool
     requires { end ≤ 16 }
-    ensures { result ≡ list_any (is_named_spec dict.now.order name dict.now.file) (range_with_len 0 end) }
+    ensures { result ≡ list_any (is_named_spec dict.now.order name dict.now.file)
+        (range_with_len 0 end) }
 {
     (0..end).any(|index| is_named(dict, name, index))
 }
@@ -42,7 +43,8 @@ fn has_name_below(dict: &Dict, name: Name, end: u8) -> bool
 /// The entry has this name, and so has one below it.
 fn is_named_again(dict: &Dict, name: Name, index: u8) -> bool
     requires { index < 16 }
-    ensures { result ≡ (is_named_spec dict.now.order name dict.now.file index && list_any (is_named_spec dict.now.order name dict.now.file) (range_with_len 0 index)) }
+    ensures { result ≡ (is_named_spec dict.now.order name dict.now.file index
+        && list_any (is_named_spec dict.now.order name dict.now.file) (range_with_len 0 index)) }
 {
     is_named(dict, name, index) && has_name_below(dict, name, index)
 }
@@ -50,7 +52,9 @@ fn is_named_again(dict: &Dict, name: Name, index: u8) -> bool
 /// One of the entries below `end` has this name, and so has one below it.
 fn has_doubled_below(dict: &Dict, name: Name, end: u8) -> bool
     requires { end ≤ 16 }
-    ensures { result ≡ list_any (λ i. is_named_spec dict.now.order name dict.now.file i && list_any (is_named_spec dict.now.order name dict.now.file) (range_with_len 0 i)) (range_with_len 0 end) }
+    ensures { result ≡ list_any (λ i. is_named_spec dict.now.order name dict.now.file i
+        && list_any (is_named_spec dict.now.order name dict.now.file) (range_with_len 0 i))
+        (range_with_len 0 end) }
 {
     (0..end).any(|index| is_named_again(dict, name, index))
 }
@@ -91,8 +95,10 @@ pub(crate) fn chosen_library<'a>(
     libs: &'a [&'a [u8]],
 ) -> Option<UnitSource<'a>>
     requires { libraries_fault order (contents libs.now) ≡ None }
-    ensures library { option_map (λ u. (u.library, u.dict.file)) result ≡ chosen_library_spec order name (contents libs.now) }
-    ensures entry { IfSome result (λ u. find (is_named_spec order name u.dict.file) slots ≡ Some u.index) }
+    ensures library { option_map (λ u. (u.library, u.dict.file)) result
+        ≡ chosen_library_spec order name (contents libs.now) }
+    ensures entry { IfSome result (λ u. find (is_named_spec order name u.dict.file) slots
+        ≡ Some u.index) }
     ensures order { IfSome result (λ u. u.dict.order ≡ order) }
     ensures in_range { IfSome result (λ u. u.index < 16) }
     ensures number { IfSome result (λ u. u.library < length libs.now) }
@@ -134,8 +140,10 @@ pub(crate) fn unit_source<'a>(
 ) -> Result<UnitSource<'a>, Fault>
     requires { libraries_fault order (contents libs.now) ≡ None }
     ensures fault { result_err result ≡ unit_fault order name (contents libs.now) slot }
-    ensures source { IfOk result (λ u. unit_source_spec order name (contents libs.now) ≡ Some (u.library + 1, u.index)) }
-    ensures file { (host : List ℕ) → IfOk result (λ u. file_at host (contents libs.now) (u.library + 1) ≡ u.dict.file) }
+    ensures source { IfOk result (λ u. unit_source_spec order name (contents libs.now)
+        ≡ Some (u.library + 1, u.index)) }
+    ensures file { (host : List ℕ)
+        → IfOk result (λ u. file_at host (contents libs.now) (u.library + 1) ≡ u.dict.file) }
     ensures order { IfOk result (λ u. u.dict.order ≡ order) }
     ensures unit { IfOk result (λ u. (entry_at order u.dict.file u.index).kind ≡ 3) }
     ensures in_range { IfOk result (λ u. u.index < 16) }

@@ -9,7 +9,8 @@ ghost use Rattle.ps_words.specs.declared.order.Order.{Order as AnOrder};
 /// A law: the two bytes of a word, 0 to 65535, are read back as that word, in either byte order,
 /// and two bytes are those of the word that they are read as.
 pub fn words_read_back()
-    ensures word { (order : AnOrder) (v : ℕ) → v < 65536 → word_at order (word_bytes order v) 0 ≡ v }
+    ensures word { (order : AnOrder) (v : ℕ) → v < 65536
+        → word_at order (word_bytes order v) 0 ≡ v }
     ensures bytes { (order : AnOrder) (a b : ℕ) → a < 256 → b < 256
         → word_bytes order (word order a b) ≡ a ∷ b ∷ [] }
 {}

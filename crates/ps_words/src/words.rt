@@ -37,7 +37,8 @@ pub fn put(order: Order, bytes: &mut [u8], place: usize, v: u16)
     requires { place + 2 ≤ length bytes.old }
     ensures first { slice_index bytes.new place ≡ slice_index (word_bytes order v) 0 }
     ensures second { slice_index bytes.new (place + 1) ≡ slice_index (word_bytes order v) 1 }
-    ensures others { (p : ℕ) → p ≢ place → p ≢ place + 1 → slice_index bytes.new p ≡ slice_index bytes.old p }
+    ensures others { (p : ℕ) → p ≢ place → p ≢ place + 1
+        → slice_index bytes.new p ≡ slice_index bytes.old p }
     ensures length { length bytes.new ≡ length bytes.old }
 {
     match order {
@@ -70,7 +71,8 @@ pub fn put_big(bytes: &mut [u8], place: usize, v: u16)
     requires storable { v < 32768 }
     ensures first { slice_index bytes.new place ≡ slice_index (operand_bytes v) 0 }
     ensures second { slice_index bytes.new (place + 1) ≡ slice_index (operand_bytes v) 1 }
-    ensures others { (p : ℕ) → p ≢ place → p ≢ place + 1 → slice_index bytes.new p ≡ slice_index bytes.old p }
+    ensures others { (p : ℕ) → p ≢ place → p ≢ place + 1
+        → slice_index bytes.new p ≡ slice_index bytes.old p }
     ensures length { length bytes.new ≡ length bytes.old }
 {
     put(Order::Big, bytes, place, BIG_MARK + v);
