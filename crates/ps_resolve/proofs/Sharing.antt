@@ -1,5 +1,5 @@
 -- Segments that have the same records, since their link information begins in one block of one file.
-use Rattle.std.proofs.Common.{◌≡◌, ◌∙◌, ℕ, suc, zero, ◌+◌, ◌-◌, ◌*◌, ◌<◌, ◌≤◌, ◌++◌, List, [], ◌∷◌, length, map, take, drop, get_or, Bool, true, false, if◌then◌else◌, cond, Option, Some, None, Result, Ok, Err, refl, sym, ap, subst, arith, add-one}
+use Rattle.std.proofs.Common.{◌≡◌, ◌∙◌, ℕ, suc, zero, ◌+◌, ◌-◌, ◌*◌, ◌<◌, ◌++◌, List, [], ◌∷◌, length, map, take, drop, get_or, Bool, true, false, if◌then◌else◌, cond, Option, Some, None, Result, Ok, Err, refl, sym, ap, subst, arith, add-one}
 use Rattle.std.specs.Prelude.{All, IfSome, is_some, ⊤}
 use Rattle.std.specs.Option.{option_map}
 use Rattle.std.proofs.lemmas.List.{nil_from_length}
@@ -16,7 +16,7 @@ use Rattle.ps_linkinfo.specs.Counts.{is_private_reference, privates_in, referenc
 use Rattle.ps_linkinfo.specs.declared.record.Body.{Body}
 use Rattle.ps_linkinfo.specs.declared.record.Body.TheVariants.{UnitRef, PublRef, PrivRef, PublDef, ConstDef, Eof}
 use Rattle.ps_linkinfo.specs.declared.record.LinkRecord.{LinkRecord as Record}
-use Rattle.ps_resolve.specs.Sources.{Segment, is_linked, is_host, file_at}
+use Rattle.ps_resolve.specs.Sources.{is_linked, is_host, file_at}
 use Rattle.ps_resolve.specs.Views.{segment_of, IsPlaced, IsLike, AreAlike, HasRow}
 use Rattle.ps_resolve.specs.Operands.{edit_of, operands, refs_fault}
 use Rattle.ps_resolve.specs.References.{Known, HasTarget, HaveTargets, target_in, target_of, words_taken, records_fault, records_edits}

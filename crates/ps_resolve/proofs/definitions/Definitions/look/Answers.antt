@@ -1,4 +1,4 @@
-use Rattle.std.proofs.Common.{◌≡◌, ℕ, ◌<◌, ◌∙◌, List, length, get_or, Option, Bool, true, false, true≢false, is_some, ap, sym, subst, arith, rules}
+use Rattle.std.proofs.Common.{◌≡◌, ℕ, ◌<◌, ◌∙◌, List, length, true, false, true≢false, is_some, ap, sym, subst, arith, rules}
 use Rattle.std.specs.Prelude.{nat_lt}
 use Rattle.std.specs.List.Sorted.{IsPartitionPoint}
 use Rattle.std.proofs.lemmas.Bool.Decides.{nat_tests}
@@ -6,7 +6,6 @@ use Rattle.std.proofs.lemmas.List.Sorted.{IsPartitionPoint-from_clause}
 use Rattle.std.proofs.lemmas.Slice.Eq.{bytes_eq-Decides}
 use Rattle.ps_resolve.specs.ByName.{number, in_order, IsTable}
 use Rattle.ps_resolve.specs.Symbols.{definition_of}
-use Rattle.ps_resolve.specs.declared.definitions.Def.{Def}
 use Rattle.ps_resolve.specs.declared.definitions.Named.{Named}
 use Rattle.ps_resolve.proofs.ByNames.{found, missing, partitioned}
 use Rattle.ps_resolve.proofs.definitions.Definitions.look.Goals as goal

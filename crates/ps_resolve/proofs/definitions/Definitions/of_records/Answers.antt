@@ -1,4 +1,4 @@
-use Rattle.std.proofs.Common.{◌≡◌, ℕ, ◌<◌, ◌∙◌, List, length, ap, sym, subst, arith, rules}
+use Rattle.std.proofs.Common.{ℕ, ◌<◌, ◌∙◌, List, length, ap, sym, subst, arith, rules}
 use Rattle.std.specs.Prelude.{All}
 use Rattle.std.proofs.lemmas.Result.{err_from_is_err_and}
 use Rattle.ps_linkinfo.specs.Counts.{definitions_in}
