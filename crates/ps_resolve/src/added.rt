@@ -11,7 +11,7 @@ ghost use Rattle.ps_resolve.specs.Faults.{is_role, libraries_fault};
 ghost use Rattle.ps_resolve.specs.Names.{units_by_name};
 ghost use Rattle.ps_resolve.specs.Views.{segment_of, IsSound, IsPlaced, IsLike, AreAlike};
 
-use crate::names::slot_of;
+use crate::names::UnitSlots;
 use crate::segment::Segment;
 use crate::slots::{SLOTS, is_empty};
 use crate::sources::{known_records, read_segment};
@@ -86,23 +86,23 @@ fn is_in_row(row: &ArrayVec<UnitReference, 10>, name: Name) -> bool
     row.iter().any(|sought| sought.name == name)
 }
 
-/// A unit of the host has the name, or it is in the row.
-fn is_had(own: &[Segment], row: &ArrayVec<UnitReference, 10>, name: Name) -> bool
-    ensures { result ≡ is_had_spec (units_by_name own.now) row.now.items name }
+/// One of the units has the name, or it is in the row.
+fn is_had(units: &UnitSlots, row: &ArrayVec<UnitReference, 10>, name: Name) -> bool
+    ensures { result ≡ is_had_spec units.now row.now.items name }
 {
-    match slot_of(own, name) {
+    match units.slot_of(name) {
         Some(_) => true,
         None => is_in_row(row, name),
     }
 }
 
 /// Adds the reference behind the row, where its name is not had; a full row stays as it is.
-fn seek(own: &[Segment], row: &mut ArrayVec<UnitReference, 10>, reference: UnitReference)
+fn seek(units: &UnitSlots, row: &mut ArrayVec<UnitReference, 10>, reference: UnitReference)
     requires { length row.old.items ≤ 10 }
-    ensures { row.new.items ≡ take 10 (sought_from (units_by_name own.now) row.old.items
+    ensures { row.new.items ≡ take 10 (sought_from units.now row.old.items
         (reference ∷ [])) }
 {
-    if is_had(own, row, reference.name) {
+    if is_had(units, row, reference.name) {
         return;
     }
     if !row.is_full() {
@@ -112,19 +112,19 @@ fn seek(own: &[Segment], row: &mut ArrayVec<UnitReference, 10>, reference: UnitR
 
 /// Adds the record of a segment behind the row, where it seeks a name that is not had.
 fn seek_record(
-    own: &[Segment],
+    units: &UnitSlots,
     row: &mut ArrayVec<UnitReference, 10>,
     segment: &Segment,
     rec: usize,
     entry: &LinkRecord,
 )
     requires { length row.old.items ≤ 10 }
-    ensures { row.new.items ≡ take 10 (sought_from (units_by_name own.now) row.old.items
+    ensures { row.new.items ≡ take 10 (sought_from units.now row.old.items
         (unit_references segment.now.file segment.now.slot rec (entry.now ∷ []))) }
 {
     match &entry.body {
         Body::UnitRef(_) => seek(
-            own,
+            units,
             row,
             UnitReference {
                 name: entry.name,
@@ -142,48 +142,48 @@ fn seek_record(
 }
 
 /// Adds the names that the records of a segment seek behind the row.
-fn seek_records(own: &[Segment], row: &mut ArrayVec<UnitReference, 10>, segment: &Segment)
+fn seek_records(units: &UnitSlots, row: &mut ArrayVec<UnitReference, 10>, segment: &Segment)
     requires { length row.old.items ≤ 10 }
-    ensures { row.new.items ≡ take 10 (sought_from (units_by_name own.now) row.old.items
+    ensures { row.new.items ≡ take 10 (sought_from units.now row.old.items
         (unit_references segment.now.file segment.now.slot 0 segment.now.records)) }
 {
     if segment.records.units() == 0 {
         return;
     }
     for (rec, record) in segment.records.records() {
-        seek_record(own, row, segment, rec, &record);
+        seek_record(units, row, segment, rec, &record);
     }
 }
 
 /// Adds the names that the records of a segment seek behind the row. Those of records that an earlier
 /// segment has too are had.
 fn seek_unseen<'a>(
-    own: &[Segment<'a>],
+    units: &UnitSlots,
     row: &mut ArrayVec<UnitReference, 10>,
     earlier: &[Segment<'a>],
     segment: &Segment<'a>,
 )
     requires few { length row.old.items ≤ 10 }
     requires alike { All (IsLike segment.now) earlier.now }
-    requires had { All (λ s. AreHad (units_by_name own.now) row.old.items s.records) earlier.now }
-    ensures { row.new.items ≡ take 10 (sought_from (units_by_name own.now) row.old.items
+    requires had { All (λ s. AreHad units.now row.old.items s.records) earlier.now }
+    ensures { row.new.items ≡ take 10 (sought_from units.now row.old.items
         (unit_references segment.now.file segment.now.slot 0 segment.now.records)) }
 {
     if segment.shares_with(earlier) {
         return;
     }
-    seek_records(own, row, segment);
+    seek_records(units, row, segment);
 }
 
 /// The names that the host's own segments seek.
-fn sought_by<'a>(own: &[Segment<'a>]) -> ArrayVec<UnitReference, 10>
+fn sought_by<'a>(units: &UnitSlots, own: &[Segment<'a>]) -> ArrayVec<UnitReference, 10>
     requires { AreAlike own.now }
-    ensures { result.items ≡ take 10 (sought_from (units_by_name own.now) []
+    ensures { result.items ≡ take 10 (sought_from units.now []
         (all_unit_references (map segment_of own.now))) }
 {
     let mut row: ArrayVec<UnitReference, MAX_SOUGHT> = ArrayVec::new();
     for (index, segment) in own.iter().enumerate() {
-        seek_unseen(own, &mut row, &own[..index], segment);
+        seek_unseen(units, &mut row, &own[..index], segment);
     }
     row
 }
@@ -280,6 +280,7 @@ fn add_in<'a>(
 ) -> Result<ArrayVec<Segment<'a>, 9>, Fault>
     requires libraries { libraries_fault order (contents libs.now) ≡ None }
     requires alike { AreAlike own.now }
+    requires most { length own.now ≤ 16 }
     requires few { length slots.now ≤ 9 }
     requires in_range { All (λ slot. slot < 16) slots.now }
     ensures fault { (host : List ℕ)
@@ -292,7 +293,8 @@ fn add_in<'a>(
         → IfOk result (λ added. All (IsPlaced order host (contents libs.now)) added.items) }
     ensures sound { IfOk result (λ added. All (IsSound order) (map segment_of added.items)) }
 {
-    let mut row = sought_by(own);
+    let units = UnitSlots::of(own);
+    let mut row = sought_by(&units, own);
     let mut added: ArrayVec<Segment<'a>, MAX_ADDED> = ArrayVec::new();
     for slot in slots {
         match sought_at(&row, added.len()) {
@@ -300,7 +302,7 @@ fn add_in<'a>(
             Some(sought) => match read_added(order, libs, &sought, *slot, added.as_slice()) {
                 Err(fault) => return Err(fault),
                 Ok(segment) => {
-                    seek_records(own, &mut row, &segment);
+                    seek_records(&units, &mut row, &segment);
                     added.push(segment);
                 }
             },
@@ -325,6 +327,7 @@ pub(crate) fn add_units<'a>(
 ) -> Result<ArrayVec<Segment<'a>, 9>, Fault>
     requires libraries { libraries_fault host.now.order (contents libs.now) ≡ None }
     requires alike { AreAlike own.now }
+    requires most { length own.now ≤ 16 }
     ensures fault { result_err result ≡
         (rounds_of host.now.order host.now.file (contents libs.now)
         (map segment_of own.now)).fault }

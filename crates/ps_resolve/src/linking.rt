@@ -20,7 +20,7 @@ use crate::data_size::grown_data_size;
 use crate::definitions::Definitions;
 use crate::edits::edits_of;
 use crate::linkage::Stop;
-use crate::names::Names;
+use crate::names::{Names, UnitSlots};
 use crate::plan::{Plan, Source};
 use crate::roles::{is_host, is_linked};
 use crate::segment::Segment;
@@ -257,6 +257,7 @@ pub(crate) fn link_segments<'a, A: Allocator + Copy>(
     requires ascending { AscendFrom 0 (map (λ s. s.slot) (map segment_of segments.now)) }
     requires whole { 512 ≤ length host.now }
     requires alike { AreAlike segments.now }
+    requires most { length segments.now ≤ 16 }
     requires names { names ≡ slot_names host.now (map segment_of segments.now) }
     ensures plan { IfOk result (IsPlanOf order host.now (map segment_of segments.now)) }
     ensures sound { IfOk result (λ _. linking_fault order (map segment_of segments.now) ≡ None) }
@@ -269,9 +270,10 @@ pub(crate) fn link_segments<'a, A: Allocator + Copy>(
             let base = own.records.next();
             let allotment = Allotment::of_segments(alloc, base, segments)?;
             let size = grown_data_size(order, &own, allotment.words())?;
+            let units = UnitSlots::of(segments);
             let known = Names {
                 definitions: &definitions,
-                segments,
+                units: &units,
             };
             let edits = all_edits(alloc, order, &known, segments, base, size.edit())?;
             let sources = sources_of(alloc, segments)?;

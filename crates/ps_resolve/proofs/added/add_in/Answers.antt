@@ -19,7 +19,7 @@ loop-slot-init c =
     let own : List Segment = map segment_of c.args.own.now in
     let row = sought_from (units_of own) [] (all_unit_references own) in
     let units : units_of own ≡ units_by_name c.args.own.now = units_are c.args.own.now in
-    let is : c.sought_by-row.result.items ≡ take 10 row = c.sought_by-row.ensures ∙ sym (ap (λ (u : List (List ℕ × ℕ)). take 10 (sought_from u [] (all_unit_references own))) units) in
+    let is : c.sought_by-row.result.items ≡ take 10 row = c.sought_by-row.ensures ∙ ap (λ (u : List (List ℕ × ℕ)). take 10 (sought_from u [] (all_unit_references own))) (c.of-units.ensures ∙ sym units) in
     rw c.new-added.ensures (record { rounds = (row, is, λ host. refl); count = refl; placed = λ host. All-nil (IsPlaced c.args.order host (files c.args.libs.now)); sound = All-nil (IsSound c.args.order) })
 
 pub read_added-requires-clause-placed : goal.read_added-requires-clause-placed
@@ -84,7 +84,7 @@ loop-slot-preserved c =
     let next = sought_from units row gs in
     let at = at_round row c.loop-slot.row.items i c.len.result (Some c.in-Some.sought) inv.rounds.1 (omega arith) (c.len.ensures.value ∙ inv.count) c.in-Some.ensures in
     let is : c.seek_records.new.row.items ≡ take 10 next = c.seek_records.ensures
-    ∙ (ap (λ (u : List (List ℕ × ℕ)). take 10 (sought_from u c.loop-slot.row.items gs)) (sym same)
+    ∙ (ap (λ (u : List (List ℕ × ℕ)). take 10 (sought_from u c.loop-slot.row.items gs)) (c.of-units.ensures ∙ sym same)
     ∙ (ap (λ (q : List UnitReference). take 10 (sought_from units q gs)) inv.rounds.1 ∙ kept units row gs)) in
     let pushed : map segment_of c.push.new.self.items ≡ xs ++ s ∷ [] = ap (map segment_of) c.push.ensures.items ∙ map-append segment_of old (c.in-Ok.segment ∷ []) in
     let on = λ (host : List ℕ).

@@ -1,7 +1,6 @@
 use Rattle.std.proofs.Common.{◌∙◌, ◌+◌, ◌∷◌, [], List, take, refl, sym, ap}
 use Rattle.std.proofs.lemmas.List.{take_all}
 use Rattle.ps_resolve.specs.Added.{sought_from, unit_references}
-use Rattle.ps_resolve.specs.Names.{units_by_name}
 use Rattle.ps_resolve.specs.declared.added.UnitReference.{UnitReference}
 use Rattle.ps_resolve.proofs.Adding.{Seeks, kept_more, few_kept, no_references}
 use Rattle.ps_resolve.proofs.Numbers.{one, none}
@@ -10,7 +9,7 @@ use Rattle.ps_resolve.proofs.added.seek_records.Goals as goal
 pub returns-then-units-eq0 : goal.returns-then-units-eq0
 returns-then-units-eq0 c =
     let s = c.args.segment.now in
-    let units = units_by_name c.args.own.now in
+    let units = c.args.units.now in
     let row = c.args.row.now.items in
     let seeks = no_references s.file s.slot 0 s.records (sym c.units.ensures ∙ c.if-units-eq0.true) in
     sym (ap (λ (gs : List UnitReference). take 10 (sought_from units row gs)) seeks ∙ take_all 10 row c.requires)
@@ -23,7 +22,7 @@ loop-rec-init c = record {
 
 pub loop-rec-preserved : goal.loop-rec-preserved
 loop-rec-preserved c =
-    let units = units_by_name c.args.own.now in
+    let units = c.args.units.now in
     let s = c.args.segment.now in
     let old = c.loop-rec.row.items in
     let rec = c.in-Some.rec in
@@ -41,5 +40,5 @@ pub returns : goal.returns
 returns c =
     let s = c.args.segment.now in
     let row = c.loop-rec.row.items in
-    let end = none (Seeks (units_by_name c.args.own.now) s.file s.slot s.records c.args.row.now.items row) c.loop-rec.rec-iterator c.loop-rec.invariant.left c.in-None.ensures.steps.0 in
+    let end = none (Seeks c.args.units.now s.file s.slot s.records c.args.row.now.items row) c.loop-rec.rec-iterator c.loop-rec.invariant.left c.in-None.ensures.steps.0 in
     sym (take_all 10 row c.loop-rec.invariant.few) ∙ end.1

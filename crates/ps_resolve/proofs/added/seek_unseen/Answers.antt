@@ -1,7 +1,6 @@
 use Rattle.ps_linkinfo.specs.declared.record.LinkRecord.{LinkRecord as Record}
 use Rattle.std.proofs.Common.{List}
 use Rattle.ps_resolve.specs.Added.{AreHad}
-use Rattle.ps_resolve.specs.Names.{units_by_name}
 use Rattle.ps_resolve.proofs.Seeking.{nothing_new}
 use Rattle.ps_resolve.proofs.Sharing.{of_row}
 use Rattle.ps_resolve.proofs.added.seek_unseen.Goals as goal
@@ -9,7 +8,7 @@ use Rattle.ps_resolve.proofs.added.seek_unseen.Goals as goal
 pub returns-then-shares_with : goal.returns-then-shares_with
 returns-then-shares_with c =
     let s = c.args.segment.now in
-    let units = units_by_name c.args.own.now in
+    let units = c.args.units.now in
     let row = c.args.row.now.items in
     let has = c.shares_with.ensures.row c.if-shares_with.true in
     nothing_new units s.file s.slot row s.records c.requires.few

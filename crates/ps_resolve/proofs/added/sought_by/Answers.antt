@@ -3,7 +3,6 @@ use Rattle.std.specs.Prelude.{All}
 use Rattle.std.proofs.lemmas.List.Elements.{All-take, All-weaker}
 use Rattle.ps_resolve.specs.Sources.{Segment}
 use Rattle.ps_resolve.specs.Added.{AreHad, sought_from, unit_references, all_unit_references}
-use Rattle.ps_resolve.specs.Names.{units_by_name}
 use Rattle.ps_resolve.specs.Views.{segment_of, IsLike}
 use Rattle.ps_resolve.specs.declared.added.UnitReference.{UnitReference}
 use Rattle.ps_resolve.specs.declared.segment.Segment.{Segment as SegmentView}
@@ -24,7 +23,7 @@ seek_unseen-requires-clause-alike c =
 pub loop-index-preserved : goal.loop-index-preserved
 loop-index-preserved c =
     let own : List SegmentView = c.args.own.now in
-    let units = units_by_name own in
+    let units = c.args.units.now in
     let i : ℕ = c.loop-index.index in
     let lt : i < length own = omega arith in
     let v : SegmentView = c.index-own-index.result in

@@ -1,14 +1,13 @@
 use Rattle.std.proofs.Common.{◌≡◌, ◌≤◌, [], length, take, drop, map}
 use Rattle.std.specs.Prelude.{All}
 use Rattle.ps_resolve.specs.Added.{AreHad, sought_from, all_unit_references}
-use Rattle.ps_resolve.specs.Names.{units_by_name}
 use Rattle.ps_resolve.specs.Views.{segment_of}
 use Rattle.ps_resolve.proofs.added.sought_by.Given as goal
 
 -- the row so far and what the segments that are left seek make the whole row
 abbrev pub invariant-loop-index : goal.invariant-loop-index
 invariant-loop-index l =
-    let units = units_by_name l.own in
+    let units = l.units in
     record {
       row : take 10 (sought_from units l.row.items (all_unit_references (map segment_of (drop l.index l.own)))) ≡ take 10 (sought_from units [] (all_unit_references (map segment_of l.own)));
       few : length l.row.items ≤ 10;

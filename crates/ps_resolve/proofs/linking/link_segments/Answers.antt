@@ -9,7 +9,6 @@ use Rattle.ps_resolve.specs.Sources.{Segment, is_host, host_of, host_records}
 use Rattle.ps_resolve.specs.Symbols.{definitions, doubled}
 use Rattle.ps_linkinfo.specs.Counts.{next_of}
 use Rattle.ps_resolve.specs.Privates.{Owner, Allotted, owner_of, allotment_of, all_words, first_private_fault, total_words}
-use Rattle.ps_resolve.specs.Names.{units_by_name}
 use Rattle.ps_resolve.specs.Views.{segment_of}
 use Rattle.ps_resolve.specs.References.{Known}
 use Rattle.ps_resolve.specs.Linking.{known_of, data_edits, data_size_of, edited_from}
@@ -125,8 +124,8 @@ returns-in_err-edits-in-Some-clause-stop g c =
     let fits : size_fault order (total_words segs) h ≡ None = subst (λ (n : ℕ). size_fault order n h ≡ None) words_are c.in_ok-size-in-Some.ensures.fits in
     let ds : List (List ℕ × Def) = c.in_ok-definitions-in-Some.definitions in
     let ds_are : ds ≡ definitions h.records = c.in_ok-definitions-in-Some.ensures.found in
-    let known : Known = record { definitions = ds; units = units_by_name ss } in
-    let known_are : known ≡ known_of segs = known_is order segs h is ds (units_by_name ss) ds_are (sym (units_are ss)) in
+    let known : Known = record { definitions = ds; units = c.of-units.result } in
+    let known_are : known ≡ known_of segs = known_is order segs h is ds c.of-units.result ds_are (c.of-units.ensures ∙ sym (units_are ss)) in
     let p = err_from_is_err_and c.from_residual-in_err-edits-in-Some.result c.from_residual-in_err-edits-in-Some.ensures.1 in
     rw (p.1, p.2) (references_at order segs h is once allotted fits known next c.in_err-edits-in-Some.field-0.0 known_are next_is c.in_err-edits-in-Some.ensures.stop)
 
@@ -150,8 +149,8 @@ invariant_of-result g c =
     let fits : size_fault order (total_words segs) h ≡ None = subst (λ (n : ℕ). size_fault order n h ≡ None) words_are c.in_ok-size-in-Some.ensures.fits in
     let ds : List (List ℕ × Def) = c.in_ok-definitions-in-Some.definitions in
     let ds_are : ds ≡ definitions h.records = c.in_ok-definitions-in-Some.ensures.found in
-    let known : Known = record { definitions = ds; units = units_by_name ss } in
-    let known_are : known ≡ known_of segs = known_is order segs h is ds (units_by_name ss) ds_are (sym (units_are ss)) in
+    let known : Known = record { definitions = ds; units = c.of-units.result } in
+    let known_are : known ≡ known_of segs = known_is order segs h is ds c.of-units.result ds_are (c.of-units.ensures ∙ sym (units_are ss)) in
     let size : Edit = c.edit.result in
     let hosts : All (λ s. is_host s.role ≡ true → data_edits order (total_words segs) s.code ≡ size ∷ []) segs =
     of_hosts segs h is c.requires.one_host (λ s. data_edits order (total_words segs) s.code ≡ size ∷ [])
@@ -180,8 +179,8 @@ returns-clause-plan g c =
     let fits : size_fault order (total_words segs) h ≡ None = subst (λ (n : ℕ). size_fault order n h ≡ None) words_are c.in_ok-size-in-Some.ensures.fits in
     let ds : List (List ℕ × Def) = c.in_ok-definitions-in-Some.definitions in
     let ds_are : ds ≡ definitions h.records = c.in_ok-definitions-in-Some.ensures.found in
-    let known : Known = record { definitions = ds; units = units_by_name ss } in
-    let known_are : known ≡ known_of segs = known_is order segs h is ds (units_by_name ss) ds_are (sym (units_are ss)) in
+    let known : Known = record { definitions = ds; units = c.of-units.result } in
+    let known_are : known ≡ known_of segs = known_is order segs h is ds c.of-units.result ds_are (c.of-units.ensures ∙ sym (units_are ss)) in
     let size : Edit = c.edit.result in
     let hosts : All (λ s. is_host s.role ≡ true → data_edits order (total_words segs) s.code ≡ size ∷ []) segs =
     of_hosts segs h is c.requires.one_host (λ s. data_edits order (total_words segs) s.code ≡ size ∷ [])
@@ -225,6 +224,6 @@ returns-clause-sound g c =
     let fits : size_fault order (total_words segs) h ≡ None = subst (λ (n : ℕ). size_fault order n h ≡ None) words_are c.in_ok-size-in-Some.ensures.fits in
     let ds : List (List ℕ × Def) = c.in_ok-definitions-in-Some.definitions in
     let ds_are : ds ≡ definitions h.records = c.in_ok-definitions-in-Some.ensures.found in
-    let known : Known = record { definitions = ds; units = units_by_name ss } in
-    let known_are : known ≡ known_of segs = known_is order segs h is ds (units_by_name ss) ds_are (sym (units_are ss)) in
+    let known : Known = record { definitions = ds; units = c.of-units.result } in
+    let known_are : known ≡ known_of segs = known_is order segs h is ds c.of-units.result ds_are (c.of-units.ensures ∙ sym (units_are ss)) in
     none_at order segs h is once allotted fits known next known_are next_is c.in_ok-edits-in-Some.ensures.sound
