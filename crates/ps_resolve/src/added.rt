@@ -299,13 +299,11 @@ fn add_in<'a>(
     for slot in slots {
         match sought_at(&row, added.len()) {
             None => return Ok(added),
-            Some(sought) => match read_added(order, libs, &sought, *slot, added.as_slice()) {
-                Err(fault) => return Err(fault),
-                Ok(segment) => {
-                    seek_records(&units, &mut row, &segment);
-                    added.push(segment);
-                }
-            },
+            Some(sought) => {
+                let segment = read_added(order, libs, &sought, *slot, added.as_slice())?;
+                seek_records(&units, &mut row, &segment);
+                added.push(segment);
+            }
         }
     }
     let placed = added.len();

@@ -116,19 +116,9 @@ fn read_all<'a>(host: &Dict<'a>, libs: &'a [&'a [u8]]) -> Result<ArrayVec<Segmen
         (IsPlaced host.now.order host.now.file (contents libs.now)) s.items) }
     ensures sound { IfOk result (λ s. All (IsSound host.now.order) (map segment_of s.items)) }
 {
-    match read_slots(host, libs) {
-        Err(fault) => Err(fault),
-        Ok(segments) => {
-            let own = segments.as_slice();
-            match add_units(host, libs, own) {
-                Err(fault) => Err(fault),
-                Ok(units) => {
-                    let added = units.as_slice();
-                    Ok(by_slot(host, own, added))
-                }
-            }
-        }
-    }
+    let own = read_slots(host, libs)?;
+    let added = add_units(host, libs, own.as_slice())?;
+    Ok(by_slot(host, own.as_slice(), added.as_slice()))
 }
 
 /// The first fault of the slots of the host, of its want of a host segment, or of the libraries.
@@ -198,13 +188,13 @@ pub(crate) fn read_segments<'a>(host: &'a [u8], libs: &'a [&'a [u8]]) -> Result<
 {
     match Dict::read(host) {
         Err(reason) => Err(Fault::in_file(HOST_FILE, reason)),
-        Ok(dict) => match read_sources(&dict, libs) {
-            Err(fault) => Err(fault),
-            Ok(segments) => Ok(Reading {
+        Ok(dict) => {
+            let segments = read_sources(&dict, libs)?;
+            Ok(Reading {
                 order: dict.order(),
                 names: slot_names(&dict, segments.as_slice()),
                 segments,
-            }),
-        },
+            })
+        }
     }
 }

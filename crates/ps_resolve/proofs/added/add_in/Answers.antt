@@ -1,6 +1,7 @@
 use Rattle.std.proofs.Common.{◌≡◌, ◌∙◌, ◌+◌, ◌++◌, ◌<◌, ◌∷◌, [], ℕ, List, length, length-append, map, take, drop, get_or, append-nil, Some, None, refl, sym, ap, arith}
 use Rattle.std.proofs.lemmas.List.{get_or_default, map-append, drop_all}
 use Rattle.std.proofs.lemmas.List.Elements.{All-nil}
+use Rattle.std.proofs.lemmas.Result.{err_from_is_err_and}
 use Rattle.ps_words.specs.declared.fault.Fault.{Fault}
 use Rattle.ps_resolve.specs.Sources.{Segment, units_of}
 use Rattle.ps_resolve.specs.Added.{Rounds, sought_from, unit_references, all_unit_references, rounds_from}
@@ -47,8 +48,8 @@ returns-in-None-clause-added c = λ host.
     let at = at_round inv.rounds.0 c.loop-slot.row.items i c.len.result None inv.rounds.1 (omega arith) (c.len.ensures.value ∙ inv.count) c.in-None.ensures in
     sym (ap (λ (r : Rounds). r.added) (inv.rounds.2 host ∙ ap (joined xs) (no_name_left order host (files c.args.libs.now) units i inv.rounds.0 left at)) ∙ append-nil xs)
 
-pub returns-in-Err-clause-fault : goal.returns-in-Err-clause-fault
-returns-in-Err-clause-fault c = λ host.
+pub returns-in_err-segment-in-Some-clause-fault : goal.returns-in_err-segment-in-Some-clause-fault
+returns-in_err-segment-in-Some-clause-fault c = λ host.
     let inv = c.loop-slot.invariant in
     let order = c.args.order in
     let libs = files c.args.libs.now in
@@ -60,8 +61,9 @@ returns-in-Err-clause-fault c = λ host.
     let left = drop (i + 1) slots in
     let at = at_round inv.rounds.0 c.loop-slot.row.items i c.len.result (Some c.in-Some.sought) inv.rounds.1 (omega arith) (c.len.ensures.value ∙ inv.count) c.in-Some.ensures in
     let here = ap (λ (l : List ℕ). rounds_from order host libs units l i inv.rounds.0) (drop_at slots i slot lt (get_or_default slots i 0 slot lt))
-    ∙ round_refused order host libs units i inv.rounds.0 slot left c.in-Some.sought c.in-Err.fault at (sym (c.in-Err.ensures.fault host)) in
-    sym (ap (λ (r : Rounds). r.fault) (inv.rounds.2 host ∙ ap (joined (map segment_of c.loop-slot.added.items)) here))
+    ∙ round_refused order host libs units i inv.rounds.0 slot left c.in-Some.sought c.in_err-segment-in-Some.field-0.0 at (sym (c.in_err-segment-in-Some.ensures.fault host)) in
+    let p = err_from_is_err_and c.from_residual.result c.from_residual.ensures.1 in
+    rw (p.1, p.2) (sym (ap (λ (r : Rounds). r.fault) (inv.rounds.2 host ∙ ap (joined (map segment_of c.loop-slot.added.items)) here)))
 
 pub loop-slot-preserved : goal.loop-slot-preserved
 loop-slot-preserved c =
@@ -78,7 +80,7 @@ loop-slot-preserved c =
     let left = drop (i + 1) slots in
     let old : List SegmentView = c.loop-slot.added.items in
     let xs : List Segment = map segment_of old in
-    let s : Segment = segment_of c.in-Ok.segment in
+    let s : Segment = segment_of c.in_ok-segment-in-Some.segment in
     let gs = unit_references s.file s.slot 0 s.records in
     let row = inv.rounds.0 in
     let next = sought_from units row gs in
@@ -86,17 +88,17 @@ loop-slot-preserved c =
     let is : c.seek_records.new.row.items ≡ take 10 next = c.seek_records.ensures
     ∙ (ap (λ (u : List (List ℕ × ℕ)). take 10 (sought_from u c.loop-slot.row.items gs)) (c.of-units.ensures ∙ sym same)
     ∙ (ap (λ (q : List UnitReference). take 10 (sought_from units q gs)) inv.rounds.1 ∙ kept units row gs)) in
-    let pushed : map segment_of c.push.new.self.items ≡ xs ++ s ∷ [] = ap (map segment_of) c.push.ensures.items ∙ map-append segment_of old (c.in-Ok.segment ∷ []) in
+    let pushed : map segment_of c.push.new.self.items ≡ xs ++ s ∷ [] = ap (map segment_of) c.push.ensures.items ∙ map-append segment_of old (c.in_ok-segment-in-Some.segment ∷ []) in
     let on = λ (host : List ℕ).
     let rest = rounds_from order host libs units left (i + 1) next in
     let here = ap (λ (l : List ℕ). rounds_from order host libs units l i row) (drop_at slots i slot lt (get_or_default slots i 0 slot lt))
-    ∙ round_adds order host libs units i row slot left c.in-Some.sought s at (sym (c.in-Ok.ensures.fault host)) (c.in-Ok.ensures.segment host) in
+    ∙ round_adds order host libs units i row slot left c.in-Some.sought s at (sym (c.in_ok-segment-in-Some.ensures.fault host)) (c.in_ok-segment-in-Some.ensures.segment host) in
     inv.rounds.2 host ∙ (ap (joined xs) here ∙ (joined_more xs s rest ∙ ap (λ (ys : List Segment). joined ys rest) (sym pushed))) in
     record {
       rounds = (next, is, on);
-      count = omega (arith, ap length c.push.ensures.items, length-append old (c.in-Ok.segment ∷ []), inv.count);
-      placed = λ host. rw c.push.ensures.items (all_with (IsPlaced order host libs) old (Some c.in-Ok.segment) (inv.placed host) (c.in-Ok.ensures.placed host));
-      sound = rw c.push.ensures.items (all_more (IsSound order) segment_of old (Some c.in-Ok.segment) inv.sound c.in-Ok.ensures.sound);
+      count = omega (arith, ap length c.push.ensures.items, length-append old (c.in_ok-segment-in-Some.segment ∷ []), inv.count);
+      placed = λ host. rw c.push.ensures.items (all_with (IsPlaced order host libs) old (Some c.in_ok-segment-in-Some.segment) (inv.placed host) (c.in_ok-segment-in-Some.ensures.placed host));
+      sound = rw c.push.ensures.items (all_more (IsSound order) segment_of old (Some c.in_ok-segment-in-Some.segment) inv.sound c.in_ok-segment-in-Some.ensures.sound);
     }
 
 pub returns-in-None-sought_at-clause-fault : goal.returns-in-None-sought_at-clause-fault
