@@ -1,7 +1,7 @@
 -- One record more of the privates.
 use Rattle.std.proofs.Common.{◌≡◌, ℕ, ◌+◌, ◌<◌, ◌≤◌, ◌++◌, List, [], ◌∷◌, length, length-append, Bool, true, false, cond, is_some, Option, Some, None, refl, sym, ◌∙◌, ap, subst, arith, append_assoc}
 use Rattle.std.specs.Prelude.{nat_eq, nat_lt}
-use Rattle.std.specs.Option.{option_eq}
+use Rattle.std.specs.Option.{option_eq, option_or}
 use Rattle.std.specs.Bool.{Decides}
 use Rattle.std.specs.List.{list_any, slice_get}
 use Rattle.std.specs.Str.{bytes_eq}
@@ -10,7 +10,8 @@ use Rattle.std.proofs.lemmas.Bool.Decides.{Decides-eqb, nat_tests}
 use Rattle.std.proofs.lemmas.Option.{same_Some}
 use Rattle.ps_words.specs.declared.fault.Reason.TheVariants as reason
 use Rattle.ps_linkinfo.specs.Counts.{is_private_reference, privates_in}
-use Rattle.ps_resolve.specs.Privates.{Owner, words_in, allotted, private_words, private_fault, all_allotted, first_private_fault, IsUnallotted, AreUnallotted}
+use Rattle.ps_resolve.specs.Privates.{Owner, words_in, allotted, private_words, private_fault, all_allotted, first_private_fault, unallotted_fault}
+use Rattle.ps_resolve.specs.Stops.{IsStop}
 use Rattle.ps_linkinfo.specs.declared.record.LinkRecord.{LinkRecord as Record}
 use Rattle.ps_resolve.specs.Builders.{FindsNamesake, IsFirstNamesake}
 use Rattle.ps_resolve.specs.Standing.Definitions.{HasEarlierNamesake}
@@ -200,7 +201,8 @@ module _ (slot next : ℕ) (doubled : Option ℕ) (before : List Private) (all :
 -- a stop at the first segment that is left is one at all
 module _ (o : Owner) (rest all : List Owner) (next free : ℕ) where
   pub stopped_in : (before : List Private) (stop : Stop) → before ++ all_allotted free (o ∷ rest) ≡ all_allotted next all
-      → first_private_fault free (o ∷ rest) ≡ first_private_fault next all → IsUnallotted o.file o.slot free o.records stop → AreUnallotted next all stop
-  stopped_in before (Refused fault) privates first d = sym first ∙ rw d.1 (ap (λ (f : Fault). Some f) (sym d.2))
+      → first_private_fault free (o ∷ rest) ≡ first_private_fault next all → IsStop (0 < length (allotted o.slot 0 free o.records)) (unallotted_fault o.file o.slot free o.records) stop
+      → IsStop (0 < length (all_allotted next all)) (first_private_fault next all) stop
+  stopped_in before (Refused fault) privates first d = sym first ∙ ap (λ (f : Option Fault). option_or f (first_private_fault (free + private_words o.records) rest)) d
   stopped_in before Memory privates first d =
       omega (arith, ap length privates, length-append before (allotted o.slot 0 free o.records ++ all_allotted (free + private_words o.records) rest), length-append (allotted o.slot 0 free o.records) (all_allotted (free + private_words o.records) rest))

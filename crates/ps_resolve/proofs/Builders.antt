@@ -17,13 +17,13 @@ use Rattle.ps_words.specs.declared.fault.Reason.TheVariants as reason
 use Rattle.ps_resolve.specs.First.{Before}
 use Rattle.ps_resolve.specs.Searches.{first_of, fault_if}
 use Rattle.ps_resolve.specs.Symbols.{def_in, definitions, doubled}
-use Rattle.ps_resolve.specs.Privates.{Owner, words_in, allotted, private_words, private_fault, all_allotted, all_words, first_private_fault, AreUnallotted}
+use Rattle.ps_resolve.specs.Privates.{Owner, words_in, allotted, private_words, private_fault, all_allotted, all_words, first_private_fault}
 use Rattle.ps_resolve.specs.Offsets.{RiseFrom}
 use Rattle.ps_resolve.specs.Standing.Phrases.{SomeItem}
 use Rattle.ps_resolve.specs.Standing.Definitions.{HasEarlierNamesake}
 use Rattle.ps_linkinfo.specs.Counts.{is_definition, is_private_reference}
 use Rattle.ps_resolve.specs.References.{words_taken, words_taken_by}
-use Rattle.ps_resolve.specs.Stops.{IsDoubled}
+use Rattle.ps_resolve.specs.Stops.{IsStop, doubled_fault}
 use Rattle.ps_resolve.specs.Builders.{HaveNoNamesakes, StopsDefinitions, offset_at, HaveOwnNames, HaveRoom, IsUnfit, IsFirstUnfit, StopsPrivates, Asked, asked_in, all_asked, asked_of, AreByRecord, words_of_all}
 use Rattle.ps_resolve.specs.declared.allotment.Private.{Private}
 use Rattle.ps_resolve.specs.declared.definitions.Def.{Def}
@@ -108,9 +108,9 @@ module _ (file slot : ℕ) (rs : List Record) where
       not_there (is_again is_definition rs (rec, r)) (told rec) (again is_definition rs rec r)
       (none_given again_fault 0 rs (sym looking_back ∙ ap (option_map told) once) rec rec r (omega arith) there) is
 
-  pub not_defined : (stop : Stop) → IsDoubled file slot rs stop → StopsDefinitions file slot rs stop
+  pub not_defined : (stop : Stop) → IsStop (0 < length (definitions rs)) (doubled_fault file slot rs) stop → StopsDefinitions file slot rs stop
   not_defined (Refused fault) d =
-      let found = some_given again_fault 0 rs fault (sym looking_back ∙ (ap (option_map told) d.1 ∙ ap (λ (f : Fault). Some f) (sym d.2))) in
+      let found = some_given again_fault 0 rs fault (sym looking_back ∙ d) in
       let at = found.at in
       let here = is_there (is_again is_definition rs (at, found.item)) (told at) fault (again is_definition rs at found.item) (found.gives at (omega arith)) in (
         at,
@@ -303,7 +303,7 @@ some_segment next (s ∷ ss) h = elim (cases_lt 0 (length (allotted s.slot 0 nex
       (suc t.0, t.1, t.2, t.3)
 ]
 
-pub not_allotted : (base : ℕ) (ss : List Owner) (stop : Stop) → AreUnallotted base ss stop → StopsPrivates base ss stop
+pub not_allotted : (base : ℕ) (ss : List Owner) (stop : Stop) → IsStop (0 < length (all_allotted base ss)) (first_private_fault base ss) stop → StopsPrivates base ss stop
 not_allotted base ss (Refused fault) d = first_unfit base ss fault d
 not_allotted base ss Memory d = some_segment base ss d
 

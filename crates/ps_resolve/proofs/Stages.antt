@@ -1,5 +1,5 @@
 -- The first fault of a link's segments, stage by stage.
-use Rattle.std.proofs.Common.{◌≡◌, ℕ, List, [], map, Option, Some, None, refl, sym, ◌∙◌, ap, subst}
+use Rattle.std.proofs.Common.{◌≡◌, ℕ, ◌<◌, List, [], length, map, Option, Some, None, refl, sym, ◌∙◌, ap, subst}
 use Rattle.std.specs.Option.{option_or, option_map, option_map_or}
 use Rattle.ps_words.specs.FaultPlaces.{in_record}
 use Rattle.ps_words.specs.declared.order.Order.{Order}
@@ -7,9 +7,9 @@ use Rattle.ps_words.specs.declared.fault.Reason.TheVariants as reason
 use Rattle.ps_linkinfo.specs.declared.record.LinkRecord.{LinkRecord as Record}
 use Rattle.ps_resolve.specs.Sources.{Segment, host_of, host_records, units_of}
 use Rattle.ps_resolve.specs.Symbols.{definitions, doubled}
-use Rattle.ps_resolve.specs.Stops.{IsDoubled}
+use Rattle.ps_resolve.specs.Stops.{IsStop, doubled_fault}
 use Rattle.ps_linkinfo.specs.Counts.{next_of}
-use Rattle.ps_resolve.specs.Privates.{Owner, owner_of, first_private_fault, total_words, AreUnallotted}
+use Rattle.ps_resolve.specs.Privates.{Owner, owner_of, all_allotted, first_private_fault, total_words}
 use Rattle.ps_resolve.specs.Edits.{IsOfSize, AreOfReferences}
 use Rattle.ps_resolve.specs.References.{Known}
 use Rattle.ps_resolve.specs.Linking.{known_of}
@@ -26,6 +26,14 @@ skip (Some x) b h = cc
 pub keep : {X : Type 0} (a b : Option X) (x : X) → a ≡ Some x → option_or a b ≡ Some x
 keep None b x h = cc
 keep (Some y) b x h = h
+
+-- a private is refused, or memory for privates ran out
+abbrev StopsAtPrivate : ℕ → List Owner → Stop → Type 0
+StopsAtPrivate next ss = IsStop (0 < length (all_allotted next ss)) (first_private_fault next ss)
+
+-- a definition is refused, or memory for definitions ran out
+abbrev StopsAtDefinition : ℕ → ℕ → List Record → Stop → Type 0
+StopsAtDefinition file slot rs = IsStop (0 < length (definitions rs)) (doubled_fault file slot rs)
 
 module _ (order : Order) (segs : List Segment) where
   stages : linking_fault order segs ≡ option_or (definitions_fault segs) (option_or (privates_fault segs) (option_or (data_fault order segs) (references_fault order segs)))
@@ -58,23 +66,23 @@ module _ (order : Order) (segs : List Segment) where
         ap (λ (xs : List (List ℕ × Def)). record { definitions = xs; units = us }) (d ∙ ap definitions (sym records_are))
         ∙ ap (λ (ys : List (List ℕ × ℕ)). record { definitions = definitions (host_records segs); units = ys }) u
 
-    doubled_stop : (stop : Stop) → IsDoubled 0 h.slot h.records stop → AreStopped order segs stop
-    doubled_stop (Refused fault) d = stages ∙ keep _ _ fault (definitions_are ∙ ap (option_map (λ rec. in_record 0 h.slot rec reason.DoubledDefinition)) d.1 ∙ ap Some (sym d.2))
+    doubled_stop : (stop : Stop) → StopsAtDefinition 0 h.slot h.records stop → AreStopped order segs stop
+    doubled_stop (Refused fault) d = stages ∙ keep _ _ fault (definitions_are ∙ d)
     doubled_stop Memory d = tt
 
-    pub doubled_at : (slot : ℕ) (rs : List Record) (stop : Stop) → slot ≡ h.slot → rs ≡ h.records → IsDoubled 0 slot rs stop → AreStopped order segs stop
-    doubled_at slot rs stop s r d = doubled_stop stop (subst (λ (n : ℕ). IsDoubled 0 n h.records stop) s (subst (λ (qs : List Record). IsDoubled 0 slot qs stop) r d))
+    pub doubled_at : (slot : ℕ) (rs : List Record) (stop : Stop) → slot ≡ h.slot → rs ≡ h.records → StopsAtDefinition 0 slot rs stop → AreStopped order segs stop
+    doubled_at slot rs stop s r d = doubled_stop stop (subst (λ (n : ℕ). StopsAtDefinition 0 n h.records stop) s (subst (λ (qs : List Record). StopsAtDefinition 0 slot qs stop) r d))
 
     module _ (once : doubled h.records ≡ None) where
       behind_definitions : linking_fault order segs ≡ option_or (privates_fault segs) (option_or (data_fault order segs) (references_fault order segs))
       behind_definitions = stages ∙ skip _ _ (definitions_are ∙ ap (option_map (λ rec. in_record 0 h.slot rec reason.DoubledDefinition)) once)
 
-      unallotted_stop : (stop : Stop) → AreUnallotted (next_of h.records) (map owner_of segs) stop → AreStopped order segs stop
+      unallotted_stop : (stop : Stop) → StopsAtPrivate (next_of h.records) (map owner_of segs) stop → AreStopped order segs stop
       unallotted_stop (Refused fault) d = behind_definitions ∙ keep _ _ fault (privates_are ∙ d)
       unallotted_stop Memory d = tt
 
-      pub unallotted_at : (next : ℕ) (owners : List Owner) (stop : Stop) → next ≡ next_of h.records → owners ≡ map owner_of segs → AreUnallotted next owners stop → AreStopped order segs stop
-      unallotted_at next owners stop n o d = unallotted_stop stop (subst (λ (m : ℕ). AreUnallotted m (map owner_of segs) stop) n (subst (λ (os : List Owner). AreUnallotted next os stop) o d))
+      pub unallotted_at : (next : ℕ) (owners : List Owner) (stop : Stop) → next ≡ next_of h.records → owners ≡ map owner_of segs → StopsAtPrivate next owners stop → AreStopped order segs stop
+      unallotted_at next owners stop n o d = unallotted_stop stop (subst (λ (m : ℕ). StopsAtPrivate m (map owner_of segs) stop) n (subst (λ (os : List Owner). StopsAtPrivate next os stop) o d))
 
       module _ (allotted : first_private_fault (next_of h.records) (map owner_of segs) ≡ None) where
         behind_privates : linking_fault order segs ≡ option_or (data_fault order segs) (references_fault order segs)

@@ -1,6 +1,6 @@
 -- Private variables: where each is allotted, behind the host's own data and behind all privates before it, and the first that cannot be.
 -- Source: the end mark's base offset is that of the published II.0 Linker source; the order of allotment is this project's profile.
-use Rattle.std.specs.Prelude.{map, ◌≡◌, ℕ, ◌+◌, ◌<◌, if◌then◌else◌, List, [], ◌∷◌, ◌++◌, length, nat_lt, Option, Some, None}
+use Rattle.std.specs.Prelude.{map, ℕ, ◌+◌, if◌then◌else◌, List, [], ◌∷◌, ◌++◌, nat_lt, Option, Some, None}
 use Rattle.std.specs.List.{list_any}
 use Rattle.std.specs.Str.{bytes_eq}
 use Rattle.std.specs.Option.{option_map, option_or}
@@ -15,8 +15,6 @@ use Rattle.ps_linkinfo.specs.declared.record.Body.{Body}
 use Rattle.ps_linkinfo.specs.declared.record.Body.TheVariants.{UnitRef, PublRef, PrivRef, PublDef, ConstDef, Eof}
 use Rattle.ps_linkinfo.specs.declared.record.LinkRecord.{LinkRecord as Record}
 use Rattle.ps_resolve.specs.declared.allotment.Private.{Private}
-use Rattle.ps_resolve.specs.declared.linkage.Stop.{Stop}
-use Rattle.ps_resolve.specs.declared.linkage.Stop.TheVariants.{Refused, Memory}
 
 -- how many words a private of a record takes
 abbrev pub words_in : Body → Option ℕ
@@ -53,10 +51,9 @@ private_fault rec next seen (r ∷ rs) =
           else private_fault (rec + 1) (next + words) (seen ++ r.name ∷ []) rs)
     ]
 
--- that fault, where it stands; or memory ran out
-abbrev pub IsUnallotted : ℕ → ℕ → ℕ → List Record → Stop → Type 0
-IsUnallotted file slot next rs (Refused fault) = (found : ℕ × Reason) × (private_fault 0 next [] rs ≡ Some found) × (fault ≡ in_record file slot found.0 found.1)
-IsUnallotted file slot next rs Memory = 0 < length (allotted slot 0 next rs)
+-- that fault in the records of a segment, with its file and its slot
+abbrev pub unallotted_fault : ℕ → ℕ → ℕ → List Record → Option Fault
+unallotted_fault file slot next rs = option_map (λ f. in_record file slot f.0 f.1) (private_fault 0 next [] rs)
 
 -- a segment as far as its privates need it: its slot, the number of the file that it comes from, and its records
 pub record Owner : Type 0 where
@@ -83,7 +80,7 @@ all_words (s ∷ ss) = private_words s.records + all_words ss
 abbrev pub first_private_fault : ℕ → List Owner → Option Fault
 first_private_fault next [] = None
 first_private_fault next (s ∷ ss) =
-    option_or (option_map (λ f. in_record s.file s.slot f.0 f.1) (private_fault 0 next [] s.records)) (first_private_fault (next + private_words s.records) ss)
+    option_or (unallotted_fault s.file s.slot next s.records) (first_private_fault (next + private_words s.records) ss)
 
 -- what an allotment holds: the privates, the words of all of them, and the offset behind the last
 pub record Allotted : Type 0 where
@@ -93,10 +90,6 @@ pub record Allotted : Type 0 where
 
 abbrev pub allotment_of : ℕ → List Owner → Allotted
 allotment_of next ss = record { privates = all_allotted next ss; words = all_words ss; next_free = next + all_words ss }
-
-abbrev pub AreUnallotted : ℕ → List Owner → Stop → Type 0
-AreUnallotted next ss (Refused fault) = first_private_fault next ss ≡ Some fault
-AreUnallotted next ss Memory = 0 < length (all_allotted next ss)
 
 -- the words of all privates of the segments
 abbrev pub total_words : List Segment → ℕ

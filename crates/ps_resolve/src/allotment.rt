@@ -1,9 +1,10 @@
-ghost use Rattle.std.specs.Prelude.{◌≡◌, ◌<◌, ◌≤◌, ◌+◌, ◌++◌, [], IfOk, IfErr, None, ℕ, List, map};
+ghost use Rattle.std.specs.Prelude.{◌≡◌, ◌<◌, ◌≤◌, ◌+◌, ◌++◌, [], IfOk, IfErr, None, ℕ, List, length, map};
 ghost use Rattle.ps_resolve.specs.Linkable.{AscendFrom};
 ghost use Rattle.ps_resolve.specs.Offsets.{FollowOn, offset_listed};
 ghost use Rattle.ps_words.specs.FaultPlaces.{in_record};
 ghost use Rattle.ps_resolve.specs.declared.linkage.Stop.TheVariants.{Refused, Memory};
-ghost use Rattle.ps_resolve.specs.Privates.{words_in, allotted, private_words, private_fault, all_allotted, all_words, first_private_fault, owner_of, owner_of_linkage, allotment_of, IsUnallotted, AreUnallotted, Owner};
+ghost use Rattle.ps_resolve.specs.Privates.{words_in, allotted, private_words, private_fault, all_allotted, all_words, first_private_fault, owner_of, owner_of_linkage, allotment_of, unallotted_fault, Owner};
+ghost use Rattle.ps_resolve.specs.Stops.{IsStop};
 ghost use Rattle.ps_resolve.specs.Builders.{HaveOwnNames, HaveRoom, StopsPrivates, asked_of, all_asked, AreByRecord, words_of_all};
 ghost use Rattle.ps_resolve.specs.Views.{segment_of};
 
@@ -78,7 +79,8 @@ fn allot<A: Allocator + Copy>(
         ≡ privates.old.items ++ allotted slot 0 next records.now) }
     ensures end { IfOk result (λ end. end ≡ next + private_words records.now) }
     ensures once { IfOk result (λ _. private_fault 0 next [] records.now ≡ None) }
-    ensures stop { IfErr result (IsUnallotted file slot next records.now) }
+    ensures stop { IfErr result (IsStop (0 < length (allotted slot 0 next records.now))
+        (unallotted_fault file slot next records.now)) }
 {
     if records.privates() == 0 {
         return Ok(next);
@@ -186,23 +188,14 @@ fn allot_all<A: Allocator + Copy, S: AsksForPrivates>(
     ensures privates { IfOk result (λ a. a.0.items ≡ all_allotted next (map S.owner segments.now)) }
     ensures end { IfOk result (λ a. a.1 ≡ next + all_words (map S.owner segments.now)) }
     ensures once { IfOk result (λ _. first_private_fault next (map S.owner segments.now) ≡ None) }
-    ensures stop { IfErr result (AreUnallotted next (map S.owner segments.now)) }
+    ensures stop { IfErr result (IsStop (0 < length (all_allotted next (map S.owner segments.now)))
+        (first_private_fault next (map S.owner segments.now))) }
 {
     let mut privates = Vec::new(alloc);
     let mut free = next;
     for segment in segments {
         let records = segment.records();
-        match allot(
-            alloc,
-            segment.file(),
-            segment.slot(),
-            &records,
-            free,
-            &mut privates,
-        ) {
-            Err(stop) => return Err(stop),
-            Ok(end) => free = end,
-        }
+        free = allot(alloc, segment.file(), segment.slot(), &records, free, &mut privates)?;
     }
     Ok((privates, free))
 }
@@ -233,7 +226,9 @@ impl<A: Allocator + Copy> Allotment<A> {
             ≡ allotment_of next (map owner_of_linkage segments.now)) }
         ensures once { IfOk result (λ _. first_private_fault next
             (map owner_of_linkage segments.now) ≡ None) }
-        ensures stop { IfErr result (AreUnallotted next (map owner_of_linkage segments.now)) }
+        ensures stop { IfErr result (IsStop
+            (0 < length (all_allotted next (map owner_of_linkage segments.now)))
+            (first_private_fault next (map owner_of_linkage segments.now))) }
     {
         Allotment::of_segments(alloc, next, segments)
     }
@@ -248,16 +243,16 @@ impl<A: Allocator + Copy> Allotment<A> {
         ensures found { IfOk result (λ a. a ≡ allotment_of next (map S.owner segments.now)) }
         ensures once { IfOk result (λ _. first_private_fault next (map S.owner segments.now)
             ≡ None) }
-        ensures stop { IfErr result (AreUnallotted next (map S.owner segments.now)) }
+        ensures stop { IfErr result (IsStop
+            (0 < length (all_allotted next (map S.owner segments.now)))
+            (first_private_fault next (map S.owner segments.now))) }
     {
-        match allot_all(alloc, next, segments) {
-            Err(stop) => Err(stop),
-            Ok((privates, next_free)) => Ok(Allotment {
-                privates,
-                words: next_free - next,
-                next_free,
-            }),
-        }
+        let (privates, next_free) = allot_all(alloc, next, segments)?;
+        Ok(Allotment {
+            privates,
+            words: next_free - next,
+            next_free,
+        })
     }
 
     /// The base offset in words, 0 to 32767, of the private that a record asks for: the record of index

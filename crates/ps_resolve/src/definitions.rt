@@ -7,7 +7,7 @@ ghost use Rattle.ps_linkinfo.specs.Counts.{definitions_in, digest_of, is_definit
 ghost use Rattle.ps_linkinfo.specs.Records.{reading};
 ghost use Rattle.ps_resolve.specs.ByName.{number, ranked as ranked_spec, AreByName, HasTwins, IsOrder, NamesRise};
 ghost use Rattle.ps_resolve.specs.Symbols.{definitions, definition_of, def_in, doubled};
-ghost use Rattle.ps_resolve.specs.Stops.{IsDoubled};
+ghost use Rattle.ps_resolve.specs.Stops.{IsStop, doubled_fault};
 ghost use Rattle.ps_resolve.specs.Builders.{HaveNoNamesakes, StopsDefinitions};
 
 use crate::linkage::{Linkage, Stop};
@@ -202,7 +202,8 @@ fn first_doubled<A: Allocator + Copy>(
 /// Why definitions of which two have one name are not built.
 fn refusal<A: Allocator + Copy>(alloc: A, file: usize, slot: u8, records: &LinkInformation) -> Stop
     requires { doubled records.now ≡ None → ⊥ }
-    ensures { IsDoubled file slot records.now result }
+    ensures { IsStop (0 < length (definitions records.now))
+        (doubled_fault file slot records.now) result }
 {
     match first_doubled(alloc, records) {
         Err(_) => Stop::Memory,
@@ -232,8 +233,10 @@ impl<A: Allocator + Copy> Definitions<A> {
             (reading host.now.order host.now.bytes.now).0) }
         ensures once { IfOk result (λ _. doubled (reading host.now.order host.now.bytes.now).0
             ≡ None) }
-        ensures stop { IfErr result (IsDoubled host.now.file host.now.slot
-            (reading host.now.order host.now.bytes.now).0) }
+        ensures stop { IfErr result (IsStop
+            (0 < length (definitions (reading host.now.order host.now.bytes.now).0))
+            (doubled_fault host.now.file host.now.slot
+                (reading host.now.order host.now.bytes.now).0)) }
     {
         let records = LinkInformation::up_to_fault(host.order, host.bytes);
         Definitions::of_records(alloc, host.file, host.slot, &records)
@@ -248,7 +251,8 @@ impl<A: Allocator + Copy> Definitions<A> {
     ) -> Result<Self, Stop>
         ensures found { IfOk result (λ d. d ≡ definitions records.now) }
         ensures once { IfOk result (λ _. doubled records.now ≡ None) }
-        ensures stop { IfErr result (IsDoubled file slot records.now) }
+        ensures stop { IfErr result (IsStop (0 < length (definitions records.now))
+            (doubled_fault file slot records.now)) }
     {
         let count = records.definitions();
         if count == 0 {

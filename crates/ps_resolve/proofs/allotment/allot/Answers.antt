@@ -1,7 +1,9 @@
 use Rattle.std.proofs.Common.{◌≡◌, ◌≤◌, ◌<◌, ◌+◌, ◌++◌, ◌∙◌, [], ◌∷◌, ℕ, List, ap, sym, arith, refl, subst, append-nil}
 use Rattle.std.proofs.lemmas.Result.{err_from_is_err_and}
 use Rattle.ps_linkinfo.specs.Counts.{privates_in}
-use Rattle.ps_words.specs.declared.fault.Reason.TheVariants as reason
+use Rattle.std.specs.Option.{option_map}
+use Rattle.ps_words.specs.FaultPlaces.{in_record}
+use Rattle.ps_words.specs.declared.fault.Reason.{Reason}
 use Rattle.ps_resolve.specs.declared.allotment.Private.{Private}
 use Rattle.ps_resolve.proofs.Allots.{Allots, allot_more, allot_on, allots, doubled_fault, is_doubled, no_privates, not_doubled, privates_counted, room_fault}
 use Rattle.ps_resolve.proofs.Doubles.{positive}
@@ -58,7 +60,7 @@ returns-then-eq-clause-stop g c =
     let step = one (Allots c.args.slot c.args.next d before rs ps l.free) l.rec-iterator c.next.new.self rec r l.invariant c.in-Some.ensures.steps in
     let n = c.in-Some-words_of_private.words in
     let some = sym c.words_of_private.ensures ∙ c.in-Some-words_of_private.is in
-    rw c.refused.ensures ((rec, reason.DoubledPrivate), doubled_fault c.args.slot c.args.next d before rs ps l.free rec r step.0 found step.2 n some (is_doubled d rec (sym c.eq.ensures ∙ c.if-eq.true)), refl)
+    rw c.refused.ensures (ap (option_map (λ (f : ℕ × Reason). in_record c.args.file c.args.slot f.0 f.1)) (doubled_fault c.args.slot c.args.next d before rs ps l.free rec r step.0 found step.2 n some (is_doubled d rec (sym c.eq.ensures ∙ c.if-eq.true))))
 
 pub returns-then-free-words-gt-MAX_NEXT_FREE-clause-stop : goal.returns-then-free-words-gt-MAX_NEXT_FREE-clause-stop
 returns-then-free-words-gt-MAX_NEXT_FREE-clause-stop g c =
@@ -74,7 +76,7 @@ returns-then-free-words-gt-MAX_NEXT_FREE-clause-stop g c =
     let n = c.in-Some-words_of_private.words in
     let some = sym c.words_of_private.ensures ∙ c.in-Some-words_of_private.is in
     let far = room_fault c.args.slot c.args.next d before rs ps l.free rec r step.0 found step.2 n some (not_doubled d rec (sym c.eq.ensures ∙ c.if-eq.false)) (omega (arith, c.if-free-words-gt-MAX_NEXT_FREE.true)) in
-    rw c.refused-then-free-words-gt-MAX_NEXT_FREE.ensures ((rec, reason.NoRoom), far, refl)
+    rw c.refused-then-free-words-gt-MAX_NEXT_FREE.ensures (ap (option_map (λ (f : ℕ × Reason). in_record c.args.file c.args.slot f.0 f.1)) far)
 
 pub returns-in_err-narrow-clause-stop : goal.returns-in_err-narrow-clause-stop
 returns-in_err-narrow-clause-stop g c =

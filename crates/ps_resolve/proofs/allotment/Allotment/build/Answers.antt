@@ -1,8 +1,9 @@
-use Rattle.std.proofs.Common.{◌≡◌, ◌+◌, ℕ, List, None, map, arith, ap, sym, subst, ◌∙◌}
+use Rattle.std.proofs.Common.{◌≡◌, ◌+◌, ◌<◌, ℕ, List, None, length, map, arith, ap, sym, subst, ◌∙◌}
 use Rattle.std.proofs.lemmas.Result.{IfOk-weaker, IfErr-weaker}
 use Rattle.ps_resolve.specs.Builders.{HaveOwnNames, HaveRoom, StopsPrivates, all_asked, asked_of, words_of_all, AreByRecord}
 use Rattle.ps_resolve.specs.Offsets.{FollowOn}
-use Rattle.ps_resolve.specs.Privates.{Allotted, AreUnallotted, Owner, all_allotted, all_words, allotment_of, first_private_fault, owner_of_linkage}
+use Rattle.ps_resolve.specs.Privates.{Allotted, Owner, all_allotted, all_words, allotment_of, first_private_fault, owner_of_linkage}
+use Rattle.ps_resolve.specs.Stops.{IsStop}
 use Rattle.ps_resolve.proofs.Builders.{own_names, room, not_allotted, by_record, asked, summed}
 use Rattle.ps_resolve.proofs.Follow.{follow}
 use Rattle.ps_resolve.proofs.Rises.{rise}
@@ -35,7 +36,7 @@ returns-clause-room g c =
 pub returns-clause-refused : goal.returns-clause-refused
 returns-clause-refused g c =
     let ss : List Owner = map owner_of_linkage c.args.segments.now in
-    IfErr-weaker c.of_segments.result (AreUnallotted c.args.next ss) (StopsPrivates c.args.next ss) (λ stop d. not_allotted c.args.next ss stop d) c.of_segments.ensures.stop
+    IfErr-weaker c.of_segments.result (IsStop (0 < length (all_allotted c.args.next ss)) (first_private_fault c.args.next ss)) (StopsPrivates c.args.next ss) (λ stop d. not_allotted c.args.next ss stop d) c.of_segments.ensures.stop
 
 pub returns-clause-asked : goal.returns-clause-asked
 returns-clause-asked g c =

@@ -1,11 +1,12 @@
-use Rattle.std.proofs.Common.{◌≡◌, List, None, sym, ap, subst, ◌∙◌}
+use Rattle.std.proofs.Common.{◌≡◌, ◌<◌, List, length, None, sym, ap, subst, ◌∙◌}
 use Rattle.std.proofs.lemmas.Result.{IfOk-weaker, IfErr-weaker}
 use Rattle.ps_linkinfo.specs.Records.{reading}
 use Rattle.ps_linkinfo.specs.declared.record.LinkRecord.{LinkRecord as Record}
 use Rattle.ps_resolve.specs.Builders.{HaveNoNamesakes, StopsDefinitions}
 use Rattle.ps_linkinfo.specs.Counts.{is_definition}
-use Rattle.ps_resolve.specs.Stops.{IsDoubled}
-use Rattle.ps_resolve.specs.Symbols.{doubled}
+use Rattle.ps_resolve.specs.Stops.{IsStop, doubled_fault}
+use Rattle.ps_resolve.specs.Symbols.{definitions, doubled}
+use Rattle.ps_resolve.specs.declared.linkage.Stop.{Stop}
 use Rattle.ps_resolve.proofs.Builders.{defined_once, not_defined}
 use Rattle.ps_resolve.proofs.definitions.Definitions.build.Goals as goal
 
@@ -19,6 +20,7 @@ returns-clause-names g c =
 pub returns-clause-refused : goal.returns-clause-refused
 returns-clause-refused g c =
     let host = c.args.host.now in
+    let Stops : List Record → Stop → Type 0 = λ qs. IsStop (0 < length (definitions qs)) (doubled_fault host.file host.slot qs) in
     let rs : List Record = (reading host.order host.bytes.now).0 in
-    IfErr-weaker c.of_records.result (IsDoubled host.file host.slot c.up_to_fault-records.result) (StopsDefinitions host.file host.slot rs)
-    (λ stop d. not_defined host.file host.slot rs stop (subst (λ (qs : List Record). IsDoubled host.file host.slot qs stop) c.up_to_fault-records.ensures d)) c.of_records.ensures.stop
+    IfErr-weaker c.of_records.result (Stops c.up_to_fault-records.result) (StopsDefinitions host.file host.slot rs)
+    (λ stop d. not_defined host.file host.slot rs stop (subst (λ (qs : List Record). Stops qs stop) c.up_to_fault-records.ensures d)) c.of_records.ensures.stop
