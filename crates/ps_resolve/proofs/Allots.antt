@@ -163,14 +163,14 @@ module _ (slot next : ℕ) (doubled : Option ℕ) (before : List Private) (all :
     privates = sym (skip_privates slot n free [] ps r rs passed) ∙ a.privates;
     words = ap (λ (k : ℕ). free + k) (sym (skip_words slot n free [] ps r rs passed)) ∙ a.words;
     first =
-        ap (λ (seen : List (List ℕ)). private_fault (n + 1) free seen rs) (same_names a.stands.prefix r (asks None passed))
+        ap (λ (seen : List (List ℕ)). private_fault (n + 1) free seen rs) (same_names is_private_reference a.stands.prefix r (asks None passed))
         ∙ sym (skip_fault slot n free (names a.stands.prefix) ps r rs passed)
         ∙ a.first;
   }
 
   module _ (w : ℕ) (some : words_in r.body ≡ Some w) where
     is_seen : Decides (list_any (bytes_eq r.name) (names a.stands.prefix)) (HasEarlierNamesake is_private_reference all n r)
-    is_seen = looked all n r rs a.stands (asks (Some w) some)
+    is_seen = looked is_private_reference all n r rs a.stands (asks (Some w) some)
 
     fresh : (doubled ≡ Some n → ⊥) → list_any (bytes_eq r.name) (names a.stands.prefix) ≡ false
     fresh other = not_seen (list_any (bytes_eq r.name) (names a.stands.prefix)) (λ e. not_here other (is_seen.0 e))
@@ -187,7 +187,7 @@ module _ (slot next : ℕ) (doubled : Option ℕ) (before : List Private) (all :
       privates = sym (more_privates slot n free [] ps r rs w some) ∙ a.privates;
       words = omega (arith, more_words slot n free [] ps r rs w some, a.words);
       first =
-          ap (λ (seen : List (List ℕ)). private_fault (n + 1) (free + w) seen rs) (one_name a.stands.prefix r (asks (Some w) some))
+          ap (λ (seen : List (List ℕ)). private_fault (n + 1) (free + w) seen rs) (one_name is_private_reference a.stands.prefix r (asks (Some w) some))
           ∙ sym (more_fault slot n free (names a.stands.prefix) ps r rs w some (fresh other) fits)
           ∙ a.first;
     }

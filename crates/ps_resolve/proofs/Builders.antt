@@ -8,7 +8,8 @@ use Rattle.std.proofs.lemmas.Bool.{cases_lt, false≢true}
 use Rattle.std.proofs.lemmas.Bool.Decides.{Decides-and, Decides-ltb, nat_tests}
 use Rattle.std.proofs.lemmas.List.{map-append}
 use Rattle.std.proofs.lemmas.List.Sums.{sum_by-append, sum_by-cons}
-use Rattle.std.proofs.lemmas.Option.{get_or_from_slice_get, slice_get_within}
+use Rattle.std.proofs.lemmas.Option.{get_or_from_slice_get, same_Some, slice_get_within}
+use Rattle.ps_linkinfo.specs.declared.record.Body.{Body}
 use Rattle.ps_linkinfo.specs.declared.record.LinkRecord.{LinkRecord as Record}
 use Rattle.ps_words.specs.FaultPlaces.{in_record}
 use Rattle.ps_words.specs.declared.fault.Fault.{Fault}
@@ -24,7 +25,7 @@ use Rattle.ps_resolve.specs.Standing.Definitions.{HasEarlierNamesake}
 use Rattle.ps_linkinfo.specs.Counts.{is_definition, is_private_reference}
 use Rattle.ps_resolve.specs.References.{words_taken, words_taken_by}
 use Rattle.ps_resolve.specs.Stops.{IsStop, doubled_fault}
-use Rattle.ps_resolve.specs.Builders.{HaveNoNamesakes, StopsDefinitions, offset_at, HaveOwnNames, HaveRoom, IsUnfit, IsFirstUnfit, StopsPrivates, Asked, asked_in, all_asked, asked_of, AreByRecord, words_of_all}
+use Rattle.ps_resolve.specs.Builders.{FindsNamesake, HaveNoNamesakes, IsFirstNamesake, StopsDefinitions, offset_at, HaveOwnNames, HaveRoom, IsUnfit, IsFirstUnfit, StopsPrivates, Asked, asked_in, all_asked, asked_of, AreByRecord, words_of_all}
 use Rattle.ps_resolve.specs.declared.allotment.Private.{Private}
 use Rattle.ps_resolve.specs.declared.definitions.Def.{Def}
 use Rattle.ps_resolve.specs.declared.linkage.Stop.{Stop}
@@ -132,6 +133,32 @@ module _ (file slot : ℕ) (rs : List Record) where
           go : (o : Option Def) → def_in q.body ≡ o → (0 < length (definitions qs) → SomeItem qs (λ rec r. is_definition r.body ≡ true)) → SomeItem (q ∷ qs) (λ rec r. is_definition r.body ≡ true)
           go (Some d) e later = (zero, q, refl, defines_is q.body ∙ ap is_some e)
           go None e later = let t = later (subst (λ (ds : List (List ℕ × Def)). 0 < length ds) (none_entries 0 [] q qs e) h) in (suc t.0, t.1, t.2, t.3)
+
+-- no other record is the first
+only_first : (test : Body → Bool) (rs : List Record) (m n : ℕ) → IsFirstNamesake test rs m → IsFirstNamesake test rs n → m < n → ⊥
+only_first test rs m n f g lt = g.first m f.item lt f.there f.again
+
+same_first : (test : Body → Bool) (rs : List Record) (m n : ℕ) → IsFirstNamesake test rs m → IsFirstNamesake test rs n → m ≡ n
+same_first test rs m n f g = elim (cases_lt m n) [
+  | inl lt ↦ absurd (only_first test rs m n f g lt)
+  | inr le ↦ elim (cases_lt n m) [ inl lt ↦ absurd (only_first test rs n m g f lt) | inr ge ↦ omega (arith, le, ge) ]
+]
+
+-- the first record of this kind that has an earlier namesake is the first that defines a name again
+pub doubled_is : (rs : List Record) (found : Option ℕ) → FindsNamesake is_definition rs found → found ≡ doubled rs
+doubled_is rs found f = at (doubled rs) refl found f
+  where
+    first_at : (m : ℕ) → doubled rs ≡ Some m → IsFirstNamesake is_definition rs m
+    first_at m e =
+        let t = not_defined 0 0 rs (Refused (told 0 0 rs m)) (ap (option_map (told 0 0 rs)) e) in
+        let same : t.0 ≡ m = same_Some _ _ (ap (λ (f : Fault). f.rec) (sym t.2)) in
+        subst (IsFirstNamesake is_definition rs) same t.1
+
+    at : (d : Option ℕ) → doubled rs ≡ d → (o : Option ℕ) → FindsNamesake is_definition rs o → o ≡ doubled rs
+    at None e None f = sym e
+    at None e (Some n) f = absurd (defined_once 0 0 rs e n f.item f.there f.again)
+    at (Some m) e None f = let g = first_at m e in absurd (f m g.item g.there g.again)
+    at (Some m) e (Some n) f = ap (λ (k : ℕ). Some k) (same_first is_definition rs n m f (first_at m e)) ∙ sym e
 
 -- 2. the words before a record
 one_more : (r : Record) (rs : List Record) → private_words (r ∷ rs) ≡ words_taken r.body + private_words rs

@@ -16,11 +16,11 @@ use Rattle.std.proofs.lemmas.Map.Views.{Contains-from_lookup, lookup-from_Contai
 use Rattle.std.proofs.lemmas.Slice.Eq.{bytes_eq-Decides}
 use Rattle.ps_linkinfo.specs.Counts.{definitions_in}
 use Rattle.ps_linkinfo.specs.declared.record.LinkRecord.{LinkRecord as Record}
-use Rattle.ps_resolve.specs.ByName.{number, entry, ranked, NamesRise, HasTwins, AreByName, blank, in_order, IsOrder, IsTable}
+use Rattle.ps_resolve.specs.ByName.{number, entry, ranked, NamesRise, HasTwins, blank, in_order, IsOrder, IsTable}
 use Rattle.ps_resolve.specs.Symbols.{def_in, definitions, definition_of, doubled, doubled_from}
 use Rattle.ps_resolve.specs.declared.definitions.Def.{Def}
 use Rattle.ps_resolve.specs.declared.definitions.Named.{Named}
-use Rattle.ps_resolve.proofs.Doubles.{again_first, definitions_counted, new_entries, new_first, no_definitions, none_entries, none_first, positive}
+use Rattle.ps_resolve.proofs.Doubles.{again_first, definitions_counted, new_entries, new_first, none_entries, none_first}
 use Rattle.ps_resolve.proofs.LookingBack.{longer}
 
 abbrev Entry : Type 0
@@ -201,9 +201,6 @@ once rs ns h p = not_doubled rs 0 [] (distinct_too (map entry ns) (definitions r
 pub twice : (rs : List Record) (ns : List Named) → HasTwins ns → IsPermutation (ranked 0 (definitions rs)) ns → doubled rs ≡ None → ⊥
 twice rs ns t p e = not_twins ns t (distinct_too (definitions rs) (map entry ns) (same_entries (definitions rs) ns p) (distinct_all rs 0 [] e none_distinct))
 
-pub some_defined : (rs : List Record) → (doubled rs ≡ None → ⊥) → 0 < length (definitions rs)
-some_defined rs h = omega (arith, definitions_counted rs, positive (definitions_in rs) (λ e. h (no_definitions rs e).1))
-
 -- 5. the order
 ranked_is : (ds : List Entry) (x : Named) (e : Entry) → Contains (ranked 0 ds) x → (i : ℕ) × (i < length ds) × (x ≡ at_rank (get_or ds i e) i)
 ranked_is ds x e c =
@@ -295,11 +292,11 @@ pub all_filled : (ns : List Named) (index : ℕ) (order : List ℕ) → length n
 all_filled ns index order le f = record { len = f.len; within = f.within; ranks = λ k d lt. f.ranks k d (omega (arith, lt, le)) }
 
 -- 6. the table
-pub table : (ds : List Entry) (ns : List Named) (order : List ℕ) → AreByName ds ns → IsOrder ns order → IsTable ns order
-table ds ns order s o = record {
-  rise = s.rise;
+pub table : (ds : List Entry) (ns : List Named) (order : List ℕ) → NamesRise ns → IsPermutation (ranked 0 ds) ns → IsOrder ns order → IsTable ns order
+table ds ns order rise p o = record {
+  rise = rise;
   within = o.within;
-  same = IsPermutation-sym (in_order ns order) (map entry ns) (subst (λ (es : List Entry). IsPermutation es (map entry ns)) (sym (placed ds ns order s.same o)) (same_entries ds ns s.same));
+  same = IsPermutation-sym (in_order ns order) (map entry ns) (subst (λ (es : List Entry). IsPermutation es (map entry ns)) (sym (placed ds ns order p o)) (same_entries ds ns p));
 }
 
 below_itself : (a b : ℕ) → nat_lt a b ≡ true → a ≡ b → ⊥

@@ -1,5 +1,5 @@
 -- One record more of a table of definitions.
-use Rattle.std.proofs.Common.{◌≡◌, ℕ, zero, suc, ◌+◌, List, [], ◌∷◌, ◌++◌, length, Bool, true, false, cond, Option, Some, None, is_some, refl, sym, ◌∙◌, ap, arith, append_assoc, length-append, ◌<◌}
+use Rattle.std.proofs.Common.{◌≡◌, ℕ, zero, suc, ◌+◌, List, [], ◌∷◌, ◌++◌, length, Bool, true, false, cond, Option, Some, None, is_some, refl, sym, ◌∙◌, ap, arith, append_assoc, ◌<◌}
 use Rattle.std.specs.List.{filter_map}
 use Rattle.ps_resolve.specs.Symbols.{def_in, definition_in, definitions, definition_of, doubled, doubled_from}
 use Rattle.ps_resolve.specs.declared.definitions.Def.{Def}
@@ -8,10 +8,6 @@ use Rattle.ps_linkinfo.specs.declared.record.Body.{Body}
 use Rattle.ps_linkinfo.specs.declared.record.Body.TheVariants.{UnitRef, PublRef, PrivRef, PublDef, ConstDef, Eof}
 use Rattle.ps_linkinfo.specs.declared.record.LinkRecord.{LinkRecord as Record}
 use Rattle.ps_resolve.proofs.Apart.{one_more}
-
-pub none_is : {X : Type 0} (o : Option X) → is_some o ≡ false → o ≡ None
-none_is None h = refl
-none_is (Some x) h = cc
 
 module _ (rec : ℕ) (ds : List (List ℕ × Def)) (r : Record) (rs : List Record) where
   -- a record that defines nothing
@@ -27,15 +23,6 @@ module _ (rec : ℕ) (ds : List (List ℕ × Def)) (r : Record) (rs : List Recor
 
   pub new_first : (d : Def) → def_in r.body ≡ Some d → is_some (definition_of r.name ds) ≡ false → doubled_from rec ds (r ∷ rs) ≡ doubled_from (rec + 1) (ds ++ (r.name, d) ∷ []) rs
   new_first d h k = rw (h, doubled_from) (rw k refl)
-
--- where one of what is left defines something, there is a definition
-pub some_there : (ds : List (List ℕ × Def)) (r : Record) (rs : List Record) (d : Def) → def_in r.body ≡ Some d → 0 < length (ds ++ definitions (r ∷ rs))
-some_there ds r rs d h = rw (new_entries 0 ds r rs d h, append_assoc) (omega (arith, length-append ds ((r.name, d) ∷ definitions rs)))
-
--- with the table so far, the definitions of the records from this index on are all, and the first that is doubled is theirs
-pub record Defines (all : List Record) (ds : List (List ℕ × Def)) (n : ℕ) (rs : List Record) : Type 0 where
-  pub entries : ds ++ definitions rs ≡ definitions all
-  pub first : doubled_from n ds rs ≡ doubled all
 
 -- what defines a name is counted
 defines_is : (b : Body) → is_definition b ≡ is_some (def_in b)

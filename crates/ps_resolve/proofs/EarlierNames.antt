@@ -1,4 +1,4 @@
--- Privates of a name that an earlier one has: that none is, where the numbers of the names differ, and the first of them.
+-- Records of a kind that have the name of an earlier one: that none has, where the numbers of the names of privates differ, and the first of them.
 use Rattle.std.proofs.Common.{◌≡◌, ℕ, zero, suc, ◌+◌, ◌<◌, ◌==◌, ◌++◌, List, [], ◌∷◌, length, take, Bool, true, false, Some, None, refl, sym, ◌∙◌, ap, subst, arith, append_assoc, append-nil}
 use Rattle.std.specs.Prelude.{◌&&◌, nat_lt, not}
 use Rattle.std.specs.Bool.{Decides}
@@ -13,10 +13,11 @@ use Rattle.std.proofs.lemmas.List.Sorted.{IsPermutation-sym}
 use Rattle.std.proofs.lemmas.Map.Keys.{IsDistinct-head, IsDistinct-tail, IsDistinct-from_apart, IsDistinct-IsPermutation}
 use Rattle.std.proofs.lemmas.Option.{same_Some, slice_get_within}
 use Rattle.ps_linkinfo.specs.Counts.{is_private_reference}
+use Rattle.ps_linkinfo.specs.declared.record.Body.{Body}
 use Rattle.ps_linkinfo.specs.declared.record.LinkRecord.{LinkRecord as Record}
 use Rattle.ps_resolve.specs.Builders.{HaveNoNamesakes, IsFirstNamesake, private_numbers}
 use Rattle.ps_resolve.specs.Standing.Definitions.{HasEarlierNamesake}
-use Rattle.ps_resolve.proofs.LookingBack.{again, is_again, longer, names, more_names, private_named, seen_is, take_prefix}
+use Rattle.ps_resolve.proofs.LookingBack.{again, has_name, is_again, longer, more_names, names_of, seen_is, take_prefix}
 
 abbrev number : Record → ℕ
 number r = from_be_bytes w64 r.name
@@ -105,11 +106,11 @@ pub at_end : (prefix : List Record) (r : Record) (rs : List Record) → slice_ge
 at_end [] r rs = refl
 at_end (p ∷ prefix) r rs = at_end prefix r rs
 
-pub same_names : (prefix : List Record) (r : Record) → is_private_reference r.body ≡ false → names (prefix ++ r ∷ []) ≡ names prefix
-same_names prefix r h = more_names prefix r ∙ rw (h, filter) (append-nil (names prefix))
+pub same_names : (test : Body → Bool) (prefix : List Record) (r : Record) → test r.body ≡ false → names_of test (prefix ++ r ∷ []) ≡ names_of test prefix
+same_names test prefix r h = more_names test prefix r ∙ rw (h, filter) (append-nil (names_of test prefix))
 
-pub one_name : (prefix : List Record) (r : Record) → is_private_reference r.body ≡ true → names (prefix ++ r ∷ []) ≡ names prefix ++ r.name ∷ []
-one_name prefix r h = more_names prefix r ∙ rw (h, filter) refl
+pub one_name : (test : Body → Bool) (prefix : List Record) (r : Record) → test r.body ≡ true → names_of test (prefix ++ r ∷ []) ≡ names_of test prefix ++ r.name ∷ []
+one_name test prefix r h = more_names test prefix r ∙ rw (h, filter) refl
 
 -- the records from this index on are left, behind the others
 pub record Stands (all : List Record) (n : ℕ) (rs : List Record) : Type 0 where
@@ -127,28 +128,28 @@ further all n r rs s = record {
 pub there : (all : List Record) (n : ℕ) (r : Record) (rs : List Record) → Stands all n (r ∷ rs) → slice_get all n ≡ Some r
 there all n r rs s = ap (λ (xs : List Record). slice_get xs n) s.whole ∙ ap (λ (k : ℕ). slice_get (s.prefix ++ r ∷ rs) k) s.count ∙ at_end s.prefix r rs
 
--- the name is among those of the privates before it just where a private before it has the name
-pub looked : (all : List Record) (n : ℕ) (r : Record) (rs : List Record) (s : Stands all n (r ∷ rs)) → is_private_reference r.body ≡ true
-    → Decides (list_any (bytes_eq r.name) (names s.prefix)) (HasEarlierNamesake is_private_reference all n r)
-looked all n r rs s is = subst (λ (b : Bool). Decides b (HasEarlierNamesake is_private_reference all n r)) test (again is_private_reference all n r)
+-- the name is among those of the records of the kind before it just where one of these has the name
+pub looked : (test : Body → Bool) (all : List Record) (n : ℕ) (r : Record) (rs : List Record) (s : Stands all n (r ∷ rs)) → test r.body ≡ true
+    → Decides (list_any (bytes_eq r.name) (names_of test s.prefix)) (HasEarlierNamesake test all n r)
+looked test all n r rs s is = subst (λ (b : Bool). Decides b (HasEarlierNamesake test all n r)) same (again test all n r)
   where
     before : take n all ≡ s.prefix
     before = ap (λ (xs : List Record). take n xs) s.whole ∙ ap (λ (k : ℕ). take k (s.prefix ++ r ∷ rs)) s.count ∙ take_prefix s.prefix (r ∷ rs)
 
-    test : is_again is_private_reference all (n, r) ≡ list_any (bytes_eq r.name) (names s.prefix)
-    test =
-        ap (λ (b : Bool). b && list_any (private_named r.name) (take n all)) is
-        ∙ ap (λ (xs : List Record). list_any (private_named r.name) xs) before
-        ∙ sym (seen_is r.name s.prefix)
+    same : is_again test all (n, r) ≡ list_any (bytes_eq r.name) (names_of test s.prefix)
+    same =
+        ap (λ (b : Bool). b && list_any (has_name test r.name) (take n all)) is
+        ∙ ap (λ (xs : List Record). list_any (has_name test r.name) xs) before
+        ∙ sym (seen_is test r.name s.prefix)
 
--- the names of the privates so far, none of which an earlier one has
-pub record Seeks (all : List Record) (seen : List (List ℕ)) (n : ℕ) (rs : List Record) : Type 0 where
+-- the names of the records of the kind so far, none of which an earlier one has
+pub record Seeks (test : Body → Bool) (all : List Record) (seen : List (List ℕ)) (n : ℕ) (rs : List Record) : Type 0 where
   pub stands : Stands all n rs
-  pub same : seen ≡ names stands.prefix
-  pub none : (lesser : ℕ) (q : Record) → lesser < n → slice_get all lesser ≡ Some q → HasEarlierNamesake is_private_reference all lesser q → ⊥
+  pub same : seen ≡ names_of test stands.prefix
+  pub none : (lesser : ℕ) (q : Record) → lesser < n → slice_get all lesser ≡ Some q → HasEarlierNamesake test all lesser q → ⊥
 
-pub seeks : (all : List Record) → Seeks all [] 0 all
-seeks all = record { stands = record { prefix = []; whole = refl; count = refl }; same = refl; none = λ lesser q lt. absurd (omega (arith, lt)) }
+pub seeks : (test : Body → Bool) (all : List Record) → Seeks test all [] 0 all
+seeks test all = record { stands = record { prefix = []; whole = refl; count = refl }; same = refl; none = λ lesser q lt. absurd (omega (arith, lt)) }
 
 -- whether a name was new
 pub not_new : (b x : Bool) → b ≡ false → b ≡ not x → x ≡ true
@@ -159,11 +160,11 @@ pub newly : (b x : Bool) → b ≡ true → b ≡ not x → x ≡ false
 newly b false h e = refl
 newly b true h e = absurd (false≢true (sym (sym h ∙ e)))
 
-module _ (all : List Record) (seen : List (List ℕ)) (n : ℕ) (r : Record) (rs : List Record) (s : Seeks all seen n (r ∷ rs)) where
+module _ (test : Body → Bool) (all : List Record) (seen : List (List ℕ)) (n : ℕ) (r : Record) (rs : List Record) (s : Seeks test all seen n (r ∷ rs)) where
   this_is : (q : Record) → slice_get all n ≡ Some q → r ≡ q
   this_is q e = same_Some _ _ (sym (there all n r rs s.stands) ∙ e)
 
-  none_more : (HasEarlierNamesake is_private_reference all n r → ⊥) → (lesser : ℕ) (q : Record) → lesser < n + 1 → slice_get all lesser ≡ Some q → HasEarlierNamesake is_private_reference all lesser q → ⊥
+  none_more : (HasEarlierNamesake test all n r → ⊥) → (lesser : ℕ) (q : Record) → lesser < n + 1 → slice_get all lesser ≡ Some q → HasEarlierNamesake test all lesser q → ⊥
   none_more fresh lesser q lt e h = at (nat_lt lesser n) refl
     where
       below : (k m : ℕ) → nat_lt k m ≡ true → k < m
@@ -177,31 +178,31 @@ module _ (all : List Record) (seen : List (List ℕ)) (n : ℕ) (r : Record) (rs
       at false t =
           let here : lesser ≡ n = last lesser n lt t in
           let is : slice_get all n ≡ Some q = subst (λ (k : ℕ). slice_get all k ≡ Some q) here e in
-          fresh (subst (λ (x : Record). HasEarlierNamesake is_private_reference all n x) (sym (this_is q is)) (subst (λ (k : ℕ). HasEarlierNamesake is_private_reference all k q) here h))
+          fresh (subst (λ (x : Record). HasEarlierNamesake test all n x) (sym (this_is q is)) (subst (λ (k : ℕ). HasEarlierNamesake test all k q) here h))
 
-  pub seek_on : is_private_reference r.body ≡ false → Seeks all seen (n + 1) rs
+  pub seek_on : test r.body ≡ false → Seeks test all seen (n + 1) rs
   seek_on other = record {
     stands = further all n r rs s.stands;
-    same = s.same ∙ sym (same_names s.stands.prefix r other);
+    same = s.same ∙ sym (same_names test s.stands.prefix r other);
     none = none_more (λ h. false≢true (sym other ∙ h.0));
   }
 
-  pub seek_more : is_private_reference r.body ≡ true → list_any (bytes_eq r.name) seen ≡ false → Seeks all (seen ++ r.name ∷ []) (n + 1) rs
+  pub seek_more : test r.body ≡ true → list_any (bytes_eq r.name) seen ≡ false → Seeks test all (seen ++ r.name ∷ []) (n + 1) rs
   seek_more is new = record {
     stands = further all n r rs s.stands;
-    same = ap (λ (xs : List (List ℕ)). xs ++ r.name ∷ []) s.same ∙ sym (one_name s.stands.prefix r is);
-    none = none_more (λ h. false≢true (sym (ap (λ (xs : List (List ℕ)). list_any (bytes_eq r.name) xs) (sym s.same) ∙ new) ∙ (looked all n r rs s.stands is).1 h));
+    same = ap (λ (xs : List (List ℕ)). xs ++ r.name ∷ []) s.same ∙ sym (one_name test s.stands.prefix r is);
+    none = none_more (λ h. false≢true (sym (ap (λ (xs : List (List ℕ)). list_any (bytes_eq r.name) xs) (sym s.same) ∙ new) ∙ (looked test all n r rs s.stands is).1 h));
   }
 
-  pub seek_found : is_private_reference r.body ≡ true → list_any (bytes_eq r.name) seen ≡ true → IsFirstNamesake is_private_reference all n
+  pub seek_found : test r.body ≡ true → list_any (bytes_eq r.name) seen ≡ true → IsFirstNamesake test all n
   seek_found is old = record {
     item = r;
     there = there all n r rs s.stands;
-    again = (looked all n r rs s.stands is).0 (ap (λ (xs : List (List ℕ)). list_any (bytes_eq r.name) xs) (sym s.same) ∙ old);
+    again = (looked test all n r rs s.stands is).0 (ap (λ (xs : List (List ℕ)). list_any (bytes_eq r.name) xs) (sym s.same) ∙ old);
     first = s.none;
   }
 
-pub seek_end : (all : List Record) (seen : List (List ℕ)) (n : ℕ) → Seeks all seen n [] → HaveNoNamesakes is_private_reference all
-seek_end all seen n s rec r e h =
+pub seek_end : (test : Body → Bool) (all : List Record) (seen : List (List ℕ)) (n : ℕ) → Seeks test all seen n [] → HaveNoNamesakes test all
+seek_end test all seen n s rec r e h =
     let long = ap length (s.stands.whole ∙ append-nil s.stands.prefix) in
     s.none rec r (omega (arith, long, s.stands.count, slice_get_within all rec r e)) e h

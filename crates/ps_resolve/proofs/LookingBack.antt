@@ -148,26 +148,30 @@ asks_is (PublDef value) = refl
 asks_is (ConstDef value) = refl
 asks_is (Eof next) = refl
 
--- the names of the privates of a prefix
+-- the names of the records of a kind
+abbrev pub names_of : (Body → Bool) → List Record → List (List ℕ)
+names_of test rs = map (λ (q : Record). q.name) (filter (λ (q : Record). test q.body) rs)
+
+-- the names of the privates
 abbrev pub names : List Record → List (List ℕ)
-names rs = map (λ (q : Record). q.name) (filter (λ (q : Record). is_private_reference q.body) rs)
+names rs = names_of is_private_reference rs
 
-abbrev pub private_named : List ℕ → Record → Bool
-private_named name q = is_private_reference q.body && bytes_eq name q.name
+abbrev pub has_name : (Body → Bool) → List ℕ → Record → Bool
+has_name test name q = test q.body && bytes_eq name q.name
 
-pub seen_is : (name : List ℕ) (prefix : List Record) → list_any (bytes_eq name) (names prefix) ≡ list_any (private_named name) prefix
-seen_is name [] = refl
-seen_is name (q ∷ prefix) = go (is_private_reference q.body) (seen_is name prefix)
+pub seen_is : (test : Body → Bool) (name : List ℕ) (prefix : List Record) → list_any (bytes_eq name) (names_of test prefix) ≡ list_any (has_name test name) prefix
+seen_is test name [] = refl
+seen_is test name (q ∷ prefix) = go (test q.body) (seen_is test name prefix)
   where
-    go : (b : Bool) → list_any (bytes_eq name) (names prefix) ≡ list_any (private_named name) prefix
-        → list_any (bytes_eq name) (map (λ (q : Record). q.name) (if b then q ∷ filter (λ (q : Record). is_private_reference q.body) prefix else filter (λ (q : Record). is_private_reference q.body) prefix)) ≡ ((b && bytes_eq name q.name) || list_any (private_named name) prefix)
+    go : (b : Bool) → list_any (bytes_eq name) (names_of test prefix) ≡ list_any (has_name test name) prefix
+        → list_any (bytes_eq name) (map (λ (q : Record). q.name) (if b then q ∷ filter (λ (q : Record). test q.body) prefix else filter (λ (q : Record). test q.body) prefix)) ≡ ((b && bytes_eq name q.name) || list_any (has_name test name) prefix)
     go true e = ap (λ (b : Bool). bytes_eq name q.name || b) e
     go false e = e
 
-pub more_names : (prefix : List Record) (r : Record) → names (prefix ++ r ∷ []) ≡ names prefix ++ names (r ∷ [])
-more_names prefix r =
-    ap (λ (qs : List Record). map (λ (q : Record). q.name) qs) (filter-append (λ (q : Record). is_private_reference q.body) prefix (r ∷ []))
-    ∙ map-append (λ (q : Record). q.name) (filter (λ (q : Record). is_private_reference q.body) prefix) (filter (λ (q : Record). is_private_reference q.body) (r ∷ []))
+pub more_names : (test : Body → Bool) (prefix : List Record) (r : Record) → names_of test (prefix ++ r ∷ []) ≡ names_of test prefix ++ names_of test (r ∷ [])
+more_names test prefix r =
+    ap (λ (qs : List Record). map (λ (q : Record). q.name) qs) (filter-append (λ (q : Record). test q.body) prefix (r ∷ []))
+    ∙ map-append (λ (q : Record). q.name) (filter (λ (q : Record). test q.body) prefix) (filter (λ (q : Record). test q.body) (r ∷ []))
 
 pub more_words : (prefix : List Record) (r : Record) → private_words (prefix ++ r ∷ []) ≡ private_words prefix + words_taken r.body
 more_words [] r = go (words_in r.body) refl
@@ -219,7 +223,7 @@ privates_carried h offset base prefix (r ∷ rs) rec e offsets =
     go None p more =
         let same_words : private_words (prefix ++ r ∷ []) ≡ private_words prefix = more_words prefix r ∙ rw (p, words_taken) (omega arith) in
         let none : is_private_reference r.body ≡ false = asks_is r.body ∙ ap is_some p in
-        let same_names : names (prefix ++ r ∷ []) ≡ names prefix = more_names prefix r ∙ rw (none, filter) (append-nil (names prefix)) in
+        let same_names : names (prefix ++ r ∷ []) ≡ names prefix = more_names is_private_reference prefix r ∙ rw (none, filter) (append-nil (names prefix)) in
         let step : Faults (base + private_words prefix) (names prefix) ≡ later all = rw (← same_words, ← same_names) (more ∙ ap later (append_assoc prefix (r ∷ []) rs)) in
         rw (p, private_fault, is_again) (rw none step)
     go (Some w) p more = at (list_any (bytes_eq r.name) (names prefix)) refl (nat_lt 32767 (base + private_words prefix + w)) refl
@@ -231,7 +235,7 @@ privates_carried h offset base prefix (r ∷ rs) rec e offsets =
         same_words = more_words prefix r ∙ rw (p, words_taken) refl
 
         same_names : names (prefix ++ r ∷ []) ≡ names prefix ++ r.name ∷ []
-        same_names = more_names prefix r ∙ rw (one, filter) refl
+        same_names = more_names is_private_reference prefix r ∙ rw (one, filter) refl
 
         again_at : (free : ℕ) → base + private_words (prefix ++ r ∷ []) ≡ free → Faults free (names prefix ++ r.name ∷ []) ≡ later all
         again_at free is = rw (← is, ← same_names) (more ∙ ap later (append_assoc prefix (r ∷ []) rs))
@@ -242,11 +246,11 @@ privates_carried h offset base prefix (r ∷ rs) rec e offsets =
         at : (b : Bool) → list_any (bytes_eq r.name) (names prefix) ≡ b → (c : Bool) → nat_lt 32767 (base + private_words prefix + w) ≡ c
             → option_map (λ (f : ℕ × Reason). h f.1 f.0) (private_fault rec (base + private_words prefix) (names prefix) (r ∷ rs)) ≡ option_or (record_fault h offset all (rec, r)) (later all)
         at true seen c full =
-            let found : list_any (private_named r.name) prefix ≡ true = sym (seen_is r.name prefix) ∙ seen in
+            let found : list_any (has_name is_private_reference r.name) prefix ≡ true = sym (seen_is is_private_reference r.name prefix) ∙ seen in
             rw (p, private_fault, is_again) (rw (seen, one, prefix_is, found) refl)
         at false seen true full =
-            let found : list_any (private_named r.name) prefix ≡ false = sym (seen_is r.name prefix) ∙ seen in
+            let found : list_any (has_name is_private_reference r.name) prefix ≡ false = sym (seen_is is_private_reference r.name prefix) ∙ seen in
             rw (p, private_fault, is_again) (rw (seen, one, prefix_is, found, at_offset, full) refl)
         at false seen false full =
-            let found : list_any (private_named r.name) prefix ≡ false = sym (seen_is r.name prefix) ∙ seen in
+            let found : list_any (has_name is_private_reference r.name) prefix ≡ false = sym (seen_is is_private_reference r.name prefix) ∙ seen in
             rw (p, private_fault, is_again) (rw (seen, one, prefix_is, found, at_offset, full) step)

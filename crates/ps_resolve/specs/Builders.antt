@@ -1,6 +1,6 @@
 -- The builders of definitions and of allotments, said plainly: where each refuses, and how the privates of an allotment stand.
 -- Source: the link records PUBLDEF, CONSTDEF and PRIVREF are those of the published II.0 Linker source; that a name is defined once, and the order of the privates, are this project's profile.
-use Rattle.std.specs.Prelude.{◌≡◌, ℕ, ◌+◌, ◌<◌, ◌≤◌, List, [], ◌∷◌, ◌++◌, slice_get, take, map, sum_by, Bool, true, Option, Some, None}
+use Rattle.std.specs.Prelude.{◌≡◌, ℕ, ◌+◌, ◌<◌, ◌≤◌, List, [], ◌∷◌, ◌++◌, slice_get, take, map, count_by, sum_by, Bool, true, Option, Some, None}
 use Rattle.std.specs.Int.{w64, from_be_bytes}
 use Rattle.std.specs.List.{enumerate_from, filter, filter_map, flat_map}
 use Rattle.std.specs.Option.{option_map}
@@ -13,12 +13,23 @@ use Rattle.ps_resolve.specs.Standing.Definitions.{HasEarlierNamesake}
 use Rattle.ps_linkinfo.specs.Counts.{is_definition, is_private_reference}
 use Rattle.ps_resolve.specs.References.{words_taken, words_taken_by}
 use Rattle.ps_resolve.specs.declared.allotment.Private.{Private}
+use Rattle.ps_resolve.specs.declared.namesakes.Kind.{Kind}
+use Rattle.ps_resolve.specs.declared.namesakes.Kind.TheVariants as kinds
 use Rattle.ps_resolve.specs.declared.linkage.Stop.{Stop}
 use Rattle.ps_resolve.specs.declared.linkage.Stop.TheVariants.{Refused, Memory}
 use Rattle.ps_words.specs.FaultPlaces.{in_record}
 use Rattle.ps_words.specs.declared.fault.Fault.{Fault}
 use Rattle.ps_words.specs.declared.fault.Reason.{Reason}
 use Rattle.ps_words.specs.declared.fault.Reason.TheVariants as reason
+
+-- the body is of this kind
+abbrev pub test_of : Kind → Body → Bool
+test_of kinds.Definition = is_definition
+test_of kinds.Private = is_private_reference
+
+-- how many of the records are of this kind
+abbrev pub count_of : Kind → List Record → ℕ
+count_of kind rs = count_by (λ r. test_of kind r.body) rs
 
 -- 1. definitions
 -- no record of this kind has the name of an earlier record of this kind

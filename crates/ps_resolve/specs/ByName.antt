@@ -27,11 +27,6 @@ NamesRise ns = (k : ℕ) (d : Named) → k + 1 < length ns → number (slice_ind
 abbrev pub HasTwins : List Named → Type 0
 HasTwins ns = (k : ℕ) × (k + 1 < length ns) × ((d : Named) → (slice_index_or ns k d).name ≡ (slice_index_or ns (k + 1) d).name)
 
--- these definitions by their names
-pub record AreByName (ds : List (List ℕ × Def)) (ns : List Named) : Type 0 where
-  pub rise : NamesRise ns
-  pub same : IsPermutation (ranked 0 ds) ns
-
 -- what no definition is
 abbrev pub blank : Named
 blank = record { name = []; def = record { kind = Public; value = 0 }; rank = 0 }

@@ -195,7 +195,14 @@ fn allot_all<A: Allocator + Copy, S: AsksForPrivates>(
     let mut free = next;
     for segment in segments {
         let records = segment.records();
-        free = allot(alloc, segment.file(), segment.slot(), &records, free, &mut privates)?;
+        free = allot(
+            alloc,
+            segment.file(),
+            segment.slot(),
+            &records,
+            free,
+            &mut privates,
+        )?;
     }
     Ok((privates, free))
 }

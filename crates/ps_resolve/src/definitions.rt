@@ -1,20 +1,19 @@
-ghost use Rattle.std.specs.Prelude.{◌≡◌, ◌<◌, ◌^◌, ◌==◌, ◌∷◌, [], All, length, slice_get, Some, None, IfOk, IfErr, MatchOption};
+ghost use Rattle.std.specs.Prelude.{◌≡◌, ◌<◌, ◌^◌, ◌==◌, All, length, slice_get, Some, None, IfOk, IfErr, IsPermutation};
 ghost use Rattle.std.specs.Bool.{MatchBool};
 ghost use Rattle.std.specs.Int.{w64, to_be_bytes};
 ghost use Rattle.std.specs.List.Sorted.{IsNonDecreasingBy};
-ghost use Rattle.indexmap.specs.IndexMap.{hasher_of};
-ghost use Rattle.ps_linkinfo.specs.Counts.{definitions_in, digest_of, is_definition};
+ghost use Rattle.ps_linkinfo.specs.Counts.{definitions_in, is_definition};
 ghost use Rattle.ps_linkinfo.specs.Records.{reading};
-ghost use Rattle.ps_resolve.specs.ByName.{number, ranked as ranked_spec, AreByName, HasTwins, IsOrder, NamesRise};
+ghost use Rattle.ps_resolve.specs.ByName.{number, ranked as ranked_spec, HasTwins, IsOrder, NamesRise};
 ghost use Rattle.ps_resolve.specs.Symbols.{definitions, definition_of, def_in, doubled};
 ghost use Rattle.ps_resolve.specs.Stops.{IsStop, doubled_fault};
 ghost use Rattle.ps_resolve.specs.Builders.{HaveNoNamesakes, StopsDefinitions};
+ghost use Rattle.ps_resolve.specs.declared.linkage.Stop.TheVariants.{Memory};
 
-use crate::linkage::{Linkage, Stop};
-use crate::name_hasher::NameHasher;
-use indexmap::IndexMap;
+use crate::linkage::{Linkage, RecordPlace, Stop};
+use crate::namesakes::{Kind, first_namesake};
 use ps_linkinfo::{Body, LinkInformation, LinkRecord};
-use ps_words::{Fault, Name, Reason};
+use ps_words::{Name, Reason};
 use std::alloc::{AllocError, Allocator, Global};
 use std::marker::Model;
 
@@ -135,22 +134,38 @@ fn are_distinct(sorted: &[Named]) -> bool
     true
 }
 
-/// All definitions of a segment by their names; `None` where a name is defined twice.
+/// All definitions of a segment, sorted by their names.
 fn sorted<A: Allocator + Copy>(
     alloc: A,
     records: &LinkInformation,
-) -> Result<Option<Vec<Named, A>>, AllocError>
+) -> Result<Vec<Named, A>, AllocError>
     requires { definitions_in records.now < 2 ^ 32 }
-    ensures { IfOk result (λ found. MatchOption found (doubled records.now ≡ None → ⊥)
-        (λ all. AreByName (definitions records.now) all.items)) }
+    ensures all { IfOk result (λ all. IsPermutation (ranked_spec 0 (definitions records.now))
+        all.items) }
+    ensures sorted { IfOk result (λ all. IsNonDecreasingBy (λ n. number n.name) all.items) }
 {
     let mut all = ranked(alloc, records)?;
     all.sort_unstable_by_key(|named| number_of(named.name));
-    if are_distinct(all.as_slice()) {
-        Ok(Some(all))
-    } else {
-        Ok(None)
+    Ok(all)
+}
+
+/// The index of the first record that defines a name again, given all definitions sorted by their
+/// names. It is looked for only where two of them have one name.
+fn first_doubled<A: Allocator + Copy>(
+    alloc: A,
+    records: &LinkInformation,
+    sorted: &[Named],
+) -> Result<Option<usize>, Stop>
+    requires all { IsPermutation (ranked_spec 0 (definitions records.now)) sorted.now }
+    requires sorted { IsNonDecreasingBy (λ n. number n.name) sorted.now }
+    ensures found { IfOk result (λ rec. rec ≡ doubled records.now) }
+    ensures rise { IfOk result (λ rec. rec ≡ None → NamesRise sorted.now) }
+    ensures stop { IfErr result (λ stop. stop ≡ Memory) }
+{
+    if are_distinct(sorted) {
+        return Ok(None);
     }
+    first_namesake(alloc, records, Kind::Definition)
 }
 
 /// For each rank the index of the definition that has it.
@@ -164,55 +179,6 @@ fn order_of<A: Allocator + Copy>(alloc: A, by_name: &[Named]) -> Result<Vec<u32,
         order[named.rank as usize] = index as u32;
     }
     Ok(order)
-}
-
-/// No definitions yet, by hashes that are keyed by the names of these records: so no list of names
-/// can be prepared for it.
-fn keyed_table<A: Allocator + Copy>(
-    alloc: A,
-    records: &LinkInformation,
-) -> Result<IndexMap<Name, Def, NameHasher, A>, AllocError>
-    ensures empty { IfOk result (λ m. m.entries ≡ []) }
-    ensures keyed { IfOk result (λ m. hasher_of m ≡ digest_of records.now) }
-{
-    let count = records.definitions();
-    let by_name = IndexMap::with_capacity_and_hasher(alloc, count, NameHasher::of(records))?;
-    Ok(by_name)
-}
-
-/// The index of the first record that defines a name again, in a walk over all. It takes a table
-/// by hashes, which the definitions of a segment without such a record do not take.
-fn first_doubled<A: Allocator + Copy>(
-    alloc: A,
-    records: &LinkInformation,
-) -> Result<Option<usize>, AllocError>
-    ensures { IfOk result (λ rec. rec ≡ doubled records.now) }
-{
-    let mut by_name = keyed_table(alloc, records)?;
-    for (rec, record) in records.records() {
-        if let Some(def) = def_of(&record) {
-            if by_name.insert(record.name, def)?.is_some() {
-                return Ok(Some(rec));
-            }
-        }
-    }
-    Ok(None)
-}
-
-/// Why definitions of which two have one name are not built.
-fn refusal<A: Allocator + Copy>(alloc: A, file: usize, slot: u8, records: &LinkInformation) -> Stop
-    requires { doubled records.now ≡ None → ⊥ }
-    ensures { IsStop (0 < length (definitions records.now))
-        (doubled_fault file slot records.now) result }
-{
-    match first_doubled(alloc, records) {
-        Err(_) => Stop::Memory,
-        Ok(None) => unreachable!(),
-        Ok(Some(rec)) => {
-            let reason = Reason::DoubledDefinition;
-            Stop::Refused(Fault::in_record(file, slot, rec, reason))
-        }
-    }
 }
 
 impl<A: Allocator + Copy> Definitions<A> {
@@ -236,7 +202,7 @@ impl<A: Allocator + Copy> Definitions<A> {
         ensures stop { IfErr result (IsStop
             (0 < length (definitions (reading host.now.order host.now.bytes.now).0))
             (doubled_fault host.now.file host.now.slot
-                (reading host.now.order host.now.bytes.now).0)) }
+            (reading host.now.order host.now.bytes.now).0)) }
     {
         let records = LinkInformation::up_to_fault(host.order, host.bytes);
         Definitions::of_records(alloc, host.file, host.slot, &records)
@@ -264,9 +230,13 @@ impl<A: Allocator + Copy> Definitions<A> {
         if count > u32::MAX as usize {
             return Err(Stop::Memory);
         }
-        match sorted(alloc, records)? {
-            None => Err(refusal(alloc, file, slot, records)),
-            Some(by_name) => {
+        let by_name = sorted(alloc, records)?;
+        match first_doubled(alloc, records, by_name.as_slice())? {
+            Some(rec) => {
+                let place = RecordPlace { file, slot, rec };
+                Err(place.refused(Reason::DoubledDefinition))
+            }
+            None => {
                 let order = order_of(alloc, by_name.as_slice())?;
                 Ok(Definitions { by_name, order })
             }

@@ -1,8 +1,8 @@
 ghost use Rattle.std.specs.Prelude.{◌≡◌, ◌<◌, [], true, IfOk, IfErr};
 ghost use Rattle.std.specs.List.Sorted.{IsStrictlyIncreasing};
 ghost use Rattle.indexmap.specs.IndexSet.{hasher_of};
-ghost use Rattle.ps_linkinfo.specs.Counts.{digest_of, is_private_reference, privates_in};
-ghost use Rattle.ps_resolve.specs.Builders.{HaveNoNamesakes, FindsNamesake, private_numbers};
+ghost use Rattle.ps_linkinfo.specs.Counts.{digest_of, is_private_reference};
+ghost use Rattle.ps_resolve.specs.Builders.{HaveNoNamesakes, FindsNamesake, count_of, private_numbers, test_of};
 ghost use Rattle.ps_resolve.specs.declared.linkage.Stop.TheVariants.{Memory};
 
 use crate::linkage::Stop;
@@ -12,11 +12,36 @@ use ps_linkinfo::{Body, LinkInformation};
 use ps_words::Name;
 use std::alloc::Allocator;
 
-/// A record asks for a private.
-fn is_private(body: &Body) -> bool
-    ensures { result ≡ is_private_reference body.now }
-{
-    matches!(body, Body::PrivRef { .. })
+/// A kind of records, no two of which may have one name.
+#[derive(Clone, Copy)]
+pub(crate) enum Kind {
+    /// Those that define a name of the host: PUBLDEF and CONSTDEF.
+    Definition,
+    /// Those that ask for a private: PRIVREF.
+    Private,
+}
+
+impl Kind {
+    /// A record with this body is of this kind.
+    #[inline(always)]
+    fn has(self, body: &Body) -> bool
+        ensures { result ≡ test_of self body.now }
+    {
+        match self {
+            Kind::Definition => matches!(body, Body::PublDef(_) | Body::ConstDef(_)),
+            Kind::Private => matches!(body, Body::PrivRef { .. }),
+        }
+    }
+
+    /// How many of these records are of this kind.
+    fn count(self, records: &LinkInformation) -> usize
+        ensures { result ≡ count_of self records.now }
+    {
+        match self {
+            Kind::Definition => records.definitions(),
+            Kind::Private => records.privates(),
+        }
+    }
 }
 
 /// The names of the privates of these records, each as a number.
@@ -26,7 +51,7 @@ fn numbers_of<A: Allocator + Copy>(alloc: A, records: &LinkInformation) -> Resul
 {
     let mut numbers = Vec::with_capacity(alloc, records.privates())?;
     for (_, record) in records.records() {
-        if is_private(&record.body) {
+        if Kind::Private.has(&record.body) {
             numbers.push(u64::from_be_bytes(record.name))?;
         }
     }
@@ -51,34 +76,35 @@ fn have_own_names<A: Allocator + Copy>(alloc: A, records: &LinkInformation) -> R
     Ok(ascend(numbers.as_slice()))
 }
 
-/// A set for the names of the privates of these records, by hashes that are keyed by them.
-fn private_names<A: Allocator + Copy>(
+/// A set for the names of the records of this kind, by hashes that are keyed by these records: so no
+/// list of names can be prepared for it.
+fn empty_names<A: Allocator + Copy>(
     alloc: A,
     records: &LinkInformation,
+    kind: Kind,
 ) -> Result<IndexSet<Name, NameHasher, A>, Stop>
     ensures empty { IfOk result (λ names. names.keys ≡ []) }
     ensures keyed { IfOk result (λ names. hasher_of names ≡ digest_of records.now) }
-    ensures stop { IfErr result (λ stop. (stop ≡ Memory) × (0 < privates_in records.now)) }
+    ensures stop { IfErr result (λ stop. (stop ≡ Memory) × (0 < count_of kind records.now)) }
 {
-    let names = IndexSet::with_capacity_and_hasher(
-        alloc,
-        records.privates(),
-        NameHasher::of(records),
-    )?;
+    let hasher = NameHasher::of(records);
+    let names = IndexSet::with_capacity_and_hasher(alloc, kind.count(records), hasher)?;
     Ok(names)
 }
 
-/// Looks each private's name up among those before it.
-fn first_found_again<A: Allocator + Copy>(
+/// The index, from 0, of the first record of this kind that has the name of an earlier one, in a walk
+/// over all. It takes a table by hashes, which records without such a one do not need.
+pub(crate) fn first_namesake<A: Allocator + Copy>(
     alloc: A,
     records: &LinkInformation,
+    kind: Kind,
 ) -> Result<Option<usize>, Stop>
-    ensures found { IfOk result (FindsNamesake is_private_reference records.now) }
+    ensures found { IfOk result (FindsNamesake (test_of kind) records.now) }
     ensures stop { IfErr result (λ stop. stop ≡ Memory) }
 {
-    let mut names = private_names(alloc, records)?;
+    let mut names = empty_names(alloc, records, kind)?;
     for (rec, record) in records.records() {
-        if is_private(&record.body) && !names.insert(record.name)? {
+        if kind.has(&record.body) && !names.insert(record.name)? {
             return Ok(Some(rec));
         }
     }
@@ -99,5 +125,5 @@ pub(crate) fn first_doubled<A: Allocator + Copy>(
     if have_own_names(alloc, records)? {
         return Ok(None);
     }
-    first_found_again(alloc, records)
+    first_namesake(alloc, records, Kind::Private)
 }

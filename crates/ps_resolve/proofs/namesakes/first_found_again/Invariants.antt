@@ -1,7 +1,0 @@
-use Rattle.ps_resolve.proofs.EarlierNames.{Seeks}
-use Rattle.ps_resolve.proofs.Numbers.{IsLeft}
-use Rattle.ps_resolve.proofs.namesakes.first_found_again.Given as goal
-
--- the set has the names of the privates so far, none of which an earlier one has
-abbrev pub invariant-loop-rec : goal.invariant-loop-rec
-invariant-loop-rec g l = IsLeft (Seeks l.records l.names.keys) l.rec-iterator
