@@ -1,5 +1,5 @@
 -- Tests of a row of numbers.
-use Rattle.std.proofs.Common.{◌≡◌, ℕ, zero, suc, ◌+◌, ◌<◌, Bool, true, false, ◌&&◌, refl, subst, arith, add-zero}
+use Rattle.std.proofs.Common.{◌≡◌, ℕ, zero, suc, ◌+◌, ◌<◌, ◌≤◌, ◌-◌, Bool, true, false, true≢false, ◌&&◌, refl, sym, ◌∙◌, subst, arith, add-zero}
 use Rattle.std.specs.List.{list_all, range_with_len}
 
 pub all_from : (p : ℕ → Bool) (a n : ℕ) → ((k : ℕ) → k < n → p (a + k) ≡ true) → list_all p (range_with_len a n) ≡ true
@@ -16,3 +16,11 @@ not_all p a (suc n) (suc i) j lt e h = rw (not_all p (a + 1) n i j (omega arith)
     and_false : (b : Bool) → (b && false) ≡ false
     and_false true = refl
     and_false false = refl
+
+-- each number of the row passes
+pub all_at : (p : ℕ → Bool) (n : ℕ) → list_all p (range_with_len 1 n) ≡ true → (j : ℕ) → 1 ≤ j → j ≤ n → p j ≡ true
+all_at p n all j low high = at (p j) refl
+  where
+    at : (b : Bool) → p j ≡ b → p j ≡ true
+    at true e = e
+    at false e = absurd (true≢false (sym all ∙ not_all p 1 n (j - 1) j (omega arith) (omega arith) e))

@@ -1,11 +1,10 @@
-ghost use Rattle.std.specs.Prelude.{◌≡◌, ℕ, ◌<◌, ◌≤◌, ◌-◌, ◌+◌, ◌==◌, ◌||◌, ◌&&◌, not, true, false, length, map, slice_index, IfOk, IfErr};
+ghost use Rattle.std.specs.Prelude.{◌≡◌, ℕ, ◌≤◌, ◌-◌, ◌+◌, ◌*◌, ◌==◌, ◌||◌, true, length, slice_index};
 ghost use Rattle.std.specs.List.{list_all, list_any};
 ghost use Rattle.std.specs.Option.{ForSome};
-ghost use Rattle.ps_codefile.specs.Procedures.{procedures, dictionary_len, dictionary_start, table_of, is_placed, numbers, is_in_table, is_reserved as is_reserved_spec, read_tables as read_tables_spec};
-ghost use Rattle.ps_codefile.specs.Places.{span, has, marks, is_between, passes, IsWhole, AreWhole, HasRoom, has_first};
+ghost use Rattle.ps_codefile.specs.Procedures.{procedures, dictionary_len, dictionary_start, content_of, table_of as table_of_spec, tables, is_placed as is_placed_spec, numbers, is_in_table as is_in_table_spec, is_reserved as is_reserved_spec, read_tables as read_tables_spec};
+ghost use Rattle.ps_codefile.specs.Places.{span, has, passes, AreTables, IsWhole, HasBytes, HasRoom};
 
-use crate::places::{Places, SPAN};
-use arrayvec::ArrayVec;
+use crate::places::Places;
 use ps_words::{Order, Reason, get};
 use std::marker::Model;
 
@@ -17,92 +16,105 @@ const NUMBERS: usize = 2;
 const TABLE_WORDS: usize = 8;
 /// The bytes of an attribute table from its place on: the procedure number and the lex level.
 const TABLE_NUMBERS: usize = 2;
-/// As many procedures as a code can have.
-const MAX_PROCEDURES: usize = 255;
+/// The number of the procedure that is a segment's outer block.
+const OUTER_BLOCK: usize = 1;
 
 /// The procedure tables at the end of a segment's code: the procedure dictionary, and the
 /// attribute table of each procedure.
 ///
-/// A view: it borrows the code and copies none of it. The layout is that of the UCSD Pascal
-/// II.0 manual; that the tables' places are reserved is this project's profile.
+/// A view: it borrows the code and copies none of it. Once they were read without a fault, each
+/// table is found from the code by arithmetic. The layout is that of the UCSD Pascal II.0 manual;
+/// that the tables' places are reserved is this project's profile.
 #[derive(Drop)]
 pub struct Procs<'a> {
     order: Order,
     code: &'a [u8],
-    tables: ArrayVec<Option<usize>, MAX_PROCEDURES>,
-    /// The first place that the set has room for.
-    base: usize,
-    reserved: Places,
 }
 
 impl<'a> Model for Procs<'a> {
     ghost use Rattle.ps_codefile.specs.Procedures.{ProcedureTables};
-    ghost use Rattle.ps_codefile.specs.Places.{Keeps};
+    ghost use Rattle.ps_codefile.specs.Places.{AreTables};
 
     ghost Value = { ProcedureTables };
 
     ghost view = { λ p. record { order = p.order; code = p.code.now } };
 
-    ghost invariant = { λ p. Keeps p.order p.code.now p.tables.items p.base p.reserved.words };
+    ghost invariant = { λ p. AreTables p.order p.code.now };
+}
+
+/// The number of procedures of a code.
+fn count_of(code: &[u8]) -> usize
+    requires { 1 ≤ length code.now }
+    ensures { result ≡ procedures code.now }
+{
+    code[code.len() - 1] as usize
+}
+
+/// The content of procedure `p`'s word.
+fn content(order: Order, code: &[u8], p: usize) -> usize
+    requires low { 1 ≤ p }
+    requires within { 2 + 2 * p ≤ length code.now }
+    ensures { result ≡ content_of order code.now p }
+{
+    get(order, code, code.len() - NUMBERS - WORD * p) as usize
+}
+
+/// Procedure `p` has no table, or one that lies in the code before the procedure dictionary.
+fn is_placed(order: Order, code: &[u8], p: usize) -> bool
+    requires whole { dictionary_len code.now ≤ length code.now }
+    requires low { 1 ≤ p }
+    requires high { p ≤ procedures code.now }
+    ensures { result ≡ is_placed_spec order code.now p }
+{
+    let place = code.len() - NUMBERS - WORD * p;
+    let start = code.len() - NUMBERS - WORD * count_of(code);
+    let content = content(order, code, p);
+    if content == 0 {
+        return true;
+    }
+    if place < content + TABLE_WORDS {
+        return false;
+    }
+    place - content + TABLE_NUMBERS <= start
+}
+
+/// Each procedure has no table, or one that lies in the code before the procedure dictionary.
+fn are_placed(order: Order, code: &[u8]) -> bool
+    requires { dictionary_len code.now ≤ length code.now }
+    ensures { result ≡ list_all (is_placed_spec order code.now) (numbers code.now) }
+{
+    for i in 0..count_of(code) {
+        if !is_placed(order, code, i + 1) {
+            return false;
+        }
+    }
+    true
+}
+
+/// The first procedure has no body.
+fn lacks_outer_block(order: Order, code: &[u8]) -> bool
+    requires { dictionary_len code.now ≤ length code.now }
+    ensures { result ≡ (procedures code.now == 0 || content_of order code.now 1 == 0) }
+{
+    count_of(code) == 0 || content(order, code, OUTER_BLOCK) == 0
 }
 
 /// The place of procedure `p`'s table, where it has one.
-fn read_table(order: Order, code: &[u8], start: usize, p: usize) -> Result<Option<usize>, Reason>
-    requires whole { dictionary_len code.now ≤ length code.now }
-    requires starts { start ≡ dictionary_start code.now }
+fn table_of(order: Order, code: &[u8], p: usize) -> Option<usize>
+    requires tables { AreTables order code.now }
     requires low { 1 ≤ p }
     requires high { p ≤ procedures code.now }
-    ensures ok { IfOk result (λ table. (is_placed order code.now p ≡ true)
-        × (table ≡ table_of order code.now p) × ForSome table (IsWhole code.now)) }
-    ensures bad { IfErr result (λ why. (is_placed order code.now p ≡ false)
-        × (why ≡ Reason.BadProcDict)) }
+    ensures table { result ≡ table_of_spec order code.now p }
+    ensures whole { ForSome result (IsWhole code.now) }
 {
-    let place = code.len() - NUMBERS - WORD * p;
-    let content = get(order, code, place) as usize;
+    let content = content(order, code, p);
     if content == 0 {
-        return Ok(None);
+        return None;
     }
-    if place < content + TABLE_WORDS {
-        return Err(Reason::BadProcDict);
-    }
-    let table = place - content;
-    if table + TABLE_NUMBERS > start {
-        return Err(Reason::BadProcDict);
-    }
-    Ok(Some(table))
+    Some(code.len() - NUMBERS - WORD * p - content)
 }
 
-/// The tables of all procedures, from the first on.
-fn read_tables(
-    order: Order,
-    code: &[u8],
-    start: usize,
-) -> Result<ArrayVec<Option<usize>, MAX_PROCEDURES>, Reason>
-    requires whole { dictionary_len code.now ≤ length code.now }
-    requires starts { start ≡ dictionary_start code.now }
-    ensures ok { IfOk result (λ tables.
-        (list_all (is_placed order code.now) (numbers code.now) ≡ true)
-        × (tables.items ≡ map (table_of order code.now) (numbers code.now))
-        × AreWhole code.now tables.items) }
-    ensures bad { IfErr result (λ why. (list_all (is_placed order code.now) (numbers code.now)
-        ≡ false) × (why ≡ Reason.BadProcDict)) }
-{
-    let count = code[code.len() - 1] as usize;
-    let mut tables = ArrayVec::new();
-    for i in 0..count {
-        let table = read_table(order, code, start, i + 1)?;
-        tables.push(table);
-    }
-    Ok(tables)
-}
-
-/// The tables are the host segment's, and its first procedure has no body.
-fn lacks_host_body(host: bool, tables: &[Option<usize>]) -> bool
-    ensures { result ≡ (host && not (has_first tables.now)) }
-{
-    host && !matches!(tables, [Some(_), ..])
-}
-
+/// The procedure of the table is native.
 fn is_native(code: &[u8], table: Option<usize>) -> bool
     requires { ForSome table (IsWhole code.now) }
     ensures { result ≡ passes (λ t. slice_index code.now t == 0) table }
@@ -113,57 +125,65 @@ fn is_native(code: &[u8], table: Option<usize>) -> bool
     }
 }
 
-fn has_native(code: &[u8], tables: &[Option<usize>]) -> bool
-    requires { AreWhole code.now tables.now }
-    ensures { result ≡ list_any (passes (λ t. slice_index code.now t == 0)) tables.now }
+/// One of the procedures is native.
+fn has_native(order: Order, code: &[u8]) -> bool
+    requires { AreTables order code.now }
+    ensures { result ≡ list_any (λ t. slice_index code.now t == 0) (tables order code.now) }
 {
-    for table in tables {
-        if is_native(code, *table) {
+    for i in 0..count_of(code) {
+        if is_native(code, table_of(order, code, i + 1)) {
             return true;
         }
     }
     false
 }
 
-/// Adds the ten bytes of a table, where there is one, to a set that stands for the places from `base` on.
-fn reserve(places: &mut Places, base: usize, table: Option<usize>)
-    requires { ForSome table (HasRoom base) }
-    ensures { (q : ℕ) → marks base places.new.words q
-        ≡ (marks base places.old.words q || passes (is_in_table q) table) }
+/// The place is one of the ten bytes of the table, where there is one.
+fn is_in_table(place: usize, table: Option<usize>) -> bool
+    requires { ForSome table HasBytes }
+    ensures { result ≡ passes (is_in_table_spec place) table }
 {
     match table {
-        Some(t) => places.insert_all(t - TABLE_WORDS - base, t + TABLE_NUMBERS - base),
+        Some(t) => t - TABLE_WORDS <= place && place < t + TABLE_NUMBERS,
+        None => false,
+    }
+}
+
+/// The place is one of the ten bytes of a table.
+fn is_in_tables(order: Order, code: &[u8], place: usize) -> bool
+    requires { AreTables order code.now }
+    ensures { result ≡ list_any (is_in_table_spec place) (tables order code.now) }
+{
+    for i in 0..count_of(code) {
+        if is_in_table(place, table_of(order, code, i + 1)) {
+            return true;
+        }
+    }
+    false
+}
+
+/// Adds the ten bytes of a table, where there is one.
+fn reserve(places: &mut Places, table: Option<usize>)
+    requires { ForSome table HasRoom }
+    ensures { (q : ℕ) → has places.new.words q
+        ≡ (has places.old.words q || passes (is_in_table_spec q) table) }
+{
+    match table {
+        Some(t) => places.insert_all(t - TABLE_WORDS, t + TABLE_NUMBERS),
         None => {}
     }
 }
 
-/// The places of the procedure dictionary and of all tables, in a set for the places from `base` on.
-fn reserved_places(code: &[u8], base: usize, start: usize, tables: &[Option<usize>]) -> Places
-    requires whole { dictionary_len code.now ≤ length code.now }
-    requires base { base ≡ length code.now - span }
-    requires starts { start ≡ dictionary_start code.now }
-    requires near { base ≤ start }
-    requires inside { AreWhole code.now tables.now }
-    ensures { (q : ℕ) → marks base result.words q
-        ≡ (is_between start (length code.now) q || list_any (passes (is_in_table q)) tables.now) }
+/// Adds the ten bytes of each table of a code of at most 66112 bytes.
+fn reserve_tables(places: &mut Places, order: Order, code: &[u8])
+    requires tables { AreTables order code.now }
+    requires room { length code.now ≤ span }
+    ensures { (q : ℕ) → has places.new.words q
+        ≡ (has places.old.words q || list_any (is_in_table_spec q) (tables order code.now)) }
 {
-    let mut places = Places::new();
-    places.insert_all(start - base, code.len() - base);
-    for table in tables {
-        reserve(&mut places, base, *table);
+    for i in 0..count_of(code) {
+        reserve(places, table_of(order, code, i + 1));
     }
-    places
-}
-
-/// A set that stands for the places from `base` on has the place.
-fn is_marked(places: &Places, base: usize, place: usize) -> bool
-    ensures { result ≡ marks base places.now.words place }
-{
-    if place < base {
-        return false;
-    }
-    let i = place - base;
-    i < SPAN && places.contains(i)
 }
 
 impl<'a> Procs<'a> {
@@ -177,27 +197,29 @@ impl<'a> Procs<'a> {
         requires { 2 ≤ length code.now }
         ensures { result ≡ read_tables_spec order code.now host }
     {
-        let dictionary_len = NUMBERS + WORD * code[code.len() - 1] as usize;
-        if code.len() < dictionary_len {
+        if code.len() < NUMBERS + WORD * count_of(code) {
             return Err(Reason::BadProcDict);
         }
-        let start = code.len() - dictionary_len;
-        let tables = read_tables(order, code, start)?;
-        if lacks_host_body(host, tables.as_slice()) {
+        if !are_placed(order, code) {
             return Err(Reason::BadProcDict);
         }
-        if has_native(code, tables.as_slice()) {
+        if host && lacks_outer_block(order, code) {
+            return Err(Reason::BadProcDict);
+        }
+        if has_native(order, code) {
             return Err(Reason::NativeProcedure);
         }
-        let base = code.len().saturating_sub(SPAN);
-        let reserved = reserved_places(code, base, start, tables.as_slice());
-        Ok(Procs {
-            order,
-            code,
-            tables,
-            base,
-            reserved,
-        })
+        Ok(Procs { order, code })
+    }
+
+    /// The same tables once more, which borrow the same code.
+    pub fn copied(&self) -> Procs<'a>
+        ensures { result ≡ self.now }
+    {
+        Procs {
+            order: self.order,
+            code: self.code,
+        }
     }
 
     /// The code that they stand in.
@@ -211,7 +233,7 @@ impl<'a> Procs<'a> {
     pub fn count(&self) -> usize
         ensures { result ≡ procedures self.now.code }
     {
-        self.tables.len()
+        count_of(self.code)
     }
 
     /// The place in the code of procedure `p`'s attribute table; `None` where it has no body.
@@ -219,9 +241,10 @@ impl<'a> Procs<'a> {
     pub fn table(&self, p: usize) -> Option<usize>
         requires low { 1 ≤ p }
         requires high { p ≤ procedures self.now.code }
-        ensures { result ≡ table_of self.now.order self.now.code p }
+        ensures table { result ≡ table_of_spec self.now.order self.now.code p }
+        ensures whole { ForSome result (IsWhole self.now.code) }
     {
-        self.tables.as_slice()[p - 1]
+        table_of(self.order, self.code, p)
     }
 
     /// The place of the procedure dictionary's first byte.
@@ -236,7 +259,8 @@ impl<'a> Procs<'a> {
     pub fn is_reserved(&self, place: usize) -> bool
         ensures { result ≡ is_reserved_spec self.now.order self.now.code place }
     {
-        is_marked(&self.reserved, self.base, place)
+        let in_dictionary = self.start() <= place && place < self.code.len();
+        in_dictionary || is_in_tables(self.order, self.code, place)
     }
 
     /// The reserved places of a code of at most 66112 bytes.
@@ -245,6 +269,9 @@ impl<'a> Procs<'a> {
         ensures { (place : ℕ) → has result.words place
             ≡ is_reserved_spec self.now.order self.now.code place }
     {
-        self.reserved.copied()
+        let mut places = Places::new();
+        places.insert_all(self.start(), self.code.len());
+        reserve_tables(&mut places, self.order, self.code);
+        places
     }
 }
