@@ -25,7 +25,7 @@ use Rattle.ps_resolve.specs.First.{Before, Least, this}
 use Rattle.ps_resolve.specs.Searches.{first_of}
 use Rattle.ps_resolve.specs.Sources.{Segment, is_named, chosen_library, unit_source, source_of, file_at, is_unit, segment_from, own_segment, own_segments}
 use Rattle.ps_resolve.specs.Sought.{Asks, HasSlot, IsGiver, AreGiven, IsOfFirstLibrary, AddedUnits}
-use Rattle.ps_resolve.specs.declared.added.UnitReference.{UnitReference}
+use Rattle.ps_resolve.specs.declared.reading.added.UnitReference.{UnitReference}
 use Rattle.ps_laws.proofs.Looking.{any_of_items}
 use Rattle.ps_laws.proofs.Items.{In, at_left, at_seam, in_range, of_range, find_passes}
 use Rattle.ps_laws.proofs.Segments.{from_slot}

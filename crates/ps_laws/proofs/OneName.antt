@@ -14,7 +14,7 @@ use Rattle.ps_resolve.specs.Standing.{NoneStands}
 use Rattle.ps_codefile.specs.declared.entry.Role.{Role}
 use Rattle.ps_resolve.specs.Sources.{Segment, order_of, is_unit, is_empty, own_segment}
 use Rattle.ps_resolve.specs.Faults.{is_role, sources_fault}
-use Rattle.ps_resolve.specs.declared.added.UnitReference.{UnitReference}
+use Rattle.ps_resolve.specs.declared.reading.added.UnitReference.{UnitReference}
 use Rattle.ps_laws.proofs.Items.{of_filter_map, of_range}
 use Rattle.ps_laws.proofs.Segments.{found_in_slot, slot_is}
 use Rattle.ps_laws.proofs.Asked.{row_of, segment_named, name_placed, added_is}

@@ -4,7 +4,7 @@ use Rattle.std.specs.Prelude.{if◌then◌else◌, ◌==◌, ◌&&◌, ◌||◌,
 use Rattle.std.specs.List.{slice_get}
 use Rattle.std.specs.Option.{option_or}
 use Rattle.ps_codefile.specs.declared.entry.Role.TheVariants as role
-use Rattle.ps_resolve.specs.declared.added.UnitReference.{UnitReference}
+use Rattle.ps_resolve.specs.declared.reading.added.UnitReference.{UnitReference}
 use Rattle.ps_words.specs.FaultText.{number_of}
 use Rattle.ps_words.specs.FaultPlaces.{in_file, in_slot, in_record, in_reference, has_slot, has_record, has_reference, is_of_host, is_of_library, HasItsParts}
 use Rattle.ps_words.specs.Words.{word_at}

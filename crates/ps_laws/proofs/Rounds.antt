@@ -19,7 +19,7 @@ use Rattle.ps_codefile.specs.declared.entry.Role.TheVariants as role
 use Rattle.ps_resolve.specs.Faults.{entry_fault, code_fault}
 use Rattle.ps_resolve.specs.First.{Before, Least, nothing, this}
 use Rattle.ps_resolve.specs.Sources.{Segment, own_segments, units_of, unit_source, chosen_library, file_at}
-use Rattle.ps_resolve.specs.declared.added.UnitReference.{UnitReference}
+use Rattle.ps_resolve.specs.declared.reading.added.UnitReference.{UnitReference}
 use Rattle.ps_laws.proofs.Least.{least_same, least_order, least_or, least_map, least_then}
 use Rattle.ps_laws.proofs.Looking.{of_test}
 use Rattle.ps_laws.proofs.Definitions.{take_prefix, longer}

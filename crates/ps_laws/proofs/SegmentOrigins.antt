@@ -28,7 +28,7 @@ use Rattle.ps_resolve.specs.Sources.{Segment, order_of, is_linked, is_host, is_e
 use Rattle.ps_resolve.specs.Faults.{is_role, slot_reason, slots_fault, code_fault, entry_fault, wanted_fault, information_fault, sources_fault}
 use Rattle.ps_resolve.specs.Origins.{IsOwn, IsAddedUnit, IsFile, IsInPlace, IsUnitOf, IsSliceOf, IsRead, HaveOneEach, AreBySlot, AreOwn, AreAdded, AreInPlace, AreOfLibraries, AreRead, AreOfRounds, IsTaken, AsksFor}
 use Rattle.ps_resolve.specs.Sought.{HasSlot, Asks, IsGiver}
-use Rattle.ps_resolve.specs.declared.added.UnitReference.{UnitReference}
+use Rattle.ps_resolve.specs.declared.reading.added.UnitReference.{UnitReference}
 use Rattle.ps_laws.proofs.Items.{In, in_range, in_filter, of_take, some_before}
 use Rattle.ps_laws.proofs.Steps.{not_below, step_2}
 use Rattle.ps_laws.proofs.Sources.{OneStop, ok_is, entry_least}

@@ -20,7 +20,7 @@ use Rattle.ps_linkinfo.specs.declared.record.LinkRecord.{LinkRecord as Record}
 use Rattle.ps_resolve.specs.First.{Least, nothing}
 use Rattle.ps_resolve.specs.Sources.{Segment, is_linked, is_host, is_empty, file_at, source_of, unit_source, segment_from, own_segment, records_of}
 use Rattle.ps_resolve.specs.Faults.{is_role, code_fault, entry_fault, information_fault, sources_fault}
-use Rattle.ps_resolve.specs.declared.added.UnitReference.{UnitReference}
+use Rattle.ps_resolve.specs.declared.reading.added.UnitReference.{UnitReference}
 use Rattle.ps_laws.proofs.Sources.{tables_rows, ok_is}
 use Rattle.ps_laws.proofs.Steps.{Ranked}
 use Rattle.ps_laws.proofs.Segments.{found_in_slot}

@@ -22,7 +22,7 @@ use Rattle.ps_linkinfo.specs.declared.record.LinkRecord.{LinkRecord as Record}
 use Rattle.ps_resolve.proofs.Apart.{one_more}
 use Rattle.ps_resolve.specs.Sources.{Segment, segment_from, chosen_library, is_named}
 use Rattle.ps_resolve.specs.Faults.{code_fault, entries_reason}
-use Rattle.ps_resolve.specs.declared.added.UnitReference.{UnitReference}
+use Rattle.ps_resolve.specs.declared.reading.added.UnitReference.{UnitReference}
 
 -- with this row, the names that the records from this index on seek make the whole row: that of all records, behind `old`
 abbrev pub Seeks : List (List ℕ × ℕ) → ℕ → ℕ → List Record → List UnitReference → List UnitReference → ℕ → List Record → Type 0

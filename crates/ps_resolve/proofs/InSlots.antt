@@ -10,7 +10,7 @@ use Rattle.ps_resolve.specs.Sources.{Segment, own_segment, own_segments, is_empt
 use Rattle.ps_resolve.specs.Added.{added, segments, segment_at}
 use Rattle.ps_resolve.specs.Views.{segment_of, IsSound, is_in_slot, segment_in_slot, segments_in_slots}
 use Rattle.ps_resolve.specs.Faults.{is_role}
-use Rattle.ps_resolve.specs.declared.segment.Segment.{Segment as SegmentView}
+use Rattle.ps_resolve.specs.declared.reading.segment.Segment.{Segment as SegmentView}
 use Rattle.ps_resolve.proofs.ReadingKnown.{own_parts, find_has}
 
 -- each number's segment stands in its slot

@@ -18,7 +18,7 @@ use Rattle.ps_resolve.specs.References.{Known, records_edits, records_fault}
 use Rattle.ps_resolve.specs.Linking.{data_edits, segment_edits}
 use Rattle.ps_resolve.specs.Faults.{in_segment, segment_fault}
 use Rattle.ps_resolve.specs.Plans.{LinksSegment}
-use Rattle.ps_resolve.specs.declared.segment.Segment.{Segment as SegmentView}
+use Rattle.ps_resolve.specs.declared.reading.segment.Segment.{Segment as SegmentView}
 
 pub unless_ok : (o : Option Reason) (x y : ProcedureTables) → ◌≡◌ {A = Result ProcedureTables Reason} (Ok y) (unless o x) → y ≡ x
 unless_ok None x y h = cc

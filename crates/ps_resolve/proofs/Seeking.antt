@@ -12,7 +12,7 @@ use Rattle.std.proofs.lemmas.Slice.Eq.{bytes_eq-Decides}
 use Rattle.ps_linkinfo.specs.Counts.{is_unit_reference}
 use Rattle.ps_linkinfo.specs.declared.record.LinkRecord.{LinkRecord as Record}
 use Rattle.ps_resolve.specs.Added.{is_had, sought_from, unit_references, IsHad, AreHad}
-use Rattle.ps_resolve.specs.declared.added.UnitReference.{UnitReference}
+use Rattle.ps_resolve.specs.declared.reading.added.UnitReference.{UnitReference}
 use Rattle.ps_resolve.proofs.Adding.{row_prefix}
 
 or_left : (a b c : Bool) → (a || b) ≡ true → (a || (b || c)) ≡ true

@@ -8,7 +8,7 @@ use Rattle.ps_resolve.specs.Privates.{owner_of}
 use Rattle.ps_resolve.specs.Views.{segment_of}
 use Rattle.ps_codefile.specs.declared.entry.Role.TheVariants.{Empty}
 use Rattle.ps_resolve.specs.Sources.{Segment, units_of}
-use Rattle.ps_resolve.specs.declared.segment.Segment.{Segment as SegmentView}
+use Rattle.ps_resolve.specs.declared.reading.segment.Segment.{Segment as SegmentView}
 
 pub units_are : (ss : List SegmentView) → units_of (map segment_of ss) ≡ units_by_name ss
 units_are [] = refl

@@ -28,7 +28,7 @@ use Rattle.ps_resolve.specs.Privates.{private_words}
 use Rattle.ps_resolve.specs.declared.linkage.Stop.{Stop}
 use Rattle.ps_resolve.specs.declared.references.Target.{Target}
 use Rattle.ps_resolve.specs.declared.references.Target.TheVariants.{Base}
-use Rattle.ps_resolve.specs.declared.segment.Segment.{Segment as SegmentView}
+use Rattle.ps_resolve.specs.declared.reading.segment.Segment.{Segment as SegmentView}
 use Rattle.ps_resolve.proofs.Apart.{one_more}
 use Rattle.ps_resolve.proofs.ReadingRows.{neither_second}
 use Rattle.ps_resolve.proofs.Rows.{NoLinks, record_refused, record_by, record_stands, edits_more, words_are}

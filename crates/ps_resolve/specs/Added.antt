@@ -15,7 +15,7 @@ use Rattle.ps_codefile.specs.declared.entry.Role.TheVariants.{Wanted}
 use Rattle.ps_linkinfo.specs.declared.record.LinkRecord.{LinkRecord as Record}
 use Rattle.ps_resolve.specs.Sources.{Segment, own_segment, own_segments, segment_from, unit_source, chosen_library, units_of, is_empty}
 use Rattle.ps_resolve.specs.Faults.{is_role, entry_fault, code_fault}
-use Rattle.ps_resolve.specs.declared.added.UnitReference.{UnitReference}
+use Rattle.ps_resolve.specs.declared.reading.added.UnitReference.{UnitReference}
 
 -- the UNITREF records of a segment from this file in this slot, the first of whose records has number `rec`
 abbrev pub unit_references : ℕ → ℕ → ℕ → List Record → List UnitReference

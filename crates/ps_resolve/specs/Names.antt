@@ -3,7 +3,7 @@
 use Rattle.std.specs.Prelude.{ℕ, if◌then◌else◌, List, Option, Some, None}
 use Rattle.std.specs.List.{filter_map}
 use Rattle.ps_resolve.specs.Sources.{is_unit}
-use Rattle.ps_resolve.specs.declared.segment.Segment.{Segment}
+use Rattle.ps_resolve.specs.declared.reading.segment.Segment.{Segment}
 
 abbrev pub unit_in : Segment → Option (List ℕ × ℕ)
 unit_in s = if is_unit s.role then Some (s.name, s.slot) else None

@@ -10,7 +10,7 @@ ghost use Rattle.ps_resolve.specs.Views.{segment_of};
 
 use crate::linkage::{Linkage, Stop};
 use crate::namesakes::first_doubled;
-use crate::segment::Segment;
+use crate::reading::segment::Segment;
 use ps_linkinfo::{Body, LinkInformation};
 use ps_words::{Fault, Name, Reason};
 use std::alloc::{Allocator, Global};

@@ -10,11 +10,14 @@ ghost use Rattle.ps_resolve.specs.Stops.{IsStop};
 ghost use Rattle.ps_resolve.specs.Views.{segment_of};
 ghost use Rattle.ps_resolve.specs.declared.linkage.Stop.TheVariants.{Memory};
 
+pub(crate) mod data_size;
+pub(crate) mod sorting;
+
+use crate::edits::sorting::sorted;
 use crate::linkage::Stop;
-use crate::names::Names;
-use crate::segment::Segment;
-use crate::segments::add_records;
-use crate::sorting::sorted;
+use crate::reading::segment::Segment;
+use crate::references::names::Names;
+use crate::references::records::add_records;
 use ps_codefile::Procs;
 use ps_words::Edit;
 use std::alloc::Allocator;

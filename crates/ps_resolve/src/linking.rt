@@ -16,15 +16,15 @@ ghost use Rattle.ps_linkinfo.specs.declared.record.LinkRecord.{LinkRecord as Rec
 ghost use Rattle.ps_resolve.specs.declared.linkage.Stop.TheVariants.{Memory};
 
 use crate::allotment::Allotment;
-use crate::data_size::grown_data_size;
 use crate::definitions::Definitions;
+use crate::edits::data_size::grown_data_size;
 use crate::edits::edits_of;
 use crate::linkage::Stop;
-use crate::names::{Names, UnitSlots};
 use crate::plan::{Plan, Source};
-use crate::roles::{is_host, is_linked};
-use crate::segment::Segment;
-use crate::slots::HOST_FILE;
+use crate::reading::roles::{is_host, is_linked};
+use crate::reading::segment::Segment;
+use crate::reading::slots::HOST_FILE;
+use crate::references::names::{Names, UnitSlots};
 use ps_codefile::Procs;
 use ps_words::laws::edits_patch_alike_in_any_order;
 use ps_words::{Edit, Name, Order};

@@ -5,8 +5,10 @@ ghost use Rattle.ps_linkinfo.specs.Counts.{digest_of, is_private_reference};
 ghost use Rattle.ps_resolve.specs.Builders.{HaveNoNamesakes, FindsNamesake, count_of, private_numbers, test_of};
 ghost use Rattle.ps_resolve.specs.declared.linkage.Stop.TheVariants.{Memory};
 
+pub(crate) mod name_hasher;
+
 use crate::linkage::Stop;
-use crate::name_hasher::NameHasher;
+use crate::namesakes::name_hasher::NameHasher;
 use indexmap::IndexSet;
 use ps_linkinfo::{Body, LinkInformation};
 use ps_words::Name;

@@ -10,11 +10,19 @@ ghost use Rattle.ps_resolve.specs.AllFaults.{reading_fault, reading_rest};
 ghost use Rattle.ps_resolve.specs.Linkable.{AscendFrom, HasOneHost};
 ghost use Rattle.ps_resolve.specs.Views.{segment_of, IsSound, IsPlaced, is_in_slot, segment_in_slot, segments_in_slots};
 
-use crate::added::add_units;
-use crate::libraries::libraries_fault;
-use crate::segment::Segment;
-use crate::slots::{HOST_FILE, SLOTS, is_empty, no_host_fault, slots_fault};
-use crate::sources::{add, read_slots};
+pub(crate) mod added;
+pub(crate) mod libraries;
+pub(crate) mod roles;
+pub(crate) mod segment;
+pub(crate) mod slots;
+pub(crate) mod sources;
+pub(crate) mod units;
+
+use crate::reading::added::add_units;
+use crate::reading::libraries::libraries_fault;
+use crate::reading::segment::Segment;
+use crate::reading::slots::{HOST_FILE, SLOTS, is_empty, no_host_fault, slots_fault};
+use crate::reading::sources::{add, read_slots};
 use arrayvec::ArrayVec;
 use ps_codefile::Dict;
 use ps_words::{Fault, Name, Order};

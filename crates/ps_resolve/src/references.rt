@@ -10,6 +10,9 @@ ghost use Rattle.ps_resolve.specs.Marks.{AreTaken};
 ghost use Rattle.ps_resolve.specs.Edits.{reason_in, refs_fault_at};
 ghost use Rattle.ps_resolve.specs.Stops.{IsStop};
 
+pub(crate) mod names;
+pub(crate) mod records;
+
 use crate::linkage::{RecordPlace, Stop};
 use ps_codefile::{Places, Procs};
 use ps_linkinfo::Refs;

@@ -16,7 +16,7 @@ use Rattle.ps_resolve.specs.Linkable.{AscendFrom}
 use Rattle.ps_resolve.specs.Faults.{size_fault}
 use Rattle.ps_resolve.specs.Plans.{LinkSegments}
 use Rattle.ps_resolve.specs.declared.definitions.Def.{Def}
-use Rattle.ps_resolve.specs.declared.segment.Segment.{Segment as SegmentView}
+use Rattle.ps_resolve.specs.declared.reading.segment.Segment.{Segment as SegmentView}
 use Rattle.ps_resolve.proofs.Hosts.{host_small, host_large, host_tables, of_hosts}
 use Rattle.ps_resolve.proofs.Lengths.{lengths}
 use Rattle.ps_resolve.proofs.Segs.{owners_of_segments, slots_are, units_are}

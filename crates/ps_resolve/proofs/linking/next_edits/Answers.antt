@@ -10,7 +10,7 @@ use Rattle.ps_resolve.specs.Plans.{LinksSegment}
 use Rattle.ps_resolve.specs.Privates.{private_words}
 use Rattle.ps_resolve.specs.References.{Known, HaveTargets}
 use Rattle.ps_resolve.specs.Views.{segment_of}
-use Rattle.ps_resolve.specs.declared.segment.Segment.{Segment as SegmentView}
+use Rattle.ps_resolve.specs.declared.reading.segment.Segment.{Segment as SegmentView}
 use Rattle.ps_resolve.proofs.ReadingRows.{none_mapped}
 use Rattle.ps_resolve.proofs.Sharing.{of_row, have_targets, bare_links, bare_end, bare_fault, bare_stop}
 use Rattle.ps_resolve.proofs.linking.next_edits.Goals as goal

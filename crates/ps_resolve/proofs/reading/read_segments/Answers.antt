@@ -6,7 +6,7 @@ use Rattle.ps_words.specs.declared.fault.Fault.{Fault}
 use Rattle.ps_codefile.specs.Dictionary.{Opened}
 use Rattle.ps_resolve.specs.Added.{segments, added_fault, slot_names}
 use Rattle.ps_resolve.specs.Views.{segment_of, IsPlaced}
-use Rattle.ps_resolve.specs.declared.segment.Segment.{Segment as SegmentView}
+use Rattle.ps_resolve.specs.declared.reading.segment.Segment.{Segment as SegmentView}
 use Rattle.ps_resolve.proofs.ReadingLibraries.{files}
 use Rattle.std.specs.Option.{option_or}
 use Rattle.ps_resolve.specs.Faults.{slots_fault, no_host_fault, libraries_fault, sources_fault}

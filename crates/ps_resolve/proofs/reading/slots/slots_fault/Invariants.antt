@@ -1,0 +1,12 @@
+use Rattle.std.proofs.Common.{◌≡◌, ℕ, ◌-◌}
+use Rattle.std.specs.List.{range_with_len}
+use Rattle.std.specs.Option.{option_map}
+use Rattle.ps_words.specs.FaultPlaces.{in_slot}
+use Rattle.ps_resolve.specs.Searches.{first_of}
+use Rattle.ps_resolve.specs.Faults.{slot_reason, slots_fault}
+use Rattle.ps_resolve.proofs.reading.slots.slots_fault.Given as goal
+
+-- the first fault is that of the slots from here on
+abbrev pub invariant-loop-slot : goal.invariant-loop-slot
+invariant-loop-slot l =
+    slots_fault l.host.order l.host.file ≡ first_of (λ (s : ℕ). option_map (in_slot 0 s) (slot_reason l.host.order l.host.file s)) (range_with_len l.slot (16 - l.slot))

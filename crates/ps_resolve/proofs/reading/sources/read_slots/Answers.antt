@@ -1,0 +1,37 @@
+use Rattle.std.proofs.Common.{◌∙◌, refl, sym, arith}
+use Rattle.std.proofs.lemmas.List.Elements.{All-nil}
+use Rattle.ps_resolve.specs.Sources.{own_segment, own_segments}
+use Rattle.ps_resolve.specs.Faults.{source_fault, sources_fault}
+use Rattle.ps_resolve.specs.Views.{segment_of, IsSound, IsPlaced}
+use Rattle.ps_resolve.proofs.ReadingLibraries.{files}
+use Rattle.ps_resolve.proofs.ReadingRows.{first_here, first_later}
+use Rattle.ps_resolve.proofs.ReadingSources.{all_more, all_with, kept_on, few_more}
+use Rattle.ps_resolve.proofs.reading.sources.read_slots.Goals as goal
+
+pub loop-slot-init : goal.loop-slot-init
+unfolding own_segments sources_fault
+loop-slot-init c = rw c.new-segments.ensures (record { first = refl; all = refl; placed = All-nil _; sound = All-nil _; few = omega arith })
+
+pub read_slot-requires-clause-placed : goal.read_slot-requires-clause-placed
+read_slot-requires-clause-placed c = rw c.as_slice.ensures.value c.loop-slot.invariant.placed
+
+pub returns-in-Err-clause-fault : goal.returns-in-Err-clause-fault
+returns-in-Err-clause-fault c =
+    let host = c.args.host.now in
+    sym (c.loop-slot.invariant.first ∙ first_here (source_fault host.order host.file (files c.args.libs.now)) c.loop-slot.slot 16 c.in-Err.fault c.loop-slot-test.true (sym c.in-Err.ensures.fault))
+
+pub loop-slot-preserved : goal.loop-slot-preserved
+loop-slot-preserved c =
+    let host = c.args.host.now in
+    let libs = files c.args.libs.now in
+    let inv = c.loop-slot.invariant in
+    let old = c.loop-slot.segments.items in
+    let i = c.loop-slot.slot in
+    let o = c.in-Ok.segment in
+    rw c.add.ensures (record {
+      first = inv.first ∙ first_later (source_fault host.order host.file libs) i 16 c.loop-slot-test.true (sym c.in-Ok.ensures.fault);
+      all = inv.all ∙ kept_on segment_of (own_segment host.order host.file libs) old o i 16 c.loop-slot-test.true c.in-Ok.ensures.segment;
+      placed = all_with (IsPlaced host.order host.file libs) old o inv.placed c.in-Ok.ensures.placed;
+      sound = all_more (IsSound host.order) segment_of old o inv.sound c.in-Ok.ensures.sound;
+      few = few_more old o i inv.few;
+    })

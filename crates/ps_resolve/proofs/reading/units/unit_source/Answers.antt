@@ -1,0 +1,48 @@
+use Rattle.std.proofs.Common.{◌+◌, ◌∙◌, ℕ, List, Option, Some, sym, ap}
+use Rattle.std.specs.List.{find}
+use Rattle.std.specs.Option.{option_map, option_map_or, option_and_then}
+use Rattle.ps_words.specs.FaultPlaces.{in_slot}
+use Rattle.ps_words.specs.declared.order.Order.{Order}
+use Rattle.ps_words.specs.declared.fault.Reason.{Reason}
+use Rattle.ps_words.specs.declared.fault.Reason.TheVariants as reason
+use Rattle.ps_words.specs.declared.fault.Fault.{Fault}
+use Rattle.ps_codefile.specs.Dictionary.{slots}
+use Rattle.ps_resolve.specs.Sources.{is_named}
+use Rattle.ps_resolve.specs.Faults.{entries_reason}
+use Rattle.ps_resolve.proofs.ReadingLibraries.{files, chosen_file}
+use Rattle.ps_resolve.proofs.ReadingUnits.{kind_is}
+use Rattle.ps_resolve.proofs.reading.units.unit_source.Goals as goal
+
+pub entries_reason-requires-clause-entry : goal.entries_reason-requires-clause-entry
+entries_reason-requires-clause-entry c =
+    ap (λ (o : Order). find (is_named o c.args.name c.in-Some.source.dict.file) slots) c.in-Some.ensures.order ∙ c.in-Some.ensures.entry
+
+pub returns-in-Some-entries_reason-clause-fault : goal.returns-in-Some-entries_reason-clause-fault
+returns-in-Some-entries_reason-clause-fault c =
+    let source = c.in-Some.source in
+    let why = ap (λ (o : Order). entries_reason o c.args.name source.dict.file) (sym c.in-Some.ensures.order) ∙ (sym c.entries_reason.ensures ∙ c.in-Some-entries_reason.is) in
+    ap (λ (f : Fault). Some f) c.in_slot-in-Some-entries_reason.ensures
+    ∙ sym (ap (λ (o : Option (ℕ × List ℕ)). option_map_or (λ (lib : ℕ × List ℕ). option_map (in_slot (lib.0 + 1) c.args.slot) (entries_reason c.args.order c.args.name lib.1)) o (Some (in_slot 0 c.args.slot reason.MissingUnit))) (sym c.in-Some.ensures.library)
+    ∙ ap (λ (o : Option Reason). option_map (in_slot (source.library + 1) c.args.slot) o) why)
+
+pub returns-in-None-entries_reason-clause-fault : goal.returns-in-None-entries_reason-clause-fault
+returns-in-None-entries_reason-clause-fault c =
+    let source = c.in-Some.source in
+    let why = ap (λ (o : Order). entries_reason o c.args.name source.dict.file) (sym c.in-Some.ensures.order) ∙ (sym c.entries_reason.ensures ∙ c.in-None-entries_reason.is) in
+    sym (ap (λ (o : Option (ℕ × List ℕ)). option_map_or (λ (lib : ℕ × List ℕ). option_map (in_slot (lib.0 + 1) c.args.slot) (entries_reason c.args.order c.args.name lib.1)) o (Some (in_slot 0 c.args.slot reason.MissingUnit))) (sym c.in-Some.ensures.library)
+    ∙ ap (λ (o : Option Reason). option_map (in_slot (source.library + 1) c.args.slot) o) why)
+
+pub returns-in-None-entries_reason-clause-source : goal.returns-in-None-entries_reason-clause-source
+returns-in-None-entries_reason-clause-source c =
+    let source = c.in-Some.source in
+    ap (λ (o : Option (ℕ × List ℕ)). option_and_then (λ (lib : ℕ × List ℕ). option_map (λ (i : ℕ). (lib.0 + 1, i)) (find (is_named c.args.order c.args.name lib.1) slots)) o) (sym c.in-Some.ensures.library)
+    ∙ ap (λ (o : Option ℕ). option_map (λ (i : ℕ). (source.library + 1, i)) o) c.in-Some.ensures.entry
+
+pub returns-in-None-entries_reason-clause-file : goal.returns-in-None-entries_reason-clause-file
+returns-in-None-entries_reason-clause-file c = λ host.
+    chosen_file c.args.order c.args.name (files c.args.libs.now) c.in-Some.source.library c.in-Some.source.dict.file host (sym c.in-Some.ensures.library)
+
+pub returns-in-None-entries_reason-clause-unit : goal.returns-in-None-entries_reason-clause-unit
+returns-in-None-entries_reason-clause-unit c =
+    let why = ap (λ (o : Order). entries_reason o c.args.name c.in-Some.source.dict.file) (sym c.in-Some.ensures.order) ∙ (sym c.entries_reason.ensures ∙ c.in-None-entries_reason.is) in
+    kind_is c.args.order c.args.name c.in-Some.source.dict.file c.in-Some.source.index why c.in-Some.ensures.entry

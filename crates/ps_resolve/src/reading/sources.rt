@@ -1,0 +1,284 @@
+ghost use Rattle.std.specs.Prelude.{◌≡◌, ◌<◌, ◌≤◌, ◌+◌, ◌*◌, ◌++◌, [], List, ℕ, length, map, drop, true, Some, None, Ok, IfOk, IfSome, All, if◌then◌else◌};
+ghost use Rattle.std.specs.Option.{option_map, option_or, option_to_list};
+ghost use Rattle.arrayvec.specs.ArrayVec.{array_vec_len};
+ghost use Rattle.std.specs.Result.{result_err};
+ghost use Rattle.ps_words.specs.FaultPlaces.{in_record, in_slot as in_slot_spec};
+ghost use Rattle.ps_codefile.specs.Dictionary.{entry_at, role_of, is_linked_kind, information_of};
+ghost use Rattle.ps_codefile.specs.Procedures.{tables_fault as tables_fault_spec};
+ghost use Rattle.ps_linkinfo.specs.Records.{reading};
+ghost use Rattle.ps_resolve.specs.Sources.{is_linked as is_linked_spec, is_host as is_host_spec, own_segment, own_segments, file_at, segment_from, contents};
+ghost use Rattle.ps_resolve.specs.Faults.{code_fault, libraries_fault as libraries_fault_spec, source_fault, sources_fault};
+ghost use Rattle.ps_resolve.specs.Views.{segment_of, IsSound, IsPlaced, IsRowOf};
+
+use crate::reading::roles::{is_host, is_linked};
+use crate::reading::segment::{Segment, row_of};
+use crate::reading::slots::{HOST_FILE, SLOTS};
+use crate::reading::units::unit_source;
+use arrayvec::ArrayVec;
+use ps_codefile::{Dict, Procs, Role};
+use ps_linkinfo::LinkInformation;
+use ps_words::{Fault, Name, Order, Reason, blocks_of};
+
+impl<'a> Default for Segment<'a> {
+    fn default() -> Self {
+        Segment {
+            slot: 0,
+            name: [0; 8],
+            role: Role::Empty,
+            added: false,
+            file: 0,
+            index: 0,
+            code: &[],
+            block: 0,
+            records: LinkInformation::none(),
+        }
+    }
+}
+
+/// The link information of a linked segment, or its first fault.
+fn read_information<'a>(
+    order: Order,
+    information: &'a [u8],
+    file: usize,
+    slot: u8,
+) -> Result<LinkInformation<'a>, Fault>
+    ensures fault { result_err result ≡ option_map
+        (in_record file slot (length (reading order information.now).0))
+        (reading order information.now).1 }
+    ensures records { IfOk result (λ records. records ≡ (reading order information.now).0) }
+{
+    match LinkInformation::read(order, information) {
+        Err(fault) => Err(Fault::in_record(file, slot, fault.rec, fault.reason)),
+        Ok(records) => Ok(records),
+    }
+}
+
+/// The block behind the code of an entry, in which its link information begins.
+fn block_behind(from: &Dict, index: u8) -> usize
+    requires { index < 16 }
+    ensures { information_of from.now.file (entry_at from.now.order from.now.file index)
+        ≡ drop (512 * result) from.now.file }
+{
+    let entry = from.entry(index);
+    entry.address as usize + blocks_of(entry.length as usize)
+}
+
+/// The link information of an entry of a file, where one of the segments that were read has it.
+pub(crate) fn known_records<'a>(
+    known: &[Segment<'a>],
+    from: &Dict<'a>,
+    file: usize,
+    index: u8,
+) -> Option<LinkInformation<'a>>
+    requires { index < 16 }
+    ensures { (host : List ℕ) (libs : List (List ℕ)) → file_at host libs file ≡ from.now.file
+        → All (IsPlaced from.now.order host libs) known.now
+        → IfSome result (IsRowOf from.now.order from.now.file
+        (entry_at from.now.order from.now.file index)) }
+{
+    row_of(known, file, block_behind(from, index))
+}
+
+/// The fault of a code's procedure tables.
+fn tables_reason(order: Order, code: &[u8], host: bool) -> Option<Reason>
+    requires { 2 ≤ length code.now }
+    ensures { result ≡ tables_fault_spec order code.now host }
+{
+    Procs::read(order, code, host).err()
+}
+
+/// The link information of a segment, or the first fault of its procedure tables and its link
+/// information. Neither is looked at where the segment is linked already, and link information
+/// that is known is not read again.
+fn read_records<'a>(
+    order: Order,
+    code: &[u8],
+    information: &'a [u8],
+    role: Role,
+    file: usize,
+    slot: u8,
+    known: Option<LinkInformation<'a>>,
+) -> Result<LinkInformation<'a>, Fault>
+    requires large { is_linked_spec role ≡ true → 2 ≤ length code.now }
+    requires known { IfSome known (λ records. reading order information.now ≡ (records, None)) }
+    ensures fault { result_err result ≡ (if is_linked_spec role
+        then option_or (option_map (in_slot_spec file slot)
+        (tables_fault_spec order code.now (is_host_spec role)))
+        (option_map (in_record file slot (length (reading order information.now).0))
+        (reading order information.now).1)
+        else None) }
+    ensures records { IfOk result (λ records.
+        records ≡ (if is_linked_spec role then (reading order information.now).0 else [])) }
+{
+    if !is_linked(role) {
+        return Ok(LinkInformation::none());
+    }
+    if let Some(reason) = tables_reason(order, code, is_host(role)) {
+        return Err(Fault::in_slot(file, slot, reason));
+    }
+    match known {
+        Some(records) => Ok(records),
+        None => read_information(order, information, file, slot),
+    }
+}
+
+/// The segment of a slot, whose code and link information are those of an entry of a file; `known` is
+/// that link information, where it was read already.
+pub(crate) fn read_segment<'a>(
+    slot: u8,
+    name: Name,
+    role: Role,
+    from: &Dict<'a>,
+    file: usize,
+    index: u8,
+    known: Option<LinkInformation<'a>>,
+) -> Result<Segment<'a>, Fault>
+    requires slots { slot < 16 }
+    requires in_range { index < 16 }
+    requires known { IfSome known (IsRowOf from.now.order from.now.file
+        (entry_at from.now.order from.now.file index)) }
+    requires kind { is_linked_spec role ≡ true
+        → is_linked_kind (entry_at from.now.order from.now.file index).kind ≡ true }
+    ensures fault { (host : List ℕ) (libs : List (List ℕ)) → file_at host libs file ≡ from.now.file
+        → result_err result ≡ code_fault from.now.order host libs slot role (file, index) }
+    ensures segment { (host : List ℕ) (libs : List (List ℕ))
+        → file_at host libs file ≡ from.now.file
+        → IfOk result (λ s. segment_from from.now.order host libs slot name role (file, index)
+        ≡ Some (segment_of s)) }
+    ensures placed { (host : List ℕ) (libs : List (List ℕ))
+        → file_at host libs file ≡ from.now.file
+        → IfOk result (IsPlaced from.now.order host libs) }
+    ensures sound { IfOk result (λ s. IsSound from.now.order (segment_of s)) }
+{
+    match from.code(index) {
+        Err(reason) => Err(Fault::in_slot(file, slot, reason)),
+        Ok(code) => {
+            match read_records(
+                from.order(),
+                code,
+                from.after(index),
+                role,
+                file,
+                slot,
+                known,
+            ) {
+                Err(fault) => Err(fault),
+                Ok(records) => Ok(Segment {
+                    slot,
+                    name,
+                    role,
+                    added: false,
+                    file,
+                    index,
+                    code,
+                    block: block_behind(from, index),
+                    records,
+                }),
+            }
+        }
+    }
+}
+
+/// The segment of a slot of this role, or None where the slot is empty. `known` are segments that were
+/// read before.
+fn read_role<'a>(
+    host: &Dict<'a>,
+    libs: &'a [&'a [u8]],
+    slot: u8,
+    role: Role,
+    known: &[Segment<'a>],
+) -> Result<Option<Segment<'a>>, Fault>
+    requires slots { slot < 16 }
+    requires role { role_of (entry_at host.now.order host.now.file slot) ≡ Ok role }
+    requires libraries { libraries_fault_spec host.now.order (contents libs.now) ≡ None }
+    requires placed { All (IsPlaced host.now.order host.now.file (contents libs.now)) known.now }
+    ensures fault { result_err result ≡ source_fault host.now.order host.now.file
+        (contents libs.now) slot }
+    ensures segment { IfOk result (λ s. option_map segment_of s
+        ≡ own_segment host.now.order host.now.file (contents libs.now) slot) }
+    ensures placed { IfOk result (λ s. IfSome s
+        (IsPlaced host.now.order host.now.file (contents libs.now))) }
+    ensures sound { IfOk result (λ s. IfSome s (λ s. IsSound host.now.order (segment_of s))) }
+{
+    let name = host.entry(slot).name;
+    match role {
+        Role::Empty => Ok(None),
+        Role::Plain | Role::Host | Role::Unit => {
+            let records = known_records(known, host, HOST_FILE, slot);
+            match read_segment(slot, name, role, host, HOST_FILE, slot, records) {
+                Err(fault) => Err(fault),
+                Ok(segment) => Ok(Some(segment)),
+            }
+        }
+        Role::Wanted => match unit_source(host.order(), name, libs, slot) {
+            Err(fault) => Err(fault),
+            Ok(unit) => {
+                let file = unit.library + 1;
+                let records = known_records(known, &unit.dict, file, unit.index);
+                match read_segment(slot, name, role, &unit.dict, file, unit.index, records) {
+                    Err(fault) => Err(fault),
+                    Ok(segment) => Ok(Some(segment)),
+                }
+            }
+        },
+    }
+}
+
+/// The segment of a slot, or None where the slot is empty or has a kind that was refused. `known` are
+/// segments that were read before.
+fn read_slot<'a>(
+    host: &Dict<'a>,
+    libs: &'a [&'a [u8]],
+    slot: u8,
+    known: &[Segment<'a>],
+) -> Result<Option<Segment<'a>>, Fault>
+    requires slots { slot < 16 }
+    requires libraries { libraries_fault_spec host.now.order (contents libs.now) ≡ None }
+    requires placed { All (IsPlaced host.now.order host.now.file (contents libs.now)) known.now }
+    ensures fault { result_err result ≡ source_fault host.now.order host.now.file
+        (contents libs.now) slot }
+    ensures segment { IfOk result (λ s. option_map segment_of s
+        ≡ own_segment host.now.order host.now.file (contents libs.now) slot) }
+    ensures placed { IfOk result (λ s. IfSome s
+        (IsPlaced host.now.order host.now.file (contents libs.now))) }
+    ensures sound { IfOk result (λ s. IfSome s (λ s. IsSound host.now.order (segment_of s))) }
+{
+    match host.role(slot) {
+        Err(_) => Ok(None),
+        Ok(role) => read_role(host, libs, slot, role, known),
+    }
+}
+
+/// Adds the segment of a slot, where it has one.
+pub(crate) fn add<'a>(segments: &mut ArrayVec<Segment<'a>, 16>, segment: Option<Segment<'a>>)
+    requires { array_vec_len segments.old < 16 }
+    ensures { segments.new.items ≡ segments.old.items ++ option_to_list segment.entry }
+{
+    if let Some(segment) = segment {
+        segments.push(segment);
+    }
+}
+
+/// The segments of the host's own slots by slot ascending, or the first fault of a slot's source.
+pub(crate) fn read_slots<'a>(
+    host: &Dict<'a>,
+    libs: &'a [&'a [u8]],
+) -> Result<ArrayVec<Segment<'a>, 16>, Fault>
+    requires { libraries_fault_spec host.now.order (contents libs.now) ≡ None }
+    ensures fault { result_err result ≡ sources_fault host.now.order host.now.file
+        (contents libs.now) }
+    ensures segments { IfOk result (λ s. map segment_of s.items
+        ≡ own_segments host.now.order host.now.file (contents libs.now)) }
+    ensures placed { IfOk result (λ s. All
+        (IsPlaced host.now.order host.now.file (contents libs.now)) s.items) }
+    ensures sound { IfOk result (λ s. All (IsSound host.now.order) (map segment_of s.items)) }
+{
+    let mut segments = ArrayVec::new();
+    for slot in 0..SLOTS {
+        match read_slot(host, libs, slot, segments.as_slice()) {
+            Err(fault) => return Err(fault),
+            Ok(segment) => add(&mut segments, segment),
+        }
+    }
+    Ok(segments)
+}

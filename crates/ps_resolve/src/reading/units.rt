@@ -1,0 +1,159 @@
+ghost use Rattle.std.specs.Prelude.{◌≡◌, ◌<◌, ◌≤◌, ◌+◌, ◌&&◌, List, ℕ, length, map, Some, None, IfOk, IfSome};
+ghost use Rattle.std.specs.List.{find, list_any, range_with_len};
+ghost use Rattle.std.specs.Option.{option_map};
+ghost use Rattle.std.specs.Result.{result_err};
+ghost use Rattle.ps_codefile.specs.Dictionary.{slots, entry_at};
+ghost use Rattle.ps_resolve.specs.Sources.{is_named as is_named_spec, chosen_library as chosen_library_spec, unit_source as unit_source_spec, file_at, contents};
+ghost use Rattle.ps_resolve.specs.Faults.{library_reason, libraries_fault, entries_reason as entries_reason_spec, unit_fault};
+
+use crate::reading::slots::{HOST_FILE, SLOTS};
+use ps_codefile::Dict;
+use ps_words::{Fault, Name, Order, Reason};
+
+/// The kind of a unit's segment.
+const UNITSEG: u16 = 3;
+
+/// The entry of a library that a wanted unit comes from.
+#[derive(Drop)]
+pub(crate) struct UnitSource<'a> {
+    /// The number of the library, from 0.
+    pub(crate) library: usize,
+    pub(crate) dict: Dict<'a>,
+    /// The slot of the entry in the library, 0 to 15.
+    pub(crate) index: u8,
+}
+
+/// The entry has a code in its file, and this name.
+fn is_named(dict: &Dict, name: Name, index: u8) -> bool
+    requires { index < 16 }
+    ensures { result ≡ is_named_spec dict.now.order name dict.now.file index }
+{
+    dict.filled(index) && dict.entry(index).name == name
+}
+
+/// One of the entries below `end` has this name.
+fn has_name_below(dict: &Dict, name: Name, end: u8) -> bool
+    requires { end ≤ 16 }
+    ensures { result ≡ list_any (is_named_spec dict.now.order name dict.now.file)
+        (range_with_len 0 end) }
+{
+    (0..end).any(|index| is_named(dict, name, index))
+}
+
+/// The entry has this name, and so has one below it.
+fn is_named_again(dict: &Dict, name: Name, index: u8) -> bool
+    requires { index < 16 }
+    ensures { result ≡ (is_named_spec dict.now.order name dict.now.file index
+        && list_any (is_named_spec dict.now.order name dict.now.file) (range_with_len 0 index)) }
+{
+    is_named(dict, name, index) && has_name_below(dict, name, index)
+}
+
+/// One of the entries below `end` has this name, and so has one below it.
+fn has_doubled_below(dict: &Dict, name: Name, end: u8) -> bool
+    requires { end ≤ 16 }
+    ensures { result ≡ list_any (λ i. is_named_spec dict.now.order name dict.now.file i
+        && list_any (is_named_spec dict.now.order name dict.now.file) (range_with_len 0 i))
+        (range_with_len 0 end) }
+{
+    (0..end).any(|index| is_named_again(dict, name, index))
+}
+
+/// The first entry of this name.
+fn entry_named(dict: &Dict, name: Name) -> Option<u8>
+    ensures entry { result ≡ find (is_named_spec dict.now.order name dict.now.file) slots }
+    ensures in_range { IfSome result (λ i. i < 16) }
+{
+    for index in 0..SLOTS {
+        if is_named(dict, name, index) {
+            return Some(index);
+        }
+    }
+    None
+}
+
+/// A library's dictionary and the first entry of this name, where the library has one.
+fn entry_in<'a>(order: Order, name: Name, lib: &'a [u8]) -> Option<(Dict<'a>, u8)>
+    requires { library_reason order lib.now ≡ None }
+    ensures entry { option_map (λ e. e.1) result ≡ find (is_named_spec order name lib.now) slots }
+    ensures dict { IfSome result (λ e. e.0 ≡ record { order = order; file = lib.now }) }
+    ensures in_range { IfSome result (λ e. e.1 < 16) }
+{
+    match Dict::read_beside(lib, order) {
+        Err(_) => None,
+        Ok(dict) => match entry_named(&dict, name) {
+            None => None,
+            Some(index) => Some((dict, index)),
+        },
+    }
+}
+
+/// The first entry of this name of the first library that has one.
+pub(crate) fn chosen_library<'a>(
+    order: Order,
+    name: Name,
+    libs: &'a [&'a [u8]],
+) -> Option<UnitSource<'a>>
+    requires { libraries_fault order (contents libs.now) ≡ None }
+    ensures library { option_map (λ u. (u.library, u.dict.file)) result
+        ≡ chosen_library_spec order name (contents libs.now) }
+    ensures entry { IfSome result (λ u. find (is_named_spec order name u.dict.file) slots
+        ≡ Some u.index) }
+    ensures order { IfSome result (λ u. u.dict.order ≡ order) }
+    ensures in_range { IfSome result (λ u. u.index < 16) }
+    ensures number { IfSome result (λ u. u.library < length libs.now) }
+{
+    for (library, lib) in libs.iter().enumerate() {
+        if let Some((dict, index)) = entry_in(order, name, lib) {
+            return Some(UnitSource {
+                library,
+                dict,
+                index,
+            });
+        }
+    }
+    None
+}
+
+/// Why the library's first entry of this name is not taken: another has the name too, or its kind is not that of a unit.
+pub(crate) fn entries_reason(dict: &Dict, name: Name, index: u8) -> Option<Reason>
+    requires entry { find (is_named_spec dict.now.order name dict.now.file) slots ≡ Some index }
+    requires in_range { index < 16 }
+    ensures { result ≡ entries_reason_spec dict.now.order name dict.now.file }
+{
+    if has_doubled_below(dict, name, SLOTS) {
+        return Some(Reason::DoubledUnit);
+    }
+    let kind = dict.entry(index).kind;
+    if kind != UNITSEG {
+        return Some(Reason::NotAUnit { kind });
+    }
+    None
+}
+
+/// The library entry that the unit wanted at a slot comes from, or why there is none.
+pub(crate) fn unit_source<'a>(
+    order: Order,
+    name: Name,
+    libs: &'a [&'a [u8]],
+    slot: u8,
+) -> Result<UnitSource<'a>, Fault>
+    requires { libraries_fault order (contents libs.now) ≡ None }
+    ensures fault { result_err result ≡ unit_fault order name (contents libs.now) slot }
+    ensures source { IfOk result (λ u. unit_source_spec order name (contents libs.now)
+        ≡ Some (u.library + 1, u.index)) }
+    ensures file { (host : List ℕ)
+        → IfOk result (λ u. file_at host (contents libs.now) (u.library + 1) ≡ u.dict.file) }
+    ensures order { IfOk result (λ u. u.dict.order ≡ order) }
+    ensures unit { IfOk result (λ u. (entry_at order u.dict.file u.index).kind ≡ 3) }
+    ensures in_range { IfOk result (λ u. u.index < 16) }
+    ensures number { IfOk result (λ u. u.library < length libs.now) }
+{
+    match chosen_library(order, name, libs) {
+        None => Err(Fault::in_slot(HOST_FILE, slot, Reason::MissingUnit)),
+        Some(source) => match entries_reason(&source.dict, name, source.index) {
+            Some(reason) => Err(Fault::in_slot(source.library + 1, slot, reason)),
+            None => Ok(source),
+        },
+    }
+}

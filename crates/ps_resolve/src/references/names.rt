@@ -1,0 +1,98 @@
+ghost use Rattle.std.specs.Prelude.{◌≡◌, ◌≤◌, length};
+ghost use Rattle.std.specs.Map.{lookup};
+ghost use Rattle.std.specs.Str.{bytes_eq};
+ghost use Rattle.ps_resolve.specs.Names.{units_by_name};
+ghost use Rattle.ps_resolve.specs.Symbols.{definition_of};
+
+use crate::definitions::{Def, Definitions};
+use crate::reading::roles::is_unit;
+use crate::reading::segment::Segment;
+use arrayvec::ArrayVec;
+use ps_words::Name;
+use std::alloc::{Allocator, Global};
+use std::marker::Model;
+
+/// The names are the same. Each is compared as one word, which takes less than byte by byte.
+#[inline(always)]
+fn is_same_name(name: Name, other: Name) -> bool
+    ensures { result ≡ bytes_eq name other }
+{
+    u64::from_le_bytes(name) == u64::from_le_bytes(other)
+}
+
+/// As many units as a link can have, one in each slot.
+const MAX_UNITS: usize = 16;
+
+/// The slots of units by the units' names. They stand close together, since each UNITREF record of a
+/// link is looked up in them.
+#[derive(Drop)]
+pub(crate) struct UnitSlots {
+    by_name: ArrayVec<(Name, u8), MAX_UNITS>,
+}
+
+impl Model for UnitSlots {
+    ghost use Rattle.std.specs.Prelude.{List, ℕ};
+
+    ghost Value = { List (List ℕ × ℕ) };
+
+    ghost view = { λ u. u.by_name.items };
+}
+
+impl UnitSlots {
+    /// Those of the units among these segments, of which there are sixteen at most.
+    pub(crate) fn of(segments: &[Segment]) -> UnitSlots
+        requires { length segments.now ≤ 16 }
+        ensures { result ≡ units_by_name segments.now }
+    {
+        let mut by_name = ArrayVec::new();
+        for segment in segments {
+            if is_unit(segment.role) {
+                by_name.push((segment.name, segment.slot));
+            }
+        }
+        UnitSlots { by_name }
+    }
+
+    /// The slot of the unit of this name, where there is one.
+    pub(crate) fn slot_of(&self, name: Name) -> Option<u8>
+        ensures { result ≡ lookup (bytes_eq name) self.now }
+    {
+        for (unit, slot) in self.by_name.iter() {
+            if is_same_name(name, *unit) {
+                return Some(*slot);
+            }
+        }
+        None
+    }
+}
+
+/// What the names of references may stand for: definitions of the host's segment, and units.
+#[derive(Drop)]
+pub(crate) struct Names<'k, A: Allocator + Copy = Global> {
+    pub(crate) definitions: &'k Definitions<A>,
+    pub(crate) units: &'k UnitSlots,
+}
+
+impl<'k, A: Allocator + Copy> Model for Names<'k, A> {
+    ghost use Rattle.ps_resolve.specs.References.{Known};
+
+    ghost Value = { Known };
+
+    ghost view = { λ n. record { definitions = n.definitions.now; units = n.units.now } };
+}
+
+impl<'k, A: Allocator + Copy> Names<'k, A> {
+    /// The slot of the unit of this name, where there is one.
+    pub(crate) fn slot_of_unit(&self, name: Name) -> Option<u8>
+        ensures { result ≡ lookup (bytes_eq name) self.now.units }
+    {
+        self.units.slot_of(name)
+    }
+
+    /// The definition of this name, where there is one.
+    pub(crate) fn definition_of(&self, name: &Name) -> Option<Def>
+        ensures { result ≡ definition_of name.now self.now.definitions }
+    {
+        self.definitions.look(name)
+    }
+}

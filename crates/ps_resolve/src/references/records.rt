@@ -1,0 +1,140 @@
+ghost use Rattle.std.specs.Prelude.{◌≡◌, ℕ, ◌<◌, ◌≤◌, ◌+◌, ◌++◌, List, length, map, OnOk, IfOk, IfErr, None, true, ⊤};
+ghost use Rattle.ps_linkinfo.specs.Counts.{privates_in, publics_in, units_in};
+ghost use Rattle.ps_linkinfo.specs.Records.{refs_of};
+ghost use Rattle.ps_resolve.specs.Operands.{edit_of, operands};
+ghost use Rattle.ps_resolve.specs.Marks.{AreTaken};
+ghost use Rattle.ps_resolve.specs.References.{target_of as target_of_spec, words_taken as words_taken_spec, records_edits};
+ghost use Rattle.ps_resolve.specs.Edits.{refs_fault_at};
+ghost use Rattle.ps_resolve.specs.Faults.{segment_fault};
+ghost use Rattle.ps_resolve.specs.Privates.{private_words};
+ghost use Rattle.ps_resolve.specs.Stops.{IsStop};
+ghost use Rattle.ps_resolve.specs.Views.{segment_of};
+
+use crate::definitions::DefKind;
+use crate::linkage::{RecordPlace, Stop};
+use crate::reading::segment::Segment;
+use crate::references::names::Names;
+use crate::references::{Target, add_references};
+use ps_codefile::{Places, Procs};
+use ps_linkinfo::{Body, LinkInformation, LinkRecord};
+use ps_words::{Edit, Reason};
+use std::alloc::Allocator;
+
+/// What the operands of the record's references become.
+fn target_of<A: Allocator + Copy>(
+    names: &Names<A>,
+    free: u16,
+    entry: &LinkRecord,
+) -> Result<Target, Reason>
+    ensures { result ≡ target_of_spec names.now free entry.now }
+{
+    match &entry.body {
+        Body::UnitRef(_) => match names.slot_of_unit(entry.name) {
+            None => Err(Reason::MissingUnitRef),
+            Some(slot) => Ok(Target::Slot(slot)),
+        },
+        Body::PublRef(_) => match names.definition_of(&entry.name) {
+            None => Err(Reason::MissingDefinition),
+            Some(def) => match def.kind {
+                DefKind::Public => Ok(Target::Base(def.value)),
+                DefKind::Constant => Err(Reason::IllKind),
+            },
+        },
+        Body::PrivRef { .. } => Ok(Target::Base(free)),
+        Body::PublDef(_) | Body::ConstDef(_) | Body::Eof(_) => Ok(Target::Slot(0)),
+    }
+}
+
+/// How many words the record's private takes.
+fn words_taken(body: &Body) -> u16
+    ensures { result ≡ words_taken_spec body.now }
+{
+    match body {
+        Body::PrivRef { words, .. } => *words,
+        Body::UnitRef(_) | Body::PublRef(_) | Body::PublDef(_) | Body::ConstDef(_) | Body::Eof(_) =>
+            0,
+    }
+}
+
+/// Adds the edits of the record that stands there, or finds the first fault of its references.
+fn add_body<A: Allocator>(
+    procedures: &Procs,
+    taken: &mut Places,
+    place: RecordPlace,
+    target: Target,
+    body: &Body,
+    edits: &mut Vec<Edit, A>,
+) -> Result<(), Stop>
+    requires { length procedures.now.code ≤ 32767 }
+    ensures edits { OnOk result (edits.new.items
+        ≡ edits.old.items ++ map (edit_of procedures.now.code target) (refs_of body.now)) }
+    ensures sound { (os : List (ℕ × ℕ)) → AreTaken procedures.now taken.old.words os
+        → OnOk result (refs_fault_at place procedures.now target os (refs_of body.now) ≡ None) }
+    ensures stop { (os : List (ℕ × ℕ)) → AreTaken procedures.now taken.old.words os
+        → IfErr result
+        (IsStop ⊤ (refs_fault_at place procedures.now target os (refs_of body.now))) }
+    ensures taken { (os : List (ℕ × ℕ)) → AreTaken procedures.now taken.old.words os
+        → OnOk result (AreTaken procedures.now taken.new.words
+        (os ++ operands target (refs_of body.now))) }
+{
+    match body {
+        Body::UnitRef(refs) => add_references(procedures, taken, place, target, refs, edits),
+        Body::PublRef(refs) => add_references(procedures, taken, place, target, refs, edits),
+        Body::PrivRef { refs, .. } => {
+            add_references(procedures, taken, place, target, refs, edits)
+        }
+        Body::PublDef(_) | Body::ConstDef(_) | Body::Eof(_) => Ok(()),
+    }
+}
+
+/// No record of a segment asks for a unit, a public or a private variable, so none has a reference.
+fn asks_for_nothing(records: &LinkInformation) -> bool
+    ensures units { result ≡ true → units_in records.now ≡ 0 }
+    ensures publics { result ≡ true → publics_in records.now ≡ 0 }
+    ensures privates { result ≡ true → privates_in records.now ≡ 0 }
+{
+    records.units() == 0 && records.publics() == 0 && records.privates() == 0
+}
+
+/// Adds the edits of all records of a segment, the first of whose privates has the offset `free`,
+/// or finds their first fault. Returns the offset behind its last private.
+pub(crate) fn add_records<A: Allocator + Copy>(
+    names: &Names<A>,
+    procedures: &Procs,
+    segment: &Segment,
+    free: u16,
+    edits: &mut Vec<Edit, A>,
+) -> Result<u16, Stop>
+    requires small { length segment.now.code.now ≤ 32767 }
+    requires own_code { procedures.now.code ≡ segment.now.code.now }
+    requires room { free + private_words segment.now.records < 65536 }
+    ensures edits { OnOk result (edits.new.items ≡ edits.old.items
+        ++ records_edits names.now segment.now.code.now free segment.now.records) }
+    ensures end { IfOk result (λ end. end ≡ free + private_words segment.now.records) }
+    ensures sound { OnOk result
+        (segment_fault procedures.now.order names.now free (segment_of segment.now) ≡ None) }
+    ensures stop { IfErr result (IsStop ⊤
+        (segment_fault procedures.now.order names.now free (segment_of segment.now))) }
+{
+    let records = &segment.records;
+    if asks_for_nothing(records) {
+        return Ok(free);
+    }
+    let mut taken = procedures.reserved();
+    let mut next = free;
+    for (rec, record) in records.records() {
+        let place = RecordPlace {
+            file: segment.file,
+            slot: segment.slot,
+            rec,
+        };
+        match target_of(names, next, &record) {
+            Err(reason) => return Err(place.refused(reason)),
+            Ok(target) => {
+                add_body(procedures, &mut taken, place, target, &record.body, edits)?;
+                next += words_taken(&record.body);
+            }
+        }
+    }
+    Ok(next)
+}
