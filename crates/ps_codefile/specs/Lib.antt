@@ -1,3 +1,4 @@
 pub mod Dictionary
 pub mod Procedures
 pub mod Places
+pub mod Roles

@@ -1,6 +1,7 @@
 ghost use Rattle.std.specs.Prelude.{◌≡◌, ◌==◌};
 ghost use Rattle.std.specs.List.{list_all};
 ghost use Rattle.ps_codefile.specs.Dictionary.{is_nameless as nameless_spec, role_of, is_filled as filled_spec, has_bad_length as bad_length_spec};
+ghost use Rattle.ps_codefile.specs.Roles.{is_linked as is_linked_spec, is_host as is_host_spec, is_unit as is_unit_spec};
 
 use ps_words::{Name, Reason};
 
@@ -56,6 +57,29 @@ pub enum Role {
     Host,
     /// A unit whose code is in the host file.
     Unit,
+}
+
+impl Role {
+    /// The references of a segment of this role are to be resolved: it is the host's own or a unit's.
+    pub fn is_linked(self) -> bool
+        ensures { result ≡ is_linked_spec self }
+    {
+        matches!(self, Role::Host | Role::Unit | Role::Wanted)
+    }
+
+    /// The segment is the host's own.
+    pub fn is_host(self) -> bool
+        ensures { result ≡ is_host_spec self }
+    {
+        matches!(self, Role::Host)
+    }
+
+    /// The segment is a unit's, in the host file or wanted.
+    pub fn is_unit(self) -> bool
+        ensures { result ≡ is_unit_spec self }
+    {
+        matches!(self, Role::Unit | Role::Wanted)
+    }
 }
 
 fn all_are(name: &Name, byte: u8) -> bool

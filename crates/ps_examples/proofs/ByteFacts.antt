@@ -11,7 +11,8 @@ use Rattle.ps_linkinfo.specs.Records.{refs_of}
 use Rattle.ps_linkinfo.specs.declared.record.Body.{Body}
 use Rattle.ps_linkinfo.specs.declared.record.Body.TheVariants.{UnitRef, PublRef, PrivRef, PublDef, ConstDef, Eof}
 use Rattle.ps_linkinfo.specs.declared.record.LinkRecord.{LinkRecord as Record}
-use Rattle.ps_resolve.specs.Sources.{own_segments, Segment, is_host}
+use Rattle.ps_codefile.specs.Roles.{is_host}
+use Rattle.ps_resolve.specs.Sources.{own_segments, Segment}
 use Rattle.ps_resolve.specs.Linking.{grown_data_size}
 use Rattle.ps_words.specs.Words.{word_bytes, operand_bytes, displacement_at}
 use Rattle.ps_codefile.specs.Procedures.{table_of}

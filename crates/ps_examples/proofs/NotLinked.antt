@@ -9,7 +9,8 @@ use Rattle.ps_examples.specs.Segments.{count_reference, aux_reference, meeting_s
 use Rattle.ps_linkinfo.specs.declared.record.Body.{Body}
 use Rattle.ps_linkinfo.specs.declared.record.Body.TheVariants.{UnitRef, PublRef, PrivRef, PublDef, ConstDef, Eof}
 use Rattle.ps_linkinfo.specs.declared.record.LinkRecord.{LinkRecord as Record}
-use Rattle.ps_resolve.specs.Sources.{Segment, is_host, is_unit, own_segments}
+use Rattle.ps_codefile.specs.Roles.{is_host, is_unit}
+use Rattle.ps_resolve.specs.Sources.{Segment, own_segments}
 use Rattle.ps_examples.proofs.ByteFacts.{its_operand, a_number_place, before, same, heads, of_first, no_host}
 use Rattle.ps_resolve.specs.Standing.Privates.{words_before}
 use Rattle.ps_words.specs.Words.{operand_bytes, displacement_at}

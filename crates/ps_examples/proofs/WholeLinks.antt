@@ -13,7 +13,8 @@ use Rattle.ps_examples.proofs.ByteFacts.{same, segments_are}
 use Rattle.ps_examples.proofs.SegmentOrigins.{fails, only_entry, an_added_unit_s_segments, a_plain_segment_s, a_slot_has_one, an_added_unit, read_from_the_host, read_from_the_library}
 use Rattle.ps_resolve.specs.Added.{empty_slots, rounds, added}
 use Rattle.ps_resolve.specs.Origins.{HasOne, IsOwn, IsAddedUnit, IsInPlace, IsUnitOf, IsRead, HaveOneEach, AreBySlot, AreOwn, AreAdded, AreOfRounds, AreInPlace, AreOfLibraries, AreRead}
-use Rattle.ps_resolve.specs.Sources.{Segment, own_segments, is_empty}
+use Rattle.ps_codefile.specs.Roles.{is_empty}
+use Rattle.ps_resolve.specs.Sources.{Segment, own_segments}
 use Rattle.ps_resolve.specs.Standing.Phrases.{SomeItem}
 use Rattle.ps_resolve.specs.Standing.Sources.{IsNamed}
 use Rattle.ps_words.specs.declared.order.Order.TheVariants.{Little, Big}

@@ -23,7 +23,8 @@ use Rattle.ps_linkinfo.specs.declared.record.LinkRecord.{LinkRecord as Record}
 use Rattle.ps_resolve.specs.Faults.{sources_fault, source_fault, unit_fault, wanted_fault, code_fault}
 use Rattle.ps_resolve.specs.First.{Before, Least, this}
 use Rattle.ps_resolve.specs.Searches.{first_of}
-use Rattle.ps_resolve.specs.Sources.{Segment, is_named, chosen_library, unit_source, source_of, file_at, is_unit, segment_from, own_segment, own_segments}
+use Rattle.ps_codefile.specs.Roles.{is_unit}
+use Rattle.ps_resolve.specs.Sources.{Segment, is_named, chosen_library, unit_source, source_of, file_at, segment_from, own_segment, own_segments}
 use Rattle.ps_resolve.specs.Sought.{Asks, HasSlot, IsGiver, AreGiven, IsOfFirstLibrary, AddedUnits}
 use Rattle.ps_resolve.specs.declared.reading.added.UnitReference.{UnitReference}
 use Rattle.ps_laws.proofs.Looking.{any_of_items}

@@ -21,7 +21,8 @@ use Rattle.ps_codefile.specs.declared.entry.Role.{Role}
 use Rattle.ps_codefile.specs.declared.entry.Role.TheVariants as role
 use Rattle.ps_linkinfo.specs.declared.record.LinkRecord.{LinkRecord as Record}
 use Rattle.ps_resolve.specs.Faults.{is_role, entry_fault, code_fault}
-use Rattle.ps_resolve.specs.Sources.{Segment, is_named, has_entry, chosen_library, unit_source, source_of, file_at, is_unit, is_empty, segment_from, own_segment, own_segments, units_of}
+use Rattle.ps_codefile.specs.Roles.{is_unit, is_empty}
+use Rattle.ps_resolve.specs.Sources.{Segment, is_named, has_entry, chosen_library, unit_source, source_of, file_at, segment_from, own_segment, own_segments, units_of}
 use Rattle.ps_resolve.specs.declared.reading.added.UnitReference.{UnitReference}
 use Rattle.ps_laws.proofs.Looking.{of_test, any_of_items, none_of_items, find_none}
 use Rattle.ps_laws.proofs.Items.{In, at_left, at_seam, in_left, in_right, some_before, in_flat, in_filter_map, of_filter_map, in_range, of_range, of_filter, filter_ascends, find_passes}

@@ -16,7 +16,8 @@ use Rattle.ps_linkinfo.specs.Records.{refs_of}
 use Rattle.ps_linkinfo.specs.declared.record.Body.{Body}
 use Rattle.ps_linkinfo.specs.declared.record.Body.TheVariants.{UnitRef, PublRef, PrivRef, PublDef, ConstDef, Eof}
 use Rattle.ps_linkinfo.specs.declared.record.LinkRecord.{LinkRecord as Record}
-use Rattle.ps_resolve.specs.Sources.{Segment, is_linked, is_host, is_unit, host_of, host_records, units_of}
+use Rattle.ps_codefile.specs.Roles.{is_linked, is_host, is_unit}
+use Rattle.ps_resolve.specs.Sources.{Segment, host_of, host_records, units_of}
 use Rattle.ps_resolve.specs.Symbols.{def_in, definitions, definition_of}
 use Rattle.ps_resolve.specs.Operands.{edit_of}
 use Rattle.ps_resolve.specs.References.{unit_slot, public_base, target_in, target_of}

@@ -15,7 +15,8 @@ use Rattle.ps_linkinfo.specs.Records.{refs_of}
 use Rattle.ps_linkinfo.specs.declared.record.Body.{Body}
 use Rattle.ps_linkinfo.specs.declared.record.Body.TheVariants.{UnitRef, PublRef, PrivRef, PublDef, ConstDef, Eof}
 use Rattle.ps_linkinfo.specs.declared.record.LinkRecord.{LinkRecord as Record}
-use Rattle.ps_resolve.specs.Sources.{Segment, is_linked, is_host, host_records, units_of}
+use Rattle.ps_codefile.specs.Roles.{is_linked, is_host}
+use Rattle.ps_resolve.specs.Sources.{Segment, host_records, units_of}
 use Rattle.ps_resolve.specs.Symbols.{definitions, definition_of}
 use Rattle.ps_resolve.specs.Operands.{edit_of}
 use Rattle.ps_resolve.specs.References.{unit_slot, public_base, target_in, target_of, record_edits}

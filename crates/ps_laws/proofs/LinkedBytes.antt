@@ -15,7 +15,8 @@ use Rattle.ps_resolve.specs.LinkedBytes.{IsReference, IsLinkedByte, IsOnePlace, 
 use Rattle.ps_resolve.specs.Standing.{NoneStands}
 use Rattle.ps_linkinfo.specs.declared.record.LinkRecord.{LinkRecord as Record}
 use Rattle.ps_resolve.specs.First.{Least, this}
-use Rattle.ps_resolve.specs.Sources.{Segment, order_of, is_linked, is_host}
+use Rattle.ps_codefile.specs.Roles.{is_linked, is_host}
+use Rattle.ps_resolve.specs.Sources.{Segment, order_of}
 use Rattle.ps_resolve.specs.Faults.{sources_fault}
 use Rattle.ps_resolve.specs.References.{target_of}
 use Rattle.ps_resolve.specs.Linking.{Edited, edited, known_of, linked_byte}

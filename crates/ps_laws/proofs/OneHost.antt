@@ -15,7 +15,8 @@ use Rattle.ps_linkinfo.specs.declared.record.LinkRecord.{LinkRecord as Record}
 use Rattle.ps_resolve.specs.Added.{added, added_fault, segment_at}
 use Rattle.ps_resolve.specs.Faults.{is_role, sources_fault}
 use Rattle.ps_resolve.specs.LinkedBytes.{IsHostRecord, IsPublic, IsBase, segments_of}
-use Rattle.ps_resolve.specs.Sources.{Segment, order_of, is_empty, is_host, own_segment, host_of, host_records}
+use Rattle.ps_codefile.specs.Roles.{is_empty, is_host}
+use Rattle.ps_resolve.specs.Sources.{Segment, order_of, own_segment, host_of, host_records}
 use Rattle.ps_resolve.specs.Standing.{NoneStands}
 use Rattle.ps_resolve.specs.Standing.Keys.{OfSlots, OfNoHost, OfDefinitions}
 use Rattle.ps_resolve.specs.Standing.Segments.{IsSegment}

@@ -12,7 +12,8 @@ use Rattle.ps_resolve.specs.Standing.Segments.{IsSegment}
 use Rattle.ps_resolve.specs.LinkedBytes.{IsSlotOf, segments_of}
 use Rattle.ps_resolve.specs.Standing.{NoneStands}
 use Rattle.ps_codefile.specs.declared.entry.Role.{Role}
-use Rattle.ps_resolve.specs.Sources.{Segment, order_of, is_unit, is_empty, own_segment}
+use Rattle.ps_codefile.specs.Roles.{is_unit, is_empty}
+use Rattle.ps_resolve.specs.Sources.{Segment, order_of, own_segment}
 use Rattle.ps_resolve.specs.Faults.{is_role, sources_fault}
 use Rattle.ps_resolve.specs.declared.reading.added.UnitReference.{UnitReference}
 use Rattle.ps_laws.proofs.Items.{of_filter_map, of_range}

@@ -12,7 +12,8 @@ use Rattle.ps_codefile.specs.declared.entry.Role.{Role}
 use Rattle.ps_codefile.specs.declared.entry.Role.TheVariants as role
 use Rattle.ps_linkinfo.specs.declared.record.LinkRecord.{LinkRecord as Record}
 use Rattle.ps_resolve.specs.First.{Before}
-use Rattle.ps_resolve.specs.Sources.{Segment, order_of, is_linked, is_host}
+use Rattle.ps_codefile.specs.Roles.{is_linked, is_host}
+use Rattle.ps_resolve.specs.Sources.{Segment, order_of}
 use Rattle.ps_laws.proofs.SoundCodes.{IsSound, HasOuter, outer, number_reserved, size_reserved, own_apart}
 use Rattle.ps_words.specs.FaultPlaces.{in_reference}
 use Rattle.ps_words.specs.declared.fault.Reason.{Reason}

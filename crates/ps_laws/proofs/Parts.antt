@@ -32,7 +32,8 @@ use Rattle.ps_linkinfo.specs.Records.{bad, bad_format, type_fault, format_of, li
 use Rattle.ps_linkinfo.specs.declared.record.Body.{Body}
 use Rattle.ps_linkinfo.specs.declared.record.Body.TheVariants.{PublRef}
 use Rattle.ps_linkinfo.specs.declared.record.LinkRecord.{LinkRecord as Record}
-use Rattle.ps_resolve.specs.Sources.{Segment, file_at, is_host}
+use Rattle.ps_codefile.specs.Roles.{is_host}
+use Rattle.ps_resolve.specs.Sources.{Segment, file_at}
 
 -- what is because of a reason has what all such have
 because_parts : {Has : Reason → Type 0} (h : Reason → Fault) → ((why : Reason) → Has why → HasItsParts (h why)) → (f : Fault) → Because h Has f → HasItsParts f

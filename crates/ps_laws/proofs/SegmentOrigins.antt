@@ -24,7 +24,8 @@ use Rattle.ps_codefile.specs.declared.entry.Role.TheVariants as role
 use Rattle.ps_linkinfo.specs.Records.{Spells, reading}
 use Rattle.ps_linkinfo.specs.declared.record.LinkRecord.{LinkRecord as Record}
 use Rattle.ps_resolve.specs.First.{Least, nothing, this}
-use Rattle.ps_resolve.specs.Sources.{Segment, order_of, is_linked, is_host, is_empty, file_at, source_of, unit_source, segment_from, own_segment, own_segments, records_of}
+use Rattle.ps_codefile.specs.Roles.{is_linked, is_host, is_empty}
+use Rattle.ps_resolve.specs.Sources.{Segment, order_of, file_at, source_of, unit_source, segment_from, own_segment, own_segments, records_of}
 use Rattle.ps_resolve.specs.Faults.{is_role, slot_reason, slots_fault, code_fault, entry_fault, wanted_fault, information_fault, sources_fault}
 use Rattle.ps_resolve.specs.Origins.{IsOwn, IsAddedUnit, IsFile, IsInPlace, IsUnitOf, IsSliceOf, IsRead, HaveOneEach, AreBySlot, AreOwn, AreAdded, AreInPlace, AreOfLibraries, AreRead, AreOfRounds, IsTaken, AsksFor}
 use Rattle.ps_resolve.specs.Sought.{HasSlot, Asks, IsGiver}

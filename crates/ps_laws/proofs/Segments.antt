@@ -13,7 +13,8 @@ use Rattle.ps_resolve.specs.Standing.Segments.{IsSegment, SomeSegment}
 use Rattle.ps_codefile.specs.declared.entry.Role.{Role}
 use Rattle.ps_resolve.specs.First.{Least}
 use Rattle.ps_resolve.specs.Searches.{first_of}
-use Rattle.ps_resolve.specs.Sources.{Segment, segment_from, own_segment, records_of, file_at, source_of, is_linked, is_empty}
+use Rattle.ps_codefile.specs.Roles.{is_linked, is_empty}
+use Rattle.ps_resolve.specs.Sources.{Segment, segment_from, own_segment, records_of, file_at, source_of}
 use Rattle.ps_resolve.specs.Faults.{is_role}
 use Rattle.ps_laws.proofs.Least.{least_same, least_then, least_within, first_of_filter_map}
 use Rattle.ps_laws.proofs.Looking.{find_some}

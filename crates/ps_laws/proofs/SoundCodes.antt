@@ -18,7 +18,8 @@ use Rattle.ps_codefile.specs.declared.entry.Role.TheVariants as role
 use Rattle.ps_linkinfo.specs.Records.{EndsOnce, bad, is_eof, read_from, reading, record_at, size_of}
 use Rattle.ps_linkinfo.specs.declared.record.LinkRecord.{LinkRecord as Record}
 use Rattle.ps_resolve.specs.First.{Least, nothing}
-use Rattle.ps_resolve.specs.Sources.{Segment, is_linked, is_host, is_empty, file_at, source_of, unit_source, segment_from, own_segment, records_of}
+use Rattle.ps_codefile.specs.Roles.{is_linked, is_host, is_empty}
+use Rattle.ps_resolve.specs.Sources.{Segment, file_at, source_of, unit_source, segment_from, own_segment, records_of}
 use Rattle.ps_resolve.specs.Faults.{is_role, code_fault, entry_fault, information_fault, sources_fault}
 use Rattle.ps_resolve.specs.declared.reading.added.UnitReference.{UnitReference}
 use Rattle.ps_laws.proofs.Sources.{tables_rows, ok_is}

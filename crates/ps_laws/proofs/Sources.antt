@@ -22,7 +22,8 @@ use Rattle.ps_linkinfo.specs.declared.record.LinkRecord.{LinkRecord as Record}
 use Rattle.ps_resolve.specs.Faults.{entries_reason, entry_fault, unit_fault, wanted_fault, information_fault, code_fault, source_fault, sources_fault}
 use Rattle.ps_resolve.specs.First.{Least, nothing, this}
 use Rattle.ps_resolve.specs.Searches.{first_of, fault_if}
-use Rattle.ps_resolve.specs.Sources.{is_host, is_wanted, is_named, has_entry, chosen_library, source_of, file_at, is_linked}
+use Rattle.ps_codefile.specs.Roles.{is_host, is_wanted, is_linked}
+use Rattle.ps_resolve.specs.Sources.{is_named, has_entry, chosen_library, source_of, file_at}
 use Rattle.ps_words.specs.FaultPlaces.{in_slot, in_record}
 use Rattle.ps_laws.proofs.Least.{least_same, least_or, least_if, least_then, least_range, least_items, least_guard}
 use Rattle.ps_laws.proofs.Steps.{Ranked, because, any_of_range, any_lesser}

@@ -19,7 +19,7 @@ use Rattle.ps_codefile.specs.declared.entry.Entry.{Entry}
 use Rattle.ps_codefile.specs.declared.entry.Role.{Role}
 use Rattle.ps_resolve.specs.Faults.{host_fault, is_role, slot_reason, slots_fault, no_host_fault, library_reason, library_fault, libraries_fault}
 use Rattle.ps_resolve.specs.First.{Least, nothing, this}
-use Rattle.ps_resolve.specs.Sources.{is_host, is_unit}
+use Rattle.ps_codefile.specs.Roles.{is_host, is_unit}
 use Rattle.ps_words.specs.FaultPlaces.{in_file, in_slot}
 use Rattle.ps_laws.proofs.Least.{least_same, least_order, least_or, least_if, least_map, least_range, least_each}
 use Rattle.ps_words.specs.declared.order.Order.{Order}

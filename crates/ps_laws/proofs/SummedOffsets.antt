@@ -3,7 +3,8 @@ use Rattle.std.proofs.Common.{◌≡◌, ℕ, suc, ◌+◌, ◌-◌, List, [], �
 use Rattle.std.specs.Prelude.{if◌then◌else◌}
 use Rattle.std.specs.List.{enumerate_from, flat_map}
 use Rattle.ps_linkinfo.specs.declared.record.LinkRecord.{LinkRecord as Record}
-use Rattle.ps_resolve.specs.Sources.{Segment, is_linked, is_host, host_records, order_of}
+use Rattle.ps_codefile.specs.Roles.{is_linked, is_host}
+use Rattle.ps_resolve.specs.Sources.{Segment, host_records, order_of}
 use Rattle.ps_resolve.specs.Privates.{private_words, owner_of, all_words, total_words}
 use Rattle.ps_linkinfo.specs.Counts.{next_of}
 use Rattle.ps_resolve.specs.Standing.Privates.{private_offset}

@@ -14,7 +14,8 @@ use Rattle.ps_codefile.specs.Dictionary.{slots, block_len, max_code_len, code_of
 use Rattle.ps_resolve.specs.Added.{segments, segment_at, added, added_segment, as_added, placed_fault, rounds, rounds_from, sought_from, unit_references, all_unit_references, empty_slots}
 use Rattle.ps_codefile.specs.declared.entry.Entry.{Entry}
 use Rattle.ps_codefile.specs.declared.entry.Role.{Role}
-use Rattle.ps_resolve.specs.Sources.{Segment, own_segment, own_segments, segment_from, source_of, unit_source, units_of, file_at, is_empty}
+use Rattle.ps_codefile.specs.Roles.{is_empty}
+use Rattle.ps_resolve.specs.Sources.{Segment, own_segment, own_segments, segment_from, source_of, unit_source, units_of, file_at}
 use Rattle.ps_resolve.specs.Faults.{is_role}
 use Rattle.ps_resolve.specs.declared.reading.added.UnitReference.{UnitReference}
 use Rattle.ps_words.specs.declared.fault.Fault.{Fault}

@@ -15,7 +15,8 @@ use Rattle.ps_linkinfo.specs.Records.{reading}
 use Rattle.ps_linkinfo.specs.declared.record.Body.{Body}
 use Rattle.ps_linkinfo.specs.declared.record.Body.TheVariants.{UnitRef, PublRef, PrivRef, PublDef, ConstDef, Eof}
 use Rattle.ps_linkinfo.specs.declared.record.LinkRecord.{LinkRecord as Record}
-use Rattle.ps_resolve.specs.Sources.{known_order, is_unit}
+use Rattle.ps_codefile.specs.Roles.{is_unit}
+use Rattle.ps_resolve.specs.Sources.{known_order}
 use Rattle.ps_resolve.specs.Faults.{is_role}
 use Rattle.ps_linkfile.specs.Lines.{line, shown, two_digits, field, fault_words}
 use Rattle.ps_linkfile.specs.declared.error.LinkError.{LinkError}

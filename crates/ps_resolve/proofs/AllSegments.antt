@@ -9,7 +9,8 @@ use Rattle.ps_resolve.specs.Privates.{owner_of, private_words, all_words}
 use Rattle.ps_resolve.specs.Edits.{IsOfTable, AreOfReferences}
 use Rattle.ps_resolve.specs.Stops.{IsStop}
 use Rattle.ps_resolve.specs.Views.{segment_of}
-use Rattle.ps_resolve.specs.Sources.{Segment, is_host}
+use Rattle.ps_codefile.specs.Roles.{is_host}
+use Rattle.ps_resolve.specs.Sources.{Segment}
 use Rattle.ps_resolve.specs.References.{Known}
 use Rattle.ps_resolve.specs.Linking.{Edited, segment_edits, edited_from}
 use Rattle.ps_resolve.specs.Faults.{segment_fault, references_fault_from}

@@ -7,7 +7,8 @@ use Rattle.ps_codefile.specs.Procedures.{tables_fault}
 use Rattle.ps_resolve.specs.Views.{IsSound}
 use Rattle.ps_codefile.specs.declared.entry.Role.{Role}
 use Rattle.ps_codefile.specs.declared.entry.Role.TheVariants.{Empty, Wanted, Plain, Host, Unit}
-use Rattle.ps_resolve.specs.Sources.{Segment, is_linked, is_host, host_of}
+use Rattle.ps_codefile.specs.Roles.{is_linked, is_host}
+use Rattle.ps_resolve.specs.Sources.{Segment, host_of}
 use Rattle.ps_resolve.specs.Linkable.{HasOneHost}
 
 host_linked : (r : Role) → is_host r ≡ true → is_linked r ≡ true

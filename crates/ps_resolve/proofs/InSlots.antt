@@ -6,7 +6,8 @@ use Rattle.std.specs.List.{range_with_len, filter_map, find}
 use Rattle.std.specs.Option.{option_or, option_map, IfSome}
 use Rattle.std.proofs.lemmas.Bool.{cases_lt, ne_eqb, eq-eqb}
 use Rattle.ps_words.specs.declared.order.Order.{Order}
-use Rattle.ps_resolve.specs.Sources.{Segment, own_segment, own_segments, is_empty}
+use Rattle.ps_codefile.specs.Roles.{is_empty}
+use Rattle.ps_resolve.specs.Sources.{Segment, own_segment, own_segments}
 use Rattle.ps_resolve.specs.Added.{added, segments, segment_at}
 use Rattle.ps_resolve.specs.Views.{segment_of, IsSound, is_in_slot, segment_in_slot, segments_in_slots}
 use Rattle.ps_resolve.specs.Faults.{is_role}

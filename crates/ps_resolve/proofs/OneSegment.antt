@@ -13,7 +13,8 @@ use Rattle.ps_codefile.specs.Procedures.{is_reserved, ProcedureTables, unless}
 use Rattle.ps_resolve.specs.Privates.{private_words}
 use Rattle.ps_resolve.specs.Views.{segment_of}
 use Rattle.ps_linkinfo.specs.declared.record.LinkRecord.{LinkRecord as Record}
-use Rattle.ps_resolve.specs.Sources.{Segment, is_linked, is_host}
+use Rattle.ps_codefile.specs.Roles.{is_linked, is_host}
+use Rattle.ps_resolve.specs.Sources.{Segment}
 use Rattle.ps_resolve.specs.References.{Known, records_edits, records_fault}
 use Rattle.ps_resolve.specs.Linking.{data_edits, segment_edits}
 use Rattle.ps_resolve.specs.Faults.{in_segment, segment_fault}

@@ -18,7 +18,8 @@ use Rattle.ps_codefile.specs.Dictionary.{entry_at, role_of, code_of, slots}
 use Rattle.ps_codefile.specs.Procedures.{tables_fault}
 use Rattle.ps_resolve.specs.Added.{segment_at, segments, added, rounds, rounds_from, added_segment, as_added, placed_fault, sought_from, unit_references, all_unit_references, empty_slots}
 use Rattle.ps_resolve.specs.Searches.{first_of, fault_if}
-use Rattle.ps_resolve.specs.Sources.{Segment, own_segment, segment_from, source_of, unit_source, units_of, own_segments, is_host, is_empty, is_linked, host_of, records_of, file_at}
+use Rattle.ps_codefile.specs.Roles.{is_host, is_empty, is_linked}
+use Rattle.ps_resolve.specs.Sources.{Segment, own_segment, segment_from, source_of, unit_source, units_of, own_segments, host_of, records_of, file_at}
 use Rattle.ps_resolve.specs.declared.reading.added.UnitReference.{UnitReference}
 use Rattle.ps_resolve.specs.Faults.{is_role, slot_reason, slots_fault, no_host_fault, sources_fault, source_fault, information_fault}
 use Rattle.ps_resolve.specs.Linkable.{AscendFrom, HasOneHost}

@@ -16,7 +16,8 @@ use Rattle.ps_linkinfo.specs.Counts.{is_private_reference, privates_in, referenc
 use Rattle.ps_linkinfo.specs.declared.record.Body.{Body}
 use Rattle.ps_linkinfo.specs.declared.record.Body.TheVariants.{UnitRef, PublRef, PrivRef, PublDef, ConstDef, Eof}
 use Rattle.ps_linkinfo.specs.declared.record.LinkRecord.{LinkRecord as Record}
-use Rattle.ps_resolve.specs.Sources.{is_linked, is_host, file_at}
+use Rattle.ps_codefile.specs.Roles.{is_linked, is_host}
+use Rattle.ps_resolve.specs.Sources.{file_at}
 use Rattle.ps_resolve.specs.Views.{segment_of, IsPlaced, IsLike, AreAlike, HasRow}
 use Rattle.ps_resolve.specs.Operands.{edit_of, operands, refs_fault}
 use Rattle.ps_resolve.specs.References.{Known, HasTarget, HaveTargets, target_in, target_of, words_taken, records_fault, records_edits}

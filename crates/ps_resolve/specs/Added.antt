@@ -13,7 +13,8 @@ use Rattle.ps_codefile.specs.Dictionary.{slots, name_at, is_nameless}
 use Rattle.ps_linkinfo.specs.Counts.{is_unit_reference}
 use Rattle.ps_codefile.specs.declared.entry.Role.TheVariants.{Wanted}
 use Rattle.ps_linkinfo.specs.declared.record.LinkRecord.{LinkRecord as Record}
-use Rattle.ps_resolve.specs.Sources.{Segment, own_segment, own_segments, segment_from, unit_source, chosen_library, units_of, is_empty}
+use Rattle.ps_codefile.specs.Roles.{is_empty}
+use Rattle.ps_resolve.specs.Sources.{Segment, own_segment, own_segments, segment_from, unit_source, chosen_library, units_of}
 use Rattle.ps_resolve.specs.Faults.{is_role, entry_fault, code_fault}
 use Rattle.ps_resolve.specs.declared.reading.added.UnitReference.{UnitReference}
 

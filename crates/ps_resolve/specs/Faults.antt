@@ -18,7 +18,8 @@ use Rattle.ps_codefile.specs.declared.entry.Role.{Role}
 use Rattle.ps_codefile.specs.declared.entry.Entry.{Entry}
 use Rattle.ps_linkinfo.specs.Records.{reading}
 use Rattle.ps_resolve.specs.Searches.{first_of, fault_if}
-use Rattle.ps_resolve.specs.Sources.{Segment, source_of, file_at, is_named, chosen_library, is_linked, is_host, is_unit, is_wanted, host_of, host_records}
+use Rattle.ps_codefile.specs.Roles.{is_linked, is_host, is_unit, is_wanted}
+use Rattle.ps_resolve.specs.Sources.{Segment, source_of, file_at, is_named, chosen_library, host_of, host_records}
 use Rattle.ps_resolve.specs.Symbols.{doubled}
 use Rattle.ps_resolve.specs.References.{Known, records_fault}
 use Rattle.ps_resolve.specs.Linking.{known_of, grown_data_size}

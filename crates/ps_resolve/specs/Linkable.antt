@@ -1,7 +1,8 @@
 -- What is known of the segments of a link, beside what each of them is by itself, once the files were read without a fault.
 -- Source: this project's profile.
 use Rattle.std.specs.Prelude.{◌≡◌, ℕ, ◌+◌, ◌≤◌, List, [], ◌∷◌, true, Some, All, ⊤}
-use Rattle.ps_resolve.specs.Sources.{Segment, is_host, host_of}
+use Rattle.ps_codefile.specs.Roles.{is_host}
+use Rattle.ps_resolve.specs.Sources.{Segment, host_of}
 
 -- the numbers rise strictly, from `from` on
 abbrev pub AscendFrom : ℕ → List ℕ → Type 0

@@ -16,7 +16,8 @@ use Rattle.ps_linkinfo.specs.Records.{refs_of}
 use Rattle.ps_linkinfo.specs.declared.record.Body.{Body}
 use Rattle.ps_linkinfo.specs.declared.record.Body.TheVariants.{UnitRef, PublRef, PrivRef, PublDef, ConstDef, Eof}
 use Rattle.ps_linkinfo.specs.declared.record.LinkRecord.{LinkRecord as Record}
-use Rattle.ps_resolve.specs.Sources.{Segment, order_of, is_linked, is_host, is_unit}
+use Rattle.ps_codefile.specs.Roles.{is_linked, is_host, is_unit}
+use Rattle.ps_resolve.specs.Sources.{Segment, order_of}
 use Rattle.ps_resolve.specs.References.{words_taken_by, record_edits}
 use Rattle.ps_resolve.specs.Linking.{Edited, edited, known_of, data_edits, grown_data_size, linked_byte}
 

@@ -10,7 +10,8 @@ use Rattle.ps_words.specs.declared.edit.Edit.TheVariants.{Byte, Word}
 use Rattle.ps_codefile.specs.Procedures.{table_of}
 use Rattle.ps_linkinfo.specs.Counts.{next_of}
 use Rattle.ps_resolve.specs.Privates.{private_words, total_words}
-use Rattle.ps_resolve.specs.Sources.{Segment, is_linked, is_host, host_of, host_records, units_of}
+use Rattle.ps_codefile.specs.Roles.{is_linked, is_host}
+use Rattle.ps_resolve.specs.Sources.{Segment, host_of, host_records, units_of}
 use Rattle.ps_resolve.specs.Symbols.{definitions}
 use Rattle.ps_resolve.specs.References.{Known, records_edits}
 

@@ -2,7 +2,7 @@
 -- Source: this project's profile.
 use Rattle.std.specs.Prelude.{ℕ, if◌then◌else◌, List, Option, Some, None}
 use Rattle.std.specs.List.{filter_map}
-use Rattle.ps_resolve.specs.Sources.{is_unit}
+use Rattle.ps_codefile.specs.Roles.{is_unit}
 use Rattle.ps_resolve.specs.declared.reading.segment.Segment.{Segment}
 
 abbrev pub unit_in : Segment → Option (List ℕ × ℕ)

@@ -11,7 +11,8 @@ use Rattle.ps_resolve.specs.Standing.Sources.{IsNamed, HasEntry}
 use Rattle.ps_codefile.specs.declared.entry.Entry.{Entry}
 use Rattle.ps_codefile.specs.declared.entry.Role.TheVariants.{Empty, Wanted}
 use Rattle.ps_linkinfo.specs.Records.{Spells}
-use Rattle.ps_resolve.specs.Sources.{Segment, order_of, is_linked}
+use Rattle.ps_codefile.specs.Roles.{is_linked}
+use Rattle.ps_resolve.specs.Sources.{Segment, order_of}
 use Rattle.ps_resolve.specs.Sought.{HasSlot}
 
 -- 1. which slots have a segment

@@ -13,7 +13,8 @@ use Rattle.ps_codefile.specs.declared.entry.Role.TheVariants.{Wanted}
 use Rattle.ps_linkinfo.specs.Records.{reading}
 use Rattle.ps_linkinfo.specs.declared.record.LinkRecord.{LinkRecord as Record}
 use Rattle.ps_resolve.specs.First.{Before}
-use Rattle.ps_resolve.specs.Sources.{Segment, is_unit, order_of, own_segments}
+use Rattle.ps_codefile.specs.Roles.{is_unit}
+use Rattle.ps_resolve.specs.Sources.{Segment, order_of, own_segments}
 use Rattle.ps_resolve.specs.declared.reading.added.UnitReference.{UnitReference}
 
 -- record `rec` of the i-th segment is a UNITREF of this name

@@ -7,6 +7,7 @@ use Rattle.std.specs.Option.{option_map, option_map_or}
 use Rattle.std.specs.Result.{result_ok}
 use Rattle.std.specs.Str.{bytes_eq}
 use Rattle.ps_codefile.specs.Dictionary.{slots, FileOrder, Zero, Ordered, Mixed, file_order, entry_at, role_of, is_filled, code_of, information_of}
+use Rattle.ps_codefile.specs.Roles.{is_linked, is_host, is_unit}
 use Rattle.ps_codefile.specs.declared.entry.Role.{Role}
 use Rattle.ps_codefile.specs.declared.entry.Role.TheVariants.{Empty, Wanted, Plain, Host, Unit}
 use Rattle.ps_codefile.specs.declared.entry.Entry.{Entry}
@@ -27,43 +28,6 @@ known_order Mixed = Little
 
 abbrev pub order_of : List ℕ → Order
 order_of host = known_order (file_order host)
-
--- a segment of the host, of a unit in place, or of a wanted unit: its references are resolved
-abbrev pub is_linked : Role → Bool
-is_linked Empty = false
-is_linked Wanted = true
-is_linked Plain = false
-is_linked Host = true
-is_linked Unit = true
-
-abbrev pub is_host : Role → Bool
-is_host Empty = false
-is_host Wanted = false
-is_host Plain = false
-is_host Host = true
-is_host Unit = false
-
--- a unit, in place or wanted
-abbrev pub is_unit : Role → Bool
-is_unit Empty = false
-is_unit Wanted = true
-is_unit Plain = false
-is_unit Host = false
-is_unit Unit = true
-
-abbrev pub is_empty : Role → Bool
-is_empty Empty = true
-is_empty Wanted = false
-is_empty Plain = false
-is_empty Host = false
-is_empty Unit = false
-
-abbrev pub is_wanted : Role → Bool
-is_wanted Empty = false
-is_wanted Wanted = true
-is_wanted Plain = false
-is_wanted Host = false
-is_wanted Unit = false
 
 -- the file's entry is filled, and has this name
 abbrev pub is_named : Order → List ℕ → List ℕ → ℕ → Bool

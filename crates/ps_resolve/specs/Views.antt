@@ -9,7 +9,8 @@ use Rattle.ps_codefile.specs.declared.entry.Entry.{Entry}
 use Rattle.ps_linkinfo.specs.Records.{reading}
 use Rattle.ps_linkinfo.specs.declared.record.LinkRecord.{LinkRecord as Record}
 use Rattle.ps_codefile.specs.Procedures.{tables_fault}
-use Rattle.ps_resolve.specs.Sources.{Segment, is_linked, is_host, is_empty, file_at}
+use Rattle.ps_codefile.specs.Roles.{is_linked, is_host, is_empty}
+use Rattle.ps_resolve.specs.Sources.{Segment, file_at}
 use Rattle.ps_resolve.specs.Faults.{is_role}
 use Rattle.ps_resolve.specs.declared.reading.segment.Segment.{Segment as SegmentView}
 

@@ -8,7 +8,8 @@ ghost use Rattle.ps_resolve.specs.Linking.{segment_edits as segment_edits_spec, 
 ghost use Rattle.ps_resolve.specs.Plans.{AreStopped, IsPlanOf, LinksSegment, LinkSegments, origin_of, origin_of_source};
 ghost use Rattle.ps_resolve.specs.Privates.{owner_of, private_words, all_words};
 ghost use Rattle.ps_resolve.specs.References.{HaveTargets};
-ghost use Rattle.ps_resolve.specs.Sources.{Segment as SegmentSpec, is_linked as is_linked_spec, is_host as is_host_spec, host_of as host_of_spec};
+ghost use Rattle.ps_codefile.specs.Roles.{is_linked as is_linked_spec, is_host as is_host_spec};
+ghost use Rattle.ps_resolve.specs.Sources.{Segment as SegmentSpec, host_of as host_of_spec};
 ghost use Rattle.ps_resolve.specs.Stops.{IsStop};
 ghost use Rattle.ps_resolve.specs.Views.{segment_of, IsSound, IsLike, AreAlike, HasRow};
 ghost use Rattle.ps_linkinfo.specs.Counts.{privates_in, references_in};
@@ -21,7 +22,6 @@ use crate::edits::data_size::grown_data_size;
 use crate::edits::edits_of;
 use crate::linkage::Stop;
 use crate::plan::{Plan, Source};
-use crate::reading::roles::{is_host, is_linked};
 use crate::reading::segment::Segment;
 use crate::reading::slots::HOST_FILE;
 use crate::references::names::{Names, UnitSlots};
@@ -36,7 +36,7 @@ fn host_of<'a>(segments: &[Segment<'a>]) -> Option<Segment<'a>>
     ensures role { IfSome result (λ host. is_host_spec host.role ≡ true) }
 {
     for segment in segments {
-        if is_host(segment.role) {
+        if segment.role.is_host() {
             return Some(segment.copied());
         }
     }
@@ -72,7 +72,7 @@ fn linked_edits<A: Allocator + Copy>(
         (IsStop ⊤ (segment_fault order names.now free (segment_of segment.now))) }
 {
     edits_patch_alike_in_any_order();
-    match Procs::read(order, segment.code, is_host(segment.role)) {
+    match Procs::read(order, segment.code, segment.role.is_host()) {
         Err(_) => unreachable!(),
         Ok(procedures) => edits_of(alloc, names, &procedures, segment, free, own),
     }
@@ -106,7 +106,7 @@ fn segment_edits<A: Allocator + Copy>(
     ensures stop { IfErr result
         (IsStop ⊤ (segment_fault order names.now free (segment_of segment.now))) }
 {
-    if is_linked(segment.role) {
+    if segment.role.is_linked() {
         linked_edits(alloc, order, names, segment, free, own)
     } else {
         Ok((Vec::new(alloc), free))
@@ -171,7 +171,7 @@ fn own_edit(segment: &Segment, size: Edit) -> Option<Edit>
         ≡ (if is_host_spec segment.now.role then size ∷ [] else []) }
     ensures host { IfSome result (λ edit. (edit ≡ size) × (is_host_spec segment.now.role ≡ true)) }
 {
-    if is_host(segment.role) {
+    if segment.role.is_host() {
         Some(size)
     } else {
         None
@@ -234,7 +234,7 @@ fn sources_of<'a, A: Allocator + Copy>(
             slot: segment.slot,
             file: segment.file,
             index: segment.index,
-            linked: is_linked(segment.role),
+            linked: segment.role.is_linked(),
             added: segment.added,
             code: segment.code,
         })?;

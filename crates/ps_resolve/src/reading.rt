@@ -12,7 +12,6 @@ ghost use Rattle.ps_resolve.specs.Views.{segment_of, IsSound, IsPlaced, is_in_sl
 
 pub(crate) mod added;
 pub(crate) mod libraries;
-pub(crate) mod roles;
 pub(crate) mod segment;
 pub(crate) mod slots;
 pub(crate) mod sources;

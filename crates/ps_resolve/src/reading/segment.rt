@@ -1,9 +1,8 @@
 ghost use Rattle.std.specs.Prelude.{◌≡◌, [], List, true, IfSome};
 ghost use Rattle.ps_linkinfo.specs.declared.record.LinkRecord.{LinkRecord as Record};
-ghost use Rattle.ps_resolve.specs.Sources.{is_linked as is_linked_spec};
+ghost use Rattle.ps_codefile.specs.Roles.{is_linked as is_linked_spec};
 ghost use Rattle.ps_resolve.specs.Views.{HasRow};
 
-use crate::reading::roles::is_linked;
 use ps_codefile::Role;
 use ps_linkinfo::LinkInformation;
 use ps_words::Name;
@@ -65,7 +64,7 @@ impl<'a> Segment<'a> {
         ensures row { result ≡ true
             → (records : List Record) × HasRow segments.now self.now.file self.now.block records }
     {
-        is_linked(self.role) && row_of(segments, self.file, self.block).is_some()
+        self.role.is_linked() && row_of(segments, self.file, self.block).is_some()
     }
 }
 
@@ -79,7 +78,7 @@ pub(crate) fn row_of<'a>(
     ensures { IfSome result (HasRow segments.now file block) }
 {
     for segment in segments {
-        if is_linked(segment.role) && segment.file == file && segment.block == block {
+        if segment.role.is_linked() && segment.file == file && segment.block == block {
             return Some(segment.records.copied());
         }
     }

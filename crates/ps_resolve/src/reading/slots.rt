@@ -2,7 +2,7 @@ ghost use Rattle.std.specs.Prelude.{◌≡◌, ◌<◌, ◌≤◌, ◌&&◌, Lis
 ghost use Rattle.std.specs.List.{list_any, range_with_len};
 ghost use Rattle.std.specs.Str.{bytes_eq};
 ghost use Rattle.ps_codefile.specs.Dictionary.{entry_at};
-ghost use Rattle.ps_resolve.specs.Sources.{is_host as is_host_role, is_unit as is_unit_role, is_empty as is_empty_role};
+ghost use Rattle.ps_codefile.specs.Roles.{is_host as is_host_role, is_unit as is_unit_role, is_empty as is_empty_role};
 ghost use Rattle.ps_resolve.specs.Faults.{is_role, slot_reason as slot_reason_spec, slots_fault as slots_fault_spec, no_host_fault as no_host_fault_spec};
 
 use ps_codefile::{Dict, Role};

@@ -6,11 +6,11 @@ ghost use Rattle.ps_words.specs.FaultPlaces.{in_record, in_slot as in_slot_spec}
 ghost use Rattle.ps_codefile.specs.Dictionary.{entry_at, role_of, is_linked_kind, information_of};
 ghost use Rattle.ps_codefile.specs.Procedures.{tables_fault as tables_fault_spec};
 ghost use Rattle.ps_linkinfo.specs.Records.{reading};
-ghost use Rattle.ps_resolve.specs.Sources.{is_linked as is_linked_spec, is_host as is_host_spec, own_segment, own_segments, file_at, segment_from, contents};
+ghost use Rattle.ps_codefile.specs.Roles.{is_linked as is_linked_spec, is_host as is_host_spec};
+ghost use Rattle.ps_resolve.specs.Sources.{own_segment, own_segments, file_at, segment_from, contents};
 ghost use Rattle.ps_resolve.specs.Faults.{code_fault, libraries_fault as libraries_fault_spec, source_fault, sources_fault};
 ghost use Rattle.ps_resolve.specs.Views.{segment_of, IsSound, IsPlaced, IsRowOf};
 
-use crate::reading::roles::{is_host, is_linked};
 use crate::reading::segment::{Segment, row_of};
 use crate::reading::slots::{HOST_FILE, SLOTS};
 use crate::reading::units::unit_source;
@@ -110,10 +110,10 @@ fn read_records<'a>(
     ensures records { IfOk result (λ records.
         records ≡ (if is_linked_spec role then (reading order information.now).0 else [])) }
 {
-    if !is_linked(role) {
+    if !role.is_linked() {
         return Ok(LinkInformation::none());
     }
-    if let Some(reason) = tables_reason(order, code, is_host(role)) {
+    if let Some(reason) = tables_reason(order, code, role.is_host()) {
         return Err(Fault::in_slot(file, slot, reason));
     }
     match known {

@@ -5,7 +5,6 @@ ghost use Rattle.ps_resolve.specs.Names.{units_by_name};
 ghost use Rattle.ps_resolve.specs.Symbols.{definition_of};
 
 use crate::definitions::{Def, Definitions};
-use crate::reading::roles::is_unit;
 use crate::reading::segment::Segment;
 use arrayvec::ArrayVec;
 use ps_words::Name;
@@ -46,7 +45,7 @@ impl UnitSlots {
     {
         let mut by_name = ArrayVec::new();
         for segment in segments {
-            if is_unit(segment.role) {
+            if segment.role.is_unit() {
                 by_name.push((segment.name, segment.slot));
             }
         }

@@ -1,7 +1,7 @@
 use Rattle.std.proofs.Common.{ℕ, refl, arith}
 use Rattle.ps_codefile.specs.Dictionary.{entry_at}
 use Rattle.ps_resolve.specs.Faults.{is_role}
-use Rattle.ps_resolve.specs.Sources.{is_unit}
+use Rattle.ps_codefile.specs.Roles.{is_unit}
 use Rattle.ps_linkfile.specs.ShowText.{unit_names}
 use Rattle.ps_linkfile.proofs.Shows.{names_more, names_over, few_more}
 use Rattle.ps_linkfile.proofs.show.unit_names.Goals as goal

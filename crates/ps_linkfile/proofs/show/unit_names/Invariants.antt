@@ -2,7 +2,7 @@ use Rattle.std.proofs.Common.{◌≡◌, ◌≤◌, ◌-◌, ◌++◌, length, m
 use Rattle.std.specs.List.{filter, range_with_len}
 use Rattle.ps_codefile.specs.Dictionary.{entry_at}
 use Rattle.ps_resolve.specs.Faults.{is_role}
-use Rattle.ps_resolve.specs.Sources.{is_unit}
+use Rattle.ps_codefile.specs.Roles.{is_unit}
 use Rattle.ps_linkfile.specs.ShowText.{unit_names}
 use Rattle.ps_linkfile.proofs.show.unit_names.Given as goal
 

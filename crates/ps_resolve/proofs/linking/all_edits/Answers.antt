@@ -7,7 +7,8 @@ use Rattle.ps_resolve.specs.Privates.{owner_of, all_words}
 use Rattle.ps_resolve.specs.Views.{segment_of, IsSound, IsLike}
 use Rattle.ps_resolve.specs.Linking.{data_edits, edited_from}
 use Rattle.ps_resolve.specs.References.{Known, HaveTargets}
-use Rattle.ps_resolve.specs.Sources.{Segment, is_host}
+use Rattle.ps_codefile.specs.Roles.{is_host}
+use Rattle.ps_resolve.specs.Sources.{Segment}
 use Rattle.ps_resolve.specs.declared.reading.segment.Segment.{Segment as SegmentView}
 use Rattle.ps_resolve.specs.Faults.{references_fault_from}
 use Rattle.ps_resolve.proofs.Segs.{at_map, map_push}

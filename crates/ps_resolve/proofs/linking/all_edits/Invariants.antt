@@ -7,7 +7,7 @@ use Rattle.ps_resolve.specs.Plans.{LinkSegments}
 use Rattle.ps_resolve.specs.Privates.{owner_of, all_words}
 use Rattle.ps_resolve.specs.References.{HaveTargets}
 use Rattle.ps_resolve.specs.Views.{segment_of}
-use Rattle.ps_resolve.specs.Sources.{is_host}
+use Rattle.ps_codefile.specs.Roles.{is_host}
 use Rattle.ps_resolve.proofs.linking.all_edits.Given as goal
 
 -- the edits so far and those of the segments that are left link all; so it is with words, and with the first fault

@@ -1,7 +1,5 @@
-use Rattle.std.proofs.Common.{◌≡◌, ◌∙◌, ◌∷◌, [], List, ℕ, ap, sym, refl}
+use Rattle.std.proofs.Common.{◌∙◌, List, ℕ, ap, sym, refl}
 use Rattle.std.specs.declared.hash.DefaultHasher.{DefaultHasher}
-use Rattle.ps_linkinfo.specs.Counts.{digest_of}
-use Rattle.ps_linkinfo.specs.Numbered.{numbered}
 use Rattle.ps_linkinfo.specs.declared.record.LinkRecord.{LinkRecord as Record}
 use Rattle.ps_linkinfo.proofs.Digests.{with_left, all_left, taken, passed}
 use Rattle.ps_linkinfo.proofs.information.LinkInformation.digest.Goals as goal

@@ -1,6 +1,6 @@
 use Rattle.std.proofs.Common.{◌∙◌, ◌+◌, ◌<◌, ℕ, refl, arith, Bool}
 use Rattle.std.proofs.lemmas.List.Elements.{All-nil}
-use Rattle.ps_resolve.specs.Sources.{is_empty}
+use Rattle.ps_codefile.specs.Roles.{is_empty}
 use Rattle.ps_resolve.specs.Added.{empty_slots}
 use Rattle.ps_resolve.specs.Faults.{is_role}
 use Rattle.ps_resolve.proofs.Adding.{filter_more, all_if, few_if}
