@@ -109,8 +109,8 @@ module _ (file slot : ℕ) (rs : List Record) where
       not_there (is_again is_definition rs (rec, r)) (told rec) (again is_definition rs rec r)
       (none_given again_fault 0 rs (sym looking_back ∙ ap (option_map told) once) rec rec r (omega arith) there) is
 
-  pub not_defined : (stop : Stop) → IsStop (0 < length (definitions rs)) (doubled_fault file slot rs) stop → StopsDefinitions file slot rs stop
-  not_defined (Refused fault) d =
+  pub stops_definitions : (stop : Stop) → IsStop (0 < length (definitions rs)) (doubled_fault file slot rs) stop → StopsDefinitions file slot rs stop
+  stops_definitions (Refused fault) d =
       let found = some_given again_fault 0 rs fault (sym looking_back ∙ d) in
       let at = found.at in
       let here = is_there (is_again is_definition rs (at, found.item)) (told at) fault (again is_definition rs at found.item) (found.gives at (omega arith)) in (
@@ -123,7 +123,7 @@ module _ (file slot : ℕ) (rs : List Record) where
         },
         here.1,
       )
-  not_defined Memory d = some_defined rs d
+  stops_definitions Memory d = some_defined rs d
     where
       -- where a name is defined, a record defines it
       some_defined : (qs : List Record) → 0 < length (definitions qs) → SomeItem qs (λ rec r. is_definition r.body ≡ true)
@@ -133,6 +133,15 @@ module _ (file slot : ℕ) (rs : List Record) where
           go : (o : Option Def) → def_in q.body ≡ o → (0 < length (definitions qs) → SomeItem qs (λ rec r. is_definition r.body ≡ true)) → SomeItem (q ∷ qs) (λ rec r. is_definition r.body ≡ true)
           go (Some d) e later = (zero, q, refl, defines_is q.body ∙ ap is_some e)
           go None e later = let t = later (subst (λ (ds : List (List ℕ × Def)). 0 < length ds) (none_entries 0 [] q qs e) h) in (suc t.0, t.1, t.2, t.3)
+
+  -- the same, with the number of the record
+  abbrev IsNamed : Stop → Type 0
+  IsNamed (Refused fault) = (rec : ℕ) × (doubled rs ≡ Some rec) × (fault ≡ told rec)
+  IsNamed Memory = 0 < length (definitions rs)
+
+  pub not_defined : (stop : Stop) → IsNamed stop → StopsDefinitions file slot rs stop
+  not_defined (Refused fault) d = stops_definitions (Refused fault) (ap (option_map told) d.1 ∙ ap (λ (f : Fault). Some f) (sym d.2))
+  not_defined Memory d = stops_definitions Memory d
 
 -- no other record is the first
 only_first : (test : Body → Bool) (rs : List Record) (m n : ℕ) → IsFirstNamesake test rs m → IsFirstNamesake test rs n → m < n → ⊥
@@ -150,7 +159,7 @@ doubled_is rs found f = at (doubled rs) refl found f
   where
     first_at : (m : ℕ) → doubled rs ≡ Some m → IsFirstNamesake is_definition rs m
     first_at m e =
-        let t = not_defined 0 0 rs (Refused (told 0 0 rs m)) (ap (option_map (told 0 0 rs)) e) in
+        let t = stops_definitions 0 0 rs (Refused (told 0 0 rs m)) (ap (option_map (told 0 0 rs)) e) in
         let same : t.0 ≡ m = same_Some _ _ (ap (λ (f : Fault). f.rec) (sym t.2)) in
         subst (IsFirstNamesake is_definition rs) same t.1
 

@@ -7,7 +7,7 @@ use Rattle.ps_linkinfo.specs.Counts.{is_definition}
 use Rattle.ps_resolve.specs.Stops.{IsStop, doubled_fault}
 use Rattle.ps_resolve.specs.Symbols.{definitions, doubled}
 use Rattle.ps_resolve.specs.declared.linkage.Stop.{Stop}
-use Rattle.ps_resolve.proofs.Builders.{defined_once, not_defined}
+use Rattle.ps_resolve.proofs.Builders.{defined_once, stops_definitions}
 use Rattle.ps_resolve.proofs.definitions.Definitions.build.Goals as goal
 
 pub returns-clause-names : goal.returns-clause-names
@@ -23,4 +23,4 @@ returns-clause-refused g c =
     let Stops : List Record → Stop → Type 0 = λ qs. IsStop (0 < length (definitions qs)) (doubled_fault host.file host.slot qs) in
     let rs : List Record = (reading host.order host.bytes.now).0 in
     IfErr-weaker c.of_records.result (Stops c.up_to_fault-records.result) (StopsDefinitions host.file host.slot rs)
-    (λ stop d. not_defined host.file host.slot rs stop (subst (λ (qs : List Record). Stops qs stop) c.up_to_fault-records.ensures d)) c.of_records.ensures.stop
+    (λ stop d. stops_definitions host.file host.slot rs stop (subst (λ (qs : List Record). Stops qs stop) c.up_to_fault-records.ensures d)) c.of_records.ensures.stop
