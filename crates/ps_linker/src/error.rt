@@ -8,7 +8,7 @@ ghost use Rattle.ps_linkfile.specs.declared.error.WriteFault.{WriteFault};
 ghost use Rattle.ps_linker.specs.Statuses.{status_of};
 
 use clap::error::ErrorKind;
-use ps_linkfile::LinkError;
+use ps_linkfile::{LinkError, WriteFault};
 use ps_words::Fault;
 use std::alloc::{AllocError, AllocFailed};
 use std::io::Write;
@@ -62,6 +62,15 @@ impl From<clap::Error> for CommandError<'_> {
             ErrorKind::OutOfMemory => CommandError::Memory,
             _ => CommandError::Usage(error),
         }
+    }
+}
+
+impl From<WriteFault> for CommandError<'_> {
+    ghost from_gives = { λ _ e. e ≡ StandardOutput };
+
+    /// What could not be written is standard output, since a file is named where it is written.
+    fn from(_fault: WriteFault) -> Self {
+        CommandError::StandardOutput
     }
 }
 

@@ -11,7 +11,7 @@ use crate::error::CommandError;
 use crate::files::{self, CodeFiles, Contents};
 use crate::output;
 use crate::request::{self, Inputs, Request};
-use ps_linkfile::{Counting, Linked, Summary, linked_file_is_one};
+use ps_linkfile::{Counting, Linked, Summary};
 use std::alloc::{AllocError, Allocator, Global};
 use std::io::Write;
 
@@ -118,7 +118,8 @@ fn link<'a, R: CodeFiles, A: Allocator + Copy, O: Write>(
     output::print(out, line.as_bytes())
 }
 
-/// Prints the map of a link.
+/// Prints the map of a link. All is read and checked before anything is printed; the text is written in pieces, and takes
+/// no memory.
 fn map<'a, R: CodeFiles, A: Allocator + Copy, O: Write>(
     rt: &R,
     alloc: A,
@@ -131,11 +132,10 @@ fn map<'a, R: CodeFiles, A: Allocator + Copy, O: Write>(
     ensures err { IfErr result (λ e. status_of e ≢ 3 → out.new ≡ out.old) }
     ensures usage { IfErr result (λ e. status_of e ≢ 2) }
 {
-    linked_file_is_one();
     let Contents { host, libraries } = files::read_inputs(rt, alloc, &inputs)?;
     let views = views(alloc, libraries.as_slice())?;
-    let text = ps_linkfile::map_text(alloc, host.as_slice(), views.as_slice())?;
-    output::print(out, text.as_slice())
+    let linked = ps_linkfile::prepare(alloc, host.as_slice(), views.as_slice())?;
+    Ok(linked.write_map(out)?)
 }
 
 /// Prints what the file at `path` has. Its text is written in pieces, and takes no memory.

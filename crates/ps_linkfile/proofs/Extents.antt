@@ -1,17 +1,18 @@
 -- The blocks of codes whose slots ascend.
-use Rattle.std.proofs.Common.{◌≡◌, ℕ, ◌+◌, ◌*◌, ◌≤◌, ◌<◌, ◌==◌, List, [], ◌∷◌, ◌++◌, length, Option, Some, None, true, false, refl, ◌∙◌, ap, arith}
+use Rattle.std.proofs.Common.{◌≡◌, ℕ, zero, suc, ◌+◌, ◌*◌, ◌≤◌, ◌<◌, ◌==◌, List, [], ◌∷◌, ◌++◌, length, length-append, map, take, drop, Option, Some, None, true, false, refl, sym, ◌∙◌, ap, subst, add-one, arith}
 use Rattle.std.specs.Prelude.{nat_lt, All}
 use Rattle.std.specs.List.{filter, find}
 use Rattle.std.specs.Option.{option_map_or}
 use Rattle.std.proofs.lemmas.Bool.{eq-eqb}
 use Rattle.std.proofs.lemmas.Bool.Decides.{nat_tests}
+use Rattle.std.proofs.lemmas.List.{map-append, take_all}
 use Rattle.std.proofs.lemmas.List.Sums.{sum_by-cons}
-use Rattle.std.proofs.lemmas.List.Elements.{All-head, All-tail}
+use Rattle.std.proofs.lemmas.List.Elements.{All-nil, All-cons, All-head, All-tail}
 use Rattle.ps_words.specs.Words.{word_bytes, blocks}
 use Rattle.ps_words.specs.declared.order.Order.{Order}
 use Rattle.ps_codefile.specs.Dictionary.{max_code_len}
 use Rattle.ps_linkfile.specs.LinkedFile.{Extent, all_blocks, block_of, pair_of}
-use Rattle.ps_linkfile.specs.Writing.{Ascend}
+use Rattle.ps_linkfile.specs.Writing.{starts_of, Ascend}
 
 pub all_blocks-cons : (c : Extent) (cs : List Extent) → all_blocks (c ∷ cs) ≡ blocks c.size + all_blocks cs
 all_blocks-cons c cs = sum_by-cons (λ (d : Extent). blocks d.size) c cs
@@ -29,6 +30,11 @@ few_blocks (c ∷ cs) h =
     let one : c.size ≤ 32767 = All-head P c cs h in
     let rest = few_blocks cs (All-tail P c cs h) in
     omega (arith, all_blocks-cons c cs, one, rest)
+
+-- each slot is one of sixteen
+pub slots_below : (from : ℕ) (cs : List Extent) → Ascend from cs → All (λ c. c.slot < 16) cs
+slots_below from [] h = All-nil (λ (c : Extent). c.slot < 16)
+slots_below from (c ∷ cs) h = All-cons (λ (d : Extent). d.slot < 16) c cs h.1 (slots_below (c.slot + 1) cs h.2)
 
 -- no code stands before the first
 pub none_before : (from : ℕ) (cs : List Extent) (slot : ℕ) → Ascend from cs → slot ≤ from → filter (λ c. nat_lt c.slot slot) cs ≡ []
@@ -87,3 +93,81 @@ pub no_pair : (order : Order) (all : List Extent) (from block : ℕ) (rest : Lis
 no_pair order all from block rest next slot h k le lt =
     ap (λ (o : Option Extent). option_map_or (λ d. word_bytes order (block_of all slot) ++ word_bytes order d.size) o (0 ∷ 0 ∷ 0 ∷ 0 ∷ []))
     (h.found slot le ∙ none_there next rest slot k lt)
+
+-- so many of a list and the next
+next_taken : {X : Type 0} (xs : List X) (i : ℕ) (x : X) → drop i xs ≡ x ∷ drop (suc i) xs → take (suc i) xs ≡ take i xs ++ x ∷ []
+next_taken [] zero x h = cc
+next_taken [] (suc i) x h = cc
+next_taken {X} (y ∷ ys) zero x h = let is : y ≡ x = cc in ap (λ (z : X). z ∷ []) is
+next_taken {X} (y ∷ ys) (suc i) x h = ap (λ (zs : List X). y ∷ zs) (next_taken ys i x h)
+
+took : {X : Type 0} (xs : List X) (i : ℕ) (x : X) → drop i xs ≡ x ∷ drop (i + 1) xs → take (i + 1) xs ≡ take i xs ++ x ∷ []
+took {X} xs i x h =
+    ap (λ k. take k xs) (add-one i) ∙ next_taken xs i x (h ∙ ap (λ k. x ∷ drop k xs) (add-one i))
+
+blocks_more : (cs : List Extent) (c : Extent) → all_blocks (cs ++ c ∷ []) ≡ all_blocks cs + blocks c.size
+blocks_more [] c = all_blocks-cons c [] ∙ omega arith
+blocks_more (d ∷ ds) c = all_blocks-cons d (ds ++ c ∷ []) ∙ omega (arith, blocks_more ds c, all_blocks-cons d ds)
+
+-- the first so many codes are laid out; the next begins in this block
+pub record LaidSoFar (all : List Extent) (count : ℕ) (starts : List ℕ) (block from : ℕ) : Type 0 where
+  pub left : Left all from block (drop count all)
+  pub few : count ≤ from
+  pub small : block ≤ 1 + 64 * count
+  pub many : length starts ≡ count
+  pub begins : starts ≡ map (λ c. block_of all c.slot) (take count all)
+  pub blocks : block ≡ 1 + all_blocks (take count all)
+
+pub laid_none : (all : List Extent) → Ascend 0 all → LaidSoFar all 0 [] 1 0
+laid_none all h = record {
+  left = left_start all h;
+  few = omega arith;
+  small = omega arith;
+  many = refl;
+  begins = refl;
+  blocks = refl;
+}
+
+laid_here : (all : List Extent) (count : ℕ) (starts : List ℕ) (block from : ℕ) (c : Extent) → drop count all ≡ c ∷ drop (count + 1) all → LaidSoFar all count starts block from → Left all from block (c ∷ drop (count + 1) all)
+laid_here all count starts block from c is h = subst (λ (cs : List Extent). Left all from block cs) is h.left
+
+pub laid_next : (all : List Extent) (count : ℕ) (starts : List ℕ) (block from : ℕ) (c : Extent) → drop count all ≡ c ∷ drop (count + 1) all → LaidSoFar all count starts block from → (count < 16) × (block < 65536)
+laid_next all count starts block from c is h =
+    let at = laid_here all count starts block from c is h in
+    let low : from ≤ c.slot = at.ascend.0 in
+    let high : c.slot < 16 = at.ascend.1 in
+    let few = h.few in
+    let small = h.small in
+    (omega arith, omega arith)
+
+pub laid_more : (all : List Extent) (count : ℕ) (starts : List ℕ) (block from : ℕ) (c : Extent)
+    → drop count all ≡ c ∷ drop (count + 1) all → c.size ≤ 32767 → LaidSoFar all count starts block from → LaidSoFar all (count + 1) (starts ++ block ∷ []) (block + blocks c.size) (c.slot + 1)
+laid_more all count starts block from c is size h =
+    let at = laid_here all count starts block from c is h in
+    let more : take (count + 1) all ≡ take count all ++ c ∷ [] = took all count c is in
+    let begins : block_of all c.slot ≡ block = first_block all from block c (drop (count + 1) all) at in
+    let start : Extent → ℕ = λ d. block_of all d.slot in
+    let sum_is : all_blocks (take (count + 1) all) ≡ all_blocks (take count all) + blocks c.size = ap (λ (cs : List Extent). all_blocks cs) more ∙ blocks_more (take count all) c in
+    let low : from ≤ c.slot = at.ascend.0 in
+    let few = h.few in
+    let small = h.small in
+    let many = h.many in
+    let so_far = h.blocks in
+    record {
+      left = left_more all from block c (drop (count + 1) all) at;
+      few = omega arith;
+      small = omega arith;
+      many = length-append starts (block ∷ []) ∙ omega arith;
+      begins = ap (λ (bs : List ℕ). bs ++ block ∷ []) h.begins
+          ∙ (ap (λ b. map start (take count all) ++ b ∷ []) (sym begins)
+          ∙ (sym (map-append start (take count all) (c ∷ []))
+          ∙ ap (λ (cs : List Extent). map start cs) (sym more)));
+      blocks = omega arith;
+    }
+
+pub laid_done : (all : List Extent) (count : ℕ) (starts : List ℕ) (block from : ℕ) → length all ≤ count → LaidSoFar all count starts block from → (starts ≡ starts_of all) × (block ≡ 1 + all_blocks all)
+laid_done all count starts block from le h =
+    let whole : take count all ≡ all = take_all count all le in (
+      h.begins ∙ ap (λ (cs : List Extent). map (λ (c : Extent). block_of all c.slot) cs) whole,
+      h.blocks ∙ ap (λ (cs : List Extent). 1 + all_blocks cs) whole,
+    )

@@ -10,7 +10,7 @@ use Rattle.ps_words.specs.declared.order.Order.TheVariants.{Little, Big}
 use Rattle.ps_codefile.specs.Dictionary.{slots}
 use Rattle.ps_linkfile.specs.LinkedFile.{Extent, block_of, pair_of, all_pairs}
 use Rattle.ps_linkfile.specs.Writing.{Ascend}
-use Rattle.ps_linkfile.proofs.Extents.{Left, left_start, left_more, first_pair, no_pair}
+use Rattle.ps_linkfile.proofs.Extents.{Left, left_start, left_more, first_block, first_pair, no_pair}
 
 -- place j of what f gives of the s-th number, where it gives four bytes of each
 pub four_at : (f : ℕ → List ℕ) → ((s : ℕ) → length (f s) ≡ 4) → (n a s j : ℕ) → s < n → j < 4 → get_or (flat_map f (range_with_len a n)) (4 * s + j) 0 ≡ get_or (f (a + s)) j 0
@@ -116,8 +116,6 @@ zeros_at (suc (suc (suc (suc j)))) = refl
 pub record PairsSoFar (order : Order) (all : List Extent) (count : ℕ) (pairs : List ℕ) (block from : ℕ) : Type 0 where
   pub size : length pairs ≡ 64
   pub left : Left all from block (drop count all)
-  pub few : count ≤ from
-  pub small : block ≤ 1 + 64 * count
   pub stored : (slot j : ℕ) → slot < from → j < 4 → get_or pairs (4 * slot + j) 0 ≡ get_or (pair_of order all slot) j 0
   pub empty : (slot j : ℕ) → from ≤ slot → slot < 16 → j < 4 → get_or pairs (4 * slot + j) 0 ≡ 0
 
@@ -126,38 +124,25 @@ pub pairs_none : (order : Order) (all : List Extent) → Ascend 0 all → PairsS
 pairs_none order all h = record {
   size = length-replicate {A = ℕ} 64 0;
   left = left_start all h;
-  few = omega arith;
-  small = omega arith;
   stored = λ slot j lt l. absurd (omega arith);
   empty = λ slot j le lt l. get_or-replicate {A = ℕ} 64 (4 * slot + j) 0 0 (omega arith);
 }
 
--- the next code, its slot and the block that it begins in
-pub next_slot : (order : Order) (all : List Extent) (count : ℕ) (pairs : List ℕ) (block from : ℕ) (c : Extent) → drop count all ≡ c ∷ drop (count + 1) all → PairsSoFar order all count pairs block from → (c.slot < 16) × (block < 65536)
-next_slot order all count pairs block from c is h =
-    let here : Left all from block (c ∷ drop (count + 1) all) = subst (λ (cs : List Extent). Left all from block cs) is h.left in
-    let low : from ≤ c.slot = here.ascend.0 in
-    let high : c.slot < 16 = here.ascend.1 in
-    let few = h.few in
-    let small = h.small in
-    (high, omega arith)
-
 -- the pair of one code more
-pub pairs_more : (order : Order) (all : List Extent) (count : ℕ) (old mid new : List ℕ) (block from : ℕ) (c : Extent)
-    → drop count all ≡ c ∷ drop (count + 1) all → c.size ≤ 32767 → PairsSoFar order all count old block from
-    → IsPut order old mid (4 * c.slot) block → IsPut order mid new (4 * c.slot + 2) c.size
+pub pairs_more : (order : Order) (all : List Extent) (count : ℕ) (old mid new : List ℕ) (block from start : ℕ) (c : Extent)
+    → drop count all ≡ c ∷ drop (count + 1) all → start ≡ block_of all c.slot → PairsSoFar order all count old block from
+    → IsPut order old mid (4 * c.slot) start → IsPut order mid new (4 * c.slot + 2) c.size
     → PairsSoFar order all (count + 1) new (block + blocks c.size) (c.slot + 1)
-pairs_more order all count old mid new block from c is small h first second =
+pairs_more order all count old mid new block from start c is start_is h put second =
     let rest = drop (count + 1) all in
     let here : Left all from block (c ∷ rest) = subst (λ (cs : List Extent). Left all from block cs) is h.left in
+    let first : IsPut order old mid (4 * c.slot) block = subst (λ (b : ℕ). IsPut order old mid (4 * c.slot) b) (start_is ∙ first_block all from block c rest here) put in
     let low : from ≤ c.slot = here.ascend.0 in
     let same : (slot j : ℕ) → slot ≢ c.slot → j < 4 → get_or new (4 * slot + j) 0 ≡ get_or old (4 * slot + j) 0 = λ slot j ne lt.
     second.others (4 * slot + j) (omega arith) (omega arith) ∙ first.others (4 * slot + j) (omega arith) (omega arith) in
     record {
       size = second.size ∙ (first.size ∙ h.size);
       left = left_more all from block c rest here;
-      few = omega (arith, h.few);
-      small = omega (arith, h.small);
       stored = λ slot j lt l.
           elim (cases_lt slot c.slot) [
             | inl below ↦ same slot j (omega arith) l ∙ elim (cases_lt slot from) [

@@ -1,8 +1,9 @@
 -- Text that a loop writes: what was written so far, and what is left of all.
-use Rattle.std.proofs.Common.{◌≡◌, ℕ, suc, ◌+◌, ◌-◌, ◌<◌, ◌≤◌, List, [], ◌++◌, append_assoc, append-nil, refl, sym, ◌∙◌, ap, arith}
+use Rattle.std.proofs.Common.{◌≡◌, ℕ, suc, ◌+◌, ◌-◌, ◌<◌, ◌≤◌, List, [], ◌∷◌, ◌++◌, length, drop, append_assoc, append-nil, refl, sym, ◌∙◌, ap, arith}
 use Rattle.std.specs.Fmt.{HasWritten, IsPlainFormatter}
 use Rattle.std.specs.declared.fmt.Formatter.{Formatter}
 use Rattle.std.specs.List.{flat_map, range_with_len}
+use Rattle.std.proofs.lemmas.List.{drop_all}
 use Rattle.std.proofs.Output.{has_written_append, has_written_of_eq}
 
 -- of the text all, the rest is still to be written
@@ -33,3 +34,11 @@ module _ (line_of : ℕ → List ℕ) (i n : ℕ) where
 
   pub slots_over : n ≤ i → flat_map line_of (range_with_len i (n - i)) ≡ []
   slots_over le = let left : n - i ≡ 0 = omega arith in ap (λ (k : ℕ). flat_map line_of (range_with_len i k)) left
+
+module _ {X : Type 0} (line_of : X → List ℕ) (xs : List X) (i : ℕ) where
+  -- the lines of the items from i on
+  pub items_left : (x : X) → drop i xs ≡ x ∷ drop (i + 1) xs → flat_map line_of (drop i xs) ≡ line_of x ++ flat_map line_of (drop (i + 1) xs)
+  items_left x h = ap (λ (ys : List X). flat_map line_of ys) h
+
+  pub items_over : length xs ≤ i → flat_map line_of (drop i xs) ≡ []
+  items_over le = ap (λ (ys : List X). flat_map line_of ys) (drop_all i xs le)

@@ -6,7 +6,7 @@ use Rattle.ps_words.specs.declared.order.Order.{Order}
 use Rattle.ps_words.specs.declared.edit.Edit.{Edit}
 use Rattle.ps_codefile.specs.Dictionary.{block_len, max_code_len}
 use Rattle.ps_resolve.specs.Plans.{Planned, Origin}
-use Rattle.ps_linkfile.specs.LinkedFile.{Extent, all_blocks, dictionary, padded, LinkedFile, summary_of}
+use Rattle.ps_linkfile.specs.LinkedFile.{Extent, all_blocks, block_of, dictionary, padded, LinkedFile, summary_of}
 use Rattle.ps_linkfile.specs.declared.summary.Summary.{Summary}
 
 abbrev pub extent_of_origin : Origin → Extent
@@ -56,3 +56,13 @@ pub record IsReady (plan : Planned) : Type 0 where
   pub slots : Ascend 0 (extents_of plan)
   pub sizes : All (λ c. c.size ≤ max_code_len) (extents_of plan)
   pub edits : HaveEdits plan.origins plan.edits
+
+-- the first block of each code
+abbrev pub starts_of : List Extent → List ℕ
+starts_of codes = map (λ c. block_of codes c.slot) codes
+
+-- a plan that can be written, with the first block of each code and how many blocks its file has
+pub record IsLaidOut (plan : Planned) (starts : List ℕ) (blocks : ℕ) : Type 0 where
+  pub ready : IsReady plan
+  pub begins : starts ≡ starts_of (extents_of plan)
+  pub count : blocks ≡ 1 + all_blocks (extents_of plan)

@@ -6,6 +6,7 @@ mod counts;
 mod dictionary;
 mod error;
 mod laws;
+mod layout;
 mod lines;
 mod linked;
 mod map;

@@ -1,26 +1,11 @@
 //! What the lines of text that map and show print are made of.
-ghost use Rattle.std.specs.Prelude.{◌≡◌, ◌++◌, ◌∷◌, [], OnOk, string_bytes};
+ghost use Rattle.std.specs.Prelude.{◌≡◌, ◌++◌, ◌∷◌, []};
 ghost use Rattle.std.specs.Fmt.{WritesOnOk};
 ghost use Rattle.ps_linkfile.specs.Lines.{shown, shown_byte, two_digits};
 
 use itoa::{Buffer, Integer};
 use ps_words::{Name, Reason};
-use std::alloc::{AllocError, Allocator};
-use std::fmt::{self, Formatter};
-
-/// Adds a number behind this text.
-#[inline(always)]
-pub(crate) fn add_number<A: Allocator, I: Integer>(
-    text: &mut String<A>,
-    before: &str,
-    number: I,
-) -> Result<(), AllocError>
-    ensures { OnOk result (string_bytes text.new
-        ≡ string_bytes text.old ++ before.now ++ I.text number) }
-{
-    text.push_str(before)?;
-    text.push_str(Buffer::new().format(number))
-}
+use std::fmt::{self, Display, Formatter};
 
 /// Writes a number behind this text.
 #[inline(always)]
@@ -35,30 +20,6 @@ pub(crate) fn write_number<W: fmt::Write, I: Integer>(
     text.write_str(Buffer::new().format(number))
 }
 
-/// Adds a name as a line shows it, in eight characters.
-pub(crate) fn add_name<A: Allocator>(text: &mut String<A>, name: Name) -> Result<(), AllocError>
-    ensures { OnOk result (string_bytes text.new ≡ string_bytes text.old ++ shown name) }
-{
-    for byte in &name {
-        text.push(shown_char(*byte))?;
-    }
-    Ok(())
-}
-
-/// Adds the number of a slot, which is below 100, in two digits behind this text.
-pub(crate) fn add_two_digits<A: Allocator>(
-    text: &mut String<A>,
-    before: &str,
-    number: u8,
-) -> Result<(), AllocError>
-    ensures { OnOk result (string_bytes text.new
-        ≡ string_bytes text.old ++ before.now ++ two_digits number) }
-{
-    text.push_str(before)?;
-    text.push((b'0' + number / 10) as char)?;
-    text.push((b'0' + number % 10) as char)
-}
-
 /// A byte of a name as a line shows it: itself where ASCII prints it, and otherwise a question mark.
 fn shown_code(byte: u8) -> u8
     ensures { result ≡ shown_byte byte }
@@ -67,13 +28,6 @@ fn shown_code(byte: u8) -> u8
         b' '..=b'~' => byte,
         _ => b'?',
     }
-}
-
-/// The same as a character.
-fn shown_char(byte: u8) -> char
-    ensures { result ≡ shown_byte byte }
-{
-    shown_code(byte) as char
 }
 
 /// A name as a line shows it, all of it at once.
@@ -93,19 +47,20 @@ fn shown_codes(name: Name) -> [u8; 8]
     ]
 }
 
-/// Adds a slot and a name behind this text.
-pub(crate) fn add_slot_name<A: Allocator>(
-    text: &mut String<A>,
+/// Writes a slot, which is below 100, and a name behind this text.
+pub(crate) fn write_slot_name<W: fmt::Write>(
+    text: &mut Formatter<W>,
     before: &str,
     slot: u8,
     name: Name,
-) -> Result<(), AllocError>
-    ensures { OnOk result (string_bytes text.new
-        ≡ string_bytes text.old ++ before.now ++ two_digits slot ++ (32 ∷ []) ++ shown name) }
+) -> fmt::Result
+    ensures { WritesOnOk W.write_str_gives text.old result
+        (before.now ++ two_digits slot ++ (32 ∷ []) ++ shown name) text.new }
 {
-    add_two_digits(text, before, slot)?;
-    text.push_str(" ")?;
-    add_name(text, name)
+    text.write_str(before)?;
+    TwoDigits(slot).fmt(text)?;
+    text.write_str(" ")?;
+    Shown(name).fmt(text)
 }
 
 /// A name as a line shows it, in eight characters.

@@ -1,22 +1,27 @@
-ghost use Rattle.std.specs.Prelude.{◌≡◌, ◌+◌, map, length, IfOk, IfErr, OnOk, OnErr};
+ghost use Rattle.std.specs.Prelude.{◌≡◌, length, IfOk, IfErr, OnOk, OnErr};
 ghost use Rattle.ps_resolve.specs.Sources.{contents};
+ghost use Rattle.std.specs.Fmt.{WritesOnOk};
 ghost use Rattle.std.specs.Io.KnownBytes.{Appends};
 ghost use Rattle.ps_resolve.specs.Standing.{NoneStands};
-ghost use Rattle.ps_linkfile.specs.LinkedFile.{all_blocks, summary_of};
-ghost use Rattle.ps_linkfile.specs.Writing.{extents_of, file_of, summary_in, StandsFor};
+ghost use Rattle.ps_linkfile.specs.LinkedFile.{summary_of};
+ghost use Rattle.ps_linkfile.specs.MapText.{map_in, map_of};
+ghost use Rattle.ps_linkfile.specs.Writing.{file_of, summary_in, StandsFor};
 ghost use Rattle.ps_linkfile.specs.Outcomes.{AppendsPrefix, AppendsLinkedFile, NamesFirst, IsUnprepared, IsUnlinked, LeavesUntouched, LeavesPrefix};
 ghost use Rattle.ps_linkfile.specs.Counts.{AreAtMost, IfDevice, IfStalled, NoneFailed, OneError, OneStall, RisesByBytes, RisesByPieces};
 
 use crate::counts::Counts;
 use crate::error::{LinkError, WriteFault};
+use crate::layout::{Layout, lay_out};
+use crate::map::{LinkMap, add_map};
+use crate::stream::write_text;
 use crate::summary::Summary;
 use crate::tally::ByWriter;
 use crate::told::ToldWriter;
 use crate::writing::write_file;
 use ps_laws::{bytes_are_linked, first_of_all};
 use ps_resolve::{Plan, resolve, slot_names_are_whole};
-use ps_words::blocks_of;
 use std::alloc::{Allocator, Global};
+use std::fmt::{self, Formatter};
 use std::io::Write;
 use std::marker::Model;
 
@@ -25,17 +30,18 @@ use std::marker::Model;
 #[derive(Drop)]
 pub struct Linked<'a, A: Allocator + Copy = Global> {
     plan: Plan<'a, A>,
+    layout: Layout,
 }
 
 impl<'a, A: Allocator + Copy> Model for Linked<'a, A> {
     ghost use Rattle.ps_resolve.specs.Plans.{Planned};
-    ghost use Rattle.ps_linkfile.specs.Writing.{IsReady};
+    ghost use Rattle.ps_linkfile.specs.Writing.{IsLaidOut};
 
     ghost Value = { Planned };
 
     ghost view = { λ l. l.plan };
 
-    ghost invariant = { λ l. IsReady l.plan };
+    ghost invariant = { λ l. IsLaidOut l.plan l.layout.starts.items l.layout.blocks };
 }
 
 impl<'a, A: Allocator + Copy> Linked<'a, A> {
@@ -43,15 +49,10 @@ impl<'a, A: Allocator + Copy> Linked<'a, A> {
     fn summary(&self) -> Summary
         ensures { result ≡ summary_in self.now }
     {
-        let sources = self.plan.sources();
-        let mut blocks = 1;
-        for source in sources {
-            blocks += blocks_of(source.code.len());
-        }
         Summary {
-            segments: sources.len(),
+            segments: self.plan.sources().len(),
             private_words: self.plan.private_words(),
-            blocks,
+            blocks: self.layout.blocks,
         }
     }
 
@@ -67,7 +68,8 @@ impl<'a, A: Allocator + Copy> Linked<'a, A> {
         ensures prefix { OnErr result (AppendsPrefix (W.contents out.old) (W.contents out.new)
             (file_of self.now)) }
     {
-        write_file(&self.plan, out, &mut Counts::new())?;
+        let starts = self.layout.starts.as_slice();
+        write_file(&self.plan, starts, out, &mut Counts::new())?;
         Ok(self.summary())
     }
 
@@ -97,8 +99,28 @@ impl<'a, A: Allocator + Copy> Linked<'a, A> {
         ensures stalled { IfErr result (λ e. IfStalled e
             (OneStall (W.counts out.old) (W.counts out.new))) }
     {
-        write_file(&self.plan, out, &mut ByWriter)?;
+        let starts = self.layout.starts.as_slice();
+        write_file(&self.plan, starts, out, &mut ByWriter)?;
         Ok(self.summary())
+    }
+
+    /// Adds the map of the link.
+    pub(crate) fn add_map<W: fmt::Write>(&self, text: &mut Formatter<W>) -> fmt::Result
+        ensures { WritesOnOk W.write_str_gives text.old result (map_in self.now) text.new }
+    {
+        add_map(text, &self.plan, &self.layout)
+    }
+
+    /// Writes the map of the link, the text that `map_text` returns, in pieces. It takes no memory.
+    ///
+    /// Refuses `Device` where a write returned an error, which is not repeated, and `Stalled` where a
+    /// write of at least one byte took none. The writer then has a prefix of the map.
+    /// Source: this project's profile.
+    pub fn write_map<W: Write>(&self, out: &mut W) -> Result<(), WriteFault>
+        ensures { OnOk result (Appends (W.contents out.old) (W.contents out.new)
+            (map_in self.now)) }
+    {
+        write_text(LinkMap(self), out)
     }
 }
 
@@ -115,6 +137,7 @@ pub fn prepare<'a, A: Allocator + Copy>(
     libs: &'a [&'a [u8]],
 ) -> Result<Linked<'a, A>, LinkError>
     ensures linked { IfOk result (StandsFor host.now (contents libs.now)) }
+    ensures map { IfOk result (λ linked. map_in linked ≡ map_of host.now (contents libs.now)) }
     ensures accepted { IfOk result (λ _. NoneStands host.now (contents libs.now)) }
     ensures error { IfErr result (IsUnprepared host.now (contents libs.now)) }
     ensures first { IfErr result (NamesFirst host.now (contents libs.now)) }
@@ -123,7 +146,8 @@ pub fn prepare<'a, A: Allocator + Copy>(
     let plan = resolve(alloc, host, libs)?;
     bytes_are_linked();
     slot_names_are_whole();
-    Ok(Linked { plan })
+    let layout = lay_out(plan.sources());
+    Ok(Linked { plan, layout })
 }
 
 /// Links a host with the units that it uses, and writes the linked file.

@@ -1,21 +1,23 @@
 //! The map of a link, as text.
-ghost use Rattle.std.specs.Prelude.{◌≡◌, ◌+◌, ◌++◌, None, IfOk, IfErr, OnOk, length, map, string_bytes};
-ghost use Rattle.ps_resolve.specs.Sources.{contents};
+ghost use Rattle.std.specs.Prelude.{◌≡◌, None, IfOk, IfErr, length};
+ghost use Rattle.std.specs.Fmt.{WritesOnOk};
 ghost use Rattle.std.specs.List.{flat_map};
 ghost use Rattle.ps_resolve.specs.AllFaults.{first_fault};
+ghost use Rattle.ps_resolve.specs.Sources.{contents};
 ghost use Rattle.ps_resolve.specs.Standing.{NoneStands};
-ghost use Rattle.ps_linkfile.specs.LinkedFile.{all_blocks};
-ghost use Rattle.ps_linkfile.specs.Writing.{extents_of, IsReady};
+ghost use Rattle.ps_linkfile.specs.Writing.{extents_of, starts_of, IsLaidOut, IsReady};
 ghost use Rattle.ps_linkfile.specs.Outcomes.{IsUnprepared, NamesFirst};
-ghost use Rattle.ps_linkfile.specs.MapText.{added_word as added_word_spec, code_line, source_line, kind_word as kind_word_spec, definition_line, private_line, map_in, map_of};
+ghost use Rattle.ps_linkfile.specs.MapText.{added_word as added_word_spec, code_line, source_line, kind_word as kind_word_spec, definition_line, private_line, last_line, map_in, map_of};
 
 use crate::error::LinkError;
-use crate::lines::{Shown, TwoDigits, add_name, add_number, add_slot_name};
+use crate::layout::Layout;
+use crate::lines::{Shown, TwoDigits, write_number, write_slot_name};
+use crate::linked::{Linked, prepare};
 use ps_laws::first_of_all;
-use ps_resolve::{Def, DefKind, Definitions, Plan, Private, Source, resolve};
-use ps_words::{Name, blocks_of};
-use std::alloc::{AllocError, Allocator};
-use std::fmt::Write as _;
+use ps_resolve::{Def, DefKind, Definitions, Plan, Private, Source};
+use ps_words::Name;
+use std::alloc::Allocator;
+use std::fmt::{self, Display, Formatter};
 
 /// What ends the line of a segment, where it was added for a UNITREF record.
 fn added_word(added: bool) -> &'static str
@@ -25,15 +27,15 @@ fn added_word(added: bool) -> &'static str
 }
 
 /// Adds the line of a segment of this name, whose code begins in this block.
-fn add_segment<A: Allocator>(
-    text: &mut String<A>,
+fn add_segment<W: fmt::Write>(
+    text: &mut Formatter<W>,
     source: &Source,
     name: Name,
-    block: usize,
-) -> Result<(), AllocError>
-    ensures { OnOk result (string_bytes text.new
-        ≡ string_bytes text.old ++ code_line source.now.slot name source.now.file source.now.index
-        block (length source.now.code.now) source.now.added) }
+    block: u16,
+) -> fmt::Result
+    ensures { WritesOnOk W.write_str_gives text.old result
+        (code_line source.now.slot name source.now.file source.now.index block
+        (length source.now.code.now) source.now.added) text.new }
 {
     writeln!(
         text,
@@ -47,24 +49,22 @@ fn add_segment<A: Allocator>(
     )
 }
 
-/// Adds a line for each segment, by slot. Returns how many blocks the linked file has.
-fn add_segments<A: Allocator + Copy>(
-    text: &mut String<A>,
+/// Adds a line for each segment, by slot. Their codes begin in these blocks.
+fn add_segments<A: Allocator + Copy, W: fmt::Write>(
+    text: &mut Formatter<W>,
     plan: &Plan<'_, A>,
-) -> Result<usize, AllocError>
-    requires { IsReady plan.now }
-    ensures lines { OnOk result (string_bytes text.new
-        ≡ string_bytes text.old ++ flat_map (source_line plan.now.names (extents_of plan.now))
-        plan.now.origins) }
-    ensures blocks { IfOk result (λ blocks. blocks ≡ 1 + all_blocks (extents_of plan.now)) }
+    starts: &[u16],
+) -> fmt::Result
+    requires ready { IsReady plan.now }
+    requires starts { starts.now ≡ starts_of (extents_of plan.now) }
+    ensures { WritesOnOk W.write_str_gives text.old result
+        (flat_map (source_line plan.now.names (extents_of plan.now)) plan.now.origins) text.new }
 {
     let names = plan.names();
-    let mut block = 1;
-    for source in plan.sources() {
-        add_segment(text, source, names[source.slot as usize], block)?;
-        block += blocks_of(source.code.len());
+    for (k, source) in plan.sources().iter().enumerate() {
+        add_segment(text, source, names[source.slot as usize], starts[k])?;
     }
-    Ok(block)
+    Ok(())
 }
 
 /// What the map calls a definition.
@@ -78,28 +78,23 @@ fn kind_word(kind: DefKind) -> &'static str
 }
 
 /// Adds the line of a definition.
-fn add_definition<A: Allocator>(
-    text: &mut String<A>,
-    name: Name,
-    def: Def,
-) -> Result<(), AllocError>
-    ensures { OnOk result (string_bytes text.new
-        ≡ string_bytes text.old ++ definition_line (name, def)) }
+fn add_definition<W: fmt::Write>(text: &mut Formatter<W>, name: Name, def: Def) -> fmt::Result
+    ensures { WritesOnOk W.write_str_gives text.old result (definition_line (name, def)) text.new }
 {
-    text.push_str(kind_word(def.kind))?;
-    text.push_str(" ")?;
-    add_name(text, name)?;
-    add_number(text, " value ", def.value)?;
-    text.push_str("\n")
+    text.write_str(kind_word(def.kind))?;
+    text.write_str(" ")?;
+    Shown(name).fmt(text)?;
+    write_number(text, " value ", def.value)?;
+    text.write_str("\n")
 }
 
 /// Adds a line for each definition, in record order.
-fn add_definitions<A: Allocator + Copy>(
-    text: &mut String<A>,
+fn add_definitions<A: Allocator + Copy, W: fmt::Write>(
+    text: &mut Formatter<W>,
     definitions: &Definitions<A>,
-) -> Result<(), AllocError>
-    ensures { OnOk result (string_bytes text.new
-        ≡ string_bytes text.old ++ flat_map definition_line definitions.now) }
+) -> fmt::Result
+    ensures { WritesOnOk W.write_str_gives text.old result
+        (flat_map definition_line definitions.now) text.new }
 {
     let count = definitions.len();
     for i in 0..count {
@@ -110,20 +105,19 @@ fn add_definitions<A: Allocator + Copy>(
 }
 
 /// Adds the line of a private variable.
-fn add_private<A: Allocator>(text: &mut String<A>, private: &Private) -> Result<(), AllocError>
-    ensures { OnOk result (string_bytes text.new
-        ≡ string_bytes text.old ++ private_line private.now) }
+fn add_private<W: fmt::Write>(text: &mut Formatter<W>, private: &Private) -> fmt::Result
+    ensures { WritesOnOk W.write_str_gives text.old result (private_line private.now) text.new }
 {
-    add_slot_name(text, "private ", private.slot, private.name)?;
-    add_number(text, " offset ", private.offset)?;
-    add_number(text, " words ", private.words)?;
-    text.push_str("\n")
+    write_slot_name(text, "private ", private.slot, private.name)?;
+    write_number(text, " offset ", private.offset)?;
+    write_number(text, " words ", private.words)?;
+    text.write_str("\n")
 }
 
 /// Adds a line for each private variable, by slot and then by record.
-fn add_privates<A: Allocator>(text: &mut String<A>, privates: &[Private]) -> Result<(), AllocError>
-    ensures { OnOk result (string_bytes text.new
-        ≡ string_bytes text.old ++ flat_map private_line privates.now) }
+fn add_privates<W: fmt::Write>(text: &mut Formatter<W>, privates: &[Private]) -> fmt::Result
+    ensures { WritesOnOk W.write_str_gives text.old result (flat_map private_line privates.now)
+        text.new }
 {
     for private in privates {
         add_private(text, private)?;
@@ -131,19 +125,48 @@ fn add_privates<A: Allocator>(text: &mut String<A>, privates: &[Private]) -> Res
     Ok(())
 }
 
-/// The map of a plan.
-fn map_of_plan<A: Allocator + Copy>(alloc: A, plan: &Plan<'_, A>) -> Result<String<A>, AllocError>
-    requires { IsReady plan.now }
-    ensures { IfOk result (λ text. string_bytes text ≡ map_in plan.now) }
+/// Adds the last line: what is free behind the private variables, the data size, and the blocks.
+fn add_last<A: Allocator + Copy, W: fmt::Write>(
+    text: &mut Formatter<W>,
+    plan: &Plan<'_, A>,
+    blocks: usize,
+) -> fmt::Result
+    ensures { WritesOnOk W.write_str_gives text.old result
+        (last_line plan.now.next_free plan.now.data_size blocks) text.new }
 {
-    let mut text = String::new(alloc);
-    let blocks = add_segments(&mut text, plan)?;
-    add_definitions(&mut text, plan.definitions())?;
-    add_privates(&mut text, plan.allotment().privates())?;
     let next_free = plan.next_free();
     let data_size = plan.data_size();
-    writeln!(text, "next {next_free} data {data_size} blocks {blocks}")?;
-    Ok(text)
+    writeln!(text, "next {next_free} data {data_size} blocks {blocks}")
+}
+
+/// Adds the map of a plan with this layout.
+pub(crate) fn add_map<A: Allocator + Copy, W: fmt::Write>(
+    text: &mut Formatter<W>,
+    plan: &Plan<'_, A>,
+    layout: &Layout,
+) -> fmt::Result
+    requires { IsLaidOut plan.now layout.now.starts.items layout.now.blocks }
+    ensures { WritesOnOk W.write_str_gives text.old result (map_in plan.now) text.new }
+{
+    add_segments(text, plan, layout.starts.as_slice())?;
+    add_definitions(text, plan.definitions())?;
+    add_privates(text, plan.allotment().privates())?;
+    add_last(text, plan, layout.blocks)
+}
+
+/// The map of a link that was checked.
+#[derive(Clone, Copy)]
+pub(crate) struct LinkMap<'l, 'a, A: Allocator + Copy>(pub(crate) &'l Linked<'a, A>);
+
+impl<A: Allocator + Copy> fmt::Display for LinkMap<'_, '_, A> {
+    ghost use Rattle.std.specs.Prelude.{Some};
+    ghost use Rattle.ps_linkfile.specs.MapText.{map_in};
+
+    ghost output = { λ m. Some (map_in m.0.now) };
+
+    fn fmt<W: fmt::Write>(&self, f: &mut Formatter<W>) -> fmt::Result {
+        self.0.add_map(f)
+    }
 }
 
 /// The map of a link, as lines of ASCII text, each ended by a byte 10: for each segment of the linked
@@ -173,7 +196,6 @@ pub fn map_text<'a, A: Allocator + Copy>(
     ensures first { IfErr result (NamesFirst host.now (contents libs.now)) }
 {
     first_of_all();
-    let plan = resolve(alloc, host, libs)?;
-    let text = map_of_plan(alloc, &plan)?;
-    Ok(text.into_bytes())
+    let linked = prepare(alloc, host, libs)?;
+    Ok(LinkMap(&linked).to_string(alloc)?.into_bytes())
 }

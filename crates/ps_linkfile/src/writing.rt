@@ -6,7 +6,7 @@ ghost use Rattle.ps_words.specs.Words.{blocks};
 ghost use Rattle.ps_codefile.specs.Dictionary.{block_len, max_code_len};
 ghost use Rattle.ps_patch.specs.Patched.{patched_or_zero};
 ghost use Rattle.ps_linkfile.specs.LinkedFile.{all_blocks, padded};
-ghost use Rattle.ps_linkfile.specs.Writing.{extents_of, file_of, padded_codes, summary_in, HaveEdits, IsReady};
+ghost use Rattle.ps_linkfile.specs.Writing.{extents_of, file_of, padded_codes, starts_of, summary_in, HaveEdits, IsReady};
 ghost use Rattle.ps_linkfile.specs.Outcomes.{AppendsPrefix};
 ghost use Rattle.ps_linkfile.specs.Counts.{AreAtMost, CanCount, NoneFailed, OneFailed, Rises};
 
@@ -121,13 +121,15 @@ fn write_codes<A: Allocator + Copy, W: Write, T: Tally<W>>(
     Ok(())
 }
 
-/// Writes the linked file: its segment dictionary, and then the codes.
+/// Writes the linked file: its segment dictionary, and then the codes, which begin in these blocks.
 pub(crate) fn write_file<A: Allocator + Copy, W: Write, T: Tally<W>>(
     plan: &Plan<'_, A>,
+    starts: &[u16],
     out: &mut W,
     tally: &mut T,
 ) -> Result<(), WriteFault>
     requires ready { IsReady plan.now }
+    requires starts { starts.now ≡ starts_of (extents_of plan.now) }
     requires counts { AreAtMost (T.counts tally.old out.old) 4294967296 }
     ensures all { OnOk result (Appends (W.contents out.old) (W.contents out.new)
         (file_of plan.now)) }
@@ -140,6 +142,6 @@ pub(crate) fn write_file<A: Allocator + Copy, W: Write, T: Tally<W>>(
     ensures failed { IfErr result (λ fault. OneFailed fault (T.counts tally.old out.old)
         (T.counts tally.new out.new)) }
 {
-    write_all_of(out, tally, &dictionary_of(plan))?;
+    write_all_of(out, tally, &dictionary_of(plan, starts))?;
     write_codes(plan, out, tally)
 }

@@ -1,8 +1,17 @@
-use Rattle.std.specs.Prelude.{string_bytes}
+use Rattle.std.proofs.Common.{arith, refl, rules}
 use Rattle.ps_linkfile.specs.MapText.{definition_line}
-use Rattle.ps_linkfile.proofs.Maps.{added_got}
+use Rattle.ps_linkfile.proofs.Views.{got}
+use Rattle.ps_linkfile.proofs.Written.{all_written, items_left, items_over, none_yet, some_more}
 use Rattle.ps_linkfile.proofs.map.add_definitions.Goals as goal
+
+pub loop-i-init : goal.loop-i-init
+loop-i-init g c = none_yet _ c.args.text.now _ _ refl
 
 pub loop-i-preserved : goal.loop-i-preserved
 loop-i-preserved g c =
-    added_got definition_line (string_bytes c.args.text.now) (string_bytes c.loop-i.text) (string_bytes c.add_definition.new.text) c.args.definitions.now c.loop-i.i c.at.result c.at.ensures c.loop-i.invariant c.in_ok-add_definition.ensures
+    let defs = c.args.definitions.now in
+    some_more _ _ _ c.loop-i.text _ _ _ _ (items_left definition_line defs c.loop-i.i c.at.result (got defs c.loop-i.i c.at.result c.at.ensures)) c.loop-i.invariant (λ plain. c.in_ok-add_definition.ensures plain (search rules))
+
+pub returns : goal.returns
+returns g c plain ok =
+    all_written _ _ _ c.loop-i.text _ (items_over definition_line c.args.definitions.now c.loop-i.i (omega (arith, c.len-count.ensures, c.loop-i-test.false))) c.loop-i.invariant plain

@@ -1,9 +1,17 @@
-use Rattle.std.specs.Prelude.{string_bytes}
-use Rattle.std.proofs.lemmas.List.{take_more}
+use Rattle.std.proofs.Common.{arith, refl, rules}
+use Rattle.std.proofs.lemmas.List.{drop_more}
 use Rattle.ps_linkfile.specs.MapText.{private_line}
-use Rattle.ps_linkfile.proofs.Maps.{added}
+use Rattle.ps_linkfile.proofs.Written.{all_written, items_left, items_over, none_yet, some_more}
 use Rattle.ps_linkfile.proofs.map.add_privates.Goals as goal
+
+pub loop-private-init : goal.loop-private-init
+loop-private-init g c = none_yet _ c.args.text.now _ _ refl
 
 pub loop-private-preserved : goal.loop-private-preserved
 loop-private-preserved g c =
-    added private_line (string_bytes c.args.text.now) (string_bytes c.loop-private.text) (string_bytes c.add_private.new.text) c.args.privates.now c.loop-private.private-index _ (take_more c.args.privates.now c.loop-private.private-index _ c.loop-private-test.true) c.loop-private.invariant c.in_ok-add_private.ensures
+    let ps = c.args.privates.now in
+    some_more _ _ _ c.loop-private.text _ _ _ _ (items_left private_line ps c.loop-private.private-index _ (drop_more ps c.loop-private.private-index _ c.loop-private-test.true)) c.loop-private.invariant (λ plain. c.in_ok-add_private.ensures plain (search rules))
+
+pub returns : goal.returns
+returns g c plain ok =
+    all_written _ _ _ c.loop-private.text _ (items_over private_line c.args.privates.now c.loop-private.private-index (omega (arith, c.loop-private-test.false))) c.loop-private.invariant plain

@@ -1,36 +1,48 @@
-use Rattle.std.proofs.Common.{◌≡◌, ◌∙◌, ◌+◌, ◌<◌, ℕ, List, [], length, get_or, sym, ap, subst, arith}
-use Rattle.std.specs.Prelude.{string_bytes, ◌++◌}
-use Rattle.std.proofs.lemmas.Option.{unwrap_or-slice_get}
-use Rattle.ps_resolve.specs.Plans.{origin_of_source}
-use Rattle.ps_linkfile.specs.MapText.{code_line, name_in}
-use Rattle.ps_linkfile.proofs.Views.{no_source, seen_small, size_at}
-use Rattle.ps_linkfile.proofs.Maps.{LinesSoFar, lines_more, next_line, source_at}
+use Rattle.std.proofs.Common.{◌≡◌, ◌+◌, ◌++◌, ◌∙◌, ℕ, List, [], length, drop, get_or, refl, rules, sym, ap, arith}
+use Rattle.std.specs.List.{flat_map}
+use Rattle.std.proofs.lemmas.List.{length-map}
+use Rattle.ps_resolve.specs.Plans.{Origin, origin_of_source}
+use Rattle.ps_linkfile.specs.MapText.{code_line, source_line}
+use Rattle.ps_linkfile.specs.Writing.{extents_of, starts_of}
+use Rattle.ps_linkfile.proofs.Maps.{line_at}
+use Rattle.ps_linkfile.proofs.Views.{many_starts, no_source, seen, seen_ascend, slot_at, source_at}
+use Rattle.ps_linkfile.proofs.Written.{all_written, items_left, items_over, none_yet, some_more}
 use Rattle.ps_linkfile.proofs.map.add_segments.Goals as goal
+
+pub loop-k-init : goal.loop-k-init
+loop-k-init g c = none_yet _ c.args.text.now _ _ refl
 
 pub bounds-names-source : goal.bounds-names-source
 bounds-names-source g c =
     let plan = c.args.plan.now in
     let ss = c.sources-source-items.result.now in
-    let i = c.loop-source.source-index in
-    let o = origin_of_source (get_or ss i no_source) in
-    let low : o.slot < 16 = (next_line plan.names plan.origins i _ _ _ _ o (source_at ss plan.origins i c.sources-source-items.ensures.origins c.loop-source-test.true) c.loop-source.invariant.1).0 in
+    let low = slot_at ss c.loop-k.k (seen_ascend ss plan.origins c.sources-source-items.ensures.origins c.requires.ready.slots) c.loop-k-test.true in
     omega (arith, low)
 
-pub loop-source-preserved : goal.loop-source-preserved
-loop-source-preserved g c =
+pub bounds-starts-k : goal.bounds-starts-k
+bounds-starts-k g c =
     let plan = c.args.plan.now in
     let ss = c.sources-source-items.result.now in
-    let i = c.loop-source.source-index in
-    let block = c.loop-source.block in
-    let o = origin_of_source (get_or ss i no_source) in
-    let at = source_at ss plan.origins i c.sources-source-items.ensures.origins c.loop-source-test.true in
-    let low : o.slot < 16 = (next_line plan.names plan.origins i _ _ _ _ o at c.loop-source.invariant.1).0 in
-    let name : get_or c.names-names.result.now o.slot [] ≡ name_in plan.names o.slot =
-    ap (λ (names : List (List ℕ)). get_or names o.slot []) c.names-names.ensures ∙ sym (unwrap_or-slice_get plan.names o.slot []) in
-    let line : string_bytes c.add_segment.new.text ≡ string_bytes c.loop-source.text ++ code_line o.slot (name_in plan.names o.slot) o.file o.index block (length o.code) o.added =
-    c.in_ok-add_segment.ensures ∙ ap (λ (xs : List ℕ). string_bytes c.loop-source.text ++ code_line o.slot xs o.file o.index block (length o.code) o.added) name in
-    let small = size_at ss i (seen_small ss plan.origins c.sources-source-items.ensures.origins c.requires.sizes) c.loop-source-test.true in (
-      o.slot + 1,
-      subst (λ (b : ℕ). LinesSoFar plan.names plan.origins (i + 1) (string_bytes c.args.text.now) (string_bytes c.add_segment.new.text) (block + b) (o.slot + 1)) (sym c.blocks_of-block.ensures)
-          (lines_more plan.names plan.origins i _ _ _ block _ o at small c.loop-source.invariant.1 line),
-    )
+    let many = many_starts ss c.args.starts.now (c.requires.starts ∙ ap starts_of (seen ss plan.origins c.sources-source-items.ensures.origins)) in
+    omega (arith, many, c.loop-k-test.true)
+
+pub loop-k-preserved : goal.loop-k-preserved
+loop-k-preserved g c =
+    let plan = c.args.plan.now in
+    let ss = c.sources-source-items.result.now in
+    let k = c.loop-k.k in
+    let o = origin_of_source (get_or ss k no_source) in
+    let line_of = source_line plan.names (extents_of plan) in
+    let origins = c.sources-source-items.ensures.origins in
+    let rest = flat_map line_of (drop (k + 1) plan.origins) in
+    let written : List (List ℕ) → List ℕ = λ names. code_line o.slot (get_or names o.slot []) o.file o.index (get_or c.args.starts.now k 0) (length o.code) o.added in
+    let line : written c.names-names.result.now ≡ line_of o = ap written c.names-names.ensures ∙ line_at plan.names c.args.starts.now ss plan.origins k origins c.requires.starts c.loop-k-test.true in
+    let left = items_left line_of plan.origins k o (source_at ss plan.origins k origins c.loop-k-test.true) in
+    some_more _ _ _ c.loop-k.text _ _ _ _ (left ∙ ap (λ (bs : List ℕ). bs ++ rest) (sym line)) c.loop-k.invariant (λ plain. c.in_ok-add_segment.ensures plain (search rules))
+
+pub returns : goal.returns
+returns g c plain ok =
+    let plan = c.args.plan.now in
+    let ss = c.sources-source-items.result.now in
+    let long : length plan.origins ≡ length ss = ap (λ (ps : List Origin). length ps) (sym c.sources-source-items.ensures.origins) ∙ length-map ss origin_of_source in
+    all_written _ _ _ c.loop-k.text _ (items_over (source_line plan.names (extents_of plan)) plan.origins c.loop-k.k (omega (arith, long, c.loop-k-test.false))) c.loop-k.invariant plain
