@@ -1,5 +1,5 @@
 -- Segments of the files, seen one by one as segments of the link.
-use Rattle.std.proofs.Common.{◌≡◌, ℕ, zero, suc, ◌+◌, ◌<◌, ◌++◌, List, [], ◌∷◌, length, map, get_or, drop, false, refl, sym, ◌∙◌, ap, subst, arith, add-one, drop-cons, append_assoc}
+use Rattle.std.proofs.Common.{◌≡◌, ℕ, zero, suc, ◌+◌, ◌<◌, ◌++◌, List, [], ◌∷◌, length, map, get_or, drop, false, refl, sym, ◌∙◌, ap, subst, arith, add-one, drop-cons, append_assoc, None}
 use Rattle.std.specs.Prelude.{All}
 use Rattle.std.proofs.lemmas.List.{map-append}
 use Rattle.std.proofs.lemmas.List.Elements.{All-tail}
@@ -36,4 +36,4 @@ slots_are (s ∷ ss) = rw (slots_are ss) refl
 
 -- a segment of none of the files, which is read past the end of a list
 abbrev pub blank : SegmentView
-blank = record { slot = 0; name = []; role = Empty; added = false; file = 0; index = 0; code = record { ref_ptr = (0, 0); now = [] }; block = 0; records = [] }
+blank = record { slot = 0; name = []; role = Empty; added = false; file = 0; index = 0; code = record { ref_ptr = (0, 0); now = [] }; procedures = None; block = 0; records = [] }

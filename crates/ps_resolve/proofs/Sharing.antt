@@ -18,7 +18,7 @@ use Rattle.ps_linkinfo.specs.declared.record.Body.TheVariants.{UnitRef, PublRef,
 use Rattle.ps_linkinfo.specs.declared.record.LinkRecord.{LinkRecord as Record}
 use Rattle.ps_codefile.specs.Roles.{is_linked, is_host}
 use Rattle.ps_resolve.specs.Sources.{file_at}
-use Rattle.ps_resolve.specs.Views.{segment_of, IsPlaced, IsLike, AreAlike, HasRow}
+use Rattle.ps_resolve.specs.Views.{segment_of, IsPlaced, HasTables, IsLike, AreAlike, HasRow}
 use Rattle.ps_resolve.specs.Operands.{edit_of, operands, refs_fault}
 use Rattle.ps_resolve.specs.References.{Known, HasTarget, HaveTargets, target_in, target_of, words_taken, records_fault, records_edits}
 use Rattle.ps_resolve.specs.Stops.{IsStop}
@@ -38,11 +38,15 @@ like_by : (order : Order) (host : List ℕ) (libs : List (List ℕ)) (s q : Segm
 like_by order host libs s q hs hq ls lq file block =
     let same : reading order (drop (512 * s.block) (file_at host libs s.file)) ≡ reading order (drop (512 * q.block) (file_at host libs q.file)) =
     ap (λ (n : ℕ). reading order (drop (512 * n) (file_at host libs s.file))) block ∙ ap (λ (n : ℕ). reading order (drop (512 * q.block) (file_at host libs n))) file in
-    ap (λ (read : List Record × Option Reason). read.0) (sym (hs ls) ∙ (same ∙ hq lq))
+    ap (λ (read : List Record × Option Reason). read.0) (sym (hs.0 ls) ∙ (same ∙ hq.0 lq))
 
 -- segments whose records are those of their places are alike
 pub placed_alike : (order : Order) (host : List ℕ) (libs : List (List ℕ)) (segs : List SegmentView) → All (IsPlaced order host libs) segs → AreAlike segs
 placed_alike order host libs segs all = λ i d l. λ j e m. like_by order host libs (get_or segs i d) (get_or segs j e) (all i d l) (all j e m)
+
+-- and they have the procedure tables of their codes
+pub placed_tables : (order : Order) (host : List ℕ) (libs : List (List ℕ)) (segs : List SegmentView) → All (IsPlaced order host libs) segs → All (HasTables order) segs
+placed_tables order host libs segs all = λ i d l. (all i d l).1
 
 -- what holds of the records of each segment holds of those of one that is like them
 pub of_row : (P : List Record → Type 0) (segs : List SegmentView) (s : SegmentView) (rs : List Record) → is_linked s.role ≡ true → All (IsLike s) segs → All (λ q. P q.records) segs → HasRow segs s.file s.block rs → P s.records

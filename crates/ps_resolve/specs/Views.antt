@@ -1,6 +1,6 @@
 -- The segments that the files have, seen as the segments of the link, and what is known of them once the files were read without a fault.
 -- Source: this project's profile.
-use Rattle.std.specs.Prelude.{◌≡◌, ◌≤◌, ◌*◌, ◌==◌, if◌then◌else◌, ℕ, All, List, [], length, drop, Bool, true, false, Option, None}
+use Rattle.std.specs.Prelude.{◌≡◌, ◌≤◌, ◌*◌, ◌==◌, if◌then◌else◌, ℕ, All, List, [], length, drop, Bool, true, false, Option, Some, None}
 use Rattle.std.specs.List.{find, filter_map, Contains}
 use Rattle.std.specs.Option.{option_or}
 use Rattle.ps_words.specs.declared.order.Order.{Order}
@@ -30,9 +30,13 @@ segment_of s = record {
 abbrev pub IsRowOf : Order → List ℕ → Entry → List Record → Type 0
 IsRowOf order file e rs = reading order (information_of file e) ≡ (rs, None)
 
+-- the procedure tables of its code, where its references are resolved
+abbrev pub HasTables : Order → SegmentView → Type 0
+HasTables order s = s.procedures ≡ (if is_linked s.role then Some (record { order = order; code = s.code.now }) else None)
+
 -- the link information of the segment, where its references are resolved, begins in its block of its file, and its records are all that stand there
 abbrev pub IsPlaced : Order → List ℕ → List (List ℕ) → SegmentView → Type 0
-IsPlaced order host libs s = is_linked s.role ≡ true → reading order (drop (block_len * s.block) (file_at host libs s.file)) ≡ (s.records, None)
+IsPlaced order host libs s = (is_linked s.role ≡ true → reading order (drop (block_len * s.block) (file_at host libs s.file)) ≡ (s.records, None)) × HasTables order s
 
 -- where the link information of two linked segments begins in one block of one file, they have the same records
 abbrev pub IsLike : SegmentView → SegmentView → Type 0

@@ -11,7 +11,7 @@ ghost use Rattle.ps_resolve.specs.References.{HaveTargets};
 ghost use Rattle.ps_codefile.specs.Roles.{is_linked as is_linked_spec, is_host as is_host_spec};
 ghost use Rattle.ps_resolve.specs.Sources.{Segment as SegmentSpec, host_of as host_of_spec};
 ghost use Rattle.ps_resolve.specs.Stops.{IsStop};
-ghost use Rattle.ps_resolve.specs.Views.{segment_of, IsSound, IsLike, AreAlike, HasRow};
+ghost use Rattle.ps_resolve.specs.Views.{segment_of, IsSound, HasTables, IsLike, AreAlike, HasRow};
 ghost use Rattle.ps_linkinfo.specs.Counts.{privates_in, references_in};
 ghost use Rattle.ps_linkinfo.specs.declared.record.LinkRecord.{LinkRecord as Record};
 ghost use Rattle.ps_resolve.specs.declared.linkage.Stop.TheVariants.{Memory};
@@ -46,36 +46,34 @@ fn host_of<'a>(segments: &[Segment<'a>]) -> Option<Segment<'a>>
 /// The edits of a segment whose references are resolved.
 fn linked_edits<A: Allocator + Copy>(
     alloc: A,
-    order: Order,
     names: &Names<A>,
+    procedures: &Procs,
     segment: &Segment,
     free: u16,
     own: Option<Edit>,
 ) -> Result<(Vec<Edit, A>, u16), Stop>
     requires linked { is_linked_spec segment.now.role ≡ true }
-    requires sound { IsSound order (segment_of segment.now) }
+    requires sound { IsSound procedures.now.order (segment_of segment.now) }
+    requires own_code { procedures.now.code ≡ segment.now.code.now }
     requires room { free + private_words segment.now.records < 65536 }
-    requires table { IfSome own (IsOfTable order segment.now.code.now) }
+    requires table { IfSome own (IsOfTable procedures.now.order segment.now.code.now) }
     ensures links { (words : ℕ)
         → option_to_list own ≡ (if is_host_spec segment.now.role
-        then data_edits order words segment.now.code.now else [])
-        → IfOk result (λ found. LinksSegment order
+        then data_edits procedures.now.order words segment.now.code.now else [])
+        → IfOk result (λ found. LinksSegment procedures.now.order
         (record {
           segment = segment_of segment.now;
-          edits = segment_edits_spec order names.now
+          edits = segment_edits_spec procedures.now.order names.now
               words free (segment_of segment.now);
         }) found.0.items) }
     ensures end { IfOk result (λ found. found.1 ≡ free + private_words segment.now.records) }
     ensures sound { OnOk result
-        (segment_fault order names.now free (segment_of segment.now) ≡ None) }
+        (segment_fault procedures.now.order names.now free (segment_of segment.now) ≡ None) }
     ensures stop { IfErr result
-        (IsStop ⊤ (segment_fault order names.now free (segment_of segment.now))) }
+        (IsStop ⊤ (segment_fault procedures.now.order names.now free (segment_of segment.now))) }
 {
     edits_patch_alike_in_any_order();
-    match Procs::read(order, segment.code, segment.role.is_host()) {
-        Err(_) => unreachable!(),
-        Ok(procedures) => edits_of(alloc, names, &procedures, segment, free, own),
-    }
+    edits_of(alloc, names, procedures, segment, free, own)
 }
 
 /// The edits of a segment in the order of their places, where the first of its privates has the offset `free`,
@@ -89,6 +87,7 @@ fn segment_edits<A: Allocator + Copy>(
     own: Option<Edit>,
 ) -> Result<(Vec<Edit, A>, u16), Stop>
     requires sound { IsSound order (segment_of segment.now) }
+    requires tables { HasTables order segment.now }
     requires room { free + private_words segment.now.records < 65536 }
     requires table { IfSome own (IsOfTable order segment.now.code.now) }
     ensures links { (words : ℕ)
@@ -106,10 +105,9 @@ fn segment_edits<A: Allocator + Copy>(
     ensures stop { IfErr result
         (IsStop ⊤ (segment_fault order names.now free (segment_of segment.now))) }
 {
-    if segment.role.is_linked() {
-        linked_edits(alloc, order, names, segment, free, own)
-    } else {
-        Ok((Vec::new(alloc), free))
+    match &segment.procedures {
+        None => Ok((Vec::new(alloc), free)),
+        Some(procedures) => linked_edits(alloc, names, procedures, segment, free, own),
     }
 }
 
@@ -139,6 +137,7 @@ fn next_edits<'a, A: Allocator + Copy>(
     own: Option<Edit>,
 ) -> Result<(Vec<Edit, A>, u16), Stop>
     requires sound { IsSound order (segment_of segment.now) }
+    requires tables { HasTables order segment.now }
     requires room { free + private_words segment.now.records < 65536 }
     requires table { IfSome own (IsOfTable order segment.now.code.now) }
     requires alike { All (IsLike segment.now) earlier.now }
@@ -188,6 +187,7 @@ fn all_edits<A: Allocator + Copy>(
     size: Edit,
 ) -> Result<Vec<Vec<Edit, A>, A>, Stop>
     requires sound { All (IsSound order) (map segment_of segments.now) }
+    requires tables { All (HasTables order) segments.now }
     requires room { base + all_words (map owner_of (map segment_of segments.now)) < 65536 }
     requires table { All (λ s. is_host_spec s.role ≡ true → IsOfTable order s.code size)
         (map segment_of segments.now) }
@@ -252,6 +252,7 @@ pub(crate) fn link_segments<'a, A: Allocator + Copy>(
     segments: &[Segment<'a>],
 ) -> Result<Plan<'a, A>, Stop>
     requires sound { All (IsSound order) (map segment_of segments.now) }
+    requires tables { All (HasTables order) segments.now }
     requires host { IsSome (host_of_spec (map segment_of segments.now)) }
     requires one_host { HasOneHost (map segment_of segments.now) }
     requires ascending { AscendFrom 0 (map (λ s. s.slot) (map segment_of segments.now)) }

@@ -3,7 +3,7 @@ ghost use Rattle.ps_linkinfo.specs.declared.record.LinkRecord.{LinkRecord as Rec
 ghost use Rattle.ps_codefile.specs.Roles.{is_linked as is_linked_spec};
 ghost use Rattle.ps_resolve.specs.Views.{HasRow};
 
-use ps_codefile::Role;
+use ps_codefile::{Procs, Role};
 use ps_linkinfo::LinkInformation;
 use ps_words::Name;
 
@@ -23,10 +23,22 @@ pub(crate) struct Segment<'a> {
     /// The slot of its entry in that file, 0 to 15.
     pub(crate) index: u8,
     pub(crate) code: &'a [u8],
+    /// Its procedure tables; None where the segment is linked already, since nothing looks there.
+    pub(crate) procedures: Option<Procs<'a>>,
     /// The block of that file, from 0, in which its link information begins.
     pub(crate) block: usize,
     /// Its link information, read whole; no records where the segment is linked already.
     pub(crate) records: LinkInformation<'a>,
+}
+
+/// The same procedure tables once more, where there are any.
+fn copied_tables<'a>(procedures: &Option<Procs<'a>>) -> Option<Procs<'a>>
+    ensures { result ≡ procedures.now }
+{
+    match procedures {
+        None => None,
+        Some(procedures) => Some(procedures.copied()),
+    }
 }
 
 impl<'a> Segment<'a> {
@@ -42,6 +54,7 @@ impl<'a> Segment<'a> {
             file: self.file,
             index: self.index,
             code: self.code,
+            procedures: copied_tables(&self.procedures),
             block: self.block,
             records: self.records.copied(),
         }

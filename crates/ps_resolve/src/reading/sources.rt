@@ -17,7 +17,7 @@ use crate::reading::units::unit_source;
 use arrayvec::ArrayVec;
 use ps_codefile::{Dict, Procs, Role};
 use ps_linkinfo::LinkInformation;
-use ps_words::{Fault, Name, Order, Reason, blocks_of};
+use ps_words::{Fault, Name, Order, blocks_of};
 
 impl<'a> Default for Segment<'a> {
     fn default() -> Self {
@@ -29,6 +29,7 @@ impl<'a> Default for Segment<'a> {
             file: 0,
             index: 0,
             code: &[],
+            procedures: None,
             block: 0,
             records: LinkInformation::none(),
         }
@@ -50,6 +51,26 @@ fn read_information<'a>(
     match LinkInformation::read(order, information) {
         Err(fault) => Err(Fault::in_record(file, slot, fault.rec, fault.reason)),
         Ok(records) => Ok(records),
+    }
+}
+
+/// The link information of a linked segment, or its first fault; it is not read again where it is known.
+fn records_or_known<'a>(
+    order: Order,
+    information: &'a [u8],
+    file: usize,
+    slot: u8,
+    known: Option<LinkInformation<'a>>,
+) -> Result<LinkInformation<'a>, Fault>
+    requires { IfSome known (λ records. reading order information.now ≡ (records, None)) }
+    ensures fault { result_err result ≡ option_map
+        (in_record file slot (length (reading order information.now).0))
+        (reading order information.now).1 }
+    ensures records { IfOk result (λ records. records ≡ (reading order information.now).0) }
+{
+    match known {
+        Some(records) => Ok(records),
+        None => read_information(order, information, file, slot),
     }
 }
 
@@ -79,26 +100,25 @@ pub(crate) fn known_records<'a>(
     row_of(known, file, block_behind(from, index))
 }
 
-/// The fault of a code's procedure tables.
-fn tables_reason(order: Order, code: &[u8], host: bool) -> Option<Reason>
-    requires { 2 ≤ length code.now }
-    ensures { result ≡ tables_fault_spec order code.now host }
-{
-    Procs::read(order, code, host).err()
+/// What is read of the code and the link information of a segment.
+#[derive(Drop)]
+struct Contents<'a> {
+    procedures: Option<Procs<'a>>,
+    records: LinkInformation<'a>,
 }
 
-/// The link information of a segment, or the first fault of its procedure tables and its link
-/// information. Neither is looked at where the segment is linked already, and link information
-/// that is known is not read again.
-fn read_records<'a>(
+/// The procedure tables and the link information of a segment, or their first fault. Neither is
+/// looked at where the segment is linked already, and link information that is known is not read
+/// again.
+fn read_contents<'a>(
     order: Order,
-    code: &[u8],
+    code: &'a [u8],
     information: &'a [u8],
     role: Role,
     file: usize,
     slot: u8,
     known: Option<LinkInformation<'a>>,
-) -> Result<LinkInformation<'a>, Fault>
+) -> Result<Contents<'a>, Fault>
     requires large { is_linked_spec role ≡ true → 2 ≤ length code.now }
     requires known { IfSome known (λ records. reading order information.now ≡ (records, None)) }
     ensures fault { result_err result ≡ (if is_linked_spec role
@@ -107,18 +127,26 @@ fn read_records<'a>(
         (option_map (in_record file slot (length (reading order information.now).0))
         (reading order information.now).1)
         else None) }
-    ensures records { IfOk result (λ records.
-        records ≡ (if is_linked_spec role then (reading order information.now).0 else [])) }
+    ensures records { IfOk result (λ read. read.records
+        ≡ (if is_linked_spec role then (reading order information.now).0 else [])) }
+    ensures tables { IfOk result (λ read. read.procedures ≡ (if is_linked_spec role
+        then Some (record { order = order; code = code.now }) else None)) }
 {
     if !role.is_linked() {
-        return Ok(LinkInformation::none());
+        return Ok(Contents {
+            procedures: None,
+            records: LinkInformation::none(),
+        });
     }
-    if let Some(reason) = tables_reason(order, code, role.is_host()) {
-        return Err(Fault::in_slot(file, slot, reason));
-    }
-    match known {
-        Some(records) => Ok(records),
-        None => read_information(order, information, file, slot),
+    match Procs::read(order, code, role.is_host()) {
+        Err(reason) => Err(Fault::in_slot(file, slot, reason)),
+        Ok(tables) => match records_or_known(order, information, file, slot, known) {
+            Err(fault) => Err(fault),
+            Ok(records) => Ok(Contents {
+                procedures: Some(tables),
+                records,
+            }),
+        },
     }
 }
 
@@ -153,7 +181,7 @@ pub(crate) fn read_segment<'a>(
     match from.code(index) {
         Err(reason) => Err(Fault::in_slot(file, slot, reason)),
         Ok(code) => {
-            match read_records(
+            match read_contents(
                 from.order(),
                 code,
                 from.after(index),
@@ -163,7 +191,7 @@ pub(crate) fn read_segment<'a>(
                 known,
             ) {
                 Err(fault) => Err(fault),
-                Ok(records) => Ok(Segment {
+                Ok(read) => Ok(Segment {
                     slot,
                     name,
                     role,
@@ -171,8 +199,9 @@ pub(crate) fn read_segment<'a>(
                     file,
                     index,
                     code,
+                    procedures: read.procedures,
                     block: block_behind(from, index),
-                    records,
+                    records: read.records,
                 }),
             }
         }

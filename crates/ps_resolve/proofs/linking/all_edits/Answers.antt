@@ -4,7 +4,7 @@ use Rattle.std.proofs.lemmas.List.Elements.{All-take}
 use Rattle.ps_words.specs.declared.order.Order.{Order}
 use Rattle.ps_resolve.specs.Edits.{IsOfTable}
 use Rattle.ps_resolve.specs.Privates.{owner_of, all_words}
-use Rattle.ps_resolve.specs.Views.{segment_of, IsSound, IsLike}
+use Rattle.ps_resolve.specs.Views.{segment_of, IsSound, HasTables, IsLike}
 use Rattle.ps_resolve.specs.Linking.{data_edits, edited_from}
 use Rattle.ps_resolve.specs.References.{Known, HaveTargets}
 use Rattle.ps_codefile.specs.Roles.{is_host}
@@ -23,6 +23,14 @@ next_edits-requires-clause-sound g c =
     let lt : i < length ss = omega arith in
     let v : SegmentView = c.index-segments-index.result in
     at_map (IsSound c.args.order) segment_of ss i v lt c.index-segments-index.is c.requires.sound
+
+pub next_edits-requires-clause-tables : goal.next_edits-requires-clause-tables
+next_edits-requires-clause-tables g c =
+    let ss : List SegmentView = c.args.segments.now in
+    let i : ℕ = c.loop-index.index in
+    let lt : i < length ss = omega arith in
+    let v : SegmentView = c.index-segments-index.result in
+    subst (HasTables c.args.order) (sym c.index-segments-index.is) (c.requires.tables i v lt)
 
 pub next_edits-requires-clause-table : goal.next_edits-requires-clause-table
 next_edits-requires-clause-table g c =

@@ -20,6 +20,9 @@ segment_edits-requires-clause-sound g c =
     let sound = c.requires.sound in
     rw c.without_records.ensures (record { small = sound.small; large = sound.large; tables = sound.tables; plain = λ h. refl; slot = sound.slot })
 
+pub segment_edits-requires-clause-tables : goal.segment_edits-requires-clause-tables
+segment_edits-requires-clause-tables g c = rw c.without_records.ensures c.requires.tables
+
 pub returns-then-is_resolved-clause-named : goal.returns-then-is_resolved-clause-named
 returns-then-is_resolved-clause-named g c =
     let known : Known = c.args.names.now in

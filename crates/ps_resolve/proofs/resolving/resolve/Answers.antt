@@ -10,7 +10,7 @@ use Rattle.ps_resolve.specs.AllFaults.{first_fault}
 use Rattle.ps_resolve.specs.Plans.{AreStopped, IsPlanOf, IsStopped}
 use Rattle.ps_resolve.proofs.FirstFaults.{if_ok, if_err, first_read, first_linked, stopped}
 use Rattle.ps_resolve.proofs.ReadingLibraries.{files}
-use Rattle.ps_resolve.proofs.Sharing.{placed_alike}
+use Rattle.ps_resolve.proofs.Sharing.{placed_alike, placed_tables}
 use Rattle.ps_resolve.proofs.resolving.resolve.Goals as goal
 
 pub returns-in-Err-clause-stop : goal.returns-in-Err-clause-stop
@@ -42,3 +42,7 @@ link_segments-requires-clause-names g c =
 pub link_segments-requires-clause-alike : goal.link_segments-requires-clause-alike
 link_segments-requires-clause-alike g c =
     rw c.as_slice.ensures.value (placed_alike c.in-Ok.files.order c.args.host.now (files c.args.libs.now) c.in-Ok.files.segments.items c.in-Ok.ensures.placed)
+
+pub link_segments-requires-clause-tables : goal.link_segments-requires-clause-tables
+link_segments-requires-clause-tables g c =
+    rw c.as_slice.ensures.value (placed_tables c.in-Ok.files.order c.args.host.now (files c.args.libs.now) c.in-Ok.files.segments.items c.in-Ok.ensures.placed)

@@ -41,3 +41,10 @@ returns-in-Ok c =
       placed = c.in-Ok.ensures.placed host.file libs refl;
       sound = c.in-Ok.ensures.sound;
     }
+
+pub returns-in-Ok-read_segment-clause-placed : goal.returns-in-Ok-read_segment-clause-placed
+returns-in-Ok-read_segment-clause-placed c =
+    let host = c.args.host.now in
+    let libs = files c.args.libs.now in
+    subst (λ (o : Order). IsPlaced o host.file libs c.in-Ok-read_segment.segment) (c.in-Ok-unit_source.ensures.order ∙ c.order.ensures)
+    (c.in-Ok-read_segment.ensures.placed host.file libs (c.in-Ok-unit_source.ensures.file host.file))
