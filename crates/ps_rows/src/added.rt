@@ -4,7 +4,7 @@ use crate::code_file::Change::{Code, CodeWord, Entry, Records, Resized};
 use crate::code_file::CodeFile;
 use crate::information::Record;
 use crate::information::Record::{End, UnitReference};
-use crate::reading::units::{AUX, AUX_ENTRY, AUX_SLOT, LIBRARY_AUX, LINKED_AUX};
+use crate::units::{AUX, AUX_ENTRY, AUX_SLOT, LIBRARY_AUX, LINKED_AUX};
 use ps_words::Order;
 use std::alloc::{AllocError, Global};
 

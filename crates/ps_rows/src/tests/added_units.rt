@@ -7,7 +7,7 @@ use super::tables::{
     refuse_tables,
 };
 use super::texts::Map;
-use crate::reading::added::{USING_RECORDS, library_of_a_used_unit, linked_used_unit};
+use crate::added::{USING_RECORDS, library_of_a_used_unit, linked_used_unit};
 use crate::base::{
     COUNT, LINKED_DEMO, LINKED_UTIL, NOBODY, STATE, UTIL, WANTED_UTIL, base_host, demo_code,
     util_code,
@@ -18,7 +18,7 @@ use crate::code_file::Change::{
 use crate::code_file::{CodeFile, LINKED, Slot, UNIT_SEGMENT};
 use crate::information::Name;
 use crate::information::Record::{End, PrivateReference, PublicDefinition, UnitReference};
-use crate::reading::units::{AUX, LIBRARY_AUX, LINKED_AUX};
+use crate::units::{AUX, LIBRARY_AUX, LINKED_AUX};
 use ps_resolve::{Plan, resolve};
 use std::alloc::{AllocError, Global};
 use std::process::Abort;

@@ -1,13 +1,13 @@
 //! What show says of UNITREF records whose unit the file has, and of those whose unit it has not.
 use super::answers::LITTLE;
 use super::texts::{SLOTS_OF_THE_LIBRARY, shows};
-use crate::reading::added::library_of_a_used_unit;
+use crate::added::library_of_a_used_unit;
 use crate::base::{DEMO, LIBRARY_UTIL, NOBODY, UTIL, UTIL_ENTRY, base_host, base_library};
 use crate::code_file::Change::{Entry, Kind, Length, Records};
 use crate::code_file::{Change, CodeFile, LINKED, Slot};
 use crate::information::Record::{End, PrivateReference, PublicReference, UnitReference};
 use crate::information::{Name, Record};
-use crate::reading::units::{AUX, AUX_ENTRY, LIBRARY_AUX, WANTED_AUX};
+use crate::units::{AUX, AUX_ENTRY, LIBRARY_AUX, WANTED_AUX};
 use ps_linkfile::show_text;
 use ps_words::Order;
 use std::process::Abort;

@@ -2,8 +2,8 @@
 use super::answers::LITTLE;
 use super::link_allocations::{Link, answers_each_call};
 use super::plan::builds_definitions;
-use super::show_writing::writes_long_show;
-use super::texts::SLOTS_OF_THE_LIBRARY;
+use super::text_writing::writes_long_text;
+use super::texts::{Map, SLOTS_OF_THE_LIBRARY, Show};
 use crate::base::{COUNT, STATE, base_host, base_library, linked_base_pair};
 use crate::code_file::Change::{Records, Resized};
 use crate::information::Record::{End, PrivateReference, PublicDefinition, PublicReference};
@@ -207,7 +207,12 @@ fn a_link_and_its_map(rt: HostRuntime) -> Result<(), Fail> {
     };
     let planned = "edits 2 3 private words 4";
     let summary = "segments 2 private words 4 blocks 3";
-    answers_each_call(&rt, link, planned, summary, map.as_str())
+    answers_each_call(&rt, link, planned, summary, map.as_str())?;
+    let call = Map {
+        host: host.as_slice(),
+        libraries: libraries.as_slice(),
+    };
+    writes_long_text(&rt, &call, map.as_str())
 }
 
 /// The show of the base library with all of these.
@@ -239,5 +244,8 @@ fn a_show_of_megabytes(rt: HostRuntime) -> Result<(), Fail> {
     let text = show_text(alloc, library.as_slice())?;
     assert!(rt; text.as_slice() == wanted.as_bytes(), "another text");
     assert!(rt; text.len() > 2_000_000);
-    writes_long_show(&rt, library.as_slice(), wanted.as_str())
+    let call = Show {
+        file: library.as_slice(),
+    };
+    writes_long_text(&rt, &call, wanted.as_str())
 }

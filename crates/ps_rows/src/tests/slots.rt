@@ -9,7 +9,7 @@ use crate::code_file::{CodeFile, LINKED, Slot};
 use crate::in_place::{UTIL_IN_PLACE, unit_in_place};
 use crate::information::Name;
 use crate::information::Record::{End, PrivateReference, PublicDefinition};
-use crate::reading::units::{AUX, LINKED_AUX};
+use crate::units::{AUX, LINKED_AUX};
 use ps_words::Order;
 use std::alloc::{AllocError, Global};
 use std::test::Fail;

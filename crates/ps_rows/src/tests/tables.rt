@@ -2,14 +2,14 @@
 use super::allocations::{makes_no_allocation, refuses_each_allocation};
 use super::answers::{LITTLE, links};
 use super::link_allocations::Link;
-use crate::reading::added::{library_of_a_used_unit, linked_used_unit};
+use crate::added::{library_of_a_used_unit, linked_used_unit};
 use crate::base::{
     LIBRARY_RECORDS, base_host, base_library, linked_base_pair, linked_segments, util_code,
 };
 use crate::code_file::Change::{Code, Length, Records};
 use crate::code_file::{Change, CodeFile};
 use crate::in_place::{linked_unit_in_place, unit_in_place};
-use crate::reading::units::{
+use crate::units::{
     NINE_LENGTH, host_of_two_units, library_of_a_long_unit, library_of_nine_references,
     library_of_two_units, linked_long_unit, linked_two_units, nine_operands,
 };

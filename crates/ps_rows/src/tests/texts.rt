@@ -1,8 +1,8 @@
 //! The map of a link and the show of a code file, as text.
 use super::allocations::{Allocating, makes_no_allocation, refuses_each_allocation};
 use super::answers::LITTLE;
-use super::show_writing::{writes, writes_show};
 use super::tables::Base;
+use super::text_writing::{writes, writes_text};
 use super::writers::Full;
 use crate::base::{BASE_LENGTH, COUNT, base_host, base_library};
 use crate::code_file::Change::{Bytes, Records, Resized};
@@ -118,6 +118,17 @@ const DEFINITIONS: [Record<'static>; 3] = [
     End(8),
 ];
 
+/// Checks the map of a link, as a text and written.
+fn maps(
+    rt: &(impl Abort + AllocGlobal),
+    what: &str,
+    call: &Map<'_>,
+    text: &str,
+) -> Result<(), Fail> {
+    refuses_each_allocation(rt, what, call, text)?;
+    writes_text(rt, call, text)
+}
+
 #[test]
 fn maps_of_pairs(rt: HostRuntime) -> Result<(), Fail> {
     let alloc = rt.alloc();
@@ -128,7 +139,7 @@ fn maps_of_pairs(rt: HostRuntime) -> Result<(), Fail> {
             host: host.as_slice(),
             libraries: &[library.as_slice()],
         };
-        refuses_each_allocation(&rt, what, &call, map)?;
+        maps(&rt, what, &call, map)?;
     }
     let host = base_host(alloc, LITTLE)?.with(alloc, &[Records(2, &DEFINITIONS)])?;
     let library = base_library(alloc, LITTLE)?;
@@ -136,7 +147,7 @@ fn maps_of_pairs(rt: HostRuntime) -> Result<(), Fail> {
         host: host.as_slice(),
         libraries: &[library.as_slice()],
     };
-    refuses_each_allocation(&rt, "a constant", &call, MAP_WITH_A_CONSTANT)
+    maps(&rt, "a constant", &call, MAP_WITH_A_CONSTANT)
 }
 
 /// Checks the show of a file, as a text and written.
@@ -150,7 +161,7 @@ pub(crate) fn shows(
         file: file.as_slice(),
     };
     refuses_each_allocation(rt, what, &call, text)?;
-    writes_show(rt, file.as_slice(), text)
+    writes_text(rt, &call, text)
 }
 
 /// Lengths to which the base library is cut, and the lines of its show behind those of the slots.
@@ -193,19 +204,20 @@ fn maps_and_shows_that_are_refused(rt: HostRuntime) -> Result<(), Fail> {
     };
     let refused = "refused 13 MissingUnit file 0 slot 7";
     makes_no_allocation(&rt, "no library", &call, refused)?;
+    let writer = (512, usize::MAX, Full::Fails);
+    writes(&rt, (&call, ""), writer, refused, (0, 0))?;
     let short = CodeFile::new(alloc, LITTLE, 511)?;
     let call = Show {
         file: short.as_slice(),
     };
     let refused = "refused 1 ShortFile file 0";
     makes_no_allocation(&rt, "short", &call, refused)?;
-    let writer = (512, usize::MAX, Full::Fails);
-    writes(&rt, (short.as_slice(), ""), writer, refused, (0, 0))?;
+    writes(&rt, (&call, ""), writer, refused, (0, 0))?;
     let mixed = CodeFile::new(alloc, LITTLE, 512)?.with(alloc, &[Bytes(192, &[1, 1])])?;
     let call = Show {
         file: mixed.as_slice(),
     };
     let refused = "refused 2 NoOrder file 0";
     makes_no_allocation(&rt, "mixed", &call, refused)?;
-    writes(&rt, (mixed.as_slice(), ""), writer, refused, (0, 0))
+    writes(&rt, (&call, ""), writer, refused, (0, 0))
 }
