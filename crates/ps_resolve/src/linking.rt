@@ -1,5 +1,6 @@
 ghost use Rattle.std.specs.Prelude.{◌≡◌, ℕ, ◌<◌, ◌≤◌, ◌+◌, ◌∷◌, [], List, length, map, All, true, None, IfOk, OnOk, IfErr, IfSome, IsSome, if◌then◌else◌, ⊤};
 ghost use Rattle.std.specs.Option.{option_map, option_to_list};
+ghost use Rattle.ps_words.specs.declared.order.Order.{Order as ByteOrder};
 ghost use Rattle.ps_resolve.specs.Edits.{IsOfTable, AreOfReferences};
 ghost use Rattle.ps_resolve.specs.Faults.{segment_fault, references_fault_from, linking_fault};
 ghost use Rattle.ps_resolve.specs.Added.{slot_names};
@@ -34,6 +35,8 @@ use std::alloc::Allocator;
 fn host_of<'a>(segments: &[Segment<'a>]) -> Option<Segment<'a>>
     ensures found { option_map segment_of result ≡ host_of_spec (map segment_of segments.now) }
     ensures role { IfSome result (λ host. is_host_spec host.role ≡ true) }
+    ensures tables { (order : ByteOrder) → All (HasTables order) segments.now
+        → IfSome result (HasTables order) }
 {
     for segment in segments {
         if segment.role.is_host() {

@@ -4,11 +4,11 @@ ghost use Rattle.ps_codefile.specs.Procedures.{table_of, tables_fault};
 ghost use Rattle.ps_resolve.specs.Edits.{IsOfSize, IsOfTable};
 ghost use Rattle.ps_resolve.specs.Faults.{size_fault};
 ghost use Rattle.ps_resolve.specs.Linking.{data_edits, data_size_of};
-ghost use Rattle.ps_resolve.specs.Views.{segment_of};
+ghost use Rattle.ps_codefile.specs.Roles.{is_host as is_host_spec};
+ghost use Rattle.ps_resolve.specs.Views.{segment_of, HasTables};
 
 use crate::linkage::Stop;
 use crate::reading::segment::Segment;
-use ps_codefile::Procs;
 use ps_words::{Edit, Fault, Order, Reason, get};
 
 /// The number of the procedure that is the segment's outer block.
@@ -39,18 +39,20 @@ impl DataSize {
     }
 }
 
-/// The place of the attribute table of the host's outer block.
-fn outer_table(order: Order, code: &[u8]) -> usize
-    requires large { 4 ≤ length code.now }
-    requires sound { tables_fault order code.now true ≡ None }
-    ensures table { table_of order code.now 1 ≡ Some result }
+/// The place of the attribute table of the outer block of the host's segment.
+fn outer_table(order: Order, host: &Segment) -> usize
+    requires large { 4 ≤ length host.now.code.now }
+    requires host { is_host_spec host.now.role ≡ true }
+    requires sound { tables_fault order host.now.code.now true ≡ None }
+    requires tables { HasTables order host.now }
+    ensures table { table_of order host.now.code.now 1 ≡ Some result }
     ensures low { 8 ≤ result }
-    ensures high { result - 8 + 2 ≤ length code.now }
-    ensures stored { (size : ℕ) → IsOfTable order code.now (Word (result - 8) size) }
+    ensures high { result - 8 + 2 ≤ length host.now.code.now }
+    ensures stored { (size : ℕ) → IsOfTable order host.now.code.now (Word (result - 8) size) }
 {
-    match Procs::read(order, code, true) {
-        Err(_) => unreachable!(),
-        Ok(procedures) => match procedures.table(OUTER_BLOCK) {
+    match &host.procedures {
+        None => unreachable!(),
+        Some(procedures) => match procedures.table(OUTER_BLOCK) {
             None => unreachable!(),
             Some(table) => table,
         },
@@ -62,7 +64,9 @@ fn outer_table(order: Order, code: &[u8]) -> usize
 pub(crate) fn grown_data_size(order: Order, host: &Segment, words: u16) -> Result<DataSize, Stop>
     requires small { length host.now.code.now ≤ 32767 }
     requires large { 4 ≤ length host.now.code.now }
+    requires host { is_host_spec host.now.role ≡ true }
     requires sound { tables_fault order host.now.code.now true ≡ None }
+    requires tables { HasTables order host.now }
     ensures edit { IfOk result (λ d. data_edits order words host.now.code.now
         ≡ Word d.place d.size ∷ []) }
     ensures size { IfOk result (λ d. d.size ≡ data_size_of order words host.now.code.now) }
@@ -70,7 +74,7 @@ pub(crate) fn grown_data_size(order: Order, host: &Segment, words: u16) -> Resul
     ensures fits { IfOk result (λ _. size_fault order words (segment_of host.now) ≡ None) }
     ensures stop { IfErr result (IsOfSize order words (segment_of host.now)) }
 {
-    let place = outer_table(order, host.code) - DATA_SIZE_BEFORE_TABLE;
+    let place = outer_table(order, host) - DATA_SIZE_BEFORE_TABLE;
     let size = get(order, host.code, place) as usize + BYTES_IN_WORD * words as usize;
     if size > u16::MAX as usize {
         return Err(Stop::Refused(Fault {
