@@ -211,13 +211,9 @@ fn all_edits<A: Allocator + Copy>(
     for (index, segment) in segments.iter().enumerate() {
         let earlier = &segments[..index];
         let own = own_edit(segment, size);
-        match next_edits(alloc, order, names, earlier, segment, free, own) {
-            Err(stop) => return Err(stop),
-            Ok((found, end)) => {
-                edits.push(found)?;
-                free = end;
-            }
-        }
+        let (found, end) = next_edits(alloc, order, names, earlier, segment, free, own)?;
+        edits.push(found)?;
+        free = end;
     }
     Ok(edits)
 }

@@ -245,7 +245,7 @@ fn read_added<'a>(
             Some(reason) => Err(Fault::in_slot(unit.library + 1, slot, reason)),
             None => {
                 let file = unit.library + 1;
-                match read_segment(
+                let segment = read_segment(
                     slot,
                     sought.name,
                     Role::Wanted,
@@ -253,13 +253,11 @@ fn read_added<'a>(
                     file,
                     unit.index,
                     known_records(known, &unit.dict, file, unit.index),
-                ) {
-                    Err(fault) => Err(fault),
-                    Ok(segment) => Ok(Segment {
-                        added: true,
-                        ..segment
-                    }),
-                }
+                )?;
+                Ok(Segment {
+                    added: true,
+                    ..segment
+                })
             }
         },
     }

@@ -140,13 +140,13 @@ fn read_contents<'a>(
     }
     match Procs::read(order, code, role.is_host()) {
         Err(reason) => Err(Fault::in_slot(file, slot, reason)),
-        Ok(tables) => match records_or_known(order, information, file, slot, known) {
-            Err(fault) => Err(fault),
-            Ok(records) => Ok(Contents {
+        Ok(tables) => {
+            let records = records_or_known(order, information, file, slot, known)?;
+            Ok(Contents {
                 procedures: Some(tables),
                 records,
-            }),
-        },
+            })
+        }
     }
 }
 
@@ -181,7 +181,7 @@ pub(crate) fn read_segment<'a>(
     match from.code(index) {
         Err(reason) => Err(Fault::in_slot(file, slot, reason)),
         Ok(code) => {
-            match read_contents(
+            let read = read_contents(
                 from.order(),
                 code,
                 from.after(index),
@@ -189,21 +189,19 @@ pub(crate) fn read_segment<'a>(
                 file,
                 slot,
                 known,
-            ) {
-                Err(fault) => Err(fault),
-                Ok(read) => Ok(Segment {
-                    slot,
-                    name,
-                    role,
-                    added: false,
-                    file,
-                    index,
-                    code,
-                    procedures: read.procedures,
-                    block: block_behind(from, index),
-                    records: read.records,
-                }),
-            }
+            )?;
+            Ok(Segment {
+                slot,
+                name,
+                role,
+                added: false,
+                file,
+                index,
+                code,
+                procedures: read.procedures,
+                block: block_behind(from, index),
+                records: read.records,
+            })
         }
     }
 }
@@ -234,22 +232,16 @@ fn read_role<'a>(
         Role::Empty => Ok(None),
         Role::Plain | Role::Host | Role::Unit => {
             let records = known_records(known, host, HOST_FILE, slot);
-            match read_segment(slot, name, role, host, HOST_FILE, slot, records) {
-                Err(fault) => Err(fault),
-                Ok(segment) => Ok(Some(segment)),
-            }
+            let own = read_segment(slot, name, role, host, HOST_FILE, slot, records)?;
+            Ok(Some(own))
         }
-        Role::Wanted => match unit_source(host.order(), name, libs, slot) {
-            Err(fault) => Err(fault),
-            Ok(unit) => {
-                let file = unit.library + 1;
-                let records = known_records(known, &unit.dict, file, unit.index);
-                match read_segment(slot, name, role, &unit.dict, file, unit.index, records) {
-                    Err(fault) => Err(fault),
-                    Ok(segment) => Ok(Some(segment)),
-                }
-            }
-        },
+        Role::Wanted => {
+            let unit = unit_source(host.order(), name, libs, slot)?;
+            let file = unit.library + 1;
+            let records = known_records(known, &unit.dict, file, unit.index);
+            let wanted = read_segment(slot, name, role, &unit.dict, file, unit.index, records)?;
+            Ok(Some(wanted))
+        }
     }
 }
 
@@ -304,10 +296,8 @@ pub(crate) fn read_slots<'a>(
 {
     let mut segments = ArrayVec::new();
     for slot in 0..SLOTS {
-        match read_slot(host, libs, slot, segments.as_slice()) {
-            Err(fault) => return Err(fault),
-            Ok(segment) => add(&mut segments, segment),
-        }
+        let segment = read_slot(host, libs, slot, segments.as_slice())?;
+        add(&mut segments, segment);
     }
     Ok(segments)
 }

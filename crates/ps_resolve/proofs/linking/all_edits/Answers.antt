@@ -62,17 +62,17 @@ loop-index-preserved g c =
     let v : SegmentView = c.index-segments-index.result in
     let is : v ≡ get_or ss i v = c.index-segments-index.is in
     let free : ℕ = c.loop-index.free in
-    let end : ℕ = c.in-Ok.end in
+    let end : ℕ = c.in_ok-found.end in
     let inv = c.loop-index.invariant in
     record {
-      words = words_on order known ss i v lt is free end c.in-Ok.ensures.end (c.args.base + all_words (map owner_of (map segment_of ss))) inv.words;
-      first = first_on order known ss i v lt is free end c.in-Ok.ensures.end (references_fault_from order known c.args.base (map segment_of ss)) inv.first c.in-Ok.ensures.sound;
-      links = λ words all behind h. rw (c.in_ok-push-in-Ok.ensures.items, map_push)
-          (links_on order known ss i v lt is free end c.in-Ok.ensures.end words (edited_from order known words c.args.base (map segment_of ss)) (map (λ e. e.items) c.loop-index.edits.items) c.in-Ok.found.items
-          (c.in-Ok.ensures.links words (own_is (is_host v.role) c.own_edit-own.result c.args.size (data_edits order words v.code.now)
+      words = words_on order known ss i v lt is free end c.in_ok-found.ensures.end (c.args.base + all_words (map owner_of (map segment_of ss))) inv.words;
+      first = first_on order known ss i v lt is free end c.in_ok-found.ensures.end (references_fault_from order known c.args.base (map segment_of ss)) inv.first c.in_ok-found.ensures.sound;
+      links = λ words all behind h. rw (c.in_ok-push.ensures.items, map_push)
+          (links_on order known ss i v lt is free end c.in_ok-found.ensures.end words (edited_from order known words c.args.base (map segment_of ss)) (map (λ e. e.items) c.loop-index.edits.items) c.in_ok-found.found.items
+          (c.in_ok-found.ensures.links words (own_is (is_host v.role) c.own_edit-own.result c.args.size (data_edits order words v.code.now)
           (at_map (λ (s : Segment). is_host s.role ≡ true → data_edits order words s.code ≡ c.args.size ∷ []) segment_of ss i v lt is all) c.own_edit-own.ensures.value))
           (inv.links words all) behind h);
-      named = all_taken (λ (s : SegmentView). HaveTargets known s.records) i ss v lt is inv.named c.in-Ok.ensures.named;
+      named = all_taken (λ (s : SegmentView). HaveTargets known s.records) i ss v lt is inv.named c.in_ok-found.ensures.named;
     }
 
 pub returns-clause-links : goal.returns-clause-links

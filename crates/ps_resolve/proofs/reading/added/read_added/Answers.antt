@@ -2,6 +2,7 @@ use Rattle.std.proofs.Common.{◌∙◌, ◌+◌, [], Some, sym, ap, subst}
 use Rattle.std.specs.Prelude.{All}
 use Rattle.std.specs.List.{find}
 use Rattle.std.specs.Option.{option_map}
+use Rattle.std.proofs.lemmas.Result.{err_from_is_err_and}
 use Rattle.ps_words.specs.declared.order.Order.{Order}
 use Rattle.ps_words.specs.declared.fault.Fault.{Fault}
 use Rattle.ps_codefile.specs.Dictionary.{slots, is_linked_kind}
@@ -33,12 +34,12 @@ read_segment-requires-clause-known c =
     let file = chosen_file c.args.order c.args.sought.now.name libs unit.library unit.dict.file [] c.in-Some.ensures.library in
     c.known_records.ensures [] libs file (subst (λ (o : Order). All (IsPlaced o [] libs) c.args.known.now) (sym c.in-Some.ensures.order) (c.requires.placed []))
 
-pub returns-in-Ok-clause-placed : goal.returns-in-Ok-clause-placed
-returns-in-Ok-clause-placed c = λ host.
+pub returns-in_ok-segment-in-None-entries_reason-clause-placed : goal.returns-in_ok-segment-in-None-entries_reason-clause-placed
+returns-in_ok-segment-in-None-entries_reason-clause-placed c = λ host.
     let unit = c.in-Some.unit in
     let libs = files c.args.libs.now in
     let file = chosen_file c.args.order c.args.sought.now.name libs unit.library unit.dict.file host c.in-Some.ensures.library in
-    subst (λ (o : Order). IsPlaced o host libs c.in-Ok.segment) c.in-Some.ensures.order (c.in-Ok.ensures.placed host libs file)
+    subst (λ (o : Order). IsPlaced o host libs c.in_ok-segment-in-None-entries_reason.segment) c.in-Some.ensures.order (c.in_ok-segment-in-None-entries_reason.ensures.placed host libs file)
 
 pub returns-in-Some-entries_reason-clause-fault : goal.returns-in-Some-entries_reason-clause-fault
 returns-in-Some-entries_reason-clause-fault c = λ host.
@@ -48,38 +49,48 @@ returns-in-Some-entries_reason-clause-fault c = λ host.
     ap (λ (f : Fault). Some f) c.in_slot.ensures
     ∙ sym (placed_refused c.args.order host (files c.args.libs.now) g c.args.slot unit.library unit.dict.file (sym c.in-Some.ensures.missing) c.in-Some.ensures.library c.in-Some-entries_reason.reason why)
 
-pub returns-in-Err-clause-fault : goal.returns-in-Err-clause-fault
-returns-in-Err-clause-fault c = λ host.
+pub returns-in_err-segment-in-None-entries_reason-clause-fault : goal.returns-in_err-segment-in-None-entries_reason-clause-fault
+returns-in_err-segment-in-None-entries_reason-clause-fault c = λ host.
     let unit = c.in-Some.unit in
     let g = c.args.sought.now in
     let libs = files c.args.libs.now in
     let why = ap (λ (o : Order). entries_reason o g.name unit.dict.file) (sym c.in-Some.ensures.order) ∙ (sym c.entries_reason.ensures ∙ c.in-None-entries_reason.is) in
     let file = chosen_file c.args.order g.name libs unit.library unit.dict.file host c.in-Some.ensures.library in
-    c.in-Err.ensures.fault host libs file
+    let p = err_from_is_err_and c.from_residual.result c.from_residual.ensures.1 in
+    rw (p.1, p.2) (c.in_err-segment-in-None-entries_reason.ensures.fault host libs file
     ∙ (ap (λ (o : Order). code_fault o host libs c.args.slot Wanted (unit.library + 1, unit.index)) c.in-Some.ensures.order
-    ∙ sym (placed_by c.args.order host libs g c.args.slot unit.library unit.dict.file (sym c.in-Some.ensures.missing) c.in-Some.ensures.library unit.index why c.in-Some.ensures.entry))
+    ∙ sym (placed_by c.args.order host libs g c.args.slot unit.library unit.dict.file (sym c.in-Some.ensures.missing) c.in-Some.ensures.library unit.index why c.in-Some.ensures.entry)))
 
-pub returns-in-Ok-clause-fault : goal.returns-in-Ok-clause-fault
-returns-in-Ok-clause-fault c = λ host.
+pub returns-in_err-segment-in-None-entries_reason-clause-segment : goal.returns-in_err-segment-in-None-entries_reason-clause-segment
+returns-in_err-segment-in-None-entries_reason-clause-segment c = λ host. let p = err_from_is_err_and c.from_residual.result c.from_residual.ensures.1 in rw p.1 tt
+
+pub returns-in_err-segment-in-None-entries_reason-clause-placed : goal.returns-in_err-segment-in-None-entries_reason-clause-placed
+returns-in_err-segment-in-None-entries_reason-clause-placed c = λ host. let p = err_from_is_err_and c.from_residual.result c.from_residual.ensures.1 in rw p.1 tt
+
+pub returns-in_err-segment-in-None-entries_reason-clause-sound : goal.returns-in_err-segment-in-None-entries_reason-clause-sound
+returns-in_err-segment-in-None-entries_reason-clause-sound c = let p = err_from_is_err_and c.from_residual.result c.from_residual.ensures.1 in rw p.1 tt
+
+pub returns-in_ok-segment-in-None-entries_reason-clause-fault : goal.returns-in_ok-segment-in-None-entries_reason-clause-fault
+returns-in_ok-segment-in-None-entries_reason-clause-fault c = λ host.
     let unit = c.in-Some.unit in
     let g = c.args.sought.now in
     let libs = files c.args.libs.now in
     let why = ap (λ (o : Order). entries_reason o g.name unit.dict.file) (sym c.in-Some.ensures.order) ∙ (sym c.entries_reason.ensures ∙ c.in-None-entries_reason.is) in
     let file = chosen_file c.args.order g.name libs unit.library unit.dict.file host c.in-Some.ensures.library in
-    c.in-Ok.ensures.fault host libs file
+    c.in_ok-segment-in-None-entries_reason.ensures.fault host libs file
     ∙ (ap (λ (o : Order). code_fault o host libs c.args.slot Wanted (unit.library + 1, unit.index)) c.in-Some.ensures.order
     ∙ sym (placed_by c.args.order host libs g c.args.slot unit.library unit.dict.file (sym c.in-Some.ensures.missing) c.in-Some.ensures.library unit.index why c.in-Some.ensures.entry))
 
-pub returns-in-Ok-clause-segment : goal.returns-in-Ok-clause-segment
-returns-in-Ok-clause-segment c = λ host.
+pub returns-in_ok-segment-in-None-entries_reason-clause-segment : goal.returns-in_ok-segment-in-None-entries_reason-clause-segment
+returns-in_ok-segment-in-None-entries_reason-clause-segment c = λ host.
     let unit = c.in-Some.unit in
     let g = c.args.sought.now in
     let libs = files c.args.libs.now in
     let file = chosen_file c.args.order g.name libs unit.library unit.dict.file host c.in-Some.ensures.library in
     added_by c.args.order host libs g c.args.slot unit.library unit.dict.file unit.index c.in-Some.ensures.library c.in-Some.ensures.entry
-    ∙ ap (option_map as_added) (ap (λ (o : Order). segment_from o host libs c.args.slot g.name Wanted (unit.library + 1, unit.index)) (sym c.in-Some.ensures.order) ∙ c.in-Ok.ensures.segment host libs file)
+    ∙ ap (option_map as_added) (ap (λ (o : Order). segment_from o host libs c.args.slot g.name Wanted (unit.library + 1, unit.index)) (sym c.in-Some.ensures.order) ∙ c.in_ok-segment-in-None-entries_reason.ensures.segment host libs file)
 
-pub returns-in-Ok-clause-sound : goal.returns-in-Ok-clause-sound
-returns-in-Ok-clause-sound c =
-    let h = subst (λ (o : Order). IsSound o (segment_of c.in-Ok.segment)) c.in-Some.ensures.order c.in-Ok.ensures.sound in
+pub returns-in_ok-segment-in-None-entries_reason-clause-sound : goal.returns-in_ok-segment-in-None-entries_reason-clause-sound
+returns-in_ok-segment-in-None-entries_reason-clause-sound c =
+    let h = subst (λ (o : Order). IsSound o (segment_of c.in_ok-segment-in-None-entries_reason.segment)) c.in-Some.ensures.order c.in_ok-segment-in-None-entries_reason.ensures.sound in
     record { small = h.small; large = h.large; tables = h.tables; plain = h.plain; slot = h.slot }

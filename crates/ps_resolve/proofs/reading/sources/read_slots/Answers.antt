@@ -1,5 +1,6 @@
 use Rattle.std.proofs.Common.{◌∙◌, refl, sym, arith}
 use Rattle.std.proofs.lemmas.List.Elements.{All-nil}
+use Rattle.std.proofs.lemmas.Result.{err_from_is_err_and}
 use Rattle.ps_resolve.specs.Sources.{own_segment, own_segments}
 use Rattle.ps_resolve.specs.Faults.{source_fault, sources_fault}
 use Rattle.ps_resolve.specs.Views.{segment_of, IsSound, IsPlaced}
@@ -15,10 +16,11 @@ loop-slot-init c = rw c.new-segments.ensures (record { first = refl; all = refl;
 pub read_slot-requires-clause-placed : goal.read_slot-requires-clause-placed
 read_slot-requires-clause-placed c = rw c.as_slice.ensures.value c.loop-slot.invariant.placed
 
-pub returns-in-Err-clause-fault : goal.returns-in-Err-clause-fault
-returns-in-Err-clause-fault c =
+pub returns-in_err-segment-clause-fault : goal.returns-in_err-segment-clause-fault
+returns-in_err-segment-clause-fault c =
     let host = c.args.host.now in
-    sym (c.loop-slot.invariant.first ∙ first_here (source_fault host.order host.file (files c.args.libs.now)) c.loop-slot.slot 16 c.in-Err.fault c.loop-slot-test.true (sym c.in-Err.ensures.fault))
+    let p = err_from_is_err_and c.from_residual.result c.from_residual.ensures.1 in
+    rw (p.1, p.2) (sym (c.loop-slot.invariant.first ∙ first_here (source_fault host.order host.file (files c.args.libs.now)) c.loop-slot.slot 16 c.in_err-segment.field-0.0 c.loop-slot-test.true (sym c.in_err-segment.ensures.fault)))
 
 pub loop-slot-preserved : goal.loop-slot-preserved
 loop-slot-preserved c =
@@ -27,11 +29,11 @@ loop-slot-preserved c =
     let inv = c.loop-slot.invariant in
     let old = c.loop-slot.segments.items in
     let i = c.loop-slot.slot in
-    let o = c.in-Ok.segment in
+    let o = c.in_ok-segment.segment in
     rw c.add.ensures (record {
-      first = inv.first ∙ first_later (source_fault host.order host.file libs) i 16 c.loop-slot-test.true (sym c.in-Ok.ensures.fault);
-      all = inv.all ∙ kept_on segment_of (own_segment host.order host.file libs) old o i 16 c.loop-slot-test.true c.in-Ok.ensures.segment;
-      placed = all_with (IsPlaced host.order host.file libs) old o inv.placed c.in-Ok.ensures.placed;
-      sound = all_more (IsSound host.order) segment_of old o inv.sound c.in-Ok.ensures.sound;
+      first = inv.first ∙ first_later (source_fault host.order host.file libs) i 16 c.loop-slot-test.true (sym c.in_ok-segment.ensures.fault);
+      all = inv.all ∙ kept_on segment_of (own_segment host.order host.file libs) old o i 16 c.loop-slot-test.true c.in_ok-segment.ensures.segment;
+      placed = all_with (IsPlaced host.order host.file libs) old o inv.placed c.in_ok-segment.ensures.placed;
+      sound = all_more (IsSound host.order) segment_of old o inv.sound c.in_ok-segment.ensures.sound;
       few = few_more old o i inv.few;
     })
