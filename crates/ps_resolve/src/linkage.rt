@@ -18,6 +18,15 @@ pub struct Linkage<'a> {
     pub bytes: &'a [u8],
 }
 
+/// Where a segment stands.
+#[derive(Clone, Copy)]
+pub(crate) struct SegmentPlace {
+    /// The file that it comes from: 0 is the host file, k the k-th library, from 1.
+    pub(crate) file: usize,
+    /// Its slot in the host's segment dictionary, 0 to 15.
+    pub(crate) slot: u8,
+}
+
 /// Where a record stands.
 #[derive(Clone, Copy)]
 pub(crate) struct RecordPlace {

@@ -12,6 +12,7 @@ ghost use Rattle.ps_resolve.specs.Faults.{is_role, libraries_fault};
 ghost use Rattle.ps_resolve.specs.Names.{units_by_name};
 ghost use Rattle.ps_resolve.specs.Views.{segment_of, IsSound, IsPlaced, IsLike, AreAlike};
 
+use crate::linkage::SegmentPlace;
 use crate::reading::segment::Segment;
 use crate::reading::slots::{SLOTS, is_empty};
 use crate::reading::sources::{known_records, read_segment};
@@ -246,11 +247,10 @@ fn read_added<'a>(
             None => {
                 let file = unit.library + 1;
                 let segment = read_segment(
-                    slot,
+                    SegmentPlace { file, slot },
                     sought.name,
                     Role::Wanted,
                     &unit.dict,
-                    file,
                     unit.index,
                     known_records(known, &unit.dict, file, unit.index),
                 )?;

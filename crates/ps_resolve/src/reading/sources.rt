@@ -11,6 +11,7 @@ ghost use Rattle.ps_resolve.specs.Sources.{own_segment, own_segments, file_at, s
 ghost use Rattle.ps_resolve.specs.Faults.{code_fault, libraries_fault as libraries_fault_spec, source_fault, sources_fault};
 ghost use Rattle.ps_resolve.specs.Views.{segment_of, IsSound, IsPlaced, IsRowOf};
 
+use crate::linkage::SegmentPlace;
 use crate::reading::segment::{Segment, row_of};
 use crate::reading::slots::{HOST_FILE, SLOTS};
 use crate::reading::units::unit_source;
@@ -115,16 +116,15 @@ fn read_contents<'a>(
     code: &'a [u8],
     information: &'a [u8],
     role: Role,
-    file: usize,
-    slot: u8,
+    place: SegmentPlace,
     known: Option<LinkInformation<'a>>,
 ) -> Result<Contents<'a>, Fault>
     requires large { is_linked_spec role ≡ true → 2 ≤ length code.now }
     requires known { IfSome known (λ records. reading order information.now ≡ (records, None)) }
     ensures fault { result_err result ≡ (if is_linked_spec role
-        then option_or (option_map (in_slot_spec file slot)
+        then option_or (option_map (in_slot_spec place.file place.slot)
         (tables_fault_spec order code.now (is_host_spec role)))
-        (option_map (in_record file slot (length (reading order information.now).0))
+        (option_map (in_record place.file place.slot (length (reading order information.now).0))
         (reading order information.now).1)
         else None) }
     ensures records { IfOk result (λ read. read.records
@@ -139,9 +139,9 @@ fn read_contents<'a>(
         });
     }
     match Procs::read(order, code, role.is_host()) {
-        Err(reason) => Err(Fault::in_slot(file, slot, reason)),
+        Err(reason) => Err(Fault::in_slot(place.file, place.slot, reason)),
         Ok(tables) => {
-            let records = records_or_known(order, information, file, slot, known)?;
+            let records = records_or_known(order, information, place.file, place.slot, known)?;
             Ok(Contents {
                 procedures: Some(tables),
                 records,
@@ -153,49 +153,40 @@ fn read_contents<'a>(
 /// The segment of a slot, whose code and link information are those of an entry of a file; `known` is
 /// that link information, where it was read already.
 pub(crate) fn read_segment<'a>(
-    slot: u8,
+    place: SegmentPlace,
     name: Name,
     role: Role,
     from: &Dict<'a>,
-    file: usize,
     index: u8,
     known: Option<LinkInformation<'a>>,
 ) -> Result<Segment<'a>, Fault>
-    requires slots { slot < 16 }
+    requires slots { place.slot < 16 }
     requires in_range { index < 16 }
     requires known { IfSome known (IsRowOf from.now.order from.now.file
         (entry_at from.now.order from.now.file index)) }
     requires kind { is_linked_spec role ≡ true
         → is_linked_kind (entry_at from.now.order from.now.file index).kind ≡ true }
-    ensures fault { (host : List ℕ) (libs : List (List ℕ)) → file_at host libs file ≡ from.now.file
-        → result_err result ≡ code_fault from.now.order host libs slot role (file, index) }
+    ensures fault { (host : List ℕ) (libs : List (List ℕ)) → file_at host libs place.file ≡ from.now.file
+        → result_err result ≡ code_fault from.now.order host libs place.slot role (place.file, index) }
     ensures segment { (host : List ℕ) (libs : List (List ℕ))
-        → file_at host libs file ≡ from.now.file
-        → IfOk result (λ s. segment_from from.now.order host libs slot name role (file, index)
+        → file_at host libs place.file ≡ from.now.file
+        → IfOk result (λ s. segment_from from.now.order host libs place.slot name role (place.file, index)
         ≡ Some (segment_of s)) }
     ensures placed { (host : List ℕ) (libs : List (List ℕ))
-        → file_at host libs file ≡ from.now.file
+        → file_at host libs place.file ≡ from.now.file
         → IfOk result (IsPlaced from.now.order host libs) }
     ensures sound { IfOk result (λ s. IsSound from.now.order (segment_of s)) }
 {
     match from.code(index) {
-        Err(reason) => Err(Fault::in_slot(file, slot, reason)),
+        Err(reason) => Err(Fault::in_slot(place.file, place.slot, reason)),
         Ok(code) => {
-            let read = read_contents(
-                from.order(),
-                code,
-                from.after(index),
-                role,
-                file,
-                slot,
-                known,
-            )?;
+            let read = read_contents(from.order(), code, from.after(index), role, place, known)?;
             Ok(Segment {
-                slot,
+                slot: place.slot,
                 name,
                 role,
                 added: false,
-                file,
+                file: place.file,
                 index,
                 code,
                 procedures: read.procedures,
@@ -231,15 +222,20 @@ fn read_role<'a>(
     match role {
         Role::Empty => Ok(None),
         Role::Plain | Role::Host | Role::Unit => {
+            let place = SegmentPlace {
+                file: HOST_FILE,
+                slot,
+            };
             let records = known_records(known, host, HOST_FILE, slot);
-            let own = read_segment(slot, name, role, host, HOST_FILE, slot, records)?;
+            let own = read_segment(place, name, role, host, slot, records)?;
             Ok(Some(own))
         }
         Role::Wanted => {
             let unit = unit_source(host.order(), name, libs, slot)?;
             let file = unit.library + 1;
+            let place = SegmentPlace { file, slot };
             let records = known_records(known, &unit.dict, file, unit.index);
-            let wanted = read_segment(slot, name, role, &unit.dict, file, unit.index, records)?;
+            let wanted = read_segment(place, name, role, &unit.dict, unit.index, records)?;
             Ok(Some(wanted))
         }
     }
