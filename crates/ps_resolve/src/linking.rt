@@ -31,6 +31,15 @@ use ps_words::laws::edits_patch_alike_in_any_order;
 use ps_words::{Edit, Name, Order};
 use std::alloc::Allocator;
 
+/// What the references of every segment of a link are linked by.
+#[derive(Drop)]
+struct Linking<'k, A: Allocator + Copy> {
+    /// The byte order of the files.
+    order: Order,
+    /// What the references' names stand for.
+    names: &'k Names<'k, A>,
+}
+
 /// The host's own segment.
 fn host_of<'a>(segments: &[Segment<'a>]) -> Option<Segment<'a>>
     ensures found { option_map segment_of result ≡ host_of_spec (map segment_of segments.now) }
@@ -83,34 +92,33 @@ fn linked_edits<A: Allocator + Copy>(
 /// and the offset behind its last. A segment that is linked already has neither edits nor privates.
 fn segment_edits<A: Allocator + Copy>(
     alloc: A,
-    order: Order,
-    names: &Names<A>,
+    link: &Linking<A>,
     segment: &Segment,
     free: u16,
     own: Option<Edit>,
 ) -> Result<(Vec<Edit, A>, u16), Stop>
-    requires sound { IsSound order (segment_of segment.now) }
-    requires tables { HasTables order segment.now }
+    requires sound { IsSound link.now.order (segment_of segment.now) }
+    requires tables { HasTables link.now.order segment.now }
     requires room { free + private_words segment.now.records < 65536 }
-    requires table { IfSome own (IsOfTable order segment.now.code.now) }
+    requires table { IfSome own (IsOfTable link.now.order segment.now.code.now) }
     ensures links { (words : ℕ)
         → option_to_list own ≡ (if is_host_spec segment.now.role
-        then data_edits order words segment.now.code.now else [])
-        → IfOk result (λ found. LinksSegment order
+        then data_edits link.now.order words segment.now.code.now else [])
+        → IfOk result (λ found. LinksSegment link.now.order
         (record {
           segment = segment_of segment.now;
-          edits = segment_edits_spec order names.now
+          edits = segment_edits_spec link.now.order link.now.names.now
               words free (segment_of segment.now);
         }) found.0.items) }
     ensures end { IfOk result (λ found. found.1 ≡ free + private_words segment.now.records) }
     ensures sound { OnOk result
-        (segment_fault order names.now free (segment_of segment.now) ≡ None) }
+        (segment_fault link.now.order link.now.names.now free (segment_of segment.now) ≡ None) }
     ensures stop { IfErr result
-        (IsStop ⊤ (segment_fault order names.now free (segment_of segment.now))) }
+        (IsStop ⊤ (segment_fault link.now.order link.now.names.now free (segment_of segment.now))) }
 {
     match &segment.procedures {
         None => Ok((Vec::new(alloc), free)),
-        Some(procedures) => linked_edits(alloc, names, procedures, segment, free, own),
+        Some(procedures) => linked_edits(alloc, link.names, procedures, segment, free, own),
     }
 }
 
@@ -132,39 +140,38 @@ fn is_resolved<'a>(earlier: &[Segment<'a>], segment: &Segment<'a>) -> bool
 /// Records that an earlier segment has too are not looked at again, where they change nothing.
 fn next_edits<'a, A: Allocator + Copy>(
     alloc: A,
-    order: Order,
-    names: &Names<A>,
+    link: &Linking<A>,
     earlier: &[Segment<'a>],
     segment: &Segment<'a>,
     free: u16,
     own: Option<Edit>,
 ) -> Result<(Vec<Edit, A>, u16), Stop>
-    requires sound { IsSound order (segment_of segment.now) }
-    requires tables { HasTables order segment.now }
+    requires sound { IsSound link.now.order (segment_of segment.now) }
+    requires tables { HasTables link.now.order segment.now }
     requires room { free + private_words segment.now.records < 65536 }
-    requires table { IfSome own (IsOfTable order segment.now.code.now) }
+    requires table { IfSome own (IsOfTable link.now.order segment.now.code.now) }
     requires alike { All (IsLike segment.now) earlier.now }
-    requires named { All (λ s. HaveTargets names.now s.records) earlier.now }
+    requires named { All (λ s. HaveTargets link.now.names.now s.records) earlier.now }
     ensures links { (words : ℕ)
         → option_to_list own ≡ (if is_host_spec segment.now.role
-        then data_edits order words segment.now.code.now else [])
-        → IfOk result (λ found. LinksSegment order
+        then data_edits link.now.order words segment.now.code.now else [])
+        → IfOk result (λ found. LinksSegment link.now.order
         (record {
           segment = segment_of segment.now;
-          edits = segment_edits_spec order names.now
+          edits = segment_edits_spec link.now.order link.now.names.now
               words free (segment_of segment.now);
         }) found.0.items) }
     ensures end { IfOk result (λ found. found.1 ≡ free + private_words segment.now.records) }
-    ensures sound { OnOk result (segment_fault order names.now free (segment_of segment.now)
-        ≡ None) }
-    ensures named { OnOk result (HaveTargets names.now segment.now.records) }
+    ensures sound { OnOk result
+        (segment_fault link.now.order link.now.names.now free (segment_of segment.now) ≡ None) }
+    ensures named { OnOk result (HaveTargets link.now.names.now segment.now.records) }
     ensures stop { IfErr result
-        (IsStop ⊤ (segment_fault order names.now free (segment_of segment.now))) }
+        (IsStop ⊤ (segment_fault link.now.order link.now.names.now free (segment_of segment.now))) }
 {
     if is_resolved(earlier, segment) {
-        return segment_edits(alloc, order, names, &segment.without_records(), free, own);
+        return segment_edits(alloc, link, &segment.without_records(), free, own);
     }
-    segment_edits(alloc, order, names, segment, free, own)
+    segment_edits(alloc, link, segment, free, own)
 }
 
 /// The edit of the data size, where the segment is the host's.
@@ -206,12 +213,13 @@ fn all_edits<A: Allocator + Copy>(
     ensures stop { IfErr result (AreOfReferences order names.now base
         (map segment_of segments.now)) }
 {
+    let link = Linking { order, names };
     let mut edits = Vec::new(alloc);
     let mut free = base;
     for (index, segment) in segments.iter().enumerate() {
         let earlier = &segments[..index];
         let own = own_edit(segment, size);
-        let (found, end) = next_edits(alloc, order, names, earlier, segment, free, own)?;
+        let (found, end) = next_edits(alloc, &link, earlier, segment, free, own)?;
         edits.push(found)?;
         free = end;
     }

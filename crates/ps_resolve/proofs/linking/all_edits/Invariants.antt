@@ -17,9 +17,9 @@ invariant-loop-index g l =
     let rest = map segment_of (drop l.index l.segments) in
     record {
       words : l.free + all_words (map owner_of rest) ≡ l.base + all_words (map owner_of all);
-      first : references_fault_from l.order l.names l.free rest ≡ references_fault_from l.order l.names l.base all;
-      links : (words : ℕ) → All (λ s. is_host s.role ≡ true → data_edits l.order words s.code ≡ l.size ∷ []) all
-          → (behind : List (List Edit)) → LinkSegments l.order (edited_from l.order l.names words l.free rest) behind
-          → LinkSegments l.order (edited_from l.order l.names words l.base all) (map (λ e. e.items) l.edits.items ++ behind);
-      named : All (λ s. HaveTargets l.names s.records) (take l.index l.segments);
+      first : references_fault_from l.fn.order l.fn.names l.free rest ≡ references_fault_from l.fn.order l.fn.names l.base all;
+      links : (words : ℕ) → All (λ s. is_host s.role ≡ true → data_edits l.fn.order words s.code ≡ l.size ∷ []) all
+          → (behind : List (List Edit)) → LinkSegments l.fn.order (edited_from l.fn.order l.fn.names words l.free rest) behind
+          → LinkSegments l.fn.order (edited_from l.fn.order l.fn.names words l.base all) (map (λ e. e.items) l.edits.items ++ behind);
+      named : All (λ s. HaveTargets l.fn.names s.records) (take l.index l.segments);
     }

@@ -25,7 +25,7 @@ segment_edits-requires-clause-tables g c = rw c.without_records.ensures c.requir
 
 pub returns-then-is_resolved-clause-named : goal.returns-then-is_resolved-clause-named
 returns-then-is_resolved-clause-named g c =
-    let known : Known = c.args.names.now in
+    let known : Known = c.args.link.now.names.now in
     let v : SegmentView = c.args.segment.now in
     let yes = c.if-is_resolved.true in
     let has = c.is_resolved.ensures.row yes in
@@ -34,8 +34,8 @@ returns-then-is_resolved-clause-named g c =
 
 pub returns-then-is_resolved-clause-links : goal.returns-then-is_resolved-clause-links
 returns-then-is_resolved-clause-links g c = λ words own.
-    let order = c.args.order in
-    let known : Known = c.args.names.now in
+    let order = c.args.link.now.order in
+    let known : Known = c.args.link.now.names.now in
     let v : SegmentView = c.args.segment.now in
     let free : ℕ = c.args.free in
     let yes = c.if-is_resolved.true in
@@ -47,8 +47,8 @@ returns-then-is_resolved-clause-links g c = λ words own.
 
 pub returns-then-is_resolved-clause-end : goal.returns-then-is_resolved-clause-end
 returns-then-is_resolved-clause-end g c =
-    let order = c.args.order in
-    let known : Known = c.args.names.now in
+    let order = c.args.link.now.order in
+    let known : Known = c.args.link.now.names.now in
     let v : SegmentView = c.args.segment.now in
     let free : ℕ = c.args.free in
     let yes = c.if-is_resolved.true in
@@ -60,8 +60,8 @@ returns-then-is_resolved-clause-end g c =
 
 pub returns-then-is_resolved-clause-sound : goal.returns-then-is_resolved-clause-sound
 returns-then-is_resolved-clause-sound g c =
-    let order = c.args.order in
-    let known : Known = c.args.names.now in
+    let order = c.args.link.now.order in
+    let known : Known = c.args.link.now.names.now in
     let v : SegmentView = c.args.segment.now in
     let free : ℕ = c.args.free in
     let yes = c.if-is_resolved.true in
@@ -72,8 +72,8 @@ returns-then-is_resolved-clause-sound g c =
 
 pub returns-then-is_resolved-clause-stop : goal.returns-then-is_resolved-clause-stop
 returns-then-is_resolved-clause-stop g c =
-    let order = c.args.order in
-    let known : Known = c.args.names.now in
+    let order = c.args.link.now.order in
+    let known : Known = c.args.link.now.names.now in
     let v : SegmentView = c.args.segment.now in
     let free : ℕ = c.args.free in
     let yes = c.if-is_resolved.true in
@@ -85,8 +85,8 @@ returns-then-is_resolved-clause-stop g c =
 
 pub returns-clause-named : goal.returns-clause-named
 returns-clause-named g c =
-    let order = c.args.order in
-    let known : Known = c.args.names.now in
+    let order = c.args.link.now.order in
+    let known : Known = c.args.link.now.names.now in
     let v : SegmentView = c.args.segment.now in
     let free : ℕ = c.args.free in
     IfOk-weaker c.segment_edits-2.result (λ _. segment_fault order known free (segment_of v) ≡ None) (λ _. HaveTargets known v.records)
