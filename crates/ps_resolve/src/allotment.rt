@@ -1,18 +1,17 @@
-ghost use Rattle.std.specs.Prelude.{◌≡◌, ◌<◌, ◌≤◌, ◌+◌, ◌++◌, [], IfOk, IfErr, None, ℕ, List, length, map};
+ghost use Rattle.std.specs.Prelude.{◌≡◌, ◌<◌, ◌+◌, ◌++◌, [], IfOk, IfErr, None, length, map};
 ghost use Rattle.ps_resolve.specs.Linkable.{AscendFrom};
 ghost use Rattle.ps_resolve.specs.Offsets.{FollowOn, offset_listed};
-ghost use Rattle.ps_words.specs.FaultPlaces.{in_record};
-ghost use Rattle.ps_resolve.specs.declared.linkage.Stop.TheVariants.{Refused, Memory};
+ghost use Rattle.ps_resolve.specs.declared.linkage.Stop.TheVariants.{Memory};
 ghost use Rattle.ps_resolve.specs.Privates.{words_in, allotted, private_words, private_fault, all_allotted, all_words, first_private_fault, owner_of, owner_of_linkage, allotment_of, unallotted_fault, Owner};
 ghost use Rattle.ps_resolve.specs.Stops.{IsStop};
 ghost use Rattle.ps_resolve.specs.Builders.{HaveOwnNames, HaveRoom, StopsPrivates, asked_of, all_asked, AreByRecord, words_of_all};
 ghost use Rattle.ps_resolve.specs.Views.{segment_of};
 
-use crate::linkage::{Linkage, Stop};
+use crate::linkage::{Linkage, RecordPlace, Stop};
 use crate::namesakes::first_doubled;
 use crate::reading::segment::Segment;
 use ps_linkinfo::{Body, LinkInformation};
-use ps_words::{Fault, Name, Reason};
+use ps_words::{Name, Reason};
 use std::alloc::{Allocator, Global};
 use std::marker::Model;
 
@@ -59,13 +58,6 @@ fn narrow(rec: usize) -> Result<u32, Stop>
     }
 }
 
-/// A fault of a record.
-fn refused(file: usize, slot: u8, rec: usize, reason: Reason) -> Stop
-    ensures { result ≡ Refused (in_record file slot rec reason) }
-{
-    Stop::Refused(Fault::in_record(file, slot, rec, reason))
-}
-
 /// Allots the privates of a segment from `next` on, and returns the next free offset.
 fn allot<A: Allocator + Copy>(
     alloc: A,
@@ -90,11 +82,12 @@ fn allot<A: Allocator + Copy>(
     let mut free = next;
     for (rec, record) in records.records() {
         if let Some(words) = words_of_private(&record.body) {
+            let place = RecordPlace { file, slot, rec };
             if doubled == Some(rec) {
-                return Err(refused(file, slot, rec, Reason::DoubledPrivate));
+                return Err(place.refused(Reason::DoubledPrivate));
             }
             if free as usize + words as usize > MAX_NEXT_FREE {
-                return Err(refused(file, slot, rec, Reason::NoRoom));
+                return Err(place.refused(Reason::NoRoom));
             }
             privates.push(Private {
                 rec: narrow(rec)?,
@@ -188,7 +181,8 @@ fn allot_all<A: Allocator + Copy, S: AsksForPrivates>(
     ensures privates { IfOk result (λ a. a.0.items ≡ all_allotted next (map S.owner segments.now)) }
     ensures end { IfOk result (λ a. a.1 ≡ next + all_words (map S.owner segments.now)) }
     ensures once { IfOk result (λ _. first_private_fault next (map S.owner segments.now) ≡ None) }
-    ensures stop { IfErr result (IsStop (0 < length (all_allotted next (map S.owner segments.now)))
+    ensures stop { IfErr result (IsStop
+        (0 < length (all_allotted next (map S.owner segments.now)))
         (first_private_fault next (map S.owner segments.now))) }
 {
     let mut privates = Vec::new(alloc);

@@ -1,4 +1,4 @@
-ghost use Rattle.std.specs.Prelude.{◌≡◌, ℕ, ◌<◌, ◌≤◌, ◌+◌, ◌-◌, ◌∷◌, ◌++◌, length, IfOk, OnOk, IfErr, IfSome, None, IsPermutation, ⊤};
+ghost use Rattle.std.specs.Prelude.{◌≡◌, ◌<◌, ◌≤◌, ◌+◌, ◌-◌, ◌∷◌, ◌++◌, length, IfOk, OnOk, IfErr, IfSome, None, IsPermutation, ⊤};
 ghost use Rattle.std.specs.Option.{option_to_list};
 ghost use Rattle.ps_words.specs.Edits.{AreEdits};
 ghost use Rattle.ps_words.specs.declared.edit.Edit.TheVariants.{Byte};

@@ -10,7 +10,7 @@ ghost use Rattle.ps_resolve.specs.Plans.{AreStopped, IsPlanOf, LinksSegment, Lin
 ghost use Rattle.ps_resolve.specs.Privates.{owner_of, private_words, all_words};
 ghost use Rattle.ps_resolve.specs.References.{HaveTargets};
 ghost use Rattle.ps_codefile.specs.Roles.{is_linked as is_linked_spec, is_host as is_host_spec};
-ghost use Rattle.ps_resolve.specs.Sources.{Segment as SegmentSpec, host_of as host_of_spec};
+ghost use Rattle.ps_resolve.specs.Sources.{host_of as host_of_spec};
 ghost use Rattle.ps_resolve.specs.Stops.{IsStop};
 ghost use Rattle.ps_resolve.specs.Views.{segment_of, IsSound, HasTables, IsLike, AreAlike, HasRow};
 ghost use Rattle.ps_linkinfo.specs.Counts.{privates_in, references_in};
@@ -113,8 +113,8 @@ fn segment_edits<A: Allocator + Copy>(
     ensures end { IfOk result (λ found. found.1 ≡ free + private_words segment.now.records) }
     ensures sound { OnOk result
         (segment_fault link.now.order link.now.names.now free (segment_of segment.now) ≡ None) }
-    ensures stop { IfErr result
-        (IsStop ⊤ (segment_fault link.now.order link.now.names.now free (segment_of segment.now))) }
+    ensures stop { IfErr result (IsStop ⊤
+        (segment_fault link.now.order link.now.names.now free (segment_of segment.now))) }
 {
     match &segment.procedures {
         None => Ok((Vec::new(alloc), free)),
@@ -165,8 +165,8 @@ fn next_edits<'a, A: Allocator + Copy>(
     ensures sound { OnOk result
         (segment_fault link.now.order link.now.names.now free (segment_of segment.now) ≡ None) }
     ensures named { OnOk result (HaveTargets link.now.names.now segment.now.records) }
-    ensures stop { IfErr result
-        (IsStop ⊤ (segment_fault link.now.order link.now.names.now free (segment_of segment.now))) }
+    ensures stop { IfErr result (IsStop ⊤
+        (segment_fault link.now.order link.now.names.now free (segment_of segment.now))) }
 {
     if is_resolved(earlier, segment) {
         return segment_edits(alloc, link, &segment.without_records(), free, own);

@@ -1,4 +1,4 @@
-ghost use Rattle.std.specs.Prelude.{◌≡◌, map, IfOk, IfErr, None};
+ghost use Rattle.std.specs.Prelude.{◌≡◌, IfOk, IfErr, None};
 ghost use Rattle.ps_resolve.specs.Sources.{contents};
 ghost use Rattle.ps_resolve.specs.Plans.{IsPlan, IsStopped};
 ghost use Rattle.ps_resolve.specs.AllFaults.{first_fault};

@@ -1,15 +1,13 @@
 ghost use Rattle.std.specs.Prelude.{◌≡◌, ◌<◌, ◌≤◌, ◌+◌, ◌++◌, ◌∷◌, [], List, ℕ, All, if◌then◌else◌, length, map, take, true, None, Some, IfOk, IfSome, is_none, slice_get};
 ghost use Rattle.std.specs.List.{find, list_any};
-ghost use Rattle.std.specs.Option.{option_map};
 ghost use Rattle.std.specs.Result.{result_err};
 ghost use Rattle.std.specs.Str.{bytes_eq};
 ghost use Rattle.arrayvec.specs.ArrayVec.{array_vec_len};
-ghost use Rattle.ps_codefile.specs.Dictionary.{slots, is_nameless as is_nameless_spec};
+ghost use Rattle.ps_codefile.specs.Dictionary.{slots};
 ghost use Rattle.ps_codefile.specs.Roles.{is_empty as is_empty_role};
 ghost use Rattle.ps_resolve.specs.Sources.{is_named, chosen_library as chosen_library_spec, contents};
 ghost use Rattle.ps_resolve.specs.Added.{AreHad, unit_references, all_unit_references, is_had as is_had_spec, is_missing, sought_from, empty_slots as empty_slots_spec, unplaced_fault, placed_fault, added_segment, rounds_in, rounds_of};
 ghost use Rattle.ps_resolve.specs.Faults.{is_role, libraries_fault};
-ghost use Rattle.ps_resolve.specs.Names.{units_by_name};
 ghost use Rattle.ps_resolve.specs.Views.{segment_of, IsSound, IsPlaced, IsLike, AreAlike};
 
 use crate::linkage::SegmentPlace;

@@ -166,12 +166,14 @@ pub(crate) fn read_segment<'a>(
         (entry_at from.now.order from.now.file index)) }
     requires kind { is_linked_spec role ≡ true
         → is_linked_kind (entry_at from.now.order from.now.file index).kind ≡ true }
-    ensures fault { (host : List ℕ) (libs : List (List ℕ)) → file_at host libs place.file ≡ from.now.file
-        → result_err result ≡ code_fault from.now.order host libs place.slot role (place.file, index) }
+    ensures fault { (host : List ℕ) (libs : List (List ℕ))
+        → file_at host libs place.file ≡ from.now.file
+        → result_err result ≡ code_fault from.now.order host libs place.slot role
+        (place.file, index) }
     ensures segment { (host : List ℕ) (libs : List (List ℕ))
         → file_at host libs place.file ≡ from.now.file
-        → IfOk result (λ s. segment_from from.now.order host libs place.slot name role (place.file, index)
-        ≡ Some (segment_of s)) }
+        → IfOk result (λ s. segment_from from.now.order host libs place.slot name role
+        (place.file, index) ≡ Some (segment_of s)) }
     ensures placed { (host : List ℕ) (libs : List (List ℕ))
         → file_at host libs place.file ≡ from.now.file
         → IfOk result (IsPlaced from.now.order host libs) }
