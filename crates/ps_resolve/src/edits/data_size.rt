@@ -9,6 +9,7 @@ ghost use Rattle.ps_resolve.specs.Views.{segment_of, HasTables};
 
 use crate::linkage::Stop;
 use crate::reading::segment::Segment;
+use crate::reading::slots::HOST_FILE;
 use ps_words::{Edit, Fault, Order, Reason, get};
 
 /// The number of the procedure that is the segment's outer block.
@@ -77,13 +78,8 @@ pub(crate) fn grown_data_size(order: Order, host: &Segment, words: u16) -> Resul
     let place = outer_table(order, host) - DATA_SIZE_BEFORE_TABLE;
     let size = get(order, host.code, place) as usize + BYTES_IN_WORD * words as usize;
     if size > u16::MAX as usize {
-        return Err(Stop::Refused(Fault {
-            reason: Reason::DataTooLarge,
-            file: 0,
-            slot: Some(host.slot),
-            rec: None,
-            reference: None,
-        }));
+        let reason = Reason::DataTooLarge;
+        return Err(Stop::Refused(Fault::in_slot(HOST_FILE, host.slot, reason)));
     }
     Ok(DataSize {
         place: place as u16,
