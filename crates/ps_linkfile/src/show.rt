@@ -37,13 +37,7 @@ const MAX_UNITS: usize = 16;
 fn refused(reason: Reason) -> Fault
     ensures { result ≡ in_file 0 reason }
 {
-    Fault {
-        reason,
-        file: 0,
-        slot: None,
-        rec: None,
-        reference: None,
-    }
+    Fault::in_file(0, reason)
 }
 
 /// A file seen through its dictionary, and the byte order that its kind words show.
