@@ -19,6 +19,7 @@ no_bit words i e = ap (λ (w : ℕ). bit_at w (i % 64) == 1) e ∙ rw (bit_at-ze
 abbrev zeros : ℕ → List ℕ
 zeros n = replicate n 0
 
+-- each word of zeros is 0, and so is what a read past them gives
 zero_word : (n i : ℕ) → get_or (zeros n) i 0 ≡ 0
 zero_word n i = at (cases_lt i n)
   where
@@ -33,6 +34,7 @@ pub tested : (words : List ℕ) (i : ℕ) → (bit_and (get_or words (i / 64) 0 
 unfolding has
 tested words i = ap (λ (n : ℕ). n == 1) (shr_and_one (get_or words (i / 64) 0) (i % 64))
 
+-- a set to which a place is added has this place and those that it had
 pub added : (words : List ℕ) (i j : ℕ) → i / 64 < length words
     → has (set words (i / 64) (bit_or (get_or words (i / 64) 0) (1 * 2 ^ (i % 64) % 2 ^ 64))) j ≡ (has words j || j == i)
 unfolding has

@@ -26,6 +26,7 @@ any_more_from test f a (suc n) j e = at (f a) refl (any_more_from test f (a + 1)
     at None is rest = rw is rest
     at (Some t) is rest = rw is (ap (λ (b : Bool). test t || b) rest ∙ sym (or_assoc (test t) (list_any test (filter_map f (range_with_len (a + 1) n))) (passes test (f j))))
 
+-- a table of the first i + 1 procedures passes a test just where one of the first i does, or that of procedure i + 1
 pub any_more : (test : ℕ → Bool) (f : ℕ → Option ℕ) (i : ℕ) → list_any test (filter_map f (range_with_len 1 (i + 1))) ≡ (list_any test (filter_map f (range_with_len 1 i)) || passes test (f (i + 1)))
 any_more test f i =
     let same : suc i ≡ i + 1 = omega arith in

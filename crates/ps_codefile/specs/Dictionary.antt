@@ -121,6 +121,7 @@ pub record Opened : Type 0 where
   pub order : Order
   pub file : List ℕ
 
+-- a file read in the order that its kind words say; where all are 0 it has no host, and mixed ones give no order
 abbrev pub opened_as : List ℕ → FileOrder → Result Opened Reason
 opened_as file Zero = Err reason.NoHost
 opened_as file (Ordered order) = Ok (record { order = order; file = file })
@@ -130,12 +131,14 @@ opened_as file Mixed = Err reason.NoOrder
 abbrev pub opened : List ℕ → Result Opened Reason
 opened file = if nat_lt (length file) block_len then Err reason.ShortFile else opened_as file (file_order file)
 
+-- the two byte orders are the same
 abbrev pub same_order : Order → Order → Bool
 same_order Little Little = true
 same_order Little Big = false
 same_order Big Little = false
 same_order Big Big = true
 
+-- a file read in the host's order, where its kind words say that order or nothing
 abbrev pub opened_beside_as : Order → List ℕ → FileOrder → Result Opened Reason
 opened_beside_as host file Zero = Ok (record { order = host; file = file })
 opened_beside_as host file (Ordered order) = if same_order order host then Ok (record { order = host; file = file }) else Err reason.OrderMismatch

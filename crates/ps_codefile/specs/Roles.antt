@@ -12,6 +12,7 @@ is_linked Plain = false
 is_linked Host = true
 is_linked Unit = true
 
+-- the host's own segment
 abbrev pub is_host : Role → Bool
 is_host Empty = false
 is_host Wanted = false
@@ -27,6 +28,7 @@ is_unit Plain = false
 is_unit Host = false
 is_unit Unit = true
 
+-- a slot without a segment
 abbrev pub is_empty : Role → Bool
 is_empty Empty = true
 is_empty Wanted = false
@@ -34,6 +36,7 @@ is_empty Plain = false
 is_empty Host = false
 is_empty Unit = false
 
+-- a unit that is named but not in place: its code is that of a library
 abbrev pub is_wanted : Role → Bool
 is_wanted Empty = false
 is_wanted Wanted = true

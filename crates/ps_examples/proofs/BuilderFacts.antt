@@ -60,6 +60,7 @@ privates_by_record = builders.by_record (first_private ∷ second_private ∷ th
 pub their_words : words_of_all (first_private ∷ second_private ∷ third_private ∷ []) ≡ 15
 their_words = refl
 
+-- from the base offset 8 on, each of the three privates begins where the one before it ends
 pub each_behind_the_other : FollowOn 8 (first_private ∷ second_private ∷ third_private ∷ [])
 each_behind_the_other zero d lt = refl
 each_behind_the_other (suc zero) d lt = refl

@@ -92,6 +92,7 @@ nowhere i x e = cc
 abbrev OfCount : ℕ → ℕ → Record → Type 0
 OfCount rec x r = (rec ≡ 0) × (r ≡ count_reference) × (x ≡ 1)
 
+-- a reference of UTIL is that of COUNT, with its operand at 1, or has its operand at 4
 references : (rec i x : ℕ) (r : Record) → IsReference util_segment rec r i x → OfCount rec x r ⊎ (x ≡ 4)
 references zero i x r t =
     let is = same count_reference r t.0 in
@@ -108,6 +109,7 @@ references (suc (suc (suc rec))) i x r t = absurd (let e = t.0 in cc)
 pub before : (rec i x : ℕ) (r : Record) → Reaches util_segment rec r i x 0 → ⊥
 before rec i x r u = elim (references rec i x r u.0) [ inl h ↦ (let a = h.2 in let b = u.1.0 in omega (arith, a, b)) | inr h ↦ (let b = u.1.0 in omega (arith, h, b)) ]
 
+-- the first byte of UTIL, 165, is kept
 pub a_kept_byte : IsLinkedByte Little pair util_segment 0 165
 a_kept_byte = record {
   number = λ n. absurd (let e = n.1 in omega (arith, e));
@@ -116,6 +118,7 @@ a_kept_byte = record {
   kept = λ n z u. refl;
 }
 
+-- no operand of UTIL reaches place 22, which has the slot's number
 pub past : (rec i x : ℕ) (r : Record) → Reaches util_segment rec r i x 22 → ⊥
 past rec i x r u = elim (references rec i x r u.0) [ inl h ↦ wide rec i x r u (inl h.2) | inr h ↦ wide rec i x r u (inr h) ]
   where
@@ -130,6 +133,7 @@ past rec i x r u = elim (references rec i x r u.0) [ inl h ↦ wide rec i x r u 
         narrow (ConstDef value) = omega arith
         narrow (Eof next) = omega arith
 
+-- the number of UTIL becomes its slot's, 7
 pub a_number : IsLinkedByte Little pair util_segment 22 7
 a_number = record {
   number = λ n. refl;
@@ -146,6 +150,7 @@ of_count : (p b rec x : ℕ) (r : Record) → OperandByte p b 0 1 count_referenc
 of_count p b rec x r here h =
     subst (λ (n : ℕ). OperandByte p b n x r) (sym h.0) (subst (λ (q : Record). OperandByte p b 0 x q) (sym h.1) (subst (λ (n : ℕ). OperandByte p b 0 n count_reference) (sym h.2) here))
 
+-- the second byte of COUNT's operand becomes 3, the value of COUNT
 pub a_reference : IsLinkedByte Little pair util_segment 2 3
 unfolding OperandByte
 a_reference = record {
@@ -155,6 +160,7 @@ a_reference = record {
   kept = λ n z u. absurd (u 0 0 1 count_reference ((refl, refl), (omega arith, omega arith)));
 }
 
+-- the first byte of COUNT's operand is 128
 pub a_reference_s_first_byte : IsLinkedByte Little pair util_segment 1 128
 unfolding OperandByte
 a_reference_s_first_byte = record {
@@ -169,12 +175,14 @@ sole : (y i x : ℕ) → slice_get (y ∷ []) i ≡ Some x → i ≡ 0
 sole y zero x e = refl
 sole y (suc i) x e = absurd (cc)
 
+-- an operand that reaches place 2 is that of the first reference of record 0
 reference_at_2 : (rec i x : ℕ) (r : Record) → Reaches util_segment rec r i x 2 → (rec ≡ 0) × (i ≡ 0)
 reference_at_2 rec i x r u = elim (references rec i x r u.0) [
   | inl h ↦ (h.0, sole 1 i x (subst (λ (q : Record). slice_get (refs_of q.body) i ≡ Some x) h.1 u.0.1))
   | inr h ↦ absurd (let b = u.1.0 in omega (arith, h, b))
 ]
 
+-- place 2 of UTIL has one reference, and neither a number nor a data size
 pub a_place_of_one_reference : IsOnePlace Little util_segment 2
 a_place_of_one_reference = record {
   references = λ rec i x other j y r q u v. let a = reference_at_2 rec i x r u in let b = reference_at_2 other j y q v in (a.0 ∙ sym b.0, a.1 ∙ sym b.1);
@@ -192,12 +200,14 @@ unreferenced (suc (suc rec)) i x r t = absurd (let e = t.0 in cc)
 size_byte : Order → Segment → ℕ → ℕ → ℕ
 size_byte order s t j = slice_index (word_bytes order (grown_data_size order s.code (all_private_words pair) t)) j
 
+-- where the outer block's table stands at 12, a place has just one byte of the data size
 of_size : (order : Order) (s : Segment) (p n t j : ℕ) → table_of order s.code 1 ≡ Some 12 → p + 8 ≡ 12 + n → IsSizePlace order s t j p → size_byte order s 12 n ≡ size_byte order s t j
 of_size order s p n t j is at z =
     let table : 12 ≡ t = same 12 t (sym is ∙ z.1) in
     let e = z.3 in
     subst (λ (m : ℕ). size_byte order s 12 n ≡ size_byte order s m j) table (subst (λ (m : ℕ). size_byte order s 12 n ≡ size_byte order s 12 m) (omega (arith, e, at, table)) refl)
 
+-- the first byte of the host's data size becomes 18: the input's 10, and two for each of four private words
 pub a_size_byte : IsLinkedByte Little pair demo_segment 4 18
 unfolding own_segments empty_slots rounds segments size_byte
 a_size_byte = record {
@@ -207,6 +217,7 @@ a_size_byte = record {
   kept = λ n z u. absurd (z 12 0 (refl, refl, omega arith, refl));
 }
 
+-- the second byte of the host's data size is 0
 pub its_second_byte : IsLinkedByte Little pair demo_segment 5 0
 unfolding own_segments empty_slots rounds segments size_byte
 its_second_byte = record {
@@ -216,6 +227,7 @@ its_second_byte = record {
   kept = λ n z u. absurd (z 12 1 (refl, refl, omega arith, refl));
 }
 
+-- of a big-endian host's data size the second byte becomes 18
 pub a_size_byte_of_a_big_endian_host : IsLinkedByte Big pair (record demo_segment { code = demo_code Big }) 5 18
 unfolding own_segments empty_slots rounds segments size_byte
 a_size_byte_of_a_big_endian_host = record {

@@ -37,6 +37,7 @@ record_of_fault a b why other e = same a b (ap (λ (f : Fault). f.rec) e)
 pub not_the_later_definition : StopsDefinitions 0 1 defined_again (Refused (in_record 0 1 3 reason.DoubledDefinition)) → ⊥
 not_the_later_definition t = let h : 3 ≡ t.0 = record_of_fault 3 t.0 reason.DoubledDefinition reason.DoubledDefinition t.2 in let f = t.1 in f.first 2 (record { name = count; body = ConstDef 4 }) (omega (arith, h)) refl again
 
+-- a definition whose name no earlier one has is not refused
 pub not_the_definition_of_a_new_name : StopsDefinitions 0 1 defined_again (Refused (in_record 0 1 1 reason.DoubledDefinition)) → ⊥
 not_the_definition_of_a_new_name t = go t.0 (record_of_fault 1 t.0 reason.DoubledDefinition reason.DoubledDefinition t.2) t.1
   where
@@ -86,6 +87,7 @@ rec_of_fault a b file other slot n why else e = same a b (ap (λ (f : Fault). f.
 why_of_fault : (a b : Reason) (file other slot n rec m : ℕ) → in_record file slot rec a ≡ in_record other n m b → a ≡ b
 why_of_fault a b file other slot n rec m e = ap (λ (f : Fault). f.reason) e
 
+-- where an earlier private has no room, the later one is not the one that is refused
 pub not_the_later_private : StopsPrivates 32764 (util_owner ∷ aux_owner ∷ []) (Refused (in_record 1 8 1 reason.NoRoom)) → ⊥
 not_the_later_private t = t.first 0 1 util_owner state_reference reason.NoRoom refl refl (one_private, refl, omega arith) (inl (go t.segment t.owner t.of (slot_of_fault 8 t.owner.slot 1 t.owner.file 1 t.rec reason.NoRoom t.why t.told)))
   where
@@ -93,6 +95,7 @@ not_the_later_private t = t.first 0 1 util_owner state_reference reason.NoRoom r
     go zero s e h = absurd (let a : 7 ≡ s.slot = ap (λ (o : Owner). o.slot) (same util_owner s e) in omega (arith, a, h))
     go (suc k) s e h = omega arith
 
+-- a record that asks for no private is not refused for room
 pub not_a_record_without_a_private : StopsPrivates 32768 (util_owner ∷ []) (Refused (in_record 1 7 0 reason.NoRoom)) → ⊥
 not_a_record_without_a_private t = go t.segment t.owner t.of t.rec t.item (rec_of_fault 0 t.rec 1 t.owner.file 7 t.owner.slot reason.NoRoom t.why t.told) t.there (of_a_private 32768 (util_owner ∷ []) t.segment t.owner t.rec t.item t.why t.unfit)
   where
@@ -104,6 +107,7 @@ not_a_record_without_a_private t = go t.segment t.owner t.of t.rec t.item (rec_o
     go zero s e rec r h f p = first rec r h (subst (λ (o : Owner). slice_get o.records rec ≡ Some r) (sym (same util_owner s e)) f) p
     go (suc k) s e rec r h f p = cc
 
+-- a private whose name an earlier one of its segment has is not refused for room
 pub not_for_room_where_its_name_is_doubled : StopsPrivates 32763 (doubling_owner ∷ []) (Refused (in_record 1 7 2 reason.NoRoom)) → ⊥
 not_for_room_where_its_name_is_doubled t = go t.segment t.owner t.of t.rec t.item (rec_of_fault 2 t.rec 1 t.owner.file 7 t.owner.slot reason.NoRoom t.why t.told) t.there
     (subst (λ (w : Reason). IsUnfit 32763 (doubling_owner ∷ []) t.segment t.owner t.rec t.item w) (sym (why_of_fault reason.NoRoom t.why 1 t.owner.file 7 t.owner.slot 2 t.rec t.told)) t.unfit)
@@ -120,6 +124,7 @@ not_for_room_where_its_name_is_doubled t = go t.segment t.owner t.of t.rec t.ite
         third rec r h (subst (λ (o : Owner). slice_get o.records rec ≡ Some r) (sym is) f) (subst (λ (o : Owner). HasEarlierNamesake is_private_reference o.records rec r → ⊥) (sym is) u.0)
     go (suc k) s e rec r h f u = cc
 
+-- memory does not run out where no record asks for a private
 pub no_memory_without_a_private : StopsPrivates 8 (plain_owner ∷ []) Memory → ⊥
 no_memory_without_a_private t = go t.0 t.1 t.2 t.3
   where
@@ -139,6 +144,7 @@ not_turned_round h = go (h 0 1 second_private first_private (omega arith) refl r
     go (inr (e, inl lt)) = omega (arith, lt)
     go (inr (e, inr t)) = t.1
 
+-- a private that is listed twice does not stand by record
 pub not_one_of_a_record_twice : AreByRecord (first_private ∷ first_private ∷ []) → ⊥
 not_one_of_a_record_twice h = go (h 0 1 first_private first_private (omega arith) refl refl)
   where

@@ -55,11 +55,13 @@ count_state e = let h : 67 ≡ 83 = heads _ _ _ _ e in omega (arith, h)
 abbrev Named : List Segment → List ℕ → Type 0
 Named segs name = (k : ℕ) (q : Segment) → slice_get segs k ≡ Some q → is_unit q.role ≡ true → q.name ≡ name → ⊥
 
+-- where neither of two segments is a unit of the name, and none of the rest is, none of all is one
 none_named : (a b : Segment) (rest : List Segment) (name : List ℕ) → (is_unit a.role ≡ true → a.name ≡ name → ⊥) → (is_unit b.role ≡ true → b.name ≡ name → ⊥) → Named rest name → Named (a ∷ b ∷ rest) name
 none_named a b rest name f g h zero q e u n = let s = same a q e in f (ap (λ (x : Segment). is_unit x.role) s ∙ u) (ap (λ (x : Segment). x.name) s ∙ n)
 none_named a b rest name f g h (suc zero) q e u n = let s = same b q e in g (ap (λ (x : Segment). is_unit x.role) s ∙ u) (ap (λ (x : Segment). x.name) s ∙ n)
 none_named a b rest name f g h (suc (suc k)) q e u n = h k q e u n
 
+-- slot 8 of the plain segment TOOLS is not the slot of a unit of that name
 pub a_plain_segment_is_no_unit : IsSlotOf with_plain tools 8 → ⊥
 unfolding own_segments empty_slots rounds segments
 a_plain_segment_is_no_unit t = none_named demo_segment util_segment (tools_segment ∷ []) tools (λ u n. false≢true u) (λ u n. util_tools n) last t.0 t.1 t.2 t.3.0 t.3.1
@@ -68,6 +70,7 @@ a_plain_segment_is_no_unit t = none_named demo_segment util_segment (tools_segme
     last zero q e u n = let s = same tools_segment q e in no_unit (ap (λ (x : Segment). is_unit x.role) s ∙ u)
     last (suc k) q e u n = cc
 
+-- slot 7, which UTIL has, is not the slot of a unit AUX
 pub not_the_unit_of_another_name : IsSlotOf pair aux 7 → ⊥
 unfolding own_segments empty_slots rounds segments
 not_the_unit_of_another_name t = none_named demo_segment util_segment [] aux (λ u n. false≢true u) (λ u n. util_aux n) none t.0 t.1 t.2 t.3.0 t.3.1
@@ -75,6 +78,7 @@ not_the_unit_of_another_name t = none_named demo_segment util_segment [] aux (λ
     none : Named [] aux
     none k q e u n = cc
 
+-- slot 1, which the host's segment has, is not the slot of the unit UTIL
 pub not_another_slot : IsSlotOf pair util 1 → ⊥
 unfolding own_segments empty_slots rounds segments
 not_another_slot t = go t.0 t.1 t.2 t.3.0 t.3.2
@@ -94,6 +98,7 @@ other_value a b e = cc
 constant_is : (a b : ℕ) → ◌≡◌ {A = Body} (ConstDef a) (PublDef b) → ⊥
 constant_is a b e = cc
 
+-- where the first of two records is no PUBLDEF of this name and value and the second none of this value, neither is one
 body_is : (k : ℕ) (a b d : Record) → slice_get (a ∷ b ∷ []) k ≡ Some d → (name : List ℕ) (value : ℕ) → d.name ≡ name → d.body ≡ PublDef value → (a.name ≡ name → a.body ≡ PublDef value → ⊥) → (b.body ≡ PublDef value → ⊥) → ⊥
 body_is zero a b d e name value n is f g = let s = same a d e in f (ap (λ (x : Record). x.name) s ∙ n) (ap (λ (x : Record). x.body) s ∙ is)
 body_is (suc zero) a b d e name value n is f g = let s = same b d e in g (ap (λ (x : Record). x.body) s ∙ is)
@@ -103,6 +108,7 @@ pub not_the_value_of_another_name : IsPublic pair state 3 → ⊥
 unfolding own_segments empty_slots rounds segments
 not_the_value_of_another_name t = body_is t.0 (record { name = count; body = PublDef 3 }) (record { name = blank; body = Eof 8 }) t.1 (of_first demo_segment (util_segment ∷ []) no_host t.0 t.1 t.2) state 3 t.3.0 t.3.1 (λ n e. count_state n) (λ e. not_public 8 3 e)
 
+-- a PUBLDEF record of a unit gives its name no value
 pub a_unit_defines_nothing : IsPublic with_unused state 9 → ⊥
 a_unit_defines_nothing t = body_is t.0 (record { name = count; body = PublDef 3 }) (record { name = blank; body = Eof 8 }) t.1 (of_first demo_segment (unused ∷ []) none t.0 t.1 t.2) state 9 t.3.0 t.3.1 (λ n e. count_state n) (λ e. not_public 8 9 e)
   where
@@ -113,6 +119,7 @@ a_unit_defines_nothing t = body_is t.0 (record { name = count; body = PublDef 3 
     none zero s e is = let h = ap (λ (x : Segment). is_host x.role) (same unused s e) ∙ is in cc
     none (suc k) s e is = cc
 
+-- a CONSTDEF record of the host gives its name no public value
 pub a_constant_is_not_public : IsPublic with_constant count 3 → ⊥
 a_constant_is_not_public t = go t.0 t.1 (of_first (record demo_segment { records = record { name = count; body = ConstDef 3 } ∷ [] }) [] (λ k s e is. nothing k s e) t.0 t.1 t.2) t.3.1
   where
@@ -157,6 +164,7 @@ not_the_slot_of_another_unit t = go t.0 (heads _ _ _ _ t.2) t.1.0 t.1.1 t.1.2 t.
     go slot h (suc (suc zero)) q e u n at = let a : 8 ≡ slot = ap (λ (x : Segment). x.slot) (same aux_segment q e) ∙ at in omega (arith, a, h)
     go slot h (suc (suc (suc k))) q e u n at = cc
 
+-- the operand of a private does not keep its displacement 2, for the base offset is added to it
 pub not_without_the_base : Becomes pair util_segment 1 state (PrivRef 4 (4 ∷ [])) 4 (128 ∷ 2 ∷ []) → ⊥
 unfolding own_segments empty_slots rounds segments
 not_without_the_base t = let h : 128 ∷ 2 ∷ [] ≡ 128 ∷ 10 ∷ [] = t.2 ∙ ap (λ (b : ℕ). operand_bytes (displacement_at util_segment.code 4 + (b + words_before pair 7 1))) (sym (base_of_pair t.0 t.1)) in

@@ -29,6 +29,7 @@ none_passes P (y ∷ ys) all (suc k) x e p = none_passes P ys all.1 k x e p
 pub a_slot_with_two : HasOne (aux_segment ∷ tools_segment ∷ []) 8 → ⊥
 a_slot_with_two t = let a : 0 ≡ t.0 = t.3.1 0 aux_segment refl refl in let b : 1 ≡ t.0 = t.3.1 1 tools_segment refl refl in omega (arith, a, b)
 
+-- slot 7 has no segment where DEMO is the only one
 pub a_slot_without_one : HasOne (demo_segment ∷ []) 7 → ⊥
 a_slot_without_one t = go t.0 t.1 t.2 t.3.0
   where
@@ -56,6 +57,7 @@ not_in_a_taken_slot segs u = let h : role.Wanted ≡ role.Empty = role_is role.W
 pub not_in_a_low_slot : (segs : List Segment) → IsAddedUnit Little host segs (record aux_segment { slot = 6 }) → ⊥
 not_in_a_low_slot segs u = let h = u.low in omega (arith, h)
 
+-- no unit is added in slot 9 where slot 8 is empty and left
 pub not_past_an_empty_slot : IsAddedUnit Little host (demo_segment ∷ using_segment ∷ past_segment ∷ []) past_segment → ⊥
 not_past_an_empty_slot u = let t = u.next 8 (omega arith) (omega arith) refl in go t.0 t.1 t.2 t.3
   where
@@ -65,6 +67,7 @@ not_past_an_empty_slot u = let t = u.next 8 (omega arith) (omega arith) refl in 
     go (suc (suc zero)) s e at = let h : 9 ≡ 8 = ap (λ (x : Segment). x.slot) (same past_segment s e) ∙ at in omega (arith, h)
     go (suc (suc (suc k))) s e at = cc
 
+-- no unit is added in slot 8 where slot 7 is empty and left
 pub not_past_slot_7 : IsAddedUnit Little host_without_7 ((record using_segment { slot = 9 }) ∷ aux_segment ∷ []) aux_segment → ⊥
 not_past_slot_7 u = let t = u.next 7 (omega arith) (omega arith) refl in none_passes (λ (q : Segment). q.slot ≡ 7) ((record using_segment { slot = 9 }) ∷ aux_segment ∷ []) (of 9 (omega arith), (of 8 (omega arith), tt)) t.0 t.1 t.2 t.3
   where
@@ -87,6 +90,7 @@ state_aux e = let h : 83 ≡ 65 = heads _ _ _ _ e in omega (arith, h)
 pub blank_aux : blank ≡ aux → ⊥
 blank_aux e = let h : 32 ≡ 65 = heads _ _ _ _ e in omega (arith, h)
 
+-- no unit is added where its own UNITREF record is the only one of its name
 pub not_asked_for_by_itself_alone : IsAddedUnit Little host (util_segment ∷ self_segment ∷ []) self_segment → ⊥
 not_asked_for_by_itself_alone u = let t = u.asked in go t.0 t.1 t.2 t.3.0 t.3.1
   where
@@ -108,6 +112,7 @@ state_nobody e = let h : 83 ≡ 78 = heads _ _ _ _ e in omega (arith, h)
 blank_nobody : blank ≡ nobody → ⊥
 blank_nobody e = let h : 32 ≡ 78 = heads _ _ _ _ e in omega (arith, h)
 
+-- no unit is added where UNITREF records ask for one of another name only
 pub not_asked_for_by_another_name : IsAddedUnit Little host (using_segment ∷ nobody_segment ∷ []) nobody_segment → ⊥
 not_asked_for_by_another_name u = let t = u.asked in none_passes (λ (q : Segment). AsksFor q nobody) (using_segment ∷ nobody_segment ∷ []) (of_using, (of_itself, tt)) t.0 t.1 t.2 t.3.1
   where
@@ -117,6 +122,7 @@ not_asked_for_by_another_name u = let t = u.asked in none_passes (λ (q : Segmen
     of_itself : AsksFor nobody_segment nobody → ⊥
     of_itself t = no_name nobody_segment nobody (count_nobody, (state_nobody, (blank_nobody, tt))) t
 
+-- no unit is added for a PUBLREF record of its name
 pub not_asked_for_by_a_publ_ref : IsAddedUnit Little host (util_segment ∷ count_segment ∷ []) count_segment → ⊥
 not_asked_for_by_a_publ_ref u = let t = u.asked in go t.0 t.1 t.2 t.3.1
   where
@@ -167,6 +173,7 @@ not_one_of_two_entries u =
 pub not_an_entry_of_another_kind : IsUnitOf Little host (put_at 196 (5 ∷ []) library ∷ []) util 1 2 → ⊥
 not_an_entry_of_another_kind u = let h : 5 ≡ 3 = subst (λ (f : List ℕ). (entry_at Little f 2).kind ≡ 3) (sym (same (put_at 196 (5 ∷ []) library) u.library u.file)) u.kind in omega (arith, h)
 
+-- no unit is in a second library where there is only one
 pub not_in_a_file_that_is_not_there : IsUnitOf Little host (put_at 80 aux library ∷ []) util 2 2 → ⊥
 not_in_a_file_that_is_not_there u = nothing_there u.library u.file
   where

@@ -37,6 +37,7 @@ the_first_slot_s_is_missing h = let t = h 0 (omega arith) (λ e. plain e) in non
 pub the_last_slot_s_is_missing : HaveOneEach (with_slot Little 15 tools 0 1 18 host) (demo_segment ∷ util_segment ∷ []) → ⊥
 the_last_slot_s_is_missing h = let t = h 15 (omega arith) (λ e. plain e) in none_passes (λ (s : Segment). s.slot ≡ 15) (demo_segment ∷ util_segment ∷ []) (λ e. let n : 1 ≡ 15 = e in omega (arith, n), (λ e. let n : 7 ≡ 15 = e in omega (arith, n), tt)) t.0 t.1 t.2 t.3.0
 
+-- where UTIL is listed twice, its slot does not have just one segment
 pub a_segment_is_there_twice : HaveOneEach host (demo_segment ∷ util_segment ∷ util_segment ∷ []) → ⊥
 a_segment_is_there_twice h = go (h 7 (omega arith) (λ e. filled e))
   where
@@ -60,6 +61,7 @@ other_role e = cc
 pub one_of_its_own_in_an_empty_slot : AreOwn host (demo_segment ∷ util_segment ∷ (record aux_segment { added = false }) ∷ []) → ⊥
 one_of_its_own_in_an_empty_slot h = let o = h 2 demo_segment (omega arith) refl in other_role o.role
 
+-- AUX is no added unit where no segment has a UNITREF record of that name
 pub one_is_added_that_nothing_names : AreAdded host (demo_segment ∷ util_segment ∷ aux_segment ∷ []) → ⊥
 one_is_added_that_nothing_names h = let u = h 2 demo_segment (omega arith) refl in let t = u.asked in none_passes (λ (q : Segment). AsksFor q aux) (demo_segment ∷ util_segment ∷ aux_segment ∷ []) (of_demo, (of_unit util_segment refl, (of_unit aux_segment refl, tt))) t.0 t.1 t.2 t.3.1
   where
@@ -76,12 +78,14 @@ one_is_added_of_a_name_that_the_host_has h = let u = h 1 demo_segment (omega ari
 slot_of : (a b : Segment) → a ≡ b → a.slot ≡ b.slot
 slot_of a b e = ap (λ (s : Segment). s.slot) e
 
+-- a unit that is added in slot 9, and by no round, is not of the rounds
 pub one_is_added_in_no_round : AreOfRounds host used (demo_segment ∷ using_segment ∷ aux_segment ∷ past_segment ∷ []) → ⊥
 one_is_added_in_no_round h = let t = subst Past added_is (h.0 3 demo_segment (omega arith) refl) in none_passes (λ (q : Segment). q ≡ past_segment) (aux_segment ∷ []) (λ e. let s : 8 ≡ 9 = slot_of aux_segment past_segment e in omega (arith, s), tt) t.0 t.1 t.2 t.3
   where
     Past : List Segment → Type 0
     Past more = SomeItem more (λ k q. q ≡ past_segment)
 
+-- a list in which AUX is not marked as added lacks the segment that the rounds add
 pub the_added_one_is_missing : AreOfRounds host used (demo_segment ∷ using_segment ∷ (record aux_segment { added = false }) ∷ []) → ⊥
 the_added_one_is_missing h = let t = (subst Missing added_is h.1) 0 demo_segment (omega arith) in none_passes (λ (q : Segment). q ≡ aux_segment) (demo_segment ∷ using_segment ∷ (record aux_segment { added = false }) ∷ []) (λ e. let s : 1 ≡ 8 = slot_of demo_segment aux_segment e in omega (arith, s), (λ e. let s : 7 ≡ 8 = slot_of using_segment aux_segment e in omega (arith, s), (λ e. false≢true (ap (λ (s : Segment). s.added) e), tt))) t.0 t.1 t.2 t.3
   where
@@ -93,6 +97,7 @@ big_is : added Big (host_in Big) (library_of_used_big ∷ []) ≡ (record aux_se
 unfolding own_segments empty_slots rounds
 big_is = refl
 
+-- a list without AUX lacks the segment that the rounds of big-endian files add
 pub the_big_endian_one_is_missing : AreOfRounds (host_in Big) (library_of_used_big ∷ []) (demo_segment ∷ using_segment ∷ []) → ⊥
 the_big_endian_one_is_missing h = let t = (subst Missing big_is h.1) 0 demo_segment (omega arith) in none_passes (λ (q : Segment). q ≡ record aux_segment { code = put_at 22 (3 ∷ []) (util_code Big) }) (demo_segment ∷ using_segment ∷ []) (λ e. let s : 1 ≡ 8 = ap (λ (x : Segment). x.slot) e in omega (arith, s), (λ e. let s : 7 ≡ 8 = ap (λ (x : Segment). x.slot) e in omega (arith, s), tt)) t.0 t.1 t.2 t.3
   where

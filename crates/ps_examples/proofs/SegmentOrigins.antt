@@ -33,6 +33,7 @@ abbrev pub any_below : ℕ → (ℕ → Bool) → Bool
 any_below zero test = false
 any_below (suc n) test = test n || any_below n test
 
+-- where no number below n passes a test, each of them fails it
 pub fails : (n : ℕ) (test : ℕ → Bool) → any_below n test ≡ false → (i : ℕ) → i < n → test i ≡ false
 fails zero test none i h = absurd (omega (arith, h))
 fails (suc n) test none i h = elim (cases_lt i n) [
@@ -52,6 +53,7 @@ fails (suc n) test none i h = elim (cases_lt i n) [
 abbrev other_entry : Order → List ℕ → List ℕ → ℕ → ℕ → Bool
 other_entry order name file i k = is_filled (entry_at order file k) && (bytes_eq (entry_at order file k).name name && not (k == i))
 
+-- where no other entry is a filled one of the name, each filled entry of the name is this one
 pub only_entry : (order : Order) (name file : List ℕ) (i : ℕ) → any_below 16 (other_entry order name file i) ≡ false → (k : ℕ) → k < 16 → IsNamed order name file k → k ≡ i
 only_entry order name file i all k h n = go (k == i) (Decides-eqb k i) (fails 16 (other_entry order name file i) all k h)
   where
@@ -90,6 +92,7 @@ a_host_segment_is_own = record { role = refl; filled = λ e. cc; name = refl }
 pub a_wanted_unit_is_own : IsOwn Little host util_segment
 a_wanted_unit_is_own = record { role = refl; filled = λ e. cc; name = refl }
 
+-- just one segment of the pair has slot 7: UTIL
 pub a_slot_has_one : HasOne pair 7
 unfolding own_segments empty_slots rounds segments
 a_slot_has_one = (1, util_segment, refl, (refl, one))
@@ -99,6 +102,7 @@ a_slot_has_one = (1, util_segment, refl, (refl, one))
     one (suc zero) q e at = refl
     one (suc (suc k)) q e at = absurd (cc)
 
+-- UTIL is entry 2 of the library
 pub in_the_library : IsUnitOf Little host (library ∷ []) util 1 2
 in_the_library = record {
   library = library;
@@ -111,6 +115,7 @@ in_the_library = record {
   kind = refl;
 }
 
+-- where the first library has no UTIL, it is entry 2 of the second
 pub in_the_second : IsUnitOf Little host (put_at 80 aux library ∷ library ∷ []) util 2 2
 in_the_second = record {
   library = library;
@@ -130,6 +135,7 @@ in_the_second = record {
         (subst (λ (f : List ℕ). HasEntry Little util f) (sym (same (put_at 80 aux library) other is)) has)
     before (suc (suc k)) other low lt is has = omega (arith, lt)
 
+-- UTIL is the entry of the library where a plain segment of the host has that name too
 pub in_the_library_and_in_the_host : IsUnitOf Little (with_slot Little 8 util 0 1 18 host) (library ∷ []) util 1 2
 in_the_library_and_in_the_host = record {
   library = library;
@@ -155,6 +161,7 @@ the_only_one_of_sixteen = record {
   kind = refl;
 }
 
+-- UTIL is entry 15 of a library that has it there
 pub in_the_last_entry : IsUnitOf Little host (library_of_the_last ∷ []) util 1 15
 in_the_last_entry = record {
   library = library_of_the_last;
@@ -170,6 +177,7 @@ in_the_last_entry = record {
 pub its_slice : IsSliceOf library (entry_at Little library 2) (util_code Little)
 its_slice = (leb-true 536 1536 refl, refl)
 
+-- DEMO is read at entry 1 of the host, with its code and its records
 pub read_from_the_host : IsRead Little host (library ∷ []) demo_segment
 read_from_the_host = record {
   source = host;
@@ -197,6 +205,7 @@ spelled = record {
   ends = (refl, (refl, refl));
 }
 
+-- UTIL is read at entry 2 of the library, with its code and its records
 pub read_from_the_library : IsRead Little host (library ∷ []) util_segment
 read_from_the_library = record {
   source = library;
@@ -208,6 +217,7 @@ read_from_the_library = record {
   unread = λ h. absurd (cc);
 }
 
+-- UTIL is read at entry 15 of a library that has it there
 pub read_from_the_last_entry : IsRead Little host (library_of_the_last ∷ []) (record util_segment { index = 15 })
 read_from_the_last_entry = record {
   source = library_of_the_last;
@@ -219,6 +229,7 @@ read_from_the_last_entry = record {
   unread = λ h. absurd (cc);
 }
 
+-- TOOLS is read at entry 8 of the host with its code alone, for a plain segment has no records
 pub a_plain_one_is_not_read : IsRead Little host_with_tools (library ∷ []) tools_segment
 a_plain_one_is_not_read = record {
   source = host_with_tools;
@@ -234,6 +245,7 @@ a_plain_one_is_not_read = record {
 no_slot_has : (file name : List ℕ) → any_below 16 (λ k. bytes_eq (entry_at Little file k).name name) ≡ false → HasSlot Little file name → ⊥
 no_slot_has file name all t = false≢true (sym (fails 16 (λ k. bytes_eq (entry_at Little file k).name name) all t.0 t.1) ∙ (bytes_eq-Decides (entry_at Little file t.0).name name).1 t.2.1)
 
+-- AUX is an added unit in slot 8, for which UTIL asks
 pub an_added_unit : IsAddedUnit Little host three aux_segment
 unfolding own_segments empty_slots rounds segments
 an_added_unit = record {
@@ -249,6 +261,7 @@ an_added_unit = record {
     wanted : (slot : ℕ) → slot ≡ 7 → HasRole Little host slot role.Empty → ⊥
     wanted slot at has = let h : HasRole Little host 7 role.Empty = subst (λ (k : ℕ). HasRole Little host k role.Empty) at has in cc
 
+-- TOOLS is an added unit in slot 9, for which AUX asks, which is added in slot 8
 pub a_unit_that_an_added_one_names : IsAddedUnit Little host (using_segment ∷ naming_segment ∷ named_segment ∷ []) named_segment
 a_unit_that_an_added_one_names = record {
   empty = refl;
@@ -269,6 +282,7 @@ a_unit_that_an_added_one_names = record {
       | inr l ↦ (1, naming_segment, refl, omega (arith, l, lt))
     ]
 
+-- AUX is an added unit in slot 7 where this slot of the host is empty
 pub an_added_unit_in_slot_7 : IsAddedUnit Little host_without_7 ((record using_segment { slot = 9 }) ∷ (record aux_segment { slot = 7 }) ∷ []) (record aux_segment { slot = 7 })
 an_added_unit_in_slot_7 = record {
   empty = refl;

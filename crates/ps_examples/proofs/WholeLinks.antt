@@ -29,6 +29,7 @@ abbrev pub emptiness : Result Role Reason → Bool
 emptiness (Ok r) = is_empty r
 emptiness (Err why) = false
 
+-- a result that passes this test is the role Empty
 empty_role : (x : Result Role Reason) → emptiness x ≡ true → x ≡ Ok role.Empty
 empty_role (Ok role.Empty) e = refl
 empty_role (Ok role.Wanted) e = absurd (cc)
@@ -40,6 +41,7 @@ empty_role (Err why) e = absurd (cc)
 abbrev pub is_another : ℕ → Bool
 is_another k = not (emptiness (role_of (entry_at Little host k))) && not (k == 1 || k == 7)
 
+-- each of the host's slots that is not empty has just one segment of the pair
 pub a_segment_for_each_slot : HaveOneEach host pair
 a_segment_for_each_slot slot lt full = subst (λ (segs : List Segment). HasOne segs slot) (sym segments_are) (go (emptiness (role_of (entry_at Little host slot))) refl (slot == 1) (Decides-eqb slot 1).0 (slot == 7) (Decides-eqb slot 7).0 (fails 16 is_another refl slot lt))
   where
@@ -60,6 +62,7 @@ a_segment_for_each_slot slot lt full = subst (λ (segs : List Segment). HasOne s
     go false a false f true g e = subst (λ (k : ℕ). HasOne (demo_segment ∷ util_segment ∷ []) k) (sym (g refl)) two
     go false a false f false g e = absurd (true≢false e)
 
+-- the segments of the pair stand by slot: 1 and then 7
 pub by_slot : AreBySlot pair
 by_slot = subst (λ (segs : List Segment). AreBySlot segs) (sym segments_are) (rise, All-from_recursion (λ (s : Segment). s.slot < 16) (demo_segment ∷ util_segment ∷ []) (omega arith, (omega arith, tt)))
   where
@@ -69,11 +72,13 @@ by_slot = subst (λ (segs : List Segment). AreBySlot segs) (sym segments_are) (r
     rise (suc i) (suc zero) s q lt e f = absurd (omega (arith, lt))
     rise i (suc (suc j)) s q lt e f = absurd (cc)
 
+-- the segments of the three that were not added have their slots in the host's dictionary
 pub the_host_s_own : AreOwn host three
 the_host_s_own = subst (λ (segs : List Segment). AreOwn host segs) (sym an_added_unit_s_segments)
     (All-from_recursion (λ (s : Segment). s.added ≡ false → IsOwn Little host s) (demo_segment ∷ using_segment ∷ aux_segment ∷ [])
     (λ h. record { role = refl; filled = λ e. cc; name = refl }, (λ h. record { role = refl; filled = λ e. cc; name = refl }, (λ h. absurd (true≢false h), tt))))
 
+-- the one of the three that was added has an empty slot, and a name that is asked for
 pub the_added_one : AreAdded host three
 the_added_one = subst (λ (segs : List Segment). AreAdded host segs) (sym an_added_unit_s_segments)
     (All-from_recursion (λ (s : Segment). s.added ≡ true → IsAddedUnit Little host (demo_segment ∷ using_segment ∷ aux_segment ∷ []) s) (demo_segment ∷ using_segment ∷ aux_segment ∷ [])
@@ -87,6 +92,7 @@ pub added_is : added Little host used ≡ aux_segment ∷ []
 unfolding own_segments empty_slots rounds
 added_is = refl
 
+-- the one of the three that was added is just what the rounds add
 pub the_rounds_have_it : AreOfRounds host used three
 the_rounds_have_it = subst (λ (segs : List Segment). AreOfRounds host used segs) (sym an_added_unit_s_segments) (subst Of (sym added_is) (theirs, all))
   where
@@ -104,6 +110,7 @@ pub two_in_place : AreInPlace with_plain
 two_in_place = subst (λ (segs : List Segment). AreInPlace segs) (sym a_plain_segment_s)
     (All-from_recursion (λ (s : Segment). s.role ≢ role.Wanted → IsInPlace s) (demo_segment ∷ util_segment ∷ tools_segment ∷ []) (λ h. (refl, refl), (λ h. absurd (h refl), (λ h. (refl, refl), tt))))
 
+-- the wanted unit and the added one of the three are the units of their names in the library
 pub two_of_libraries : AreOfLibraries host used three
 two_of_libraries = subst (λ (segs : List Segment). AreOfLibraries host used segs) (sym an_added_unit_s_segments)
     (All-from_recursion (λ (s : Segment). s.role ≡ role.Wanted → IsUnitOf Little host used s.name s.file s.index) (demo_segment ∷ using_segment ∷ aux_segment ∷ [])
@@ -139,6 +146,7 @@ the_same_big_endian = subst (λ (segs : List Segment). AreOwn (host_in Big) segs
     (All-from_recursion (λ (s : Segment). s.added ≡ false → IsOwn Big (host_in Big) s) (demo_segment ∷ util_segment ∷ [])
     (λ h. record { role = refl; filled = λ e. cc; name = refl }, (λ h. record { role = refl; filled = λ e. cc; name = refl }, tt)))
 
+-- the wanted unit of the pair is the unit of its name in the big-endian library
 pub one_of_a_big_endian_library : AreOfLibraries (host_in Big) (library_in Big ∷ []) pair
 one_of_a_big_endian_library = subst (λ (segs : List Segment). AreOfLibraries (host_in Big) (library_in Big ∷ []) segs) (sym segments_are)
     (All-from_recursion (λ (s : Segment). s.role ≡ role.Wanted → IsUnitOf Big (host_in Big) (library_in Big ∷ []) s.name s.file s.index) (demo_segment ∷ util_segment ∷ []) (λ h. absurd (cc), (λ h. util_is, tt)))
@@ -155,6 +163,7 @@ one_of_a_big_endian_library = subst (λ (segs : List Segment). AreOfLibraries (h
       kind = refl;
     }
 
+-- UTIL is read at entry 2 of the big-endian library, with its code and its records
 pub read_from_a_big_endian_library : AreRead (host_in Big) (library_in Big ∷ []) ((record util_segment { code = util_code Big }) ∷ [])
 read_from_a_big_endian_library = All-from_recursion (λ (s : Segment). IsRead Big (host_in Big) (library_in Big ∷ []) s) ((record util_segment { code = util_code Big }) ∷ []) (of_util, tt)
   where

@@ -19,6 +19,7 @@ state_reference = record { name = state; body = PrivRef 4 (4 ∷ []) }
 abbrev pub end_mark : Record
 end_mark = record { name = blank; body = Eof 0 }
 
+-- UTIL as it is read for slot 7, from entry 2 of file 1
 abbrev pub util_segment : Segment
 util_segment = record {
   slot = 7;
@@ -55,6 +56,7 @@ aux_reference = record { name = aux; body = UnitRef (2 ∷ []) }
 abbrev pub using_segment : Segment
 using_segment = record util_segment { records = aux_reference ∷ end_mark ∷ [] }
 
+-- AUX as it is read for slot 8, from entry 3 of file 1
 abbrev pub aux_segment : Segment
 aux_segment = record {
   slot = 8;

@@ -145,6 +145,7 @@ slots_of_the_host =
     ++ codes "slot 14          kind 0 address 0 length 0 text 0\n"
     ++ codes "slot 15          kind 0 address 0 length 0 text 0\n"
 
+-- the link information of the host's segment
 abbrev pub links_of_the_host : List ℕ
 links_of_the_host =
     codes "links 01\n"
@@ -191,6 +192,7 @@ links_of_a_bad_length =
     codes "links 02\n"
     ++ codes "fault 11 BadLength\n"
 
+-- a code at address 0, which is refused too
 abbrev pub links_of_a_bad_address : List ℕ
 links_of_a_bad_address =
     codes "links 01\n"

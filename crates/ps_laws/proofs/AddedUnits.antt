@@ -47,6 +47,7 @@ abbrev numbered : ℕ → List Segment → List Numbered
 numbered i [] = []
 numbered i (s ∷ ss) = map (tag i) (references_of s) ++ numbered (i + 1) ss
 
+-- without their numbers they are the unit references of the segments, one segment after another
 numbers_off : (i : ℕ) (segs : List Segment) → map (λ (n : Numbered). n.1) (numbered i segs) ≡ all_unit_references segs
 numbers_off i [] = refl
 numbers_off i (s ∷ ss) =
@@ -57,11 +58,14 @@ numbers_off i (s ∷ ss) =
     go [] = refl
     go (g ∷ gs) = ap (λ (xs : List UnitReference). g ∷ xs) (go gs)
 
+-- an item of a mapped list is what the function makes of the item at the same place
 pub mapped : {A C : Type 0} (f : A → C) (xs : List A) (k : ℕ) (y : C) → slice_get (map f xs) k ≡ Some y → (x : A) × (slice_get xs k ≡ Some x) × (f x ≡ y)
 mapped f [] k y e = absurd (cc)
 mapped f (x ∷ xs) zero y e = (x, refl, cc)
 mapped f (x ∷ xs) (suc k) y e = mapped f xs k y e
 
+-- an item of two joined lists is in the first at its place, or in the second, where it stands as much earlier
+-- as the first is long
 pub split_at : {A : Type 0} (xs ys : List A) (p : ℕ) (a : A) → slice_get (xs ++ ys) p ≡ Some a → (slice_get xs p ≡ Some a) ⊎ ((q : ℕ) × (p ≡ length xs + q) × (slice_get ys q ≡ Some a))
 split_at [] ys p a e = inr (p, omega arith, e)
 split_at (x ∷ xs) ys zero a e = inl e
@@ -71,6 +75,7 @@ split_at {A} (x ∷ xs) ys (suc p) a e = go (split_at xs ys p a e)
     go (inl h) = inl h
     go (inr t) = inr (t.0, (let h = t.1 in omega (arith, h)), t.2)
 
+-- an item of the second of two joined lists stands as much later as the first is long
 pub at_right : {A : Type 0} (xs ys : List A) (q : ℕ) (a : A) → slice_get ys q ≡ Some a → slice_get (xs ++ ys) (length xs + q) ≡ Some a
 at_right {A} [] ys q a e = let same : q ≡ length {A = A} [] + q = omega arith in subst (λ (n : ℕ). slice_get ys n ≡ Some a) same e
 at_right {A} (x ∷ xs) ys q a e = let same : suc (length xs + q) ≡ length (x ∷ xs) + q = omega arith in subst (λ (n : ℕ). slice_get (x ∷ xs ++ ys) n ≡ Some a) same (next (length xs + q) (at_right xs ys q a e))
@@ -82,6 +87,7 @@ at_right {A} (x ∷ xs) ys q a e = let same : suc (length xs + q) ≡ length (x 
 abbrev IsOf : ℕ → ℕ → ℕ → List Record → UnitReference → ℕ → Type 0
 IsOf file slot n rs g j = (r : Record) × (slice_get rs j ≡ Some r) × (is_unit_reference r.body ≡ true) × (r.name ≡ g.name) × (g.rec ≡ n + j) × (g.file ≡ file) × (g.slot ≡ slot)
 
+-- each unit reference of a row of records is of a UNITREF among them, with its name and number, this file and this slot
 reference_is : (file slot n : ℕ) (rs : List Record) (p : ℕ) (g : UnitReference) → slice_get (unit_references file slot n rs) p ≡ Some g → (j : ℕ) × IsOf file slot n rs g j
 reference_is file slot n [] p g e = absurd (cc)
 reference_is file slot n (q ∷ rs) p g e = go (is_unit_reference q.body) refl p e (λ k h. reference_is file slot (n + 1) rs k g h)
@@ -103,6 +109,7 @@ reference_is file slot n (q ∷ rs) p g e = go (is_unit_reference q.body) refl p
     go true is (suc k) e later = step (later k e)
     go false is k e later = step (later k e)
 
+-- each UNITREF of a row of records has its unit reference, with its name and its number
 reference_of : (file slot n : ℕ) (rs : List Record) (j : ℕ) (r : Record) → slice_get rs j ≡ Some r → is_unit_reference r.body ≡ true → (p : ℕ) × (g : UnitReference) × (slice_get (unit_references file slot n rs) p ≡ Some g) × (g.name ≡ r.name) × (g.rec ≡ n + j)
 reference_of file slot n [] j r e u = absurd (cc)
 reference_of file slot n (q ∷ rs) j r e u = go (is_unit_reference q.body) refl j e (λ k h. reference_of file slot (n + 1) rs k r h u)
@@ -120,6 +127,7 @@ reference_of file slot n (q ∷ rs) j r e u = go (is_unit_reference q.body) refl
     go false is zero e later = let same : q ≡ r = cc in absurd (false≢true (sym is ∙ (ap (λ (x : Record). is_unit_reference x.body) same ∙ u)))
     go false is (suc k) e later = let t = later k e in (t.0, t.1, t.2, t.3, (let h = t.4 in omega (arith, h)))
 
+-- the unit references of a row of records stand in the order of the records
 references_ascend : (file slot n : ℕ) (rs : List Record) (p q : ℕ) (g h : UnitReference) → p < q → slice_get (unit_references file slot n rs) p ≡ Some g → slice_get (unit_references file slot n rs) q ≡ Some h → g.rec < h.rec
 references_ascend file slot n [] p q g h l e u = absurd (cc)
 references_ascend file slot n (x ∷ rs) p q g h l e u = go (is_unit_reference x.body) p q l e u (λ i j m a b. references_ascend file slot (n + 1) rs i j g h m a b)
@@ -156,6 +164,7 @@ numbered_is i (s ∷ ss) p m g e = elim (split_at (map (tag i) (references_of s)
       (suc r.0, (let h = r.1 in omega (arith, h)), r.2, r.3, r.4, r.5)
 ]
 
+-- what the function makes of an item is in the mapped list at the same place
 pub map_at : {A C : Type 0} (f : A → C) (xs : List A) (k : ℕ) (x : A) → slice_get xs k ≡ Some x → slice_get (map f xs) k ≡ Some (f x)
 map_at f [] k x e = absurd (cc)
 map_at {A} f (y ∷ xs) zero x e = let same : y ≡ x = cc in ap (λ (z : A). Some (f z)) same
@@ -164,6 +173,7 @@ map_at f (y ∷ xs) (suc k) x e = map_at f xs k x e
 renumbered : (xs : List Numbered) (p m n : ℕ) (g : UnitReference) → m ≡ n → slice_get xs p ≡ Some (m, g) → slice_get xs p ≡ Some (n, g)
 renumbered xs p m n g h e = subst (λ (k : ℕ). slice_get xs p ≡ Some (tag k g)) h e
 
+-- each UNITREF of a segment has its unit reference among those of all, with the number of the segment
 numbered_of : (i : ℕ) (segs : List Segment) (j : ℕ) (s : Segment) (rec : ℕ) (r : Record) → slice_get segs j ≡ Some s → slice_get s.records rec ≡ Some r → is_unit_reference r.body ≡ true
     → (p : ℕ) × (g : UnitReference) × (slice_get (numbered i segs) p ≡ Some (i + j, g)) × (g.name ≡ r.name) × (g.rec ≡ rec)
 numbered_of i [] j s rec r e a u = absurd (cc)
@@ -186,6 +196,7 @@ numbered_of i (q ∷ ss) (suc j) s rec r e a u =
       t.4,
     )
 
+-- the unit references of all stand in the order of their segments and, in each of these, of their records
 numbered_ascend : (i : ℕ) (segs : List Segment) (p q m n : ℕ) (g h : UnitReference) → p < q → slice_get (numbered i segs) p ≡ Some (m, g) → slice_get (numbered i segs) q ≡ Some (n, h) → Before (m ∷ g.rec ∷ []) (n ∷ h.rec ∷ [])
 numbered_ascend i [] p q m n g h l e u = absurd (cc)
 numbered_ascend i (s ∷ ss) p q m n g h l e u = go (λ a b x y z. numbered_ascend (i + 1) ss a b m n g h x y z) (split_at prefix (numbered (i + 1) ss) p (m, g) e) (split_at prefix (numbered (i + 1) ss) q (n, h) u)
@@ -219,6 +230,7 @@ abbrev IsEarliest : List (List ℕ × ℕ) → List UnitReference → List UnitR
 IsEarliest units row gs p g =
     (slice_get gs p ≡ Some g) × (is_had units row g.name ≡ false) × ((q : ℕ) (h : UnitReference) → q < p → slice_get gs q ≡ Some h → h.name ≢ g.name)
 
+-- a name that is not had with one more reference is not had without it, and is not its name
 had_by : (units : List (List ℕ × ℕ)) (row : List UnitReference) (h : UnitReference) (name : List ℕ) → is_had units (row ++ h ∷ []) name ≡ false → (is_had units row name ≡ false) × (h.name ≢ name)
 had_by units row h name e = (fewer (is_had units row name) refl, other)
   where
@@ -237,6 +249,7 @@ past_had units row gs x p g had t = (t.0, t.1, first)
     first zero h l e same = let it : x ≡ h = cc in false≢true (sym t.1 ∙ ap (λ (n : List ℕ). is_had units row n) (sym same ∙ sym (ap (λ (y : UnitReference). y.name) it)) ∙ had)
     first (suc q) h l e same = t.2 q h (omega (arith, l)) e same
 
+-- and behind one that came into the row
 past_new : (units : List (List ℕ × ℕ)) (row gs : List UnitReference) (x : UnitReference) (p : ℕ) (g : UnitReference) → IsEarliest units (row ++ x ∷ []) gs p g → IsEarliest units row (x ∷ gs) (suc p) g
 past_new units row gs x p g t = (t.0, by.0, first)
   where
@@ -257,6 +270,7 @@ new_name units row gs x k g at e =
     let there : slice_get (sought_from units (row ++ x ∷ []) gs) k ≡ Some x = ap (λ (r : List UnitReference). slice_get r k) grown.1 ∙ at_left (row ++ x ∷ []) grown.0 k x (at_seam row x [] k at) in
     cc
 
+-- each name that stands behind those of the row is that of an earliest reference
 sought_at : (units : List (List ℕ × ℕ)) (row gs : List UnitReference) (k : ℕ) (g : UnitReference) → length row ≤ k → slice_get (sought_from units row gs) k ≡ Some g → (p : ℕ) × IsEarliest units row gs p g
 sought_at units row [] k g low e = let h = slice_get_within row k g e in absurd (omega (arith, h, low))
 sought_at units row (x ∷ gs) k g low e = go (is_had units row x.name) refl e (λ r h u. sought_at units r gs k g h u)
@@ -278,6 +292,7 @@ sought_at units row (x ∷ gs) k g low e = go (is_had units row x.name) refl e (
 abbrev InOrder : List (List ℕ × ℕ) → List UnitReference → List UnitReference → UnitReference → UnitReference → Type 0
 InOrder units row gs g h = (p : ℕ) × (q : ℕ) × (p < q) × IsEarliest units row gs p g × IsEarliest units row gs q h
 
+-- of two names that stand behind those of the row, the earlier is that of the earlier reference
 sought_pair : (units : List (List ℕ × ℕ)) (row gs : List UnitReference) (j k : ℕ) (g h : UnitReference) → length row ≤ j → j < k → slice_get (sought_from units row gs) j ≡ Some g → slice_get (sought_from units row gs) k ≡ Some h → InOrder units row gs g h
 sought_pair units row [] j k g h low l e u = let w = slice_get_within row j g e in absurd (omega (arith, w, low))
 sought_pair units row (x ∷ gs) j k g h low l e u = go (is_had units row x.name) refl e u (λ r m a b. sought_pair units r gs j k g h m l a b)
@@ -312,6 +327,7 @@ place_of segs p g e =
     let t = mapped (λ (n : Numbered). n.1) (numbered 0 segs) p g (ap (λ (gs : List UnitReference). slice_get gs p) (numbers_off 0 segs) ∙ e) in
     (t.0.0, t.1 ∙ ap (λ (h : UnitReference). Some (tag t.0.0 h)) t.2)
 
+-- a record that asks for a name has its unit reference among those of all, with the number of its segment
 asks_at : (segs : List Segment) (j rec : ℕ) (name : List ℕ) → Asks segs j rec name → (q : ℕ) × (h : UnitReference) × (slice_get (numbered 0 segs) q ≡ Some (j, h)) × (slice_get (all_unit_references segs) q ≡ Some h) × (h.name ≡ name) × (h.rec ≡ rec)
 asks_at segs j rec name t =
     let r = numbered_of 0 segs j t.0 rec t.2 t.1 t.3 t.4 in (
@@ -323,6 +339,7 @@ asks_at segs j rec name t =
       r.4,
     )
 
+-- the earliest reference of a name is of the first record of all that asks for it
 giver : (units : List (List ℕ × ℕ)) (segs : List Segment) (p m : ℕ) (g : UnitReference) → IsEarliest units [] (all_unit_references segs) p g → slice_get (numbered 0 segs) p ≡ Some (m, g) → IsGiver segs m g
 giver units segs p m g t at = ((s, there, of.5, of.6), (s, there, of.0, subst (λ (n : ℕ). slice_get s.records n ≡ Some of.0) rec of.1, of.2, of.3), first)
   where
@@ -377,12 +394,14 @@ unit_role role.Unit e = inl refl
 unit_role role.Wanted e = inr refl
 unit_role other e = absurd (false≢true e)
 
+-- a slot's own segment has the slot's role and its name
 pub own_is : (order : Order) (host : List ℕ) (libs : List (List ℕ)) (slot : ℕ) (s : Segment) → own_segment order host libs slot ≡ Some s → (r : Role) × HasRole order host slot r × (s.role ≡ r) × (s.name ≡ (entry_at order host slot).name)
 own_is order host libs slot s e =
     option_and_then_some (λ r. option_and_then (segment_from order host libs slot (entry_at order host slot).name r) (source_of order host libs slot r)) (result_ok (role_of (entry_at order host slot))) s e (λ r e1 h.
     option_and_then_some (segment_from order host libs slot (entry_at order host slot).name r) (source_of order host libs slot r) s h (λ at e2 k.
     let t = from_slot order host libs slot (entry_at order host slot).name r at s k in (r, ok_is (role_of (entry_at order host slot)) r e1, t.2, t.1)))
 
+-- the name of a unit among the host's own segments is that of a unit slot of the host
 slot_of_unit : (order : Order) (host : List ℕ) (libs : List (List ℕ)) (name : List ℕ) → is_some (lookup (bytes_eq name) (own_units order host libs)) ≡ true → HasSlot order host name
 slot_of_unit order host libs name e =
     let t = (units_named name (own_segments order host libs)).0 e in
@@ -394,6 +413,7 @@ slot_of_unit order host libs name e =
       | inr u ↦ (o.0, o.1, (inr (subst (λ (x : Role). HasRole order host o.0 x) u r.1), same))
     ]
 
+-- where the first of what a row of items gives is none, each of them gives none
 pub first_none : {A X : Type 0} (f : A → Option X) (xs : List A) (i : ℕ) (x : A) → first_of f xs ≡ None → slice_get xs i ≡ Some x → f x ≡ None
 first_none f [] i x e u = absurd (cc)
 first_none {A} {X} f (y ∷ xs) i x e u = go (λ n k h. first_none f xs k x n h) (f y) refl e i u
@@ -411,11 +431,13 @@ pub source_none : (order : Order) (host : List ℕ) (libs : List (List ℕ)) →
 unfolding sources_fault
 source_none order host libs fine slot h = let i = in_range 0 16 slot (omega arith) (omega (arith, h)) in first_none (source_fault order host libs) slots i.0 slot fine i.1
 
+-- where the source of a slot has no fault, neither the choice of its library nor its code has one
 pub of_role : (order : Order) (host : List ℕ) (libs : List (List ℕ)) (slot : ℕ) (r : Role) → source_fault order host libs slot ≡ None → HasRole order host slot r
     → (wanted_fault order host libs slot r ≡ None) × (option_and_then (code_fault order host libs slot r) (source_of order host libs slot r) ≡ None)
 of_role order host libs slot r fine has = both_none (wanted_fault order host libs slot r) (option_and_then (code_fault order host libs slot r) (source_of order host libs slot r))
     (sym (ap (option_and_then (λ (x : Role). option_or (wanted_fault order host libs slot x) (option_and_then (code_fault order host libs slot x) (source_of order host libs slot x)))) (ap result_ok has)) ∙ fine)
 
+-- a slot that has a source, in whose code there is no fault, has its own segment
 pub own_made : (order : Order) (host : List ℕ) (libs : List (List ℕ)) (slot : ℕ) (r : Role) (at : ℕ × ℕ) → HasRole order host slot r → source_of order host libs slot r ≡ Some at → code_fault order host libs slot r at ≡ None → (s : Segment) × (own_segment order host libs slot ≡ Some s)
 own_made order host libs slot r at has is fine = go (segment_from order host libs slot (entry_at order host slot).name r at) refl
   where
@@ -427,6 +449,7 @@ own_made order host libs slot r at has is fine = go (segment_from order host lib
           ∙ (ap (option_and_then (segment_from order host libs slot (entry_at order host slot).name r)) is ∙ e),
     )
 
+-- a wanted unit in whose choice of a library there is no fault has a source
 pub wanted_source : (order : Order) (host : List ℕ) (libs : List (List ℕ)) (slot : ℕ) → wanted_fault order host libs slot role.Wanted ≡ None → unit_source order (entry_at order host slot).name libs ≡ None → ⊥
 wanted_source order host libs slot fine none = go (chosen_library order (entry_at order host slot).name libs) refl (unit_found order (entry_at order host slot).name libs none)
   where
@@ -434,6 +457,7 @@ wanted_source order host libs slot fine none = go (chosen_library order (entry_a
     go None is e = let a = rw (is, wanted_fault, unit_fault) at fine in cc
     go (Some lib) is e = false≢true e
 
+-- where the sources have no fault, the name of a unit slot is that of a unit among the host's own segments
 unit_of_slot : (order : Order) (host : List ℕ) (libs : List (List ℕ)) → sources_fault order host libs ≡ None → (name : List ℕ) → HasSlot order host name → is_some (lookup (bytes_eq name) (own_units order host libs)) ≡ true
 unit_of_slot order host libs fine name t = elim t.2.0 [
   | inl has ↦
@@ -473,6 +497,7 @@ made_is order host libs slot name at s e = go (code_of file (entry_at order file
         let x : Made c ≡ s = cc in
         (sym (ap (λ (q : Segment). q.file) x), sym (ap (λ (q : Segment). q.index) x), is ∙ ap (λ (q : Segment). Ok q.code) x, sym (ap (λ (q : Segment). q.records) x))
 
+-- what a search finds is in the list
 pub find_in : {A : Type 0} (test : A → Bool) (xs : List A) (x : A) → find test xs ≡ Some x → In x xs
 find_in test [] x e = absurd (cc)
 find_in {A} test (y ∷ xs) x e = go (test y) e (λ h. find_in test xs x h)
@@ -493,6 +518,7 @@ marked order host libs g slot s e = go (option_and_then (segment_from order host
 abbrev IsFirstLibrary : Order → List ℕ → List (List ℕ) → ℕ × List ℕ → Type 0
 IsFirstLibrary order name libs p = (slice_get libs p.0 ≡ Some p.1) × ((lesser : ℕ) (other : List ℕ) → lesser < p.0 → slice_get libs lesser ≡ Some other → HasEntry order name other → ⊥)
 
+-- the library that is chosen for a name stands at its number, and no lesser one has an entry of the name
 pub first_library : (order : Order) (name : List ℕ) (libs : List (List ℕ)) (p : ℕ × List ℕ) → chosen_library order name libs ≡ Some p → IsFirstLibrary order name libs p
 first_library order name libs p e = go (subst (λ (o : Option (ℕ × List ℕ)). Least (λ a b. a.0 < b.0) (λ q. SomeItem libs (λ k lib. HasEntry order name lib × (q ≡ (k, lib)))) o) e (chosen order name libs))
   where
@@ -502,6 +528,7 @@ first_library order name libs p e = go (subst (λ (o : Option (ℕ × List ℕ))
       λ m other h u k. elim (l (m, other) (m, other, u, (k, refl))) [ inl x ↦ (let y = ap (λ (z : ℕ × List ℕ). z.0) x in omega (arith, y, h)) | inr x ↦ omega (arith, x, h) ],
     )
 
+-- the library at place k is file k + 1 of the link
 pub library_at : (host : List ℕ) (libs : List (List ℕ)) (k : ℕ) (lib : List ℕ) → slice_get libs k ≡ Some lib → file_at host libs (k + 1) ≡ lib
 library_at host libs k lib e = at (k + 1) (omega arith)
   where
@@ -509,6 +536,7 @@ library_at host libs k lib e = at (k + 1) (omega arith)
     at zero h = absurd (omega (arith, h))
     at (suc m) h = let same : m ≡ k = omega (arith, h) in rw same (ap (λ (o : Option (List ℕ)). unwrap_or o []) e)
 
+-- the segment that a name brings is that of the first library that has the name
 of_first_library : (order : Order) (host : List ℕ) (libs : List (List ℕ)) (g : UnitReference) (slot : ℕ) (s : Segment) → added_segment order host libs g slot ≡ Some s → IsOfFirstLibrary order libs s
 of_first_library order host libs g slot s e = go (option_and_then (segment_from order host libs slot g.name role.Wanted) (unit_source order g.name libs)) refl e
   where

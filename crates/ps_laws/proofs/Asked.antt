@@ -41,6 +41,7 @@ source_made order host libs slot name r at e n = go (code_of (file_at host libs 
     go (Err why) is = let a = rw (is, code_fault) at e in cc
     go (Ok code) is = let a = rw (is, segment_from) at n in cc
 
+-- where a name has no source, no library was chosen for it
 pub unit_found : (order : Order) (name : List ℕ) (libs : List (List ℕ)) → unit_source order name libs ≡ None → is_none (chosen_library order name libs) ≡ true
 unit_found order name libs n = go (chosen_library order name libs) refl n
   where
@@ -102,6 +103,7 @@ sought_grows units row (g ∷ gs) = go (is_had units row g.name) (λ xs. sought_
     go true later = later row
     go false later = let r = later (row ++ g ∷ []) in (g ∷ r.0, r.1 ∙ append_assoc row (g ∷ []) r.0)
 
+-- a name that is had is had in a longer row
 pub had_more : (units : List (List ℕ × ℕ)) (row more : List UnitReference) (name : List ℕ) → is_had units row name ≡ true → is_had units (row ++ more) name ≡ true
 had_more units row more name = go (is_some (lookup (bytes_eq name) units))
   where
@@ -116,6 +118,7 @@ had_more units row more name = go (is_some (lookup (bytes_eq name) units))
     go true e = refl
     go false e = list_any-append test row more ∙ or_true (list_any test row) (list_any test more) e
 
+-- the name of the last reference of a row is had
 pub had_last : (units : List (List ℕ × ℕ)) (row : List UnitReference) (g : UnitReference) → is_had units (row ++ g ∷ []) g.name ≡ true
 had_last units row g = go (is_some (lookup (bytes_eq g.name) units))
   where
@@ -134,6 +137,7 @@ had_last units row g = go (is_some (lookup (bytes_eq g.name) units))
     go true = refl
     go false = list_any-append test row (g ∷ []) ∙ or_last (list_any test row) (test g) itself
 
+-- the name of each reference is had in the row that they come to
 pub all_had : (units : List (List ℕ × ℕ)) (row gs : List UnitReference) (g : UnitReference) (i : ℕ) → slice_get gs i ≡ Some g → is_had units (sought_from units row gs) g.name ≡ true
 all_had units row [] g i e = absurd (cc)
 all_had units row (h ∷ gs) g zero e =
@@ -155,6 +159,7 @@ IsPlaced order host libs j g =
 abbrev pub row_of : Order → List ℕ → List (List ℕ) → List UnitReference
 row_of order host libs = sought order host libs (added order host libs)
 
+-- from round k on, where no fault ends the rounds, each name of the row is placed, and each added segment has a name
 abbrev RoundsPlace : Order → List ℕ → List (List ℕ) → List ℕ → Type 0
 RoundsPlace order host libs left =
     (prefix : List Segment) (used : List ℕ) (k : ℕ) (row : List UnitReference)
@@ -178,6 +183,7 @@ ended order host libs prefix k row is at row_is none = (names, segs)
     segs : (j : ℕ) (s : Segment) → k ≤ j → slice_get (added order host libs) j ≡ Some s → (g : UnitReference) × (slice_get (row_of order host libs) j ≡ Some g)
     segs j s h e = let m = slice_get_within prefix j s (sym (ap (λ (ss : List Segment). slice_get ss j) is) ∙ e) in absurd (omega (arith, m, h, at))
 
+-- from each round on the names are placed and the segments have names, whichever slots are left
 rounds_place : (order : Order) (host : List ℕ) (libs : List (List ℕ)) (left : List ℕ) → RoundsPlace order host libs left
 rounds_place order host libs [] prefix used k row is at slots_are used_at row_is fine = go (slice_get row k) refl fine
   where
@@ -338,6 +344,7 @@ pub own_in : (order : Order) (host : List ℕ) (libs : List (List ℕ)) (slot : 
 unfolding own_segments
 own_in order host libs slot s h e = in_filter_map (own_segment order host libs) slots slot s (in_range 0 16 slot (omega arith) (omega (arith, h))) e
 
+-- each of the host's own segments is that of a slot below 16
 pub own_at : (order : Order) (host : List ℕ) (libs : List (List ℕ)) (s : Segment) → In s (own_segments order host libs) → (slot : ℕ) × (slot < 16) × (own_segment order host libs slot ≡ Some s)
 unfolding own_segments
 own_at order host libs s t =
@@ -377,6 +384,7 @@ in_references file slot n (q ∷ rs) i r e u = go (is_unit_reference q.body) ref
 abbrev unit_named : List ℕ → Segment → Bool
 unit_named name q = is_unit q.role && bytes_eq name q.name
 
+-- a name is found among the slots of the units just where some segment passes the test for the unit of that name
 units_known : (name : List ℕ) (segs : List Segment) → is_some (lookup (bytes_eq name) (units_of segs)) ≡ list_any (unit_named name) segs
 units_known name [] = refl
 units_known name (s ∷ segs) = go (is_unit s.role) (units_known name segs)
@@ -390,6 +398,7 @@ units_known name (s ∷ segs) = go (is_unit s.role) (units_known name segs)
         at true = refl
         at false = e
 
+-- a name is found among the slots of the units just where some segment is the unit of that name
 pub units_named : (name : List ℕ) (segs : List Segment) → Decides (is_some (lookup (bytes_eq name) (units_of segs))) (SomeItem segs (λ k q. (is_unit q.role ≡ true) × (q.name ≡ name)))
 units_named name segs =
     Decides-at (is_some (lookup (bytes_eq name) (units_of segs))) (list_any (unit_named name) segs) (units_known name segs)
@@ -404,6 +413,7 @@ pub or_cases : (a b : Bool) → (a || b) ≡ true → (a ≡ true) ⊎ (b ≡ tr
 or_cases true b e = inl refl
 or_cases false b e = inr e
 
+-- where the rounds end without a fault, a name that is had is that of a unit of the link
 pub had_has_unit : (order : Order) (host : List ℕ) (libs : List (List ℕ)) → added_fault order host libs ≡ None → (name : List ℕ) → is_had (own_units order host libs) (row_of order host libs) name ≡ true → HasUnit (segments order host libs) name
 had_has_unit order host libs fine name had = elim (or_cases (is_some (lookup (bytes_eq name) (own_units order host libs))) (list_any (λ (g : UnitReference). bytes_eq g.name name) (row_of order host libs)) had) [
   | inl e ↦
@@ -425,6 +435,7 @@ pub is_had_there : (order : Order) (host : List ℕ) (libs : List (List ℕ)) (g
 unfolding sought
 is_had_there order host libs g i = all_had (own_units order host libs) [] (all_unit_references (own_segments order host libs ++ added order host libs)) g i.0 i.1
 
+-- where the rounds end without a fault, each unit that a record of the link asks for is a segment of it
 pub asked_is_there : (order : Order) (host : List ℕ) (libs : List (List ℕ)) → added_fault order host libs ≡ None → (s : Segment) → IsSegment order host libs s → (rec : ℕ) (r : Record) → slice_get s.records rec ≡ Some r → is_unit_reference r.body ≡ true → HasUnit (segments order host libs) r.name
 asked_is_there order host libs fine s is rec r e u =
     let g = in_references s.file s.slot 0 s.records rec r e u in

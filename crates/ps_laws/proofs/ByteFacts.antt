@@ -60,6 +60,7 @@ unit_slot_is name (s ∷ segs) slot e = go (is_unit s.role) refl e (unit_slot_is
 abbrev IsGiven : List Record → List ℕ → ℕ → Type 0
 IsGiven rs name value = (k : ℕ) × (d : Record) × (slice_get rs k ≡ Some d) × ((d.name ≡ name) × (d.body ≡ PublDef value))
 
+-- a record of a public definition is a PUBLDEF of its value
 public_in : (body : Body) (d : Def) → def_in body ≡ Some d → d.kind ≡ Public → body ≡ PublDef d.value
 public_in (PublDef value) d e k = ap (λ (x : Def). PublDef x.value) (same_item _ d e)
 public_in (ConstDef value) d e k = absurd (let same = ap (λ (x : Def). x.kind) (same_item _ d e) in cc)
@@ -68,6 +69,7 @@ public_in (PublRef refs) d e k = absurd (cc)
 public_in (PrivRef words refs) d e k = absurd (cc)
 public_in (Eof next) d e k = absurd (cc)
 
+-- a public definition that is found for a name is that of a PUBLDEF record, which gives the name its value
 given : (name : List ℕ) (rs : List Record) (d : Def) → definition_of name (definitions rs) ≡ Some d → d.kind ≡ Public → IsGiven rs name d.value
 given name [] d e k = absurd (cc)
 given name (r ∷ rs) d e k = go (def_in r.body) refl e (λ h. given name rs d h k)
@@ -83,6 +85,7 @@ given name (r ∷ rs) d e k = go (def_in r.body) refl e (λ h. given name rs d h
         at true t e = (zero, r, refl, (sym (t.0 refl), public_in r.body d (is ∙ e) k))
         at false t e = further (later e)
 
+-- a value that the host's records give a name is a public of the link
 public_is : (segs : List Segment) (name : List ℕ) (value : ℕ) → IsGiven (host_records segs) name value → IsPublic segs name value
 public_is segs name value = go (host_of segs) refl
   where
@@ -90,6 +93,7 @@ public_is segs name value = go (host_of segs) refl
     go None is t = absurd (let e = t.2 in cc)
     go (Some s) is t = let i = find_in (λ (q : Segment). is_host q.role) segs s is in (t.0, t.1, (i.0, s, i.1, (find_passes (λ (q : Segment). is_host q.role) segs s is, t.2)), t.3)
 
+-- what the edit of a reference stores is what its operand becomes
 becomes : (order : Order) (segs : List Segment) → IsBase segs (next_of (host_records segs)) → (s : Segment) (rec : ℕ) (name : List ℕ) (body : Body) (i x : ℕ) (t : Target) → slice_get (refs_of body) i ≡ Some x → target_in (known_of segs) (private_offset segs s.slot rec) name body ≡ Ok t
     → Becomes segs s rec name body x (stored order (edit_of s.code t x))
 becomes order segs base s rec name (PublDef value) i x t g e = absurd (cc)
@@ -121,6 +125,7 @@ OnePublic segs = (name : List ℕ) (a b : ℕ) → IsPublic segs name a → IsPu
 abbrev pub OneBase : List Segment → Type 0
 OneBase segs = (a b : ℕ) → IsBase segs a → IsBase segs b → a ≡ b
 
+-- an operand becomes one thing only, where each unit has one slot, each public one value, and there is one base offset
 one_becomes : (segs : List Segment) → OneUnit segs → OnePublic segs → OneBase segs → (s : Segment) (rec : ℕ) (name : List ℕ) (body : Body) (x : ℕ) (b c : List ℕ) → Becomes segs s rec name body x b → Becomes segs s rec name body x c → b ≡ c
 one_becomes segs units publics bases s rec name (UnitRef refs) x b c t u = t.2 ∙ (ap (λ (n : ℕ). n ∷ []) (units name t.0 u.0 t.1 u.1) ∙ sym u.2)
 one_becomes segs units publics bases s rec name (PublRef refs) x b c t u = t.2 ∙ (ap (λ (n : ℕ). operand_bytes (displacement_at s.code x + n)) (publics name t.0 u.0 t.1 u.1) ∙ sym u.2)

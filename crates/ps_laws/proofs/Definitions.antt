@@ -20,6 +20,7 @@ use Rattle.ps_words.specs.declared.fault.Reason.TheVariants as reason
 use Rattle.ps_words.specs.declared.fault.Fault.{Fault}
 pub use Rattle.ps_resolve.proofs.LookingBack.{is_again, again, take_prefix, longer}
 
+-- the first fault of the definitions is the least that stands
 pub step_7 : (order : Order) (host : List ℕ) (libs : List (List ℕ)) → Least (Precedes OfDefinitions) (InDefinitions order host libs) (definitions_fault (segments order host libs))
 unfolding definitions_fault
 step_7 order host libs =

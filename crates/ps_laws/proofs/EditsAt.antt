@@ -40,6 +40,7 @@ use Rattle.ps_words.specs.declared.fault.Reason.TheVariants as reason
 of_joined : {A : Type 0} (xs ys : List A) (a : A) → In a (xs ++ ys) → In a xs ⊎ In a ys
 of_joined xs ys a t = elim (split_at xs ys t.0 a t.1) [ inl e ↦ inl (t.0, e) | inr u ↦ inr (u.0, u.2) ]
 
+-- what is in a list that is joined of what the items give is in what one of them gives
 of_flat : {A C : Type 0} (f : A → List C) (xs : List A) (y : C) → In y (flat_map f xs) → (x : A) × In x xs × In y (f x)
 of_flat f [] y t = absurd (let e = t.1 in cc)
 of_flat {A} {C} f (x ∷ xs) y t = elim (of_joined (f x) (flat_map f xs) y t) [
@@ -58,6 +59,7 @@ of_numbered {A} n (x ∷ xs) zero p e =
     first a b e = cc
 of_numbered n (x ∷ xs) (suc k) p e = let r = of_numbered (n + 1) xs k p e in ((let h = r.0 in omega (arith, h)), r.1)
 
+-- an item stands at the same place of the numbered list, with its number
 in_numbered : {A : Type 0} (n : ℕ) (xs : List A) (k : ℕ) (x : A) → slice_get xs k ≡ Some x → slice_get (enumerate_from n xs) k ≡ Some (n + k, x)
 in_numbered n [] k x e = absurd (cc)
 in_numbered {A} n (y ∷ xs) zero x e =

@@ -13,6 +13,7 @@ at_left [] ys i a e = absurd (cc)
 at_left (x ∷ xs) ys zero a e = e
 at_left (x ∷ xs) ys (suc i) a e = at_left xs ys i a e
 
+-- right behind the first of two joined lists stands the first item of the second
 pub at_seam : {A : Type 0} (xs : List A) (y : A) (ys : List A) (k : ℕ) → k ≡ length xs → slice_get (xs ++ y ∷ ys) k ≡ Some y
 at_seam {A} xs y ys k e = ap (λ (n : ℕ). slice_get (xs ++ y ∷ ys) n) e ∙ go xs
   where
@@ -43,6 +44,7 @@ in_flat {A} {C} f (z ∷ xs) x y t u = go (λ i e. in_flat f xs x y (i, e) u) t.
     go later zero e = let same : x ≡ z = cc in in_left (f z) (flat_map f xs) y (subst (λ (w : A). In y (f w)) same u)
     go later (suc i) e = in_right (f z) (flat_map f xs) y (later i e)
 
+-- what an item gives is in the list of what all give
 pub in_filter_map : {A C : Type 0} (f : A → Option C) (xs : List A) (x : A) (y : C) → In x xs → f x ≡ Some y → In y (filter_map f xs)
 in_filter_map f [] x y t u = absurd (let e = t.1 in cc)
 in_filter_map {A} {C} f (z ∷ xs) x y t u = go (λ i e. in_filter_map f xs x y (i, e) u) t.0 t.1
@@ -59,6 +61,7 @@ in_filter_map {A} {C} f (z ∷ xs) x y t u = go (λ i e. in_filter_map f xs x y 
     go later zero e = let same : z ≡ x = cc in here (f z) (ap f same ∙ u)
     go later (suc i) e = more (f z) (later i e)
 
+-- what is in the list of what all items give is given by one of them
 pub of_filter_map : {A C : Type 0} (f : A → Option C) (xs : List A) (y : C) → In y (filter_map f xs) → (x : A) × In x xs × (f x ≡ Some y)
 of_filter_map f [] y t = absurd (let e = t.1 in cc)
 of_filter_map {A} {C} f (z ∷ xs) y t = go (λ u. of_filter_map f xs y u) (f z) refl t.0 t.1
@@ -82,6 +85,7 @@ in_range a (suc n) i low high = elim (cases_lt a i) [
   | inr h ↦ (zero, ap (λ (m : ℕ). Some m) (omega (arith, h, low)))
 ]
 
+-- a number of a range is from its start on and before its end
 pub of_range : (a n i j : ℕ) → slice_get (range_with_len a n) j ≡ Some i → (a ≤ i) × (i < a + n)
 of_range a zero i j e = absurd (cc)
 of_range a (suc n) i zero e = let same : a ≡ i = cc in (omega (arith, same), omega (arith, same))
@@ -106,6 +110,7 @@ of_filter test a (suc n) i j e = go (λ k h. of_filter test (a + 1) n i k h) (te
     go later true is zero e = let same : a ≡ i = cc in (omega (arith, same), omega (arith, same), ap test (sym same) ∙ is)
     go later true is (suc j) e = further (later j e)
 
+-- an item that passes the test is among those that do
 pub in_filter : {A : Type 0} (test : A → Bool) (xs : List A) (x : A) → In x xs → test x ≡ true → In x (filter test xs)
 in_filter test [] x t h = absurd (let e = t.1 in cc)
 in_filter {A} test (y ∷ xs) x t h = go (λ i e. in_filter test xs x (i, e) h) (test y) refl t.0 t.1
@@ -123,6 +128,7 @@ of_take (suc n) [] i x e = absurd (cc)
 of_take (suc n) (y ∷ xs) zero x e = (omega arith, e)
 of_take (suc n) (y ∷ xs) (suc i) x e = let r = of_take n xs i x e in (let h = r.0 in omega (arith, h), r.1)
 
+-- the numbers of a range that pass a test ascend
 pub filter_ascends : (test : ℕ → Bool) (a n i j x y : ℕ) → i < j → slice_get (filter test (range_with_len a n)) i ≡ Some x → slice_get (filter test (range_with_len a n)) j ≡ Some y → x < y
 filter_ascends test a zero i j x y h e u = absurd (cc)
 filter_ascends test a (suc n) i j x y h e u = go (λ k l m f g. filter_ascends test (a + 1) n k l x y m f g) (test a) i j h e u

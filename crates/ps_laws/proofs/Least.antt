@@ -100,6 +100,7 @@ pub first_of_flat_map : {W X Y : Type 0} (f : X → Option Y) (g : W → List X)
 first_of_flat_map f g [] = refl
 first_of_flat_map f g (w ∷ ws) = first_of_append f (g w) (flat_map g ws) ∙ ap (option_or (first_of f (g w))) (first_of_flat_map f g ws)
 
+-- the first over the list of what all items give is the first over the items themselves
 pub first_of_filter_map : {W X Y : Type 0} (f : X → Option Y) (g : W → Option X) (ws : List W) → first_of f (filter_map g ws) ≡ first_of (λ w. option_and_then f (g w)) ws
 first_of_filter_map f g [] = refl
 first_of_filter_map {W} {X} {Y} f g (w ∷ ws) = go (g w) (filter_map g ws) (first_of_filter_map f g ws)
@@ -108,6 +109,7 @@ first_of_filter_map {W} {X} {Y} f g (w ∷ ws) = go (g w) (filter_map g ws) (fir
     go None xs e = e
     go (Some x) xs e = ap (option_or (f x)) e
 
+-- the first over the items that pass a test is the first over all, of which the others give none
 pub first_of_filter : {X Y : Type 0} (f : X → Option Y) (p : X → Bool) (xs : List X) → first_of f (filter p xs) ≡ first_of (λ x. if p x then f x else None) xs
 first_of_filter f p [] = refl
 first_of_filter {X} {Y} f p (x ∷ xs) = go (p x) (filter p xs) (first_of_filter f p xs)

@@ -8,6 +8,7 @@ use Rattle.std.proofs.lemmas.Bool.Decides.{Decides-or, Decides-like}
 use Rattle.ps_resolve.specs.Standing.Phrases.{SomeItem}
 pub use Rattle.ps_resolve.proofs.LookingBack.{of_test, any_of_take}
 
+-- the test of all items says whether P holds of one, where the test of each says whether P holds of it
 pub any_of_items : {A : Type 0} (test : A → Bool) (P : A → Type 0) → ((a : A) → Decides (test a) (P a)) → (items : List A) → Decides (list_any test items) (SomeItem items (λ i q. P q))
 any_of_items test P d [] = (λ e. absurd (false≢true e), λ t. absurd (let e = t.2 in cc))
 any_of_items {A} test P d (a ∷ items) =
@@ -20,6 +21,7 @@ any_of_items {A} test P d (a ∷ items) =
     go zero q e p = inl (subst P (cc) p)
     go (suc i) q e p = inr (i, q, e, p)
 
+-- a search finds nothing just where no item passes its test
 pub none_of_items : {A : Type 0} (test : A → Bool) (items : List A) → is_none (find test items) ≡ not (list_any test items)
 none_of_items test [] = refl
 none_of_items {A} test (a ∷ items) = go (test a) (none_of_items test items)
@@ -31,6 +33,7 @@ none_of_items {A} test (a ∷ items) = go (test a) (none_of_items test items)
 pub find_none : {A : Type 0} (test : A → Bool) (P : A → Type 0) → ((a : A) → Decides (test a) (P a)) → (items : List A) → find test items ≡ None → SomeItem items (λ i q. P q) → ⊥
 find_none test P d items e t = false≢true (sym (ap not ((any_of_items test P d items).1 t)) ∙ sym (none_of_items test items) ∙ ap is_none e)
 
+-- what a search finds is the first item of which P holds
 pub find_some : {A : Type 0} (test : A → Bool) (P : A → Type 0) → ((a : A) → Decides (test a) (P a)) → (items : List A) (x : A) → find test items ≡ Some x → SomeItem items (λ i q. (q ≡ x) × P q × ((j : ℕ) (e : A) → j < i → slice_get items j ≡ Some e → P e → ⊥))
 find_some test P d [] x = λ e. absurd (cc)
 find_some {A} test P d (a ∷ items) x = go (test a) (d a) (find_some test P d items x)

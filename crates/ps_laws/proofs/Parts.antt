@@ -110,6 +110,7 @@ role_errs P a b c d e =
     (errs_if (e.kind == 4) (errs_err reason.NativeSegment b)
     (errs_if (nat_le e.kind 7) (errs_err reason.Intrinsic c) (errs_err reason.UnknownKind d)))))))))
 
+-- a fault of the slots has just the parts of its number
 in_slots : (order : Order) (host : List ℕ) (f : Fault) → InSlots order host f → HasItsParts f
 in_slots order host f t = because_parts (in_slot 0 t.0) at f t.2
   where
@@ -161,6 +162,7 @@ record_somes P a b c d e order bytes =
         (somes_if (not (word_at order bytes 10 == format)) (somes_some reason.BadFormat e)
         (somes_if (nat_lt (length bytes) (16 + list_len (word_at order bytes 12))) (somes_some reason.RecordsTruncated a) somes_none))
 
+-- a fault of a code, its tables or its records has just the parts of its number
 of_code : (order : Order) (file : List ℕ) (k : ℕ) (e : Entry) (slot : ℕ) (role : Role) (f : Fault) → CodeFault order file k e slot role f → HasItsParts f
 of_code order file k e slot role f (inl t) = because_parts (in_slot k slot) held f t
   where
@@ -179,6 +181,7 @@ of_code order file k e slot role f (inr t) = elim t.2.1 [
     at reason.NativeProcedure h = any_slot k slot reason.NativeProcedure refl refl refl refl refl
     at other h = absurd h
 
+-- a fault of a library's entries has just the parts of its number
 of_entries : (order : Order) (name : List ℕ) (libs : List (List ℕ)) (slot : ℕ) (f : Fault) → EntryFault order name libs slot f → HasItsParts f
 of_entries order name libs slot f t = because_parts (in_slot (t.0 + 1) slot) at f t.3.1
   where
@@ -191,6 +194,7 @@ of_unit : (order : Order) (name : List ℕ) (libs : List (List ℕ)) (slot : ℕ
 of_unit order name libs slot f (inl t) = subst HasItsParts (sym t.0) (host_slot slot reason.MissingUnit refl refl refl refl)
 of_unit order name libs slot f (inr t) = of_entries order name libs slot f t
 
+-- a fault of the sources has just the parts of its number
 in_sources : (order : Order) (host : List ℕ) (libs : List (List ℕ)) (f : Fault) → InSources order host libs f → HasItsParts f
 in_sources order host libs f t = elim t.2.2 [
   | inl u ↦ of_unit order (entry_at order host t.0).name libs t.0 f u.1
@@ -205,6 +209,7 @@ RoundHas order host libs g left f =
     ⊎ (((f ≡ in_record g.file g.slot g.rec reason.NoSlot) × (left ≡ None))
     ⊎ ((slot : ℕ) × (left ≡ Some slot) × PlacedFault order host libs g.name slot f))
 
+-- a fault of a round has just the parts of its number
 in_round : (order : Order) (host : List ℕ) (libs : List (List ℕ)) (k : ℕ) (f : Fault) → InRound order host libs k f → HasItsParts f
 in_round order host libs k f t = go t.0 t.2
   where
@@ -239,6 +244,7 @@ of_record segs file slot rec name (PublRef refs) reason.MissingDefinition h = an
 of_record segs file slot rec name (PublRef refs) reason.IllKind h = any_record file slot rec reason.IllKind refl refl refl refl refl
 of_record segs file slot rec name body other h = absurd h
 
+-- a fault of a reference has just the parts of its number
 of_reference : (order : Order) (segs : List Segment) (s : Segment) (rec : ℕ) (r : Record) (i x : ℕ) (why : Reason) → ReferenceHas order segs s rec r i x why → HasItsParts (in_reference s.file s.slot rec i why)
 of_reference order segs s rec r i x reason.OutsideCode h = any_reference s.file s.slot rec i reason.OutsideCode refl refl refl refl refl
 of_reference order segs s rec r i x reason.ReservedPlace h = any_reference s.file s.slot rec i reason.ReservedPlace refl refl refl refl refl
@@ -246,12 +252,14 @@ of_reference order segs s rec r i x reason.Overlap h = any_reference s.file s.sl
 of_reference order segs s rec r i x reason.OperandTooLarge h = any_reference s.file s.slot rec i reason.OperandTooLarge refl refl refl refl refl
 of_reference order segs s rec r i x other h = absurd h
 
+-- a fault of a record or of one of its references has just the parts of its number
 in_references : (order : Order) (host : List ℕ) (libs : List (List ℕ)) (f : Fault) → InReferences order host libs f → HasItsParts f
 in_references order host libs f t = elim t.2.3 [
   | inl b ↦ because_parts (in_record t.0.file t.0.slot t.2.0) (of_record (segments order host libs) t.0.file t.0.slot t.2.0 t.2.1.name t.2.1.body) f b
   | inr i ↦ because_parts (in_reference t.0.file t.0.slot t.2.0 i.0) (of_reference order (segments order host libs) t.0 t.2.0 t.2.1 i.0 i.1) f i.3
 ]
 
+-- a fault that stands in any step has just the parts of its number
 pub parts : (order : Order) (host : List ℕ) (libs : List (List ℕ)) (step : Step) (f : Fault) → StandsIn step order host libs f → HasItsParts f
 parts order host libs OfHost f h = in_host host f h
 parts order host libs OfSlots f h = in_slots order host f h

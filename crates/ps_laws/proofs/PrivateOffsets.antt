@@ -35,6 +35,7 @@ words_split (s ∷ prefix) rest = let e = words_split prefix rest in omega (arit
 abbrev words : List Record → ℕ
 words rs = sum_by (λ (r : Record). words_taken r.body) rs
 
+-- the private words of one more record are its own and those of the others
 pub one_more : (r : Record) (rs : List Record) → private_words (r ∷ rs) ≡ words_taken r.body + private_words rs
 one_more r rs = go (words_in r.body) refl
   where
@@ -42,6 +43,7 @@ one_more r rs = go (words_in r.body) refl
     go None e = rw (e, private_words, words_taken) (omega arith)
     go (Some w) e = rw (e, private_words, words_taken) refl
 
+-- the words of records, one by one, are their private words
 words_are : (rs : List Record) → words rs ≡ private_words rs
 words_are [] = refl
 words_are (r ∷ rs) =
@@ -66,11 +68,13 @@ true_eq a = grind (arith, nat_tests)
 of_lesser : (slot rec : ℕ) (s : Segment) → s.slot < slot → records_before slot rec s ≡ s.records
 of_lesser slot rec s h = ap (λ (b : Bool). if b then s.records else (if s.slot == slot then take rec s.records else [])) (true_lt s.slot slot h)
 
+-- of a greater slot no record stands before
 of_greater : (slot rec : ℕ) (s : Segment) → slot < s.slot → records_before slot rec s ≡ []
 of_greater slot rec s h =
     ap (λ (b : Bool). if b then s.records else (if s.slot == slot then take rec s.records else [])) (false_lt s.slot slot (omega (arith, h)))
     ∙ ap (λ (b : Bool). if b then take rec s.records else []) (false_eq s.slot slot h)
 
+-- of the slot itself as many records stand before as the record's number says
 of_same : (rec : ℕ) (s : Segment) → records_before s.slot rec s ≡ take rec s.records
 of_same rec s =
     ap (λ (b : Bool). if b then s.records else (if s.slot == s.slot then take rec s.records else [])) (false_lt s.slot s.slot (omega arith))
@@ -82,6 +86,7 @@ before slot rec ss = words (flat_map (records_before slot rec) ss)
 next_segment : (slot rec : ℕ) (s : Segment) (ss : List Segment) → before slot rec (s ∷ ss) ≡ words (records_before slot rec s) + before slot rec ss
 next_segment slot rec s ss = sum_by-append (λ (r : Record). words_taken r.body) (records_before slot rec s) (flat_map (records_before slot rec) ss)
 
+-- of segments in lesser slots all words stand before
 all_before : (slot rec : ℕ) (ss : List Segment) → AreBelow slot ss → before slot rec ss ≡ all_words (map owner_of ss)
 all_before slot rec [] h = refl
 all_before slot rec (s ∷ ss) h =
@@ -91,6 +96,7 @@ all_before slot rec (s ∷ ss) h =
     let d = all_before slot rec ss h.1 in
     omega (arith, a, b, c, d)
 
+-- of segments in greater slots no words stand before
 none_behind : (slot rec from : ℕ) (ss : List Segment) → slot < from → Ascends from ss → before slot rec ss ≡ 0
 none_behind slot rec from [] h a = refl
 none_behind slot rec from (s ∷ ss) h a =
@@ -101,6 +107,7 @@ none_behind slot rec from (s ∷ ss) h a =
     let n : words [] ≡ 0 = refl in
     omega (arith, x, y, z, n)
 
+-- the offset of a private is the base offset, the words of the segments before, and those of the records before its own
 offset_is : (prefix : List Segment) (s : Segment) (rest : List Segment) (rec : ℕ) → AreBelow s.slot prefix → Ascends (s.slot + 1) rest
     → private_offset (prefix ++ s ∷ rest) s.slot rec ≡ next_of (host_records (prefix ++ s ∷ rest)) + all_words (map owner_of prefix) + private_words (take rec s.records)
 offset_is prefix s rest rec below ascends =

@@ -85,6 +85,7 @@ named_none {D} name (d ∷ ds) e t = go (bytes_eq name d.0) (bytes_eq-Decides na
 abbrev Earliest : {D : Type 0} → List (List ℕ × D) → List ℕ → ℕ → Type 0
 Earliest {D} ds name k = (lesser : ℕ) (other : List ℕ × D) → lesser < k → slice_get ds lesser ≡ Some other → other.0 ≢ name
 
+-- what is found for a name is what the first item of that name has
 named_some : {D : Type 0} (name : List ℕ) (ds : List (List ℕ × D)) (d : D) → lookup (bytes_eq name) ds ≡ Some d → SomeItem ds (λ k e. ((e.0 ≡ name) × (e.1 ≡ d)) × Earliest ds name k)
 named_some name [] d e = absurd (cc)
 named_some {D} name (x ∷ ds) d e = go (bytes_eq name x.0) (bytes_eq-Decides name x.0) (named_some name ds d) e
@@ -100,6 +101,7 @@ named_some {D} name (x ∷ ds) d e = go (bytes_eq name x.0) (bytes_eq-Decides na
     go true h rest e = (zero, x, refl, ((sym (h.0 refl), cc), λ lesser other l g q. omega (arith, l)))
     go false h rest e = let r = rest e in (suc r.0, r.1, r.2, (r.3.0, later r.0 (λ same. false≢true (h.1 same)) r.3.1))
 
+-- a name has no two first definitions
 one_definition : (ds : List (List ℕ × Def)) (name : List ℕ) (d e : Def) → Defines ds name d → Defines ds name e → d ≡ e
 one_definition ds name d e a b = elim (cases_lt a.0 b.0) [
   | inl h ↦ absurd (b.3.1 a.0 a.1 h a.2 a.3.0.0)
@@ -116,6 +118,7 @@ one_definition ds name d e a b = elim (cases_lt a.0 b.0) [
 abbrev UnitIsThere : List Segment → List ℕ → Body → Type 0
 UnitIsThere segs name body = is_unit_reference body ≡ true → HasUnit segs name
 
+-- the reason that is given for a record is the one of least rank that stands, where a unit it asks for is there
 pub record_rows : (segs : List Segment) (off : ℕ) (name : List ℕ) (body : Body) → UnitIsThere segs name body → Least Ranked (RecordHas segs name body) (result_err (target_in (known_of segs) off name body))
 record_rows segs off name (PrivRef words refs) there = nothing (λ y h. h)
 record_rows segs off name (PublDef value) there = nothing (λ y h. h)
@@ -183,6 +186,8 @@ BeforeCovers records rec p = SomeBelow rec (λ o. (q : Record) × (slice_get rec
 abbrev OwnCovers : Body → ℕ → ℕ → Type 0
 OwnCovers body i p = SomeBelow i (λ j. (y : ℕ) × (slice_get (refs_of body) j ≡ Some y) × Covers body y p)
 
+-- the test of the operands before says whether one of an earlier record, or of the record's own earlier references,
+-- covers the place
 taken_covers : (records : List Record) (rec i : ℕ) (body : Body) (p : ℕ) → Decides (list_any (is_in p) (before records rec ++ own body i)) (BeforeCovers records rec p ⊎ OwnCovers body i p)
 taken_covers records rec i body p =
     Decides-at (list_any (is_in p) (before records rec ++ own body i)) (list_any (is_in p) (before records rec) || list_any (is_in p) (own body i)) (list_any-append (is_in p) (before records rec) (own body i))
@@ -200,6 +205,7 @@ overlaps records rec i body x = list_any (λ p. list_any (is_in p) (before recor
 abbrev Overlaps : List Record → ℕ → ℕ → Record → ℕ → Type 0
 Overlaps records rec i r x = SomeItem records (λ lesser q. SomeItem (refs_of q.body) (λ j y. Before (lesser ∷ j ∷ []) (rec ∷ i ∷ []) × Meet r.body x q.body y))
 
+-- the test of an operand for an overlap says whether it meets that of an earlier reference of the segment
 overlapping : (records : List Record) (rec i : ℕ) (r : Record) (x : ℕ) → slice_get records rec ≡ Some r → Decides (overlaps records rec i r.body x) (Overlaps records rec i r x)
 overlapping records rec i r x er =
     Decides-like (overlaps records rec i r.body x) (λ t. to t.0 t.1 t.2 t.3) (λ t. from t.0 t.1 t.2 t.3.0 t.3.1 t.3.2 t.3.3.0 t.3.3.1.0 t.3.3.1.1 t.3.3.1.2)
@@ -219,6 +225,7 @@ overlapping records rec i r x er =
           | inr u ↦ absurd u.1
         ]
 
+-- the operand of a reference has at least one byte
 pub wide : (body : Body) (i x : ℕ) → slice_get (refs_of body) i ≡ Some x → 0 < operand_width body
 wide (UnitRef refs) i x e = omega arith
 wide (PublRef refs) i x e = omega arith
@@ -227,6 +234,7 @@ wide (PublDef value) i x e = absurd (cc)
 wide (ConstDef value) i x e = absurd (cc)
 wide (Eof next) i x e = absurd (cc)
 
+-- an operand that is not empty ends behind the code just where it covers a place that is not in the code
 past : (len x w : ℕ) → 0 < w → Decides (nat_lt len (x + w)) ((p : ℕ) × ((x ≤ p) × (p < x + w)) × (len ≤ p))
 past len x w h =
     Decides-like (nat_lt len (x + w))
@@ -245,6 +253,7 @@ reason_with reserved code taken w v x =
 abbrev reason_at : Order → List Segment → Segment → ℕ → Record → ℕ × ℕ → Option Reason
 reason_at order segs s rec r ref = reason_with (is_reserved order s.code) s.code (before s.records rec ++ own r.body ref.0) (operand_width r.body) (operand_value segs s rec r.name r.body ref.1) ref.1
 
+-- the reason that is given for a reference is the one of least rank that stands
 reference_rows : (order : Order) (segs : List Segment) (s : Segment) (rec : ℕ) (r : Record) (i x : ℕ) → slice_get s.records rec ≡ Some r → slice_get (refs_of r.body) i ≡ Some x → Least Ranked (ReferenceHas order segs s rec r i x) (reason_at order segs s rec r (i, x))
 reference_rows order segs s rec r i x er ex =
     least_same to from
@@ -285,6 +294,7 @@ reference_rows order segs s rec r i x er ex =
 abbrev At : ℕ → ℕ → Fault → Type 0
 At slot rec f = (unwrap_or f.slot f.file ≡ slot) × (part f.rec ≡ rec + 1)
 
+-- what stands of a record: a fault of the record itself, or of one of its references
 abbrev RecordFaults : Order → List Segment → Segment → ℕ → Record → Fault → Type 0
 RecordFaults order segs s rec r f =
     Because (in_record s.file s.slot rec) (RecordHas segs r.name r.body) f
@@ -297,11 +307,13 @@ at_record order segs s rec r f (inr t) = (ap (λ (g : Fault). unwrap_or g.slot g
 abbrev references_of : Order → List Segment → Segment → ℕ → Record → ℕ × ℕ → Option Fault
 references_of order segs s rec r ref = option_map (in_reference s.file s.slot rec ref.0) (reason_at order segs s rec r ref)
 
+-- the first fault of a record: of the record itself, and then of its references, one after another
 abbrev record_fault : Order → List Segment → Segment → ℕ × Record → Option Fault
 record_fault order segs s r =
     option_or (option_map (in_record s.file s.slot r.0) (result_err (target_of (known_of segs) (private_offset segs s.slot r.0) r.1)))
     (first_of (references_of order segs s r.0 r.1) (enumerate_from 0 (refs_of r.1.body)))
 
+-- the first fault of a record and its references is the least that stands, where a unit it asks for is there
 of_record : (order : Order) (segs : List Segment) (s : Segment) (rec : ℕ) (r : Record) → slice_get s.records rec ≡ Some r → UnitIsThere segs r.name r.body → Least (Precedes OfReferences) (RecordFaults order segs s rec r) (record_fault order segs s (rec, r))
 of_record order segs s rec r er there =
     least_or
@@ -354,6 +366,7 @@ refs_carried order segs s rec r t w v done (x ∷ xs) i is at =
 abbrev Fits : List Segment → Segment → ℕ → List ℕ → Body → Target → Type 0
 Fits segs s rec name body t = (refs_of body ≡ []) ⊎ ((width_of t ≡ operand_width body) × ((x : ℕ) → value_of s.code t x ≡ operand_value segs s rec name body x))
 
+-- where a record has a target, its operands have the width and the value that are said of them
 fits : (segs : List Segment) (s : Segment) (rec : ℕ) (name : List ℕ) (body : Body) (t : Target) → target_in (known_of segs) (private_offset segs s.slot rec) name body ≡ Ok t → Fits segs s rec name body t
 fits segs s rec name (PublDef value) t e = inl refl
 fits segs s rec name (ConstDef value) t e = inl refl
@@ -392,6 +405,7 @@ operands_are : (segs : List Segment) (s : Segment) (rec : ℕ) (r : Record) (t :
 operands_are segs s rec r t (inl none) = ap (λ (xs : List ℕ). operands t xs) none ∙ sym (ap (λ (xs : List ℕ). map (λ (y : ℕ). (y, operand_width r.body)) xs) none)
 operands_are segs s rec r t (inr fit) = ap (λ (n : ℕ). map (λ (y : ℕ). (y, n)) (refs_of r.body)) fit.0
 
+-- the search that carries the operands and the offset through a segment's records finds the first fault of these
 carried : (order : Order) (segs : List Segment) (s : Segment) (base : ℕ) → ((n : ℕ) → private_offset segs s.slot n ≡ base + private_words (take n s.records))
     → (prefix rs : List Record) (rec : ℕ) → s.records ≡ prefix ++ rs → rec ≡ length prefix
     → option_map (in_segment s.file s.slot) (records_fault (known_of segs) (is_reserved order s.code) s.code rec (private_offset segs s.slot rec) (flat_map operands_of prefix) rs) ≡ first_of (record_fault order segs s) (enumerate_from rec rs)
@@ -453,6 +467,7 @@ carried order segs s base offsets prefix (r ∷ rs) rec is at =
 abbrev all_records : Order → List Segment → Segment → Option Fault
 all_records order segs s = first_of (record_fault order segs s) (enumerate_from 0 s.records)
 
+-- the search that carries the offset from segment to segment finds the first fault of their records
 carried_all : (order : Order) (all prefix rest : List Segment) (from : ℕ) → all ≡ prefix ++ rest → AreBelow from prefix → Ascends from rest
     → references_fault_from order (known_of all) (next_of (host_records all) + all_words (map owner_of prefix)) rest ≡ first_of (all_records order all) rest
 carried_all order all prefix [] from is below ascends = refl

@@ -36,6 +36,7 @@ use Rattle.ps_words.specs.declared.fault.Fault.{Fault}
 abbrev Reads : Fault → Type 0
 Reads f = record_read f.reason f.rec ≡ part f.rec
 
+-- where a fault has no record, none was read
 none_read : (why : Reason) → record_read why None ≡ 0
 none_read reason.MissingUnit = refl
 none_read reason.NoSlot = refl
@@ -44,6 +45,7 @@ none_read other = refl
 reads_slot : {P : Reason → Type 0} (k slot : ℕ) (f : Fault) → Because (in_slot k slot) P f → Reads f
 reads_slot k slot f t = subst Reads (sym t.1) (none_read t.0)
 
+-- if a fault of a code, its tables or its records has a record, it is one that was read
 reads_code : (order : Order) (file : List ℕ) (k : ℕ) (e : Entry) (slot : ℕ) (r : Role) (f : Fault) → CodeFault order file k e slot r f → Reads f
 reads_code order file k e slot r f (inl t) = reads_slot k slot f t
 reads_code order file k e slot r f (inr t) = elim t.2.1 [
@@ -68,6 +70,7 @@ placed_late : (order : Order) (host : List ℕ) (libs : List (List ℕ)) (name :
 placed_late order host libs name slot f (inl t) = late (t.0 + 1) slot 13 f (entries_high order name t.1) t.3.1
 placed_late order host libs name slot f (inr t) = lower_late slot 15 13 f (omega arith) (code_late order (file_at host libs t.0.0) t.0.0 (entry_at order (file_at host libs t.0.0) t.0.1) slot role.Wanted f t.2)
 
+-- that a unit is missing comes before a fault of rank 13 or above, and before one of a record that was read
 missing_first : (k slot : ℕ) (g : UnitReference) (f : Fault) → Late slot 13 f → Reads f → Precedes (OfAdded k) (in_record g.file g.slot g.rec reason.MissingUnit) f
 missing_first k slot g f l r =
     inr (
@@ -96,6 +99,7 @@ within_round k x y e a b (inr t) = elim t.1 [
   )
 ]
 
+-- the first fault of a name's unit in a slot, of the library's entries and then of its code, is the least that stands
 placed_least : OneStop → (order : Order) (host : List ℕ) (libs : List (List ℕ)) (k : ℕ) (name : List ℕ) (slot : ℕ)
     → Least (Precedes (OfAdded k)) (PlacedFault order host libs name slot) (option_or (entry_fault order name libs slot) (option_and_then (code_fault order host libs slot role.Wanted) (unit_source order name libs)))
 placed_least law order host libs k name slot =
@@ -113,6 +117,7 @@ abbrev round_fault : Order → List ℕ → List (List ℕ) → UnitReference �
 round_fault order host libs g None = Some (unplaced_fault order libs g)
 round_fault order host libs g (Some slot) = placed_fault order host libs g slot
 
+-- the first fault of a name in its round, with this slot or with none, is the least that stands
 round_least : OneStop → (order : Order) (host : List ℕ) (libs : List (List ℕ)) (k : ℕ) (g : UnitReference) (left : Option ℕ) → Least (Precedes (OfAdded k)) (RoundHas order host libs g left) (round_fault order host libs g left)
 round_least law order host libs k g None = go (is_missing order libs g.name) (missing order libs g.name)
   where
@@ -160,6 +165,7 @@ own_units order host libs = units_of (own_segments order host libs)
 abbrev pub references_of : Segment → List UnitReference
 references_of s = unit_references s.file s.slot 0 s.records
 
+-- the names that further segments seek come behind those that are sought by the ones before
 pub sought_rest : (order : Order) (host : List ℕ) (libs : List (List ℕ)) (prefix rest : List Segment) → sought order host libs (prefix ++ rest) ≡ sought_from (own_units order host libs) (sought order host libs prefix) (all_unit_references rest)
 unfolding sought
 sought_rest order host libs prefix rest =
@@ -216,6 +222,7 @@ the_round law order host libs prefix rest k g left is at named slot_is = least_s
 last_is : (order : Order) (host : List ℕ) (libs : List (List ℕ)) (prefix : List Segment) (k j : ℕ) (f : Fault) → added order host libs ≡ prefix → k ≡ length prefix → k ≤ j → InRound order host libs j f → j ≡ k
 last_is order host libs prefix k j f is at low t = let n = ap (λ (ss : List Segment). length ss) is in let m = t.1.0 in omega (arith, n, m, at, low)
 
+-- the first fault of the last round is the least that stands from this round on
 last_round : (order : Order) (host : List ℕ) (libs : List (List ℕ)) (prefix : List Segment) (k : ℕ) (o : Option Fault) → added order host libs ≡ prefix → k ≡ length prefix
     → Least (Precedes (OfAdded k)) (InRound order host libs k) o → Least Earlier (FromRound order host libs k) (option_map (λ f. (OfAdded k, f)) o)
 last_round order host libs prefix k o is at l = least_same (λ p t. (k, t.0, omega arith, t.1, t.2)) from (tagged (OfAdded k) l)
@@ -265,6 +272,7 @@ abbrev pub of_name : Order → List ℕ → List (List ℕ) → ℕ → List ℕ
 of_name order host libs slot left k row None = record { added = []; fault = None }
 of_name order host libs slot left k row (Some g) = of_fault order host libs left k row (added_segment order host libs g slot) (placed_fault order host libs g slot)
 
+-- the fault that ends the rounds, with these slots left, is the least that stands from this round on
 rounds_have : OneStop → (order : Order) (host : List ℕ) (libs : List (List ℕ)) (left : List ℕ) → RoundsHave order host libs left
 rounds_have law order host libs [] prefix used k row is at slots_are used_at row_is = go (slice_get row k) refl
   where
@@ -333,6 +341,7 @@ unfolding rounds sought
 first_round order host libs =
     ap (λ (segs : List Segment). rest_of order host libs (empty_slots order host) 0 (sought_from (own_units order host libs) [] (all_unit_references segs))) (sym (append-nil (own_segments order host libs)))
 
+-- the fault that ends the rounds is the least that stands in any of them, by round and then by fault
 pub step_6 : OneStop → (order : Order) (host : List ℕ) (libs : List (List ℕ)) → (o : Option Place) × Least Earlier (λ p. (k : ℕ) × (f : Fault) × (p ≡ (OfAdded k, f)) × InRound order host libs k f) o × (option_map (λ (x : Place). x.1) o ≡ added_fault order host libs)
 step_6 law order host libs =
     let same = first_round order host libs in

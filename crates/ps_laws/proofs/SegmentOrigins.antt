@@ -58,6 +58,7 @@ map_none : {X Y : Type 0} (f : X → Y) (o : Option X) → option_map f o ≡ No
 map_none f None h = refl
 map_none f (Some x) h = absurd (cc)
 
+-- a code with which nothing is wrong is the slice of its file that the entry tells
 slice_of : (file : List ℕ) (e : Entry) (code : List ℕ) → code_of file e ≡ Ok code → IsSliceOf file e code
 slice_of file e code = go (has_bad_length e) (e.address == 0) (nat_lt (length file) (512 * e.address + e.length)) (Decides-ltb (length file) (512 * e.address + e.length))
   where
@@ -128,17 +129,20 @@ marked_read order host libs q h = record { source = h.source; file = h.file; wit
 abbrev Rises : List Segment → Type 0
 Rises segs = (i j : ℕ) (s q : Segment) → i < j → slice_get segs i ≡ Some s → slice_get segs j ≡ Some q → s.slot < q.slot
 
+-- no segment of a list whose slots ascend has a slot below the start
 lowest : (from : ℕ) (segs : List Segment) → Ascends from segs → (j : ℕ) (q : Segment) → slice_get segs j ≡ Some q → from ≤ q.slot
 lowest from [] a j q e = absurd (cc)
 lowest from (s ∷ ss) a zero q e = let same : s ≡ q = cc in subst (λ (x : Segment). from ≤ x.slot) same a.0
 lowest from (s ∷ ss) a (suc j) q e = let h = lowest (s.slot + 1) ss a.1 j q e in let b = a.0 in omega (arith, h, b)
 
+-- where slots ascend, a later segment has a greater slot
 rises : (from : ℕ) (segs : List Segment) → Ascends from segs → Rises segs
 rises from [] a i j s q l e u = absurd (cc)
 rises from (x ∷ xs) a i zero s q l e u = absurd (omega (arith, l))
 rises from (x ∷ xs) a zero (suc j) s q l e u = let same : x ≡ s = cc in let h = lowest (x.slot + 1) xs a.1 j q u in subst (λ (y : Segment). y.slot < q.slot) same (omega (arith, h))
 rises from (x ∷ xs) a (suc i) (suc j) s q l e u = rises (x.slot + 1) xs a.1 i j s q (omega (arith, l)) e u
 
+-- where later segments have greater slots, no two places have the same slot
 one_place : (segs : List Segment) → Rises segs → (i j : ℕ) (s q : Segment) → slice_get segs i ≡ Some s → slice_get segs j ≡ Some q → s.slot ≡ q.slot → i ≡ j
 one_place segs r i j s q e u same = elim (cases_lt i j) [
   | inl h ↦ (let a = r i j s q h e u in absurd (omega (arith, a, same)))
@@ -450,6 +454,7 @@ module _ (law : OneStop) (spells : OneSpelling) (host : List ℕ) (libs : List (
       let at = own_in_slot order host libs slot s.0 s.1 in
       (i.0, s.0, i.1, (at, λ other q e same. one_place (segments order host libs) (rises 0 (segments order host libs) (ascend order host libs)) other i.0 q s.0 e i.1 (same ∙ sym at)))
 
+-- the segments of a link stand by slot, and each slot is below 16
 pub by_slot : (host : List ℕ) (libs : List (List ℕ)) → AreBySlot (segments_of host libs)
 by_slot host libs = (
   rises 0 (segments_of host libs) (ascend (order_of host) host libs),

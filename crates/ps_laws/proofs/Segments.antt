@@ -34,6 +34,7 @@ from_slot order host libs slot name r at s = go (result_ok (code_of (file_at hos
         let x : Made c ≡ s = cc in
         (ap (λ (q : Segment). q.slot) (sym x), ap (λ (q : Segment). q.name) (sym x), ap (λ (q : Segment). q.role) (sym x))
 
+-- a slot's own segment stands in this slot
 pub own_in_slot : (order : Order) (host : List ℕ) (libs : List (List ℕ)) (slot : ℕ) (s : Segment) → own_segment order host libs slot ≡ Some s → s.slot ≡ slot
 own_in_slot order host libs slot s e =
     option_and_then_some (λ r. option_and_then (segment_from order host libs slot (entry_at order host slot).name r) (source_of order host libs slot r)) (result_ok (role_of (entry_at order host slot))) s e (λ r e1 h.
@@ -43,6 +44,7 @@ own_in_slot order host libs slot s e =
 pub found_in_slot : (slot : ℕ) (segs : List Segment) (s : Segment) → find (λ (q : Segment). q.slot == slot) segs ≡ Some s → SomeItem segs (λ i q. (q ≡ s) × (q.slot ≡ slot) × ((j : ℕ) (e : Segment) → j < i → slice_get segs j ≡ Some e → e.slot ≡ slot → ⊥))
 found_in_slot slot segs s e = find_some (λ (q : Segment). q.slot == slot) (λ (q : Segment). q.slot ≡ slot) (λ q. Decides-eqb q.slot slot) segs s e
 
+-- the segment of a slot, its own or an added one, stands in this slot
 pub slot_is : (order : Order) (host : List ℕ) (libs : List (List ℕ)) (slot : ℕ) (s : Segment) → segment_at order host libs slot ≡ Some s → s.slot ≡ slot
 slot_is order host libs slot s e = go (own_segment order host libs slot) refl (is_role is_empty order host slot) e
   where
@@ -51,6 +53,7 @@ slot_is order host libs slot s e = go (own_segment order host libs slot) refl (i
     go None is false e = absurd (cc)
     go None is true e = let t = found_in_slot slot (added order host libs) s e in sym (ap (λ (q : Segment). q.slot) t.3.0) ∙ t.3.1
 
+-- the first fault of all segments is the least that stands, where that of each is, and those of lesser slots come first
 pub over_segments : {B : Fault → Fault → Type 0} {S : Segment → Fault → Type 0} (order : Order) (host : List ℕ) (libs : List (List ℕ)) (g : Segment → Option Fault) → ((s : Segment) → IsSegment order host libs s → Least B (S s) (g s)) → ((s t : Segment) (x y : Fault) → s.slot < t.slot → S s x → S t y → B x y) → Least B (λ f. SomeSegment order host libs (λ s. S s f)) (first_of g (segments order host libs))
 unfolding segments
 over_segments {B} {S} order host libs g each apart =
@@ -75,6 +78,7 @@ lower : (from to : ℕ) (ss : List Segment) → to ≤ from → Ascends from ss 
 lower from to [] h a = tt
 lower from to (s ∷ ss) h a = (let b = a.0 in omega (arith, h, b), a.1)
 
+-- the segments of the slots from one on ascend from it
 ascend_from : (order : Order) (host : List ℕ) (libs : List (List ℕ)) (from n : ℕ) → Ascends from (filter_map (segment_at order host libs) (range_with_len from n))
 ascend_from order host libs from zero = tt
 ascend_from order host libs from (suc n) = go (segment_at order host libs from) refl (ascend_from order host libs (from + 1) n)

@@ -63,6 +63,7 @@ read_ends (suc n) order bytes e = go (λ h. read_ends n order (drop (size_of (re
     go later (Some why) e = absurd (cc)
     go later None e = at (is_eof r) refl later e
 
+-- where the tables of a code have no fault, they are not bad
 not_bad : (order : Order) (code : List ℕ) (host : Bool) → tables_fault order code host ≡ None → AreBad order code host → ⊥
 not_bad order code host e = go (tables_fault order code host) e (tables_rows order code host)
   where
@@ -115,6 +116,7 @@ from_sound order host libs slot name r at s e fine = go (code_of file entry) e f
     go (Err why) e fine = absurd (cc)
     go (Ok code) e fine = let same : made code ≡ s = cc in subst (IsSound order) same (sound code (is_linked r) refl fine)
 
+-- where the sources have no fault, a slot's own segment is sound
 own_sound : (order : Order) (host : List ℕ) (libs : List (List ℕ)) → sources_fault order host libs ≡ None → (slot : ℕ) → slot < 16 → (s : Segment) → own_segment order host libs slot ≡ Some s → IsSound order s
 own_sound order host libs fine slot lt s e =
     option_and_then_some (λ r. option_and_then (segment_from order host libs slot (entry_at order host slot).name r) (source_of order host libs slot r)) (result_ok (role_of (entry_at order host slot))) s e (λ r e1 h.
@@ -125,6 +127,7 @@ own_sound order host libs fine slot lt s e =
 marked_sound : (order : Order) (q : Segment) → IsSound order q → IsSound order (as_added q)
 marked_sound order q h = record { tables = h.tables; plain = h.plain; ends = h.ends }
 
+-- a segment that was added for a name without a fault is sound
 placed_sound : (order : Order) (host : List ℕ) (libs : List (List ℕ)) (g : UnitReference) (slot : ℕ) (s : Segment) → added_segment order host libs g slot ≡ Some s → placed_fault order host libs g slot ≡ None → IsSound order s
 placed_sound order host libs g slot s e fine = go (option_and_then (segment_from order host libs slot g.name role.Wanted) (unit_source order g.name libs)) refl e
   where
@@ -142,6 +145,7 @@ placed_sound order host libs g slot s e fine = go (option_and_then (segment_from
         from_sound order host libs slot g.name role.Wanted at q h
         (sym (ap (option_and_then (code_fault order host libs slot role.Wanted)) e1) ∙ code_fine (is_missing order libs g.name) fine))))
 
+-- where neither the sources nor the rounds have a fault, each segment of the link is sound
 pub all_sound : (order : Order) (host : List ℕ) (libs : List (List ℕ)) → sources_fault order host libs ≡ None → added_fault order host libs ≡ None → (s : Segment) → IsSegment order host libs s → IsSound order s
 all_sound order host libs fine all_added s t = go (own_segment order host libs s.slot) refl (is_role is_empty order host s.slot) t.1
   where
@@ -168,6 +172,7 @@ pub record HasOuter (order : Order) (code : List ℕ) (t : ℕ) : Type 0 where
   pub low : 8 ≤ t
   pub high : t + 1 < dictionary_start code
 
+-- where the tables of a host are not bad, that of its outer block stands whole before the procedure dictionary
 pub outer : (order : Order) (code : List ℕ) (t : ℕ) → (AreBad order code true → ⊥) → table_of order code 1 ≡ Some t → HasOuter order code t
 outer order code t h e = go (content_of order code 1 == 0) refl e
   where
@@ -201,6 +206,7 @@ or_right : (a b : Bool) → b ≡ true → (a || b) ≡ true
 or_right true b h = refl
 or_right false b h = h
 
+-- the last place but one of a code is reserved
 pub number_reserved : (order : Order) (code : List ℕ) (p : ℕ) → p + 2 ≡ length code → is_reserved order code p ≡ true
 number_reserved order code p h = either_true _ _ _ (le (length code) (procedures code) p h) (lt (length code) p h)
   where
@@ -214,6 +220,7 @@ some_table : (f : ℕ → Option ℕ) (q : ℕ → Bool) (n t : ℕ) → 1 ≤ n
 some_table f q zero t h k s = absurd (omega (arith, h))
 some_table f q (suc n) t h k s = rw k (rw s refl)
 
+-- the two places of the data size of the outer block are reserved
 pub size_reserved : (order : Order) (code : List ℕ) (t j p : ℕ) → HasOuter order code t → table_of order code 1 ≡ Some t → j < 2 → p + 8 ≡ t + j → is_reserved order code p ≡ true
 size_reserved order code t j p o e h k = or_right _ _ (some_table (table_of order code) (is_in_table p) (procedures code) t o.procedure e (inside t j p h k))
   where

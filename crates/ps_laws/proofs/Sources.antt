@@ -47,6 +47,7 @@ Early slot n f = (unwrap_or f.slot f.file ≡ slot) × (part f.rec ≡ 0) × (pa
 abbrev pub Late : ℕ → ℕ → Fault → Type 0
 Late slot n f = (unwrap_or f.slot f.file ≡ slot) × (((part f.rec ≡ 0) × (part f.reference ≡ 0) × (n ≤ rank f.reason)) ⊎ (0 < part f.rec))
 
+-- of a slot's faults, one before rank n comes before one from it on, and before one of a record
 pub early_late : (slot n : ℕ) (x y : Fault) → Early slot n x → Late slot n y → Precedes OfSources x y
 early_late slot n x y a b =
     inr (
@@ -60,6 +61,7 @@ early_late slot n x y a b =
       ),
     )
 
+-- a fault of a slot is before rank n where each reason that it may have is
 early : {P : Reason → Type 0} (k slot n : ℕ) (f : Fault) → ((why : Reason) → P why → rank why < n) → Because (in_slot k slot) P f → Early slot n f
 early k slot n f low t = (
   ap (λ (g : Fault). unwrap_or g.slot g.file) t.1,
@@ -68,6 +70,7 @@ early k slot n f low t = (
   let a = ap (λ (g : Fault). rank g.reason) t.1 in let b = low t.0 t.2 in omega (arith, a, b),
 )
 
+-- a fault of a slot is from rank n on where each reason that it may have is
 pub late : {P : Reason → Type 0} (k slot n : ℕ) (f : Fault) → ((why : Reason) → P why → n ≤ rank why) → Because (in_slot k slot) P f → Late slot n f
 late k slot n f high t = (
   ap (λ (g : Fault). unwrap_or g.slot g.file) t.1,
@@ -97,11 +100,13 @@ has order name file = any_lesser (is_named order name file) (λ i. IsNamed order
 abbrev Doubled : Order → List ℕ → List ℕ → Type 0
 Doubled order name lib = SomeBelow 16 (λ i. IsNamed order name lib i × SomeBelow i (λ j. IsNamed order name lib j))
 
+-- the test of a library's entries says whether two have the name
 doubled : (order : Order) (name lib : List ℕ) → Decides (list_any (λ i. is_named order name lib i && list_any (is_named order name lib) (range_with_len 0 i)) slots) (Doubled order name lib)
 doubled order name lib =
     any_lesser (λ i. is_named order name lib i && list_any (is_named order name lib) (range_with_len 0 i)) (λ i. IsNamed order name lib i × SomeBelow i (λ j. IsNamed order name lib j))
     (λ i. Decides-and (is_named order name lib i) (list_any (is_named order name lib) (range_with_len 0 i)) (named order name lib i) (any_lesser (is_named order name lib) (λ j. IsNamed order name lib j) (named order name lib) i)) 16
 
+-- the entry that is found for a name is the least that has it
 first_entry : (order : Order) (name lib : List ℕ) → Least (λ i j. i < j) (λ y. (i : ℕ) × (0 ≤ i) × (i < 0 + 16) × (IsNamed order name lib i × (y ≡ i))) (find (is_named order name lib) slots)
 first_entry order name lib =
     subst (λ o. Least (λ i j. i < j) (λ y. (i : ℕ) × (0 ≤ i) × (i < 0 + 16) × (IsNamed order name lib i × (y ≡ i))) o) (sym (find_first (is_named order name lib) slots))
@@ -109,6 +114,7 @@ first_entry order name lib =
     (λ i. least_guard (is_named order name lib i) (named order name lib i) (this i refl (λ y e. inl e)))
     (λ i j x y h s t. let a = s.1 in let b = t.1 in omega (arith, a, b, h)) 0 16)
 
+-- the reason that is given for a library's entries of a name is the one of least rank that stands
 entries_rows : (order : Order) (name lib : List ℕ) → Least Ranked (EntriesHave order name lib) (entries_reason order name lib)
 entries_rows order name lib = go (list_any (λ i. is_named order name lib i && list_any (is_named order name lib) (range_with_len 0 i)) slots) (find (is_named order name lib) slots) (doubled order name lib) (first_entry order name lib)
   where
@@ -168,6 +174,7 @@ chosen order name libs =
 abbrev Found : Order → List ℕ → List (List ℕ) → ℕ × List ℕ → Type 0
 Found order name libs p = SomeItem libs (λ k lib. HasEntry order name lib × (p ≡ (k, lib)))
 
+-- no library is chosen just where none has an entry of the name
 pub none_has : (order : Order) (name : List ℕ) (libs : List (List ℕ)) → Decides (is_none (chosen_library order name libs)) (NoneHas order name libs)
 none_has order name libs = go (chosen_library order name libs) (chosen order name libs)
   where
@@ -175,6 +182,7 @@ none_has order name libs = go (chosen_library order name libs) (chosen order nam
     go None (nothing n) = (λ e t. n (t.0, t.1) (t.0, t.1, t.2, (t.3, refl)), λ h. refl)
     go (Some p) (this q s l) = (λ e. absurd (false≢true e), λ h. absurd (h (s.0, s.1, s.2, s.3.0)))
 
+-- the first fault of the chosen library's entries of a name is the least that stands
 pub entry_least : (order : Order) (name : List ℕ) (libs : List (List ℕ)) (slot : ℕ) → Least (Precedes OfSources) (EntryFault order name libs slot) (entry_fault order name libs slot)
 entry_least order name libs slot = go (chosen_library order name libs) (chosen order name libs)
   where
@@ -201,6 +209,7 @@ entry_least order name libs slot = go (chosen_library order name libs) (chosen o
           | inr h ↦ absurd (t.3.0.1 p.0 p.1 h get does)
         ]
 
+-- the first fault of a wanted unit's source is the least that stands
 unit_least : (order : Order) (name : List ℕ) (libs : List (List ℕ)) (slot : ℕ) → Least (Precedes OfSources) (UnitFault order name libs slot) (unit_fault order name libs slot)
 unit_least order name libs slot = go (chosen_library order name libs) (none_has order name libs) (entry_least order name libs slot)
   where
@@ -221,6 +230,7 @@ any_of_filter {X} {Y} p g (x ∷ xs) = go (g x) (filter_map g xs) (any_of_filter
     go None ys e = e
     go (Some y) ys e = ap (λ b. p y || b) e
 
+-- not all items pass a test just where one fails it
 not_all : {X : Type 0} (p : X → Bool) (xs : List X) → not (list_all p xs) ≡ list_any (λ x. not (p x)) xs
 not_all p [] = refl
 not_all {X} p (x ∷ xs) = go (p x) (not_all p xs)
@@ -229,6 +239,7 @@ not_all {X} p (x ∷ xs) = go (p x) (not_all p xs)
     go true e = e
     go false e = refl
 
+-- a table fails the test of its place just where its content c is not 0, and it begins too low or ends too high
 not_placed : (c place q start : ℕ) → Decides (not (c == 0 || (nat_le (c + 8) place && nat_lt q start))) ((c ≢ 0) × ((place < c + 8) ⊎ (start ≤ q)))
 not_placed c place q start =
     Decides-like (not (c == 0 || (nat_le (c + 8) place && nat_lt q start)))
@@ -237,6 +248,7 @@ not_placed c place q start =
     (Decides-not (c == 0 || (nat_le (c + 8) place && nat_lt q start))
     (Decides-or (c == 0) (nat_le (c + 8) place && nat_lt q start) (Decides-eqb c 0) (Decides-and (nat_le (c + 8) place) (nat_lt q start) (at_most (c + 8) place) (Decides-ltb q start))))
 
+-- the test of all tables for their places says whether one is bad
 bad_table : (order : Order) (code : List ℕ) → Decides (not (list_all (is_placed order code) (numbers code))) (HasBadTable order code)
 bad_table order code =
     Decides-at (not (list_all (is_placed order code) (numbers code))) (list_any (λ p. not (is_placed order code p)) (numbers code)) (not_all (is_placed order code) (numbers code))
@@ -247,6 +259,7 @@ bad_table order code =
     Misplaced : ℕ → Type 0
     Misplaced p = (content_of order code p ≢ 0) × ((length code - 2 - 2 * p < content_of order code p + 8) ⊎ (dictionary_start code ≤ length code - 2 - 2 * p - content_of order code p + 1))
 
+-- the test of the procedure dictionary and the tables says whether they are bad
 are_bad : (order : Order) (code : List ℕ) (host : Bool) → Decides (nat_lt (length code) (dictionary_len code) || not (list_all (is_placed order code) (numbers code)) || (host && (procedures code == 0 || content_of order code 1 == 0))) (AreBad order code host)
 are_bad order code host =
     Decides-or (nat_lt (length code) (dictionary_len code) || not (list_all (is_placed order code) (numbers code))) (host && (procedures code == 0 || content_of order code 1 == 0))
@@ -258,6 +271,7 @@ is_at : (test : ℕ → Bool) (P : ℕ → Type 0) → ((t : ℕ) → Decides (t
 is_at test P d None = (λ e. absurd (false≢true e), λ t. absurd (let e = t.1 in cc))
 is_at test P d (Some t) = (λ e. (t, refl, (d t).0 e), λ u. (d t).1 (subst P (let e = u.1 in cc) u.2))
 
+-- the test of the tables says whether one is of a native procedure, whose number is 0
 native_table : (order : Order) (code : List ℕ) → Decides (list_any (λ t. slice_index code t == 0) (tables order code)) ((p : ℕ) × (1 ≤ p) × (p ≤ procedures code) × (t : ℕ) × (table_of order code p ≡ Some t) × (slice_index code t ≡ 0))
 native_table order code =
     Decides-at (list_any (λ t. slice_index code t == 0) (tables order code)) (list_any (λ p. option_map_or (λ t. slice_index code t == 0) (table_of order code p) false) (numbers code)) (any_of_filter (λ t. slice_index code t == 0) (table_of order code) (numbers code))
@@ -266,6 +280,7 @@ native_table order code =
     (any_of_range (λ p. option_map_or (λ t. slice_index code t == 0) (table_of order code p) false) (λ p. (t : ℕ) × (table_of order code p ≡ Some t) × (slice_index code t ≡ 0))
     (λ p. is_at (λ t. slice_index code t == 0) (λ t. slice_index code t ≡ 0) (λ t. Decides-eqb (slice_index code t) 0) (table_of order code p)) 1 (procedures code)))
 
+-- the reason that is given for the tables of a code is the one of least rank that stands
 pub tables_rows : (order : Order) (code : List ℕ) (host : Bool) → Least Ranked (TablesHave order code host) (tables_fault order code host)
 tables_rows order code host = go (nat_lt (length code) (dictionary_len code) || not (list_all (is_placed order code) (numbers code)) || (host && (procedures code == 0 || content_of order code 1 == 0))) (are_bad order code host)
   where
@@ -342,17 +357,20 @@ mid_err why h = record { mid = λ other e. subst (λ w. (15 ≤ rank w) × (rank
 mid_ok : {code : List ℕ} → Mid (Ok code)
 mid_ok {code} = record { mid = λ why e. absurd (cc) }
 
+-- a code is refused for a reason of rank 15 to 17
 code_mid : (file : List ℕ) (e : Entry) → Mid (code_of file e)
 code_mid file e =
     mid_if (nat_lt 32767 e.length || ((e.kind == 1 || e.kind == 3) && (e.length % 2 == 1 || nat_lt e.length 4))) (mid_err reason.BadLength (omega arith, omega arith))
     (mid_if (e.address == 0) (mid_err reason.BadAddress (omega arith, omega arith))
     (mid_if (nat_lt (length file) (512 * e.address + e.length)) (mid_err reason.Truncated (omega arith, omega arith)) mid_ok))
 
+-- the reasons that stand of tables have rank 18 or 19
 tables_mid : (order : Order) (code : List ℕ) (host : Bool) (why : Reason) → TablesHave order code host why → (18 ≤ rank why) × (rank why < 20)
 tables_mid order code host reason.BadProcDict h = (omega arith, omega arith)
 tables_mid order code host reason.NativeProcedure h = (omega arith, omega arith)
 tables_mid order code host other h = absurd h
 
+-- the reasons that stand of a library's entries have a rank below 15
 entries_low : (order : Order) (name lib : List ℕ) (why : Reason) → EntriesHave order name lib why → rank why < 15
 entries_low order name lib reason.DoubledUnit h = omega arith
 entries_low order name lib (reason.NotAUnit kind) h = omega arith
@@ -368,6 +386,7 @@ unit_early order name libs slot f (inr t) = entry_early order name libs slot f t
 late_record : (k slot n rec : ℕ) (why : Reason) (f : Fault) → f ≡ in_record k slot rec why → Late slot n f
 late_record k slot n rec why f e = (ap (λ (g : Fault). unwrap_or g.slot g.file) e, inr (let a : part f.rec ≡ rec + 1 = ap (λ (g : Fault). part g.rec) e in omega (arith, a)))
 
+-- a fault of a code, its tables or its records is from rank 15 on, or of a record
 pub code_late : (order : Order) (file : List ℕ) (k : ℕ) (e : Entry) (slot : ℕ) (r : Role) (f : Fault) → CodeFault order file k e slot r f → Late slot 15 f
 code_late order file k e slot r f (inl t) = late k slot 15 f (λ why h. ((code_mid file e).mid why h).0) t
 code_late order file k e slot r f (inr t) = elim t.2.1 [
@@ -375,6 +394,7 @@ code_late order file k e slot r f (inr t) = elim t.2.1 [
   | inr b ↦ late_record k slot 15 (length b.0) b.1 f b.2
 ]
 
+-- the first fault of a code, its tables and its records is the least that stands
 pub code_least : OneStop → (order : Order) (slot : ℕ) (r : Role) (host : List ℕ) (libs : List (List ℕ)) (at : ℕ × ℕ) → Least (Precedes OfSources) (CodeFault order (file_at host libs at.0) at.0 (entry_at order (file_at host libs at.0) at.1) slot r) (code_fault order host libs slot r at)
 code_least law order slot r host libs at = go (code_of file e) refl
   where
@@ -408,6 +428,7 @@ code_least law order slot r host libs at = go (code_of file e) refl
         from f (inr t) = let same : t.0 ≡ code = (let a = t.1 in cc) in
             (t.2.0, subst (λ (c : List ℕ). Because (in_slot at.0 slot) (TablesHave order c (is_host r)) f ⊎ Records f) same t.2.1)
 
+-- the test of a role passes just where it is Wanted
 is_wanted_role : (r : Role) → Decides (is_wanted r) (r ≡ role.Wanted)
 is_wanted_role role.Wanted = (λ e. refl, λ p. refl)
 is_wanted_role role.Empty = (λ e. absurd (false≢true e), λ p. absurd (cc))
@@ -423,12 +444,14 @@ pub is_ok : {X E : Type 0} (o : Result X E) (x : X) → o ≡ Ok x → result_ok
 is_ok (Ok y) x e = cc
 is_ok (Err y) x e = absurd (cc)
 
+-- what stands of a slot of this role: a fault of a wanted unit's source, or one of the code, its tables or its records
 abbrev SourceFaults : Order → List ℕ → List (List ℕ) → ℕ → Role → Fault → Type 0
 SourceFaults order host libs slot r f =
     ((r ≡ role.Wanted) × UnitFault order (entry_at order host slot).name libs slot f)
     ⊎ ((at : ℕ × ℕ) × (source_of order host libs slot r ≡ Some at)
     × CodeFault order (file_at host libs at.0) at.0 (entry_at order (file_at host libs at.0) at.1) slot r f)
 
+-- the first fault of a slot of this role is the least that stands
 of_role : OneStop → (order : Order) (host : List ℕ) (libs : List (List ℕ)) (slot : ℕ) (r : Role) → Least (Precedes OfSources) (SourceFaults order host libs slot r) (option_or (wanted_fault order host libs slot r) (option_and_then (code_fault order host libs slot r) (source_of order host libs slot r)))
 of_role law order host libs slot r =
     least_or
@@ -440,6 +463,7 @@ in_place : (order : Order) (host : List ℕ) (libs : List (List ℕ)) (slot : �
 in_place order host libs slot r f (inl t) = (unit_early order (entry_at order host slot).name libs slot f t.1).0
 in_place order host libs slot r f (inr t) = (code_late order (file_at host libs t.0.0) t.0.0 (entry_at order (file_at host libs t.0.0) t.0.1) slot r f t.2).0
 
+-- the first fault of the sources is the least that stands
 pub step_5 : OneStop → (order : Order) (host : List ℕ) (libs : List (List ℕ)) → Least (Precedes OfSources) (InSources order host libs) (sources_fault order host libs)
 unfolding sources_fault
 step_5 law order host libs =

@@ -104,6 +104,7 @@ is_same Little Big = (λ e. absurd (false≢true e), λ e. cc)
 is_same Big Little = (λ e. absurd (false≢true e), λ e. cc)
 is_same Big Big = (λ e. refl, λ e. refl)
 
+-- the reason that is given for a library is the one of least rank that stands
 library_reasons : (order : Order) (lib : List ℕ) → Least Ranked (LibraryHas order lib) (library_reason order lib)
 library_reasons order lib = go (nat_lt (length lib) 512) (file_order lib) (Decides-ltb (length lib) 512) refl
   where
@@ -147,6 +148,7 @@ library_reasons order lib = go (nat_lt (length lib) 512) (file_order lib) (Decid
             least reason.OrderMismatch h = inl refl
             least another h = absurd h
 
+-- the first fault of the libraries is the least that stands
 pub step_4 : (order : Order) (libs : List (List ℕ)) → Least (Precedes OfLibraries) (InLibraries order libs) (libraries_fault order libs)
 unfolding libraries_fault
 step_4 order libs =
@@ -178,6 +180,7 @@ low_kind kind =
 role_low : (e : Entry) → Low (role_of e)
 role_low e = low_if (e.kind == 3 && (e.address == 0 || e.length == 0) && not (is_nameless e.name)) low_ok (low_if (e.kind == 3 && (e.address == 0 || e.length == 0)) low_ok (low_if (e.length == 0) low_ok (low_kind e.kind)))
 
+-- the test of a role passes just where there is one, and it is Host
 pub host_role : (r : Result Role Reason) → Decides (option_map_or is_host (result_ok r) false) (r ≡ Ok role.Host)
 host_role (Err why) = (λ e. absurd (false≢true e), λ p. absurd (cc))
 host_role (Ok role.Host) = (λ e. refl, λ p. refl)
@@ -186,6 +189,7 @@ host_role (Ok role.Wanted) = (λ e. absurd (false≢true e), λ p. absurd (cc))
 host_role (Ok role.Plain) = (λ e. absurd (false≢true e), λ p. absurd (cc))
 host_role (Ok role.Unit) = (λ e. absurd (false≢true e), λ p. absurd (cc))
 
+-- the test of a role passes just where there is one, and it is Unit or Wanted
 pub unit_role : (r : Result Role Reason) → Decides (option_map_or is_unit (result_ok r) false) ((r ≡ Ok role.Unit) ⊎ (r ≡ Ok role.Wanted))
 unit_role (Err why) = (λ e. absurd (false≢true e), elim [ inl p ↦ absurd (cc) | inr p ↦ absurd (cc) ])
 unit_role (Ok role.Host) = (λ e. absurd (false≢true e), elim [ inl p ↦ absurd (cc) | inr p ↦ absurd (cc) ])
@@ -194,6 +198,7 @@ unit_role (Ok role.Wanted) = (λ e. inr refl, λ p. refl)
 unit_role (Ok role.Plain) = (λ e. absurd (false≢true e), elim [ inl p ↦ absurd (cc) | inr p ↦ absurd (cc) ])
 unit_role (Ok role.Unit) = (λ e. inl refl, λ p. refl)
 
+-- the reason that is given for a slot is the one of least rank that stands
 slot_rows : (order : Order) (host : List ℕ) (slot : ℕ) → Least Ranked (SlotHas order host slot) (slot_reason order host slot)
 slot_rows order host slot =
     least_same to from
@@ -246,6 +251,7 @@ slot_rows order host slot =
     apart : (x y : Reason) → role_of (entry_at order host slot) ≡ Err x → Second y ⊎ Third y → Ranked x y
     apart x y e = let h = low x e in elim [ inl t ↦ subst (λ w. Ranked x w) (sym t.0) h | inr t ↦ subst (λ w. Ranked x w) (sym t.0) (omega (arith, h)) ]
 
+-- the first fault of the slots is the least that stands
 pub step_2 : (order : Order) (host : List ℕ) → Least (Precedes OfSlots) (InSlots order host) (slots_fault order host)
 unfolding slots_fault
 step_2 order host =

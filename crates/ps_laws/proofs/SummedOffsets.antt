@@ -38,12 +38,14 @@ records_summed known code offset (r ∷ rs) rec off h =
         let c = one_more r (take n rs) in
         omega (arith, a, b, c)
 
+-- the edits of a segment, with an offset that runs along from its first private, are those with each offset as a sum
 segment_summed : (order : Order) (all : List Segment) (s : Segment) (free : ℕ) → ((n : ℕ) → private_offset all s.slot n ≡ free + private_words (take n s.records))
     → segment_edits order (known_of all) (total_words all) free s ≡ summed_edits order all s
 segment_summed order all s free h =
     ap (λ (es : List Edit). if is_linked s.role then Byte (length s.code - 2) s.slot ∷ ((if is_host s.role then data_edits order (total_words all) s.code else []) ++ es) else [])
     (records_summed (known_of all) s.code (λ n. private_offset all s.slot n) s.records 0 free (λ n. ap (λ (m : ℕ). private_offset all s.slot m) (omega arith) ∙ h n))
 
+-- the edits of segments by slot, with an offset that runs along, are those with each offset as a sum
 all_summed : (order : Order) (all prefix rest : List Segment) (from : ℕ) → all ≡ prefix ++ rest → AreBelow from prefix → Ascends from rest
     → edited_from order (known_of all) (total_words all) (next_of (host_records all) + all_words (map owner_of prefix)) rest ≡ map (summed order all) rest
 all_summed order all prefix [] from is below ascends = refl
@@ -61,6 +63,7 @@ all_summed order all prefix (s ∷ rest) from is below ascends =
     made : List Edit → Edited
     made es = record { segment = s; edits = es }
 
+-- so are the edits of all segments of a link
 pub offsets : (host : List ℕ) (libs : List (List ℕ)) → HaveSummedOffsets host libs
 offsets host libs =
     let order = order_of host in

@@ -31,6 +31,7 @@ Between order host libs n m p = (n ≤ turn p.0) × (turn p.0 < m) × StandsIn p
 steps : List Step
 steps = OfHost ∷ OfHost ∷ OfSlots ∷ OfNoHost ∷ OfLibraries ∷ OfSources ∷ OfAdded 0 ∷ OfDefinitions ∷ OfPrivates ∷ OfDataSize ∷ OfReferences ∷ []
 
+-- a step that is no round is the one that stands at its turn
 turn_back : (s : Step) → turn s ≢ 6 → slice_get steps (turn s) ≡ Some s
 unfolding steps
 turn_back OfHost h = refl
@@ -44,6 +45,7 @@ turn_back OfPrivates h = refl
 turn_back OfDataSize h = refl
 turn_back OfReferences h = refl
 
+-- the turns of the steps are 1 to 10
 turn_bounds : (s : Step) → (1 ≤ turn s) × (turn s < 11)
 turn_bounds OfHost = (omega arith, omega arith)
 turn_bounds OfSlots = (omega arith, omega arith)
@@ -59,6 +61,7 @@ turn_bounds OfReferences = (omega arith, omega arith)
 same_turn : (s t : Step) → turn s ≡ turn t → turn t ≢ 6 → s ≡ t
 same_turn s t e h = let a = turn_back s (λ x. h (sym e ∙ x)) in let b = turn_back t h in cc
 
+-- a step of turn 6 is a round
 round_of : (s : Step) → turn s ≡ 6 → (k : ℕ) × (s ≡ OfAdded k)
 round_of (OfAdded k) e = (k, refl)
 round_of OfHost e = absurd (omega (arith, e))
@@ -84,6 +87,7 @@ key_turn OfPrivates f = (_, refl)
 key_turn OfDataSize f = (_, refl)
 key_turn OfReferences f = (_, refl)
 
+-- a fault of an earlier turn comes earlier
 earlier_turn : (x y : Place) → turn x.0 < turn y.0 → Earlier x y
 earlier_turn x y h =
     let a = key_turn x.0 x.1 in
@@ -138,6 +142,7 @@ untag step (Some f) p q e = refl
 abbrev Turns : List ℕ → List (List ℕ) → ℕ → ℕ → Option Fault → Type 0
 Turns host libs n m fault = (o : Option Place) × Least Earlier (Between (order_of host) host libs n m) o × (option_map (λ (x : Place). x.1) o ≡ fault)
 
+-- the first fault of reading is the least that stands in turns 1 to 6
 reading : OneStop → (host : List ℕ) (libs : List (List ℕ)) → Turns host libs 1 7 (reading_fault host libs)
 unfolding reading_fault
 reading law host libs =
@@ -156,6 +161,7 @@ last : (a b c d : Option Fault) → option_or a (option_or b (option_or c (optio
 last a b c None = refl
 last a b c (Some d) = refl
 
+-- the first fault of linking is the least that stands in turns 7 to 10, where the rounds end without a fault
 linking : (host : List ℕ) (libs : List (List ℕ)) → added_fault (order_of host) host libs ≡ None → Turns host libs 7 11 (linking_fault (order_of host) (segments (order_of host) host libs))
 unfolding linking_fault
 linking host libs fine =
@@ -218,6 +224,7 @@ whole law host libs = go (reading_fault host libs) refl (reading law host libs)
         at (Some p) l is = absurd (cc)
         at None l is = (rest.0, least_same to from (least_or_then l (λ n. rest.1) apart), rest.2)
 
+-- the fault of the least place of all turns is the first
 first_place : (host : List ℕ) (libs : List (List ℕ)) (o : Option Place) (f : Fault) → Least Earlier (Between (order_of host) host libs 1 11) o → option_map (λ (x : Place). x.1) o ≡ Some f → IsFirst host libs f
 first_place host libs None f l e = absurd (cc)
 first_place host libs (Some p) f l e = go l
@@ -245,6 +252,7 @@ some law host libs f e = let w = whole law host libs in first_place host libs w.
 pub none : OneStop → (host : List ℕ) (libs : List (List ℕ)) → first_fault host libs ≡ None → (step : Step) (f : Fault) → FaultAt host libs step f → ⊥
 none law host libs e = let w = whole law host libs in no_place host libs w.0 w.1 (w.2 ∙ e)
 
+-- no two keys come before each other
 not_both : (a b : List ℕ) → Before a b → Before b a → ⊥
 not_both [] b h k = h
 not_both (x ∷ a) [] h k = h
@@ -253,12 +261,14 @@ not_both (x ∷ a) (y ∷ b) (inl h) (inr k) = let e = k.0 in omega (arith, h, e
 not_both (x ∷ a) (y ∷ b) (inr h) (inl k) = let e = h.0 in omega (arith, e, k)
 not_both (x ∷ a) (y ∷ b) (inr h) (inr k) = not_both a b h.1 k.1
 
+-- no two faults are the first
 pub one : OneStop → (host : List ℕ) (libs : List (List ℕ)) (f g : Fault) → IsFirst host libs f → IsFirst host libs g → f ≡ g
 one law host libs f g a b = elim (a.least b.step g b.stands) [
   | inl e ↦ sym e.1
   | inr h ↦ elim (b.least a.step f a.stands) [ inl e ↦ e.1 | inr k ↦ absurd (not_both (key a.step f) (key b.step g) h k) ]
 ]
 
+-- the fault that is the first is the one that is found
 pub only : OneStop → (host : List ℕ) (libs : List (List ℕ)) (f : Fault) → IsFirst host libs f → first_fault host libs ≡ Some f
 only law host libs f a = go (first_fault host libs) refl
   where
@@ -279,6 +289,7 @@ turn_read OfPrivates e = absurd (cc)
 turn_read OfDataSize e = absurd (cc)
 turn_read OfReferences e = absurd (cc)
 
+-- a step of turn 1 to 6 is one of reading
 read_turn : (s : Step) → turn s < 7 → is_of_reading s ≡ true
 read_turn OfHost h = refl
 read_turn OfSlots h = refl
@@ -291,6 +302,7 @@ read_turn OfPrivates h = absurd (omega (arith, h))
 read_turn OfDataSize h = absurd (omega (arith, h))
 read_turn OfReferences h = absurd (omega (arith, h))
 
+-- where no fault of reading is found, none stands
 pub read : OneStop → (host : List ℕ) (libs : List (List ℕ)) → reading_fault host libs ≡ None → NoneStandsInReading host libs
 read law host libs e step f r h = let w = reading law host libs in go w.0 w.1 (w.2 ∙ e)
   where
@@ -298,6 +310,7 @@ read law host libs e step f r h = let w = reading law host libs in go w.0 w.1 (w
     go None (nothing n) is = n (step, f) ((turn_bounds step).0, turn_read step r, h.stands)
     go (Some p) l is = absurd (cc)
 
+-- where no fault of reading stands, none is found
 pub unread : OneStop → (host : List ℕ) (libs : List (List ℕ)) → NoneStandsInReading host libs → reading_fault host libs ≡ None
 unread law host libs none_in = let w = reading law host libs in sym w.2 ∙ go w.0 w.1
   where

@@ -43,6 +43,7 @@ abbrev HaveValues : List Row → Type 0
 HaveValues [] = ⊤
 HaveValues (r ∷ rs) = Full r.values × HaveValues rs
 
+-- a change to the row of an id leaves each row a value, if the change and what stands for a missing row do so
 at_row_kept : (id : Text) (change : Row → List Row) (missing rows : List Row) → HaveValues missing
     → ((r : Row) (rs : List Row) → HaveValues (r ∷ rs) → HaveValues (change r ++ rs)) → HaveValues rows → HaveValues (at_row id change missing rows)
 at_row_kept id change missing [] m changed h = m
@@ -58,6 +59,7 @@ without_kept id rows h = at_row_kept id (λ _. []) [] rows tt (λ r rs p. p.1) h
 with_values_kept : (id : Text) (how : Reading) (s : ValueSource) (values : List Text) (rows : List Row) → Full values → HaveValues rows → HaveValues (with_values id how s values rows)
 with_values_kept id how s values rows f h = at_row_kept id (more_values s values) _ rows (f, tt) (λ r rs p. (full_more r.values values p.0, p.1)) h
 
+-- each row still has a value after an argument is used with at least one
 used_as_kept : (x : ArgAction) (id : Text) (how : Reading) (v : Text) (vs : List Text) (rows : List Row) → HaveValues rows → HaveValues (used_as x id how (v ∷ vs) rows)
 used_as_kept action.Set id how v vs rows h = with_values_kept id how CommandLine (v ∷ vs) (without id rows) tt (without_kept id rows h)
 used_as_kept action.SetTrue id how v vs rows h = with_values_kept id how CommandLine (v ∷ vs) (without id rows) tt (without_kept id rows h)
@@ -86,12 +88,14 @@ settled_kept : (c : List Rule) (p : Option (Text × List Text)) (rows : List Row
 settled_kept c None rows f h = h
 settled_kept c (Some p) rows f h = used_by_id_kept (arg_by_id c p.0) p.1 rows f h
 
+-- each row that is held has a value, and so has the argument whose values are being read
 record Sound (h : Held) : Type 0 where
   pub rows : HaveValues h.rows
   pub pending : FullPending h.pending
 
 -- ---- flags that print a text
 
+-- the action of a flag that prints a text: the help or the version
 abbrev is_text : ArgAction → Bool
 is_text action.Help = true
 is_text action.HelpShort = true
@@ -103,6 +107,7 @@ is_text _ = false
 abbrev asks_plainly : Rule → Bool
 asks_plainly a = is_some a.index || (not (takes_values a) && is_text (action_of a))
 
+-- an action that prints a text changes no row
 text_used : (x : ArgAction) (id : Text) (how : Reading) (values : List Text) (rows : List Row) → is_text x ≡ true → used_as x id how values rows ≡ rows
 text_used action.Set id how values rows e = absurd (true≢false (sym e))
 text_used action.SetTrue id how values rows e = absurd (true≢false (sym e))
@@ -119,11 +124,13 @@ abbrev Flag : Option Rule → Type 0
 Flag None = ⊤
 Flag (Some a) = (takes_values a ≡ false) × ((rows : List Row) → used a [] rows ≡ rows)
 
+-- what is a positional, or takes no values and prints a text, does the latter where it is no positional
 bools : (i t x g : Bool) → (i || (not t && x)) ≡ true → (not i && g) ≡ true → (t ≡ false) × (x ≡ true)
 bools true t x g h e = absurd (true≢false (sym e))
 bools false true x g h e = absurd (true≢false (sym h))
 bools false false x g h e = (refl, h)
 
+-- where each rule is a positional or a flag that prints a text, a flag that is found changes no row
 flag_found : (g : Rule → Bool) (c : List Rule) → list_all asks_plainly c ≡ true → Flag (find (λ a. not (is_some a.index) && g a) c)
 flag_found g [] all = tt
 flag_found g (a ∷ c) all =
@@ -276,6 +283,7 @@ abbrev FullRow : Option Row → Type 0
 FullRow None = ⊤
 FullRow (Some r) = Full r.values
 
+-- where each row has a value, so has the row that is found for an id
 found_full : (id : Text) (rows : List Row) → HaveValues rows → FullRow (find (λ r. bytes_eq r.id id) rows)
 found_full id [] h = tt
 found_full id (r ∷ rs) h = go (bytes_eq r.id id) (found_full id rs h.1)
@@ -315,6 +323,7 @@ abbrev Stays : Step → Type 0
 Stays (subcommand name) = ⊥
 Stays _ = ⊤
 
+-- a step into no command is no step into the one that prints help
 stays_enters : (step : Step) → Stays step → Enters step
 stays_enters (next waiting) s = tt
 stays_enters (trailing position) s = tt
@@ -414,6 +423,7 @@ abbrev Each : (Option Shape → Type 0) → (Shape → Bool) → List Shape → 
 Each P q [] = ⊤
 Each P q (s ∷ rest) = (q s ≡ true → P (Some s)) × Each P q rest
 
+-- what holds of none and of each command that passes a test holds of what is found by the test
 each_found : (P : Option Shape → Type 0) (q : Shape → Bool) (subs : List Shape) → P None → Each P q subs → P (find q subs)
 each_found P q [] none each = none
 each_found P q (s ∷ rest) none each = go (q s) refl (each_found P q rest none each.1)
@@ -437,6 +447,7 @@ command_at k = slice_index_or (built pslink_app).subs k (built pslink_app).top
 abbrev rows_at_command : ℕ → List Text → List Row
 rows_at_command k args = rows_after (command_at k).rules [] args
 
+-- args that clap takes for `link` leave out neither HOST nor OUT
 link_named : (args : List Text) → NamesAll args (Some (command_at 0))
 link_named args level some leaves =
     let rows = rows_at_command 0 args in
@@ -448,6 +459,7 @@ link_named args level some leaves =
       | inr none ↦ named (codes "OUT") rows full out.0 none
     ]
 
+-- args that clap takes for `map` do not leave out HOST
 map_named : (args : List Text) → NamesAll args (Some (command_at 1))
 map_named args level some leaves =
     let rows = rows_at_command 1 args in
@@ -455,6 +467,7 @@ map_named args level some leaves =
     let host = both (is_given (codes "HOST") rows) _ (leaf_given (command_at 1) args level) in
     named (codes "HOST") rows full host.0 ((leaves rows).1 refl)
 
+-- args that clap takes for `show` do not leave out FILE
 show_named : (args : List Text) → NamesAll args (Some (command_at 2))
 show_named args level some leaves =
     let rows = rows_at_command 2 args in
@@ -475,6 +488,7 @@ other_name name other answers =
 each_named : (name : Text) (args : List Text) → is_help name ≡ false → Each (NamesAll args) (λ s. answers_to name (label_of s)) (built pslink_app).subs
 each_named name args other = ((λ _. link_named args), ((λ _. map_named args), ((λ _. show_named args), ((λ answers. absurd (other_name name other answers)), tt))))
 
+-- where a walk stops at a command other than help, args that clap takes for it leave out nothing that it has to have
 entered_named : (stop : Option (Text × List Text)) → Stops stop → entered_passes (built pslink_app) stop ≡ true → is_some (entered (built pslink_app) stop) ≡ true
     → LeavesOut (entered (built pslink_app) stop) → ⊥
 entered_named None other passes some leaves = true≢false (sym some)

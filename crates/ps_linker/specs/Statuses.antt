@@ -4,6 +4,7 @@ use Rattle.std.specs.Prelude.{ℕ}
 use Rattle.ps_linker.specs.declared.error.CommandError.{CommandError}
 use Rattle.ps_linker.specs.declared.error.CommandError.TheVariants as error
 
+-- the number that the process ends with
 abbrev pub status_of : CommandError → ℕ
 status_of (error.Refused fault) = 1
 status_of (error.Usage text) = 2

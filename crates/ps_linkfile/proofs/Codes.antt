@@ -27,6 +27,7 @@ pub record IsAt (os : List Origin) (ds : List (List Edit)) (count : ℕ) (o : Or
 pub edits_here : (os : List Origin) (ds : List (List Edit)) (count : ℕ) (o : Origin) (d : List Edit) → IsAt os ds count o d → HaveEdits (drop count os) (drop count ds) → HaveEdits (o ∷ drop (count + 1) os) (d ∷ drop (count + 1) ds)
 edits_here os ds count o d at h = subst (λ (es : List (List Edit)). HaveEdits (o ∷ drop (count + 1) os) es) at.edits (subst (λ (ps : List Origin). HaveEdits ps (drop count ds)) at.origin h)
 
+-- the codes so far, the code of this source and those behind it are all codes
 joined_here : (order : Order) (os : List Origin) (ds : List (List Edit)) (count : ℕ) (o : Origin) (d : List Edit) (prefix : List ℕ) → IsAt os ds count o d
     → prefix ++ padded_codes order (drop count os) (drop count ds) ≡ padded_codes order os ds
     → prefix ++ (padded order o.code d ++ padded_codes order (drop (count + 1) os) (drop (count + 1) ds)) ≡ padded_codes order os ds

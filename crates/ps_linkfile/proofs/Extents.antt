@@ -43,6 +43,7 @@ none_before from (c ∷ cs) slot h k =
     let no : nat_lt c.slot slot ≡ false = grind (arith, nat_tests, h.0) in
     rw no (none_before (c.slot + 1) cs slot h.2 (omega (arith, h.0)))
 
+-- where slots ascend from a number on, no code has a slot below it
 pub none_there : (from : ℕ) (cs : List Extent) (slot : ℕ) → Ascend from cs → slot < from → find (λ c. c.slot == slot) cs ≡ None
 none_there from [] slot h k = refl
 none_there from (c ∷ cs) slot h k =
@@ -118,6 +119,7 @@ pub record LaidSoFar (all : List Extent) (count : ℕ) (starts : List ℕ) (bloc
   pub begins : starts ≡ map (λ c. block_of all c.slot) (take count all)
   pub blocks : block ≡ 1 + all_blocks (take count all)
 
+-- at first no code is laid out, and the next begins in block 1
 pub laid_none : (all : List Extent) → Ascend 0 all → LaidSoFar all 0 [] 1 0
 laid_none all h = record {
   left = left_start all h;
@@ -131,6 +133,7 @@ laid_none all h = record {
 laid_here : (all : List Extent) (count : ℕ) (starts : List ℕ) (block from : ℕ) (c : Extent) → drop count all ≡ c ∷ drop (count + 1) all → LaidSoFar all count starts block from → Left all from block (c ∷ drop (count + 1) all)
 laid_here all count starts block from c is h = subst (λ (cs : List Extent). Left all from block cs) is h.left
 
+-- where a code is left, fewer than sixteen are laid out, and its first block is below 65536
 pub laid_next : (all : List Extent) (count : ℕ) (starts : List ℕ) (block from : ℕ) (c : Extent) → drop count all ≡ c ∷ drop (count + 1) all → LaidSoFar all count starts block from → (count < 16) × (block < 65536)
 laid_next all count starts block from c is h =
     let at = laid_here all count starts block from c is h in
@@ -140,6 +143,7 @@ laid_next all count starts block from c is h =
     let small = h.small in
     (omega arith, omega arith)
 
+-- with one code more laid out, its start is the block that was reached, and the next begins behind its blocks
 pub laid_more : (all : List Extent) (count : ℕ) (starts : List ℕ) (block from : ℕ) (c : Extent)
     → drop count all ≡ c ∷ drop (count + 1) all → c.size ≤ 32767 → LaidSoFar all count starts block from → LaidSoFar all (count + 1) (starts ++ block ∷ []) (block + blocks c.size) (c.slot + 1)
 laid_more all count starts block from c is size h =
@@ -165,6 +169,8 @@ laid_more all count starts block from c is size h =
       blocks = omega arith;
     }
 
+-- once all codes are laid out, the starts are the first blocks of all of them, and the block that was reached is
+-- the number of all blocks, the dictionary's counted
 pub laid_done : (all : List Extent) (count : ℕ) (starts : List ℕ) (block from : ℕ) → length all ≤ count → LaidSoFar all count starts block from → (starts ≡ starts_of all) × (block ≡ 1 + all_blocks all)
 laid_done all count starts block from le h =
     let whole : take count all ≡ all = take_all count all le in (

@@ -27,6 +27,7 @@ use Rattle.ps_linkfile.proofs.Views.{no_source, seen, start_at}
 other_slot : (slot : ℕ) (s : Segment) → s.slot ≢ slot → (s.slot == slot) ≡ false
 other_slot slot s differs = ne_eqb s.slot slot differs
 
+-- of a row that rises from a number on, each segment has a slot not below it and below 16, and is found by this slot
 found_in : (ss : List Segment) (from : ℕ) → Ascend from (map extent_at ss) → (i : ℕ) (s : Segment) → slice_get ss i ≡ Some s → (from ≤ s.slot) × (s.slot < 16) × (find (λ (t : Segment). t.slot == s.slot) ss ≡ Some s)
 found_in [] from a i s h = cc
 found_in (t ∷ ss) from a zero s h =
@@ -58,6 +59,7 @@ lines_are names cs (s ∷ ss) h =
 four : (a b c d e f g h : List ℕ) → a ≡ e → b ≡ f → c ≡ g → d ≡ h → a ++ b ++ c ++ d ≡ e ++ f ++ g ++ h
 four a b c d e f g h p q r s = cc
 
+-- the map that a plan of a link stands for is the map of the link
 pub plan_map : (host : List ℕ) (libs : List (List ℕ)) (plan : Planned) → IsPlan host libs plan → map_in plan ≡ map_of host libs
 unfolding map_of
 plan_map host libs plan h =

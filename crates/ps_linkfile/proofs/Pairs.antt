@@ -28,6 +28,7 @@ four_at f h (suc n) a (suc s) j k l =
     get_or-append_right (f a) rest 4 (4 * suc s + j) 0 (h a) (omega arith)
     ∙ (ap (λ i. get_or rest i 0) at ∙ (four_at f h n (a + 1) s j (omega arith) l ∙ ap (λ i. get_or (f i) j 0) is))
 
+-- where f gives four bytes of each number, it gives 4 * n bytes of n numbers
 pub four_each : (f : ℕ → List ℕ) → ((s : ℕ) → length (f s) ≡ 4) → (n a : ℕ) → length (flat_map f (range_with_len a n)) ≡ 4 * n
 four_each f h zero a = omega arith
 four_each f h (suc n) a =
@@ -38,6 +39,7 @@ word_two : (order : Order) (v : ℕ) → length (word_bytes order v) ≡ 2
 word_two Little v = refl
 word_two Big v = refl
 
+-- the pair of a slot has four bytes
 pub pair_four : (order : Order) (all : List Extent) (slot : ℕ) → length (pair_of order all slot) ≡ 4
 pair_four order all slot = at (find (λ (c : Extent). c.slot == slot) all)
   where
@@ -54,6 +56,7 @@ pairs_at order all slot j k l =
 pub pairs_len : (order : Order) (all : List Extent) → length (flat_map (pair_of order all) slots) ≡ 64
 pairs_len order all = four_each (pair_of order all) (pair_four order all) 16 0
 
+-- 64 bytes that have those of each slot's pair at its place are the sixteen pairs
 pub pairs_are : (order : Order) (all : List Extent) (xs : List ℕ) → length xs ≡ 64 → ((slot j : ℕ) → slot < 16 → j < 4 → get_or xs (4 * slot + j) 0 ≡ get_or (pair_of order all slot) j 0) → xs ≡ flat_map (pair_of order all) slots
 pairs_are order all xs len h =
     ext_get_or 0 xs (flat_map (pair_of order all) slots) (len ∙ sym (pairs_len order all))
@@ -105,6 +108,7 @@ pair_put order old mid new pair a b (suc (suc (suc (suc j)))) h k lt = absurd (o
 abbrev four_zeros : List ℕ
 four_zeros = 0 ∷ 0 ∷ 0 ∷ 0 ∷ []
 
+-- each of four zeros is 0, and so is what a read past them gives
 zeros_at : (j : ℕ) → get_or four_zeros j 0 ≡ 0
 zeros_at zero = refl
 zeros_at (suc zero) = refl

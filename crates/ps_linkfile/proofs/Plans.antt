@@ -38,6 +38,7 @@ of_edited order known words free (s ∷ ss) = ap (λ (cs : List Extent). extent_
 pub extents_are : (host : List ℕ) (libs : List (List ℕ)) → extents host libs ≡ map extent_at (segments (order_of host) host libs)
 extents_are host libs = refl
 
+-- the extents of the linked segments with their edits are those of the link
 pub edited_extents : (host : List ℕ) (libs : List (List ℕ)) → map extent_of_edited (linked_segments host libs) ≡ extents host libs
 edited_extents host libs =
     let order = order_of host in
@@ -52,6 +53,7 @@ of_all_edited P order known words free (s ∷ ss) h =
     let rest = edited_from order known words (free + private_words s.records) ss in
     All-cons P s ss (All-head (λ (e : Edited). P e.segment) e rest h) (of_all_edited P order known words (free + private_words s.records) ss (All-tail (λ (e : Edited). P e.segment) e rest h))
 
+-- what holds of each segment holds of each segment with its edits
 pub to_all_edited : (P : Segment → Type 0) (order : Order) (known : Known) (words free : ℕ) (ss : List Segment) → All P ss → All (λ (e : Edited). P e.segment) (edited_from order known words free ss)
 to_all_edited P order known words free [] h = All-nil (λ (e : Edited). P e.segment)
 to_all_edited P order known words free (s ∷ ss) h =
@@ -77,12 +79,14 @@ tested : (b : Bool) (x y : ℕ) → (b ≡ true → x ≡ y) → cond b x 0 ≡ 
 tested true x y h = h refl
 tested false x y h = refl
 
+-- where two rows of edits leave the same byte at each place of a code, they leave the same whole blocks
 padded_alike : (order : Order) (code : List ℕ) (d e : List Edit) → ((p : ℕ) → p < length code → patched order code d p ≡ patched order code e p) → padded order code d ≡ padded order code e
 padded_alike order code d e h =
     map_alike (patched_or_zero order code d) (patched_or_zero order code e)
     (λ p. tested (nat_lt p (length code)) (patched order code d p) (patched order code e p) (λ within. h p (ltb-true p (length code) within)))
     (range_with_len 0 (512 * blocks (length code)))
 
+-- with edits that link the segments, the padded codes of the segments' origins are those of the linked segments
 codes_are : (order : Order) (known : Known) (words free : ℕ) (ss : List Segment) (ds : List (List Edit)) → LinkSegments order (edited_from order known words free ss) ds → padded_codes order (map origin_of ss) ds ≡ flat_map (padded_segment order) (edited_from order known words free ss)
 codes_are order known words free [] [] h = refl
 codes_are order known words free [] (d ∷ ds) h = absurd h
@@ -96,6 +100,7 @@ pub plan_extents : (host : List ℕ) (libs : List (List ℕ)) (plan : Planned) �
 plan_extents host libs plan h =
     ap (λ (os : List Origin). map extent_of_origin os) h.origins ∙ (of_origins (segments (order_of host) host libs) ∙ sym (extents_are host libs))
 
+-- the padded codes of a plan of a link are those of the link's segments with their edits
 plan_codes : (host : List ℕ) (libs : List (List ℕ)) (plan : Planned) → IsPlan host libs plan → padded_codes plan.order plan.origins plan.edits ≡ flat_map (padded_segment (order_of host)) (linked_segments host libs)
 plan_codes host libs plan h =
     let order = order_of host in
@@ -104,6 +109,7 @@ plan_codes host libs plan h =
     ∙ (ap (λ (os : List Origin). padded_codes order os plan.edits) h.origins
     ∙ codes_are order (known_of ss) (total_words ss) (next_of (host_records ss)) ss plan.edits h.edits)
 
+-- the file of a plan of a link is the linked file
 pub plan_file : (host : List ℕ) (libs : List (List ℕ)) (plan : Planned) → IsPlan host libs plan → file_of plan ≡ linked_file host libs
 plan_file host libs plan h =
     let codes = padded_codes plan.order plan.origins plan.edits in
@@ -113,6 +119,7 @@ plan_file host libs plan h =
     ∙ (ap (λ (cs : List Extent). dictionary (order_of host) (slot_names host (segments (order_of host) host libs)) host cs ++ codes) (plan_extents host libs plan h)
     ∙ ap (λ (bs : List ℕ). dictionary (order_of host) (slot_names host (segments (order_of host) host libs)) host (extents host libs) ++ bs) (plan_codes host libs plan h))))
 
+-- a plan of a link whose host has a whole dictionary can be written
 pub plan_ready : (host : List ℕ) (libs : List (List ℕ)) (plan : Planned) → IsPlan host libs plan → block_len ≤ length plan.host → IsReady plan
 unfolding slot_names
 plan_ready host libs plan h long =
@@ -127,6 +134,7 @@ plan_ready host libs plan h long =
       edits = subst (λ (os : List Origin). HaveEdits os plan.edits) (sym h.origins) (have_edits order (known_of ss) (total_words ss) (next_of (host_records ss)) ss plan.edits h.edits);
     }
 
+-- the summary of a plan of a link is that of the link
 pub plan_summary : (host : List ℕ) (libs : List (List ℕ)) (plan : Planned) → IsPlan host libs plan → summary_in plan ≡ summary_of host libs
 plan_summary host libs plan h =
     let words = total_words (segments (order_of host) host libs) in

@@ -91,6 +91,7 @@ pub record BlocksSoFar (os : List Origin) (count n : ℕ) (old new : Counts) : T
   pub rises : Rises old new (512 * n) n
   pub none : NoneFailed old new
 
+-- the blocks so far, those of one source more and those that are left are the blocks of all sources
 next_blocks : (os : List Origin) (count n : ℕ) (o : Origin) → drop count os ≡ o ∷ drop (count + 1) os → n + blocks_in (drop count os) ≡ blocks_in os → n + blocks (length o.code) + blocks_in (drop (count + 1) os) ≡ blocks_in os
 next_blocks os count n o at h = sum (blocks_in os) (blocks_in (drop count os)) (blocks_in (drop (count + 1) os)) (blocks (length o.code)) h (ap blocks_in at ∙ all_blocks-cons (extent_of_origin o) (map extent_of_origin (drop (count + 1) os)))
   where

@@ -6,6 +6,7 @@ use Rattle.std.proofs.lemmas.Bool.Decides.{nat_tests}
 use Rattle.std.proofs.lemmas.Str.Ascii.{IsAscii-cons, IsAscii-nil}
 use Rattle.ps_linkfile.specs.Lines.{shown, shown_byte}
 
+-- a byte of a name as a line shows it is below 128
 shown_small : (b : ℕ) → shown_byte b < 128
 shown_small b = by (nat_le 32 b) (nat_le b 126) refl
   where

@@ -21,6 +21,7 @@ pub record Shows (short : Bool) (of : FileOrder) (file : List ℕ) (shown : File
   pub dict : o ≡ record { order = known_order of; file = file }
   pub sound : (if short then Some (in_file 0 reason.ShortFile) else order_fault of) ≡ None
 
+-- a file that is opened by itself shows the order in which its words are read
 pub read_shows : (short : Bool) (of : FileOrder) (file : List ℕ) (o : Opened) → (if short then Err reason.ShortFile else opened_as file of) ≡ Ok o → Shows short of file (Ordered o.order) o
 read_shows true of file o h = cc
 read_shows false Zero file o h = cc
@@ -29,6 +30,7 @@ read_shows false (Ordered order) file o h =
     record { order = ap (λ (q : Opened). Ordered q.order) is; dict = is; sound = refl }
 read_shows false Mixed file o h = cc
 
+-- a file that is not opened by itself, but beside a little-endian one, shows no order
 pub beside_shows : (short : Bool) (of : FileOrder) (file : List ℕ) (why : Reason) (o : Opened) → (if short then Err reason.ShortFile else opened_as file of) ≡ Err why
     → (if short then Err reason.ShortFile else opened_beside_as Little file of) ≡ Ok o → Shows short of file Zero o
 beside_shows true of file why o h k = cc
@@ -36,6 +38,7 @@ beside_shows false Zero file why o h k = record { order = refl; dict = cc; sound
 beside_shows false (Ordered order) file why o h k = cc
 beside_shows false Mixed file why o h k = cc
 
+-- where it is not opened beside one either, the reason for that is why it cannot be shown
 pub beside_fault : (short : Bool) (of : FileOrder) (file : List ℕ) (why other : Reason) → (if short then Err reason.ShortFile else opened_as file of) ≡ Err why
     → (if short then Err reason.ShortFile else opened_beside_as Little file of) ≡ Err other → (if short then Some (in_file 0 reason.ShortFile) else order_fault of) ≡ Some (in_file 0 other)
 beside_fault true of file why other h k = cc
@@ -64,6 +67,7 @@ names_more {X} test name xs new all i n lt h e =
     by true p = rw p refl
     by false p = rw p refl
 
+-- where no number is left, the names so far are all of them
 pub names_over : {X : Type 0} (test : ℕ → Bool) (name : ℕ → X) (xs all : List X) (i n : ℕ) → n ≤ i → xs ++ map name (filter test (range_with_len i (n - i))) ≡ all → xs ≡ all
 names_over {X} test name xs all i n le h =
     let left : n - i ≡ 0 = omega arith in
@@ -79,6 +83,7 @@ item_lines units rec [] = []
 item_lines units rec (Ok r ∷ items) = record_line units (rec, r) ++ item_lines units (rec + 1) items
 item_lines units rec (Err why ∷ items) = fault_line rec (Some why) ++ item_lines units rec items
 
+-- the lines of a reading's items, the first of which has the index n, are those of its records and of its fault
 lines_of_items : (units : List (List ℕ)) (n : ℕ) (rs : List Record) (why : Option Reason) → item_lines units n (items_of (rs, why)) ≡ flat_map (record_line units) (enumerate_from n rs) ++ fault_line (n + length rs) why
 lines_of_items units n [] None = refl
 lines_of_items units n [] (Some why) =

@@ -43,6 +43,7 @@ not_long : (b rest : Bool) (n : ℕ) → nat_lt 32767 n ≡ b → (b || rest) �
 not_long true rest n is h = cc
 not_long false rest n is h = ltb-false 32767 n is
 
+-- the code of an entry has at most 32767 bytes
 code_small : (file : List ℕ) (e : Entry) (code : List ℕ) → result_ok (code_of file e) ≡ Some code → length code ≤ max_code_len
 code_small file e code h =
     let start = block_len * e.address in
@@ -55,6 +56,7 @@ code_small file e code h =
 abbrev IsIn : ℕ → Segment → Type 0
 IsIn slot s = (s.slot ≡ slot) × (length s.code ≤ max_code_len)
 
+-- a segment that is read for a slot has that slot, and a code of at most 32767 bytes
 read_is : (order : Order) (host : List ℕ) (libs : List (List ℕ)) (slot : ℕ) (name : List ℕ) (role : Role) (at : ℕ × ℕ) (s : Segment) → segment_from order host libs slot name role at ≡ Some s → IsIn slot s
 read_is order host libs slot name role at s h =
     let file = file_at host libs at.0 in
@@ -64,6 +66,7 @@ read_is order host libs slot name role at s h =
     let of_code : at_code.0 ≡ s.code = ap (λ (t : Segment). t.code) at_code.1.1 in
     (sym of_slot, subst (λ (xs : List ℕ). length xs ≤ max_code_len) of_code (code_small file e at_code.0 at_code.1.0))
 
+-- so has the segment of a slot that the host's dictionary names
 own_is : (order : Order) (host : List ℕ) (libs : List (List ℕ)) (slot : ℕ) (s : Segment) → own_segment order host libs slot ≡ Some s → IsIn slot s
 own_is order host libs slot s h =
     let name = (entry_at order host slot).name in
@@ -75,12 +78,14 @@ own_is order host libs slot s h =
 abbrev IsSmall : Segment → Type 0
 IsSmall s = length s.code ≤ max_code_len
 
+-- the code of a segment that is added to a slot has at most 32767 bytes
 added_is : (order : Order) (host : List ℕ) (libs : List (List ℕ)) (g : UnitReference) (slot : ℕ) (s : Segment) → added_segment order host libs g slot ≡ Some s → IsSmall s
 added_is order host libs g slot s h =
     let read = map_some as_added (option_and_then (segment_from order host libs slot g.name Wanted) (unit_source order g.name libs)) s h in
     let at_source = and_then_some (segment_from order host libs slot g.name Wanted) (unit_source order g.name libs) read.0 read.1.0 in
     subst IsSmall read.1.1 (read_is order host libs slot g.name Wanted at_source.0 read.0 at_source.1.1).1
 
+-- so have the codes of all segments that the rounds add, from one of them on
 rounds_small : (order : Order) (host : List ℕ) (libs : List (List ℕ)) (units : List (List ℕ × ℕ)) (left : List ℕ) (k : ℕ) (row : List UnitReference) → All IsSmall (rounds_from order host libs units left k row).added
 rounds_small order host libs units [] k row = All-nil IsSmall
 rounds_small order host libs units (slot ∷ left) k row = by (λ next. rounds_small order host libs units left (k + 1) next) (slice_get row k) refl
@@ -97,6 +102,7 @@ rounds_small order host libs units (slot ∷ left) k row = by (λ next. rounds_s
     by rest None h = rw (h, rounds_from) (All-nil IsSmall)
     by rest (Some g) h = at rest g (placed_fault order host libs g slot) refl (added_segment order host libs g slot) refl h
 
+-- so have the codes of all segments that are added to a link
 added_small : (order : Order) (host : List ℕ) (libs : List (List ℕ)) → All IsSmall (added order host libs)
 unfolding rounds
 added_small order host libs =
@@ -135,6 +141,7 @@ row_ascends f h (suc n) a from k l = at (f a) refl (λ (next : ℕ) (le : next �
     at None is rest = rest from (omega arith)
     at (Some s) is rest = let slot : s.slot ≡ a = (h a s is).0 in (omega arith, omega arith, rest (s.slot + 1) (omega arith))
 
+-- where no slot gives a code of more than 32767 bytes, a row of slots gives none either
 row_small : (f : ℕ → Option Segment) → ((x : ℕ) (s : Segment) → f x ≡ Some s → (s.slot ≡ x) × (length s.code ≤ max_code_len)) → (xs : List ℕ) → All (λ c. c.size ≤ max_code_len) (map extent_at (filter_map f xs))
 row_small f h [] = All-nil (λ (c : Extent). c.size ≤ max_code_len)
 row_small f h (x ∷ xs) = at (f x) refl (row_small f h xs)

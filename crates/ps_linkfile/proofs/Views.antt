@@ -59,6 +59,7 @@ many_starts ss starts h =
     let all = map extent_of_source ss in
     ap (λ (bs : List ℕ). length bs) h ∙ (length-map all (λ (c : Extent). block_of all c.slot) ∙ length-map ss extent_of_source)
 
+-- the start at a source's place is the first block of the source's code
 pub start_at : (ss : List Source) (starts : List ℕ) (i : ℕ) → starts ≡ starts_of (map extent_of_source ss) → i < length ss → get_or starts i 0 ≡ block_of (map extent_of_source ss) (get_or ss i no_source).slot
 start_at ss starts i h lt =
     let all = map extent_of_source ss in

@@ -41,6 +41,7 @@ part_at xs ys a b j h lt =
 pub part_len : (xs : List ℕ) (a b : ℕ) → b ≤ length xs → length (slice_range xs a b) ≡ b - a
 part_len xs a b h = length-take (b - a) (drop a xs) ∙ omega (arith, length-drop a xs)
 
+-- a list that has these bytes at the places of a part has them as that part
 part_is : (xs ys : List ℕ) (a b : ℕ) → length ys ≡ b - a → b ≤ length xs → ((j : ℕ) → j < b - a → get_or xs (a + j) 0 ≡ get_or ys j 0) → slice_range xs a b ≡ ys
 part_is xs ys a b len le h =
     ext_get_or 0 (slice_range xs a b) ys (part_len xs a b le ∙ sym len)
@@ -69,6 +70,7 @@ inside order e p lt = let yes : nat_lt p (length e.segment.code) ≡ true = grin
 past : (order : Order) (e : Edited) (p : ℕ) → length e.segment.code ≤ p → patched_or_zero order e.segment.code e.edits p ≡ 0
 past order e p le = let no : nat_lt p (length e.segment.code) ≡ false = le-ltb p (length e.segment.code) le in rw no
 
+-- codes that stand at the blocks of their slots, with zeros behind each, are laid out one after another
 to_laid : (order : Order) (file : List ℕ) (all : List Extent) (from block : ℕ) (es : List Edited) → Left all from block (map extent_of_edited es) → All (HasCode order file all) es → All (HasPadding file all) es → Laid order file block es
 to_laid order file all from block [] h codes zeros = tt
 to_laid order file all from block (e ∷ es) h codes zeros =
@@ -86,6 +88,7 @@ to_laid order file all from block (e ∷ es) h codes zeros =
           (All-tail (HasCode order file all) e es codes) (All-tail (HasPadding file all) e es zeros),
     )
 
+-- of codes that are laid out one after another, each stands with its edits at the block of its slot
 laid_codes : (order : Order) (file : List ℕ) (all : List Extent) (from block : ℕ) (es : List Edited) → Left all from block (map extent_of_edited es) → Laid order file block es → All (HasCode order file all) es
 laid_codes order file all from block [] h laid = All-nil (HasCode order file all)
 laid_codes order file all from block (e ∷ es) h laid =
@@ -94,6 +97,7 @@ laid_codes order file all from block (e ∷ es) h laid =
     (λ p within. ap (λ b. get_or file (512 * b + p) 0) at ∙ (laid.0 p (omega arith) ∙ inside order e p within))
     (laid_codes order file all (e.segment.slot + 1) (block + blocks (length e.segment.code)) es (left_more all from block (extent_of_edited e) (map extent_of_edited es) h) laid.1)
 
+-- and each has zeros behind it, up to the end of its last block
 laid_padding : (order : Order) (file : List ℕ) (all : List Extent) (from block : ℕ) (es : List Edited) → Left all from block (map extent_of_edited es) → Laid order file block es → All (HasPadding file all) es
 laid_padding order file all from block [] h laid = All-nil (HasPadding file all)
 laid_padding order file all from block (e ∷ es) h laid =
@@ -108,6 +112,7 @@ padded_len order e = length-map-range_with_len (patched_or_zero order e.segment.
 padded_at : (order : Order) (e : Edited) (p : ℕ) → p < 512 * blocks (length e.segment.code) → get_or (padded_segment order e) p 0 ≡ patched_or_zero order e.segment.code e.edits p
 padded_at order e p lt = get_or-map-range_with_len (patched_or_zero order e.segment.code e.edits) 0 (512 * blocks (length e.segment.code)) p p 0 lt (omega arith)
 
+-- all codes, each in whole blocks, take 512 bytes for each of their blocks
 codes_len : (order : Order) (es : List Edited) → length (flat_map (padded_segment order) es) ≡ 512 * all_blocks (map extent_of_edited es)
 codes_len order [] = omega arith
 codes_len order (e ∷ es) =
@@ -178,12 +183,14 @@ record Parts (pairs names tail codes file : List ℕ) : Type 0 where
 flat_parts : (a b c d e : List ℕ) → (a ++ (b ++ (c ++ d))) ++ e ≡ a ++ (b ++ (c ++ (d ++ e)))
 flat_parts a b c d e = simp append_assoc
 
+-- the bytes of each part, by their places in the file
 record PartsAt (pairs names tail codes file : List ℕ) : Type 0 where
   in_pairs : (j : ℕ) → j < 64 → get_or file j 0 ≡ get_or pairs j 0
   in_names : (j : ℕ) → j < 128 → get_or file (64 + j) 0 ≡ get_or names j 0
   in_zeros : (j : ℕ) → j < 64 → get_or file (192 + j) 0 ≡ 0
   in_tail : (j : ℕ) → j < 256 → get_or file (256 + j) 0 ≡ get_or tail j 0
 
+-- the parts stand at their places: the pairs at 0, the names at 64, zeros at 192 and the tail at 256
 parts_at : (pairs names tail codes file : List ℕ) → Parts pairs names tail codes file → PartsAt pairs names tail codes file
 parts_at pairs names tail codes file h =
     let zeros : List ℕ = replicate 64 0 in
@@ -260,6 +267,7 @@ pair_part order all file long h slot lt =
     part_is file (pair_of order all slot) (4 * slot) (4 * slot + 4) (pair_four order all slot ∙ sym width) (omega arith)
     (λ j l. let within : j < 4 = omega arith in h (4 * slot + j) (omega arith) ∙ pairs_at order all slot j lt within)
 
+-- a file that has the pair of each slot begins with the sixteen pairs
 sixteen : (order : Order) (all : List Extent) (file : List ℕ) → 512 ≤ length file → ((slot : ℕ) → slot < 16 → slice_range file (4 * slot) (4 * slot + 4) ≡ pair_of order all slot) → slice_range file 0 64 ≡ flat_map (pair_of order all) slots
 sixteen order all file long h =
     pairs_are order all (slice_range file 0 64) (part_len file 0 64 (omega arith))
@@ -271,17 +279,20 @@ sixteen order all file long h =
     sym (part_at file (slice_range file 0 64) 0 64 (4 * slot + j) first within)
     ∙ (ap (λ i. get_or file i 0) at ∙ part_at file (pair_of order all slot) (4 * slot) (4 * slot + 4) j (h slot lt) width))
 
+-- where each byte from 192 to 255 is 0, that part of the file is 64 zeros
 zeros_part : (file : List ℕ) → 512 ≤ length file → ((p : ℕ) → 192 ≤ p → p < 256 → get_or file p 0 ≡ 0) → slice_range file 192 256 ≡ replicate 64 0
 zeros_part file long h =
     part_is file (replicate 64 0) 192 256 (length-replicate {A = ℕ} 64 0) (omega arith)
     (λ j l. h (192 + j) (omega arith) (omega arith) ∙ sym (get_or-replicate {A = ℕ} 64 j 0 0 l))
 
+-- where the 64 bytes from 192 on are 0, so is the byte at each place from 192 to 255
 zero_at : (file : List ℕ) → ((j : ℕ) → j < 64 → get_or file (192 + j) 0 ≡ 0) → (p : ℕ) → 192 ≤ p → p < 256 → get_or file p 0 ≡ 0
 zero_at file h p le lt =
     let at : 192 + (p - 192) ≡ p = omega arith in
     let within : p - 192 < 64 = omega arith in
     subst (λ (k : ℕ). get_or file k 0 ≡ 0) at (h (p - 192) within)
 
+-- pairs, names, 64 zeros and a tail of these lengths take one block
 head_len : (pairs names tail : List ℕ) → length pairs ≡ 64 → length names ≡ 128 → length tail ≡ 256 → length (pairs ++ (names ++ (replicate 64 0 ++ tail))) ≡ 512
 head_len pairs names tail a b c =
     let zeros : length (replicate 64 0 ++ tail) ≡ 64 + length tail = length-append (replicate 64 0) tail ∙ ap (λ n. n + length tail) (length-replicate {A = ℕ} 64 0) in
@@ -335,6 +346,7 @@ cut xs a b le =
     sym (take-append-drop (b - a) (drop a xs))
     ∙ ap (λ (ys : List ℕ). slice_range xs a b ++ ys) (drop-drop (b - a) a xs ∙ ap (λ k. drop k xs) end)
 
+-- a file whose ranges are these parts is the parts, one after another
 joined : (file pairs names zeros tail codes : List ℕ) → slice_range file 0 64 ≡ pairs → slice_range file 64 192 ≡ names → slice_range file 192 256 ≡ zeros → slice_range file 256 512 ≡ tail → drop 512 file ≡ codes → file ≡ (pairs ++ (names ++ (zeros ++ tail))) ++ codes
 joined file pairs names zeros tail codes p n z t c =
     let last : drop 256 file ≡ tail ++ codes = cut file 256 512 (omega arith) ∙ (ap (λ (xs : List ℕ). xs ++ drop 512 file) t ∙ ap (λ (xs : List ℕ). tail ++ xs) c) in
@@ -406,6 +418,7 @@ module _ (host : List ℕ) (libs : List (List ℕ)) where
       IsOne : Segment → Type 0
       IsOne s = (p b c : ℕ) → IsLinkedByte (order_of host) (segments_of host libs) s p b → IsLinkedByte (order_of host) (segments_of host libs) s p c → b ≡ c
 
+  -- where no fault stands, the one list is the linked file of the host and the libraries
   pub there : NamesWhole → NoneFound → AreMade → first_fault host libs ≡ None → LinkedFile host libs (linked_file host libs)
   there law found made none =
       let long = long_host host libs none in
@@ -423,6 +436,7 @@ module _ (host : List ℕ) (libs : List (List ℕ)) where
         padding = of_all (IsPadded (linked_file host libs)) h.padding;
       }
 
+  -- and each linked file of them is that list
   pub one : AreMade → AreOne → (file : List ℕ) → LinkedFile host libs file → file ≡ linked_file host libs
   one made single file h =
       file_one (order_of host) (slot_names host (segments (order_of host) host libs)) host (extents host libs) (linked_segments host libs) file (edited_extents host libs) (extents_ascend host libs)

@@ -16,6 +16,7 @@ module _ {W : Type 0} (gives : W → List ℕ → W → Type 0) (f : Formatter W
   pub none_yet : (rest : List ℕ) → rest ≡ all → Written gives f all rest f
   none_yet rest e = record { done = []; split = e; wrote = λ plain. record { wrote = record { parts = []; calls = refl; whole = refl }; plain = plain } }
 
+  -- where the text that is left begins with a part and this part is written, what stands behind it is left
   pub some_more : (g h : Formatter W) (here left rest : List ℕ) → left ≡ here ++ rest → Written gives f all left g → (IsPlainFormatter g → HasWritten gives g here h) → Written gives f all rest h
   some_more g h here left rest e w more = record {
     done = w.done ++ here;
@@ -23,6 +24,7 @@ module _ {W : Type 0} (gives : W → List ℕ → W → Type 0) (f : Formatter W
     wrote = λ plain. let before = w.wrote plain in has_written_append gives f w.done g here h before (more before.plain);
   }
 
+  -- where nothing is left, all was written
   pub all_written : (g : Formatter W) (rest : List ℕ) → rest ≡ [] → Written gives f all rest g → IsPlainFormatter f → HasWritten gives f all g
   all_written g rest e w plain =
       has_written_of_eq gives f w.done all g (sym (append-nil w.done) ∙ (ap (λ (bs : List ℕ). w.done ++ bs) (sym e) ∙ w.split)) (w.wrote plain)

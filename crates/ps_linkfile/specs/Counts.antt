@@ -8,6 +8,7 @@ use Rattle.ps_linkfile.specs.declared.error.WriteFault.TheVariants.{Device, Stal
 abbrev pub no_counts : Counts
 no_counts = record { writes = 0; errors = 0; stalls = 0; shorts = 0 }
 
+-- none of the counts is above n
 pub record AreAtMost (counts : Counts) (n : ℕ) : Type 0 where
   pub writes : counts.writes ≤ n
   pub errors : counts.errors ≤ n

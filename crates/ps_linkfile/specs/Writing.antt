@@ -25,6 +25,7 @@ padded_codes order (o ∷ os) (edits ∷ rest) = padded order o.code edits ++ pa
 abbrev pub file_of : Planned → List ℕ
 file_of plan = dictionary plan.order plan.names plan.host (extents_of plan) ++ padded_codes plan.order plan.origins plan.edits
 
+-- the summary of what is written: the plan's sources, its private words, and the blocks, the dictionary's counted
 abbrev pub summary_in : Planned → Summary
 summary_in plan = record {
   segments = length plan.origins;

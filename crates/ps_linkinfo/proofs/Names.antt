@@ -23,6 +23,7 @@ first_whole order bytes h =
     let long : 16 ≤ length bytes = ltb-false (length bytes) 16 (no_short (nat_lt (length bytes) 16) _ h) in
     length-take-le 8 bytes (omega arith)
 
+-- each record of a reading has a name of eight bytes
 pub all_whole : (n : ℕ) (order : Order) (bytes : List ℕ) → All IsWhole (read_from n order bytes).0
 all_whole zero order bytes = All-nil IsWhole
 all_whole (suc n) order bytes = by (all_whole n order (drop (size_of (record_at order bytes)) bytes)) (bad order bytes) refl (is_eof (record_at order bytes)) refl

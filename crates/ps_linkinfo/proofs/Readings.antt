@@ -21,12 +21,14 @@ body_is order x (PublDef value) h = rw (h.0, h.1)
 body_is order x (ConstDef value) h = rw (h.0, h.1)
 body_is order x (Eof next) h = rw (h.0, h.1)
 
+-- a record that the bytes begin with is what their first words spell
 pub record_is : (order : Order) (x : List ℕ) (r : Record) → BeginsWith order x r → r ≡ record_at order x
 record_is order x r h =
     let by_body : Body → Record = λ b. record { name = r.name; body = b } in
     let by_name : List ℕ → Record = λ n. record { name = n; body = body_at order x } in
     ap by_body (body_is order x r.body h.body) ∙ ap by_name h.name
 
+-- two rows of records that the same bytes spell, and that each end once, are the same
 pub one_reading : (order : Order) (bytes : List ℕ) (rs ss : List Record) → AreSpelled order bytes rs → EndsOnce rs → AreSpelled order bytes ss → EndsOnce ss → rs ≡ ss
 one_reading order bytes [] ss h e k f = absurd e
 one_reading order bytes (r ∷ rs) [] h e k f = absurd f

@@ -33,6 +33,7 @@ private_format order x h k = grind (arith, nat_tests)
 end_type : (order : Order) (x : List ℕ) → bad order x ≡ None → (word_at order x 8 == 1) ≡ false → (word_at order x 8 == 3) ≡ false → (word_at order x 8 == 4) ≡ false → (word_at order x 8 == 7) ≡ false → (word_at order x 8 == 8) ≡ false → word_at order x 8 ≡ 0
 end_type order x h a b c d e = grind (arith, nat_tests)
 
+-- where no fault stands, the body that the first words spell stands whole
 body_stands : (order : Order) (x : List ℕ) → bad order x ≡ None → StandsWhole order x (body_at order x)
 body_stands order x good = is_unit (kind == 1) refl
   where
@@ -110,6 +111,7 @@ is_read_more : (order : Order) (x : List ℕ) (r : Record) → BeginsWith order 
 is_read_more order x r b e rs None h = record { spelled = (b, h.spelled); ends = ends_more r rs e h.ends }
 is_read_more order x r b e rs (Some why) h = record { spelled = (b, h.spelled); goes_on = (e, h.goes_on); stops = subst (λ (y : List ℕ). bad order y ≡ Some why) (sym (behind_cons r rs x)) h.stops }
 
+-- where n is above a sixteenth of the bytes, the reading of n records at most is what the bytes spell, or what stops it
 read_from_is : (n : ℕ) (order : Order) (x : List ℕ) → length x / 16 < n → IsRead order x (read_from n order x)
 read_from_is zero order x lt = absurd (omega arith)
 read_from_is (suc n) order x lt = at (λ y less. read_from_is n order y less) (bad order x) refl (is_eof (record_at order x)) refl

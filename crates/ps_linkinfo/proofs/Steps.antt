@@ -18,6 +18,7 @@ long_enough order x h = grind (arith, nat_tests)
 pub size_least : (r : Record) → 16 ≤ size_of r
 size_least r = omega arith
 
+-- readings of at most n and at most m records are the same where both numbers are above a sixteenth of the bytes
 pub enough : (n m : ℕ) (order : Order) (x : List ℕ) → length x / 16 < n → length x / 16 < m → read_from n order x ≡ read_from m order x
 enough zero m order x h k = absurd (omega arith)
 enough (suc n) zero order x h k = absurd (omega arith)
@@ -44,6 +45,7 @@ read_end order x why p = as_suc order x ∙ rw (p, read_from)
 pub read_last : (order : Order) (x : List ℕ) → bad order x ≡ None → is_eof (record_at order x) ≡ true → reading order x ≡ (record_at order x ∷ [], None)
 read_last order x p q = as_suc order x ∙ rw (p, q, read_from)
 
+-- where no fault stands and the first record is no EOFMARK, the reading is this record and the reading behind it
 pub read_more : (order : Order) (x : List ℕ) → bad order x ≡ None → is_eof (record_at order x) ≡ false
     → reading order x ≡ (let rest = reading order (drop (size_of (record_at order x)) x) in (record_at order x ∷ rest.0, rest.1))
 read_more order x p q =
@@ -59,6 +61,7 @@ pub left_end : (w : Walk) (why : Reason) → w.ended ≡ false → bad w.order (
 unfolding items_at
 left_end w why e b = rw e (ap items_of (read_end w.order (drop w.used w.bytes) why b))
 
+-- where a record stands there, this record is left and then what the walk behind it has left
 pub left_next : (w : Walk) (r : Record) (v : Walk) → w.ended ≡ false → bad w.order (drop w.used w.bytes) ≡ None → BeginsWith w.order (drop w.used w.bytes) r
     → v ≡ record w { used = w.used + size_of r; ended = is_eof r } → left w ≡ Ok r ∷ left v
 unfolding items_at

@@ -31,6 +31,7 @@ on_more : (rs : List Record) (r : Record) → AllByRecursion (λ r. is_eof r ≡
 on_more [] r h e = (e, tt)
 on_more (x ∷ rs) r h e = (h.0, on_more rs r h.1 e)
 
+-- records none of which is an EOFMARK, and then an EOFMARK, end once
 ends_last : (rs : List Record) (r : Record) → AllByRecursion (λ r. is_eof r ≡ false) rs → is_eof r ≡ true → EndsOnce (rs ++ r ∷ [])
 ends_last [] r h e = e
 ends_last (x ∷ []) r h e = (h.0, e)
@@ -93,6 +94,7 @@ pub record IsRead (order : Order) (bytes : List ℕ) (u : Tally) (next : ℕ) (f
   pub ends : next ≡ next_of (first_records u.records order bytes)
   pub read : reading order bytes ≡ (first_records u.records order bytes, fault)
 
+-- what is known of the records of a reading holds of as many first records of the bytes
 read_by : (order : Order) (bytes : List ℕ) (u : Tally) (next : ℕ) (fault : Option Reason) (rs : List Record) → AreSpelled order bytes rs → reading order bytes ≡ (rs, fault) → u ≡ tally_of rs → next ≡ next_of rs → IsRead order bytes u next fault
 read_by order bytes u next fault rs s e t n =
     let first : first_records u.records order bytes ≡ rs = ap (λ (v : Tally). first_records v.records order bytes) t ∙ are_first order bytes rs s in
@@ -139,11 +141,13 @@ ended order bytes rest t u r next h good is end more =
 pub some_read : (order : Order) (bytes rest : List ℕ) (t : Tally) → HasRead order bytes rest t → length bytes < 2 ^ 63 → (before : List Record) × (t ≡ tally_of before) × (length before < 2 ^ 62)
 some_read order bytes rest t h len = (h.0, h.1.counted, omega (arith, few_records h.0, spelled_fit order bytes h.0 h.1.spelled, len))
 
+-- what was read of fewer than 2^63 bytes has fewer than 2^62 references
 pub room_read : (order : Order) (bytes rest : List ℕ) (t : Tally) → HasRead order bytes rest t → length bytes < 2 ^ 63 → t.references < 2 ^ 62
 room_read order bytes rest t h len =
     let is : t.references ≡ references_in h.0 = ap (λ (u : Tally). u.references) h.1.counted in
     omega (arith, is, few_references h.0, spelled_fit order bytes h.0 h.1.spelled, len)
 
+-- a body that is not that of an EOFMARK, whatever its value, does not pass the test for one
 pub not_end : (b : Body) → ((next : ℕ) → b ≡ Eof next → ⊥) → is_end b ≡ false
 not_end (UnitRef refs) h = refl
 not_end (PublRef refs) h = refl

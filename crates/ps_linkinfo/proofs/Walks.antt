@@ -17,11 +17,13 @@ use Rattle.ps_linkinfo.specs.declared.record.LinkRecord.{LinkRecord as Record}
 abbrev pub ok_items : List Record → List (Result Record Reason)
 ok_items rs = map (λ r. Ok r) rs
 
+-- the records among a reading's items are its records
 oks_of_items : (rs : List Record) (why : Option Reason) → filter_map result_ok (items_of (rs, why)) ≡ rs
 oks_of_items [] None = refl
 oks_of_items [] (Some why) = refl
 oks_of_items (r ∷ rs) why = ap (λ (xs : List Record). r ∷ xs) (oks_of_items rs why)
 
+-- the fault among a reading's items is its fault, or there is none
 fault_of_items : (rs : List Record) (why : Option Reason) → fault_in (items_of (rs, why)) ≡ why
 fault_of_items [] None = refl
 fault_of_items [] (Some why) = refl
@@ -57,11 +59,13 @@ few_from (suc n) order x = at (λ y. few_from n order y) (bad order x) refl (is_
 pub few : (order : Order) (x : List ℕ) → length (reading order x).0 ≤ length x / 16
 few order x = few_from (length x / 16 + 1) order x
 
+-- a reading has at most one item more than it has records
 items_count : (rs : List Record) (why : Option Reason) → length (items_of (rs, why)) ≤ length rs + 1
 items_count [] None = omega arith
 items_count [] (Some why) = omega arith
 items_count (r ∷ rs) why = omega (arith, items_count rs why)
 
+-- a walk that has ended has no item left, and any other at most one for each 16 bytes left and one for a fault
 pub few_left : (w : Walk) → length (left w) ≤ left_of w
 unfolding items_at
 few_left w = at w.ended refl
@@ -80,6 +84,7 @@ few_left w = at w.ended refl
 pub given_first : (order : Order) (bytes : List ℕ) → HasGiven (whole_walk order bytes) []
 given_first order bytes = record { spelled = tt; used = refl }
 
+-- a walk that gives a record has given this record too, behind those before it
 pub given_more : (w v : Walk) (rs : List Record) (r : Record) → HasGiven w rs → Advances w (Some (Ok r)) v → HasGiven v (rs ++ r ∷ [])
 given_more w v rs r h a =
     let next : Walk = record w { used = w.used + size_of r; ended = is_eof r } in
@@ -87,6 +92,7 @@ given_more w v rs r h a =
     let so_far : HasGiven next (rs ++ r ∷ []) = record { spelled = spelled_more w.order w.bytes rs r h.spelled begins; used = ap (λ (n : ℕ). n + size_of r) h.used ∙ sym (used_more rs r) } in
     subst (λ (u : Walk). HasGiven u (rs ++ r ∷ [])) (sym a.2) so_far
 
+-- a walk that gives a fault has given the records that it had given before
 pub given_fault : (w v : Walk) (rs : List Record) (why : Reason) → HasGiven w rs → Advances w (Some (Err why)) v → HasGiven v rs
 given_fault w v rs why h a =
     let next : Walk = record w { ended = true } in
@@ -145,6 +151,7 @@ reading_alone rs read h =
     let p = records_alone rs read.0 read.1 h in
     ap (λ (ss : List Record). (ss, read.1)) p.0 ∙ ap (λ (w : Option Reason). (rs, w)) p.1
 
+-- a reading whose items begin with these records and then this fault has these records and this fault
 pub reading_and_fault : (rs : List Record) (why : Reason) (is : List (Result Record Reason)) (read : List Record × Option Reason) → ok_items rs ++ Err why ∷ is ≡ items_of read → read ≡ (rs, Some why)
 reading_and_fault rs why is read h =
     let p = records_and_fault rs read.0 why read.1 is h in

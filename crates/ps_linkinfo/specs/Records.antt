@@ -50,6 +50,7 @@ pub record BeginsWith (order : Order) (bytes : List ℕ) (r : Record) : Type 0 w
   pub name : r.name ≡ take 8 bytes
   pub body : IsBody order bytes r.body
 
+-- the body is that of an EOFMARK
 abbrev pub is_end : Body → Bool
 is_end (Eof next) = true
 is_end (UnitRef refs) = false

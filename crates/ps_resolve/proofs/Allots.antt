@@ -68,6 +68,7 @@ pub record NoPrivates (slot next : ℕ) (rs : List Record) : Type 0 where
   pub words : private_words rs ≡ 0
   pub first : private_fault 0 next [] rs ≡ None
 
+-- where no record asks for a private, none is allotted, no word is taken, and no private has a fault
 no_asks : (slot next : ℕ) (rs : List Record) (n : ℕ) → privates_in rs ≡ 0 → (allotted slot n next rs ≡ []) × (private_words rs ≡ 0) × (private_fault n next [] rs ≡ None)
 no_asks slot next [] n h = (refl, refl, refl)
 no_asks slot next (r ∷ rs) n h = at (λ e. no_asks slot next rs (n + 1) e) (words_in r.body) refl
@@ -117,6 +118,7 @@ pub not_doubled : (d : Option ℕ) (n : ℕ) → option_eq nat_eq d (Some n) ≡
 not_doubled None n h e = cc
 not_doubled (Some m) n h e = false≢true (sym h ∙ (Decides-eqb m n).1 (same_Some m n e))
 
+-- a number that is not below n, and not n itself, is above it
 over : (n m : ℕ) → n ≤ m → (m ≡ n → ⊥) → n + 1 ≤ m
 over n m le other = at (nat_lt n m) refl
   where

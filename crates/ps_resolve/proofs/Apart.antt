@@ -13,6 +13,7 @@ use Rattle.ps_words.specs.Edits.{AreApart}
 pub one_more : {X : Type 0} (test : X → Bool) (x : X) (xs : List X) → count_by test (x ∷ xs) ≡ cond (test x) 1 0 + count_by test xs
 one_more test x xs = sum_by-cons (λ y. cond (test y) 1 0) x xs
 
+-- an edit covers one byte at least
 pub wide : (e : Edit) → 0 < width e
 wide (Big place value) = omega arith
 wide (Byte place value) = omega arith
@@ -34,6 +35,7 @@ behind e f es le once lt =
 not_lt : (a b : ℕ) → (b < a → ⊥) → a ≤ b
 not_lt a b h = omega (arith, h)
 
+-- such edits stand apart from a place on, where the first begins there or behind it
 pub apart_from : (es : List Edit) (from : ℕ) → ((d : Edit) → 0 < length es → from ≤ place_of (get_or es 0 d)) → IsNonDecreasingBy place_of es → ((p : ℕ) → count_by (covers p) es ≤ 1) → AreApart from es
 apart_from [] from low rise once = tt
 apart_from (e ∷ []) from low rise once = (low e (omega arith), tt)

@@ -147,6 +147,7 @@ module _ (file slot : ℕ) (rs : List Record) where
 only_first : (test : Body → Bool) (rs : List Record) (m n : ℕ) → IsFirstNamesake test rs m → IsFirstNamesake test rs n → m < n → ⊥
 only_first test rs m n f g lt = g.first m f.item lt f.there f.again
 
+-- so two records that are the first of a kind with an earlier namesake are one
 same_first : (test : Body → Bool) (rs : List Record) (m n : ℕ) → IsFirstNamesake test rs m → IsFirstNamesake test rs n → m ≡ n
 same_first test rs m n f g = elim (cases_lt m n) [
   | inl lt ↦ absurd (only_first test rs m n f g lt)
@@ -330,6 +331,7 @@ some_asks slot rec next (r ∷ rs) h = go (words_in r.body) refl (some_asks slot
     go (Some w) e later = (zero, r, refl, asks_is r.body ∙ ap is_some e)
     go None e later = let t = later (subst (λ (ps : List Private). 0 < length ps) (skip_privates slot rec next [] [] r rs e) h) in (suc t.0, t.1, t.2, t.3)
 
+-- where a private of segments is allotted, a record of one of them asks for it
 some_segment : (next : ℕ) (ss : List Owner) → 0 < length (all_allotted next ss) → SomeItem ss (λ k s. SomeItem s.records (λ rec r. is_private_reference r.body ≡ true))
 some_segment next [] h = absurd (omega (arith, h))
 some_segment next (s ∷ ss) h = elim (cases_lt 0 (length (allotted s.slot 0 next s.records))) [
@@ -357,6 +359,7 @@ later_record a b s r h = elim (cases_lt a s) [
     lesser : (a b s r : ℕ) → (nat_lt a s || (a == s && nat_le (b + 1) r)) ≡ true → s ≤ a → b < r
     lesser a b s r h le = grind (arith, nat_tests)
 
+-- privates whose slot and record rise stand by slot and, of one slot, by record
 pub by_record : (ps : List Private) → RiseFrom 0 0 ps → AreByRecord ps
 by_record ps rises i j p q lt is_p is_q =
     let h = behind 0 0 ps i j p rises lt (slice_get_within ps j q is_q) in
@@ -375,6 +378,7 @@ words_allotted slot rec next (r ∷ rs) = go (words_in r.body) refl (λ next. wo
         rw (e, allotted, private_words)
         (sum_by-cons (λ (p : Private). p.words) (record { slot = slot; rec = rec; name = r.name; offset = next; words = w }) (allotted slot (rec + 1) (next + w) rs) ∙ ap (λ (n : ℕ). w + n) (later (next + w)))
 
+-- and so have the privates of all segments
 pub summed : (next : ℕ) (ss : List Owner) → words_of_all (all_allotted next ss) ≡ all_words ss
 summed next [] = refl
 summed next (s ∷ ss) =
@@ -395,6 +399,7 @@ asked_allotted s rec next (r ∷ rs) = go (words_in r.body) refl (λ next. asked
     go None e rest = rw (e, allotted, asked_in) (rest next)
     go (Some w) e rest = rw (e, allotted, asked_in) (ap (λ (xs : List Asked). record { slot = s.slot; rec = rec; name = r.name; words = w } ∷ xs) (rest (next + w)))
 
+-- and those of all segments, which are what all records ask for
 pub asked : (next : ℕ) (ss : List Owner) → map asked_of (all_allotted next ss) ≡ all_asked ss
 asked next [] = refl
 asked next (s ∷ ss) =

@@ -42,6 +42,7 @@ ranks_below : (m rank : ℕ) (ds : List Entry) → rank + length ds ≤ m → Al
 ranks_below m rank [] h = All-nil (λ (n : Named). n.rank < m)
 ranks_below m rank (d ∷ ds) h = All-cons (λ (n : Named). n.rank < m) (at_rank d rank) (ranked (rank + 1) ds) (omega (arith, h)) (ranks_below m (rank + 1) ds (omega (arith, h)))
 
+-- definition i has the rank i, counted from the first rank on
 ranked_at : (rank : ℕ) (ds : List Entry) (i n : ℕ) (d : Named) (e : Entry) → n ≡ rank + i → i < length ds → get_or (ranked rank ds) i d ≡ at_rank (get_or ds i e) n
 ranked_at rank [] i n d e is lt = absurd (omega (arith, lt))
 ranked_at rank (x ∷ ds) zero n d e is lt = ap (at_rank x) (omega (arith, is))
@@ -81,6 +82,7 @@ names_at : (ns : List Named) (i : ℕ) (d : Named) (e : List ℕ) → i < length
 names_at ns i d e lt =
     get_or-map (λ (x : Entry). x.0) (map entry ns) i (entry d) e (omega (arith, lt, length-map ns entry)) ∙ ap (λ (x : Entry). x.0) (get_or-map entry ns i d (entry d) lt)
 
+-- where each name is below the next, it is below any later one
 pub far : (ns : List Named) → NamesRise ns → (i j : ℕ) (d : Named) → i < j → j < length ns → number (get_or ns i d).name < number (get_or ns j d).name
 far ns h i j d lt below =
     omega (arith, at i (omega (arith, lt, below)), at j below, below_from_sorted numbers i j 0 (sorted_from_strictly_increasing numbers rise) lt (omega (arith, below, long)))
@@ -100,6 +102,7 @@ far ns h i j d lt below =
     rise : IsStrictlyIncreasing numbers
     rise k lt = omega (arith, at k (omega (arith, lt, long)), at (k + 1) (omega (arith, lt, long)), h k d (omega (arith, lt, long)))
 
+-- names that are not the same fail the test of equality
 differs : (a b : List ℕ) → (a ≡ b → ⊥) → bytes_eq a b ≡ false
 differs a b h = at (bytes_eq a b) refl
   where
@@ -107,6 +110,7 @@ differs a b h = at (bytes_eq a b) refl
     at true e = absurd (h ((bytes_eq-Decides a b).0 e))
     at false e = e
 
+-- names of which each is below the next are distinct
 distinct_names : (ns : List Named) → NamesRise ns → IsDistinct bytes_eq (keys_of (map entry ns))
 distinct_names ns h = IsDistinct-from_apart bytes_eq names (λ i j d lt below. differs (get_or names i d) (get_or names j d) (apart i j d lt (omega (arith, below, long))))
   where
@@ -121,6 +125,7 @@ distinct_names ns h = IsDistinct-from_apart bytes_eq names (λ i j d lt below. d
         let equal : number (get_or ns i blank).name ≡ number (get_or ns j blank).name = ap number (sym (names_at ns i blank d (omega (arith, lt, below))) ∙ same ∙ names_at ns j blank d below) in
         absurd (omega (arith, equal, far ns h i j blank lt below))
 
+-- where two neighbours have one name, the names are not distinct
 not_twins : (ns : List Named) → HasTwins ns → IsDistinct bytes_eq (keys_of (map entry ns)) → ⊥
 not_twins ns t h =
     let names : List (List ℕ) = keys_of (map entry ns) in
@@ -143,6 +148,7 @@ in_it : (P : List ℕ → Type 0) (xs : List (List ℕ)) (y : List ℕ) (zs : Li
 in_it P [] y zs h = h.0
 in_it P (x ∷ xs) y zs h = in_it P xs y zs h.1
 
+-- of distinct names none that stands before a name is that name
 none_earlier : (xs : List (List ℕ)) (y : List ℕ) (zs : List (List ℕ)) → IsDistinct bytes_eq (xs ++ y ∷ zs) → list_any (bytes_eq y) xs ≡ false
 none_earlier [] y zs h = refl
 none_earlier (x ∷ xs) y zs h =
@@ -155,6 +161,7 @@ keys_append es fs = map-append (λ (e : Entry). e.0) es fs
 abbrev AreDistinct : List Entry → Type 0
 AreDistinct es = IsDistinct bytes_eq (keys_of es)
 
+-- where the names of these definitions and of those of the records are distinct, no record defines one again
 not_doubled : (rs : List Record) (n : ℕ) (ds : List Entry) → AreDistinct (ds ++ definitions rs) → doubled_from n ds rs ≡ None
 not_doubled [] n ds h = refl
 not_doubled (r ∷ rs) n ds h = at (def_in r.body) refl (λ es k. not_doubled rs (n + 1) es k)
@@ -171,11 +178,13 @@ not_doubled (r ∷ rs) n ds h = at (def_in r.body) refl (λ es k. not_doubled rs
     at None e rest = none_first n ds r rs e ∙ rest ds (subst AreDistinct (none_entries n ds r rs e) h)
     at (Some d) e rest = by d e (is_some (definition_of r.name ds)) refl rest
 
+-- one definition more, of a name that none has, leaves the names distinct
 distinct_pushed : (ds : List Entry) (name : List ℕ) (d : Def) → AreDistinct ds → is_some (definition_of name ds) ≡ false → AreDistinct (ds ++ (name, d) ∷ [])
 distinct_pushed ds name d h k =
     subst (λ (names : List (List ℕ)). IsDistinct bytes_eq names) (sym (keys_append ds ((name, d) ∷ [])))
     (IsDistinct-push nat_list_eq_equiv (keys_of ds) name h (sym (is_some-lookup (bytes_eq name) ds) ∙ k))
 
+-- where no record defines a name again, distinct names stay distinct with those of the records
 distinct_all : (rs : List Record) (n : ℕ) (ds : List Entry) → doubled_from n ds rs ≡ None → AreDistinct ds → AreDistinct (ds ++ definitions rs)
 distinct_all [] n ds h k = subst AreDistinct (sym (append-nil ds)) k
 distinct_all (r ∷ rs) n ds h k = at (def_in r.body) refl (λ es e d. distinct_all rs (n + 1) es e d)
@@ -207,6 +216,7 @@ ranked_is ds x e c =
     let lt : c.0 < length ds = omega (arith, c.1, length_ranked 0 ds) in
     (c.0, lt, sym c.2 ∙ ranked_at 0 ds c.0 c.0 x e (omega arith) lt)
 
+-- definitions that were ranked and then moved, taken in their order, stand as they did before
 pub placed : (ds : List Entry) (ns : List Named) (order : List ℕ) → IsPermutation (ranked 0 ds) ns → IsOrder ns order → in_order ns order ≡ ds
 placed ds ns order p o = same_lists (in_order ns order) ds (long ∙ count) each
   where
@@ -241,6 +251,7 @@ pub record Fills (ns : List Named) (index : ℕ) (order : List ℕ) : Type 0 whe
   pub within : All (λ i. i < length ns) order
   pub ranks : (k : ℕ) (d : Named) → k < index → (get_or ns (get_or order (get_or ns k d).rank 0) d).rank ≡ (get_or ns k d).rank
 
+-- in an order that has a zero for each definition, none has its place yet
 pub none_filled : (ns : List Named) (order : List ℕ) → order ≡ replicate (length ns) 0 → Fills ns 0 order
 none_filled ns order is = record {
   len = ap (λ (xs : List ℕ). length xs) is ∙ length-replicate (length ns) 0;
@@ -252,6 +263,7 @@ none_filled ns order is = record {
     zeros zero = All-nil (λ (i : ℕ). i < 0)
     zeros (suc n) = All-replicate (λ (i : ℕ). i < suc n) (suc n) 0 (omega arith)
 
+-- with its index stored at its rank, the next definition has its place too
 pub one_filled : (ns : List Named) (i : ℕ) (order : List ℕ) (e : Named) → i < length ns → All (λ n. n.rank < length ns) ns → Fills ns i order → Fills ns (i + 1) (set order (get_or ns i e).rank i)
 one_filled ns i order e below ranks f = record {
   len = length-set order r i ∙ f.len;
@@ -305,6 +317,7 @@ below_itself a b h same = absurd (grind (arith, nat_tests))
 not_below : (a b : ℕ) → nat_lt a b ≡ false → a < b → ⊥
 not_below a b h lt = absurd (grind (arith, nat_tests))
 
+-- where the names rise, those that are below a number stand before all others
 pub partitioned : (ns : List Named) (q : ℕ) → NamesRise ns → IsPartitionedBy (λ (n : Named). nat_lt (number n.name) q) ns
 partitioned ns q h i j d le lt t = at (i == j) refl
   where

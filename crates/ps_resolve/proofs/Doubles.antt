@@ -33,6 +33,7 @@ defines_is (PublDef value) = refl
 defines_is (ConstDef value) = refl
 defines_is (Eof next) = refl
 
+-- there are as many definitions as records that define a name
 pub definitions_counted : (rs : List Record) → length (definitions rs) ≡ definitions_in rs
 definitions_counted [] = refl
 definitions_counted (r ∷ rs) = at (definitions_counted rs) (def_in r.body) refl
@@ -44,6 +45,7 @@ definitions_counted (r ∷ rs) = at (definitions_counted rs) (def_in r.body) ref
     at rest None h = let a = one false (defines_is r.body ∙ ap is_some h) in let b = ap length (none_entries 0 [] r rs h) in omega (arith, rest)
     at rest (Some d) h = let a = one true (defines_is r.body ∙ ap is_some h) in let b = ap length (new_entries 0 [] r rs d h) in omega (arith, rest)
 
+-- records that define nothing define no name again
 none_doubled : (rs : List Record) (n : ℕ) (ds : List (List ℕ × Def)) → definitions rs ≡ [] → doubled_from n ds rs ≡ None
 none_doubled [] n ds h = refl
 none_doubled (r ∷ rs) n ds h = at (λ e. none_doubled rs (n + 1) ds e) (def_in r.body) refl

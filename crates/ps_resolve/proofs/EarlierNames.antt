@@ -31,6 +31,7 @@ below_differs x y h = grind (arith, nat_tests)
 equal_is : (x y : ℕ) → x ≡ y → (x == y) ≡ false → ⊥
 equal_is x y e h = absurd (grind (arith, nat_tests))
 
+-- two numbers are the same, whichever is compared with the other
 flips : (x y : ℕ) → is_same x y ≡ is_same y x
 flips x y = at (x == y) refl (y == x) refl
   where
@@ -68,6 +69,7 @@ all_numbers P (s ∷ ss) all (suc n) r there is = all_numbers P ss (rest (is_pri
     rest true h = (subst (λ (xs : List ℕ). AllByRecursion P xs) (taken s ss h) all).1
     rest false h = subst (λ (xs : List ℕ). AllByRecursion P xs) (passed s ss h) all
 
+-- where the numbers of the names of privates are distinct, no private has the name of an earlier one
 none_again : (rs : List Record) → IsDistinct is_same (private_numbers rs) → (rec other : ℕ) (r q : Record) → slice_get rs rec ≡ Some r → is_private_reference r.body ≡ true
     → other < rec → slice_get rs other ≡ Some q → is_private_reference q.body ≡ true → q.name ≡ r.name → ⊥
 none_again [] d rec other r q there is lt before was name = let none : None ≡ Some r = there in cc
@@ -118,6 +120,7 @@ pub record Stands (all : List Record) (n : ℕ) (rs : List Record) : Type 0 wher
   pub whole : all ≡ prefix ++ rs
   pub count : n ≡ length prefix
 
+-- and so are, behind one more, those from the next index on
 abbrev pub further : (all : List Record) (n : ℕ) (r : Record) (rs : List Record) → Stands all n (r ∷ rs) → Stands all (n + 1) rs
 further all n r rs s = record {
   prefix = s.prefix ++ r ∷ [];
@@ -202,6 +205,7 @@ module _ (test : Body → Bool) (all : List Record) (seen : List (List ℕ)) (n 
     first = s.none;
   }
 
+-- where no record is left to look at, none of the kind has the name of an earlier one
 pub seek_end : (test : Body → Bool) (all : List Record) (seen : List (List ℕ)) (n : ℕ) → Seeks test all seen n [] → HaveNoNamesakes test all
 seek_end test all seen n s rec r e h =
     let long = ap length (s.stands.whole ∙ append-nil s.stands.prefix) in

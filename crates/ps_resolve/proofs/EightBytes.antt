@@ -38,11 +38,13 @@ record HasNames (s : Segment) : Type 0 where
   own : length s.name ≡ 8
   records : All IsWhole s.records
 
+-- what holds of all items holds of item k
 got : {X : Type 0} (P : X → Type 0) (xs : List X) (k : ℕ) (x : X) → slice_get xs k ≡ Some x → All P xs → P x
 got P [] k x h all = cc
 got P (y ∷ ys) zero x h all = let same : y ≡ x = same_Some _ _ h in subst P same (all 0 y (omega arith))
 got P (y ∷ ys) (suc k) x h all = got P ys k x h (All-tail P y ys all)
 
+-- where the names of records have eight bytes, so have those of the UNITREF records among them
 references_named : (file slot rec : ℕ) (rs : List Record) → All IsWhole rs → All IsNamed (unit_references file slot rec rs)
 references_named file slot rec [] all = All-nil IsNamed
 references_named file slot rec (r ∷ rs) all = by (is_unit_reference r.body) (all 0 r (omega arith)) (references_named file slot (rec + 1) rs (All-tail IsWhole r rs all))
@@ -52,6 +54,7 @@ references_named file slot rec (r ∷ rs) all = by (is_unit_reference r.body) (a
     by true h rest = All-cons IsNamed (record { name = r.name; file = file; slot = slot; rec = rec }) (unit_references file slot (rec + 1) rs) h rest
     by false h rest = rest
 
+-- so it is with the UNITREF records of all segments
 all_references_named : (ss : List Segment) → All HasNames ss → All IsNamed (all_unit_references ss)
 all_references_named [] all = All-nil IsNamed
 all_references_named (s ∷ ss) all =
@@ -61,6 +64,7 @@ one_more : (b : Bool) (row : List UnitReference) (g : UnitReference) → All IsN
 one_more true row g all h = all
 one_more false row g all h = All-append IsNamed row (g ∷ []) all (All-cons IsNamed g [] h (All-nil IsNamed))
 
+-- a row of names of eight bytes stays one, where the names that are then sought have eight bytes
 row_named : (units : List (List ℕ × ℕ)) (row gs : List UnitReference) → All IsNamed row → All IsNamed gs → All IsNamed (sought_from units row gs)
 row_named units row [] all rest = all
 row_named units row (g ∷ gs) all rest =
@@ -70,6 +74,7 @@ records_whole : ReadWhole → (order : Order) (file : List ℕ) (e : Entry) (b :
 records_whole law order file e true = law order (information_of file e)
 records_whole law order file e false = All-nil IsWhole
 
+-- a segment that is read with a name of eight bytes has that name, and records whose names have eight
 read_named : ReadWhole → (order : Order) (host : List ℕ) (libs : List (List ℕ)) (slot : ℕ) (name : List ℕ) (r : Role) (at : ℕ × ℕ) (s : Segment) → length name ≡ 8 → segment_from order host libs slot name r at ≡ Some s → HasNames s
 read_named law order host libs slot name r at s long h = by (result_ok (code_of file e)) h
   where
@@ -89,6 +94,7 @@ read_named law order host libs slot name r at s long h = by (result_ok (code_of 
 name_long : (host : List ℕ) (slot : ℕ) → 512 ≤ length host → slot < 16 → length (name_at host slot) ≡ 8
 name_long host slot long lt = omega (arith, length-take (64 + 8 * slot + 8 - (64 + 8 * slot)) (drop (64 + 8 * slot) host), length-drop (64 + 8 * slot) host)
 
+-- where the host has its whole dictionary, the own segment of a slot and its records have names of eight bytes
 own_named : ReadWhole → (order : Order) (host : List ℕ) (libs : List (List ℕ)) (slot : ℕ) (s : Segment) → 512 ≤ length host → slot < 16 → own_segment order host libs slot ≡ Some s → HasNames s
 own_named law order host libs slot s long lt h =
     let name = (entry_at order host slot).name in
@@ -96,6 +102,7 @@ own_named law order host libs slot s long lt h =
     option_and_then_some (segment_from order host libs slot name r) (source_of order host libs slot r) s rest (λ place there from.
     read_named law order host libs slot name r place s (name_long host slot long lt) from))
 
+-- a segment that is added for a name of eight bytes has that name, and records whose names have eight
 added_named : ReadWhole → (order : Order) (host : List ℕ) (libs : List (List ℕ)) (g : UnitReference) (slot : ℕ) (s : Segment) → IsNamed g → added_segment order host libs g slot ≡ Some s → HasNames s
 added_named law order host libs g slot s long h = by (option_and_then (segment_from order host libs slot g.name Wanted) (unit_source order g.name libs)) refl h
   where
@@ -107,6 +114,7 @@ added_named law order host libs g slot s long h = by (option_and_then (segment_f
         option_and_then_some (segment_from order host libs slot g.name Wanted) (unit_source order g.name libs) t e (λ place there from. read_named law order host libs slot g.name Wanted place t long from) in
         subst HasNames same (record { own = named.own; records = named.records })
 
+-- where each name of the row has eight bytes, so have those of the added segments and of their records
 rounds_named : ReadWhole → (order : Order) (host : List ℕ) (libs : List (List ℕ)) (units : List (List ℕ × ℕ)) (left : List ℕ) (k : ℕ) (row : List UnitReference) → All IsNamed row → All HasNames (rounds_from order host libs units left k row).added
 rounds_named law order host libs units [] k row all = All-nil HasNames
 rounds_named law order host libs units (slot ∷ left) k row all = by (λ next named. rounds_named law order host libs units left (k + 1) next named) (slice_get row k) refl
@@ -147,6 +155,7 @@ all_own : ReadWhole → (order : Order) (host : List ℕ) (libs : List (List ℕ
 unfolding own_segments
 all_own law order host libs long = row_has HasNames (own_segment order host libs) (λ x s lt e. own_named law order host libs x s long lt e) slots all_slots
 
+-- where the host has its whole dictionary, all added segments and their records have names of eight bytes
 all_added : ReadWhole → (order : Order) (host : List ℕ) (libs : List (List ℕ)) → 512 ≤ length host → All HasNames (added order host libs)
 unfolding rounds
 all_added law order host libs long =
@@ -154,6 +163,7 @@ all_added law order host libs long =
     let row = sought_from (units_of own) [] (all_unit_references own) in
     rounds_named law order host libs (units_of own) (empty_slots order host) 0 row (row_named (units_of own) [] (all_unit_references own) (All-nil IsNamed) (all_references_named own (all_own law order host libs long)))
 
+-- so it is with the segment of a slot, whether its own or an added one
 slot_named : ReadWhole → (order : Order) (host : List ℕ) (libs : List (List ℕ)) → 512 ≤ length host → (slot : ℕ) (s : Segment) → slot < 16 → segment_at order host libs slot ≡ Some s → HasNames s
 slot_named law order host libs long slot s lt h = by (own_segment order host libs slot) refl (is_role is_empty order host slot) refl
   where
@@ -166,6 +176,7 @@ all_named : ReadWhole → (order : Order) (host : List ℕ) (libs : List (List �
 unfolding segments
 all_named law order host libs long = row_has HasNames (segment_at order host libs) (λ x s lt e. slot_named law order host libs long x s lt e) slots all_slots
 
+-- where the host has its whole dictionary, each slot of the linked file has a name of eight bytes
 eight : (host : List ℕ) (ss : List Segment) → 512 ≤ length host → All HasNames ss → (slot : ℕ) → slot < 16 → length (slot_name host ss slot) ≡ 8
 eight host ss long all slot lt = by (find (λ (x : Segment). x.slot == slot) ss) refl
   where
@@ -173,6 +184,7 @@ eight host ss long all slot lt = by (find (λ (x : Segment). x.slot == slot) ss)
     by None e = name_long host slot long lt
     by (Some s) e = (find_has HasNames (λ (x : Segment). x.slot == slot) ss s e all).1.own
 
+-- names of eight bytes each, one behind another, have eight times as many bytes as there are names
 run : (f : ℕ → List ℕ) → (xs : List ℕ) → ((x : ℕ) → x < 16 → length (f x) ≡ 8) → All (λ (x : ℕ). x < 16) xs → length (flat_map (λ name. name) (map f xs)) ≡ 8 * length xs
 run f [] h all = refl
 run f (x ∷ xs) h all =
@@ -180,6 +192,7 @@ run f (x ∷ xs) h all =
     let rest = run f xs h (All-tail (λ (y : ℕ). y < 16) x xs all) in
     omega (arith, length-append (f x) (flat_map (λ name. name) (map f xs)), one, rest)
 
+-- where the host has its whole dictionary, the names of the sixteen slots have 128 bytes in all
 pub names_whole : ReadWhole → (order : Order) (host : List ℕ) (libs : List (List ℕ)) → 512 ≤ length host → length (flat_map (λ name. name) (slot_names host (segments order host libs))) ≡ 128
 unfolding slot_names
 names_whole law order host libs long =

@@ -11,6 +11,7 @@ follow_cons : (next : ℕ) (p : Private) (ps : List Private) → p.offset ≡ ne
 follow_cons next p ps e h zero d lt = omega (arith, e)
 follow_cons next p ps e h (suc k) d lt = h k d (omega arith) ∙ (let s = sum_by-cons (λ (q : Private). q.words) p (take k ps) in omega (arith, s))
 
+-- where privates follow on behind the words of records, they do so with the privates of these before them
 prefixed : (slot : ℕ) (rs : List Record) (rec next : ℕ) (tail : List Private) → FollowOn (next + private_words rs) tail → FollowOn next (allotted slot rec next rs ++ tail)
 prefixed slot [] rec next tail h = λ k d lt. h k d lt ∙ omega arith
 prefixed slot (r ∷ rs) rec next tail h = at (words_in r.body) refl (λ rec next. prefixed slot rs rec next tail)

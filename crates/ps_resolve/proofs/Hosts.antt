@@ -11,6 +11,7 @@ use Rattle.ps_codefile.specs.Roles.{is_linked, is_host}
 use Rattle.ps_resolve.specs.Sources.{Segment, host_of}
 use Rattle.ps_resolve.specs.Linkable.{HasOneHost}
 
+-- where a segment has the role of the host, its references are resolved
 host_linked : (r : Role) → is_host r ≡ true → is_linked r ≡ true
 host_linked Empty h = cc
 host_linked Wanted h = refl
@@ -18,6 +19,7 @@ host_linked Plain h = cc
 host_linked Host h = refl
 host_linked Unit h = refl
 
+-- what holds of all items holds of the one that is found
 found_holds : {X : Type 0} (P : X → Type 0) (q : X → Bool) (xs : List X) (x : X) → All P xs → find q xs ≡ Some x → P x
 found_holds P q [] x all h = cc
 found_holds {X} P q (y ∷ ys) x all h = at (q y) refl h (λ k. found_holds P q ys x (All-tail P y ys all) k)

@@ -24,18 +24,21 @@ inside_of : (code : List ℕ) (t : Target) (x : ℕ) → x + width_of t ≤ leng
 inside_of code (Slot slot) x h k = record { storable = tt; within = h }
 inside_of code (Base base) x h k = record { storable = omega arith; within = h }
 
+-- the edit of a reference that has no fault lies in the code and can be stored
 one_inside : (R : ℕ → Bool) (code : List ℕ) (t : Target) (x : ℕ) (os : List (ℕ × ℕ)) → reference_reason R code os t x ≡ None → IsInside (length code) (edit_of code t x)
 one_inside R code t x os h =
     let places = range_with_len x (width_of t) in
     let e = reasons_none (nat_lt (length code) (x + width_of t)) (list_any R places) (list_any (λ p. list_any (is_in p) os) places) (nat_lt 32767 (value_of code t x)) reason.OutsideCode reason.ReservedPlace reason.Overlap reason.OperandTooLarge h in
     inside_of code t x (not_below (length code) (x + width_of t) e.0) (not_below 32767 (value_of code t x) e.3)
 
+-- where no reference of a record has a fault, the edits of them lie in the code and can be stored
 refs_inside : (R : ℕ → Bool) (code : List ℕ) (t : Target) (xs : List ℕ) (i : ℕ) (os : List (ℕ × ℕ)) → refs_fault R code t i os xs ≡ None → All (IsInside (length code)) (map (edit_of code t) xs)
 refs_inside R code t [] i os h = All-nil (IsInside (length code))
 refs_inside R code t (x ∷ xs) i os h =
     let e = or_none (option_map (λ why. (i, why)) (reference_reason R code os t x)) (refs_fault R code t (i + 1) (os ++ (x, width_of t) ∷ []) xs) h in
     All-cons (IsInside (length code)) (edit_of code t x) (map (edit_of code t) xs) (one_inside R code t x os (map_none _ _ e.0)) (refs_inside R code t xs (i + 1) (os ++ (x, width_of t) ∷ []) e.1)
 
+-- where no record has a fault, the edits of all their references lie in the code and can be stored
 pub records_inside : (known : Known) (R : ℕ → Bool) (code : List ℕ) (rs : List Record) (rec off : ℕ) (os : List (ℕ × ℕ)) → records_fault known R code rec off os rs ≡ None → All (IsInside (length code)) (records_edits known code off rs)
 records_inside known R code [] rec off os h = All-nil (IsInside (length code))
 records_inside known R code (r ∷ rs) rec off os h = at (target_of known off r) refl (λ qs e. records_inside known R code rs (rec + 1) (off + words_taken r.body) qs e)

@@ -10,6 +10,7 @@ use Rattle.ps_resolve.specs.Linking.{Edited, edited_from}
 use Rattle.ps_resolve.specs.Plans.{LinkSegments, origin_of, origin_of_source}
 use Rattle.ps_resolve.specs.declared.plan.Source.{Source}
 
+-- lists of edits that link segments are as many as these
 linked_len : (order : Order) (es : List Edited) (ds : List (List Edit)) → LinkSegments order es ds → length ds ≡ length es
 linked_len order [] [] h = refl
 linked_len order [] (d ∷ ds) h = absurd h
@@ -20,6 +21,7 @@ edited_len : (order : Order) (known : Known) (words free : ℕ) (segs : List Seg
 edited_len order known words free [] = refl
 edited_len order known words free (s ∷ ss) = let r = edited_len order known words (free + private_words s.records) ss in omega (arith, r)
 
+-- the lists of edits that link segments are as many as the sources of these
 pub lengths : (order : Order) (known : Known) (words free : ℕ) (segs : List Segment) (ds : List (List Edit)) (sources : List Source) → LinkSegments order (edited_from order known words free segs) ds → map origin_of_source sources ≡ map origin_of segs
     → length ds ≡ length sources
 lengths order known words free segs ds sources h o =

@@ -46,6 +46,7 @@ any_of_take {A} test P d (suc n) (a ∷ items) =
 abbrev pub is_again : (Body → Bool) → List Record → ℕ × Record → Bool
 is_again test records r = test r.1.body && list_any (λ q. test q.body && bytes_eq r.1.name q.name) (take r.0 records)
 
+-- so it says whether the record is of the kind and has the name of an earlier one of the kind
 pub again : (test : Body → Bool) (records : List Record) (rec : ℕ) (r : Record) → Decides (is_again test records (rec, r)) (HasEarlierNamesake test records rec r)
 again test records rec r =
     Decides-and (test r.body) (list_any (λ q. test q.body && bytes_eq r.name q.name) (take rec records)) (of_test (test r.body))
@@ -88,6 +89,7 @@ known name (q ∷ prefix) =
         at true = refl
         at false = e
 
+-- one record more adds its definition, if it has one
 more_definitions : (prefix : List Record) (r : Record) → definitions (prefix ++ r ∷ []) ≡ definitions prefix ++ cons_option (definition_in r) []
 more_definitions [] r = refl
 more_definitions (q ∷ prefix) r = go (definition_in q) (more_definitions prefix r)
@@ -159,6 +161,7 @@ names rs = names_of is_private_reference rs
 abbrev pub has_name : (Body → Bool) → List ℕ → Record → Bool
 has_name test name q = test q.body && bytes_eq name q.name
 
+-- a name is among those of the records of a kind where one of these records has it
 pub seen_is : (test : Body → Bool) (name : List ℕ) (prefix : List Record) → list_any (bytes_eq name) (names_of test prefix) ≡ list_any (has_name test name) prefix
 seen_is test name [] = refl
 seen_is test name (q ∷ prefix) = go (test q.body) (seen_is test name prefix)
@@ -168,11 +171,13 @@ seen_is test name (q ∷ prefix) = go (test q.body) (seen_is test name prefix)
     go true e = ap (λ (b : Bool). bytes_eq name q.name || b) e
     go false e = e
 
+-- one record more adds its name, if it is of the kind
 pub more_names : (test : Body → Bool) (prefix : List Record) (r : Record) → names_of test (prefix ++ r ∷ []) ≡ names_of test prefix ++ names_of test (r ∷ [])
 more_names test prefix r =
     ap (λ (qs : List Record). map (λ (q : Record). q.name) qs) (filter-append (λ (q : Record). test q.body) prefix (r ∷ []))
     ∙ map-append (λ (q : Record). q.name) (filter (λ (q : Record). test q.body) prefix) (filter (λ (q : Record). test q.body) (r ∷ []))
 
+-- one record more adds the words of its private, if it asks for one
 pub more_words : (prefix : List Record) (r : Record) → private_words (prefix ++ r ∷ []) ≡ private_words prefix + words_taken r.body
 more_words [] r = go (words_in r.body) refl
   where

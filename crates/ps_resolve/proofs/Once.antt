@@ -56,6 +56,7 @@ none_at (Base base) x q h p k =
     at true s g i = let same : x ≡ p = eqb-true x p s in subst (λ (n : ℕ). q n ≡ false) same g
     at false s g i = let same : x + 1 ≡ p = grind (arith, nat_tests) in subst (λ (n : ℕ). q n ≡ false) same i
 
+-- where none of four reasons is given, none of their tests holds
 pub reasons_none : (a b c d : Bool) (r s t u : Reason) → option_or (fault_if a r) (option_or (fault_if b s) (option_or (fault_if c t) (fault_if d u))) ≡ None
     → (a ≡ false) × (b ≡ false) × (c ≡ false) × (d ≡ false)
 reasons_none true b c d r s t u h = cc
@@ -95,6 +96,7 @@ once_more R code t x os h o = record {
         let is : ◌≡◌ {A = ℕ} (cond {A = ℕ} (is_in p (x, width_of t)) 1 0) 0 = ap (λ (b : Bool). cond {A = ℕ} b 1 0) k in
         omega (arith, more p, is)
 
+-- the references of a record keep it so, where none of them has a fault
 pub refs_once : (R : ℕ → Bool) (code : List ℕ) (t : Target) (xs : List ℕ) (i : ℕ) (os : List (ℕ × ℕ)) → refs_fault R code t i os xs ≡ None → IsOnce R os → IsOnce R (os ++ operands t xs)
 refs_once R code t [] i os h o = rw append-nil o
 refs_once R code t (x ∷ xs) i os h o =
@@ -107,6 +109,7 @@ abbrev pub all_operands : Known → ℕ → List Record → List (ℕ × ℕ)
 all_operands known off [] = []
 all_operands known off (r ∷ rs) = (elim (target_of known off r) [ Err why ↦ [] | Ok t ↦ operands t (refs_of r.body) ]) ++ all_operands known (off + words_taken r.body) rs
 
+-- where no record has a fault, their operands, behind those before, cover no place twice and none that passes R
 pub records_once : (known : Known) (R : ℕ → Bool) (code : List ℕ) (rs : List Record) (rec off : ℕ) (os : List (ℕ × ℕ)) → records_fault known R code rec off os rs ≡ None → IsOnce R os → IsOnce R (os ++ all_operands known off rs)
 records_once known R code [] rec off os h o = rw append-nil o
 records_once known R code (r ∷ rs) rec off os h o = at (target_of known off r) refl (λ qs e g. records_once known R code rs (rec + 1) (off + words_taken r.body) qs e g)
@@ -127,6 +130,7 @@ same_counts : (code : List ℕ) (t : Target) (p : ℕ) (xs : List ℕ) → count
 same_counts code t p [] = refl
 same_counts code t p (x ∷ xs) = one_more (covers p) (edit_of code t x) (map (edit_of code t) xs) ∙ rw (same_places code t p x, same_counts code t p xs) (sym (one_more (is_in p) (x, width_of t) (operands t xs)))
 
+-- as many edits of the records cover a place as there are operands of them that have it
 pub counts_are : (known : Known) (code : List ℕ) (p : ℕ) (rs : List Record) (off : ℕ) → count_by (covers p) (records_edits known code off rs) ≡ count_by (is_in p) (all_operands known off rs)
 counts_are known code p [] off = refl
 counts_are known code p (r ∷ rs) off = at (target_of known off r) refl (counts_are known code p rs (off + words_taken r.body))

@@ -18,6 +18,7 @@ use Rattle.ps_resolve.proofs.Apart.{one_more}
 use Rattle.ps_resolve.proofs.Once.{IsOnce, all_operands, counts_are, records_once, none_once}
 use Rattle.ps_resolve.proofs.Inside.{records_inside}
 
+-- where two tests hold, it holds that either both do or a third one does
 either_true : (a b c : Bool) → a ≡ true → b ≡ true → ((a && b) || c) ≡ true
 either_true true true c h k = refl
 either_true true false c h k = cc
@@ -33,10 +34,12 @@ number_reserved order code h = either_true _ _ _ (le (length code) (procedures c
     lt : (n : ℕ) → 4 ≤ n → nat_lt (n - 2) n ≡ true
     lt n h = grind (arith, nat_tests)
 
+-- edits that cover no place twice, and only places that pass R
 record AreOwn (R : ℕ → Bool) (own : List Edit) : Type 0 where
   once : (p : ℕ) → count_by (covers p) own ≤ 1
   reserved : (p : ℕ) → 0 < count_by (covers p) own → R p ≡ true
 
+-- the number of the segment, and an edit of its tables if there is one, cover only reserved places, each once
 own_of : (order : Order) (code : List ℕ) (slot : ℕ) (table : Option Edit) → 4 ≤ length code → IfSome table (IsOfTable order code) → AreOwn (is_reserved order code) (Byte (length code - 2) slot ∷ option_to_list table)
 own_of order code slot None h d = record { once = λ p. once p (covers p number) refl; reserved = λ p lt. reserved p (covers p number) refl lt }
   where
@@ -81,6 +84,7 @@ own_of order code slot (Some e) h d = record { once = λ p. once p (covers p num
     reserved p false k true l lt = d.reserved p l
     reserved p false k false l lt = let s = bit (covers p number) false k in let t = bit (covers p e) false l in absurd (omega (arith, count p))
 
+-- own edits, and those of references that cover no place twice and no reserved one, together cover none twice
 beside : (R : ℕ → Bool) (known : Known) (code : List ℕ) (rs : List Record) (off : ℕ) (own : List Edit) → AreOwn R own → IsOnce R (all_operands known off rs)
     → (p : ℕ) → count_by (covers p) (own ++ records_edits known code off rs) ≤ 1
 beside R known code rs off own a o p = at (count_by (covers p) own) refl

@@ -8,17 +8,20 @@ use Rattle.ps_words.specs.declared.fault.Reason.TheVariants as reason
 use Rattle.ps_codefile.specs.declared.entry.Entry.{Entry}
 use Rattle.ps_codefile.specs.Dictionary.{code_of, has_bad_length, is_linked_kind}
 
+-- a code that is given has no bad length, is not cut short, and is the slice of its file
 whole_code : (bad zero short : Bool) (x code : List ℕ) → (if bad then Err reason.BadLength else (if zero then Err reason.BadAddress else (if short then Err reason.Truncated else Ok x))) ≡ Ok code → (bad ≡ false) × (short ≡ false) × (x ≡ code)
 whole_code true zero short x code h = cc
 whole_code false true short x code h = cc
 whole_code false false true x code h = cc
 whole_code false false false x code h = (refl, refl, cc)
 
+-- a slice of n bytes that ends within the file has n bytes
 length_within : (xs : List ℕ) (a n : ℕ) → ltb (length xs) (a + n) ≡ false → length (slice_range xs a (a + n)) ≡ n
 length_within xs a n h =
     let le : a + n ≤ length xs = grind (arith, nat_tests) in
     omega (arith, length-take (a + n - a) (drop a xs), length-drop a xs)
 
+-- a length that is not refused is 32767 at most
 small_code : (n : ℕ) (other : Bool) → (ltb 32767 n || other) ≡ false → n ≤ 32767
 small_code n other h = at (ltb 32767 n) refl
   where
@@ -26,6 +29,7 @@ small_code n other h = at (ltb 32767 n) refl
     at true q = let e : true ≡ false = rw q at h in cc
     at false q = grind (arith, nat_tests)
 
+-- the length of a linked segment that is not refused is 4 at least
 large_code : (n : ℕ) (long odd : Bool) → (long || (true && (odd || ltb n 4))) ≡ false → 4 ≤ n
 large_code n true odd h = cc
 large_code n false true h = cc
@@ -36,6 +40,7 @@ pub record IsWhole (e : Entry) (code : List ℕ) : Type 0 where
   pub small : e.length ≤ 32767
   pub large : is_linked_kind e.kind ≡ true → 4 ≤ e.length
 
+-- a code with which nothing is wrong has the length of its entry, which is within its limits
 pub whole : (file : List ℕ) (e : Entry) (code : List ℕ) → code_of file e ≡ Ok code → IsWhole e code
 whole file e code h =
     let parts = whole_code (has_bad_length e) (e.address == 0) (ltb (length file) (512 * e.address + e.length)) (slice_range file (512 * e.address) (512 * e.address + e.length)) code h in

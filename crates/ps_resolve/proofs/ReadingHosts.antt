@@ -41,6 +41,7 @@ host_is host o h = read_as (ltb (length host) 512) (file_order host) host o h
 abbrev pub rest_of : Order → List ℕ → List (List ℕ) → Option Fault
 rest_of order host libs = option_or (slots_fault order host) (option_or (no_host_fault order host) (option_or (libraries_fault order libs) (reading_rest order host libs)))
 
+-- where the host is read, the first fault of reading is that of what is looked at behind it
 pub host_read : (host : List ℕ) (libs : List (List ℕ)) (o : Opened) → opened host ≡ Ok o → reading_fault host libs ≡ rest_of o.order o.file libs
 unfolding reading_fault
 host_read host libs o h =

@@ -33,12 +33,14 @@ segment_with order host libs slot name r place code =
     let e = entry_at order file place.1 in
     record { slot = slot; name = name; role = r; added = false; file = place.0; index = place.1; code = code; records = records_of order file e (is_linked r) }
 
+-- so it is with whatever code, where one is given
 made : (order : Order) (host : List ℕ) (libs : List (List ℕ)) (slot : ℕ) (name : List ℕ) (r : Role) (place : ℕ × ℕ) (q : Result (List ℕ) Reason) (s : Segment) → option_map (segment_with order host libs slot name r place) (result_ok q) ≡ Some s → (s.slot ≡ slot) × (r ≡ s.role)
 made order host libs slot name r place (Err why) s h = cc
 made order host libs slot name r place (Ok code) s h =
     let same : segment_with order host libs slot name r place code ≡ s = same_Some _ _ h in
     (ap (λ (x : Segment). x.slot) (sym same), ap (λ (x : Segment). x.role) same)
 
+-- the own segment of a slot stands in the slot and has the role of it
 pub own_parts : (order : Order) (host : List ℕ) (libs : List (List ℕ)) (slot : ℕ) (s : Segment) → own_segment order host libs slot ≡ Some s → (s.slot ≡ slot) × (result_ok (role_of (entry_at order host slot)) ≡ Some s.role)
 own_parts order host libs slot s h =
     let name = (entry_at order host slot).name in
@@ -63,6 +65,7 @@ of_added order host libs g slot s h = by (option_and_then (segment_from order ho
 abbrev pub IsWanted : Segment → Type 0
 IsWanted s = s.role ≡ role.Wanted
 
+-- each segment that the rounds add has the role of a wanted unit
 rounds_wanted : (order : Order) (host : List ℕ) (libs : List (List ℕ)) (units : List (List ℕ × ℕ)) (left : List ℕ) (k : ℕ) (row : List UnitReference) → All IsWanted (rounds_from order host libs units left k row).added
 rounds_wanted order host libs units [] k row = All-nil IsWanted
 rounds_wanted order host libs units (slot ∷ left) k row = by (λ next. rounds_wanted order host libs units left (k + 1) next) (slice_get row k) refl
@@ -78,6 +81,7 @@ rounds_wanted order host libs units (slot ∷ left) k row = by (λ next. rounds_
     by rest None h = rw (h, rounds_from) (All-nil IsWanted)
     by rest (Some g) h = at rest g (placed_fault order host libs g slot) refl (added_segment order host libs g slot) refl h
 
+-- each added segment has the role of a wanted unit
 added_wanted : (order : Order) (host : List ℕ) (libs : List (List ℕ)) → All IsWanted (added order host libs)
 unfolding rounds
 added_wanted order host libs =
@@ -92,6 +96,7 @@ find_has {X} P test (y ∷ ys) x h all = by (λ e. find_has P test ys x e (All-t
     by rest true e = let same : y ≡ x = same_Some _ _ (rw e at h) in (subst (λ (z : X). test z ≡ true) same e, subst P same (all 0 y (omega arith)))
     by rest false e = rest (rw e at h)
 
+-- a slot whose role is Empty has not that of the host
 empty_role : (q : Result Role Reason) → option_map_or is_empty (result_ok q) false ≡ true → option_map_or is_host (result_ok q) false ≡ false
 empty_role (Err why) h = cc
 empty_role (Ok role.Empty) h = refl
@@ -123,11 +128,13 @@ fault_by : Order → List ℕ → Entry → ℕ → Result (List ℕ) Reason →
 fault_by order file e slot (Err why) = Some (in_slot 0 slot why)
 fault_by order file e slot (Ok code) = option_or (option_map (in_slot 0 slot) (tables_fault order code true)) (information_fault order file e 0 slot)
 
+-- where there is no such fault, a code is given
 is_ok_by : (order : Order) (file : List ℕ) (e : Entry) (slot : ℕ) (q : Result (List ℕ) Reason) → fault_by order file e slot q ≡ None → (code : List ℕ) × (q ≡ Ok code)
 unfolding fault_by
 is_ok_by order file e slot (Err why) h = cc
 is_ok_by order file e slot (Ok code) h = (code, refl)
 
+-- what passes the test for the role of the host is the role Host
 host_of_role : (q : Result Role Reason) → option_map_or is_host (result_ok q) false ≡ true → q ≡ Ok role.Host
 host_of_role (Err why) h = cc
 host_of_role (Ok role.Empty) h = cc
@@ -136,6 +143,7 @@ host_of_role (Ok role.Plain) h = cc
 host_of_role (Ok role.Host) h = refl
 host_of_role (Ok role.Unit) h = cc
 
+-- a slot with the role of the host has a segment, where its source has no fault
 slot_host : (order : Order) (host : List ℕ) (libs : List (List ℕ)) (slot : ℕ) → source_fault order host libs slot ≡ None → is_role is_host order host slot ≡ true → (s : Segment) × (segment_at order host libs slot ≡ Some s)
 unfolding fault_by
 slot_host order host libs slot none is =
@@ -147,6 +155,7 @@ slot_host order host libs slot none is =
     read_from_host order host libs slot role.Host of is_own_host ∙ ap (λ (q : Result (List ℕ) Reason). option_map (segment_with order host libs slot e.name role.Host (0, slot)) (result_ok q)) code.1 in
     (segment_with order host libs slot e.name role.Host (0, slot) code.0, rw own refl)
 
+-- where one of these slots has the role of the host, and no source a fault, one of their segments is a host's
 found_host : (order : Order) (host : List ℕ) (libs : List (List ℕ)) (xs : List ℕ) → list_any (is_role is_host order host) xs ≡ true → first_of (source_fault order host libs) xs ≡ None
     → is_some (find (λ (s : Segment). is_host s.role) (filter_map (segment_at order host libs) xs)) ≡ true
 found_host order host libs [] any none = any
@@ -197,6 +206,7 @@ or_assoc : (a b c : Bool) → (a || (b || c)) ≡ ((a || b) || c)
 or_assoc true b c = refl
 or_assoc false b c = refl
 
+-- a test holds of one of n + 1 numbers where it holds of one of the first n or of the last
 any_more : (p : ℕ → Bool) (a n : ℕ) → list_any p (range_with_len a (n + 1)) ≡ (list_any p (range_with_len a n) || p (a + n))
 any_more p a zero = or_false (p a) ∙ ap p (sym (add-zero a))
 any_more p a (suc n) =
@@ -207,6 +217,7 @@ any_more p a (suc n) =
     ∙ (or_assoc (p a) (list_any p (range_with_len (a + 1) n)) (p (a + 1 + n))
     ∙ ap (λ (k : ℕ). (p a || list_any p (range_with_len (a + 1) n)) || p k) last))
 
+-- a test holds of one of the numbers up to a where it holds of one below a or of a
 any_below : (p : ℕ → Bool) (a : ℕ) (b c : Bool) → list_any p (range_with_len 0 a) ≡ b → p a ≡ c → list_any p (range_with_len 0 (a + 1)) ≡ (b || c)
 any_below p a b c below here =
     let same : 0 + a ≡ a = omega arith in
@@ -226,6 +237,7 @@ both_not : (a b : Bool) → (a && b) ≡ false → b ≡ true → a ≡ false
 both_not true b h t = sym t ∙ h
 both_not false b h t = refl
 
+-- behind a slot with the role of the host no segment is a host's, where no slot has a fault
 not_host : (order : Order) (host : List ℕ) (libs : List (List ℕ)) (n a : ℕ) → first_of (slot_fault order host) (range_with_len a n) ≡ None → list_any (is_role is_host order host) (range_with_len 0 a) ≡ true
     → All (λ (s : Segment). is_host s.role ≡ false) (filter_map (segment_at order host libs) (range_with_len a n))
 not_host order host libs zero a none below = All-nil (λ (s : Segment). is_host s.role ≡ false)
@@ -247,6 +259,7 @@ none_found segs rest all = All-weaker (λ (s : Segment). is_host s.role ≡ fals
 abbrev rest_of : Order → List ℕ → List (List ℕ) → ℕ → ℕ → List Segment
 rest_of order host libs n a = filter_map (segment_at order host libs) (range_with_len a n)
 
+-- of the segments of slots without a fault, behind slots that are no host's, a host's is the first such
 one_from : (order : Order) (host : List ℕ) (libs : List (List ℕ)) (n a : ℕ) → first_of (slot_fault order host) (range_with_len a n) ≡ None → list_any (is_role is_host order host) (range_with_len 0 a) ≡ false
     → All (IsFound (rest_of order host libs n a)) (rest_of order host libs n a)
 one_from order host libs zero a none below = All-nil (IsFound (rest_of order host libs zero a))

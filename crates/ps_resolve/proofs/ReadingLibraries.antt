@@ -86,6 +86,7 @@ at_number p (x ∷ xs) n k file h = by (λ e. at_number p xs (n + 1) k file e) (
         let rest = further (rw q at h) in
         (suc rest.0, omega (arith, rest.1), rest.2)
 
+-- the chosen library, of number k from 0, is file k + 1, as the host is file 0
 pub chosen_file : (order : Order) (name : List ℕ) (files : List (List ℕ)) (k : ℕ) (file host : List ℕ) → chosen_library order name files ≡ Some (k, file) → file_at host files (k + 1) ≡ file
 chosen_file order name files k file host h =
     let there = at_number (λ (lib : ℕ × List ℕ). has_entry order name lib.1) files 0 k file h in

@@ -32,11 +32,13 @@ fault_as order host libs slot r = option_or (wanted_fault order host libs slot r
 abbrev segment_as : Order → List ℕ → List (List ℕ) → ℕ → Role → Option Segment
 segment_as order host libs slot r = option_and_then (segment_from order host libs slot (entry_at order host slot).name r) (source_of order host libs slot r)
 
+-- the fault of a slot of role Plain, Host or Unit is that of the code of the entry of the host there
 pub own_fault : (order : Order) (host : List ℕ) (libs : List (List ℕ)) (slot : ℕ) (r : Role) → role_of (entry_at order host slot) ≡ Ok r → IsOwn r → source_fault order host libs slot ≡ code_fault order host libs slot r (0, slot)
 own_fault order host libs slot r of is =
     ap (λ (q : Result Role Reason). option_and_then (fault_as order host libs slot) (result_ok q)) of
     ∙ own_each (λ (r : Role). fault_as order host libs slot r ≡ code_fault order host libs slot r (0, slot)) refl refl refl r is
 
+-- the own segment of a slot of role Plain, Host or Unit is read from the entry of the host there
 pub read_from_host : (order : Order) (host : List ℕ) (libs : List (List ℕ)) (slot : ℕ) (r : Role) → role_of (entry_at order host slot) ≡ Ok r → IsOwn r → own_segment order host libs slot ≡ segment_from order host libs slot (entry_at order host slot).name r (0, slot)
 read_from_host order host libs slot r of is =
     ap (λ (q : Result Role Reason). option_and_then (segment_as order host libs slot) (result_ok q)) of
@@ -70,6 +72,7 @@ pub all_with : {X : Type 0} (P : X → Type 0) (xs : List X) (o : Option X) → 
 all_with P xs None all h = All-append P xs [] all (All-nil P)
 all_with P xs (Some x) all h = All-append P xs (x ∷ []) all (All-cons P x [] h (All-nil P))
 
+-- those so far and those left are the same in all, when the one of number i, if there is one, joins those so far
 pub kept_on : {X Y : Type 0} (f : X → Y) (h : ℕ → Option Y) (xs : List X) (o : Option X) (i n : ℕ) → i < n → option_map f o ≡ h i
     → map f xs ++ filter_map h (range_with_len i (n - i)) ≡ map f (xs ++ option_to_list o) ++ filter_map h (range_with_len (i + 1) (n - (i + 1)))
 kept_on {X} {Y} f h xs o i n lt is =

@@ -42,6 +42,7 @@ three : (k : ℕ) (b : Bool) → (k == 3) ≡ b → fault_if (not b) (reason.Not
 three k true e h = grind (arith, nat_tests)
 three k false e h = cc
 
+-- so it is with the first entry of a name
 kind_from : (doubled : Bool) (first : Option ℕ) (kind : ℕ → ℕ) (i : ℕ) → reason_from doubled first kind ≡ None → first ≡ Some i → kind i ≡ 3
 kind_from true first kind i h e = cc
 kind_from false None kind i h e = cc

@@ -26,6 +26,7 @@ rec_before a b s r h = grind (arith, nat_tests)
 itself : (a b : ℕ) → (nat_lt a a || (a == a && nat_le b b)) ≡ true
 itself a b = grind (arith, nat_tests)
 
+-- the privates of the records of a segment rise, with those of later slots behind them
 prefixed : (slot : ℕ) (rs : List Record) (rec next : ℕ) (tail : List Private) → RiseFrom (slot + 1) 0 tail → RiseFrom slot rec (allotted slot rec next rs ++ tail)
 prefixed slot [] rec next tail h = weaker (slot + 1) 0 slot rec tail (λ p k. slot_over slot rec p.slot p.rec k) h
 prefixed slot (r ∷ rs) rec next tail h = at (words_in r.body) refl (λ rec next. prefixed slot rs rec next tail h)
@@ -34,6 +35,7 @@ prefixed slot (r ∷ rs) rec next tail h = at (words_in r.body) refl (λ rec nex
     at None e again = rw (e, allotted) (weaker slot (rec + 1) slot rec (allotted slot (rec + 1) next rs ++ tail) (λ p k. rec_before slot rec p.slot p.rec k) (again (rec + 1) next))
     at (Some w) e again = rw (e, allotted) (itself slot rec, again (rec + 1) (next + w))
 
+-- the privates of segments that stand by slot rise by slot and then by record
 pub rise : (next from : ℕ) (ss : List Owner) → AscendFrom from (map (λ s. s.slot) ss) → RiseFrom from 0 (all_allotted next ss)
 rise next from [] h = tt
 rise next from (s ∷ ss) h =
@@ -43,6 +45,7 @@ rise next from (s ∷ ss) h =
 chained : (a b s r t u : ℕ) → (nat_lt a s || (a == s && nat_le b r)) ≡ true → (nat_lt s t || (s == t && nat_le (r + 1) u)) ≡ true → (nat_lt a t || (a == t && nat_le b u)) ≡ true
 chained a b s r t u h k = grind (arith, nat_tests)
 
+-- where privates rise from a record on, each of them is of this record or of a later one
 all_behind : (a b : ℕ) (ps : List Private) (k : ℕ) (d : Private) → RiseFrom a b ps → k < length ps → is_from a b (get_or ps k d) ≡ true
 all_behind a b [] k d h lt = absurd (omega arith)
 all_behind a b (p ∷ ps) zero d h lt = h.0
@@ -64,6 +67,7 @@ is_before slot rec p = nat_lt p.slot slot || (p.slot == slot && nat_lt p.rec rec
 earlier : (a b s r t u : ℕ) → (nat_lt a s || (a == s && nat_le (b + 1) r)) ≡ true → (nat_lt s t || (s == t && nat_lt r u)) ≡ true → (nat_lt a t || (a == t && nat_lt b u)) ≡ true
 earlier a b s r t u h k = grind (arith, nat_tests)
 
+-- the privates that are of an earlier record stand before all others
 pub partitioned : (slot rec a b : ℕ) (ps : List Private) → RiseFrom a b ps → IsPartitionedBy (is_before slot rec) ps
 partitioned slot rec a b ps h i j d le lt t = at (i == j) refl
   where
@@ -76,6 +80,7 @@ partitioned slot rec a b ps h i j d le lt t = at (i == j) refl
         apart : (i j : ℕ) → i ≤ j → (i == j) ≡ false → i < j
         apart i j le s = grind (arith, nat_tests)
 
+-- an item that passes a test, where none before it does, is the one that is found
 first_find : {X : Type 0} (q : X → Bool) (xs : List X) (i : ℕ) (x : X) → ((k : ℕ) → k < i → q (get_or xs k x) ≡ false) → i < length xs → x ≡ get_or xs i x → q x ≡ true → find q xs ≡ Some x
 first_find q [] i x h lt is t = absurd (omega arith)
 first_find {X} q (y ∷ ys) zero x h lt is t =

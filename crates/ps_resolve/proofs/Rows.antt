@@ -24,6 +24,7 @@ use Rattle.ps_resolve.proofs.Apart.{one_more}
 use Rattle.ps_resolve.specs.declared.linkage.Stop.{Stop}
 use Rattle.ps_resolve.specs.declared.linkage.Stop.TheVariants.{Refused, Memory}
 
+-- the words of the privates of records are those that the first one takes and those of the others
 pub words_are : (r : Record) (rs : List Record) → private_words (r ∷ rs) ≡ words_taken r.body + private_words rs
 words_are r rs = at (words_in r.body) refl
   where

@@ -15,6 +15,7 @@ use Rattle.ps_resolve.specs.Added.{is_had, sought_from, unit_references, IsHad, 
 use Rattle.ps_resolve.specs.declared.reading.added.UnitReference.{UnitReference}
 use Rattle.ps_resolve.proofs.Adding.{row_prefix}
 
+-- where one of two tests holds, one of three does
 or_left : (a b c : Bool) → (a || b) ≡ true → (a || (b || c)) ≡ true
 or_left true b c h = refl
 or_left false true c h = refl

@@ -18,6 +18,7 @@ units_are (s ∷ ss) = rw (units_are ss) refl
 pub drop_at : {X : Type 0} (xs : List X) (i : ℕ) (x : X) → i < length xs → x ≡ get_or xs i x → drop i xs ≡ x ∷ drop (i + 1) xs
 drop_at {X} xs i x lt is = subst (λ (y : X). drop i xs ≡ y ∷ drop (i + 1) xs) (sym is) (rw (add-one, drop-cons xs i x))
 
+-- what holds of f of each item holds of f of the item at i
 pub at_map : {X Y : Type 0} (P : Y → Type 0) (f : X → Y) (xs : List X) (i : ℕ) (x : X) → i < length xs → x ≡ get_or xs i x → All P (map f xs) → P (f x)
 at_map P f [] i x lt is all = absurd (omega arith)
 at_map {X} P f (y ∷ ys) zero x lt is all = subst (λ (z : X). P (f z)) (sym is) (all 0 (f x) (omega arith))

@@ -34,6 +34,7 @@ use Rattle.ps_resolve.proofs.Apart.{one_more}
 use Rattle.ps_resolve.proofs.ReadingRows.{neither_second}
 use Rattle.ps_resolve.proofs.Rows.{NoLinks, record_refused, record_by, record_stands, edits_more, words_are}
 
+-- two segments whose records are those of their places have the same ones, where the places are the same
 like_by : (order : Order) (host : List ℕ) (libs : List (List ℕ)) (s q : SegmentView) → IsPlaced order host libs s → IsPlaced order host libs q → IsLike s q
 like_by order host libs s q hs hq ls lq file block =
     let same : reading order (drop (512 * s.block) (file_at host libs s.file)) ≡ reading order (drop (512 * q.block) (file_at host libs q.file)) =
@@ -58,6 +59,7 @@ pub found : {X : Type 0} (P : X → Type 0) (o : Option X) → is_some o ≡ tru
 found P None is h = cc
 found P (Some x) is h = (x, h)
 
+-- what holds of the first i items, and of the one at i, holds of the first i + 1
 taken_suc : {X : Type 0} (P : X → Type 0) (i : ℕ) (xs : List X) (x : X) → i < length xs → x ≡ get_or xs i x → All P (take i xs) → P x → All P (take (suc i) xs)
 taken_suc P i [] x lt is all h = absurd (omega arith)
 taken_suc P zero (y ∷ ys) x lt is all h = All-cons P y [] (subst P is h) (All-nil P)
@@ -94,6 +96,7 @@ have_targets known R code (r ∷ rs) n off os h = at (λ m free ps k. have_targe
         let behind = neither_second _ _ (sym (record_by known R code n off os r rs t e) ∙ h) in
         All-cons (HasTarget known) r rs (rebased known off 0 r t e) (rest (n + 1) (off + words_taken r.body) (os ++ operands t (refs_of r.body)) behind)
 
+-- a record that does not ask for a private takes no words
 no_words : (b : Body) → is_private_reference b ≡ false → words_taken b ≡ 0
 no_words (UnitRef refs) h = refl
 no_words (PublRef refs) h = refl

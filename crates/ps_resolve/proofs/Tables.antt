@@ -29,6 +29,7 @@ no_reason : (a b : Bool) (r s : Reason) → (if a then Some r else (if b then So
 no_reason true b r s h = cc
 no_reason false b r s h = refl
 
+-- where none of three tests holds, each of them fails
 three_false : (a b c : Bool) → (a || b || c) ≡ false → (a ≡ false) × (b ≡ false) × (c ≡ false)
 three_false true b c h = cc
 three_false false true c h = cc
@@ -39,11 +40,13 @@ not_false : (a : Bool) → not a ≡ false → a ≡ true
 not_false true h = refl
 not_false false h = cc
 
+-- where neither of two tests holds, each of them fails
 either_false : (a b : Bool) → (a || b) ≡ false → (a ≡ false) × (b ≡ false)
 either_false true b h = cc
 either_false false true h = cc
 either_false false false h = (refl, refl)
 
+-- what holds of all numbers from 1 on holds of 1
 first_holds : (p : ℕ → Bool) (n : ℕ) → 1 ≤ n → list_all p (range_with_len 1 n) ≡ true → p 1 ≡ true
 first_holds p zero h k = absurd (omega arith)
 first_holds p (suc n) h k = both (p 1) _ k
@@ -52,12 +55,14 @@ first_holds p (suc n) h k = both (p 1) _ k
     both true b h = refl
     both false b h = cc
 
+-- where a test holds or else two do, and the one fails, the two hold
 placed : (a b c : Bool) → (a || (b && c)) ≡ true → a ≡ false → (b ≡ true) × (c ≡ true)
 placed true b c h k = cc
 placed false true true h k = (refl, refl)
 placed false true false h k = cc
 placed false false c h k = cc
 
+-- where the tables of the code of a host have no fault, its outer block has a table in the bounds above
 pub outer : (order : Order) (code : List ℕ) → tables_fault order code true ≡ None → HasOuter order code
 outer order code h =
     let e = three_false (nat_lt (length code) (dictionary_len code)) (not (list_all (is_placed order code) (numbers code))) (procedures code == 0 || content_of order code 1 == 0)

@@ -56,6 +56,7 @@ first_taken tables words reserved p lt = reserved p ∙ sym (or_false (is_reserv
     or_false true = refl
     or_false false = refl
 
+-- whether one of four tests holds does not depend on which two of them are taken together
 or_over : (a b c d : Bool) → ((a || b) || (c || d)) ≡ ((a || c) || (b || d))
 or_over true b c d = refl
 or_over false true true d = refl

@@ -32,6 +32,7 @@ host_fault host = option_map (in_file 0) (result_err (opened host))
 abbrev pub is_role : (Role → Bool) → Order → List ℕ → ℕ → Bool
 is_role test order host slot = option_map_or test (result_ok (role_of (entry_at order host slot))) false
 
+-- why a slot is refused: by its kind, as a second host segment, or as a second unit of its name
 abbrev pub slot_reason : Order → List ℕ → ℕ → Option Reason
 slot_reason order host slot =
     option_or (result_err (role_of (entry_at order host slot)))
@@ -75,6 +76,7 @@ wanted_fault order host libs slot role = if is_wanted role then unit_fault order
 abbrev pub information_fault : Order → List ℕ → Entry → ℕ → ℕ → Option Fault
 information_fault order file e k slot = let read = reading order (information_of file e) in option_map (in_record k slot (length read.0)) read.1
 
+-- the first fault of the entry that a slot's code is from: of the code, then of a linked one's tables and records
 abbrev pub code_fault : Order → List ℕ → List (List ℕ) → ℕ → Role → ℕ × ℕ → Option Fault
 code_fault order host libs slot role at =
     let file = file_at host libs at.0 in

@@ -54,6 +54,7 @@ pub record LinksSegment (order : Order) (e : Edited) (edits : List Edit) : Type 
   pub each : IsPermutation e.edits edits
   pub bytes : (p : ℕ) → p < length e.segment.code → patched order e.segment.code edits p ≡ linked_byte order e p
 
+-- each list of edits links its segment, and there are as many lists as segments
 abbrev pub LinkSegments : Order → List Edited → List (List Edit) → Type 0
 LinkSegments order [] [] = ⊤
 LinkSegments order (e ∷ es) (d ∷ ds) = LinksSegment order e d × LinkSegments order es ds

@@ -72,6 +72,7 @@ pub record Segment : Type 0 where
   pub code : List ℕ
   pub records : List Record
 
+-- the segment that a slot gets from an entry of a file, with this name and role, where the entry has a code
 abbrev pub segment_from : Order → List ℕ → List (List ℕ) → ℕ → List ℕ → Role → ℕ × ℕ → Option Segment
 segment_from order host libs slot name role at =
     let file = file_at host libs at.0 in

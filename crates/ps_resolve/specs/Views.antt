@@ -14,6 +14,7 @@ use Rattle.ps_resolve.specs.Sources.{Segment, file_at}
 use Rattle.ps_resolve.specs.Faults.{is_role}
 use Rattle.ps_resolve.specs.declared.reading.segment.Segment.{Segment as SegmentView}
 
+-- a segment of the files, seen as a segment of the link
 abbrev pub segment_of : SegmentView → Segment
 segment_of s = record {
   slot = s.slot;

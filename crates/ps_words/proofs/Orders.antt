@@ -73,9 +73,11 @@ found_is es e p apart is on = at (find (covers p) es) refl
     at None none = let off = missing (covers p) es e none is in cc
     at (Some x) some = let h = found (covers p) es x some in ap Some (only_one es 0 p apart x e h.0 is h.1 on)
 
+-- a place that one of the edits covers has the byte that this edit stores there
 pub stored_where_covered : (order : Order) (code : List ℕ) (es : List Edit) (e : Edit) (p : ℕ) → AreApart 0 es → Contains es e → IsTrue (covers p e) → patched order code es p ≡ slice_index (stored order e) (p - place_of e)
 stored_where_covered order code es e p apart is on = rw (found_is es e p apart is on)
 
+-- a place that no edit covers keeps the code's own byte
 pub kept_where_not_covered : (order : Order) (code : List ℕ) (es : List Edit) (p : ℕ) → All (λ e. ¬ IsTrue (covers p e)) es → patched order code es p ≡ slice_index code p
 kept_where_not_covered order code es p none = rw (at (find (covers p) es) refl)
   where
@@ -83,6 +85,7 @@ kept_where_not_covered order code es p none = rw (at (find (covers p) es) refl)
     at None e = e
     at (Some x) e = let h = found (covers p) es x e in absurd (All-contains (λ (z : Edit). ¬ IsTrue (covers p z)) es x none h.0 h.1)
 
+-- of edits that stand apart, the one that covers a place is the same in whatever order they are listed
 same_find : (es fs : List Edit) (p : ℕ) → AreApart 0 es → IsPermutation es fs → find (covers p) es ≡ find (covers p) fs
 same_find es fs p apart perm = at (find (covers p) fs) refl
   where
@@ -97,5 +100,6 @@ same_find es fs p apart perm = at (find (covers p) fs) refl
     at None e = from (find (covers p) es) refl e
     at (Some x) e = let h = found (covers p) fs x e in found_is es x p apart (Contains-permutation fs es x back h.0) h.1
 
+-- so the byte at a place after the edits is the same in whatever order they are listed
 pub patched_alike : (order : Order) (code : List ℕ) (es fs : List Edit) (p : ℕ) → AreApart 0 es → IsPermutation es fs → patched order code es p ≡ patched order code fs p
 patched_alike order code es fs p apart perm = rw (same_find es fs p apart perm)
