@@ -97,25 +97,25 @@ fn a_host_reads_alike_in_either_order(rt: HostRuntime) -> Result<(), Fail> {
     for order in ORDERS {
         let file = base_host(order);
         let dict = Dict::read(&file)?;
-        assert_eq!(rt; dict.order(), order);
-        assert_eq!(rt; dict.entry(1), entry(b"DEMO    ", 1, 1, 18));
-        assert_eq!(rt; dict.entry(7), entry(b"UTIL    ", 3, 0, 0));
-        assert_eq!(rt; dict.entry(15), entry(b"        ", 0, 0, 0));
-        assert_eq!(rt; dict.names()[7], *b"UTIL    ");
-        assert_eq!(rt; dict.tail().len(), 256);
-        assert_eq!(rt; dict.tail().get(44).copied(), Some(0x2A));
+        assert!(rt; dict.order() == order);
+        assert!(rt; dict.entry(1) == entry(b"DEMO    ", 1, 1, 18));
+        assert!(rt; dict.entry(7) == entry(b"UTIL    ", 3, 0, 0));
+        assert!(rt; dict.entry(15) == entry(b"        ", 0, 0, 0));
+        assert!(rt; dict.names()[7] == *b"UTIL    ");
+        assert!(rt; dict.tail().len() == 256);
+        assert!(rt; dict.tail().get(44).copied() == Some(0x2A));
         for slot in 0..16 {
             let role = match slot {
                 1 => Role::Host,
                 7 => Role::Wanted,
                 _ => Role::Empty,
             };
-            assert_eq!(rt; dict.role(slot), Ok(role), "slot {slot}");
-            assert_eq!(rt; dict.filled(slot), slot == 1, "slot {slot}");
+            assert!(rt; dict.role(slot) == Ok(role), "slot {slot}");
+            assert!(rt; dict.filled(slot) == (slot == 1), "slot {slot}");
         }
-        assert_eq!(rt; dict.code(1)?, demo_code(order).as_slice());
+        assert!(rt; dict.code(1)? == demo_code(order).as_slice());
         let information = dict.after(1);
-        assert_eq!(rt; information.len(), 512);
+        assert!(rt; information.len() == 512);
         assert!(rt; information.starts_with(&count_record(order)));
     }
     Ok(())
@@ -126,15 +126,12 @@ fn a_library_reads_alike_in_either_order(rt: HostRuntime) -> Result<(), Fail> {
     for order in ORDERS {
         let file = base_library(order);
         let dict = Dict::read_beside(&file, order)?;
-        assert_eq!(rt; dict.order(), order);
-        assert_eq!(rt; dict.entry(2), entry(b"UTIL    ", 3, 1, 24));
-        assert_eq!(rt; dict.role(2), Ok(Role::Unit));
-        assert_eq!(rt; dict.code(2)?, util_code(order).as_slice());
-        assert_eq!(rt; dict.after(2).len(), 512);
-        assert_eq!(rt;
-            Dict::read_beside(&file, other(order)).err(),
-            Some(Reason::OrderMismatch)
-        );
+        assert!(rt; dict.order() == order);
+        assert!(rt; dict.entry(2) == entry(b"UTIL    ", 3, 1, 24));
+        assert!(rt; dict.role(2) == Ok(Role::Unit));
+        assert!(rt; dict.code(2)? == util_code(order).as_slice());
+        assert!(rt; dict.after(2).len() == 512);
+        assert!(rt; Dict::read_beside(&file, other(order)).err() == Some(Reason::OrderMismatch));
     }
     Ok(())
 }
@@ -142,37 +139,28 @@ fn a_library_reads_alike_in_either_order(rt: HostRuntime) -> Result<(), Fail> {
 #[test]
 fn a_file_of_no_order_takes_the_hosts(rt: HostRuntime) -> Result<(), Fail> {
     for order in ORDERS {
-        assert_eq!(rt; Dict::read_beside(&[0; 512], order)?.order(), order);
+        assert!(rt; Dict::read_beside(&[0; 512], order)?.order() == order);
     }
-    assert_eq!(rt; Dict::read(&[0; 512]).err(), Some(Reason::NoHost));
+    assert!(rt; Dict::read(&[0; 512]).err() == Some(Reason::NoHost));
     Ok(())
 }
 
 #[test]
 fn files_that_are_short_or_of_both_orders(rt: HostRuntime) {
     let mut file = base_host(Order::Little);
-    assert_eq!(rt; Dict::read(cut(&file, 511)).err(), Some(Reason::ShortFile));
-    assert_eq!(rt;
-        Dict::read_beside(cut(&file, 511), Order::Big).err(),
-        Some(Reason::ShortFile)
-    );
+    assert!(rt; Dict::read(cut(&file, 511)).err() == Some(Reason::ShortFile));
+    assert!(rt; Dict::read_beside(cut(&file, 511), Order::Big).err() == Some(Reason::ShortFile));
     file[193] = 1;
-    assert_eq!(rt; Dict::read(&file).err(), Some(Reason::NoOrder));
-    assert_eq!(rt;
-        Dict::read_beside(&file, Order::Little).err(),
-        Some(Reason::NoOrder)
-    );
+    assert!(rt; Dict::read(&file).err() == Some(Reason::NoOrder));
+    assert!(rt; Dict::read_beside(&file, Order::Little).err() == Some(Reason::NoOrder));
 }
 
 #[test]
 fn no_kind_has_a_high_byte(rt: HostRuntime) {
     let mut file = [0; 512];
     set_entry(&mut file, Order::Big, 8, &entry(b"UTIL    ", 65535, 1, 18));
-    assert_eq!(rt; Dict::read(&file).err(), Some(Reason::NoOrder));
-    assert_eq!(rt;
-        Dict::read_beside(&file, Order::Big).err(),
-        Some(Reason::NoOrder)
-    );
+    assert!(rt; Dict::read(&file).err() == Some(Reason::NoOrder));
+    assert!(rt; Dict::read_beside(&file, Order::Big).err() == Some(Reason::NoOrder));
 }
 
 /// The answer for a slot with address and length, and those without one of them or both.
@@ -219,9 +207,9 @@ fn roles_of_each_kind(rt: HostRuntime) -> Result<(), Fail> {
                 );
                 let dict = Dict::read_beside(&file, Order::Big)?;
                 let text = format!(in rt.alloc(); "kind {kind} address {address} length {length}")?;
-                assert_eq!(rt; dict.role(8), role, "{text}");
+                assert!(rt; dict.role(8) == role, "{text}");
                 let is_filled = length != 0 && (kind != 3 || address != 0);
-                assert_eq!(rt; dict.filled(8), is_filled, "{text}");
+                assert!(rt; dict.filled(8) == is_filled, "{text}");
             }
         }
     }
@@ -263,7 +251,7 @@ fn lengths_of_codes(rt: HostRuntime) -> Result<(), Fail> {
             } else {
                 Err(Reason::BadLength)
             };
-            assert_eq!(rt; answer, want, "kind {kind} length {length}");
+            assert!(rt; answer == want, "kind {kind} length {length}");
         }
     }
     Ok(())
@@ -272,15 +260,9 @@ fn lengths_of_codes(rt: HostRuntime) -> Result<(), Fail> {
 #[test]
 fn codes_that_are_not_whole(rt: HostRuntime) -> Result<(), Fail> {
     let mut file = base_host(Order::Big);
-    assert_eq!(rt; Dict::read(cut(&file, 530))?.code(1).is_ok(), true);
-    assert_eq!(rt;
-        Dict::read(cut(&file, 529))?.code(1),
-        Err(Reason::Truncated)
-    );
-    assert_eq!(rt;
-        Dict::read(cut(&file, 512))?.code(1),
-        Err(Reason::Truncated)
-    );
+    assert!(rt; Dict::read(cut(&file, 530))?.code(1).is_ok() == true);
+    assert!(rt; Dict::read(cut(&file, 529))?.code(1) == Err(Reason::Truncated));
+    assert!(rt; Dict::read(cut(&file, 512))?.code(1) == Err(Reason::Truncated));
     for (address, length, reason) in [
         (0, 17, Reason::BadLength),
         (0, 18, Reason::BadAddress),
@@ -294,9 +276,8 @@ fn codes_that_are_not_whole(rt: HostRuntime) -> Result<(), Fail> {
             1,
             &entry(b"DEMO    ", 1, address, length),
         );
-        assert_eq!(rt;
-            Dict::read(&file)?.code(1),
-            Err(reason),
+        assert!(rt;
+            Dict::read(&file)?.code(1) == Err(reason),
             "address {address} length {length}"
         );
     }
@@ -319,16 +300,15 @@ fn what_follows_a_code(rt: HostRuntime) -> Result<(), Fail> {
             1,
             &entry(b"DEMO    ", 1, address, length),
         );
-        assert_eq!(rt;
-            Dict::read(&file)?.after(1).len(),
-            after,
+        assert!(rt;
+            Dict::read(&file)?.after(1).len() == after,
             "address {address} length {length}"
         );
     }
     set_entry(&mut file, Order::Little, 1, &entry(b"DEMO    ", 1, 1, 18));
-    assert_eq!(rt; Dict::read(cut(&file, 1025))?.after(1), b"C".as_slice());
-    assert_eq!(rt; Dict::read(cut(&file, 1024))?.after(1).len(), 0);
-    assert_eq!(rt; Dict::read(cut(&file, 1023))?.after(1).len(), 0);
+    assert!(rt; Dict::read(cut(&file, 1025))?.after(1) == b"C".as_slice());
+    assert!(rt; Dict::read(cut(&file, 1024))?.after(1).len() == 0);
+    assert!(rt; Dict::read(cut(&file, 1023))?.after(1).len() == 0);
     Ok(())
 }
 
@@ -337,22 +317,20 @@ fn procedures_of_the_base_codes(rt: HostRuntime) -> Result<(), Fail> {
     for order in ORDERS {
         let code = util_code(order);
         let procs = Procs::read(order, &code, false)?;
-        assert_eq!(rt; procs.count(), 1);
-        assert_eq!(rt; procs.table(1), Some(18));
-        assert_eq!(rt; procs.start(), 20);
+        assert!(rt; procs.count() == 1);
+        assert!(rt; procs.table(1) == Some(18));
+        assert!(rt; procs.start() == 20);
         for place in 0..40 {
-            assert_eq!(rt;
-                procs.is_reserved(place),
-                10 <= place && place <= 23,
+            assert!(rt;
+                procs.is_reserved(place) == (10 <= place && place <= 23),
                 "place {place}"
             );
         }
         let code = demo_code(order);
         let procs = Procs::read(order, &code, true)?;
         for place in 0..40 {
-            assert_eq!(rt;
-                procs.is_reserved(place),
-                4 <= place && place <= 17,
+            assert!(rt;
+                procs.is_reserved(place) == (4 <= place && place <= 17),
                 "place {place}"
             );
         }
@@ -406,11 +384,12 @@ fn tables_that_are_refused(rt: HostRuntime) -> Result<(), Fail> {
         let code = code_of(rt.alloc(), &[], &words)?;
         assert!(rt; code.len() >= 2);
         let answer = Procs::read(Order::Little, &code, host).err();
-        assert_eq!(rt;
-            answer,
-            want,
+        assert!(rt;
+            answer == want,
             "{} {} {} {host}",
-            words[0], words[2], words[3]
+            words[0],
+            words[2],
+            words[3]
         );
     }
     Ok(())
@@ -421,13 +400,12 @@ fn tables_that_coincide(rt: HostRuntime) -> Result<(), Fail> {
     let code = code_of(rt.alloc(), &[], &[2, 0, 4, 0])?;
     assert!(rt; code.len() >= 2);
     let procs = Procs::read(Order::Little, &code, true)?;
-    assert_eq!(rt; procs.count(), 2);
-    assert_eq!(rt; procs.table(1), Some(9));
-    assert_eq!(rt; procs.table(2), Some(9));
+    assert!(rt; procs.count() == 2);
+    assert!(rt; procs.table(1) == Some(9));
+    assert!(rt; procs.table(2) == Some(9));
     for place in 0..30 {
-        assert_eq!(rt;
-            procs.is_reserved(place),
-            1 <= place && place <= 16,
+        assert!(rt;
+            procs.is_reserved(place) == (1 <= place && place <= 16),
             "place {place}"
         );
     }
@@ -439,13 +417,13 @@ fn a_procedure_without_a_body(rt: HostRuntime) -> Result<(), Fail> {
     let code = code_of(rt.alloc(), &[0xAB, 0xAB, 0xAB], &[0, 0, 7, 0])?;
     assert!(rt; code.len() >= 2);
     let procs = Procs::read(Order::Little, &code, true)?;
-    assert_eq!(rt; procs.count(), 2);
-    assert_eq!(rt; procs.table(1), Some(9));
-    assert_eq!(rt; procs.table(2), None);
-    assert_eq!(rt; procs.start(), 14);
+    assert!(rt; procs.count() == 2);
+    assert!(rt; procs.table(1) == Some(9));
+    assert!(rt; procs.table(2) == None);
+    assert!(rt; procs.start() == 14);
     for place in 0..30 {
         let is_reserved = 1 <= place && place <= 10 || 14 <= place && place <= 19;
-        assert_eq!(rt; procs.is_reserved(place), is_reserved, "place {place}");
+        assert!(rt; procs.is_reserved(place) == is_reserved, "place {place}");
     }
     Ok(())
 }
@@ -459,7 +437,7 @@ fn each_table_is_reserved(rt: HostRuntime) -> Result<(), Fail> {
         let procs = Procs::read(Order::Little, &code, true)?;
         for place in 0..30 {
             let is_reserved = 1 <= place && place <= 10 || 12 <= place && place <= 27;
-            assert_eq!(rt; procs.is_reserved(place), is_reserved, "place {place}");
+            assert!(rt; procs.is_reserved(place) == is_reserved, "place {place}");
         }
     }
     Ok(())
@@ -468,36 +446,26 @@ fn each_table_is_reserved(rt: HostRuntime) -> Result<(), Fail> {
 #[test]
 fn few_procedures_and_many(rt: HostRuntime) -> Result<(), Fail> {
     let procs = Procs::read(Order::Big, &[0xD7, 7, 0], false)?;
-    assert_eq!(rt; procs.count(), 0);
-    assert_eq!(rt; procs.start(), 1);
+    assert!(rt; procs.count() == 0);
+    assert!(rt; procs.start() == 1);
     for place in 0..9 {
-        assert_eq!(rt;
-            procs.is_reserved(place),
-            place == 1 || place == 2,
+        assert!(rt;
+            procs.is_reserved(place) == (place == 1 || place == 2),
             "place {place}"
         );
     }
-    assert_eq!(rt;
-        Procs::read(Order::Big, &[0xD7, 7, 0], true).err(),
-        Some(Reason::BadProcDict)
-    );
+    assert!(rt; Procs::read(Order::Big, &[0xD7, 7, 0], true).err() == Some(Reason::BadProcDict));
     // a dictionary as long as the code, and longer ones
-    assert_eq!(rt; Procs::read(Order::Big, &[0, 0, 7, 1], false)?.start(), 0);
-    assert_eq!(rt;
-        Procs::read(Order::Big, &[0, 0, 7, 2], false).err(),
-        Some(Reason::BadProcDict)
-    );
-    assert_eq!(rt;
-        Procs::read(Order::Big, &[7, 1], false).err(),
-        Some(Reason::BadProcDict)
-    );
+    assert!(rt; Procs::read(Order::Big, &[0, 0, 7, 1], false)?.start() == 0);
+    assert!(rt; Procs::read(Order::Big, &[0, 0, 7, 2], false).err() == Some(Reason::BadProcDict));
+    assert!(rt; Procs::read(Order::Big, &[7, 1], false).err() == Some(Reason::BadProcDict));
     let words = [0; 510];
     let code = code_of(rt.alloc(), &[], &words)?;
     assert!(rt; code.len() >= 2);
     let procs = Procs::read(Order::Big, &code, false)?;
-    assert_eq!(rt; procs.count(), 255);
-    assert_eq!(rt; procs.table(255), None);
-    assert_eq!(rt; procs.start(), 11);
+    assert!(rt; procs.count() == 255);
+    assert!(rt; procs.table(255) == None);
+    assert!(rt; procs.start() == 11);
     Ok(())
 }
 
@@ -505,15 +473,15 @@ fn few_procedures_and_many(rt: HostRuntime) -> Result<(), Fail> {
 fn a_table_as_far_from_the_end_as_can_be(rt: HostRuntime) -> Result<(), Fail> {
     let mut code = Vec::from_elem(rt.alloc(), 0xD7, 70000)?;
     let bytes = code.as_mut_slice();
-    assert_eq!(rt; bytes.len(), 70000);
+    assert!(rt; bytes.len() == 70000);
     bytes[69488..70000].fill(0);
     bytes[69488..69490].fill(0xFF);
     bytes[69999] = 255;
     assert!(rt; code.len() >= 2);
     let procs = Procs::read(Order::Little, &code, false)?;
-    assert_eq!(rt; procs.count(), 255);
-    assert_eq!(rt; procs.table(255), Some(3953));
-    assert_eq!(rt; procs.start(), 69488);
+    assert!(rt; procs.count() == 255);
+    assert!(rt; procs.table(255) == Some(3953));
+    assert!(rt; procs.start() == 69488);
     for (place, is_reserved) in [
         (0, false),
         (3887, false),
@@ -528,7 +496,7 @@ fn a_table_as_far_from_the_end_as_can_be(rt: HostRuntime) -> Result<(), Fail> {
         (70000, false),
         (usize::MAX, false),
     ] {
-        assert_eq!(rt; procs.is_reserved(place), is_reserved, "place {place}");
+        assert!(rt; procs.is_reserved(place) == is_reserved, "place {place}");
     }
     Ok(())
 }

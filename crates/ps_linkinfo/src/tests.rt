@@ -138,13 +138,13 @@ fn the_records_of_a_unit(rt: HostRuntime) -> Result<(), Fail> {
         let records = read_records(rt.alloc(), order, bytes)
             .ok()
             .ok_or("the information is whole")?;
-        assert_eq!(rt; records.len(), 3);
+        assert!(rt; records.len() == 3);
         assert!(rt; is_public(&records[0], COUNT, &[1]));
         assert!(rt; is_private(&records[1], STATE, 4, &[4]));
         assert!(rt; is_end(&records[2], 0));
-        assert_eq!(rt; records[0].size(), 32);
-        assert_eq!(rt; records[1].size(), 32);
-        assert_eq!(rt; records[2].size(), 16);
+        assert!(rt; records[0].size() == 32);
+        assert!(rt; records[1].size() == 32);
+        assert!(rt; records[2].size() == 16);
     }
     Ok(())
 }
@@ -153,15 +153,15 @@ fn the_records_of_a_unit(rt: HostRuntime) -> Result<(), Fail> {
 fn a_walk_over_the_records_of_a_unit(rt: HostRuntime) {
     for (order, bytes) in [(Order::Little, &LITTLE), (Order::Big, &BIG)] {
         let mut walk = Records::new(order, bytes);
-        assert_eq!(rt; walk.used(), 0);
+        assert!(rt; walk.used() == 0);
         assert!(rt; matches!(walk.next(), Some(Ok(record)) if is_public(&record, COUNT, &[1])));
-        assert_eq!(rt; walk.used(), 32);
+        assert!(rt; walk.used() == 32);
         assert!(rt; matches!(walk.next(), Some(Ok(record)) if is_private(&record, STATE, 4, &[4])));
-        assert_eq!(rt; walk.used(), 64);
+        assert!(rt; walk.used() == 64);
         assert!(rt; matches!(walk.next(), Some(Ok(record)) if is_end(&record, 0)));
         assert!(rt; walk.next().is_none());
         assert!(rt; walk.next().is_none());
-        assert_eq!(rt; walk.used(), 80);
+        assert!(rt; walk.used() == 80);
     }
 }
 
@@ -173,12 +173,12 @@ fn a_walk_gives_its_fault_once(rt: HostRuntime) {
     assert!(rt; matches!(walk.next(), Some(Err(Reason::RecordsTruncated))));
     assert!(rt; walk.next().is_none());
     assert!(rt; walk.next().is_none());
-    assert_eq!(rt; walk.used(), 64);
+    assert!(rt; walk.used() == 64);
 
     let mut empty = Records::new(Order::Little, &[]);
     assert!(rt; matches!(empty.next(), Some(Err(Reason::RecordsTruncated))));
     assert!(rt; empty.next().is_none());
-    assert_eq!(rt; empty.used(), 0);
+    assert!(rt; empty.used() == 0);
 }
 
 #[test]
@@ -186,13 +186,12 @@ fn information_that_is_cut(rt: HostRuntime) {
     for (order, bytes) in [(Order::Little, &LITTLE), (Order::Big, &BIG)] {
         for (len, rec) in [(79, 2), (64, 2), (31, 0), (0, 0)] {
             let cut = bytes.get(..len).unwrap_or(&[]);
-            assert_eq!(rt;
-                refusal(rt.alloc(), order, cut),
-                refused(rec, Reason::RecordsTruncated),
+            assert!(rt;
+                refusal(rt.alloc(), order, cut) == refused(rec, Reason::RecordsTruncated),
                 "of {len} bytes"
             );
         }
-        assert_eq!(rt; refusal(rt.alloc(), order, bytes), None);
+        assert!(rt; refusal(rt.alloc(), order, bytes) == None);
     }
 }
 
@@ -206,9 +205,9 @@ fn lists_come_in_pieces_of_eight_words(rt: HostRuntime) -> Result<(), Fail> {
             let records = read_records(rt.alloc(), order, &bytes)
                 .ok()
                 .ok_or("the list is whole")?;
-            assert_eq!(rt; records.len(), 2);
+            assert!(rt; records.len() == 2);
             assert!(rt; is_public(&records[0], BLANK, refs), "{count} references");
-            assert_eq!(rt; records[0].size(), size);
+            assert!(rt; records[0].size() == size);
         }
     }
     Ok(())
@@ -218,17 +217,14 @@ fn lists_come_in_pieces_of_eight_words(rt: HostRuntime) -> Result<(), Fail> {
 fn the_longest_list(rt: HostRuntime) -> Result<(), Fail> {
     let list = Vec::from_elem(rt.alloc(), 7, 65535)?;
     let mut bytes = information(rt.alloc(), Order::Big, [3, 2, 65535, 0], &list)?;
-    assert_eq!(rt; bytes.len(), 131088 + 16);
+    assert!(rt; bytes.len() == 131088 + 16);
     let mut walk = Records::new(Order::Big, &bytes);
     assert!(rt; matches!(walk.next(), Some(Ok(record)) if is_public(&record, BLANK, &list)));
-    assert_eq!(rt; walk.used(), 131088);
-    assert_eq!(rt; refusal(rt.alloc(), Order::Big, &bytes), None);
+    assert!(rt; walk.used() == 131088);
+    assert!(rt; refusal(rt.alloc(), Order::Big, &bytes) == None);
 
     bytes.truncate(131087);
-    assert_eq!(rt;
-        refusal(rt.alloc(), Order::Big, &bytes),
-        refused(0, Reason::RecordsTruncated)
-    );
+    assert!(rt; refusal(rt.alloc(), Order::Big, &bytes) == refused(0, Reason::RecordsTruncated));
     Ok(())
 }
 
@@ -241,7 +237,7 @@ fn nothing_behind_the_end_is_read(rt: HostRuntime) -> Result<(), Fail> {
     let records = read_records(rt.alloc(), Order::Little, &bytes)
         .ok()
         .ok_or("the information ends")?;
-    assert_eq!(rt; records.len(), 1);
+    assert!(rt; records.len() == 1);
     assert!(rt; is_end(&records[0], 5));
     Ok(())
 }
@@ -272,7 +268,7 @@ fn every_type(rt: HostRuntime) -> Result<(), Fail> {
             (65535, 2, unknown),
         ] {
             let bytes = information(rt.alloc(), order, [kind, format, 0, 0], &[])?;
-            assert_eq!(rt; refusal(rt.alloc(), order, &bytes), want, "type {kind}");
+            assert!(rt; refusal(rt.alloc(), order, &bytes) == want, "type {kind}");
         }
     }
     Ok(())
@@ -290,9 +286,8 @@ fn every_format(rt: HostRuntime) -> Result<(), Fail> {
         ] {
             for (format, want) in (0..4).zip(wants) {
                 let bytes = information(rt.alloc(), order, [kind, format, 1, 0], &[9])?;
-                assert_eq!(rt;
-                    refusal(rt.alloc(), order, &bytes),
-                    want,
+                assert!(rt;
+                    refusal(rt.alloc(), order, &bytes) == want,
                     "type {kind}, format {format}"
                 );
             }
@@ -304,20 +299,11 @@ fn every_format(rt: HostRuntime) -> Result<(), Fail> {
 #[test]
 fn a_format_is_looked_at_before_the_list(rt: HostRuntime) -> Result<(), Fail> {
     let native = information(rt.alloc(), Order::Little, [1, 0, 9, 0], &[])?;
-    assert_eq!(rt;
-        refusal(rt.alloc(), Order::Little, &native),
-        refused(0, Reason::NativeRecord)
-    );
+    assert!(rt; refusal(rt.alloc(), Order::Little, &native) == refused(0, Reason::NativeRecord));
     let other = information(rt.alloc(), Order::Little, [1, 2, 9, 0], &[])?;
-    assert_eq!(rt;
-        refusal(rt.alloc(), Order::Little, &other),
-        refused(0, Reason::BadFormat)
-    );
+    assert!(rt; refusal(rt.alloc(), Order::Little, &other) == refused(0, Reason::BadFormat));
     let cut = information(rt.alloc(), Order::Little, [1, 1, 9, 0], &[])?;
-    assert_eq!(rt;
-        refusal(rt.alloc(), Order::Little, &cut),
-        refused(0, Reason::RecordsTruncated)
-    );
+    assert!(rt; refusal(rt.alloc(), Order::Little, &cut) == refused(0, Reason::RecordsTruncated));
     Ok(())
 }
 
@@ -370,7 +356,7 @@ fn the_information_of_a_unit_is_read_once(rt: HostRuntime) -> Result<(), Fail> {
             .ok()
             .ok_or("the information is whole")?;
         assert!(rt; !info.is_empty());
-        assert_eq!(rt; counts(&info), [3, 0, 1, 1, 0, 2, 0]);
+        assert!(rt; counts(&info) == [3, 0, 1, 1, 0, 2, 0]);
         let mut walk = info.records();
         assert!(rt; matches!(walk.next(), Some((0, record)) if is_public(&record, COUNT, &[1])));
         assert!(rt;
@@ -382,7 +368,7 @@ fn the_information_of_a_unit_is_read_once(rt: HostRuntime) -> Result<(), Fail> {
 
         let mut names = DefaultHasher::new();
         names.write(&STATE);
-        assert_eq!(rt; info.digest().finish(), names.finish());
+        assert!(rt; info.digest().finish() == names.finish());
     }
     Ok(())
 }
@@ -399,7 +385,7 @@ fn definitions_and_a_unit_are_counted(rt: HostRuntime) -> Result<(), Fail> {
     let info = LinkInformation::read(Order::Little, &bytes)
         .ok()
         .ok_or("the information ends")?;
-    assert_eq!(rt; counts(&info), [4, 2, 0, 0, 1, 0, 264]);
+    assert!(rt; counts(&info) == [4, 2, 0, 0, 1, 0, 264]);
     let mut walk = info.records();
     assert!(rt;
         matches!(walk.next(), Some((0, record)) if is_definition(&record, LIMIT, None, Some(9)))
@@ -414,7 +400,7 @@ fn definitions_and_a_unit_are_counted(rt: HostRuntime) -> Result<(), Fail> {
     let mut names = DefaultHasher::new();
     names.write(&LIMIT);
     names.write(&COUNT);
-    assert_eq!(rt; info.digest().finish(), names.finish());
+    assert!(rt; info.digest().finish() == names.finish());
     Ok(())
 }
 
@@ -423,22 +409,18 @@ fn the_first_fault_is_found_in_one_pass(rt: HostRuntime) -> Result<(), Fail> {
     for (order, bytes) in [(Order::Little, &LITTLE), (Order::Big, &BIG)] {
         for (len, rec) in [(79, 2), (64, 2), (63, 1), (31, 0), (0, 0)] {
             let cut = bytes.get(..len).unwrap_or(&[]);
-            assert_eq!(rt;
-                read_fault(order, cut),
-                fault(rec, Reason::RecordsTruncated),
+            assert!(rt;
+                read_fault(order, cut) == fault(rec, Reason::RecordsTruncated),
                 "of {len} bytes"
             );
         }
-        assert_eq!(rt; read_fault(order, bytes), None);
+        assert!(rt; read_fault(order, bytes) == None);
 
         let mut separate = information(rt.alloc(), order, [4, 2, 1, 3], &[7])?;
         separate.truncate(32);
         let rest = information(rt.alloc(), order, [11, 2, 0, 0], &[])?;
         separate.extend_from_slice(&rest)?;
-        assert_eq!(rt;
-            read_fault(order, &separate),
-            fault(1, Reason::SeparateRecord)
-        );
+        assert!(rt; read_fault(order, &separate) == fault(1, Reason::SeparateRecord));
     }
     Ok(())
 }
@@ -447,7 +429,7 @@ fn the_first_fault_is_found_in_one_pass(rt: HostRuntime) -> Result<(), Fail> {
 fn no_records_at_all(rt: HostRuntime) {
     let none = LinkInformation::none();
     assert!(rt; none.is_empty());
-    assert_eq!(rt; counts(&none), [0; 7]);
+    assert!(rt; counts(&none) == [0; 7]);
     assert!(rt; none.records().next().is_none());
-    assert_eq!(rt; none.digest().finish(), DefaultHasher::new().finish());
+    assert!(rt; none.digest().finish() == DefaultHasher::new().finish());
 }

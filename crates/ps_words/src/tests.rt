@@ -6,29 +6,29 @@ use std::test::Fail;
 #[test]
 fn words_stand_in_either_order(rt: HostRuntime) {
     let mut bytes = [0x0A, 0x02, 0x77];
-    assert_eq!(rt; get(Order::Little, &bytes, 0), 522);
-    assert_eq!(rt; get(Order::Big, &bytes, 0), 2562);
+    assert!(rt; get(Order::Little, &bytes, 0) == 522);
+    assert!(rt; get(Order::Big, &bytes, 0) == 2562);
     put(Order::Little, &mut bytes, 1, 522);
-    assert_eq!(rt; bytes, [0x0A, 0x0A, 0x02]);
+    assert!(rt; bytes == [0x0A, 0x0A, 0x02]);
     put(Order::Big, &mut bytes, 1, 522);
-    assert_eq!(rt; bytes, [0x0A, 0x02, 0x0A]);
+    assert!(rt; bytes == [0x0A, 0x02, 0x0A]);
 }
 
 #[test]
 fn big_operands_have_one_form(rt: HostRuntime) {
-    assert_eq!(rt; get_big(&[0x81, 0x02], 0), 258);
-    assert_eq!(rt; get_big(&[0x01, 0x02], 0), 258, "bit 7 is not looked at");
+    assert!(rt; get_big(&[0x81, 0x02], 0) == 258);
+    assert!(rt; get_big(&[0x01, 0x02], 0) == 258, "bit 7 is not looked at");
     let mut bytes = [0xAB, 0, 0, 0xAB];
     put_big(&mut bytes, 1, 258);
-    assert_eq!(rt; bytes, [0xAB, 0x81, 0x02, 0xAB]);
+    assert!(rt; bytes == [0xAB, 0x81, 0x02, 0xAB]);
 }
 
 #[test]
 fn blocks_are_rounded_up(rt: HostRuntime) {
     for (len, want) in [(0, 0), (1, 1), (BLOCK_SIZE, 1), (513, 2)] {
-        assert_eq!(rt; blocks_of(len), want, "at {len}");
+        assert!(rt; blocks_of(len) == want, "at {len}");
     }
-    assert_eq!(rt; blocks_of(usize::MAX), 1 << 55);
+    assert!(rt; blocks_of(usize::MAX) == (1 << 55));
 }
 
 #[test]
@@ -41,7 +41,10 @@ fn a_fault_of_an_entry_that_is_no_unit(rt: HostRuntime) -> Result<(), Fail> {
         reference: None,
     };
     let text = fault.to_string(rt.alloc())?;
-    assert_eq!(rt; text.as_str(), "refused 14 NotAUnit kind 5 file 1 slot 7");
+    assert!(rt;
+        text.as_str() == "refused 14 NotAUnit kind 5 file 1 slot 7",
+        "{text}"
+    );
     Ok(())
 }
 
@@ -55,9 +58,12 @@ fn a_fault_of_a_unit_that_a_record_asks_for(rt: HostRuntime) -> Result<(), Fail>
         reference: None,
     };
     let text = fault.to_string(rt.alloc())?;
-    assert_eq!(rt; text.as_str(), "refused 35 NoSlot file 2 slot 8 record 3");
-    assert_eq!(rt; fault.reason.number(), 35);
-    assert_eq!(rt; fault.reason.name(), "NoSlot");
+    assert!(rt;
+        text.as_str() == "refused 35 NoSlot file 2 slot 8 record 3",
+        "{text}"
+    );
+    assert!(rt; fault.reason.number() == 35);
+    assert!(rt; fault.reason.name() == "NoSlot");
     Ok(())
 }
 
@@ -71,7 +77,7 @@ fn a_fault_of_a_file(rt: HostRuntime) -> Result<(), Fail> {
         reference: None,
     };
     let text = fault.to_string(rt.alloc())?;
-    assert_eq!(rt; text.as_str(), "refused 1 ShortFile file 12");
+    assert!(rt; text.as_str() == "refused 1 ShortFile file 12", "{text}");
     Ok(())
 }
 
@@ -85,14 +91,14 @@ fn a_fault_of_a_reference(rt: HostRuntime) -> Result<(), Fail> {
         reference: Some(65534),
     };
     let text = fault.to_string(rt.alloc())?;
-    assert_eq!(rt;
-        text.as_str(),
-        "refused 33 Overlap file 0 slot 15 record 0 reference 65534"
+    assert!(rt;
+        text.as_str() == "refused 33 Overlap file 0 slot 15 record 0 reference 65534",
+        "{text}"
     );
     let reason = fault.reason.to_string(rt.alloc())?;
-    assert_eq!(rt; reason.as_str(), "Overlap");
-    assert_eq!(rt; fault.reason.number(), 33);
-    assert_eq!(rt; fault.reason.name(), "Overlap");
+    assert!(rt; reason.as_str() == "Overlap", "{reason}");
+    assert!(rt; fault.reason.number() == 33);
+    assert!(rt; fault.reason.name() == "Overlap");
     Ok(())
 }
 
@@ -111,7 +117,7 @@ const WHOLE_TEXT: &str =
 #[test]
 fn a_fault_of_large_numbers(rt: HostRuntime) -> Result<(), Fail> {
     let text = WHOLE.to_string(rt.alloc())?;
-    assert_eq!(rt; text.as_str(), WHOLE_TEXT);
+    assert!(rt; text.as_str() == WHOLE_TEXT, "{text}");
     let fault = Fault {
         reason: Reason::DoubledPrivate,
         file: usize::MAX,
@@ -120,9 +126,9 @@ fn a_fault_of_large_numbers(rt: HostRuntime) -> Result<(), Fail> {
         reference: None,
     };
     let text = fault.to_string(rt.alloc())?;
-    assert_eq!(rt;
-        text.as_str(),
-        "refused 25 DoubledPrivate file 18446744073709551615 slot 0 record 18446744073709551615"
+    assert!(rt;
+        text.as_str()
+            == "refused 25 DoubledPrivate file 18446744073709551615 slot 0 record 18446744073709551615"
     );
     Ok(())
 }
@@ -130,11 +136,11 @@ fn a_fault_of_large_numbers(rt: HostRuntime) -> Result<(), Fail> {
 #[test]
 fn a_width_changes_no_text(rt: HostRuntime) -> Result<(), Fail> {
     let text = format!(in rt.alloc(); "{WHOLE:>100}")?;
-    assert_eq!(rt; text.as_str(), WHOLE_TEXT);
+    assert!(rt; text.as_str() == WHOLE_TEXT, "{text}");
     let text = format!(in rt.alloc(); "{WHOLE:<100}")?;
-    assert_eq!(rt; text.as_str(), WHOLE_TEXT);
+    assert!(rt; text.as_str() == WHOLE_TEXT, "{text}");
     let text = format!(in rt.alloc(); "{WHOLE:.3}")?;
-    assert_eq!(rt; text.as_str(), WHOLE_TEXT);
+    assert!(rt; text.as_str() == WHOLE_TEXT, "{text}");
     Ok(())
 }
 
@@ -175,7 +181,7 @@ fn nothing_is_written_behind_a_call_that_failed(rt: HostRuntime) {
             return;
         }
         assert!(rt; result.is_err(), "{before}");
-        assert_eq!(rt; writer.after, 0, "{before}");
+        assert!(rt; writer.after == 0, "{before}");
     }
     assert!(rt; false, "each call failed");
 }

@@ -2,7 +2,7 @@
 use super::faulty::Faulty;
 use super::inputs::{
     HOST, HOST_IN_PLACE, LIBRARY, LINKED_HOST_IN_PLACE, LINKED_PAIR, MAP_OF_PAIR, SHOWN_LIBRARY,
-    SUMMARY_IN_PLACE, SUMMARY_OF_PAIR,
+    SUMMARY_IN_PLACE, SUMMARY_OF_PAIR, save_all,
 };
 use super::outcome::{clean, done};
 use std::fs;
@@ -61,15 +61,17 @@ fn failing_reads<R: Files + AllocGlobal + Abort>(
             return reads;
         }
         run.is(rt, (nth, reads), 3, "", complaint);
-        assert_eq!(rt; files.0.created(), 0, "at {nth} {reads}");
+        assert!(rt; files.0.created() == 0, "at {nth} {reads}");
     }
     100
 }
 
 #[test]
 fn each_read_fails(rt: HostRuntime) -> Result<(), Fail> {
-    HOST.save(&rt, "reads-host")?;
-    LIBRARY.save(&rt, "reads-library")?;
+    save_all(
+        &rt,
+        [("reads-host", HOST), ("reads-library", LIBRARY)].as_slice(),
+    )?;
     let link = ["pslink", "link", "reads-host", "reads-out", "reads-library"];
     let map = ["pslink", "map", "reads-host", "reads-library"];
     let show = ["pslink", "show", "reads-library"];
@@ -86,7 +88,7 @@ fn each_read_fails(rt: HostRuntime) -> Result<(), Fail> {
     ];
     for (args, nth, complained, wanted) in rows {
         let failed = failing_reads(&rt, args, nth, complained, wanted);
-        assert_eq!(rt; failed, 5, "{args:?} {nth}");
+        assert!(rt; failed == 5, "{args:?} {nth}");
     }
     clean(&rt, ["reads-host", "reads-out", "reads-library"].as_slice());
     Ok(())
@@ -103,9 +105,12 @@ fn length_after(writes: u64, most: u64) -> u64 {
 
 #[test]
 fn each_write_of_a_link_fails(rt: HostRuntime) -> Result<(), Fail> {
-    HOST_IN_PLACE.save(&rt, "writes-in-place")?;
-    HOST.save(&rt, "writes-host")?;
-    LIBRARY.save(&rt, "writes-library")?;
+    let files = [
+        ("writes-in-place", HOST_IN_PLACE),
+        ("writes-host", HOST),
+        ("writes-library", LIBRARY),
+    ];
+    save_all(&rt, files.as_slice())?;
     let link_in_place = ["pslink", "link", "writes-in-place", "writes-out"];
     let link = [
         "pslink",
@@ -132,11 +137,11 @@ fn each_write_of_a_link_fails(rt: HostRuntime) -> Result<(), Fail> {
         for writes in 0..=needed {
             let files = (Faulty::taking(&rt, nth, writes, most), rt.alloc());
             let run = done(&files, args);
-            assert_eq!(rt; files.0.created(), 1, "at {writes} of {needed}");
+            assert!(rt; files.0.created() == 1, "at {writes} of {needed}");
             let made = fs::read(&rt, "writes-out")?;
             if writes == needed {
                 run.is(&rt, (writes, needed), 0, printed, "");
-                assert_eq!(rt; made.as_slice(), linked.as_slice(), "{args:?}");
+                assert!(rt; made.as_slice() == linked.as_slice(), "{args:?}");
             } else {
                 run.is(
                     &rt,
@@ -150,7 +155,7 @@ fn each_write_of_a_link_fails(rt: HostRuntime) -> Result<(), Fail> {
                     "at {writes} of {needed}"
                 );
                 let length = length_after(writes, most as u64);
-                assert_eq!(rt; made.len() as u64, length, "at {writes} of {needed}");
+                assert!(rt; made.len() as u64 == length, "at {writes} of {needed}");
             }
         }
     }

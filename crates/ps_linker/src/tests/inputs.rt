@@ -183,6 +183,14 @@ impl Image {
     }
 }
 
+/// Writes files.
+pub fn save_all<R: Files + AllocGlobal>(rt: &R, files: &[(&str, Image)]) -> Result<(), Fail> {
+    for (path, image) in files {
+        image.save(rt, *path)?;
+    }
+    Ok(())
+}
+
 /// A host with its unit in place, and what it is linked to.
 pub static HOST_IN_PLACE: Image = Image(2560, &HOST_PROGRAM, &UNIT_IN_PLACE);
 

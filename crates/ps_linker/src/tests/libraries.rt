@@ -1,9 +1,9 @@
 //! Many libraries: each is read whole, and the first that has the unit is used.
 use super::inputs::{
     HOST, LIBRARY, LIBRARY_WITHOUT_UNIT, LINKED_PAIR, LINKED_WITH_OTHER, OTHER_LIBRARY,
-    SUMMARY_OF_PAIR,
+    SUMMARY_OF_PAIR, save_all,
 };
-use super::outcome::{clean, done};
+use super::outcome::{clean, done, holds};
 use std::fs;
 use std::test::Fail;
 
@@ -34,9 +34,7 @@ fn forty_libraries(rt: HostRuntime) -> Result<(), Fail> {
         ("forty-other", OTHER_LIBRARY),
         ("forty-without", LIBRARY_WITHOUT_UNIT),
     ];
-    for (path, image) in files {
-        image.save(&rt, path)?;
-    }
+    save_all(&rt, files.as_slice())?;
     fs::write(&rt, "forty-short", "a library under 512 bytes")?;
     fs::write(&rt, "forty-out", "as before")?;
     let (linked, with_other) = (LINKED_PAIR.bytes(alloc)?, LINKED_WITH_OTHER.bytes(alloc)?);
@@ -62,8 +60,7 @@ fn forty_libraries(rt: HostRuntime) -> Result<(), Fail> {
     for (place, library, status, printed, complained, wanted) in rows {
         args[place] = library;
         done(&rt, args.as_slice()).is(&rt, (place, library), status, printed, complained);
-        let left = fs::read(&rt, "forty-out")?;
-        assert_eq!(rt; left.as_slice(), wanted, "{place} {library}");
+        holds(&rt, "forty-out", wanted, [library].as_slice())?;
     }
     let files = [
         "forty-host",

@@ -1,9 +1,9 @@
 //! `link`: what is written and printed, and what becomes of OUT.
 use super::inputs::{
     CUT_LIBRARY, ENDING_HOST, ENDING_LIBRARY, HOST, HOST_IN_PLACE, LIBRARY, LINKED_HOST_IN_PLACE,
-    LINKED_PAIR, SUMMARY_IN_PLACE, SUMMARY_OF_PAIR,
+    LINKED_PAIR, SUMMARY_IN_PLACE, SUMMARY_OF_PAIR, save_all,
 };
-use super::outcome::{clean, done};
+use super::outcome::{clean, done, holds};
 use std::fs;
 use std::test::Fail;
 
@@ -16,13 +16,16 @@ static NO_END: &str = "pslink: refused 19 RecordsTruncated file 1 slot 7 record 
 #[test]
 fn links_and_leaves_out_where_it_refuses(rt: HostRuntime) -> Result<(), Fail> {
     let _ = fs::remove_file(&rt, "link-new");
-    HOST_IN_PLACE.save(&rt, "link-in-place")?;
-    HOST_IN_PLACE.save(&rt, "link-same")?;
-    HOST.save(&rt, "link-host")?;
-    LIBRARY.save(&rt, "link-library")?;
-    ENDING_HOST.save(&rt, "link-ending-host")?;
-    ENDING_LIBRARY.save(&rt, "link-ending")?;
-    CUT_LIBRARY.save(&rt, "link-cut")?;
+    let files = [
+        ("link-in-place", HOST_IN_PLACE),
+        ("link-same", HOST_IN_PLACE),
+        ("link-host", HOST),
+        ("link-library", LIBRARY),
+        ("link-ending-host", ENDING_HOST),
+        ("link-ending", ENDING_LIBRARY),
+        ("link-cut", CUT_LIBRARY),
+    ];
+    save_all(&rt, files.as_slice())?;
     fs::write(&rt, "link-short", "a host under 512 bytes")?;
     fs::write(&rt, "link-out", "as before")?;
     let no_unit = ["pslink", "link", "link-host", "link-out"];
@@ -38,54 +41,54 @@ fn links_and_leaves_out_where_it_refuses(rt: HostRuntime) -> Result<(), Fail> {
         "link-ended",
         "link-ending",
     ];
-    // The args, OUT, the status and the two texts; and what is then in OUT, where it is not as before.
+    let alloc = rt.alloc();
+    let (in_place_linked, pair_linked) = (
+        LINKED_HOST_IN_PLACE.bytes(alloc)?,
+        LINKED_PAIR.bytes(alloc)?,
+    );
+    let (in_place_linked, pair_linked) = (in_place_linked.as_slice(), pair_linked.as_slice());
+    let as_before = b"as before".as_slice();
+    // The args, the status and the two texts; OUT, and what is then in it.
     let rows = [
-        (no_unit.as_slice(), "link-out", 1, "", MISSING, None),
-        (short.as_slice(), "link-out", 1, "", SHORT, None),
-        (no_end.as_slice(), "link-out", 1, "", NO_END, None),
+        (no_unit.as_slice(), 1, "", MISSING, "link-out", as_before),
+        (short.as_slice(), 1, "", SHORT, "link-out", as_before),
+        (no_end.as_slice(), 1, "", NO_END, "link-out", as_before),
         (
             in_place.as_slice(),
-            "link-new",
             0,
             SUMMARY_IN_PLACE,
             "",
-            Some(LINKED_HOST_IN_PLACE),
+            "link-new",
+            in_place_linked,
         ),
         (
             same.as_slice(),
-            "link-same",
             0,
             SUMMARY_IN_PLACE,
             "",
-            Some(LINKED_HOST_IN_PLACE),
+            "link-same",
+            in_place_linked,
         ),
         (
             pair.as_slice(),
-            "link-out",
             0,
             SUMMARY_OF_PAIR,
             "",
-            Some(LINKED_PAIR),
+            "link-out",
+            pair_linked,
         ),
         (
             ending.as_slice(),
-            "link-ended",
             0,
             SUMMARY_OF_PAIR,
             "",
-            Some(LINKED_PAIR),
+            "link-ended",
+            pair_linked,
         ),
     ];
-    for (args, out, status, printed, complained, linked) in rows {
+    for (args, status, printed, complained, out, wanted) in rows {
         done(&rt, args).is(&rt, args, status, printed, complained);
-        let made = fs::read(&rt, out)?;
-        match linked {
-            Some(image) => {
-                let wanted = image.bytes(rt.alloc())?;
-                assert_eq!(rt; made.as_slice(), wanted.as_slice(), "{args:?}");
-            }
-            None => assert_eq!(rt; made.as_slice(), b"as before".as_slice(), "{args:?}"),
-        }
+        holds(&rt, out, wanted, args)?;
     }
     let files = [
         "link-new",

@@ -1,9 +1,9 @@
 //! Memory that is refused.
 use super::inputs::{
     HOST, HOST_IN_PLACE, Image, LIBRARY, LINKED_HOST_IN_PLACE, LINKED_PAIR, MAP_OF_PAIR,
-    SHOWN_LIBRARY, SUMMARY_IN_PLACE, SUMMARY_OF_PAIR,
+    SHOWN_LIBRARY, SUMMARY_IN_PLACE, SUMMARY_OF_PAIR, save_all,
 };
-use super::outcome::{clean, done_with};
+use super::outcome::{clean, done_with, holds};
 use refusing::Refusing;
 use std::fs;
 use std::process::Abort;
@@ -22,11 +22,9 @@ fn is_as_before<R: Files + AllocGlobal + Abort>(
     was_there: bool,
 ) -> Result<(), Fail> {
     if was_there {
-        let left = fs::read(rt, OUT)?;
-        assert_eq!(rt; left.as_slice(), b"as before".as_slice(), "{args:?}");
-    } else {
-        assert!(rt; !fs::exists(rt, OUT)?, "{args:?}");
+        return holds(rt, OUT, b"as before", args);
     }
+    assert!(rt; !fs::exists(rt, OUT)?, "{args:?}");
     Ok(())
 }
 
@@ -53,14 +51,7 @@ fn refused_allocations<R: Files + AllocGlobal + Abort>(
         }
         run.is(rt, (args, number), 0, printed, "");
         match linked {
-            Some(image) => {
-                let made = fs::read(rt, OUT)?;
-                assert_eq!(rt;
-                    made.as_slice(),
-                    image.bytes(rt.alloc())?.as_slice(),
-                    "{args:?}"
-                );
-            }
+            Some(image) => holds(rt, OUT, image.bytes(rt.alloc())?.as_slice(), args)?,
             None => is_as_before(rt, args, was_there)?,
         }
         return Ok(number - 1);
@@ -70,9 +61,12 @@ fn refused_allocations<R: Files + AllocGlobal + Abort>(
 
 #[test]
 fn each_allocation_is_refused(rt: HostRuntime) -> Result<(), Fail> {
-    HOST_IN_PLACE.save(&rt, "memory-in-place")?;
-    HOST.save(&rt, "memory-host")?;
-    LIBRARY.save(&rt, "memory-library")?;
+    let files = [
+        ("memory-in-place", HOST_IN_PLACE),
+        ("memory-host", HOST),
+        ("memory-library", LIBRARY),
+    ];
+    save_all(&rt, files.as_slice())?;
     let link_in_place = ["pslink", "link", "memory-in-place", OUT];
     let link = ["pslink", "link", "memory-host", OUT, "memory-library"];
     let map = ["pslink", "map", "memory-host", "memory-library"];
@@ -99,11 +93,8 @@ fn each_allocation_is_refused(rt: HostRuntime) -> Result<(), Fail> {
     let made = done_with(&rt, &heap, link_in_place.as_slice());
     made.is(&rt, "none", 0, SUMMARY_IN_PLACE, "");
     assert!(rt; !heap.has_refused());
-    let made = fs::read(&rt, OUT)?;
-    assert_eq!(rt;
-        made.as_slice(),
-        LINKED_HOST_IN_PLACE.bytes(rt.alloc())?.as_slice()
-    );
+    let linked = LINKED_HOST_IN_PLACE.bytes(rt.alloc())?;
+    holds(&rt, OUT, linked.as_slice(), link_in_place.as_slice())?;
     clean(
         &rt,
         ["memory-in-place", "memory-host", "memory-library", OUT].as_slice(),

@@ -5,6 +5,7 @@ use std::fmt::Debug;
 use std::fs;
 use std::process::Abort;
 use std::rt::Files;
+use std::test::Fail;
 
 /// What a run returns and writes.
 #[derive(Drop)]
@@ -40,14 +41,26 @@ impl Outcome {
             out: printed,
             err: complained,
         } = self;
-        assert_eq!(rt; text(complained.as_slice()), err, "{row:?}");
-        assert_eq!(rt; text(printed.as_slice()), out, "{row:?}");
-        assert_eq!(rt; returned, status, "{row:?}");
+        assert!(rt; text(complained.as_slice()) == err, "{row:?}");
+        assert!(rt; text(printed.as_slice()) == out, "{row:?}");
+        assert!(rt; returned == status, "{row:?}");
     }
 }
 
 pub fn text(bytes: &[u8]) -> &str {
     std::str::from_utf8(bytes).unwrap_or("not UTF-8")
+}
+
+/// Checks that a file is there with these bytes.
+pub fn holds<R: Files + AllocGlobal + Abort>(
+    rt: &R,
+    path: &str,
+    bytes: &[u8],
+    row: &[&str],
+) -> Result<(), Fail> {
+    let file = fs::read(rt, path)?;
+    assert!(rt; file.as_slice() == bytes, "{row:?}");
+    Ok(())
 }
 
 /// Removes files of a test.

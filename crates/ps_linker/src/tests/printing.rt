@@ -2,9 +2,9 @@
 use super::args::{HELP, VERSION};
 use super::inputs::{
     HOST, HOST_IN_PLACE, LIBRARY, LINKED_HOST_IN_PLACE, MAP_OF_PAIR, SHOWN_LIBRARY,
-    SUMMARY_IN_PLACE,
+    SUMMARY_IN_PLACE, save_all,
 };
-use super::outcome::{clean, text};
+use super::outcome::{clean, holds, text};
 use super::writers::{Limited, Stuck};
 use crate::running::run;
 use std::fs;
@@ -16,9 +16,12 @@ static NO_OUTPUT: &str = "pslink: cannot write standard output\n";
 
 #[test]
 fn standard_output_that_fails(rt: HostRuntime) -> Result<(), Fail> {
-    HOST_IN_PLACE.save(&rt, "stuck-in-place")?;
-    HOST.save(&rt, "stuck-host")?;
-    LIBRARY.save(&rt, "stuck-library")?;
+    let files = [
+        ("stuck-in-place", HOST_IN_PLACE),
+        ("stuck-host", HOST),
+        ("stuck-library", LIBRARY),
+    ];
+    save_all(&rt, files.as_slice())?;
     let link = ["pslink", "link", "stuck-in-place", "stuck-out"];
     let map = ["pslink", "map", "stuck-host", "stuck-library"];
     let show = ["pslink", "show", "stuck-library"];
@@ -34,16 +37,13 @@ fn standard_output_that_fails(rt: HostRuntime) -> Result<(), Fail> {
             let mut out = stuck;
             let mut err = Vec::new(rt.alloc());
             let status = run(&rt, rt.alloc(), args, &mut out, &mut err);
-            assert_eq!(rt; status, 3, "{args:?} {stuck:?}");
-            assert_eq!(rt; text(err.as_slice()), NO_OUTPUT, "{args:?} {stuck:?}");
+            assert!(rt; status == 3, "{args:?} {stuck:?}");
+            assert!(rt; text(err.as_slice()) == NO_OUTPUT, "{args:?} {stuck:?}");
         }
     }
     // The linked file was written before the line that tells of it.
-    let made = fs::read(&rt, "stuck-out")?;
-    assert_eq!(rt;
-        made.as_slice(),
-        LINKED_HOST_IN_PLACE.bytes(rt.alloc())?.as_slice()
-    );
+    let linked = LINKED_HOST_IN_PLACE.bytes(rt.alloc())?;
+    holds(&rt, "stuck-out", linked.as_slice(), link.as_slice())?;
     let files = ["stuck-in-place", "stuck-host", "stuck-library", "stuck-out"];
     clean(&rt, files.as_slice());
     Ok(())
@@ -63,12 +63,12 @@ fn failing_prints<R: Files + AllocGlobal + Abort>(
         let status = run(rt, rt.alloc(), args, &mut out, &mut err);
         let taken = text(out.taken.as_slice());
         if status == 0 {
-            assert_eq!(rt; taken, wanted, "{args:?} by {most}");
-            assert_eq!(rt; text(err.as_slice()), "");
+            assert!(rt; taken == wanted, "{args:?} by {most}");
+            assert!(rt; text(err.as_slice()) == "");
             return writes;
         }
-        assert_eq!(rt; status, 3, "{args:?} at {writes}");
-        assert_eq!(rt; text(err.as_slice()), NO_OUTPUT);
+        assert!(rt; status == 3, "{args:?} at {writes}");
+        assert!(rt; text(err.as_slice()) == NO_OUTPUT);
         assert!(rt;
             wanted.starts_with(taken) && taken.len() < wanted.len(),
             "{args:?} at {writes}"
@@ -79,9 +79,12 @@ fn failing_prints<R: Files + AllocGlobal + Abort>(
 
 #[test]
 fn each_write_of_a_text_fails(rt: HostRuntime) -> Result<(), Fail> {
-    HOST_IN_PLACE.save(&rt, "prints-in-place")?;
-    HOST.save(&rt, "prints-host")?;
-    LIBRARY.save(&rt, "prints-library")?;
+    let files = [
+        ("prints-in-place", HOST_IN_PLACE),
+        ("prints-host", HOST),
+        ("prints-library", LIBRARY),
+    ];
+    save_all(&rt, files.as_slice())?;
     let link = ["pslink", "link", "prints-in-place", "prints-out"];
     let map = ["pslink", "map", "prints-host", "prints-library"];
     let show = ["pslink", "show", "prints-library"];
@@ -97,9 +100,8 @@ fn each_write_of_a_text_fails(rt: HostRuntime) -> Result<(), Fail> {
     for (args, wanted) in texts {
         for most in [1, 7, 4096] {
             let failed = failing_prints(&rt, args, most, wanted);
-            assert_eq!(rt;
-                failed,
-                wanted.len().div_ceil(most) as u64,
+            assert!(rt;
+                failed == wanted.len().div_ceil(most) as u64,
                 "{args:?} by {most}"
             );
         }
@@ -132,7 +134,7 @@ fn standard_error_that_fails(rt: HostRuntime) {
             let mut out = Vec::new(rt.alloc());
             let mut err = stuck;
             let status = run(&rt, rt.alloc(), args, &mut out, &mut err);
-            assert_eq!(rt; status, wanted, "{args:?} {stuck:?}");
+            assert!(rt; status == wanted, "{args:?} {stuck:?}");
             assert!(rt; out.is_empty(), "{args:?} {stuck:?}");
         }
     }

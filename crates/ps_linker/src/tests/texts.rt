@@ -3,9 +3,9 @@ use super::inputs::{
     BIG_ENDIAN_LIBRARY, CUT_LIBRARY, HOST, HOST_SLOTS, HOST_WITH_CONSTANT, LIBRARY,
     LIBRARY_CUT_IN_CODE, LIBRARY_OF_BOTH, LIBRARY_SLOTS, LINKED_PAIR, MAP_OF_AN_ADDED_UNIT,
     MAP_OF_PAIR, MAP_WITH_CONSTANT, MIXED_FILE, NAMING_LIBRARY, SHORT_FILE, SHOW_OF_BOTH_UNITS,
-    SHOWN_BIG_ENDIAN, SHOWN_LIBRARY, SHOWN_LINKED, SHOWN_ZEROS, USING_LIBRARY,
+    SHOWN_BIG_ENDIAN, SHOWN_LIBRARY, SHOWN_LINKED, SHOWN_ZEROS, USING_LIBRARY, save_all,
 };
-use super::outcome::{clean, done};
+use super::outcome::{clean, done, holds};
 use std::fs;
 use std::test::Fail;
 
@@ -18,9 +18,7 @@ fn maps_a_host_with_its_libraries(rt: HostRuntime) -> Result<(), Fail> {
         ("map-linked", LINKED_PAIR),
         ("map-both", LIBRARY_OF_BOTH),
     ];
-    for (path, image) in files {
-        image.save(&rt, path)?;
-    }
+    save_all(&rt, files.as_slice())?;
     let rows = [
         (["map-host", "map-library"].as_slice(), 0, MAP_OF_PAIR, ""),
         (
@@ -60,8 +58,8 @@ fn maps_a_host_with_its_libraries(rt: HostRuntime) -> Result<(), Fail> {
         args.extend_from_slice(paths)?;
         done(&rt, args.as_slice()).is(&rt, paths, status, printed, complained);
     }
-    let left = fs::read(&rt, "map-host")?;
-    assert_eq!(rt; left.as_slice(), HOST.bytes(rt.alloc())?.as_slice());
+    let host = HOST.bytes(rt.alloc())?;
+    holds(&rt, "map-host", host.as_slice(), ["map"].as_slice())?;
     for (path, _) in files {
         clean(&rt, [path].as_slice());
     }

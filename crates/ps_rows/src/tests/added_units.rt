@@ -494,7 +494,7 @@ fn names_in_the_order_of_their_first_records(rt: HostRuntime) -> Result<(), Fail
         libraries: libraries.as_slice(),
     };
     let map = call.answer(alloc, alloc)?;
-    assert_eq!(rt; map.as_str(), MAP_OF_FIRST_NAMES);
+    assert!(rt; map.as_str() == MAP_OF_FIRST_NAMES, "{map}");
     Ok(())
 }
 
@@ -515,9 +515,9 @@ const SOURCES: &str =
 /// Checks the sources of that plan, and the names of its two units and of the slot behind them.
 fn is_plan_of_a_used_unit(rt: &(impl Abort + AllocGlobal), plan: &Plan<'_>) -> Result<(), Fail> {
     let text = describe(rt.alloc(), plan)?;
-    assert_eq!(rt; text.as_str(), SOURCES);
+    assert!(rt; text.as_str() == SOURCES, "{text}");
     let names = [UTIL, AUX, BLANK];
-    assert_eq!(rt; plan.names().get(7..10), Some(names.as_slice()));
+    assert!(rt; plan.names().get(7..10) == Some(names.as_slice()));
     Ok(())
 }
 

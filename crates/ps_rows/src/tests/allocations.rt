@@ -28,19 +28,17 @@ fn refuses_allocation(
     let heap = Refusing::once(alloc, allocation);
     let text = call.answer(alloc, &heap)?;
     if !heap.has_refused() {
-        assert_eq!(rt; text.as_str(), answer, "{what}");
+        assert!(rt; text.as_str() == answer, "{what}: {text}");
         return Ok(false);
     }
-    assert_eq!(rt;
-        text.as_str(),
-        OUT_OF_MEMORY,
-        "{what}: allocation {allocation}"
+    assert!(rt;
+        text.as_str() == OUT_OF_MEMORY,
+        "{what}: allocation {allocation}: {text}"
     );
     let again = call.answer(alloc, &heap)?;
-    assert_eq!(rt;
-        again.as_str(),
-        answer,
-        "{what}: after allocation {allocation}"
+    assert!(rt;
+        again.as_str() == answer,
+        "{what}: after allocation {allocation}: {again}"
     );
     Ok(true)
 }
@@ -83,7 +81,7 @@ pub(crate) fn makes_no_allocation(
     let alloc = rt.alloc();
     let heap = Refusing::from(alloc, 1);
     let text = call.answer(alloc, &heap)?;
-    assert_eq!(rt; text.as_str(), answer, "{what}");
-    assert_eq!(rt; heap.allocations(), 0, "{what}");
+    assert!(rt; text.as_str() == answer, "{what}: {text}");
+    assert!(rt; heap.allocations() == 0, "{what}");
     Ok(())
 }

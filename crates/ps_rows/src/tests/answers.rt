@@ -51,8 +51,8 @@ pub(crate) fn links(
     let alloc = rt.alloc();
     let mut out = Vec::new(alloc);
     let answer = text_of(alloc, link(alloc, host, libraries, &mut out))?;
-    assert_eq!(rt; answer.as_str(), summary, "{what}");
-    assert_eq!(rt; out.as_slice(), file, "{what}");
+    assert!(rt; answer.as_str() == summary, "{what}: {answer}");
+    assert!(rt; out.as_slice() == file, "{what}");
     Ok(())
 }
 

@@ -99,7 +99,7 @@ fn answers(
 ) -> Result<(), Fail> {
     let alloc = rt.alloc();
     let text = call.answer(alloc, alloc)?;
-    assert_eq!(rt; text.as_str(), answer);
+    assert!(rt; text.as_str() == answer, "{text}");
     Ok(())
 }
 
@@ -120,7 +120,7 @@ pub(crate) fn answers_each_call(
         libraries: link.libraries,
     };
     let text = call.answer(alloc, alloc)?;
-    assert!(rt; text.as_str() == map, "another map");
+    assert!(rt; text.as_str() == map, "another map: {text}");
     Ok(())
 }
 
@@ -135,8 +135,8 @@ fn writes_to_a_room<A: Allocator + Copy>(
     let mut out = Room::new(alloc, file.len(), usize::MAX, Full::Stalls)?;
     let answer = linked.write(&mut out).map_err(LinkError::Write);
     let text = text_of(alloc, answer)?;
-    assert_eq!(rt; text.as_str(), summary);
-    assert_eq!(rt; out.written(), file);
+    assert!(rt; text.as_str() == summary, "{text}");
+    assert!(rt; out.written() == file);
     Ok(())
 }
 
@@ -151,8 +151,8 @@ fn writes_to_a_list<A: Allocator + Copy>(
     let mut out = Vec::new(alloc);
     let answer = linked.write(&mut out).map_err(LinkError::Write);
     let text = text_of(alloc, answer)?;
-    assert_eq!(rt; text.as_str(), summary);
-    assert_eq!(rt; out.as_slice(), file);
+    assert!(rt; text.as_str() == summary, "{text}");
+    assert!(rt; out.as_slice() == file);
     Ok(())
 }
 
@@ -168,9 +168,9 @@ fn writes_and_tells<A: Allocator + Copy>(
     let mut out = Counting::new(room);
     let answer = linked.write_told(&mut out).map_err(LinkError::Write);
     let text = text_of(alloc, answer)?;
-    assert_eq!(rt; text.as_str(), summary);
+    assert!(rt; text.as_str() == summary, "{text}");
     let inner = out.into_inner();
-    assert_eq!(rt; inner.written(), file);
+    assert!(rt; inner.written() == file);
     Ok(())
 }
 
@@ -197,9 +197,9 @@ fn writing_grows_nothing(
     summary: &str,
 ) -> Result<(), Fail> {
     let linked = prepare(heap, link.host, link.libraries)?;
-    assert_eq!(rt; heap.allocations(), planning);
+    assert!(rt; heap.allocations() == planning);
     writes_each_way(rt, &linked, summary, link.linked)?;
-    assert_eq!(rt; heap.allocations(), planning);
+    assert!(rt; heap.allocations() == planning);
     Ok(())
 }
 
@@ -213,7 +213,7 @@ fn only_the_plan_grows(
     let planning = refused_allocations(rt, "resolve", &Resolve { link }, planned)?;
     let preparing = refused_allocations(rt, "prepare", &Prepare { link }, summary)?;
     assert!(rt; planning > 0);
-    assert_eq!(rt; preparing, planning);
+    assert!(rt; preparing == planning);
     let heap = Refusing::once(rt.alloc(), 0);
     writing_grows_nothing(rt, &heap, &link, planning, summary)
 }

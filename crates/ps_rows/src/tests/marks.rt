@@ -213,7 +213,7 @@ fn shows_last(
         Ok(bytes) => {
             let text = str::from_utf8(bytes.as_slice()).unwrap_or("no text");
             let shown = text.split_once(links).map(|(_, shown)| shown);
-            assert_eq!(rt; shown, Some(lines), "{what}");
+            assert!(rt; shown == Some(lines), "{what}");
         }
         Err(_) => assert!(rt; false, "{what}: no text"),
     }

@@ -102,21 +102,21 @@ fn definitions_by_name_and_by_index(rt: HostRuntime) -> Result<(), Fail> {
         bytes: information.as_slice(),
     };
     let wanted = defined(alloc)?;
-    assert_eq!(rt; wanted.len(), NAMES);
+    assert!(rt; wanted.len() == NAMES);
     builds_definitions(&rt, &host, wanted.as_slice(), &numbered(NUMBERED))
 }
 
 /// Checks the private variables of a unit in slot 7 whose first record asks for two words from offset 8 on, and its next ones for
 /// those above.
 fn has_private_variables(rt: &impl Abort, allotment: &Allotment) {
-    assert_eq!(rt; allotment.privates().len(), NAMES + 1);
-    assert_eq!(rt; allotment.words(), 6);
-    assert_eq!(rt; allotment.next_free(), 14);
-    assert_eq!(rt; allotment.offset(7, 0), Some(8));
+    assert!(rt; allotment.privates().len() == NAMES + 1);
+    assert!(rt; allotment.words() == 6);
+    assert!(rt; allotment.next_free() == 14);
+    assert!(rt; allotment.offset(7, 0) == Some(8));
     for rec in 1..=NAMES {
-        assert_eq!(rt; allotment.offset(7, rec), Some(10), "{rec}");
+        assert!(rt; allotment.offset(7, rec) == Some(10), "{rec}");
     }
-    assert_eq!(rt; allotment.offset(7, NAMES + 1), None);
+    assert!(rt; allotment.offset(7, NAMES + 1) == None);
 }
 
 #[test]
@@ -149,10 +149,10 @@ fn value_in(body: &Body<'_>) -> Option<u16> {
 
 /// Checks records that are those definitions and an end mark.
 fn are_definitions(rt: &impl Abort, records: &[LinkRecord<'_>]) {
-    assert_eq!(rt; records.len(), NAMES + 1);
+    assert!(rt; records.len() == NAMES + 1);
     for (number, record) in records.iter().take(NUMBERED).enumerate() {
         let wanted = (numbered(number), Some(value_of(number)));
-        assert_eq!(rt; (record.name, value_in(&record.body)), wanted, "{number}");
+        assert!(rt; (record.name, value_in(&record.body)) == wanted, "{number}");
     }
 }
 

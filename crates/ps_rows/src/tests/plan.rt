@@ -116,13 +116,13 @@ pub(crate) fn has_definitions(
     wanted: &[(Name, Def)],
     absent: &Name,
 ) -> Result<(), Fail> {
-    assert_eq!(rt; definitions.len(), wanted.len());
+    assert!(rt; definitions.len() == wanted.len());
     for i in 0..definitions.len() {
         let (name, def) = definitions.at(i);
-        assert_eq!(rt; Some((name, def)), wanted.get(i).copied(), "{i}");
-        assert_eq!(rt; definitions.look(&name), Some(def), "{i}");
+        assert!(rt; Some((name, def)) == wanted.get(i).copied(), "{i}");
+        assert!(rt; definitions.look(&name) == Some(def), "{i}");
     }
-    assert_eq!(rt; definitions.look(absent), None);
+    assert!(rt; definitions.look(absent) == None);
     Ok(())
 }
 
@@ -190,9 +190,8 @@ const OFFSETS: [(u8, usize, Option<u16>); 5] = [
 
 fn has_offsets(rt: &impl Abort, allotment: &Allotment) {
     for (slot, rec, offset) in OFFSETS {
-        assert_eq!(rt;
-            allotment.offset(slot, rec),
-            offset,
+        assert!(rt;
+            allotment.offset(slot, rec) == offset,
             "slot {slot} record {rec}"
         );
     }
@@ -312,10 +311,10 @@ fn is_base_plan(
     host: &[u8],
 ) -> Result<(), Fail> {
     let text = describe(rt.alloc(), plan)?;
-    assert_eq!(rt; text.as_str(), BASE_PLAN);
-    assert_eq!(rt; plan.order(), order);
-    assert_eq!(rt; Some(plan.names().as_flattened()), host.get(64..192));
-    assert_eq!(rt; Some(plan.tail()), host.get(256..512));
+    assert!(rt; text.as_str() == BASE_PLAN, "{text}");
+    assert!(rt; plan.order() == order);
+    assert!(rt; Some(plan.names().as_flattened()) == host.get(64..192));
+    assert!(rt; Some(plan.tail()) == host.get(256..512));
     Ok(())
 }
 
@@ -347,7 +346,7 @@ fn no_private_words_behind_the_last_offset(rt: HostRuntime) -> Result<(), Fail> 
     let changes = [Records(2, &[PublicDefinition(COUNT, 3), End(40000)])];
     for order in ORDERS {
         let host = unit_in_place(alloc, order)?.with(alloc, &changes)?;
-        assert_eq!(rt; sizes(alloc, host.as_slice()), Some((40000, 0, 10)));
+        assert!(rt; sizes(alloc, host.as_slice()) == Some((40000, 0, 10)));
     }
     Ok(())
 }

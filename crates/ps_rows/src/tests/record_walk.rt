@@ -59,9 +59,9 @@ fn walks(
     let mut records = Records::new(Order::Little, bytes);
     for item in wanted {
         let text = next(rt.alloc(), &mut records)?;
-        assert_eq!(rt; text.as_str(), *item, "of {length} bytes");
+        assert!(rt; text.as_str() == *item, "of {length} bytes: {text}");
     }
-    assert_eq!(rt; records.used(), used, "of {length} bytes");
+    assert!(rt; records.used() == used, "of {length} bytes");
     Ok(())
 }
 
@@ -69,7 +69,7 @@ fn walks(
 fn the_base_library_and_its_cuts(rt: HostRuntime) -> Result<(), Fail> {
     let information = Information::new(rt.alloc(), Order::Little, &LIBRARY_RECORDS)?;
     let bytes = information.as_slice();
-    assert_eq!(rt; bytes.len(), 80);
+    assert!(rt; bytes.len() == 80);
     for (length, items, used) in WALKS {
         walks(&rt, bytes.get(..length).unwrap_or(bytes), items, used)?;
     }

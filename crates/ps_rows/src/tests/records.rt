@@ -82,7 +82,7 @@ pub(crate) fn reads(
 ) -> Result<(), Fail> {
     let alloc = rt.alloc();
     let text = read(alloc, alloc, order, bytes)?;
-    assert_eq!(rt; text.as_str(), wanted, "{what}");
+    assert!(rt; text.as_str() == wanted, "{what}: {text}");
     Ok(())
 }
 
@@ -97,7 +97,7 @@ pub(crate) fn reads_records(
     for order in [Order::Little, Order::Big] {
         let information = Information::new(rt.alloc(), order, records)?;
         let bytes = information.as_slice();
-        assert_eq!(rt; bytes.len(), length, "{what}");
+        assert!(rt; bytes.len() == length, "{what}");
         reads(rt, order, what, bytes, wanted)?;
     }
     Ok(())
@@ -117,7 +117,7 @@ fn the_base_library_and_its_cuts(rt: HostRuntime) -> Result<(), Fail> {
     for order in [Order::Little, Order::Big] {
         let information = Information::new(rt.alloc(), order, &LIBRARY_RECORDS)?;
         let bytes = information.as_slice();
-        assert_eq!(rt; bytes.len(), 80);
+        assert!(rt; bytes.len() == 80);
         for (what, length, wanted) in CUTS {
             let cut = bytes.get(..length).unwrap_or(bytes);
             reads(&rt, order, what, cut, wanted)?;
@@ -181,12 +181,12 @@ fn records_in_either_byte_order(rt: HostRuntime) -> Result<(), Fail> {
 
 /// Checks a record of references 0, 1, 2 and so on, as many as one can have, and an end mark.
 fn have_every_reference(rt: &impl Abort, records: &[LinkRecord<'_>]) {
-    assert_eq!(rt; records.len(), 2);
+    assert!(rt; records.len() == 2);
     match records.first().map(|record| &record.body) {
         Some(Body::PublRef(read)) => {
-            assert_eq!(rt; read.len(), 65535);
+            assert!(rt; read.len() == 65535);
             for i in 0..read.len() {
-                assert_eq!(rt; usize::from(read.get(i)), i);
+                assert!(rt; usize::from(read.get(i)) == i);
             }
         }
         _ => assert!(rt; false, "no public reference"),
@@ -200,7 +200,7 @@ fn as_many_references_as_a_record_can_have(rt: HostRuntime) -> Result<(), Fail> 
     let records = [PublicReference(COUNT, references.as_slice()), End(0)];
     let information = Information::new(alloc, LITTLE, &records)?;
     let bytes = information.as_slice();
-    assert_eq!(rt; bytes.len(), 131104);
+    assert!(rt; bytes.len() == 131104);
     match read_records(alloc, LITTLE, bytes) {
         Ok(records) => have_every_reference(&rt, records.as_slice()),
         Err(_) => assert!(rt; false, "no records"),

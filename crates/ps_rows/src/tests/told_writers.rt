@@ -63,12 +63,15 @@ fn tells(
 ) -> Result<(), Fail> {
     let (room, per_write, _) = writer;
     let (text, counted, inner) = told(rt.alloc(), linked, writer)?;
-    assert_eq!(rt; text.as_str(), answer, "{room} {per_write}");
-    assert_eq!(rt; counted, wanted, "{room} {per_write}");
+    assert!(rt; text.as_str() == answer, "{room} {per_write}: {text}");
+    assert!(rt; counted == wanted, "{room} {per_write}");
     let made = (inner.writes(), inner.failures());
-    assert_eq!(rt; made, (wanted.writes, wanted.errors), "{room} {per_write}");
+    assert!(rt;
+        made == (wanted.writes, wanted.errors),
+        "{room} {per_write}"
+    );
     let prefix = file.get(..room).unwrap_or(&[]);
-    assert_eq!(rt; inner.written(), prefix, "{room} {per_write}");
+    assert!(rt; inner.written() == prefix, "{room} {per_write}");
     Ok(())
 }
 
@@ -149,12 +152,12 @@ fn counts_no_plain_write(
 ) -> Result<(), Fail> {
     let mut out = Counting::new(Room::new(rt.alloc(), 1536, 100, Full::Stalls)?);
     linked.write(&mut out)?;
-    assert_eq!(rt; tally_of(&out), NOTHING);
-    assert_eq!(rt; out.write(b"more")?, 0);
+    assert!(rt; tally_of(&out) == NOTHING);
+    assert!(rt; out.write(b"more")? == 0);
     out.flush()?;
-    assert_eq!(rt; tally_of(&out), NOTHING);
+    assert!(rt; tally_of(&out) == NOTHING);
     let inner = out.into_inner();
-    assert_eq!(rt; inner.written(), file);
+    assert!(rt; inner.written() == file);
     Ok(())
 }
 
@@ -189,9 +192,9 @@ fn tells_once(
     wanted: Tallied,
 ) -> Result<(), Fail> {
     let mut out = Counting::new(Room::new(rt.alloc(), room, per_write, full)?);
-    assert_eq!(rt; tally_of(&out), NOTHING);
-    assert_eq!(rt; out.told_write(bytes).ok(), taken);
-    assert_eq!(rt; tally_of(&out), wanted);
+    assert!(rt; tally_of(&out) == NOTHING);
+    assert!(rt; out.told_write(bytes).ok() == taken);
+    assert!(rt; tally_of(&out) == wanted);
     Ok(())
 }
 
@@ -261,10 +264,10 @@ fn is_error(
     let alloc = rt.alloc();
     match answer {
         Err(LinkError::Write(WriteFault::Device(error))) => {
-            assert_eq!(rt; error.kind(), given.kind());
-            assert_eq!(rt; error.raw_os_error(), given.raw_os_error());
+            assert!(rt; error.kind() == given.kind());
+            assert!(rt; error.raw_os_error() == given.raw_os_error());
             let given = format!(in alloc; "{given}")?;
-            assert_eq!(rt; format!(in alloc; "{error}")?.as_str(), given.as_str());
+            assert!(rt; format!(in alloc; "{error}")?.as_str() == given.as_str());
         }
         _ => assert!(rt; false, "no error of the write"),
     }
@@ -288,10 +291,10 @@ fn the_error_of_the_write_comes_back(rt: HostRuntime) -> Result<(), Fail> {
 fn texts_of_write_faults(rt: HostRuntime) -> Result<(), Fail> {
     let alloc = rt.alloc();
     let text = format!(in alloc; "{}", WriteFault::Device(Broken::Torn.error()))?;
-    assert_eq!(rt; text.as_str(), "the tape is torn");
+    assert!(rt; text.as_str() == "the tape is torn", "{text}");
     let text = format!(in alloc; "{}", WriteFault::Stalled)?;
-    assert_eq!(rt; text.as_str(), "the writer takes no more bytes");
+    assert!(rt; text.as_str() == "the writer takes no more bytes", "{text}");
     let text = format!(in alloc; "{}", LinkError::Write(WriteFault::Stalled))?;
-    assert_eq!(rt; text.as_str(), "the writer takes no more bytes");
+    assert!(rt; text.as_str() == "the writer takes no more bytes", "{text}");
     Ok(())
 }

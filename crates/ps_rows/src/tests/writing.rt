@@ -20,12 +20,11 @@ fn writes(
     let mut out = Room::new(alloc, room, per_write, full)?;
     let answered = ps_linkfile::link(alloc, link.host, link.libraries, &mut out);
     let text = text_of(alloc, answered)?;
-    assert_eq!(rt; text.as_str(), answer, "{room} {per_write}");
+    assert!(rt; text.as_str() == answer, "{room} {per_write}: {text}");
     let prefix = link.linked.get(..room).unwrap_or(&[]);
-    assert_eq!(rt; out.written(), prefix, "{room} {per_write}");
-    assert_eq!(rt;
-        (out.writes(), out.failures()),
-        counts,
+    assert!(rt; out.written() == prefix, "{room} {per_write}");
+    assert!(rt;
+        (out.writes(), out.failures()) == counts,
         "{room} {per_write}"
     );
     Ok(())
