@@ -218,6 +218,7 @@ class Bench:
         """All kinds of large files with so many records each."""
         self.timed(f"{count} definitions, {OPERANDS} operands", "link", "host", "out", "library",
                    host=host_of_definitions(count), library=library_of_operands())
+        self.timed(f"the map of {count} definitions", "map", "host", "library")
         self.timed(f"{count} private variables", "link", "host", "out", "library",
                    host=host_of_definitions(1), library=library_of_privates(count))
         for what, kind, form in (("private variables", PRIVREF, BIG), ("public references", PUBLREF, BIG),

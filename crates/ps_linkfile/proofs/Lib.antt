@@ -9,6 +9,7 @@ pub mod Plans
 pub mod Whole
 pub mod Maps
 pub mod Shows
+pub mod InPieces
 pub mod ReferenceText
 pub mod Written
 pub mod ShownNames

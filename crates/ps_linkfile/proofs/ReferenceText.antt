@@ -5,8 +5,7 @@ use Rattle.std.specs.List.{flat_map}
 use Rattle.std.specs.Str.{IsAscii}
 use Rattle.std.proofs.Math.Seq.{drop-cons}
 use Rattle.std.proofs.lemmas.Fmt.{IsAscii-decimal, length-decimal-le}
-use Rattle.std.proofs.lemmas.Grind.{flat_map-append}
-use Rattle.std.proofs.lemmas.List.{drop-drop, length-drop, take-append-drop, take_min}
+use Rattle.std.proofs.lemmas.List.{length-drop, take_min}
 use Rattle.std.proofs.lemmas.Str.Ascii.{IsAscii-cons}
 use Rattle.ps_linkfile.specs.ShowText.{reference}
 
@@ -26,13 +25,6 @@ take_one x xs n = rw add-one refl
 -- the text of one reference stands before that of those behind it
 pub one_more : (xs : List ℕ) (i n : ℕ) → i < length xs → reference (get_or xs i 0) ++ flat_map reference (take n (drop (i + 1) xs)) ≡ flat_map reference (take (n + 1) (drop i xs))
 one_more xs i n h = sym (ap (λ (ys : List ℕ). flat_map reference (take (n + 1) ys)) (drop_one xs i h) ∙ ap (flat_map reference) (take_one (get_or xs i 0) (drop (i + 1) xs) n))
-
--- the text of the references from i on is that of a piece and of those behind it
-pub one_piece : (xs : List ℕ) (i n : ℕ) → flat_map reference (take n (drop i xs)) ++ flat_map reference (drop (i + n) xs) ≡ flat_map reference (drop i xs)
-one_piece xs i n =
-    ap (λ (ys : List ℕ). flat_map reference (take n (drop i xs)) ++ flat_map reference ys) (sym (drop-drop n i xs))
-    ∙ (sym (flat_map-append reference (take n (drop i xs)) (drop n (drop i xs)))
-    ∙ ap (flat_map reference) (take-append-drop n (drop i xs)))
 
 -- a piece has all that are left, and 64 at most
 pub piece_is : (xs : List ℕ) (i end : ℕ) → i ≤ length xs → end ≡ min (length xs) (i + 64) → take (end - i) (drop i xs) ≡ take 64 (drop i xs)

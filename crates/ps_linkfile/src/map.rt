@@ -1,5 +1,5 @@
 //! The map of a link, as text.
-ghost use Rattle.std.specs.Prelude.{◌≡◌, None, IfOk, IfErr, length};
+ghost use Rattle.std.specs.Prelude.{◌≡◌, ◌≤◌, ◌+◌, ◌-◌, None, IfOk, IfErr, drop, length, take};
 ghost use Rattle.std.specs.Fmt.{WritesOnOk};
 ghost use Rattle.std.specs.List.{flat_map};
 ghost use Rattle.ps_resolve.specs.AllFaults.{first_fault};
@@ -88,6 +88,37 @@ fn add_definition<W: fmt::Write>(text: &mut Formatter<W>, name: Name, def: Def) 
     text.write_str("\n")
 }
 
+/// How many definitions are looked up before their lines are written. In record order they stand
+/// anywhere in memory, and what is fetched close together is fetched at once.
+const LOOKED_UP_AT_ONCE: usize = 64;
+
+/// Puts the definitions from the index `from` on, up to `end`, in the places of `found`.
+fn look_up<A: Allocator + Copy>(
+    definitions: &Definitions<A>,
+    from: usize,
+    end: usize,
+    found: &mut [(Name, Def)],
+)
+    requires within { end ≤ length definitions.now }
+    requires as_many { from + length found.old ≡ end }
+    ensures { found.new ≡ take (end - from) (drop from definitions.now) }
+{
+    for i in from..end {
+        found[i - from] = definitions.at(i);
+    }
+}
+
+/// Adds a line for each of the definitions that were looked up.
+fn add_found<W: fmt::Write>(text: &mut Formatter<W>, found: &[(Name, Def)]) -> fmt::Result
+    ensures { WritesOnOk W.write_str_gives text.old result
+        (flat_map definition_line found.now) text.new }
+{
+    for (name, def) in found {
+        add_definition(text, *name, *def)?;
+    }
+    Ok(())
+}
+
 /// Adds a line for each definition, in record order.
 fn add_definitions<A: Allocator + Copy, W: fmt::Write>(
     text: &mut Formatter<W>,
@@ -97,9 +128,13 @@ fn add_definitions<A: Allocator + Copy, W: fmt::Write>(
         (flat_map definition_line definitions.now) text.new }
 {
     let count = definitions.len();
-    for i in 0..count {
-        let (name, def) = definitions.at(i);
-        add_definition(text, name, def)?;
+    for index in 0..count.div_ceil(LOOKED_UP_AT_ONCE) {
+        let from = LOOKED_UP_AT_ONCE * index;
+        let mut places = [definitions.at(from); LOOKED_UP_AT_ONCE];
+        let end = from + LOOKED_UP_AT_ONCE.min(count - from);
+        let found = &mut places[..end - from];
+        look_up(definitions, from, end, found);
+        add_found(text, found)?;
     }
     Ok(())
 }

@@ -252,7 +252,8 @@ fn add_record_fault<W: fmt::Write>(
     rec: usize,
     reason: Reason,
 ) -> fmt::Result
-    ensures { WritesOnOk W.write_str_gives text.old result (fault_line rec (Some reason)) text.new }
+    ensures { WritesOnOk W.write_str_gives text.old result
+        (fault_line rec (Some reason)) text.new }
 {
     let fault = FaultWords(reason);
     writeln!(text, "{rec} {fault}")

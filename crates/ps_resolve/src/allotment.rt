@@ -178,7 +178,8 @@ fn allot_all<A: Allocator + Copy, S: AsksForPrivates>(
     next: u16,
     segments: &[S],
 ) -> Result<(Vec<Private, A>, u16), Stop>
-    ensures privates { IfOk result (λ a. a.0.items ≡ all_allotted next (map S.owner segments.now)) }
+    ensures privates { IfOk result (λ a. a.0.items
+        ≡ all_allotted next (map S.owner segments.now)) }
     ensures end { IfOk result (λ a. a.1 ≡ next + all_words (map S.owner segments.now)) }
     ensures once { IfOk result (λ _. first_private_fault next (map S.owner segments.now) ≡ None) }
     ensures stop { IfErr result (IsStop

@@ -1,7 +1,7 @@
 use Rattle.std.proofs.Common.{◌≡◌, ◌++◌, ◌+◌, ◌*◌, ◌∙◌, ℕ, List, drop, take, ap, arith, refl, rules, sym}
 use Rattle.std.specs.List.{flat_map}
 use Rattle.ps_linkfile.specs.ShowText.{reference, references}
-use Rattle.ps_linkfile.proofs.ReferenceText.{one_piece}
+use Rattle.ps_linkfile.proofs.InPieces.{one_piece}
 use Rattle.ps_linkfile.proofs.Written.{none_yet, some_more}
 use Rattle.ps_linkfile.proofs.show.add_references.Goals as goal
 
@@ -15,5 +15,5 @@ loop-index-preserved g c =
     let refs : List ℕ = c.args.refs.now in
     let i : ℕ = c.loop-index.index in
     let next : 64 * (i + 1) ≡ 64 * i + 64 = omega arith in
-    let split = ap (λ (n : ℕ). flat_map reference (take 64 (drop (64 * i) refs)) ++ flat_map reference (drop n refs)) next ∙ one_piece refs (64 * i) 64 in
+    let split = ap (λ (n : ℕ). flat_map reference (take 64 (drop (64 * i) refs)) ++ flat_map reference (drop n refs)) next ∙ one_piece reference refs (64 * i) 64 in
     some_more _ _ _ c.loop-index.text _ _ _ _ (sym split) c.loop-index.invariant (λ plain. c.in_ok-add_piece.ensures plain (search rules))
