@@ -1,6 +1,6 @@
 //! Text that is written to a writer in pieces.
 ghost use Rattle.std.specs.Prelude.{◌≡◌, [], IfSome, OnOk};
-ghost use Rattle.std.specs.Io.KnownBytes.{Appends, Keeps, append_known};
+ghost use Rattle.std.specs.Io.KnownBytes.{Appends, append_known};
 
 use crate::counts::Counts;
 use crate::error::WriteFault;
