@@ -260,7 +260,7 @@ fn lengths_of_codes(rt: HostRuntime) -> Result<(), Fail> {
 #[test]
 fn codes_that_are_not_whole(rt: HostRuntime) -> Result<(), Fail> {
     let mut file = base_host(Order::Big);
-    assert!(rt; Dict::read(cut(&file, 530))?.code(1).is_ok() == true);
+    assert!(rt; Dict::read(cut(&file, 530))?.code(1).is_ok());
     assert!(rt; Dict::read(cut(&file, 529))?.code(1) == Err(Reason::Truncated));
     assert!(rt; Dict::read(cut(&file, 512))?.code(1) == Err(Reason::Truncated));
     for (address, length, reason) in [

@@ -241,7 +241,7 @@ impl Write for Broken {
     }
 
     fn flush(&mut self) -> io::Result<()> {
-        Ok(())
+        Err(self.error())
     }
 }
 
@@ -285,6 +285,15 @@ fn the_error_of_the_write_comes_back(rt: HostRuntime) -> Result<(), Fail> {
         is_error(&rt, answer, &way.error())?;
     }
     Ok(())
+}
+
+#[test]
+fn a_flush_is_handed_on(rt: HostRuntime) {
+    for way in WAYS {
+        let mut out = Counting::new(way);
+        assert!(rt; out.flush().is_err());
+        assert!(rt; out.writes() == 0 && out.errors() == 0);
+    }
 }
 
 #[test]
