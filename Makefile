@@ -1,12 +1,19 @@
-# `make demo` proves and builds pslink and links the sample host with the sample libraries, `make test` proves and tests all,
-# `make install PREFIX=..` puts the program, its manual pages and its documents in place, `make bench` times links of large files.
+# make demo: proves and builds pslink, and links two samples
+# make test: the gate, which proves and tests everything
+# make lib: proves and builds the library for C
+# make install PREFIX=/opt/pslink: installs the program, the library, their manual pages and the documents; without PREFIX in /usr/local
+# make dist: packs the same for people without the kit
+# make bench: times links of large files and of malicious input
 PREFIX ?= /usr/local
 MAN = $(PREFIX)/share/man
 DOC = $(PREFIX)/share/doc/pslink
+VERSION = 0.1.0
+LIBRARY = library/out
+DIST = pslink-$(VERSION)-x86_64-linux
 PROGRAM = crates/ps_linker
 BINARY = $(PROGRAM)/out/ps_linker
 
-.PHONY: demo build test bench install
+.PHONY: demo build lib test bench install install-built dist
 
 demo:
 	cd $(PROGRAM) && rt run -- link ../../samples/host.code out/demo.code ../../samples/library.code
@@ -18,12 +25,37 @@ build:
 test:
 	.ci/run
 
-bench: build
-	python3 bench/large_files.py $(BINARY)
+lib:
+	library/build
 
-install: build
-	install -d $(DESTDIR)$(PREFIX)/bin $(DESTDIR)$(MAN)/man1 $(DESTDIR)$(MAN)/man5 $(DESTDIR)$(DOC)
+bench: build lib
+	python3 bench/large_files.py $(BINARY)
+	python3 bench/in_process.py $(BINARY) $(LIBRARY)
+
+install: build lib install-built
+
+# what is built already, put in place
+install-built:
+	install -d $(DESTDIR)$(PREFIX)/bin $(DESTDIR)$(PREFIX)/include $(DESTDIR)$(PREFIX)/lib/pkgconfig
+	install -d $(DESTDIR)$(MAN)/man1 $(DESTDIR)$(MAN)/man3 $(DESTDIR)$(MAN)/man5 $(DESTDIR)$(DOC)
 	install -m 755 $(BINARY) $(DESTDIR)$(PREFIX)/bin/pslink
 	install -m 644 man/pslink.1 $(DESTDIR)$(MAN)/man1/pslink.1
 	install -m 644 man/pslink.5 $(DESTDIR)$(MAN)/man5/pslink.5
 	install -m 644 docs/*.md $(DESTDIR)$(DOC)
+	install -m 644 man/pslink.3 $(DESTDIR)$(MAN)/man3/pslink.3
+	install -m 644 include/pslink.h $(DESTDIR)$(PREFIX)/include/pslink.h
+	install -m 644 $(LIBRARY)/libpslink.a $(DESTDIR)$(PREFIX)/lib/libpslink.a
+	install -m 755 $(LIBRARY)/libpslink.so.1 $(DESTDIR)$(PREFIX)/lib/libpslink.so.1
+	ln -sf libpslink.so.1 $(DESTDIR)$(PREFIX)/lib/libpslink.so
+	sed -e 's|@PREFIX@|$(PREFIX)|' -e 's|@VERSION@|$(VERSION)|' library/pslink.pc.in >$(DESTDIR)$(PREFIX)/lib/pkgconfig/pslink.pc
+
+# the program, the library and all that is read beside them, in one file, and which C library they need
+dist: build lib
+	rm -rf $(LIBRARY)/$(DIST)
+	$(MAKE) --no-print-directory install-built PREFIX=/usr/local DESTDIR=$(LIBRARY)/$(DIST)/root
+	mv $(LIBRARY)/$(DIST)/root/usr/local/* $(LIBRARY)/$(DIST)
+	rm -r $(LIBRARY)/$(DIST)/root
+	sed -i 's|^prefix=.*|prefix=$${pcfiledir}/../..|' $(LIBRARY)/$(DIST)/lib/pkgconfig/pslink.pc
+	cp -r LICENSE README.md samples bindings $(LIBRARY)/$(DIST)
+	library/needs $(LIBRARY)/$(DIST)/bin/pslink $(LIBRARY)/libpslink.so.1 | tee $(LIBRARY)/$(DIST)/NEEDS
+	tar --sort=name --owner=0 --group=0 --numeric-owner --mtime=@0 -C $(LIBRARY) -czf $(DIST).tar.gz $(DIST)

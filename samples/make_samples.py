@@ -1,19 +1,19 @@
 #!/usr/bin/env python3
 """Writes the sample files from the descriptions at the end of this file. docs/FORMAT.md says what each part means.
-Usage: make_samples.py [FOLDER]. Where none is given, that is the folder of this script, and the files of the repository
-that lie elsewhere are written too."""
+Usage: make_samples.py [FOLDER]. Without FOLDER it writes to the folder of this script and, where that is the folder of
+the repository, updates the files of ELSEWHERE too."""
 import dataclasses
 import pathlib
 import sys
 
 LINKED, HOSTSEG, SEGPROC, UNITSEG, SEPRTSEG = range(5)
 BLOCK = 512
-WANTED = None  # the code of a unit that a library is to supply
+WANTED = None  # the code of a unit that a library must supply
 
 
-# P-code, of which a linker reads nothing but the operands that a reference names ------------------------------------
-# The names of instructions, what they do, and the lex levels below are not from the sources that this project used:
-# docs/FORMAT.md marks them as open.
+# P-code. A linker reads only the operands to which a reference points ------------------------------------------------
+# The names of instructions, what they do, and the lex levels below do not come from the sources of this project:
+# docs/FORMAT.md marks them (open).
 
 OPCODES = {
     "LAO": 0xA5,  # load the address of a global variable
@@ -29,7 +29,7 @@ OPCODES = {
 
 
 def instruction(text):
-    """The bytes of 'LAO BIG 2', with a two-byte operand, of 'CXP 7 1', with operands of a byte, or of 'SLDC 5', a 5."""
+    """The bytes of 'LAO BIG 2', with a two-byte operand, of 'CXP 7 1', with operands of one byte, or of 'SLDC 5', a 5."""
     word, *operands = text.split()
     if word == "SLDC":
         return bytes([int(operands[0])])
@@ -41,7 +41,7 @@ def instruction(text):
 
 @dataclasses.dataclass
 class Procedure:
-    """Its instructions, of which the last is where it is left; sizes in bytes."""
+    """Its instructions, of which the last is the exit; sizes in bytes."""
 
     number: int
     code: list
@@ -51,18 +51,18 @@ class Procedure:
 
 
 def procedure_bytes(procedure, start, word):
-    """The code from byte `start` of the segment on, filled up to an even place; its table; and the table's place."""
+    """The code from byte `start` of the segment on, padded to an even offset; its table; and the table's offset."""
     parts = [instruction(text) for text in procedure.code]
     code = b"".join(parts)
     leave = start + len(code) - len(parts[-1])
     code += bytes(len(code) % 2)
-    words = start + len(code)  # the places of the four words, which count backward from the table's place
+    words = start + len(code)  # the offset of the four words before the table
     table = word(procedure.data) + word(procedure.parameters) + word(words + 4 - leave) + word(words + 6 - start)
     return code + table + bytes([procedure.number, procedure.lex_level]), words + 8
 
 
 def segment_bytes(number, procedures, word):
-    """The procedures in their order, then the procedure dictionary, the segment's number and how many there are."""
+    """The procedures in order, then the procedure dictionary, the segment number and the number of procedures."""
     code, tables = b"", {}
     for procedure in procedures:
         part, tables[procedure.number] = procedure_bytes(procedure, len(code), word)
@@ -126,12 +126,12 @@ class Segment:
 
 
 def whole(part, size):
-    """Filled up with zeros to a whole number of pieces."""
+    """Padded with zeros to a multiple of `size`."""
     return part + bytes(-len(part) % size)
 
 
 def code_file(slots, order="little", tail=None):
-    """The file with these segments, by slot; `tail` has bytes of the dictionary's second half, by place."""
+    """The file with these segments, by slot; `tail` has bytes of the dictionary's second half, by offset."""
 
     def word(value):
         return value.to_bytes(2, order)
@@ -156,7 +156,7 @@ def code_file(slots, order="little", tail=None):
 
 # The samples ---------------------------------------------------------------------------------------------------------
 
-# A program of five words of data, behind two of parameters: base offsets 3 to 7, so 8 is free next.
+# A program of five words of data, after two of parameters: base offsets 3 to 7, so 8 is free next.
 PROGRAM = [Procedure(1, ["NOP", "NOP", "RBP 0"], parameters=4, data=10)]
 PROGRAM_LINKS = [publ_def("COUNT", 3), eof_mark(8)]
 DEMO = Segment("DEMO", HOSTSEG, PROGRAM, PROGRAM_LINKS)
@@ -169,7 +169,10 @@ HOST = {1: DEMO, 7: Segment("UTIL", UNITSEG, WANTED)}
 LIBRARY = {2: Segment("UTIL", UNITSEG, UNIT, UNIT_LINKS)}
 TAIL = {300: 0x2A}
 
-# Two units in place: AUX calls procedure 1 of UTIL, whose number the linker puts at byte 1. Each has its own STATE.
+# A unit that calls procedure 1 of AUX, whose segment number the linker puts at byte 1.
+USING = [Procedure(1, ["CXP 0 1", "RNP 0"])]
+
+# Two units in the host: AUX calls procedure 1 of UTIL in the same way. Each has its own STATE.
 UTIL_IN_PLACE = [Procedure(1, ["LAO BIG 0", "SRO BIG 0", "RNP 0"])]
 AUX_IN_PLACE = [Procedure(1, ["CXP 0 1", "LAO BIG 1", "RNP 0"])]
 AUX_LINKS = [unit_ref("UTIL", [1]), priv_ref("STATE", 2, [4]), eof_mark(0)]
@@ -188,8 +191,8 @@ SAMPLES = {
     # the same for a big-endian machine
     "big_host.code": code_file(HOST, "big", TAIL),
     "big_library.code": code_file(LIBRARY, "big"),
-    # a UTIL that uses AUX, which the host does not name, and the library of AUX
-    "using.code": code_file({2: Segment("UTIL", UNITSEG, UNIT, [unit_ref("AUX", [2]), eof_mark(0)])}),
+    # a UTIL that uses AUX, for which the host has no slot, and the library of AUX
+    "using.code": code_file({2: Segment("UTIL", UNITSEG, USING, [unit_ref("AUX", [1]), eof_mark(0)])}),
     "used.code": code_file({3: Segment("AUX", UNITSEG, UNIT, UNIT_LINKS)}),
     # a host with two units in it, of which AUX refers to UTIL
     "two_units.code": code_file(
@@ -209,7 +212,7 @@ SAMPLES = {
     ),
 }
 
-# What is kept elsewhere in the repository: the host with UTIL in it, on which the program is run when it is tested.
+# Files elsewhere in the repository: the host with UTIL in it, with which the tests run the program.
 ELSEWHERE = {
     "crates/ps_linker/data/host.code": code_file(
         {1: DEMO, 7: Segment("UTIL", UNITSEG, UNIT, [publ_ref("COUNT", [1]), eof_mark(0)])}, tail=TAIL
@@ -225,7 +228,9 @@ def main():
         (folder / name).write_bytes(file)
     if folder == here:
         for name, file in ELSEWHERE.items():
-            (here.parent / name).write_bytes(file)
+            path = here.parent / name
+            if path.parent.is_dir():
+                path.write_bytes(file)
 
 
 if __name__ == "__main__":

@@ -1,54 +1,39 @@
 -- The tables of a code, procedure by procedure.
-use Rattle.std.proofs.Common.{◌≡◌, ℕ, zero, suc, ◌+◌, ◌<◌, ◌||◌, Bool, true, false, true≢false, Option, Some, None, refl, sym, ◌∙◌, ap, subst, arith}
-use Rattle.std.specs.List.{list_any, filter_map, range_with_len}
-use Rattle.std.proofs.Math.Bool.{or_assoc}
+use Rattle.std.proofs.Common.{◌≡◌, ℕ, ◌+◌, ◌-◌, ◌<◌, ◌≤◌, ◌||◌, List, [], ◌∷◌, map, Bool, Option, Some, None, get_or, length, drop, refl, ◌∙◌, ap, arith, add-one}
+use Rattle.std.specs.List.{list_any, filter_map}
+use Rattle.std.proofs.Math.Seq.{drop-cons}
+use Rattle.std.proofs.lemmas.List.FromFn.{get_or-map-range_with_len, length-map-range_with_len}
+use Rattle.ps_words.specs.declared.order.Order.{Order}
+use Rattle.ps_codefile.specs.Procedures.{all_tables, numbers, procedures, table_of}
 use Rattle.ps_codefile.specs.Places.{passes}
 
-or_true : (b : Bool) → (b || true) ≡ true
-or_true true = refl
-or_true false = refl
-
-or_false : (b : Bool) → (b || false) ≡ b
-or_false true = refl
-or_false false = refl
-
--- one more procedure in the row
-any_more_from : (test : ℕ → Bool) (f : ℕ → Option ℕ) (a n j : ℕ) → j ≡ a + n → list_any test (filter_map f (range_with_len a (suc n))) ≡ (list_any test (filter_map f (range_with_len a n)) || passes test (f j))
-any_more_from test f a zero j e = let same : j ≡ a = omega (arith, e) in rw same (at (f a) refl)
+-- a table's place passes a test
+any_of : (test : ℕ → Bool) (f : ℕ → Option ℕ) (ns : List ℕ) → list_any (passes test) (map f ns) ≡ list_any test (filter_map f ns)
+any_of test f [] = refl
+any_of test f (n ∷ ns) = at (f n) refl (any_of test f ns)
   where
-    at : (o : Option ℕ) → f a ≡ o → list_any test (filter_map f (range_with_len a 1)) ≡ passes test (f a)
-    at None is = rw is
-    at (Some t) is = rw is (or_false (test t))
-any_more_from test f a (suc n) j e = at (f a) refl (any_more_from test f (a + 1) n j (omega (arith, e)))
-  where
-    at : (o : Option ℕ) → f a ≡ o → list_any test (filter_map f (range_with_len (a + 1) (suc n))) ≡ (list_any test (filter_map f (range_with_len (a + 1) n)) || passes test (f j))
-        → list_any test (filter_map f (range_with_len a (suc (suc n)))) ≡ (list_any test (filter_map f (range_with_len a (suc n))) || passes test (f j))
+    at : (o : Option ℕ) → f n ≡ o → list_any (passes test) (map f ns) ≡ list_any test (filter_map f ns) → list_any (passes test) (map f (n ∷ ns)) ≡ list_any test (filter_map f (n ∷ ns))
     at None is rest = rw is rest
-    at (Some t) is rest = rw is (ap (λ (b : Bool). test t || b) rest ∙ sym (or_assoc (test t) (list_any test (filter_map f (range_with_len (a + 1) n))) (passes test (f j))))
+    at (Some t) is rest = rw is (ap (λ (b : Bool). test t || b) rest)
 
--- a table of the first i + 1 procedures passes a test just where one of the first i does, or that of procedure i + 1
-pub any_more : (test : ℕ → Bool) (f : ℕ → Option ℕ) (i : ℕ) → list_any test (filter_map f (range_with_len 1 (i + 1))) ≡ (list_any test (filter_map f (range_with_len 1 i)) || passes test (f (i + 1)))
-any_more test f i =
-    let same : suc i ≡ i + 1 = omega arith in
-    subst (λ (n : ℕ). list_any test (filter_map f (range_with_len 1 n)) ≡ (list_any test (filter_map f (range_with_len 1 i)) || passes test (f (i + 1)))) same (any_more_from test f 1 i (i + 1) (omega arith))
+-- one of all tables does
+pub any_table : (test : ℕ → Bool) (order : Order) (code : List ℕ) (tables : List (Option ℕ)) → tables ≡ all_tables order code → list_any (passes test) tables ≡ list_any test (filter_map (table_of order code) (numbers code))
+any_table test order code tables all = ap (λ (ts : List (Option ℕ)). list_any (passes test) ts) all ∙ any_of test (table_of order code) (numbers code)
 
--- the first tables' test is not passed, nor that of the next
-pub none_more : (test : ℕ → Bool) (f : ℕ → Option ℕ) (i : ℕ) → list_any test (filter_map f (range_with_len 1 i)) ≡ false → passes test (f (i + 1)) ≡ false → list_any test (filter_map f (range_with_len 1 (i + 1))) ≡ false
-none_more test f i before here = any_more test f i ∙ rw (before, here)
+-- there is one for each procedure
+pub count : (order : Order) (code : List ℕ) (tables : List (Option ℕ)) → tables ≡ all_tables order code → length tables ≡ procedures code
+count order code tables all = ap (λ (ts : List (Option ℕ)). length ts) all ∙ length-map-range_with_len (table_of order code) 1 (procedures code)
 
--- a test that one procedure's table passes
-any_from : (test : ℕ → Bool) (f : ℕ → Option ℕ) (a n i j : ℕ) → i < n → j ≡ a + i → passes test (f j) ≡ true → list_any test (filter_map f (range_with_len a n)) ≡ true
-any_from test f a zero i j lt e h = absurd (omega arith)
-any_from test f a (suc n) zero j lt e h = at (f a) refl (let same : j ≡ a = omega (arith, e) in subst (λ (m : ℕ). passes test (f m) ≡ true) same h)
-  where
-    at : (o : Option ℕ) → f a ≡ o → passes test (f a) ≡ true → list_any test (filter_map f (range_with_len a (suc n))) ≡ true
-    at None is passed = absurd (true≢false (sym passed ∙ ap (passes test) is))
-    at (Some t) is passed = let here : test t ≡ true = sym (ap (passes test) is) ∙ passed in rw (is, here)
-any_from test f a (suc n) (suc i) j lt e h = at (f a) refl (any_from test f (a + 1) n i j (omega arith) (omega (arith, e)) h)
-  where
-    at : (o : Option ℕ) → f a ≡ o → list_any test (filter_map f (range_with_len (a + 1) n)) ≡ true → list_any test (filter_map f (range_with_len a (suc n))) ≡ true
-    at None is rest = rw is rest
-    at (Some t) is rest = rw (is, rest) (or_true (test t))
+-- that of procedure p
+pub table_at : (order : Order) (code : List ℕ) (tables : List (Option ℕ)) (p : ℕ) (d : Option ℕ) → tables ≡ all_tables order code → 1 ≤ p → p ≤ procedures code → get_or tables (p - 1) d ≡ table_of order code p
+table_at order code tables p d all low high =
+    ap (λ (ts : List (Option ℕ)). get_or ts (p - 1) d) all
+    ∙ get_or-map-range_with_len (table_of order code) 1 (procedures code) (p - 1) p d (omega (arith, low, high)) (omega (arith, low))
 
-pub any_at : (test : ℕ → Bool) (f : ℕ → Option ℕ) (n i : ℕ) → i < n → passes test (f (i + 1)) ≡ true → list_any test (filter_map f (range_with_len 1 n)) ≡ true
-any_at test f n i lt h = any_from test f 1 n i (i + 1) lt (omega arith) h
+-- the tables from one on are that one and those after it
+drop_one : (ts : List (Option ℕ)) (i : ℕ) (d : Option ℕ) → i < length ts → drop i ts ≡ get_or ts i d ∷ drop (i + 1) ts
+drop_one ts i d lt = rw (add-one, drop-cons ts i d)
+
+-- one of these passes a test just where it does or one after it
+pub any_from : (test : Option ℕ → Bool) (ts : List (Option ℕ)) (i : ℕ) (d : Option ℕ) → i < length ts → list_any test (drop i ts) ≡ (test (get_or ts i d) || list_any test (drop (i + 1) ts))
+any_from test ts i d lt = ap (λ (xs : List (Option ℕ)). list_any test xs) (drop_one ts i d lt)

@@ -1,5 +1,7 @@
--- The segment dictionary in block 0 of a code file: its byte order, its entries and the role of each, the code and the link information of an entry.
--- Source: UCSD Pascal II.0 manual, code file format. How the byte order is found, the roles, and the tail, which is copied unread, are this project's profile.
+-- The segment dictionary in block 0 of a code file: its byte order, its entries and the role of
+-- each, the code and the link information of an entry.
+-- Source: UCSD Pascal II.0 manual, code file format. How the byte order is found, the roles, and
+-- the tail, which is copied unread, are this project's profile.
 use Rattle.std.specs.Prelude.{◌≡◌, Result, ℕ, ◌+◌, ◌*◌, ◌%◌, ◌==◌, ◌&&◌, ◌||◌, not, if◌then◌else◌, List, [], ◌∷◌, length, slice_index, slice_range, drop, map, nat_le, nat_lt, Bool, true, false, Ok, Err}
 use Rattle.std.specs.List.{list_all}
 use Rattle.ps_words.specs.Words.{word_at, blocks}
@@ -19,16 +21,19 @@ slots = 0 ∷ 1 ∷ 2 ∷ 3 ∷ 4 ∷ 5 ∷ 6 ∷ 7 ∷ 8 ∷ 9 ∷ 10 ∷ 11 �
 abbrev pub block_len : ℕ
 block_len = 512
 
--- where the parts of the dictionary begin; the pairs of address and length stand at 0
+-- the offset of the names; the pairs of address and length begin at 0
 abbrev pub names_start : ℕ
 names_start = 64
 
+-- the offset of the kind words
 abbrev pub kinds_start : ℕ
 kinds_start = 192
 
+-- the offset of the text addresses
 abbrev pub texts_start : ℕ
 texts_start = 224
 
+-- the offset of the tail, which ends with the block
 abbrev pub tail_start : ℕ
 tail_start = 256
 
@@ -36,7 +41,8 @@ tail_start = 256
 abbrev pub max_code_len : ℕ
 max_code_len = 32767
 
--- What the sixteen kind words say of a file's byte order: nothing, for all are 0; this order; or no one order.
+-- What the sixteen kind words say of a file's byte order: nothing, for all are 0; this order; or no
+-- one order.
 pub data FileOrder : Type 0 where
   Zero : FileOrder
   Ordered : (order : Order) → FileOrder
@@ -85,24 +91,27 @@ role_of_kind kind =
     else (if kind == 4 then Err reason.NativeSegment
     else (if nat_le kind 7 then Err reason.Intrinsic else Err reason.UnknownKind)))))
 
--- A slot of kind 3 with address 0 or length 0 is wanted if it has a name, and empty if it has none. Any other slot of length 0 is empty. The rest are filled, and their kind decides.
+-- A slot of kind 3 with address 0 or length 0 is wanted if it has a name, and empty if it has none.
+-- Any other slot of length 0 is empty. The rest are filled, and their kind decides.
 abbrev pub role_of : Entry → Result Role Reason
 role_of e =
     if e.kind == 3 && (e.address == 0 || e.length == 0) && not (is_nameless e.name) then Ok role.Wanted
     else (if e.kind == 3 && (e.address == 0 || e.length == 0) then Ok role.Empty
     else (if e.length == 0 then Ok role.Empty else role_of_kind e.kind))
 
--- the slot is neither wanted nor empty, whatever its kind; whether its code can be read is another question
+-- the slot is neither wanted nor empty, whatever its kind; whether its code can be read is another
+-- question
 abbrev pub is_filled : Entry → Bool
 is_filled e = not (e.length == 0) && not (e.kind == 3 && e.address == 0)
 
 -- the kind is that of a segment with link information, a host's or a unit's
-abbrev pub is_linked_kind : ℕ → Bool
-is_linked_kind kind = kind == 1 || kind == 3
+abbrev pub kind_needs_linking : ℕ → Bool
+kind_needs_linking kind = kind == 1 || kind == 3
 
--- a segment with link information has at least one procedure word's place and a whole number of words
+-- a segment with link information has at least one procedure word's place and a whole number of
+-- words
 abbrev pub has_bad_length : Entry → Bool
-has_bad_length e = nat_lt max_code_len e.length || (is_linked_kind e.kind && (e.length % 2 == 1 || nat_lt e.length 4))
+has_bad_length e = nat_lt max_code_len e.length || (kind_needs_linking e.kind && (e.length % 2 == 1 || nat_lt e.length 4))
 
 -- the code of a filled entry, or the first reason why it has none
 abbrev pub code_of : List ℕ → Entry → Result (List ℕ) Reason
@@ -112,24 +121,26 @@ code_of file e =
     else (if nat_lt (length file) (block_len * e.address + e.length) then Err reason.Truncated
     else Ok (slice_range file (block_len * e.address) (block_len * e.address + e.length))))
 
--- the link information of an entry: the file from the block after its code, nothing where that lies past the end
+-- the link information of an entry: the file from the block after its code, nothing where that lies
+-- past the end
 abbrev pub information_of : List ℕ → Entry → List ℕ
 information_of file e = drop (block_len * (e.address + blocks e.length)) file
 
 -- A file whose words are read in this order.
-pub record Opened : Type 0 where
+pub record OpenedFile : Type 0 where
   pub order : Order
   pub file : List ℕ
 
--- a file read in the order that its kind words say; where all are 0 it has no host, and mixed ones give no order
-abbrev pub opened_as : List ℕ → FileOrder → Result Opened Reason
+-- a file read in the order that its kind words say; where all are 0 it has no host, and mixed ones
+-- give no order
+abbrev pub opened_as : List ℕ → FileOrder → Result OpenedFile Reason
 opened_as file Zero = Err reason.NoHost
 opened_as file (Ordered order) = Ok (record { order = order; file = file })
 opened_as file Mixed = Err reason.NoOrder
 
 -- a host, or any file read by itself: one with no kind but 0 has no host segment
-abbrev pub opened : List ℕ → Result Opened Reason
-opened file = if nat_lt (length file) block_len then Err reason.ShortFile else opened_as file (file_order file)
+abbrev pub opened_alone : List ℕ → Result OpenedFile Reason
+opened_alone file = if nat_lt (length file) block_len then Err reason.ShortFile else opened_as file (file_order file)
 
 -- the two byte orders are the same
 abbrev pub same_order : Order → Order → Bool
@@ -139,13 +150,13 @@ same_order Big Little = false
 same_order Big Big = true
 
 -- a file read in the host's order, where its kind words say that order or nothing
-abbrev pub opened_beside_as : Order → List ℕ → FileOrder → Result Opened Reason
+abbrev pub opened_beside_as : Order → List ℕ → FileOrder → Result OpenedFile Reason
 opened_beside_as host file Zero = Ok (record { order = host; file = file })
 opened_beside_as host file (Ordered order) = if same_order order host then Ok (record { order = host; file = file }) else Err reason.OrderMismatch
 opened_beside_as host file Mixed = Err reason.NoOrder
 
 -- a library, which has the host's byte order or none of its own
-abbrev pub opened_beside : Order → List ℕ → Result Opened Reason
+abbrev pub opened_beside : Order → List ℕ → Result OpenedFile Reason
 opened_beside host file = if nat_lt (length file) block_len then Err reason.ShortFile else opened_beside_as host file (file_order file)
 
 -- this is the result, its value seen through a view

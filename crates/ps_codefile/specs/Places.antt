@@ -1,9 +1,9 @@
 -- Sets of places of a code, a bit for each place, and the places of an attribute table.
-use Rattle.std.specs.Prelude.{ℕ, ◌+◌, ◌/◌, ◌%◌, ◌^◌, ◌<◌, ◌≤◌, ◌==◌, ◌&&◌, List, slice_index, length, Bool, nat_le, nat_lt, true, false, Option, ◌≡◌}
+use Rattle.std.specs.Prelude.{ℕ, All, ◌+◌, ◌/◌, ◌%◌, ◌^◌, ◌<◌, ◌≤◌, ◌==◌, ◌&&◌, List, slice_index, length, Bool, nat_le, nat_lt, false, Option, ◌≡◌}
 use Rattle.std.specs.Int.{bit_at}
-use Rattle.std.specs.Option.{option_map_or}
+use Rattle.std.specs.Option.{ForSome, option_map_or}
 use Rattle.ps_words.specs.declared.order.Order.{Order}
-use Rattle.ps_codefile.specs.Procedures.{procedures, dictionary_start, dictionary_len, is_placed}
+use Rattle.ps_codefile.specs.Procedures.{all_tables, dictionary_start, dictionary_len}
 
 -- how many places a set has room for, 64 to a word
 abbrev pub span : ℕ
@@ -36,7 +36,13 @@ pub record HasRoom (t : ℕ) : Type 0 where
   pub low : 8 ≤ t
   pub below : t + 2 ≤ span
 
--- What is known of procedure tables that were read without a fault: the procedure dictionary is within the code, and each table lies in the code before it.
-pub record AreTables (order : Order) (code : List ℕ) : Type 0 where
-  pub whole : dictionary_len code ≤ length code
-  pub placed : (p : ℕ) → 1 ≤ p → p ≤ procedures code → is_placed order code p ≡ true
+-- each of the tables is whole
+abbrev pub AreWhole : List ℕ → List (Option ℕ) → Type 0
+AreWhole code tables = All (λ table. ForSome table (IsWhole code)) tables
+
+-- These are the tables of a code that was read without a fault: the procedure dictionary is within
+-- the code, and each table lies in the code before it.
+pub record HasTables (order : Order) (code : List ℕ) (tables : List (Option ℕ)) : Type 0 where
+  pub fits : dictionary_len code ≤ length code
+  pub whole : AreWhole code tables
+  pub all : tables ≡ all_tables order code

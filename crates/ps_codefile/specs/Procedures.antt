@@ -1,6 +1,8 @@
--- Procedure tables at the end of a code: the procedure dictionary, the attribute tables that it points to, and the places that no operand may cover.
--- Source: UCSD Pascal II.0 manual, code file format. That the places are reserved is this project's profile.
-use Rattle.std.specs.Prelude.{ℕ, ◌+◌, ◌-◌, ◌*◌, ◌==◌, ◌&&◌, ◌||◌, not, if◌then◌else◌, List, length, slice_index, nat_le, nat_lt, Bool, Option, Some, None, Result, Ok, Err}
+-- Procedure tables at the end of a code: the procedure dictionary, the attribute tables that it
+-- points to, and the places that no operand may cover.
+-- Source: UCSD Pascal II.0 manual, code file format. That the places are reserved is this project's
+-- profile.
+use Rattle.std.specs.Prelude.{ℕ, ◌+◌, ◌-◌, ◌*◌, ◌==◌, ◌&&◌, ◌||◌, not, if◌then◌else◌, List, length, slice_index, map, nat_le, nat_lt, Bool, Option, Some, None, Result, Ok, Err}
 use Rattle.std.specs.List.{list_all, list_any, range_with_len, filter_map}
 use Rattle.ps_words.specs.Words.{word_at}
 use Rattle.ps_words.specs.declared.order.Order.{Order}
@@ -11,7 +13,8 @@ use Rattle.ps_words.specs.declared.fault.Reason.TheVariants as reason
 abbrev pub procedures : List ℕ → ℕ
 procedures code = slice_index code (length code - 1)
 
--- the length of the procedure dictionary: a word for each procedure, then the segment number and the number of procedures
+-- the length of the procedure dictionary: a word for each procedure, then the segment number and
+-- the number of procedures
 abbrev pub dictionary_len : List ℕ → ℕ
 dictionary_len code = 2 + 2 * procedures code
 
@@ -23,13 +26,15 @@ dictionary_start code = length code - dictionary_len code
 abbrev pub content_of : Order → List ℕ → ℕ → ℕ
 content_of order code p = word_at order code (length code - 2 - 2 * p)
 
--- the place of the attribute table of procedure p: its word's place minus the word's content, and none where that is 0
+-- the place of the attribute table of procedure p: its word's place minus the word's content, and
+-- none where that is 0
 abbrev pub table_of : Order → List ℕ → ℕ → Option ℕ
 table_of order code p =
     let content = content_of order code p in
     if content == 0 then None else Some (length code - 2 - 2 * p - content)
 
--- procedure p has no table, or one that begins in the code, eight bytes before its place, and ends before the dictionary
+-- procedure p has no table, or one that begins in the code, eight bytes before its place, and ends
+-- before the dictionary
 abbrev pub is_placed : Order → List ℕ → ℕ → Bool
 is_placed order code p =
     let content = content_of order code p in
@@ -40,18 +45,24 @@ is_placed order code p =
 abbrev pub numbers : List ℕ → List ℕ
 numbers code = range_with_len 1 (procedures code)
 
+-- the attribute table of each procedure
+abbrev pub all_tables : Order → List ℕ → List (Option ℕ)
+all_tables order code = map (table_of order code) (numbers code)
+
 -- the places of all tables
 abbrev pub tables : Order → List ℕ → List ℕ
 tables order code = filter_map (table_of order code) (numbers code)
 
 -- The first fault of the tables of a code, the host segment's or another's.
--- The tables are bad where the dictionary is longer than the code, where a table is not placed, or where the host's outer block, procedure 1, has no body; a native procedure's number is 0.
+-- The tables are bad where the dictionary is longer than the code, where a table is not placed, or
+-- where the host's outer block, procedure 1, has no body; a native procedure's number is 0.
 abbrev pub tables_fault : Order → List ℕ → Bool → Option Reason
 tables_fault order code host =
     if nat_lt (length code) (dictionary_len code) || not (list_all (is_placed order code) (numbers code)) || (host && (procedures code == 0 || content_of order code 1 == 0)) then Some reason.BadProcDict
     else (if list_any (λ t. slice_index code t == 0) (tables order code) then Some reason.NativeProcedure else None)
 
--- one of the ten bytes of the attribute table at t: the procedure number there, the lex level behind it, four words before it
+-- one of the ten bytes of the attribute table at t: the procedure number there, the lex level after
+-- it, four words before it
 abbrev pub is_in_table : ℕ → ℕ → Bool
 is_in_table p t = nat_le (t - 8) p && nat_le p (t + 1)
 

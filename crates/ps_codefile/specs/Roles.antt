@@ -5,12 +5,12 @@ use Rattle.ps_codefile.specs.declared.entry.Role.{Role}
 use Rattle.ps_codefile.specs.declared.entry.Role.TheVariants.{Empty, Wanted, Plain, Host, Unit}
 
 -- a segment of the host, of a unit in place, or of a wanted unit: its references are resolved
-abbrev pub is_linked : Role → Bool
-is_linked Empty = false
-is_linked Wanted = true
-is_linked Plain = false
-is_linked Host = true
-is_linked Unit = true
+abbrev pub needs_linking : Role → Bool
+needs_linking Empty = false
+needs_linking Wanted = true
+needs_linking Plain = false
+needs_linking Host = true
+needs_linking Unit = true
 
 -- the host's own segment
 abbrev pub is_host : Role → Bool

@@ -1,10 +1,10 @@
 ghost use Rattle.std.specs.Prelude.{◌≡◌, ◌<◌, ◌≤◌, ◌+◌, ◌*◌, ◌==◌, length, slice_index};
 ghost use Rattle.std.specs.List.{list_all};
-ghost use Rattle.ps_codefile.specs.Dictionary.{slots, Opened, opened, opened_beside, entry_at, name_at, names_of, tail_of, role_of, is_filled, code_of, information_of, IsViewOf};
+ghost use Rattle.ps_codefile.specs.Dictionary.{slots, OpenedFile, opened_alone, opened_beside, entry_at, name_at, names_of, tail_of, role_of, is_filled, code_of, information_of, IsViewOf};
 
+use crate::dictionary_layout::{KINDS, NAMES, PAIR, SLOT_COUNT, TAIL, TEXTS};
 use crate::entry::{Entry, Role};
-use crate::layout::{KINDS, NAME, NAMES, PAIR, SLOTS, TAIL, TEXTS, WORD};
-use ps_words::{BLOCK_SIZE, Name, Order, Reason, blocks_of, get};
+use ps_words::{BLOCK_SIZE, NAME_LEN, Name, Order, Reason, WORD_LEN, blocks_of, get};
 use std::marker::Model;
 
 /// A code file seen through its segment dictionary, the sixteen slots in block 0.
@@ -20,9 +20,9 @@ pub struct Dict<'a> {
 
 impl<'a> Model for Dict<'a> {
     ghost use Rattle.std.specs.Prelude.{◌≤◌, length};
-    ghost use Rattle.ps_codefile.specs.Dictionary.{Opened};
+    ghost use Rattle.ps_codefile.specs.Dictionary.{OpenedFile};
 
-    ghost Value = { Opened };
+    ghost Value = { OpenedFile };
 
     ghost view = { λ d. record { order = d.order; file = d.file.now } };
 
@@ -34,7 +34,7 @@ fn name_of(file: &[u8], slot: usize) -> Name
     requires whole { 512 ≤ length file.now }
     ensures { result ≡ name_at file.now slot }
 {
-    let at = NAMES + NAME * slot;
+    let at = NAMES + NAME_LEN * slot;
     [
         file[at],
         file[at + 1],
@@ -52,8 +52,8 @@ fn is_zero_from(file: &[u8], first: usize) -> bool
     requires { first + 31 ≤ length file.now }
     ensures { result ≡ list_all (λ i. slice_index file.now (first + 2 * i) == 0) slots }
 {
-    for i in 0..SLOTS {
-        if file[first + WORD * i] != 0 {
+    for i in 0..SLOT_COUNT {
+        if file[first + WORD_LEN * i] != 0 {
             return false;
         }
     }
@@ -65,8 +65,9 @@ impl<'a> Dict<'a> {
     ///
     /// Refuses `ShortFile` under 512 bytes, `NoOrder` where the kind words show both
     /// orders, and `NoHost` where all of them are 0, so that no slot has a host segment.
+    /// Source: this project's profile.
     pub fn read(file: &'a [u8]) -> Result<Dict<'a>, Reason>
-        ensures { result ≡ opened file.now }
+        ensures { result ≡ opened_alone file.now }
     {
         if file.len() < BLOCK_SIZE {
             return Err(Reason::ShortFile);
@@ -90,6 +91,7 @@ impl<'a> Dict<'a> {
     /// Refuses `ShortFile` under 512 bytes, `NoOrder` where the kind words show both
     /// orders, and `OrderMismatch` where they show the order that is not the host's.
     /// A file whose kind words are all 0 takes the host's order.
+    /// Source: this project's profile.
     pub fn read_beside(file: &'a [u8], host: Order) -> Result<Dict<'a>, Reason>
         ensures { result ≡ opened_beside host file.now }
     {
@@ -108,6 +110,7 @@ impl<'a> Dict<'a> {
     }
 
     /// The byte order in which the file's words are read.
+    /// Source: UCSD Pascal II.0 manual, code file format.
     pub fn order(&self) -> Order
         ensures { result ≡ self.now.order }
     {
@@ -115,6 +118,7 @@ impl<'a> Dict<'a> {
     }
 
     /// What the dictionary says of a slot.
+    /// Source: UCSD Pascal II.0 manual, code file format.
     pub fn entry(&self, slot: u8) -> Entry
         requires { slot < 16 }
         ensures { result ≡ entry_at self.now.order self.now.file slot }
@@ -122,25 +126,27 @@ impl<'a> Dict<'a> {
         let i = slot as usize;
         Entry {
             address: get(self.order, self.file, PAIR * i),
-            length: get(self.order, self.file, PAIR * i + WORD),
+            length: get(self.order, self.file, PAIR * i + WORD_LEN),
             name: name_of(self.file, i),
-            kind: get(self.order, self.file, KINDS + WORD * i),
-            text: get(self.order, self.file, TEXTS + WORD * i),
+            kind: get(self.order, self.file, KINDS + WORD_LEN * i),
+            text: get(self.order, self.file, TEXTS + WORD_LEN * i),
         }
     }
 
     /// The names of all slots, eight bytes each.
+    /// Source: UCSD Pascal II.0 manual, code file format.
     pub fn names(&self) -> [Name; 16]
         ensures { result ≡ names_of self.now.file }
     {
-        let mut names = [[0; NAME]; SLOTS];
-        for i in 0..SLOTS {
+        let mut names = [[0; NAME_LEN]; SLOT_COUNT];
+        for i in 0..SLOT_COUNT {
             names[i] = name_of(self.file, i);
         }
         names
     }
 
     /// Bytes 256 to 511, which a linked file takes unread from its host.
+    /// Source: this project's profile.
     pub fn tail(&self) -> &'a [u8]
         ensures { result.now ≡ tail_of self.now.file }
     {
@@ -154,6 +160,7 @@ impl<'a> Dict<'a> {
     /// of length 0 is `Empty`. The rest are filled, and their kind decides: 0 `Plain`,
     /// 1 `Host`, 3 `Unit`. Refuses `SegmentProcedure` for kind 2, `NativeSegment` for 4,
     /// `Intrinsic` for 5 to 7 and `UnknownKind` above.
+    /// Source: this project's profile.
     pub fn role(&self, slot: u8) -> Result<Role, Reason>
         requires { slot < 16 }
         ensures { result ≡ role_of (entry_at self.now.order self.now.file slot) }
@@ -164,6 +171,7 @@ impl<'a> Dict<'a> {
     /// The slot is neither wanted nor empty, whatever its kind: its length is not 0, nor its
     /// address where its kind is 3. Whether its code can be read is another question, which
     /// `code` answers.
+    /// Source: this project's profile.
     pub fn filled(&self, slot: u8) -> bool
         requires { slot < 16 }
         ensures { result ≡ is_filled (entry_at self.now.order self.now.file slot) }
@@ -176,6 +184,7 @@ impl<'a> Dict<'a> {
     /// Refuses, in this order, `BadLength` over 32767 bytes, or for kinds 1 and 3 where the
     /// length is odd or under 4; `BadAddress` at address 0; `Truncated` where the file ends
     /// before the code does.
+    /// Source: UCSD Pascal II.0 manual, code file format.
     pub fn code(&self, slot: u8) -> Result<&'a [u8], Reason>
         requires { slot < 16 }
         ensures { IsViewOf (λ code. code.now) result
@@ -196,8 +205,9 @@ impl<'a> Dict<'a> {
         Ok(&self.file[start..end])
     }
 
-    /// The file from the block after a slot's code, where the link information of a
-    /// linked segment begins; empty where that block lies past the file's end.
+    /// The file from the block after a slot's code, where the link information of a segment
+    /// that is to be linked begins; empty if that block is past the end of the file.
+    /// Source: UCSD Pascal II.0 manual, code file format.
     pub fn after(&self, slot: u8) -> &'a [u8]
         requires { slot < 16 }
         ensures { result.now ≡ information_of self.now.file

@@ -1,29 +1,15 @@
 ghost use Rattle.std.specs.Prelude.{◌≡◌, ◌==◌};
 ghost use Rattle.std.specs.List.{list_all};
 ghost use Rattle.ps_codefile.specs.Dictionary.{is_nameless as nameless_spec, role_of, is_filled as filled_spec, has_bad_length as bad_length_spec};
-ghost use Rattle.ps_codefile.specs.Roles.{is_linked as is_linked_spec, is_host as is_host_spec, is_unit as is_unit_spec};
+ghost use Rattle.ps_codefile.specs.Roles.{needs_linking as needs_linking_spec, is_host as is_host_spec, is_unit as is_unit_spec};
 
+use crate::kinds::{FIRST_INTRINSIC, HOSTSEG, LAST_INTRINSIC, LINKED, SEGPROC, SEPRTSEG, UNITSEG};
 use ps_words::{Name, Reason};
-
-/// A segment that is linked, or that needs no link.
-const LINKED: u16 = 0;
-/// A host's own segment.
-const HOSTSEG: u16 = 1;
-/// A segment procedure that the compiler left unlinked.
-const SEGPROC: u16 = 2;
-/// A unit.
-const UNITSEG: u16 = 3;
-/// A separate segment, which holds native code.
-const SEPRTSEG: u16 = 4;
-/// The first and the last kind of Apple's intrinsic units and data segments.
-const FIRST_INTRINSIC: u16 = 5;
-
-const LAST_INTRINSIC: u16 = 7;
 
 /// The longest code.
 const MAX_CODE_LEN: u16 = 32767;
 /// The shortest code of a segment that is linked.
-const MIN_LINKED_LEN: u16 = 4;
+const MIN_LEN_TO_LINK: u16 = 4;
 
 /// What the segment dictionary says of a slot.
 ///
@@ -60,14 +46,17 @@ pub enum Role {
 }
 
 impl Role {
-    /// The references of a segment of this role are to be resolved: it is the host's own or a unit's.
-    pub fn is_linked(self) -> bool
-        ensures { result ≡ is_linked_spec self }
+    /// The references of a segment of this role are to be resolved: it is the host's own or a
+    /// unit's.
+    /// Source: this project's profile.
+    pub fn needs_linking(self) -> bool
+        ensures { result ≡ needs_linking_spec self }
     {
         matches!(self, Role::Host | Role::Unit | Role::Wanted)
     }
 
     /// The segment is the host's own.
+    /// Source: UCSD Pascal II.0 manual, code file format.
     pub fn is_host(self) -> bool
         ensures { result ≡ is_host_spec self }
     {
@@ -75,6 +64,7 @@ impl Role {
     }
 
     /// The segment is a unit's, in the host file or wanted.
+    /// Source: UCSD Pascal II.0 manual, code file format.
     pub fn is_unit(self) -> bool
         ensures { result ≡ is_unit_spec self }
     {
@@ -134,8 +124,8 @@ impl Entry {
     pub(crate) fn has_bad_length(&self) -> bool
         ensures { result ≡ bad_length_spec self.now }
     {
-        let is_linked = self.kind == HOSTSEG || self.kind == UNITSEG;
+        let needs_linking = self.kind == HOSTSEG || self.kind == UNITSEG;
         self.length > MAX_CODE_LEN
-            || is_linked && (self.length % 2 == 1 || self.length < MIN_LINKED_LEN)
+            || needs_linking && (self.length % 2 == 1 || self.length < MIN_LEN_TO_LINK)
     }
 }

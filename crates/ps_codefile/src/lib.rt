@@ -1,13 +1,15 @@
-//! Code files of UCSD Pascal II.0: the segment dictionary in block 0, the code of each slot, and the procedure tables at the end of a code.
+//! Code files of UCSD Pascal II.0: the segment dictionary in block 0, the code of each slot, and
+//! the
+//! procedure tables at the end of a code.
 #![tactic(auto)]
 
+pub mod code_layout;
 mod dictionary;
+pub mod dictionary_layout;
 mod entry;
-pub mod layout;
+pub mod kinds;
 mod places;
 mod procedures;
-#[cfg(test)]
-mod tests;
 
 pub use dictionary::Dict;
 pub use entry::{Entry, Role, is_nameless};

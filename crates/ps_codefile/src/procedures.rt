@@ -1,45 +1,45 @@
-ghost use Rattle.std.specs.Prelude.{◌≡◌, ℕ, ◌≤◌, ◌-◌, ◌+◌, ◌*◌, ◌==◌, ◌||◌, true, length, slice_index};
+ghost use Rattle.std.specs.Prelude.{◌≡◌, ℕ, ◌≤◌, ◌-◌, ◌+◌, ◌*◌, ◌==◌, ◌&&◌, ◌||◌, true, false, length, slice_index, All, IfOk, IfErr, OnOk, OnErr};
+ghost use Rattle.ps_words.specs.declared.fault.Reason.TheVariants.{BadProcDict};
 ghost use Rattle.std.specs.List.{list_all, list_any};
 ghost use Rattle.std.specs.Option.{ForSome};
-ghost use Rattle.ps_codefile.specs.Procedures.{procedures, dictionary_len, dictionary_start, content_of, table_of as table_of_spec, tables, is_placed as is_placed_spec, numbers, is_in_table as is_in_table_spec, is_reserved as is_reserved_spec, read_tables as read_tables_spec};
-ghost use Rattle.ps_codefile.specs.Places.{span, has, passes, AreTables, IsWhole, HasBytes, HasRoom};
+ghost use Rattle.ps_codefile.specs.Procedures.{procedures, dictionary_len, dictionary_start, content_of, table_of as table_of_spec, all_tables, is_placed as is_placed_spec, numbers, is_in_table as is_in_table_spec, is_reserved as is_reserved_spec, read_tables as read_tables_spec};
+ghost use Rattle.ps_codefile.specs.Places.{span, has, passes, AreWhole, IsWhole, HasBytes, HasRoom};
 
+use crate::code_layout::{NUMBERS, OUTER_BLOCK, TABLE_NUMBERS, TABLE_WORDS};
 use crate::places::Places;
-use ps_words::{Order, Reason, get};
+use arrayvec::ArrayVec;
+use ps_words::{Order, Reason, WORD_LEN, get};
 use std::marker::Model;
 
-/// The length of a word in bytes.
-const WORD: usize = 2;
-/// The bytes of a code behind its procedure words: the segment number and the number of procedures.
-const NUMBERS: usize = 2;
-/// The bytes of an attribute table before its place: four words.
-const TABLE_WORDS: usize = 8;
-/// The bytes of an attribute table from its place on: the procedure number and the lex level.
-const TABLE_NUMBERS: usize = 2;
-/// The number of the procedure that is a segment's outer block.
-const OUTER_BLOCK: usize = 1;
+/// The most procedures that a code has, since their number is in one byte.
+const MAX_PROCEDURES: usize = 255;
+
+/// The place of each procedure's attribute table, by the procedures' numbers from 1 on; `None` for
+/// a procedure that has no body.
+type Tables = ArrayVec<Option<usize>, MAX_PROCEDURES>;
 
 /// The procedure tables at the end of a segment's code: the procedure dictionary, and the
 /// attribute table of each procedure.
 ///
-/// A view: it borrows the code and copies none of it. Once they were read without a fault, each
-/// table is found from the code by arithmetic. The layout is that of the UCSD Pascal II.0 manual;
-/// that the tables' places are reserved is this project's profile.
+/// It borrows the code and copies none of it, and keeps the place of each attribute table, which is
+/// read once. The layout is that of the UCSD Pascal II.0 manual; that the tables' places are
+/// reserved is this project's profile.
 #[derive(Drop)]
 pub struct Procs<'a> {
     order: Order,
     code: &'a [u8],
+    tables: Tables,
 }
 
 impl<'a> Model for Procs<'a> {
     ghost use Rattle.ps_codefile.specs.Procedures.{ProcedureTables};
-    ghost use Rattle.ps_codefile.specs.Places.{AreTables};
+    ghost use Rattle.ps_codefile.specs.Places.{HasTables};
 
     ghost Value = { ProcedureTables };
 
     ghost view = { λ p. record { order = p.order; code = p.code.now } };
 
-    ghost invariant = { λ p. AreTables p.order p.code.now };
+    ghost invariant = { λ p. HasTables p.order p.code.now p.tables.items };
 }
 
 /// The number of procedures of a code.
@@ -56,62 +56,58 @@ fn content(order: Order, code: &[u8], p: usize) -> usize
     requires within { 2 + 2 * p ≤ length code.now }
     ensures { result ≡ content_of order code.now p }
 {
-    get(order, code, code.len() - NUMBERS - WORD * p) as usize
+    get(order, code, code.len() - NUMBERS - WORD_LEN * p) as usize
 }
 
-/// Procedure `p` has no table, or one that lies in the code before the procedure dictionary.
-fn is_placed(order: Order, code: &[u8], p: usize) -> bool
+/// The place of procedure `p`'s attribute table; `None` where it has no body. Refuses a table that
+/// does not lie in the code before the procedure dictionary.
+fn table_of(order: Order, code: &[u8], p: usize) -> Result<Option<usize>, Reason>
     requires whole { dictionary_len code.now ≤ length code.now }
     requires low { 1 ≤ p }
     requires high { p ≤ procedures code.now }
-    ensures { result ≡ is_placed_spec order code.now p }
+    ensures table { IfOk result (λ table. table ≡ table_of_spec order code.now p) }
+    ensures placed { OnOk result (is_placed_spec order code.now p ≡ true) }
+    ensures whole { IfOk result (λ table. ForSome table (IsWhole code.now)) }
+    ensures reason { IfErr result (λ reason. reason ≡ BadProcDict) }
+    ensures refused { OnErr result (is_placed_spec order code.now p ≡ false) }
 {
-    let place = code.len() - NUMBERS - WORD * p;
-    let start = code.len() - NUMBERS - WORD * count_of(code);
+    let place = code.len() - NUMBERS - WORD_LEN * p;
+    let start = code.len() - NUMBERS - WORD_LEN * count_of(code);
     let content = content(order, code, p);
     if content == 0 {
-        return true;
+        return Ok(None);
     }
-    if place < content + TABLE_WORDS {
-        return false;
+    if place < content + TABLE_WORDS || place - content + TABLE_NUMBERS > start {
+        return Err(Reason::BadProcDict);
     }
-    place - content + TABLE_NUMBERS <= start
+    Ok(Some(place - content))
 }
 
-/// Each procedure has no table, or one that lies in the code before the procedure dictionary.
-fn are_placed(order: Order, code: &[u8]) -> bool
+/// The attribute tables of all procedures. Refuses them where one does not lie in the code before
+/// the procedure dictionary.
+fn tables_of(order: Order, code: &[u8]) -> Result<Tables, Reason>
     requires { dictionary_len code.now ≤ length code.now }
-    ensures { result ≡ list_all (is_placed_spec order code.now) (numbers code.now) }
+    ensures tables { IfOk result (λ tables. tables.items ≡ all_tables order code.now) }
+    ensures placed { OnOk result
+        (list_all (is_placed_spec order code.now) (numbers code.now) ≡ true) }
+    ensures whole { IfOk result (λ tables. AreWhole code.now tables.items) }
+    ensures reason { IfErr result (λ reason. reason ≡ BadProcDict) }
+    ensures refused { OnErr result
+        (list_all (is_placed_spec order code.now) (numbers code.now) ≡ false) }
 {
+    let mut tables = ArrayVec::new();
     for i in 0..count_of(code) {
-        if !is_placed(order, code, i + 1) {
-            return false;
-        }
+        tables.push(table_of(order, code, i + 1)?);
     }
-    true
+    Ok(tables)
 }
 
-/// The first procedure has no body.
-fn lacks_outer_block(order: Order, code: &[u8]) -> bool
+/// The code is the host segment's, and its outer block has no body.
+fn lacks_outer_block(order: Order, code: &[u8], host: bool) -> bool
     requires { dictionary_len code.now ≤ length code.now }
-    ensures { result ≡ (procedures code.now == 0 || content_of order code.now 1 == 0) }
+    ensures { result ≡ (host && (procedures code.now == 0 || content_of order code.now 1 == 0)) }
 {
-    count_of(code) == 0 || content(order, code, OUTER_BLOCK) == 0
-}
-
-/// The place of procedure `p`'s table, where it has one.
-fn table_of(order: Order, code: &[u8], p: usize) -> Option<usize>
-    requires tables { AreTables order code.now }
-    requires low { 1 ≤ p }
-    requires high { p ≤ procedures code.now }
-    ensures table { result ≡ table_of_spec order code.now p }
-    ensures whole { ForSome result (IsWhole code.now) }
-{
-    let content = content(order, code, p);
-    if content == 0 {
-        return None;
-    }
-    Some(code.len() - NUMBERS - WORD * p - content)
+    host && (count_of(code) == 0 || content(order, code, OUTER_BLOCK) == 0)
 }
 
 /// The procedure of the table is native.
@@ -126,12 +122,12 @@ fn is_native(code: &[u8], table: Option<usize>) -> bool
 }
 
 /// One of the procedures is native.
-fn has_native(order: Order, code: &[u8]) -> bool
-    requires { AreTables order code.now }
-    ensures { result ≡ list_any (λ t. slice_index code.now t == 0) (tables order code.now) }
+fn has_native(code: &[u8], tables: &[Option<usize>]) -> bool
+    requires { AreWhole code.now tables.now }
+    ensures { result ≡ list_any (passes (λ t. slice_index code.now t == 0)) tables.now }
 {
-    for i in 0..count_of(code) {
-        if is_native(code, table_of(order, code, i + 1)) {
+    for table in tables {
+        if is_native(code, *table) {
             return true;
         }
     }
@@ -150,12 +146,12 @@ fn is_in_table(place: usize, table: Option<usize>) -> bool
 }
 
 /// The place is one of the ten bytes of a table.
-fn is_in_tables(order: Order, code: &[u8], place: usize) -> bool
-    requires { AreTables order code.now }
-    ensures { result ≡ list_any (is_in_table_spec place) (tables order code.now) }
+fn is_in_tables(tables: &[Option<usize>], place: usize) -> bool
+    requires { All (λ table. ForSome table HasBytes) tables.now }
+    ensures { result ≡ list_any (passes (is_in_table_spec place)) tables.now }
 {
-    for i in 0..count_of(code) {
-        if is_in_table(place, table_of(order, code, i + 1)) {
+    for table in tables {
+        if is_in_table(place, *table) {
             return true;
         }
     }
@@ -165,8 +161,8 @@ fn is_in_tables(order: Order, code: &[u8], place: usize) -> bool
 /// Adds the ten bytes of a table, where there is one.
 fn reserve(places: &mut Places, table: Option<usize>)
     requires { ForSome table HasRoom }
-    ensures { (q : ℕ) → has places.new.words q
-        ≡ (has places.old.words q || passes (is_in_table_spec q) table) }
+    ensures { (q : ℕ) → has places.new q
+        ≡ (has places.old q || passes (is_in_table_spec q) table) }
 {
     match table {
         Some(t) => places.insert_all(t - TABLE_WORDS, t + TABLE_NUMBERS),
@@ -174,15 +170,14 @@ fn reserve(places: &mut Places, table: Option<usize>)
     }
 }
 
-/// Adds the ten bytes of each table of a code of at most 66112 bytes.
-fn reserve_tables(places: &mut Places, order: Order, code: &[u8])
-    requires tables { AreTables order code.now }
-    requires room { length code.now ≤ span }
-    ensures { (q : ℕ) → has places.new.words q
-        ≡ (has places.old.words q || list_any (is_in_table_spec q) (tables order code.now)) }
+/// Adds the ten bytes of each table.
+fn reserve_tables(places: &mut Places, tables: &[Option<usize>])
+    requires { All (λ table. ForSome table HasRoom) tables.now }
+    ensures { (q : ℕ) → has places.new q
+        ≡ (has places.old q || list_any (passes (is_in_table_spec q)) tables.now) }
 {
-    for i in 0..count_of(code) {
-        reserve(places, table_of(order, code, i + 1));
+    for table in tables {
+        reserve(places, *table);
     }
 }
 
@@ -193,36 +188,31 @@ impl<'a> Procs<'a> {
     /// table begins before the code or ends in or past the dictionary, or where the first
     /// procedure of the host segment has no body; else `NativeProcedure` where a table's
     /// procedure number is 0. The code has at least two bytes.
+    /// Source: UCSD Pascal II.0 manual, code file format.
+    #[tactic(auto, using(crate::proofs::Tables::any_table))]
     pub fn read(order: Order, code: &'a [u8], host: bool) -> Result<Procs<'a>, Reason>
         requires { 2 ≤ length code.now }
         ensures { result ≡ read_tables_spec order code.now host }
     {
-        if code.len() < NUMBERS + WORD * count_of(code) {
+        if code.len() < NUMBERS + WORD_LEN * count_of(code) {
             return Err(Reason::BadProcDict);
         }
-        if !are_placed(order, code) {
+        let tables = tables_of(order, code)?;
+        if lacks_outer_block(order, code, host) {
             return Err(Reason::BadProcDict);
         }
-        if host && lacks_outer_block(order, code) {
-            return Err(Reason::BadProcDict);
-        }
-        if has_native(order, code) {
+        if has_native(code, tables.as_slice()) {
             return Err(Reason::NativeProcedure);
         }
-        Ok(Procs { order, code })
+        Ok(Procs {
+            order,
+            code,
+            tables,
+        })
     }
 
-    /// The same tables once more, which borrow the same code.
-    pub fn copied(&self) -> Procs<'a>
-        ensures { result ≡ self.now }
-    {
-        Procs {
-            order: self.order,
-            code: self.code,
-        }
-    }
-
-    /// The code that they stand in.
+    /// The code that they are in.
+    /// Source: UCSD Pascal II.0 manual, code file format.
     pub fn code(&self) -> &'a [u8]
         ensures { result.now ≡ self.now.code }
     {
@@ -230,6 +220,7 @@ impl<'a> Procs<'a> {
     }
 
     /// The number of procedures, 0 to 255.
+    /// Source: UCSD Pascal II.0 manual, code file format.
     pub fn count(&self) -> usize
         ensures { result ≡ procedures self.now.code }
     {
@@ -238,40 +229,47 @@ impl<'a> Procs<'a> {
 
     /// The place in the code of procedure `p`'s attribute table; `None` where it has no body.
     /// Procedures are numbered from 1 to `count`.
+    /// Source: UCSD Pascal II.0 manual, code file format.
+    #[tactic(auto, using(crate::proofs::Tables::count, crate::proofs::Tables::table_at))]
     pub fn table(&self, p: usize) -> Option<usize>
         requires low { 1 ≤ p }
         requires high { p ≤ procedures self.now.code }
         ensures table { result ≡ table_of_spec self.now.order self.now.code p }
         ensures whole { ForSome result (IsWhole self.now.code) }
     {
-        table_of(self.order, self.code, p)
+        self.tables[p - 1]
     }
 
     /// The place of the procedure dictionary's first byte.
+    /// Source: UCSD Pascal II.0 manual, code file format.
     pub fn start(&self) -> usize
         ensures { result ≡ dictionary_start self.now.code }
     {
-        self.code.len() - NUMBERS - WORD * self.count()
+        self.code.len() - NUMBERS - WORD_LEN * self.count()
     }
 
     /// The place is one that no operand may cover: a byte of the procedure dictionary, or one
     /// of the ten bytes of an attribute table. No place past the code is.
+    /// Source: this project's profile.
+    #[tactic(auto, using(crate::proofs::Tables::any_table))]
     pub fn is_reserved(&self, place: usize) -> bool
         ensures { result ≡ is_reserved_spec self.now.order self.now.code place }
     {
         let in_dictionary = self.start() <= place && place < self.code.len();
-        in_dictionary || is_in_tables(self.order, self.code, place)
+        in_dictionary || is_in_tables(self.tables.as_slice(), place)
     }
 
     /// The reserved places of a code of at most 66112 bytes.
-    pub fn reserved(&self) -> Places
+    /// Source: this project's profile.
+    #[tactic(auto, using(crate::proofs::Tables::any_table))]
+    pub fn reserved_places(&self) -> Places
         requires { length self.now.code ≤ span }
-        ensures { (place : ℕ) → has result.words place
+        ensures { (place : ℕ) → has result place
             ≡ is_reserved_spec self.now.order self.now.code place }
     {
         let mut places = Places::new();
         places.insert_all(self.start(), self.code.len());
-        reserve_tables(&mut places, self.order, self.code);
+        reserve_tables(&mut places, self.tables.as_slice());
         places
     }
 }

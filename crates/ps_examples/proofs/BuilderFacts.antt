@@ -2,9 +2,9 @@
 use Rattle.std.proofs.Common.{◌≡◌, zero, suc, [], ◌∷◌, refl, arith}
 use Rattle.ps_examples.specs.Files.{state}
 use Rattle.ps_examples.specs.Owners.{defined_once, defined_again, util_owner, aux_owner, doubling_owner, plain_owner, first_private, second_private, third_private}
-use Rattle.ps_linkinfo.specs.Counts.{is_definition}
+use Rattle.ps_linkinfo.specs.RecordCounts.{is_definition}
 use Rattle.ps_resolve.proofs.Builders as builders
-use Rattle.ps_resolve.specs.Builders.{HaveNoNamesakes, StopsDefinitions, offset_at, HaveOwnNames, HaveRoom, StopsPrivates, all_asked, asked_of, AreByRecord, words_of_all}
+use Rattle.ps_resolve.specs.Builders.{HaveNoNamesakes, StopsDefinitions, offset_at, HaveDistinctPrivates, HaveRoom, StopsPrivates, all_asked, asked_of, AreByRecord, words_of_all}
 use Rattle.ps_resolve.specs.Offsets.{FollowOn}
 use Rattle.ps_resolve.specs.declared.linkage.Stop.TheVariants.{Refused, Memory}
 use Rattle.ps_words.specs.FaultPlaces.{in_record}
@@ -27,8 +27,8 @@ an_offset = refl
 pub an_offset_behind_it : offset_at 8 (util_owner ∷ aux_owner ∷ []) 1 aux_owner 2 ≡ 16
 an_offset_behind_it = refl
 
-pub a_name_in_two_segments : HaveOwnNames (util_owner ∷ aux_owner ∷ [])
-a_name_in_two_segments = builders.own_names 8 (util_owner ∷ aux_owner ∷ []) refl
+pub a_name_in_two_segments : HaveDistinctPrivates (util_owner ∷ aux_owner ∷ [])
+a_name_in_two_segments = builders.distinct_names 8 (util_owner ∷ aux_owner ∷ []) refl
 
 pub room_to_the_last_word : HaveRoom 32763 (util_owner ∷ [])
 room_to_the_last_word = builders.room 32763 (util_owner ∷ []) refl
@@ -46,7 +46,7 @@ a_second_private_of_a_name = builders.not_allotted 32763 (doubling_owner ∷ [])
 pub no_memory_for_a_private : StopsPrivates 8 (util_owner ∷ []) Memory
 no_memory_for_a_private = (0, util_owner, refl, (1, _, refl, refl))
 
--- what is asked for
+-- what is asked of the program
 pub what_a_private_asked_for : asked_of third_private ≡ (record { slot = 8; rec = 0; name = state; words = 5 })
 what_a_private_asked_for = refl
 

@@ -1,7 +1,7 @@
 -- The facts of linked bytes on the small files, computed.
 use Rattle.std.proofs.Common.{true, ◌≡◌, ℕ, zero, suc, ◌+◌, ◌-◌, ◌≤◌, List, [], ◌∷◌, Option, Some, refl, sym, ap, subst, ◌∙◌, inl, inr, arith}
 use Rattle.std.specs.Prelude.{◌⊎◌, slice_get, slice_index}
-use Rattle.ps_examples.specs.Files.{blank, aux, count, state, nobody, demo_code}
+use Rattle.ps_examples.specs.Files.{blank_name, aux, count, state, nobody, demo_code}
 use Rattle.ps_resolve.specs.Added.{empty_slots, rounds, segments}
 use Rattle.ps_resolve.specs.Standing.References.{operand_width}
 use Rattle.ps_resolve.specs.Standing.Privates.{private_offset}
@@ -33,7 +33,7 @@ a_public_operand = (3, (0, record { name = count; body = PublDef 3 }, (0, demo_s
 
 pub a_private_operand : Becomes pair util_segment 1 state (PrivRef 4 (4 ∷ [])) 4 (128 ∷ 10 ∷ [])
 unfolding own_segments empty_slots rounds segments
-a_private_operand = (8, (1, record { name = blank; body = Eof 8 }, (0, demo_segment, refl, (refl, refl)), refl), refl)
+a_private_operand = (8, (1, record { name = blank_name; body = Eof 8 }, (0, demo_segment, refl, (refl, refl)), refl), refl)
 
 pub a_second_private : private_offset with_two_privates 7 1 ≡ 12
 unfolding own_segments empty_slots rounds segments
@@ -53,7 +53,7 @@ words_of_two_units = refl
 
 pub a_second_private_operand : Becomes with_two_privates util_segment 1 nobody (PrivRef 4 (4 ∷ [])) 4 (128 ∷ 14 ∷ [])
 unfolding own_segments empty_slots rounds segments
-a_second_private_operand = (8, (1, record { name = blank; body = Eof 8 }, (0, demo_segment, refl, (refl, refl)), refl), refl)
+a_second_private_operand = (8, (1, record { name = blank_name; body = Eof 8 }, (0, demo_segment, refl, (refl, refl)), refl), refl)
 
 pub a_displaced_public_operand : Becomes pair displaced_segment 0 count (PublRef (1 ∷ [])) 1 (129 ∷ 3 ∷ [])
 unfolding own_segments empty_slots rounds segments
@@ -194,20 +194,21 @@ a_place_of_one_reference = record {
 -- the data size of the host: it has no references
 pub unreferenced : (rec i x : ℕ) (r : Record) → IsReference demo_segment rec r i x → ⊥
 unreferenced zero i x r t = nowhere i x (subst (λ (q : Record). slice_get (refs_of q.body) i ≡ Some x) (sym (same (record { name = count; body = PublDef 3 }) r t.0)) t.1)
-unreferenced (suc zero) i x r t = nowhere i x (subst (λ (q : Record). slice_get (refs_of q.body) i ≡ Some x) (sym (same (record { name = blank; body = Eof 8 }) r t.0)) t.1)
+unreferenced (suc zero) i x r t = nowhere i x (subst (λ (q : Record). slice_get (refs_of q.body) i ≡ Some x) (sym (same (record { name = blank_name; body = Eof 8 }) r t.0)) t.1)
 unreferenced (suc (suc rec)) i x r t = absurd (let e = t.0 in cc)
 
 size_byte : Order → Segment → ℕ → ℕ → ℕ
 size_byte order s t j = slice_index (word_bytes order (grown_data_size order s.code (all_private_words pair) t)) j
 
--- where the outer block's table stands at 12, a place has just one byte of the data size
+-- where the outer block's table is at 12, a place has just one byte of the data size
 of_size : (order : Order) (s : Segment) (p n t j : ℕ) → table_of order s.code 1 ≡ Some 12 → p + 8 ≡ 12 + n → IsSizePlace order s t j p → size_byte order s 12 n ≡ size_byte order s t j
 of_size order s p n t j is at z =
     let table : 12 ≡ t = same 12 t (sym is ∙ z.1) in
     let e = z.3 in
     subst (λ (m : ℕ). size_byte order s 12 n ≡ size_byte order s m j) table (subst (λ (m : ℕ). size_byte order s 12 n ≡ size_byte order s 12 m) (omega (arith, e, at, table)) refl)
 
--- the first byte of the host's data size becomes 18: the input's 10, and two for each of four private words
+-- the first byte of the host's data size becomes 18: the input's 10, and two for each of four
+-- private words
 pub a_size_byte : IsLinkedByte Little pair demo_segment 4 18
 unfolding own_segments empty_slots rounds segments size_byte
 a_size_byte = record {
@@ -237,7 +238,7 @@ a_size_byte_of_a_big_endian_host = record {
   kept = λ n z u. absurd (z 12 1 (refl, refl, omega arith, refl));
 }
 
--- a record of a host that stands first, before segments that are no hosts
+-- a record of a host that comes first, before segments that are no hosts
 pub of_first : (h : Segment) (rest : List Segment) → ((k : ℕ) (s : Segment) → slice_get rest k ≡ Some s → is_host s.role ≡ true → ⊥) → (rec : ℕ) (r : Record) → IsHostRecord (h ∷ rest) rec r → slice_get h.records rec ≡ Some r
 of_first h rest none rec r (zero, s, e, p) = subst (λ (x : Segment). slice_get x.records rec ≡ Some r) (sym (same h s e)) p.1
 of_first h rest none rec r (suc k, s, e, p) = absurd (none k s e p.0)
@@ -253,7 +254,7 @@ its_operand b t = t.2 ∙ ap (λ (bs : List ℕ). slice_index bs 1) (is_3 t.0 t.
   where
     value_in : (rec : ℕ) (d : Record) (value : ℕ) → slice_get demo_segment.records rec ≡ Some d → d.body ≡ PublDef value → value ≡ 3
     value_in zero d value e p = let s = same (record { name = count; body = PublDef 3 }) d e in let h : PublDef 3 ≡ PublDef value = ap (λ (q : Record). q.body) s ∙ p in cc
-    value_in (suc zero) d value e p = let s = same (record { name = blank; body = Eof 8 }) d e in let h : Eof 8 ≡ PublDef value = ap (λ (q : Record). q.body) s ∙ p in absurd (cc)
+    value_in (suc zero) d value e p = let s = same (record { name = blank_name; body = Eof 8 }) d e in let h : Eof 8 ≡ PublDef value = ap (λ (q : Record). q.body) s ∙ p in absurd (cc)
     value_in (suc (suc k)) d value e p = absurd (cc)
 
     value_is : (value : ℕ) → IsPublic pair count value → value ≡ 3

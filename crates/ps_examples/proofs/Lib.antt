@@ -7,5 +7,6 @@ pub mod NotLinked
 pub mod NotOrigins
 pub mod WholeLinks
 pub mod NotWholeLinks
+pub mod NotAddedUnits
 pub mod BuilderFacts
 pub mod NotBuilt

@@ -8,10 +8,10 @@ use Rattle.ps_examples.specs.Owners.{defined_again, util_owner, aux_owner, doubl
 use Rattle.ps_examples.proofs.ByteFacts.{same}
 use Rattle.ps_examples.proofs.NotLinked.{count_state}
 use Rattle.ps_examples.proofs.NotOrigins.{none_passes}
-use Rattle.ps_linkinfo.specs.Counts.{is_definition, is_private_reference}
+use Rattle.ps_linkinfo.specs.RecordCounts.{is_definition, is_private_reference}
 use Rattle.ps_linkinfo.specs.declared.record.Body.TheVariants.{PublDef, ConstDef}
 use Rattle.ps_linkinfo.specs.declared.record.LinkRecord.{LinkRecord as Record}
-use Rattle.ps_resolve.specs.Builders.{HaveNoNamesakes, IsFirstNamesake, StopsDefinitions, HaveOwnNames, HaveRoom, IsUnfit, StopsPrivates, AreByRecord}
+use Rattle.ps_resolve.specs.Builders.{HaveNoNamesakes, IsFirstNamesake, StopsDefinitions, HaveDistinctPrivates, HaveRoom, IsUnfit, StopsPrivates, AreByRecord}
 use Rattle.ps_resolve.specs.First.{Before}
 use Rattle.ps_resolve.specs.Offsets.{FollowOn}
 use Rattle.ps_resolve.specs.Privates.{Owner}
@@ -58,7 +58,7 @@ no_memory_without_a_definition t = none_passes (λ (r : Record). is_definition r
 doubled : HasEarlierNamesake is_private_reference doubling_owner.records 2 state_reference
 doubled = (refl, (1, omega arith, (state_reference, refl, (refl, refl))))
 
-pub a_name_twice_in_a_segment : HaveOwnNames (util_owner ∷ doubling_owner ∷ []) → ⊥
+pub a_name_twice_in_a_segment : HaveDistinctPrivates (util_owner ∷ doubling_owner ∷ []) → ⊥
 a_name_twice_in_a_segment h = h 1 doubling_owner refl 2 state_reference refl doubled
 
 pub no_room_for_the_last_word : HaveRoom 32764 (util_owner ∷ []) → ⊥
@@ -95,7 +95,7 @@ not_the_later_private t = t.first 0 1 util_owner state_reference reason.NoRoom r
     go zero s e h = absurd (let a : 7 ≡ s.slot = ap (λ (o : Owner). o.slot) (same util_owner s e) in omega (arith, a, h))
     go (suc k) s e h = omega arith
 
--- a record that asks for no private is not refused for room
+-- a record that requests no private is not refused for room
 pub not_a_record_without_a_private : StopsPrivates 32768 (util_owner ∷ []) (Refused (in_record 1 7 0 reason.NoRoom)) → ⊥
 not_a_record_without_a_private t = go t.segment t.owner t.of t.rec t.item (rec_of_fault 0 t.rec 1 t.owner.file 7 t.owner.slot reason.NoRoom t.why t.told) t.there (of_a_private 32768 (util_owner ∷ []) t.segment t.owner t.rec t.item t.why t.unfit)
   where
@@ -124,7 +124,7 @@ not_for_room_where_its_name_is_doubled t = go t.segment t.owner t.of t.rec t.ite
         third rec r h (subst (λ (o : Owner). slice_get o.records rec ≡ Some r) (sym is) f) (subst (λ (o : Owner). HasEarlierNamesake is_private_reference o.records rec r → ⊥) (sym is) u.0)
     go (suc k) s e rec r h f u = cc
 
--- memory does not run out where no record asks for a private
+-- memory does not run out where no record requests a private
 pub no_memory_without_a_private : StopsPrivates 8 (plain_owner ∷ []) Memory → ⊥
 no_memory_without_a_private t = go t.0 t.1 t.2 t.3
   where
@@ -144,7 +144,7 @@ not_turned_round h = go (h 0 1 second_private first_private (omega arith) refl r
     go (inr (e, inl lt)) = omega (arith, lt)
     go (inr (e, inr t)) = t.1
 
--- a private that is listed twice does not stand by record
+-- a private that is listed twice is not in the order of the records
 pub not_one_of_a_record_twice : AreByRecord (first_private ∷ first_private ∷ []) → ⊥
 not_one_of_a_record_twice h = go (h 0 1 first_private first_private (omega arith) refl refl)
   where

@@ -2,7 +2,7 @@
 use Rattle.std.proofs.Common.{◌≡◌, ℕ, zero, suc, ◌+◌, List, [], ◌∷◌, Some, false, true, refl, sym, ap, ◌∙◌, arith}
 use Rattle.std.specs.Prelude.{slice_get, slice_index}
 use Rattle.std.proofs.lemmas.Bool.{false≢true}
-use Rattle.ps_examples.specs.Files.{blank, util, aux, tools, count, state}
+use Rattle.ps_examples.specs.Files.{blank_name, util, aux, tools, count, state}
 use Rattle.ps_resolve.specs.Added.{empty_slots, rounds, segments}
 use Rattle.ps_resolve.specs.LinkedBytes.{Becomes, IsSlotOf, IsPublic, IsBase, IsNumberPlace, IsSizePlace, IsLinkedByte, IsOnePlace}
 use Rattle.ps_examples.specs.Segments.{count_reference, aux_reference, meeting_segment, twice_segment, numbered_segment, sized_segment, demo_segment, util_segment, using_segment, aux_segment, tools_segment, pair, three, with_plain, with_constant, with_unused}
@@ -98,7 +98,8 @@ other_value a b e = cc
 constant_is : (a b : ℕ) → ◌≡◌ {A = Body} (ConstDef a) (PublDef b) → ⊥
 constant_is a b e = cc
 
--- where the first of two records is no PUBLDEF of this name and value and the second none of this value, neither is one
+-- where the first of two records is no PUBLDEF of this name and value and the second none of this
+-- value, neither is one
 body_is : (k : ℕ) (a b d : Record) → slice_get (a ∷ b ∷ []) k ≡ Some d → (name : List ℕ) (value : ℕ) → d.name ≡ name → d.body ≡ PublDef value → (a.name ≡ name → a.body ≡ PublDef value → ⊥) → (b.body ≡ PublDef value → ⊥) → ⊥
 body_is zero a b d e name value n is f g = let s = same a d e in f (ap (λ (x : Record). x.name) s ∙ n) (ap (λ (x : Record). x.body) s ∙ is)
 body_is (suc zero) a b d e name value n is f g = let s = same b d e in g (ap (λ (x : Record). x.body) s ∙ is)
@@ -106,11 +107,11 @@ body_is (suc (suc k)) a b d e name value n is f g = cc
 
 pub not_the_value_of_another_name : IsPublic pair state 3 → ⊥
 unfolding own_segments empty_slots rounds segments
-not_the_value_of_another_name t = body_is t.0 (record { name = count; body = PublDef 3 }) (record { name = blank; body = Eof 8 }) t.1 (of_first demo_segment (util_segment ∷ []) no_host t.0 t.1 t.2) state 3 t.3.0 t.3.1 (λ n e. count_state n) (λ e. not_public 8 3 e)
+not_the_value_of_another_name t = body_is t.0 (record { name = count; body = PublDef 3 }) (record { name = blank_name; body = Eof 8 }) t.1 (of_first demo_segment (util_segment ∷ []) no_host t.0 t.1 t.2) state 3 t.3.0 t.3.1 (λ n e. count_state n) (λ e. not_public 8 3 e)
 
 -- a PUBLDEF record of a unit gives its name no value
 pub a_unit_defines_nothing : IsPublic with_unused state 9 → ⊥
-a_unit_defines_nothing t = body_is t.0 (record { name = count; body = PublDef 3 }) (record { name = blank; body = Eof 8 }) t.1 (of_first demo_segment (unused ∷ []) none t.0 t.1 t.2) state 9 t.3.0 t.3.1 (λ n e. count_state n) (λ e. not_public 8 9 e)
+a_unit_defines_nothing t = body_is t.0 (record { name = count; body = PublDef 3 }) (record { name = blank_name; body = Eof 8 }) t.1 (of_first demo_segment (unused ∷ []) none t.0 t.1 t.2) state 9 t.3.0 t.3.1 (λ n e. count_state n) (λ e. not_public 8 9 e)
   where
     unused : Segment
     unused = record util_segment { records = record { name = state; body = PublDef 9 } ∷ [] }
@@ -144,7 +145,7 @@ base_of_pair base t = go t.0 t.1 (of_first demo_segment (util_segment ∷ []) no
   where
     go : (k : ℕ) (r : Record) → slice_get demo_segment.records k ≡ Some r → r.body ≡ Eof base → 8 ≡ base
     go zero r e is = absurd (definition_is 3 base (ap (λ (x : Record). x.body) (same (record { name = count; body = PublDef 3 }) r e) ∙ is))
-    go (suc zero) r e is = other_base 8 base (ap (λ (x : Record). x.body) (same (record { name = blank; body = Eof 8 }) r e) ∙ is)
+    go (suc zero) r e is = other_base 8 base (ap (λ (x : Record). x.body) (same (record { name = blank_name; body = Eof 8 }) r e) ∙ is)
     go (suc (suc k)) r e is = absurd (cc)
 
 pub a_unit_s_end_mark_gives_no_base : IsBase pair 0 → ⊥
@@ -176,7 +177,7 @@ a_definition_has_no_operand bytes t = t
 pub a_constant_has_no_operand : (bytes : List ℕ) → Becomes pair demo_segment 0 count (ConstDef 3) 1 bytes → ⊥
 a_constant_has_no_operand bytes t = t
 
-pub an_end_mark_has_no_operand : (bytes : List ℕ) → Becomes pair demo_segment 1 blank (Eof 8) 1 bytes → ⊥
+pub an_end_mark_has_no_operand : (bytes : List ℕ) → Becomes pair demo_segment 1 blank_name (Eof 8) 1 bytes → ⊥
 an_end_mark_has_no_operand bytes t = t
 
 -- places of more than one thing

@@ -3,8 +3,8 @@ use Rattle.std.proofs.Common.{◌≡◌, ℕ, zero, suc, ◌<◌, ◌≤◌, Lis
 use Rattle.std.specs.Prelude.{◌⊎◌, slice_get, slice_index, take}
 use Rattle.std.specs.List.{AllByRecursion}
 use Rattle.ps_codefile.specs.Dictionary.{entry_at, is_filled, code_of}
-use Rattle.ps_examples.specs.Files.{host, library, host_with_tools, host_without_7, library_past_the_last, put_at, with_slot, blank, util, aux, count, state, nobody, util_code}
-use Rattle.ps_linkinfo.specs.Counts.{is_unit_reference}
+use Rattle.ps_examples.specs.Files.{host, library, host_with_tools, host_without_7, library_past_the_last, put_at, with_slot, blank_name, util, aux, count, state, nobody, util_code}
+use Rattle.ps_linkinfo.specs.RecordCounts.{is_unit_reference}
 use Rattle.ps_resolve.specs.Standing.Sources.{IsNamed}
 use Rattle.ps_codefile.specs.declared.entry.Role.TheVariants as role
 use Rattle.ps_examples.specs.Segments.{count_reference, state_reference, end_mark, demo_segment, util_segment, using_segment, aux_segment, self_segment, nobody_segment, count_segment, past_segment, tools_segment}
@@ -44,7 +44,7 @@ role_is a b e = cc
 pub not_of_another_role : IsOwn Little host (record demo_segment { role = role.Plain }) → ⊥
 not_of_another_role o = let h : role.Host ≡ role.Plain = role_is role.Host role.Plain o.role in cc
 
-pub not_of_an_empty_slot : IsOwn Little host (record aux_segment { role = role.Empty; name = blank }) → ⊥
+pub not_of_an_empty_slot : IsOwn Little host (record aux_segment { role = role.Empty; name = blank_name }) → ⊥
 not_of_an_empty_slot o = o.filled refl
 
 pub not_of_another_name : IsOwn Little host (record util_segment { name = aux }) → ⊥
@@ -87,7 +87,7 @@ count_aux e = let h : 67 ≡ 65 = heads _ _ _ _ e in omega (arith, h)
 pub state_aux : state ≡ aux → ⊥
 state_aux e = let h : 83 ≡ 65 = heads _ _ _ _ e in omega (arith, h)
 
-pub blank_aux : blank ≡ aux → ⊥
+pub blank_aux : blank_name ≡ aux → ⊥
 blank_aux e = let h : 32 ≡ 65 = heads _ _ _ _ e in omega (arith, h)
 
 -- no unit is added where its own UNITREF record is the only one of its name
@@ -109,10 +109,10 @@ count_nobody e = let h : 67 ≡ 78 = heads _ _ _ _ e in omega (arith, h)
 state_nobody : state ≡ nobody → ⊥
 state_nobody e = let h : 83 ≡ 78 = heads _ _ _ _ e in omega (arith, h)
 
-blank_nobody : blank ≡ nobody → ⊥
+blank_nobody : blank_name ≡ nobody → ⊥
 blank_nobody e = let h : 32 ≡ 78 = heads _ _ _ _ e in omega (arith, h)
 
--- no unit is added where UNITREF records ask for one of another name only
+-- no unit is added where UNITREF records request one of another name only
 pub not_asked_for_by_another_name : IsAddedUnit Little host (using_segment ∷ nobody_segment ∷ []) nobody_segment → ⊥
 not_asked_for_by_another_name u = let t = u.asked in none_passes (λ (q : Segment). AsksFor q nobody) (using_segment ∷ nobody_segment ∷ []) (of_using, (of_itself, tt)) t.0 t.1 t.2 t.3.1
   where
@@ -140,7 +140,7 @@ not_asked_for_by_a_publ_ref u = let t = u.asked in go t.0 t.1 t.2 t.3.1
     go (suc zero) q e t = let a = subst (λ (x : Segment). AsksFor x count) (sym (same count_segment q e)) t in let h = a.2 in cc
     go (suc (suc k)) q e t = cc
 
-pub not_of_a_name_of_blanks : (segs : List Segment) → IsAddedUnit Little host segs (record aux_segment { name = blank }) → ⊥
+pub not_of_a_name_of_blanks : (segs : List Segment) → IsAddedUnit Little host segs (record aux_segment { name = blank_name }) → ⊥
 not_of_a_name_of_blanks segs u = false≢true (sym u.named)
 
 pub not_of_a_name_that_the_host_has : (segs : List Segment) → IsAddedUnit Little host segs (record aux_segment { name = util }) → ⊥

@@ -11,7 +11,7 @@ use Rattle.ps_examples.proofs.ByteFacts.{same}
 use Rattle.ps_examples.proofs.NotLinked.{util_aux}
 use Rattle.ps_examples.proofs.NotOrigins.{a_slot_without_one, not_without_its_records, none_passes, no_name, count_aux, state_aux, blank_aux}
 use Rattle.ps_examples.proofs.WholeLinks.{used, added_is}
-use Rattle.ps_resolve.specs.Added.{empty_slots, rounds, added}
+use Rattle.ps_resolve.specs.Added.{empty_slots, rounds, added_segments}
 use Rattle.ps_resolve.specs.Origins.{HasOne, AsksFor, HaveOneEach, AreBySlot, AreOwn, AreAdded, AreOfRounds, AreInPlace, AreOfLibraries, AreRead}
 use Rattle.ps_resolve.specs.Sources.{Segment, own_segments}
 use Rattle.ps_resolve.specs.Standing.Phrases.{SomeItem}
@@ -93,7 +93,7 @@ the_added_one_is_missing h = let t = (subst Missing added_is h.1) 0 demo_segment
     Missing more = All (λ s. SomeItem (demo_segment ∷ using_segment ∷ (record aux_segment { added = false }) ∷ []) (λ k q. q ≡ s)) more
 
 -- what the rounds of big-endian files add
-big_is : added Big (host_in Big) (library_of_used_big ∷ []) ≡ (record aux_segment { code = put_at 22 (3 ∷ []) (util_code Big) }) ∷ []
+big_is : added_segments Big (host_in Big) (library_of_used_big ∷ []) ≡ (record aux_segment { code = put_at 22 (3 ∷ []) (util_code Big) }) ∷ []
 unfolding own_segments empty_slots rounds
 big_is = refl
 

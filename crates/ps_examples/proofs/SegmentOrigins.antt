@@ -14,7 +14,7 @@ use Rattle.ps_resolve.specs.Standing.Sources.{IsNamed, HasEntry}
 use Rattle.ps_codefile.specs.declared.entry.Role.TheVariants as role
 use Rattle.ps_examples.specs.Segments.{demo_segment, util_segment, using_segment, aux_segment, naming_segment, named_segment, tools_segment, pair, three, with_plain}
 use Rattle.ps_resolve.specs.Sources.{Segment, own_segments}
-use Rattle.ps_resolve.specs.Sought.{HasSlot}
+use Rattle.ps_resolve.specs.RequestedUnits.{HasSlot}
 use Rattle.ps_resolve.specs.Origins.{IsTaken, HasOne, IsOwn, IsAddedUnit, IsFile, IsInPlace, IsUnitOf, IsSliceOf, IsRead}
 use Rattle.ps_linkinfo.specs.Records.{Spells}
 use Rattle.ps_words.specs.declared.order.Order.{Order}

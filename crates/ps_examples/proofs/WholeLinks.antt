@@ -11,7 +11,7 @@ use Rattle.ps_examples.specs.Files.{host, library, host_in, library_in, library_
 use Rattle.ps_examples.specs.Segments.{demo_segment, util_segment, using_segment, aux_segment, tools_segment, pair, three, with_plain}
 use Rattle.ps_examples.proofs.ByteFacts.{same, segments_are}
 use Rattle.ps_examples.proofs.SegmentOrigins.{fails, only_entry, an_added_unit_s_segments, a_plain_segment_s, a_slot_has_one, an_added_unit, read_from_the_host, read_from_the_library}
-use Rattle.ps_resolve.specs.Added.{empty_slots, rounds, added}
+use Rattle.ps_resolve.specs.Added.{empty_slots, rounds, added_segments}
 use Rattle.ps_resolve.specs.Origins.{HasOne, IsOwn, IsAddedUnit, IsInPlace, IsUnitOf, IsRead, HaveOneEach, AreBySlot, AreOwn, AreAdded, AreOfRounds, AreInPlace, AreOfLibraries, AreRead}
 use Rattle.ps_codefile.specs.Roles.{is_empty}
 use Rattle.ps_resolve.specs.Sources.{Segment, own_segments}
@@ -62,7 +62,7 @@ a_segment_for_each_slot slot lt full = subst (λ (segs : List Segment). HasOne s
     go false a false f true g e = subst (λ (k : ℕ). HasOne (demo_segment ∷ util_segment ∷ []) k) (sym (g refl)) two
     go false a false f false g e = absurd (true≢false e)
 
--- the segments of the pair stand by slot: 1 and then 7
+-- the segments of the pair are by slot: 1 and then 7
 pub by_slot : AreBySlot pair
 by_slot = subst (λ (segs : List Segment). AreBySlot segs) (sym segments_are) (rise, All-from_recursion (λ (s : Segment). s.slot < 16) (demo_segment ∷ util_segment ∷ []) (omega arith, (omega arith, tt)))
   where
@@ -78,7 +78,7 @@ the_host_s_own = subst (λ (segs : List Segment). AreOwn host segs) (sym an_adde
     (All-from_recursion (λ (s : Segment). s.added ≡ false → IsOwn Little host s) (demo_segment ∷ using_segment ∷ aux_segment ∷ [])
     (λ h. record { role = refl; filled = λ e. cc; name = refl }, (λ h. record { role = refl; filled = λ e. cc; name = refl }, (λ h. absurd (true≢false h), tt))))
 
--- the one of the three that was added has an empty slot, and a name that is asked for
+-- the one of the three that was added has an empty slot, and a name that is requested
 pub the_added_one : AreAdded host three
 the_added_one = subst (λ (segs : List Segment). AreAdded host segs) (sym an_added_unit_s_segments)
     (All-from_recursion (λ (s : Segment). s.added ≡ true → IsAddedUnit Little host (demo_segment ∷ using_segment ∷ aux_segment ∷ []) s) (demo_segment ∷ using_segment ∷ aux_segment ∷ [])
@@ -88,7 +88,7 @@ the_added_one = subst (λ (segs : List Segment). AreAdded host segs) (sym an_add
     unit = subst (λ (segs : List Segment). IsAddedUnit Little host segs aux_segment) an_added_unit_s_segments an_added_unit
 
 -- what the rounds add
-pub added_is : added Little host used ≡ aux_segment ∷ []
+pub added_is : added_segments Little host used ≡ aux_segment ∷ []
 unfolding own_segments empty_slots rounds
 added_is = refl
 

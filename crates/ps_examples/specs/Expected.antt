@@ -5,10 +5,12 @@ use Rattle.ps_words.specs.declared.order.Order.{Order}
 use Rattle.ps_words.specs.declared.order.Order.TheVariants.{Little, Big}
 use Rattle.ps_examples.specs.Files.{filled_to, put_at, with_slot, zeros, no_segments, demo, util, aux, tools, demo_code, util_code}
 
--- DEMO in block 1 and UTIL in block 2; every kind is LINKED, and the names and byte 300 are the host's
+-- DEMO in block 1 and UTIL in block 2; every kind is LINKED, and the names and byte 300 are the
+-- host's
 abbrev pub linked_dictionary : Order → List ℕ
 linked_dictionary order = put_at 300 (42 ∷ []) (with_slot order 1 demo 0 1 18 (with_slot order 7 util 0 2 24 no_segments))
 
+-- a linked file of DEMO and UTIL whose codes are these
 abbrev pub linked_with : Order → List ℕ → List ℕ → List ℕ
 linked_with order demo_linked util_linked = linked_dictionary order ++ filled_to 512 demo_linked ++ filled_to 512 util_linked
 

@@ -1,4 +1,5 @@
--- Records, owners of privates, and privates, as the builders of definitions and of allotments have them.
+-- Records, owners of privates, and privates, as the builders of definitions and of allotments have
+-- them.
 -- Source: this project's examples.
 use Rattle.std.specs.Prelude.{List, [], ◌∷◌}
 use Rattle.ps_examples.specs.Files.{count, state, nobody}
@@ -13,14 +14,16 @@ abbrev pub defined_once : List Record
 defined_once =
     count_reference ∷ record { name = count; body = PublDef 3 } ∷ record { name = state; body = ConstDef 4 } ∷ record { name = count; body = PublRef (2 ∷ []) } ∷ []
 
--- and each defined twice
+-- COUNT and STATE, each defined twice
 abbrev pub defined_again : List Record
 defined_again =
     record { name = count; body = PublDef 3 } ∷ record { name = state; body = PublDef 9 } ∷ record { name = count; body = ConstDef 4 } ∷ record { name = state; body = ConstDef 5 } ∷ []
 
+-- UTIL as an owner of privates
 abbrev pub util_owner : Owner
 util_owner = owner_of util_segment
 
+-- AUX as an owner of privates
 abbrev pub aux_owner : Owner
 aux_owner = owner_of aux_segment
 
@@ -32,12 +35,14 @@ doubling_owner = record util_owner { records = count_reference ∷ state_referen
 abbrev pub plain_owner : Owner
 plain_owner = record util_owner { records = count_reference ∷ end_mark ∷ [] }
 
--- privates of four, six and five words, in two slots
+-- a private of four words, the first of UTIL
 abbrev pub first_private : Private
 first_private = record { slot = 7; rec = 1; name = state; offset = 8; words = 4 }
 
+-- a private of six words, the second of UTIL
 abbrev pub second_private : Private
 second_private = record { slot = 7; rec = 2; name = nobody; offset = 12; words = 6 }
 
+-- a private of five words, of AUX
 abbrev pub third_private : Private
 third_private = record { slot = 8; rec = 0; name = state; offset = 18; words = 5 }

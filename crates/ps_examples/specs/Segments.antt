@@ -6,18 +6,20 @@ use Rattle.ps_linkinfo.specs.declared.record.Body.TheVariants.{UnitRef, PublRef,
 use Rattle.ps_linkinfo.specs.declared.record.LinkRecord.{LinkRecord as Record}
 use Rattle.ps_resolve.specs.Sources.{Segment}
 use Rattle.ps_resolve.specs.LinkedBytes.{segments_of}
-use Rattle.ps_examples.specs.Files.{host, library, library_with, library_of_two, library_of_used, host_with_tools, wanting_aux, put_at, blank, demo, util, aux, tools, count, state, nobody, demo_code, util_code, aux_code, priv_ref, eof_mark, util_information}
+use Rattle.ps_examples.specs.Files.{host, library, library_with, library_of_two, library_of_used, host_with_tools, wanting_aux, put_at, blank_name, demo, util, aux, tools, count, state, nobody, demo_code, util_code, aux_code, priv_ref, eof_mark, util_information}
 use Rattle.ps_words.specs.declared.order.Order.TheVariants.{Little}
 
--- the records of UTIL: a PUBLREF of COUNT with an operand at 1, a PRIVREF of STATE, of four words, with one at 4, and the end mark
+-- a PUBLREF of COUNT with an operand at 1; UTIL has it, and the two records below
 abbrev pub count_reference : Record
 count_reference = record { name = count; body = PublRef (1 ∷ []) }
 
+-- a PRIVREF of STATE, of four words, with an operand at 4
 abbrev pub state_reference : Record
 state_reference = record { name = state; body = PrivRef 4 (4 ∷ []) }
 
+-- the EOFMARK of UTIL
 abbrev pub end_mark : Record
-end_mark = record { name = blank; body = Eof 0 }
+end_mark = record { name = blank_name; body = Eof 0 }
 
 -- UTIL as it is read for slot 7, from entry 2 of file 1
 abbrev pub util_segment : Segment
@@ -32,7 +34,7 @@ util_segment = record {
   records = count_reference ∷ state_reference ∷ end_mark ∷ [];
 }
 
--- the host's segment defines COUNT as 3, and its end mark gives the base offset 8
+-- the host segment, which defines COUNT as 3, and whose next free base offset is 8
 abbrev pub demo_segment : Segment
 demo_segment = record {
   slot = 1;
@@ -42,17 +44,18 @@ demo_segment = record {
   file = 0;
   index = 1;
   code = demo_code Little;
-  records = record { name = count; body = PublDef 3 } ∷ record { name = blank; body = Eof 8 } ∷ [];
+  records = record { name = count; body = PublDef 3 } ∷ record { name = blank_name; body = Eof 8 } ∷ [];
 }
 
 -- the segments of their link
 abbrev pub pair : List Segment
 pair = segments_of host (library ∷ [])
 
--- UTIL that names AUX alone, by a UNITREF with an operand at 2, and AUX, which is added for it in slot 8
+-- a UNITREF of AUX with an operand at 2
 abbrev pub aux_reference : Record
 aux_reference = record { name = aux; body = UnitRef (2 ∷ []) }
 
+-- UTIL that references AUX alone
 abbrev pub using_segment : Segment
 using_segment = record util_segment { records = aux_reference ∷ end_mark ∷ [] }
 
@@ -69,22 +72,23 @@ aux_segment = record {
   records = count_reference ∷ state_reference ∷ end_mark ∷ [];
 }
 
--- AUX that names itself
+-- AUX that references itself
 abbrev pub self_segment : Segment
 self_segment = record aux_segment { records = aux_reference ∷ [] }
 
--- UTIL that names itself
+-- UTIL that references itself
 abbrev pub again_segment : Segment
 again_segment = record util_segment { records = record { name = util; body = UnitRef (2 ∷ []) } ∷ [] }
 
--- AUX under a name that nothing asks for
+-- AUX under a name that no record requests
 abbrev pub nobody_segment : Segment
 nobody_segment = record aux_segment { name = nobody }
 
--- AUX that names TOOLS, and TOOLS, which is added for it in slot 9
+-- AUX that references TOOLS
 abbrev pub naming_segment : Segment
 naming_segment = record aux_segment { records = record { name = tools; body = UnitRef (2 ∷ []) } ∷ end_mark ∷ [] }
 
+-- TOOLS, added in slot 9 because AUX references it
 abbrev pub named_segment : Segment
 named_segment = record aux_segment { slot = 9; name = tools }
 
@@ -92,6 +96,7 @@ named_segment = record aux_segment { slot = 9; name = tools }
 abbrev pub count_segment : Segment
 count_segment = record aux_segment { name = count; records = [] }
 
+-- the segments of a link whose unit references AUX, which is added
 abbrev pub three : List Segment
 three = segments_of host (library_of_used (util_information Little) ∷ [])
 
@@ -108,13 +113,15 @@ tools_segment = record {
   records = [];
 }
 
+-- the segments of a link whose host has the plain segment TOOLS
 abbrev pub with_plain : List Segment
 with_plain = segments_of host_with_tools (library ∷ [])
 
--- the segments of a host whose unit has two privates of four words, and of one that wants two units with a private each
+-- the segments of a host whose unit has two privates of four words
 abbrev pub with_two_privates : List Segment
 with_two_privates = segments_of host (library_with Little (priv_ref Little state 4 [] ++ priv_ref Little nobody 4 (4 ∷ []) ++ eof_mark Little 0) ∷ [])
 
+-- the segments of a host that wants two units with a private each
 abbrev pub with_two_units : List Segment
 with_two_units = segments_of (wanting_aux host) (library_of_two ∷ [])
 
@@ -122,17 +129,19 @@ with_two_units = segments_of (wanting_aux host) (library_of_two ∷ [])
 abbrev pub displaced_segment : Segment
 displaced_segment = record util_segment { code = put_at 1 (129 ∷ []) (util_code Little) }
 
--- UTIL with two records whose operands meet at 2, with one whose two do, and with one that has its operand at the number of the slot
+-- UTIL with two records whose operands overlap at 2
 abbrev pub meeting_segment : Segment
 meeting_segment = record util_segment { records = count_reference ∷ aux_reference ∷ [] }
 
+-- UTIL with one record, two operands of which overlap
 abbrev pub twice_segment : Segment
 twice_segment = record util_segment { records = record { name = count; body = PublRef (1 ∷ 2 ∷ []) } ∷ [] }
 
+-- UTIL with an operand at its segment number
 abbrev pub numbered_segment : Segment
 numbered_segment = record util_segment { records = record { name = aux; body = UnitRef (22 ∷ []) } ∷ [] }
 
--- the host's segment with an operand at the data size
+-- the host segment with an operand at its data size
 abbrev pub sized_segment : Segment
 sized_segment = record demo_segment { records = record { name = count; body = PublRef (4 ∷ []) } ∷ [] }
 
@@ -140,7 +149,7 @@ sized_segment = record demo_segment { records = record { name = count; body = Pu
 abbrev pub past_segment : Segment
 past_segment = record aux_segment { slot = 9 }
 
--- the host's segment with COUNT as a constant
+-- the host segment with COUNT as a constant
 abbrev pub with_constant : List Segment
 with_constant = record demo_segment { records = record { name = count; body = ConstDef 3 } ∷ [] } ∷ []
 

@@ -11,7 +11,7 @@ map_of_the_pair =
     ++ codes "private 07 STATE    offset 8 words 4\n"
     ++ codes "next 12 data 18 blocks 3\n"
 
--- that where the host has the constant LIMIT, 9, too
+-- the same where the host has the constant LIMIT, 9, too
 abbrev pub map_with_a_constant : List ℕ
 map_with_a_constant =
     codes "segment 01 DEMO     file 0 entry 01 block 1 length 18\n"
@@ -40,7 +40,7 @@ map_of_two =
     ++ codes "private 08 STATE    offset 12 words 4\n"
     ++ codes "next 16 data 26 blocks 4\n"
 
--- the map of a unit of the library that names another one, which is added
+-- the map of a unit of the library that references another one, which is added
 abbrev pub map_of_an_added_unit : List ℕ
 map_of_an_added_unit =
     codes "segment 01 DEMO     file 0 entry 01 block 1 length 18\n"
@@ -78,7 +78,7 @@ links_of_the_library =
     ++ codes "1 PRIVREF STATE    words 4 at 4\n"
     ++ codes "2 EOFMARK next 0\n"
 
--- that where its end mark is cut
+-- the same where the EOFMARK is truncated
 abbrev pub links_without_an_end : List ℕ
 links_without_an_end =
     codes "links 02\n"
@@ -86,19 +86,21 @@ links_without_an_end =
     ++ codes "1 PRIVREF STATE    words 4 at 4\n"
     ++ codes "2 fault 19 RecordsTruncated\n"
 
--- that where the code is cut
+-- the same where the code is truncated
 abbrev pub links_without_a_code : List ℕ
 links_without_a_code =
     codes "links 02\n"
     ++ codes "fault 16 Truncated\n"
 
--- the whole texts: of the library, of the library cut to 1103 bytes, and of the library cut to 535 bytes
+-- the show of the library
 abbrev pub show_of_the_library : List ℕ
 show_of_the_library = codes "order little\n" ++ slots_of_the_library ++ links_of_the_library
 
+-- the show of the library truncated to 1103 bytes, within its EOFMARK
 abbrev pub show_without_an_end : List ℕ
 show_without_an_end = codes "order little\n" ++ slots_of_the_library ++ links_without_an_end
 
+-- the show of the library truncated to 535 bytes, within its code
 abbrev pub show_without_a_code : List ℕ
 show_without_a_code = codes "order little\n" ++ slots_of_the_library ++ links_without_a_code
 
@@ -122,6 +124,7 @@ slots_of_the_linked_file =
     ++ codes "slot 14          kind 0 address 0 length 0 text 0\n"
     ++ codes "slot 15          kind 0 address 0 length 0 text 0\n"
 
+-- the show of the linked file of the host and its library
 abbrev pub show_of_the_linked_file : List ℕ
 show_of_the_linked_file = codes "order unknown\n" ++ slots_of_the_linked_file
 
@@ -152,6 +155,7 @@ links_of_the_host =
     ++ codes "0 PUBLDEF COUNT    value 3\n"
     ++ codes "1 EOFMARK next 8\n"
 
+-- the show of the big-endian host
 abbrev pub show_of_the_big_endian_host : List ℕ
 show_of_the_big_endian_host = codes "order big\n" ++ slots_of_the_host ++ links_of_the_host
 
@@ -186,7 +190,7 @@ links_of_an_unknown_record =
     codes "links 02\n"
     ++ codes "0 fault 20 UnknownRecord\n"
 
--- codes that are refused
+-- a code of a bad length, which is refused
 abbrev pub links_of_a_bad_length : List ℕ
 links_of_a_bad_length =
     codes "links 02\n"

@@ -1,11 +1,15 @@
 ghost use Rattle.std.specs.Prelude.{◌≡◌, [], ◌∷◌, ◌++◌, Some, None};
-ghost use Rattle.ps_examples.specs.Files.{host, library_with, host_with, host_in_place, host_with_tools, put_at, with_slot, zeros, blank, util, aux, tools, count, cuont, nobody, unit_ref, publ_ref, publ_def, eof_mark, util_information, with_aux, aux_code, library_of_used, filled_host};
+ghost use Rattle.ps_examples.specs.Files.{host, library_with, host_with, host_in_place, host_with_tools, put_at, with_slot, zeros, blank_name, util, aux, tools, count, cuont, nobody, unit_ref, publ_ref, publ_def, eof_mark, util_information, with_aux, aux_code, library_of_used, library_naming_itself, filled_host};
+ghost use Rattle.ps_examples.specs.Segments.{past_segment};
 ghost use Rattle.ps_resolve.specs.AllFaults.{first_fault};
+ghost use Rattle.ps_resolve.specs.Sources.{Segment};
+ghost use Rattle.ps_resolve.specs.RequestedUnits.{AddedUnits};
+ghost use Rattle.ps_resolve.specs.declared.reading.added.UnitReference.{UnitReference};
 ghost use Rattle.ps_words.specs.FaultPlaces.{in_slot, in_record};
 ghost use Rattle.ps_words.specs.declared.fault.Reason.TheVariants as reason;
 ghost use Rattle.ps_words.specs.declared.order.Order.TheVariants.{Little};
 
-/// Which names are sought in the libraries, and which slots their units take.
+/// Which names are looked up in the libraries, and which slots their units take.
 pub fn units_that_are_added()
     ensures a_unit_that_only_a_unit_names { first_fault host
         (library_of_used (util_information Little) ∷ []) ≡ None }
@@ -17,7 +21,7 @@ pub fn units_that_are_added()
         (library_of_used (unit_ref Little aux (2 ∷ []) ++ unit_ref Little nobody []
         ++ eof_mark Little 0) ∷ []) ≡ Some (in_record 1 8 1 reason.MissingUnit) }
     ensures the_first_empty_slot_is_below_the_unit { first_fault
-        (with_slot Little 7 blank 0 0 0 (with_slot Little 9 util 3 0 0 host))
+        (with_slot Little 7 blank_name 0 0 0 (with_slot Little 9 util 3 0 0 host))
         (put_at 198 (5 ∷ []) (library_of_used (util_information Little)) ∷ [])
         ≡ Some (in_slot 1 7 (reason.NotAUnit 5)) }
     ensures one_slot_is_enough_for_one_name { first_fault (filled_host 7)
@@ -35,15 +39,15 @@ pub fn units_that_are_added()
         (library_with Little (unit_ref Little tools (2 ∷ []) ++ eof_mark Little 0) ∷ [])
         ≡ Some (in_record 1 7 0 reason.MissingUnit) }
     ensures a_name_of_blanks_is_missing { first_fault host
-        (with_slot Little 3 blank 3 1 24 (library_with Little
-        (unit_ref Little blank (2 ∷ []) ++ eof_mark Little 0)) ∷ [])
+        (with_slot Little 3 blank_name 3 1 24 (library_with Little
+        (unit_ref Little blank_name (2 ∷ []) ++ eof_mark Little 0)) ∷ [])
         ≡ Some (in_record 1 7 0 reason.MissingUnit) }
     ensures a_unit_in_place_may_be_named_by_blanks { first_fault
-        (put_at 120 blank (host_in_place Little
-        (unit_ref Little blank (2 ∷ []) ++ eof_mark Little 0))) [] ≡ None }
+        (put_at 120 blank_name (host_in_place Little
+        (unit_ref Little blank_name (2 ∷ []) ++ eof_mark Little 0))) [] ≡ None }
 {}
 
-/// Which fault is named where several stand that have to do with an added unit.
+/// Which fault is reported if several apply that have to do with an added unit.
 pub fn order_of_added_units()
     ensures the_name_of_a_lesser_slot_comes_first { first_fault
         (host_with Little (publ_def Little count 3 ++ unit_ref Little nobody []
@@ -51,7 +55,7 @@ pub fn order_of_added_units()
         (unit_ref Little tools (2 ∷ []) ++ eof_mark Little 0) ∷ [])
         ≡ Some (in_record 0 1 1 reason.MissingUnit) }
     ensures a_slot_s_own_code_before_a_missing_unit { first_fault
-        (with_slot Little 8 blank 0 1 32768 host)
+        (with_slot Little 8 blank_name 0 1 32768 host)
         (library_with Little (unit_ref Little nobody [] ++ eof_mark Little 0) ∷ [])
         ≡ Some (in_slot 0 8 reason.BadLength) }
     ensures a_missing_unit_before_no_slot { first_fault (filled_host 8)
@@ -80,8 +84,19 @@ pub fn order_of_added_units()
         (unit_ref Little nobody (2 ∷ []) ++ eof_mark Little 0) ∷ [])
         ≡ Some (in_record 1 7 0 reason.MissingUnit) }
     ensures an_added_unit_in_a_lesser_slot_comes_first { first_fault
-        (with_slot Little 7 blank 0 0 0 (with_slot Little 9 util 3 0 0 host))
+        (with_slot Little 7 blank_name 0 0 0 (with_slot Little 9 util 3 0 0 host))
         (with_aux aux_code (publ_ref Little cuont (1 ∷ []) ++ eof_mark Little 0)
         (library_with Little (unit_ref Little aux (2 ∷ []) ++ publ_ref Little cuont (4 ∷ [])
         ++ eof_mark Little 0)) ∷ []) ≡ Some (in_record 1 7 0 reason.MissingDefinition) }
+{}
+
+/// Rows of names and lists of segments that are not those that a link adds.
+pub fn rows_of_no_link()
+    // AUX, which its own record alone requests
+    ensures its_own_record_alone { (g : UnitReference) (s : Segment) → g.name ≡ aux
+        → AddedUnits Little host (library_naming_itself ∷ []) (g ∷ []) (s ∷ []) → ⊥ }
+    ensures no_name_is_sought { AddedUnits Little host
+        (library_of_used (util_information Little) ∷ []) [] [] → ⊥ }
+    ensures in_a_later_slot { (g : UnitReference) → AddedUnits Little host
+        (library_of_used (util_information Little) ∷ []) (g ∷ []) (past_segment ∷ []) → ⊥ }
 {}

@@ -4,16 +4,17 @@ ghost use Rattle.ps_examples.specs.Owners.{defined_once, defined_again};
 ghost use Rattle.ps_examples.specs.Owners.{util_owner, aux_owner, doubling_owner, plain_owner};
 ghost use Rattle.ps_examples.specs.Owners.{first_private, second_private, third_private};
 ghost use Rattle.ps_examples.specs.Segments.{count_reference};
-ghost use Rattle.ps_linkinfo.specs.Counts.{is_definition};
+ghost use Rattle.ps_linkinfo.specs.RecordCounts.{is_definition};
 ghost use Rattle.ps_resolve.specs.Builders.{HaveNoNamesakes, StopsDefinitions, offset_at};
-ghost use Rattle.ps_resolve.specs.Builders.{HaveOwnNames, HaveRoom, StopsPrivates, all_asked};
+ghost use Rattle.ps_resolve.specs.Builders.{HaveDistinctPrivates, HaveRoom, StopsPrivates, all_asked};
 ghost use Rattle.ps_resolve.specs.Builders.{asked_of, AreByRecord, words_of_all};
 ghost use Rattle.ps_resolve.specs.Offsets.{FollowOn};
 ghost use Rattle.ps_resolve.specs.declared.linkage.Stop.TheVariants.{Refused, Memory};
 ghost use Rattle.ps_words.specs.FaultPlaces.{in_record};
 ghost use Rattle.ps_words.specs.declared.fault.Reason.TheVariants as reason;
 
-/// Which definitions and privates are built, where each is refused, and how the privates stand.
+/// Which definitions and privates are built, where each is refused, and in which order the privates
+/// are.
 pub fn facts_of_builders()
     ensures no_name_is_defined_twice { HaveNoNamesakes is_definition defined_once }
     ensures a_second_definition_of_a_name { StopsDefinitions 0 1 defined_again
@@ -21,7 +22,7 @@ pub fn facts_of_builders()
     ensures no_memory_for_a_definition { StopsDefinitions 0 1 defined_once Memory }
     ensures an_offset { offset_at 8 (util_owner ∷ aux_owner ∷ []) 1 aux_owner 1 ≡ 12 }
     ensures an_offset_behind_it { offset_at 8 (util_owner ∷ aux_owner ∷ []) 1 aux_owner 2 ≡ 16 }
-    ensures a_name_in_two_segments { HaveOwnNames (util_owner ∷ aux_owner ∷ []) }
+    ensures a_name_in_two_segments { HaveDistinctPrivates (util_owner ∷ aux_owner ∷ []) }
     ensures room_to_the_last_word { HaveRoom 32763 (util_owner ∷ []) }
     ensures room_for_no_private { HaveRoom 32768 (plain_owner ∷ []) }
     ensures a_private_past_the_last_word { StopsPrivates 32764 (util_owner ∷ aux_owner ∷ [])
@@ -42,7 +43,7 @@ pub fn facts_of_builders()
         (first_private ∷ second_private ∷ third_private ∷ []) }
 {}
 
-/// What is not built, what is not refused, and how no privates stand.
+/// What is not built, what is not refused, and in which order no privates are.
 pub fn what_no_builder_does()
     ensures a_name_is_defined_twice { HaveNoNamesakes is_definition defined_again → ⊥ }
     ensures not_the_later_definition { StopsDefinitions 0 1 defined_again
@@ -51,7 +52,7 @@ pub fn what_no_builder_does()
         (Refused (in_record 0 1 1 reason.DoubledDefinition)) → ⊥ }
     ensures no_memory_without_a_definition { StopsDefinitions 0 1 (count_reference ∷ [])
         Memory → ⊥ }
-    ensures a_name_twice_in_a_segment { HaveOwnNames (util_owner ∷ doubling_owner ∷ []) → ⊥ }
+    ensures a_name_twice_in_a_segment { HaveDistinctPrivates (util_owner ∷ doubling_owner ∷ []) → ⊥ }
     ensures no_room_for_the_last_word { HaveRoom 32764 (util_owner ∷ []) → ⊥ }
     ensures not_the_later_private { StopsPrivates 32764 (util_owner ∷ aux_owner ∷ [])
         (Refused (in_record 1 8 1 reason.NoRoom)) → ⊥ }

@@ -1,5 +1,5 @@
 ghost use Rattle.std.specs.Prelude.{◌≡◌, ℕ, List, [], ◌∷◌};
-ghost use Rattle.ps_examples.specs.Files.{blank, util, aux, tools, count, state, nobody};
+ghost use Rattle.ps_examples.specs.Files.{blank_name, util, aux, tools, count, state, nobody};
 ghost use Rattle.ps_examples.specs.Files.{demo_code};
 ghost use Rattle.ps_examples.specs.Segments.{state_reference, demo_segment, util_segment};
 ghost use Rattle.ps_examples.specs.Segments.{using_segment, tools_segment, displaced_segment};
@@ -50,7 +50,7 @@ pub fn facts_of_bytes()
     ensures a_place_of_one_reference { IsOnePlace Little util_segment 2 }
 {}
 
-/// What is not said of linked bytes: no other byte stands at a place of each kind, and what is no
+/// What is not said of linked bytes: no other byte is at a place of each kind, and what is no
 /// number's place, no data size, no base offset, no unit of a name, no value of one, and no place
 /// of one reference alone.
 pub fn bytes_that_are_not_linked()
@@ -72,7 +72,7 @@ pub fn bytes_that_are_not_linked()
     ensures a_constant_has_no_operand { (bytes : List ℕ)
         → Becomes pair demo_segment 0 count (ConstDef 3) 1 bytes → ⊥ }
     ensures an_end_mark_has_no_operand { (bytes : List ℕ)
-        → Becomes pair demo_segment 1 blank (Eof 8) 1 bytes → ⊥ }
+        → Becomes pair demo_segment 1 blank_name (Eof 8) 1 bytes → ⊥ }
     ensures a_plain_segment_is_no_unit { IsSlotOf with_plain tools 8 → ⊥ }
     ensures not_the_unit_of_another_name { IsSlotOf pair aux 7 → ⊥ }
     ensures not_another_slot { IsSlotOf pair util 1 → ⊥ }

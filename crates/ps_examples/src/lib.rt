@@ -1,4 +1,6 @@
-//! The definitions of a link, computed on small files: what is refused there, which fault is named where several stand, what is written, and what map and show print. Each function's contract states examples, and its body is empty.
+//! The definitions of a link, computed on small files: what is refused there, which fault is
+//! reported if several apply, what is written, and what map and show print. Each function's
+//! contract states examples, and its body is empty.
 #![tactic(auto)]
 
 mod added_units;
@@ -24,7 +26,7 @@ mod roles;
 mod texts;
 mod whole_links;
 
-pub use added_units::{order_of_added_units, units_that_are_added};
+pub use added_units::{order_of_added_units, rows_of_no_link, units_that_are_added};
 pub use builders::{facts_of_builders, what_no_builder_does};
 pub use byte_facts::{bytes_that_are_not_linked, facts_of_bytes};
 pub use libraries::choice_of_libraries;

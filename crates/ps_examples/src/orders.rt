@@ -1,14 +1,14 @@
 ghost use Rattle.std.specs.Prelude.{◌≡◌, [], ◌∷◌, ◌++◌, take, Some};
-ghost use Rattle.ps_examples.specs.Files.{host, library, library_in, library_with, host_with, put_at, with_slot, blank, util, count, cuont, state, publ_ref, priv_ref, publ_def, eof_mark};
+ghost use Rattle.ps_examples.specs.Files.{host, library, library_in, library_with, host_with, put_at, with_slot, blank_name, util, count, cuont, state, publ_ref, priv_ref, publ_def, eof_mark};
 ghost use Rattle.ps_resolve.specs.AllFaults.{first_fault};
 ghost use Rattle.ps_words.specs.FaultPlaces.{in_file, in_slot, in_record, in_reference};
 ghost use Rattle.ps_words.specs.declared.fault.Reason.TheVariants as reason;
 ghost use Rattle.ps_words.specs.declared.order.Order.TheVariants.{Little, Big};
 
-/// Where several faults stand, the first in the one order is named.
+/// If several faults apply, the first in the one order is reported.
 pub fn one_order()
     ensures an_unknown_kind_before_a_second_host_above { first_fault
-        (with_slot Little 8 blank 8 1 18 (with_slot Little 9 blank 1 1 18 host)) (library ∷ [])
+        (with_slot Little 8 blank_name 8 1 18 (with_slot Little 9 blank_name 1 1 18 host)) (library ∷ [])
         ≡ Some (in_slot 0 8 reason.UnknownKind) }
     ensures a_short_library_before_a_bad_length { first_fault (put_at 6 (17 ∷ []) host)
         (take 511 library ∷ []) ≡ Some (in_file 1 reason.ShortFile) }
@@ -53,7 +53,7 @@ pub fn one_order()
     ensures an_earlier_library_before_a_later_one { first_fault host
         (library_in Big ∷ take 511 library ∷ []) ≡ Some (in_file 1 reason.OrderMismatch) }
     ensures a_doubled_segment_before_a_kind_above { first_fault
-        (with_slot Little 8 util 3 0 0 (with_slot Little 9 blank 8 1 18 host)) (library ∷ [])
+        (with_slot Little 8 util 3 0 0 (with_slot Little 9 blank_name 8 1 18 host)) (library ∷ [])
         ≡ Some (in_slot 0 8 reason.DoubledSegment) }
     ensures outside_before_reserved_and_overlap { first_fault host
         (library_with Little (publ_ref Little count (1 ∷ 23 ∷ []) ++ eof_mark Little 0) ∷ [])

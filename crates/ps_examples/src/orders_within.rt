@@ -1,16 +1,17 @@
 ghost use Rattle.std.specs.Prelude.{◌≡◌, [], ◌∷◌, ◌++◌, take, Some};
-ghost use Rattle.ps_examples.specs.Files.{host, library, library_with, host_with, put_at, with_slot, blank, count, cuont, state, publ_ref, priv_ref, publ_def, eof_mark, wanting_aux, with_aux, aux_code};
+ghost use Rattle.ps_examples.specs.Files.{host, library, library_with, host_with, put_at, with_slot, blank_name, count, cuont, state, publ_ref, priv_ref, publ_def, eof_mark, wanting_aux, with_aux, aux_code};
 ghost use Rattle.ps_resolve.specs.AllFaults.{first_fault};
 ghost use Rattle.ps_words.specs.FaultPlaces.{in_file, in_slot, in_record, in_reference};
 ghost use Rattle.ps_words.specs.declared.fault.Reason.TheVariants as reason;
 ghost use Rattle.ps_words.specs.declared.order.Order.TheVariants.{Little};
 
-/// Where several faults stand in one step, or in two that follow each other, the first in the one order is named.
+/// If several faults apply in one step, or in two that follow each other, the first in the one
+/// order is reported.
 pub fn order_within_a_step()
     ensures no_host_segment_before_a_short_library { first_fault (put_at 6 (0 ∷ []) host)
         (take 511 library ∷ []) ≡ Some (in_file 0 reason.NoHost) }
     ensures a_missing_unit_before_a_bad_length_above { first_fault
-        (with_slot Little 8 blank 0 1 32768 host) [] ≡ Some (in_slot 0 7 reason.MissingUnit) }
+        (with_slot Little 8 blank_name 0 1 32768 host) [] ≡ Some (in_slot 0 7 reason.MissingUnit) }
     ensures a_native_procedure_before_a_record { first_fault host
         (put_at 530 (0 ∷ []) (put_at 1032 (15 ∷ []) library) ∷ [])
         ≡ Some (in_slot 1 7 reason.NativeProcedure) }

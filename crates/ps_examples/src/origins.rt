@@ -2,7 +2,7 @@ ghost use Rattle.std.specs.Prelude.{◌≡◌, ℕ, List, [], ◌∷◌, take};
 ghost use Rattle.ps_codefile.specs.Dictionary.{entry_at};
 ghost use Rattle.ps_codefile.specs.declared.entry.Role.TheVariants as role;
 ghost use Rattle.ps_examples.specs.Files.{host, library, host_with_tools, put_at, with_slot};
-ghost use Rattle.ps_examples.specs.Files.{blank, util, aux, util_code, host_without_7};
+ghost use Rattle.ps_examples.specs.Files.{blank_name, util, aux, util_code, host_without_7};
 ghost use Rattle.ps_examples.specs.Files.{library_of_the_last, library_past_the_last};
 ghost use Rattle.ps_examples.specs.Segments.{demo_segment, util_segment, using_segment};
 ghost use Rattle.ps_examples.specs.Segments.{aux_segment, self_segment, count_segment};
@@ -54,7 +54,7 @@ pub fn segments_of_no_link()
     ensures not_of_another_role { IsOwn Little host
         (record demo_segment { role = role.Plain }) → ⊥ }
     ensures not_of_an_empty_slot { IsOwn Little host
-        (record aux_segment { role = role.Empty; name = blank }) → ⊥ }
+        (record aux_segment { role = role.Empty; name = blank_name }) → ⊥ }
     ensures not_of_another_name { IsOwn Little host (record util_segment { name = aux }) → ⊥ }
     ensures not_in_a_taken_slot { (segs : List Segment)
         → IsAddedUnit Little host segs (record aux_segment { slot = 7 }) → ⊥ }
@@ -73,7 +73,7 @@ pub fn segments_of_no_link()
     ensures not_asked_for_by_a_publ_ref { IsAddedUnit Little host
         (util_segment ∷ count_segment ∷ []) count_segment → ⊥ }
     ensures not_of_a_name_of_blanks { (segs : List Segment)
-        → IsAddedUnit Little host segs (record aux_segment { name = blank }) → ⊥ }
+        → IsAddedUnit Little host segs (record aux_segment { name = blank_name }) → ⊥ }
     ensures not_of_a_name_that_the_host_has { (segs : List Segment)
         → IsAddedUnit Little host segs (record aux_segment { name = util }) → ⊥ }
     ensures not_in_place_in_a_library { IsInPlace (record demo_segment { file = 1 }) → ⊥ }

@@ -1,5 +1,5 @@
 ghost use Rattle.std.specs.Prelude.{◌≡◌, [], ◌∷◌, ◌++◌, Some, None};
-ghost use Rattle.ps_examples.specs.Files.{host, library, put_at, with_slot, blank, zeros, eof_mark, library_having, cuont, publ_ref, library_of_two_blocks};
+ghost use Rattle.ps_examples.specs.Files.{host, library, put_at, with_slot, blank_name, zeros, eof_mark, library_having, cuont, publ_ref, library_of_two_blocks};
 ghost use Rattle.ps_resolve.specs.AllFaults.{first_fault};
 ghost use Rattle.ps_words.specs.FaultPlaces.{in_slot, in_record};
 ghost use Rattle.ps_words.specs.declared.fault.Reason.TheVariants as reason;
@@ -11,12 +11,12 @@ pub fn faults_of_codes()
         ≡ Some (in_slot 0 1 reason.BadLength) }
     ensures a_long_code_is_cut { first_fault (put_at 7 (127 ∷ []) host) (library ∷ [])
         ≡ Some (in_slot 0 1 reason.Truncated) }
-    ensures a_plain_segment_over_the_limit { first_fault (with_slot Little 8 blank 0 1 32768 host)
+    ensures a_plain_segment_over_the_limit { first_fault (with_slot Little 8 blank_name 0 1 32768 host)
         (library ∷ []) ≡ Some (in_slot 0 8 reason.BadLength) }
     ensures a_plain_segment_at_the_limit_is_cut { first_fault
-        (with_slot Little 8 blank 0 1 32767 host) (library ∷ [])
+        (with_slot Little 8 blank_name 0 1 32767 host) (library ∷ [])
         ≡ Some (in_slot 0 8 reason.Truncated) }
-    ensures a_plain_segment_of_odd_length { first_fault (with_slot Little 8 blank 0 1 5 host)
+    ensures a_plain_segment_of_odd_length { first_fault (with_slot Little 8 blank_name 0 1 5 host)
         (library ∷ []) ≡ None }
     ensures a_host_segment_of_two_bytes { first_fault (put_at 6 (2 ∷ []) host) (library ∷ [])
         ≡ Some (in_slot 0 1 reason.BadLength) }

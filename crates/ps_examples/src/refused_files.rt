@@ -1,6 +1,6 @@
 ghost use Rattle.std.specs.Prelude.{◌≡◌, [], ◌∷◌, take, Some, None, Err};
 ghost use Rattle.ps_examples.specs.Files.{host, library, library_in, put_at, zeros};
-ghost use Rattle.ps_codefile.specs.Dictionary.{opened};
+ghost use Rattle.ps_codefile.specs.Dictionary.{opened_alone};
 ghost use Rattle.ps_resolve.specs.AllFaults.{first_fault};
 ghost use Rattle.ps_words.specs.FaultPlaces.{in_file, in_slot};
 ghost use Rattle.ps_words.specs.declared.fault.Reason.TheVariants as reason;
@@ -27,5 +27,5 @@ pub fn faults_of_files()
         ≡ Some (in_slot 0 1 reason.Truncated) }
     ensures a_library_of_one_block_is_not_short { first_fault host (take 512 library ∷ [])
         ≡ Some (in_slot 1 7 reason.Truncated) }
-    ensures a_file_of_zeros_by_itself { opened (zeros 512) ≡ Err reason.NoHost }
+    ensures a_file_of_zeros_by_itself { opened_alone (zeros 512) ≡ Err reason.NoHost }
 {}

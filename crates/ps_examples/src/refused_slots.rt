@@ -1,5 +1,5 @@
 ghost use Rattle.std.specs.Prelude.{◌≡◌, [], ◌∷◌, Some};
-ghost use Rattle.ps_examples.specs.Files.{host, library, with_slot, blank, util};
+ghost use Rattle.ps_examples.specs.Files.{host, library, with_slot, blank_name, util};
 ghost use Rattle.ps_resolve.specs.AllFaults.{first_fault};
 ghost use Rattle.ps_words.specs.FaultPlaces.{in_slot};
 ghost use Rattle.ps_words.specs.declared.fault.Reason.TheVariants as reason;
@@ -7,16 +7,16 @@ ghost use Rattle.ps_words.specs.declared.order.Order.TheVariants.{Little};
 
 /// What is wrong with a slot of the host.
 pub fn faults_of_slots()
-    ensures there_are_two_hosts { first_fault (with_slot Little 2 blank 1 1 18 host) (library ∷ [])
+    ensures there_are_two_hosts { first_fault (with_slot Little 2 blank_name 1 1 18 host) (library ∷ [])
         ≡ Some (in_slot 0 2 reason.TwoHosts) }
     ensures a_unit_is_wanted_twice { first_fault (with_slot Little 8 util 3 0 0 host)
         (library ∷ []) ≡ Some (in_slot 0 8 reason.DoubledSegment) }
-    ensures a_segment_procedure { first_fault (with_slot Little 8 blank 2 1 18 host) (library ∷ [])
+    ensures a_segment_procedure { first_fault (with_slot Little 8 blank_name 2 1 18 host) (library ∷ [])
         ≡ Some (in_slot 0 8 reason.SegmentProcedure) }
-    ensures a_native_segment { first_fault (with_slot Little 8 blank 4 1 18 host) (library ∷ [])
+    ensures a_native_segment { first_fault (with_slot Little 8 blank_name 4 1 18 host) (library ∷ [])
         ≡ Some (in_slot 0 8 reason.NativeSegment) }
-    ensures an_intrinsic_unit { first_fault (with_slot Little 8 blank 6 1 18 host) (library ∷ [])
+    ensures an_intrinsic_unit { first_fault (with_slot Little 8 blank_name 6 1 18 host) (library ∷ [])
         ≡ Some (in_slot 0 8 reason.Intrinsic) }
-    ensures an_unknown_kind { first_fault (with_slot Little 8 blank 8 1 18 host) (library ∷ [])
+    ensures an_unknown_kind { first_fault (with_slot Little 8 blank_name 8 1 18 host) (library ∷ [])
         ≡ Some (in_slot 0 8 reason.UnknownKind) }
 {}

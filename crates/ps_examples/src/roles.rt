@@ -1,5 +1,5 @@
 ghost use Rattle.std.specs.Prelude.{◌≡◌, [], ◌∷◌, Some, None};
-ghost use Rattle.ps_examples.specs.Files.{host, library, put_at, with_slot, blank, util, zeros};
+ghost use Rattle.ps_examples.specs.Files.{host, library, put_at, with_slot, blank_name, util, zeros};
 ghost use Rattle.ps_resolve.specs.AllFaults.{first_fault};
 ghost use Rattle.ps_words.specs.FaultPlaces.{in_slot};
 ghost use Rattle.ps_words.specs.declared.fault.Reason.TheVariants as reason;
@@ -7,23 +7,23 @@ ghost use Rattle.ps_words.specs.declared.order.Order.TheVariants.{Little};
 
 /// What a slot of the host is for.
 pub fn roles_of_slots()
-    ensures the_first_slot_counts { first_fault (with_slot Little 0 blank 8 1 18 host)
+    ensures the_first_slot_counts { first_fault (with_slot Little 0 blank_name 8 1 18 host)
         (library ∷ []) ≡ Some (in_slot 0 0 reason.UnknownKind) }
-    ensures the_last_slot_counts { first_fault (with_slot Little 15 blank 8 1 18 host)
+    ensures the_last_slot_counts { first_fault (with_slot Little 15 blank_name 8 1 18 host)
         (library ∷ []) ≡ Some (in_slot 0 15 reason.UnknownKind) }
-    ensures the_first_kind_of_another_release { first_fault (with_slot Little 8 blank 5 1 18 host)
+    ensures the_first_kind_of_another_release { first_fault (with_slot Little 8 blank_name 5 1 18 host)
         (library ∷ []) ≡ Some (in_slot 0 8 reason.Intrinsic) }
-    ensures the_last_kind_of_another_release { first_fault (with_slot Little 8 blank 7 1 18 host)
+    ensures the_last_kind_of_another_release { first_fault (with_slot Little 8 blank_name 7 1 18 host)
         (library ∷ []) ≡ Some (in_slot 0 8 reason.Intrinsic) }
     ensures a_unit_named_by_blanks_is_not_wanted { first_fault
-        (with_slot Little 8 blank 3 0 0 host) (library ∷ []) ≡ None }
+        (with_slot Little 8 blank_name 3 0 0 host) (library ∷ []) ≡ None }
     ensures a_unit_named_by_zero_bytes_is_not_wanted { first_fault
         (with_slot Little 8 (zeros 8) 3 0 0 host) (library ∷ []) ≡ None }
     ensures a_unit_without_a_length_is_wanted { first_fault (put_at 28 (1 ∷ []) host) []
         ≡ Some (in_slot 0 7 reason.MissingUnit) }
     ensures a_unit_without_an_address_is_wanted { first_fault (put_at 30 (24 ∷ []) host) []
         ≡ Some (in_slot 0 7 reason.MissingUnit) }
-    ensures a_slot_without_a_length_is_empty { first_fault (with_slot Little 8 blank 8 1 0 host)
+    ensures a_slot_without_a_length_is_empty { first_fault (with_slot Little 8 blank_name 8 1 0 host)
         (library ∷ []) ≡ None }
     ensures a_unit_in_place_has_the_name_of_a_wanted_one { first_fault
         (with_slot Little 8 util 3 1 18 host) (library ∷ [])

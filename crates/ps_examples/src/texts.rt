@@ -1,7 +1,7 @@
 ghost use Rattle.std.specs.Prelude.{◌≡◌, [], ◌∷◌, ◌++◌, take, codes};
 ghost use Rattle.ps_examples.specs.Files.{host, library, host_in, host_in_place, host_with, library_with, put_at, zeros, util, aux, count, state, limit, unit_ref, publ_ref, priv_ref, publ_def, const_def, eof_mark, wanting_aux, library_of_two, util_information, library_of_used};
 ghost use Rattle.ps_examples.specs.Texts.{map_of_the_pair, map_with_a_constant, map_in_place, map_of_two, map_of_an_added_unit, show_of_the_library, show_without_an_end, show_without_a_code, show_of_the_linked_file, show_of_the_big_endian_host, slot_without_a_name, slot_with_a_text, links_of_every_kind, links_of_an_unlisted_unit, links_of_an_unknown_record, links_of_a_bad_length, links_of_a_bad_address};
-ghost use Rattle.ps_linkfile.specs.Lines.{shown};
+ghost use Rattle.ps_linkfile.specs.Lines.{shown_name};
 ghost use Rattle.ps_linkfile.specs.LinkedFile.{linked_file};
 ghost use Rattle.ps_linkfile.specs.MapText.{map_of};
 ghost use Rattle.ps_linkfile.specs.ShowText.{show_of, slot_line, links_lines};
@@ -29,8 +29,8 @@ pub fn show_texts()
     ensures the_linked_file_of_a_host_and_its_library { show_of (linked_file host (library ∷ []))
         ≡ show_of_the_linked_file }
     ensures the_host_big_endian { show_of (host_in Big) ≡ show_of_the_big_endian_host }
-    ensures a_name_of_zero_bytes { shown (zeros 8) ≡ codes "????????" }
-    ensures a_name_of_bytes_at_the_edges { shown (31 ∷ 32 ∷ 126 ∷ 127 ∷ 255 ∷ []) ≡ codes "? ~??" }
+    ensures a_name_of_zero_bytes { shown_name (zeros 8) ≡ codes "????????" }
+    ensures a_name_of_bytes_at_the_edges { shown_name (31 ∷ 32 ∷ 126 ∷ 127 ∷ 255 ∷ []) ≡ codes "? ~??" }
     ensures a_slot_named_by_zero_bytes { slot_line Little (put_at 88 (zeros 8) library) 3
         ≡ slot_without_a_name }
     ensures a_slot_with_interface_text { slot_line Little (put_at 228 (5 ∷ []) library) 2

@@ -1,5 +1,5 @@
--- The units that are added are those that are sought, as they are said plainly.
-use Rattle.std.proofs.Common.{◌≡◌, ℕ, zero, suc, ◌+◌, ◌<◌, ◌≤◌, List, [], ◌∷◌, ◌++◌, length, map, Option, Some, None, Result, Ok, Err, Bool, true, false, refl, sym, ap, subst, ◌∙◌, inl, inr, arith, is_some, is_none, unwrap_or, length-append}
+-- The units that are added are those that are requested, as they are said plainly.
+use Rattle.std.proofs.Common.{◌≡◌, ℕ, zero, suc, ◌+◌, ◌<◌, ◌≤◌, List, [], ◌∷◌, ◌++◌, length, map, Option, Some, None, Result, Ok, Err, Bool, true, false, refl, sym, ap, subst, ◌∙◌, inl, inr, arith, is_some, is_none, unwrap_or, length-append, take}
 use Rattle.std.specs.Prelude.{◌⊎◌, ◌≢◌, if◌then◌else◌, ◌||◌}
 use Rattle.std.specs.List.{slice_get, list_any, find}
 use Rattle.std.specs.Map.{lookup}
@@ -11,8 +11,8 @@ use Rattle.std.proofs.lemmas.List.{map-append}
 use Rattle.std.proofs.lemmas.Option.{option_and_then_some, slice_get_within, slice_get-map}
 use Rattle.std.proofs.lemmas.Slice.Eq.{bytes_eq-Decides}
 use Rattle.ps_codefile.specs.Dictionary.{slots, entry_at, role_of, code_of, information_of}
-use Rattle.ps_linkinfo.specs.Counts.{is_unit_reference}
-use Rattle.ps_resolve.specs.Added.{unit_references, all_unit_references, is_had, sought_from, sought, added, added_fault, as_added, added_segment}
+use Rattle.ps_linkinfo.specs.RecordCounts.{is_unit_reference}
+use Rattle.ps_resolve.specs.Added.{unit_references, all_unit_references, is_already_known, requested_from, requested_units, added_segments, added_fault, as_added, added_segment}
 use Rattle.ps_resolve.specs.Standing.Phrases.{SomeItem}
 use Rattle.ps_resolve.specs.Standing.Slots.{HasRole}
 use Rattle.ps_resolve.specs.Standing.Sources.{HasEntry, IsNamed}
@@ -25,18 +25,19 @@ use Rattle.ps_resolve.specs.First.{Before, Least, this}
 use Rattle.ps_resolve.specs.Searches.{first_of}
 use Rattle.ps_codefile.specs.Roles.{is_unit}
 use Rattle.ps_resolve.specs.Sources.{Segment, is_named, chosen_library, unit_source, source_of, file_at, segment_from, own_segment, own_segments}
-use Rattle.ps_resolve.specs.Sought.{Asks, HasSlot, IsGiver, AreGiven, IsOfFirstLibrary, AddedUnits}
+use Rattle.ps_resolve.specs.RequestedUnits.{Asks, HasSlot, IsGiver, AreGiven, IsOfFirstLibrary, AddedUnits}
 use Rattle.ps_resolve.specs.declared.reading.added.UnitReference.{UnitReference}
 use Rattle.ps_laws.proofs.Looking.{any_of_items}
 use Rattle.ps_laws.proofs.Items.{In, at_left, at_seam, in_range, of_range, find_passes}
 use Rattle.ps_laws.proofs.Segments.{from_slot}
 use Rattle.ps_laws.proofs.Sources.{named, chosen, ok_is}
 use Rattle.ps_laws.proofs.Rounds.{own_units, references_of}
+use Rattle.ps_laws.proofs.OneRow.{giver_of_front}
 use Rattle.ps_laws.proofs.Asked.{source_made, unit_found, added_is, sought_grows, all_had, had_more, had_last, or_cases, row_of, name_placed, segment_named, in_empty, own_in, own_at, units_named}
 use Rattle.ps_words.specs.declared.order.Order.{Order}
 use Rattle.ps_words.specs.declared.fault.Reason.{Reason}
 
--- 1. the references of a row of segments, each with the number of its segment
+-- 1. the references of a sequence of segments, each with the number of its segment
 abbrev Numbered : Type 0
 Numbered = ℕ × UnitReference
 
@@ -64,7 +65,8 @@ mapped f [] k y e = absurd (cc)
 mapped f (x ∷ xs) zero y e = (x, refl, cc)
 mapped f (x ∷ xs) (suc k) y e = mapped f xs k y e
 
--- an item of two joined lists is in the first at its place, or in the second, where it stands as much earlier
+-- an item of two joined lists is in the first at its place, or in the second, where it is as much
+-- earlier
 -- as the first is long
 pub split_at : {A : Type 0} (xs ys : List A) (p : ℕ) (a : A) → slice_get (xs ++ ys) p ≡ Some a → (slice_get xs p ≡ Some a) ⊎ ((q : ℕ) × (p ≡ length xs + q) × (slice_get ys q ≡ Some a))
 split_at [] ys p a e = inr (p, omega arith, e)
@@ -75,7 +77,7 @@ split_at {A} (x ∷ xs) ys (suc p) a e = go (split_at xs ys p a e)
     go (inl h) = inl h
     go (inr t) = inr (t.0, (let h = t.1 in omega (arith, h)), t.2)
 
--- an item of the second of two joined lists stands as much later as the first is long
+-- an item of the second of two joined lists is as much later as the first is long
 pub at_right : {A : Type 0} (xs ys : List A) (q : ℕ) (a : A) → slice_get ys q ≡ Some a → slice_get (xs ++ ys) (length xs + q) ≡ Some a
 at_right {A} [] ys q a e = let same : q ≡ length {A = A} [] + q = omega arith in subst (λ (n : ℕ). slice_get ys n ≡ Some a) same e
 at_right {A} (x ∷ xs) ys q a e = let same : suc (length xs + q) ≡ length (x ∷ xs) + q = omega arith in subst (λ (n : ℕ). slice_get (x ∷ xs ++ ys) n ≡ Some a) same (next (length xs + q) (at_right xs ys q a e))
@@ -87,7 +89,8 @@ at_right {A} (x ∷ xs) ys q a e = let same : suc (length xs + q) ≡ length (x 
 abbrev IsOf : ℕ → ℕ → ℕ → List Record → UnitReference → ℕ → Type 0
 IsOf file slot n rs g j = (r : Record) × (slice_get rs j ≡ Some r) × (is_unit_reference r.body ≡ true) × (r.name ≡ g.name) × (g.rec ≡ n + j) × (g.file ≡ file) × (g.slot ≡ slot)
 
--- each unit reference of a row of records is of a UNITREF among them, with its name and number, this file and this slot
+-- each unit reference of a sequence of records is of a UNITREF among them, with its name and
+-- number, this file and this slot
 reference_is : (file slot n : ℕ) (rs : List Record) (p : ℕ) (g : UnitReference) → slice_get (unit_references file slot n rs) p ≡ Some g → (j : ℕ) × IsOf file slot n rs g j
 reference_is file slot n [] p g e = absurd (cc)
 reference_is file slot n (q ∷ rs) p g e = go (is_unit_reference q.body) refl p e (λ k h. reference_is file slot (n + 1) rs k g h)
@@ -109,7 +112,7 @@ reference_is file slot n (q ∷ rs) p g e = go (is_unit_reference q.body) refl p
     go true is (suc k) e later = step (later k e)
     go false is k e later = step (later k e)
 
--- each UNITREF of a row of records has its unit reference, with its name and its number
+-- each UNITREF of a sequence of records has its unit reference, with its name and its number
 reference_of : (file slot n : ℕ) (rs : List Record) (j : ℕ) (r : Record) → slice_get rs j ≡ Some r → is_unit_reference r.body ≡ true → (p : ℕ) × (g : UnitReference) × (slice_get (unit_references file slot n rs) p ≡ Some g) × (g.name ≡ r.name) × (g.rec ≡ n + j)
 reference_of file slot n [] j r e u = absurd (cc)
 reference_of file slot n (q ∷ rs) j r e u = go (is_unit_reference q.body) refl j e (λ k h. reference_of file slot (n + 1) rs k r h u)
@@ -127,7 +130,7 @@ reference_of file slot n (q ∷ rs) j r e u = go (is_unit_reference q.body) refl
     go false is zero e later = let same : q ≡ r = cc in absurd (false≢true (sym is ∙ (ap (λ (x : Record). is_unit_reference x.body) same ∙ u)))
     go false is (suc k) e later = let t = later k e in (t.0, t.1, t.2, t.3, (let h = t.4 in omega (arith, h)))
 
--- the unit references of a row of records stand in the order of the records
+-- the unit references of a sequence of records are in the order of the records
 references_ascend : (file slot n : ℕ) (rs : List Record) (p q : ℕ) (g h : UnitReference) → p < q → slice_get (unit_references file slot n rs) p ≡ Some g → slice_get (unit_references file slot n rs) q ≡ Some h → g.rec < h.rec
 references_ascend file slot n [] p q g h l e u = absurd (cc)
 references_ascend file slot n (x ∷ rs) p q g h l e u = go (is_unit_reference x.body) p q l e u (λ i j m a b. references_ascend file slot (n + 1) rs i j g h m a b)
@@ -173,7 +176,8 @@ map_at f (y ∷ xs) (suc k) x e = map_at f xs k x e
 renumbered : (xs : List Numbered) (p m n : ℕ) (g : UnitReference) → m ≡ n → slice_get xs p ≡ Some (m, g) → slice_get xs p ≡ Some (n, g)
 renumbered xs p m n g h e = subst (λ (k : ℕ). slice_get xs p ≡ Some (tag k g)) h e
 
--- each UNITREF of a segment has its unit reference among those of all, with the number of the segment
+-- each UNITREF of a segment has its unit reference among those of all, with the number of the
+-- segment
 numbered_of : (i : ℕ) (segs : List Segment) (j : ℕ) (s : Segment) (rec : ℕ) (r : Record) → slice_get segs j ≡ Some s → slice_get s.records rec ≡ Some r → is_unit_reference r.body ≡ true
     → (p : ℕ) × (g : UnitReference) × (slice_get (numbered i segs) p ≡ Some (i + j, g)) × (g.name ≡ r.name) × (g.rec ≡ rec)
 numbered_of i [] j s rec r e a u = absurd (cc)
@@ -196,7 +200,8 @@ numbered_of i (q ∷ ss) (suc j) s rec r e a u =
       t.4,
     )
 
--- the unit references of all stand in the order of their segments and, in each of these, of their records
+-- the unit references of all are in the order of their segments and, in each of these, of their
+-- records
 numbered_ascend : (i : ℕ) (segs : List Segment) (p q m n : ℕ) (g h : UnitReference) → p < q → slice_get (numbered i segs) p ≡ Some (m, g) → slice_get (numbered i segs) q ≡ Some (n, h) → Before (m ∷ g.rec ∷ []) (n ∷ h.rec ∷ [])
 numbered_ascend i [] p q m n g h l e u = absurd (cc)
 numbered_ascend i (s ∷ ss) p q m n g h l e u = go (λ a b x y z. numbered_ascend (i + 1) ss a b m n g h x y z) (split_at prefix (numbered (i + 1) ss) p (m, g) e) (split_at prefix (numbered (i + 1) ss) q (n, h) u)
@@ -225,58 +230,58 @@ numbered_ascend i (s ∷ ss) p q m n g h l e u = go (λ a b x y z. numbered_asce
     go later (inr t) (inl b) = let w = slice_get_within prefix q (n, h) b in let a = t.1 in absurd (omega (arith, a, w, l))
     go later (inr t) (inr v) = later t.0 v.0 (let a = t.1 in let b = v.1 in omega (arith, a, b, l)) t.2 v.2
 
--- 2. the row: each name at the first of its references that are neither had nor behind another
+-- 2. the queue: each name at the first of its references that is not known already
 abbrev IsEarliest : List (List ℕ × ℕ) → List UnitReference → List UnitReference → ℕ → UnitReference → Type 0
 IsEarliest units row gs p g =
-    (slice_get gs p ≡ Some g) × (is_had units row g.name ≡ false) × ((q : ℕ) (h : UnitReference) → q < p → slice_get gs q ≡ Some h → h.name ≢ g.name)
+    (slice_get gs p ≡ Some g) × (is_already_known units row g.name ≡ false) × ((q : ℕ) (h : UnitReference) → q < p → slice_get gs q ≡ Some h → h.name ≢ g.name)
 
 -- a name that is not had with one more reference is not had without it, and is not its name
-had_by : (units : List (List ℕ × ℕ)) (row : List UnitReference) (h : UnitReference) (name : List ℕ) → is_had units (row ++ h ∷ []) name ≡ false → (is_had units row name ≡ false) × (h.name ≢ name)
-had_by units row h name e = (fewer (is_had units row name) refl, other)
+had_by : (units : List (List ℕ × ℕ)) (row : List UnitReference) (h : UnitReference) (name : List ℕ) → is_already_known units (row ++ h ∷ []) name ≡ false → (is_already_known units row name ≡ false) × (h.name ≢ name)
+had_by units row h name e = (fewer (is_already_known units row name) refl, other)
   where
-    fewer : (b : Bool) → is_had units row name ≡ b → is_had units row name ≡ false
+    fewer : (b : Bool) → is_already_known units row name ≡ b → is_already_known units row name ≡ false
     fewer true is = absurd (false≢true (sym e ∙ had_more units row (h ∷ []) name is))
     fewer false is = is
 
     other : h.name ≢ name
-    other same = false≢true (sym e ∙ ap (λ (n : List ℕ). is_had units (row ++ h ∷ []) n) (sym same) ∙ had_last units row h)
+    other same = false≢true (sym e ∙ ap (λ (n : List ℕ). is_already_known units (row ++ h ∷ []) n) (sym same) ∙ had_last units row h)
 
--- behind one more reference
-past_had : (units : List (List ℕ × ℕ)) (row gs : List UnitReference) (x : UnitReference) (p : ℕ) (g : UnitReference) → is_had units row x.name ≡ true → IsEarliest units row gs p g → IsEarliest units row (x ∷ gs) (suc p) g
+-- after one more reference
+past_had : (units : List (List ℕ × ℕ)) (row gs : List UnitReference) (x : UnitReference) (p : ℕ) (g : UnitReference) → is_already_known units row x.name ≡ true → IsEarliest units row gs p g → IsEarliest units row (x ∷ gs) (suc p) g
 past_had units row gs x p g had t = (t.0, t.1, first)
   where
     first : (q : ℕ) (h : UnitReference) → q < suc p → slice_get (x ∷ gs) q ≡ Some h → h.name ≢ g.name
-    first zero h l e same = let it : x ≡ h = cc in false≢true (sym t.1 ∙ ap (λ (n : List ℕ). is_had units row n) (sym same ∙ sym (ap (λ (y : UnitReference). y.name) it)) ∙ had)
+    first zero h l e same = let it : x ≡ h = cc in false≢true (sym t.1 ∙ ap (λ (n : List ℕ). is_already_known units row n) (sym same ∙ sym (ap (λ (y : UnitReference). y.name) it)) ∙ had)
     first (suc q) h l e same = t.2 q h (omega (arith, l)) e same
 
--- and behind one that came into the row
+-- and after one that came into the queue
 past_new : (units : List (List ℕ × ℕ)) (row gs : List UnitReference) (x : UnitReference) (p : ℕ) (g : UnitReference) → IsEarliest units (row ++ x ∷ []) gs p g → IsEarliest units row (x ∷ gs) (suc p) g
 past_new units row gs x p g t = (t.0, by.0, first)
   where
-    by : (is_had units row g.name ≡ false) × (x.name ≢ g.name)
+    by : (is_already_known units row g.name ≡ false) × (x.name ≢ g.name)
     by = had_by units row x g.name t.1
 
     first : (q : ℕ) (h : UnitReference) → q < suc p → slice_get (x ∷ gs) q ≡ Some h → h.name ≢ g.name
     first zero h l e same = let it : x ≡ h = cc in by.1 (ap (λ (y : UnitReference). y.name) it ∙ same)
     first (suc q) h l e same = t.2 q h (omega (arith, l)) e same
 
-new_here : (units : List (List ℕ × ℕ)) (row gs : List UnitReference) (x : UnitReference) → is_had units row x.name ≡ false → IsEarliest units row (x ∷ gs) zero x
+new_here : (units : List (List ℕ × ℕ)) (row gs : List UnitReference) (x : UnitReference) → is_already_known units row x.name ≡ false → IsEarliest units row (x ∷ gs) zero x
 new_here units row gs x none = (refl, none, λ q h l e same. omega (arith, l))
 
 -- the name that a new one of the row is
-new_name : (units : List (List ℕ × ℕ)) (row gs : List UnitReference) (x : UnitReference) (k : ℕ) (g : UnitReference) → k ≡ length row → slice_get (sought_from units (row ++ x ∷ []) gs) k ≡ Some g → x ≡ g
+new_name : (units : List (List ℕ × ℕ)) (row gs : List UnitReference) (x : UnitReference) (k : ℕ) (g : UnitReference) → k ≡ length row → slice_get (requested_from units (row ++ x ∷ []) gs) k ≡ Some g → x ≡ g
 new_name units row gs x k g at e =
     let grown = sought_grows units (row ++ x ∷ []) gs in
-    let there : slice_get (sought_from units (row ++ x ∷ []) gs) k ≡ Some x = ap (λ (r : List UnitReference). slice_get r k) grown.1 ∙ at_left (row ++ x ∷ []) grown.0 k x (at_seam row x [] k at) in
+    let there : slice_get (requested_from units (row ++ x ∷ []) gs) k ≡ Some x = ap (λ (r : List UnitReference). slice_get r k) grown.1 ∙ at_left (row ++ x ∷ []) grown.0 k x (at_seam row x [] k at) in
     cc
 
--- each name that stands behind those of the row is that of an earliest reference
-sought_at : (units : List (List ℕ × ℕ)) (row gs : List UnitReference) (k : ℕ) (g : UnitReference) → length row ≤ k → slice_get (sought_from units row gs) k ≡ Some g → (p : ℕ) × IsEarliest units row gs p g
+-- each name that is after those in the queue is that of an earliest reference
+sought_at : (units : List (List ℕ × ℕ)) (row gs : List UnitReference) (k : ℕ) (g : UnitReference) → length row ≤ k → slice_get (requested_from units row gs) k ≡ Some g → (p : ℕ) × IsEarliest units row gs p g
 sought_at units row [] k g low e = let h = slice_get_within row k g e in absurd (omega (arith, h, low))
-sought_at units row (x ∷ gs) k g low e = go (is_had units row x.name) refl e (λ r h u. sought_at units r gs k g h u)
+sought_at units row (x ∷ gs) k g low e = go (is_already_known units row x.name) refl e (λ r h u. sought_at units r gs k g h u)
   where
-    go : (b : Bool) → is_had units row x.name ≡ b → slice_get (sought_from units (if b then row else row ++ x ∷ []) gs) k ≡ Some g
-        → ((r : List UnitReference) → length r ≤ k → slice_get (sought_from units r gs) k ≡ Some g → (p : ℕ) × IsEarliest units r gs p g) → (p : ℕ) × IsEarliest units row (x ∷ gs) p g
+    go : (b : Bool) → is_already_known units row x.name ≡ b → slice_get (requested_from units (if b then row else row ++ x ∷ []) gs) k ≡ Some g
+        → ((r : List UnitReference) → length r ≤ k → slice_get (requested_from units r gs) k ≡ Some g → (p : ℕ) × IsEarliest units r gs p g) → (p : ℕ) × IsEarliest units row (x ∷ gs) p g
     go true had e later = let t = later row low e in (suc t.0, past_had units row gs x t.0 g had t.1)
     go false none e later = elim (cases_lt (length row) k) [
       | inl h ↦
@@ -292,13 +297,13 @@ sought_at units row (x ∷ gs) k g low e = go (is_had units row x.name) refl e (
 abbrev InOrder : List (List ℕ × ℕ) → List UnitReference → List UnitReference → UnitReference → UnitReference → Type 0
 InOrder units row gs g h = (p : ℕ) × (q : ℕ) × (p < q) × IsEarliest units row gs p g × IsEarliest units row gs q h
 
--- of two names that stand behind those of the row, the earlier is that of the earlier reference
-sought_pair : (units : List (List ℕ × ℕ)) (row gs : List UnitReference) (j k : ℕ) (g h : UnitReference) → length row ≤ j → j < k → slice_get (sought_from units row gs) j ≡ Some g → slice_get (sought_from units row gs) k ≡ Some h → InOrder units row gs g h
+-- of two names that are after those in the queue, the earlier is that of the earlier reference
+sought_pair : (units : List (List ℕ × ℕ)) (row gs : List UnitReference) (j k : ℕ) (g h : UnitReference) → length row ≤ j → j < k → slice_get (requested_from units row gs) j ≡ Some g → slice_get (requested_from units row gs) k ≡ Some h → InOrder units row gs g h
 sought_pair units row [] j k g h low l e u = let w = slice_get_within row j g e in absurd (omega (arith, w, low))
-sought_pair units row (x ∷ gs) j k g h low l e u = go (is_had units row x.name) refl e u (λ r m a b. sought_pair units r gs j k g h m l a b)
+sought_pair units row (x ∷ gs) j k g h low l e u = go (is_already_known units row x.name) refl e u (λ r m a b. sought_pair units r gs j k g h m l a b)
   where
-    go : (b : Bool) → is_had units row x.name ≡ b → slice_get (sought_from units (if b then row else row ++ x ∷ []) gs) j ≡ Some g → slice_get (sought_from units (if b then row else row ++ x ∷ []) gs) k ≡ Some h
-        → ((r : List UnitReference) → length r ≤ j → slice_get (sought_from units r gs) j ≡ Some g → slice_get (sought_from units r gs) k ≡ Some h → InOrder units r gs g h) → InOrder units row (x ∷ gs) g h
+    go : (b : Bool) → is_already_known units row x.name ≡ b → slice_get (requested_from units (if b then row else row ++ x ∷ []) gs) j ≡ Some g → slice_get (requested_from units (if b then row else row ++ x ∷ []) gs) k ≡ Some h
+        → ((r : List UnitReference) → length r ≤ j → slice_get (requested_from units r gs) j ≡ Some g → slice_get (requested_from units r gs) k ≡ Some h → InOrder units r gs g h) → InOrder units row (x ∷ gs) g h
     go true had e u later = let t = later row low e u in (suc t.0, suc t.1, (let a = t.2 in omega (arith, a)), past_had units row gs x t.0 g had t.3, past_had units row gs x t.1 h had t.4)
     go false none e u later = elim (cases_lt (length row) j) [
       | inl m ↦
@@ -321,13 +326,14 @@ not_both (x ∷ a) (y ∷ b) (inl h) (inr k) = let e = k.0 in omega (arith, h, e
 not_both (x ∷ a) (y ∷ b) (inr h) (inl k) = let e = h.0 in omega (arith, e, k)
 not_both (x ∷ a) (y ∷ b) (inr h) (inr k) = not_both a b h.1 k.1
 
--- where a reference stands
+-- where a reference is
 place_of : (segs : List Segment) (p : ℕ) (g : UnitReference) → slice_get (all_unit_references segs) p ≡ Some g → (m : ℕ) × (slice_get (numbered 0 segs) p ≡ Some (m, g))
 place_of segs p g e =
     let t = mapped (λ (n : Numbered). n.1) (numbered 0 segs) p g (ap (λ (gs : List UnitReference). slice_get gs p) (numbers_off 0 segs) ∙ e) in
     (t.0.0, t.1 ∙ ap (λ (h : UnitReference). Some (tag t.0.0 h)) t.2)
 
--- a record that asks for a name has its unit reference among those of all, with the number of its segment
+-- a record that requests a name has its unit reference among those of all, with the number of its
+-- segment
 asks_at : (segs : List Segment) (j rec : ℕ) (name : List ℕ) → Asks segs j rec name → (q : ℕ) × (h : UnitReference) × (slice_get (numbered 0 segs) q ≡ Some (j, h)) × (slice_get (all_unit_references segs) q ≡ Some h) × (h.name ≡ name) × (h.rec ≡ rec)
 asks_at segs j rec name t =
     let r = numbered_of 0 segs j t.0 rec t.2 t.1 t.3 t.4 in (
@@ -339,7 +345,7 @@ asks_at segs j rec name t =
       r.4,
     )
 
--- the earliest reference of a name is of the first record of all that asks for it
+-- the earliest reference of a name is of the first record of all that requests it
 giver : (units : List (List ℕ × ℕ)) (segs : List Segment) (p m : ℕ) (g : UnitReference) → IsEarliest units [] (all_unit_references segs) p g → slice_get (numbered 0 segs) p ≡ Some (m, g) → IsGiver segs m g
 giver units segs p m g t at = ((s, there, of.5, of.6), (s, there, of.0, subst (λ (n : ℕ). slice_get s.records n ≡ Some of.0) rec of.1, of.2, of.3), first)
   where
@@ -379,9 +385,10 @@ giver units segs p m g t at = ((s, there, of.5, of.6), (s, there, of.0, subst (�
         itself : (a b : ℕ) → Before (a ∷ b ∷ []) (a ∷ b ∷ []) → ⊥
         itself a b h = not_both (a ∷ b ∷ []) (a ∷ b ∷ []) h h
 
--- a name of the row that these segments come to has its giver among the host's own segments and these
-pub given : (order : Order) (host : List ℕ) (libs : List (List ℕ)) (segs : List Segment) (k : ℕ) (g : UnitReference) → slice_get (sought order host libs segs) k ≡ Some g → (i : ℕ) × IsGiver (own_segments order host libs ++ segs) i g
-unfolding sought
+-- a name of the row that these segments come to has its giver among the host's own segments and
+-- these
+pub given : (order : Order) (host : List ℕ) (libs : List (List ℕ)) (segs : List Segment) (k : ℕ) (g : UnitReference) → slice_get (requested_units order host libs segs) k ≡ Some g → (i : ℕ) × IsGiver (own_segments order host libs ++ segs) i g
+unfolding requested_units
 given order host libs segs k g e =
     let all = own_segments order host libs ++ segs in
     let t = sought_at (own_units order host libs) [] (all_unit_references all) k g (omega arith) e in
@@ -457,7 +464,8 @@ wanted_source order host libs slot fine none = go (chosen_library order (entry_a
     go None is e = let a = rw (is, wanted_fault, unit_fault) at fine in cc
     go (Some lib) is e = false≢true e
 
--- where the sources have no fault, the name of a unit slot is that of a unit among the host's own segments
+-- where the sources have no fault, the name of a unit slot is that of a unit among the host's own
+-- segments
 unit_of_slot : (order : Order) (host : List ℕ) (libs : List (List ℕ)) → sources_fault order host libs ≡ None → (name : List ℕ) → HasSlot order host name → is_some (lookup (bytes_eq name) (own_units order host libs)) ≡ true
 unit_of_slot order host libs fine name t = elim t.2.0 [
   | inl has ↦
@@ -514,11 +522,12 @@ marked order host libs g slot s e = go (option_and_then (segment_from order host
     go None e = absurd (cc)
     go (Some q) e = let x : as_added q ≡ s = cc in sym (ap (λ (y : Segment). y.added) x)
 
--- the first library that has the name, and that there is no lesser one
+-- the first library that has the name, and that there is no smaller one
 abbrev IsFirstLibrary : Order → List ℕ → List (List ℕ) → ℕ × List ℕ → Type 0
 IsFirstLibrary order name libs p = (slice_get libs p.0 ≡ Some p.1) × ((lesser : ℕ) (other : List ℕ) → lesser < p.0 → slice_get libs lesser ≡ Some other → HasEntry order name other → ⊥)
 
--- the library that is chosen for a name stands at its number, and no lesser one has an entry of the name
+-- the library that is chosen for a name is at its number, and no smaller one has an entry of the
+-- name
 pub first_library : (order : Order) (name : List ℕ) (libs : List (List ℕ)) (p : ℕ × List ℕ) → chosen_library order name libs ≡ Some p → IsFirstLibrary order name libs p
 first_library order name libs p e = go (subst (λ (o : Option (ℕ × List ℕ)). Least (λ a b. a.0 < b.0) (λ q. SomeItem libs (λ k lib. HasEntry order name lib × (q ≡ (k, lib)))) o) e (chosen order name libs))
   where
@@ -578,7 +587,12 @@ of_first_library order host libs g slot s e = go (option_and_then (segment_from 
         inner p is (Some i) entry at k q h it = let same : at ≡ (p.0 + 1, i) = cc in found p is i entry q (subst (λ (a : ℕ × ℕ). segment_from order host libs slot g.name role.Wanted a ≡ Some q) same h) it
 
 -- 6. all of it
-same_items : {A : Type 0} (xs ys : List A) → ((k : ℕ) → slice_get xs k ≡ slice_get ys k) → xs ≡ ys
+at_most_taken : {A : Type 0} (k : ℕ) (xs : List A) → length (take k xs) ≤ k
+at_most_taken zero xs = omega arith
+at_most_taken (suc k) [] = omega arith
+at_most_taken (suc k) (x ∷ xs) = let h = at_most_taken k xs in omega (arith, h)
+
+pub same_items : {A : Type 0} (xs ys : List A) → ((k : ℕ) → slice_get xs k ≡ slice_get ys k) → xs ≡ ys
 same_items [] [] e = refl
 same_items [] (y ∷ ys) e = let h = e 0 in absurd (cc)
 same_items (x ∷ xs) [] e = let h = e 0 in absurd (cc)
@@ -592,42 +606,48 @@ some_of None P f g = g refl
 some_of (Some a) P f g = f a refl
 
 module _ (order : Order) (host : List ℕ) (libs : List (List ℕ)) (fine : sources_fault order host libs ≡ None) (ended : added_fault order host libs ≡ None) where
-  row_is : row_of order host libs ≡ sought_from (own_units order host libs) [] (all_unit_references (own_segments order host libs ++ added order host libs))
-  unfolding sought
+  row_is : row_of order host libs ≡ requested_from (own_units order host libs) [] (all_unit_references (own_segments order host libs ++ added_segments order host libs))
+  unfolding requested_units
   row_is = refl
 
-  at_row : (k : ℕ) (g : UnitReference) → slice_get (row_of order host libs) k ≡ Some g → slice_get (sought_from (own_units order host libs) [] (all_unit_references (own_segments order host libs ++ added order host libs))) k ≡ Some g
+  at_row : (k : ℕ) (g : UnitReference) → slice_get (row_of order host libs) k ≡ Some g → slice_get (requested_from (own_units order host libs) [] (all_unit_references (own_segments order host libs ++ added_segments order host libs))) k ≡ Some g
   at_row k g e = sym (ap (λ (r : List UnitReference). slice_get r k) row_is) ∙ e
 
-  not_slot : (name : List ℕ) → is_had (own_units order host libs) [] name ≡ false → HasSlot order host name → ⊥
+  not_slot : (name : List ℕ) → is_already_known (own_units order host libs) [] name ≡ false → HasSlot order host name → ⊥
   not_slot name none has = go (is_some (lookup (bytes_eq name) (own_units order host libs))) (unit_of_slot order host libs fine name has) none
     where
       go : (b : Bool) → b ≡ true → (b || false) ≡ false → ⊥
       go true e n = absurd (cc)
       go false e n = false≢true e
 
-  is_sought : (k : ℕ) (g : UnitReference) → slice_get (row_of order host libs) k ≡ Some g → ((i : ℕ) × IsGiver (own_segments order host libs ++ added order host libs) i g) × (HasSlot order host g.name → ⊥)
+  is_sought : (k : ℕ) (g : UnitReference) → slice_get (row_of order host libs) k ≡ Some g
+      → ((i : ℕ) × (i < length (own_segments order host libs) + k) × IsGiver (own_segments order host libs ++ added_segments order host libs) i g) × (HasSlot order host g.name → ⊥)
   is_sought k g e =
-      let segs = own_segments order host libs ++ added order host libs in
-      let t = sought_at (own_units order host libs) [] (all_unit_references segs) k g (omega arith) (at_row k g e) in
-      let p = place_of segs t.0 g t.1.0 in
-      ((p.0, giver (own_units order host libs) segs t.0 p.0 g t.1 p.1), not_slot g.name t.1.1)
+      let own = own_segments order host libs in
+      let segs = added_segments order host libs in
+      let t = sought_at (own_units order host libs) [] (all_unit_references (own ++ segs)) k g (omega arith) (at_row k g e) in
+      let p = given order host libs (take k segs) k g (name_placed order host libs ended k g e).6 in
+      let within = slice_get_within (own ++ take k segs) p.0 p.1.0.0 p.1.0.1 in
+      let joined = length-append own (take k segs) in
+      let front = at_most_taken k segs in
+      let below : p.0 < length own + k = omega (arith, within, joined, front) in
+      ((p.0, below, giver_of_front own segs k p.0 g below p.1), not_slot g.name t.1.1)
 
-  is_complete : (i rec : ℕ) (name : List ℕ) → Asks (own_segments order host libs ++ added order host libs) i rec name → HasSlot order host name ⊎ SomeItem (row_of order host libs) (λ k g. g.name ≡ name)
+  is_complete : (i rec : ℕ) (name : List ℕ) → Asks (own_segments order host libs ++ added_segments order host libs) i rec name → HasSlot order host name ⊎ SomeItem (row_of order host libs) (λ k g. g.name ≡ name)
   is_complete i rec name asks =
-      let segs = own_segments order host libs ++ added order host libs in
+      let segs = own_segments order host libs ++ added_segments order host libs in
       let a = asks_at segs i rec name asks in
-      let had : is_had (own_units order host libs) (row_of order host libs) name ≡ true =
-      ap (λ (r : List UnitReference). is_had (own_units order host libs) r name) row_is
-      ∙ (ap (λ (n : List ℕ). is_had (own_units order host libs) (sought_from (own_units order host libs) [] (all_unit_references segs)) n) (sym a.4) ∙ all_had (own_units order host libs) [] (all_unit_references segs) a.1 a.0 a.3) in
+      let had : is_already_known (own_units order host libs) (row_of order host libs) name ≡ true =
+      ap (λ (r : List UnitReference). is_already_known (own_units order host libs) r name) row_is
+      ∙ (ap (λ (n : List ℕ). is_already_known (own_units order host libs) (requested_from (own_units order host libs) [] (all_unit_references segs)) n) (sym a.4) ∙ all_had (own_units order host libs) [] (all_unit_references segs) a.1 a.0 a.3) in
       elim (or_cases (is_some (lookup (bytes_eq name) (own_units order host libs))) (list_any (λ (g : UnitReference). bytes_eq g.name name) (row_of order host libs)) had) [
         | inl e ↦ inl (slot_of_unit order host libs name e)
         | inr e ↦ inr ((any_of_items (λ (g : UnitReference). bytes_eq g.name name) (λ (g : UnitReference). g.name ≡ name) (λ g. bytes_eq-Decides g.name name) (row_of order host libs)).0 e)
       ]
 
-  are_given : (j k : ℕ) (g h : UnitReference) → j < k → slice_get (row_of order host libs) j ≡ Some g → slice_get (row_of order host libs) k ≡ Some h → AreGiven (own_segments order host libs ++ added order host libs) g h
+  are_given : (j k : ℕ) (g h : UnitReference) → j < k → slice_get (row_of order host libs) j ≡ Some g → slice_get (row_of order host libs) k ≡ Some h → AreGiven (own_segments order host libs ++ added_segments order host libs) g h
   are_given j k g h l e u =
-      let segs = own_segments order host libs ++ added order host libs in
+      let segs = own_segments order host libs ++ added_segments order host libs in
       let t = sought_pair (own_units order host libs) [] (all_unit_references segs) j k g h (omega arith) l (at_row j g e) (at_row k h u) in
       let p = place_of segs t.0 g t.3.0 in
       let q = place_of segs t.1 h t.4.0 in
@@ -636,7 +656,7 @@ module _ (order : Order) (host : List ℕ) (libs : List (List ℕ)) (fine : sour
   apart : (j k : ℕ) (g h : UnitReference) → j < k → slice_get (row_of order host libs) j ≡ Some g → slice_get (row_of order host libs) k ≡ Some h → g.name ≡ h.name → ⊥
   apart j k g h l e u same =
       let t = are_given j k g h l e u in
-      t.3.2 t.0 g.rec t.4 (subst (λ (n : List ℕ). Asks (own_segments order host libs ++ added order host libs) t.0 g.rec n) same t.2.1)
+      t.3.2 t.0 g.rec t.4 (subst (λ (n : List ℕ). Asks (own_segments order host libs ++ added_segments order host libs) t.0 g.rec n) same t.2.1)
 
   is_once : (j k : ℕ) (g h : UnitReference) → slice_get (row_of order host libs) j ≡ Some g → slice_get (row_of order host libs) k ≡ Some h → g.name ≡ h.name → j ≡ k
   is_once j k g h e u same = elim (cases_lt j k) [
@@ -644,37 +664,37 @@ module _ (order : Order) (host : List ℕ) (libs : List (List ℕ)) (fine : sour
     | inr l ↦ elim (cases_lt k j) [ inl m ↦ absurd (apart k j h g m u e (sym same)) | inr m ↦ omega (arith, l, m) ]
   ]
 
-  same_names : map (λ (s : Segment). s.name) (added order host libs) ≡ map (λ (g : UnitReference). g.name) (row_of order host libs)
+  same_names : map (λ (s : Segment). s.name) (added_segments order host libs) ≡ map (λ (g : UnitReference). g.name) (row_of order host libs)
   same_names = same_items _ _ each
     where
-      each : (k : ℕ) → slice_get (map (λ (s : Segment). s.name) (added order host libs)) k ≡ slice_get (map (λ (g : UnitReference). g.name) (row_of order host libs)) k
+      each : (k : ℕ) → slice_get (map (λ (s : Segment). s.name) (added_segments order host libs)) k ≡ slice_get (map (λ (g : UnitReference). g.name) (row_of order host libs)) k
       each k =
-          slice_get-map (λ (s : Segment). s.name) (added order host libs) k
-          ∙ (some_of (slice_get (row_of order host libs) k) (option_map (λ (s : Segment). s.name) (slice_get (added order host libs) k) ≡ option_map (λ (g : UnitReference). g.name) (slice_get (row_of order host libs) k))
+          slice_get-map (λ (s : Segment). s.name) (added_segments order host libs) k
+          ∙ (some_of (slice_get (row_of order host libs) k) (option_map (λ (s : Segment). s.name) (slice_get (added_segments order host libs) k) ≡ option_map (λ (g : UnitReference). g.name) (slice_get (row_of order host libs) k))
           (λ g e. let p = name_placed order host libs ended k g e in
           ap (option_map (λ (s : Segment). s.name)) p.3 ∙ (ap (λ (n : List ℕ). Some n) (added_is order host libs g p.0 p.1 p.4).1 ∙ sym (ap (option_map (λ (x : UnitReference). x.name)) e)))
-          (λ e. some_of (slice_get (added order host libs) k) (option_map (λ (s : Segment). s.name) (slice_get (added order host libs) k) ≡ option_map (λ (g : UnitReference). g.name) (slice_get (row_of order host libs) k))
+          (λ e. some_of (slice_get (added_segments order host libs) k) (option_map (λ (s : Segment). s.name) (slice_get (added_segments order host libs) k) ≡ option_map (λ (g : UnitReference). g.name) (slice_get (row_of order host libs) k))
           (λ s u. let t = (segment_named order host libs ended k s u).1 in absurd (cc))
           (λ u. ap (option_map (λ (s : Segment). s.name)) u ∙ sym (ap (option_map (λ (x : UnitReference). x.name)) e)))
           ∙ sym (slice_get-map (λ (g : UnitReference). g.name) (row_of order host libs) k))
 
-  is_found : (k : ℕ) (s : Segment) → slice_get (added order host libs) k ≡ Some s → IsOfFirstLibrary order libs s
+  is_found : (k : ℕ) (s : Segment) → slice_get (added_segments order host libs) k ≡ Some s → IsOfFirstLibrary order libs s
   is_found k s e =
       let g = segment_named order host libs ended k s e in
       let p = name_placed order host libs ended k g.0 g.1 in
       let same : p.1 ≡ s = (let a = p.3 in cc) in
       subst (λ (x : Segment). IsOfFirstLibrary order libs x) same (of_first_library order host libs g.0 p.0 p.1 p.4)
 
-  is_wanted : (k : ℕ) (s : Segment) → slice_get (added order host libs) k ≡ Some s → (s.role ≡ role.Wanted) × (s.added ≡ true)
+  is_wanted : (k : ℕ) (s : Segment) → slice_get (added_segments order host libs) k ≡ Some s → (s.role ≡ role.Wanted) × (s.added ≡ true)
   is_wanted k s e =
       let g = segment_named order host libs ended k s e in
       let p = name_placed order host libs ended k g.0 g.1 in
       let same : p.1 ≡ s = (let a = p.3 in cc) in
       subst (λ (x : Segment). (x.role ≡ role.Wanted) × (x.added ≡ true)) same ((added_is order host libs g.0 p.0 p.1 p.4).2, marked order host libs g.0 p.0 p.1 p.4)
 
-  pub units_are : AddedUnits order host libs (row_of order host libs) (added order host libs)
+  pub units_are : AddedUnits order host libs (row_of order host libs) (added_segments order host libs)
   units_are = record {
-    sought = is_sought;
+    requested = is_sought;
     complete = is_complete;
     once = is_once;
     ordered = are_given;

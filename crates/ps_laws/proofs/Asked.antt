@@ -1,4 +1,5 @@
--- Each unit that a record of the link asks for has its segment there, where the rounds end without a fault.
+-- Each unit that a record of the link requests has its segment there, where the rounds end without
+-- a fault.
 use Rattle.std.proofs.Common.{◌≡◌, ℕ, zero, suc, ◌+◌, ◌<◌, ◌≤◌, List, [], ◌∷◌, ◌++◌, length, take, Option, Some, None, Result, Ok, Err, Bool, true, false, refl, sym, ap, subst, ◌∙◌, inl, inr, arith, append_assoc, append-nil, is_some, is_none}
 use Rattle.std.specs.Prelude.{◌⊎◌, if◌then◌else◌, ◌&&◌, ◌||◌, ◌==◌, not}
 use Rattle.std.specs.Bool.{Decides}
@@ -13,8 +14,8 @@ use Rattle.std.proofs.lemmas.List.Folds.{list_any-append}
 use Rattle.std.proofs.lemmas.Option.{option_and_then_some, slice_get_within}
 use Rattle.std.proofs.lemmas.Slice.Eq.{bytes_eq-Decides}
 use Rattle.ps_codefile.specs.Dictionary.{slots, is_nameless, entry_at, role_of, code_of}
-use Rattle.ps_linkinfo.specs.Counts.{is_unit_reference}
-use Rattle.ps_resolve.specs.Added.{unit_references, all_unit_references, is_had, sought_from, empty_slots, is_missing, unplaced_fault, placed_fault, as_added, added_segment, Rounds, sought, added, added_fault, added_at, segment_at, segments}
+use Rattle.ps_linkinfo.specs.RecordCounts.{is_unit_reference}
+use Rattle.ps_resolve.specs.Added.{unit_references, all_unit_references, is_already_known, requested_from, empty_slots, is_missing, unplaced_fault, placed_fault, as_added, added_segment, Rounds, requested_units, added_segments, added_fault, added_at, segment_at, segments}
 use Rattle.ps_resolve.specs.Standing.Phrases.{SomeItem}
 use Rattle.ps_resolve.specs.Standing.Segments.{IsSegment}
 use Rattle.ps_codefile.specs.declared.entry.Role.{Role}
@@ -82,7 +83,7 @@ brought order host libs g slot e n = go (is_missing order libs g.name) refl e
         made (unit_source order g.name libs) refl (option_or_none (entry_fault order g.name libs slot) (option_and_then (code_fault order host libs slot role.Wanted) (unit_source order g.name libs)) (rw (is, placed_fault) at e)) n
         (or_false (is_nameless g.name) (is_none (chosen_library order g.name libs)) is)
 
--- an added segment, as it was sought
+-- an added segment, as it was requested
 pub added_is : (order : Order) (host : List ℕ) (libs : List (List ℕ)) (g : UnitReference) (slot : ℕ) (s : Segment) → added_segment order host libs g slot ≡ Some s → (s.slot ≡ slot) × (s.name ≡ g.name) × (s.role ≡ role.Wanted)
 added_is order host libs g slot s e = go (option_and_then (segment_from order host libs slot g.name role.Wanted) (unit_source order g.name libs)) refl e
   where
@@ -94,17 +95,17 @@ added_is order host libs g slot s e = go (option_and_then (segment_from order ho
         let x : as_added q ≡ s = cc in
         (sym (ap (λ (y : Segment). y.slot) x) ∙ t.0, sym (ap (λ (y : Segment). y.name) x) ∙ t.1, sym (ap (λ (y : Segment). y.role) x) ∙ t.2))
 
--- 2. the row of names grows, and has each name that is asked for
-pub sought_grows : (units : List (List ℕ × ℕ)) (row gs : List UnitReference) → (more : List UnitReference) × (sought_from units row gs ≡ row ++ more)
+-- 2. the queue of names grows, and has each name that is requested
+pub sought_grows : (units : List (List ℕ × ℕ)) (row gs : List UnitReference) → (more : List UnitReference) × (requested_from units row gs ≡ row ++ more)
 sought_grows units row [] = ([], sym (append-nil row))
-sought_grows units row (g ∷ gs) = go (is_had units row g.name) (λ xs. sought_grows units xs gs)
+sought_grows units row (g ∷ gs) = go (is_already_known units row g.name) (λ xs. sought_grows units xs gs)
   where
-    go : (b : Bool) → ((xs : List UnitReference) → (more : List UnitReference) × (sought_from units xs gs ≡ xs ++ more)) → (more : List UnitReference) × (sought_from units (if b then row else row ++ g ∷ []) gs ≡ row ++ more)
+    go : (b : Bool) → ((xs : List UnitReference) → (more : List UnitReference) × (requested_from units xs gs ≡ xs ++ more)) → (more : List UnitReference) × (requested_from units (if b then row else row ++ g ∷ []) gs ≡ row ++ more)
     go true later = later row
     go false later = let r = later (row ++ g ∷ []) in (g ∷ r.0, r.1 ∙ append_assoc row (g ∷ []) r.0)
 
 -- a name that is had is had in a longer row
-pub had_more : (units : List (List ℕ × ℕ)) (row more : List UnitReference) (name : List ℕ) → is_had units row name ≡ true → is_had units (row ++ more) name ≡ true
+pub had_more : (units : List (List ℕ × ℕ)) (row more : List UnitReference) (name : List ℕ) → is_already_known units row name ≡ true → is_already_known units (row ++ more) name ≡ true
 had_more units row more name = go (is_some (lookup (bytes_eq name) units))
   where
     test : UnitReference → Bool
@@ -119,7 +120,7 @@ had_more units row more name = go (is_some (lookup (bytes_eq name) units))
     go false e = list_any-append test row more ∙ or_true (list_any test row) (list_any test more) e
 
 -- the name of the last reference of a row is had
-pub had_last : (units : List (List ℕ × ℕ)) (row : List UnitReference) (g : UnitReference) → is_had units (row ++ g ∷ []) g.name ≡ true
+pub had_last : (units : List (List ℕ × ℕ)) (row : List UnitReference) (g : UnitReference) → is_already_known units (row ++ g ∷ []) g.name ≡ true
 had_last units row g = go (is_some (lookup (bytes_eq g.name) units))
   where
     test : UnitReference → Bool
@@ -138,49 +139,51 @@ had_last units row g = go (is_some (lookup (bytes_eq g.name) units))
     go false = list_any-append test row (g ∷ []) ∙ or_last (list_any test row) (test g) itself
 
 -- the name of each reference is had in the row that they come to
-pub all_had : (units : List (List ℕ × ℕ)) (row gs : List UnitReference) (g : UnitReference) (i : ℕ) → slice_get gs i ≡ Some g → is_had units (sought_from units row gs) g.name ≡ true
+pub all_had : (units : List (List ℕ × ℕ)) (row gs : List UnitReference) (g : UnitReference) (i : ℕ) → slice_get gs i ≡ Some g → is_already_known units (requested_from units row gs) g.name ≡ true
 all_had units row [] g i e = absurd (cc)
 all_had units row (h ∷ gs) g zero e =
     let same : h ≡ g = cc in
-    let grown = sought_grows units (if is_had units row h.name then row else row ++ h ∷ []) gs in
-    subst (λ (x : UnitReference). is_had units (sought_from units (if is_had units row h.name then row else row ++ h ∷ []) gs) x.name ≡ true) same
-    (subst (λ (r : List UnitReference). is_had units r h.name ≡ true) (sym grown.1) (had_more units (if is_had units row h.name then row else row ++ h ∷ []) grown.0 h.name (first (is_had units row h.name) refl)))
+    let grown = sought_grows units (if is_already_known units row h.name then row else row ++ h ∷ []) gs in
+    subst (λ (x : UnitReference). is_already_known units (requested_from units (if is_already_known units row h.name then row else row ++ h ∷ []) gs) x.name ≡ true) same
+    (subst (λ (r : List UnitReference). is_already_known units r h.name ≡ true) (sym grown.1) (had_more units (if is_already_known units row h.name then row else row ++ h ∷ []) grown.0 h.name (first (is_already_known units row h.name) refl)))
   where
-    first : (b : Bool) → is_had units row h.name ≡ b → is_had units (if b then row else row ++ h ∷ []) h.name ≡ true
+    first : (b : Bool) → is_already_known units row h.name ≡ b → is_already_known units (if b then row else row ++ h ∷ []) h.name ≡ true
     first true is = is
     first false is = had_last units row h
-all_had units row (h ∷ gs) g (suc i) e = all_had units (if is_had units row h.name then row else row ++ h ∷ []) gs g i e
+all_had units row (h ∷ gs) g (suc i) e = all_had units (if is_already_known units row h.name then row else row ++ h ∷ []) gs g i e
 
--- 3. where the rounds end without a fault, each name of the row has its slot and its segment, and is sought by the host's own segments and those that were added before it
+-- 3. where the rounds end without a fault, each name in the queue has its slot and its segment, and
+--    is requested by the host's own segments and those that were added before it
 abbrev pub IsPlaced : Order → List ℕ → List (List ℕ) → ℕ → UnitReference → Type 0
 IsPlaced order host libs j g =
-    (slot : ℕ) × (s : Segment) × (slice_get (empty_slots order host) j ≡ Some slot) × (slice_get (added order host libs) j ≡ Some s) × (added_segment order host libs g slot ≡ Some s) × (placed_fault order host libs g slot ≡ None) × (slice_get (sought order host libs (take j (added order host libs))) j ≡ Some g)
+    (slot : ℕ) × (s : Segment) × (slice_get (empty_slots order host) j ≡ Some slot) × (slice_get (added_segments order host libs) j ≡ Some s) × (added_segment order host libs g slot ≡ Some s) × (placed_fault order host libs g slot ≡ None) × (slice_get (requested_units order host libs (take j (added_segments order host libs))) j ≡ Some g)
 
 abbrev pub row_of : Order → List ℕ → List (List ℕ) → List UnitReference
-row_of order host libs = sought order host libs (added order host libs)
+row_of order host libs = requested_units order host libs (added_segments order host libs)
 
--- from round k on, where no fault ends the rounds, each name of the row is placed, and each added segment has a name
+-- from round k on, where no fault ends the rounds, each name in the queue is placed, and each added
+-- segment has a name
 abbrev RoundsPlace : Order → List ℕ → List (List ℕ) → List ℕ → Type 0
 RoundsPlace order host libs left =
     (prefix : List Segment) (used : List ℕ) (k : ℕ) (row : List UnitReference)
-    → added order host libs ≡ prefix ++ (rest_of order host libs left k row).added → k ≡ length prefix → empty_slots order host ≡ used ++ left → k ≡ length used → sought order host libs prefix ≡ row
+    → added_segments order host libs ≡ prefix ++ (rest_of order host libs left k row).added → k ≡ length prefix → empty_slots order host ≡ used ++ left → k ≡ length used → requested_units order host libs prefix ≡ row
     → (rest_of order host libs left k row).fault ≡ None
     → ((j : ℕ) (g : UnitReference) → k ≤ j → slice_get (row_of order host libs) j ≡ Some g → IsPlaced order host libs j g)
-    × ((j : ℕ) (s : Segment) → k ≤ j → slice_get (added order host libs) j ≡ Some s → (g : UnitReference) × (slice_get (row_of order host libs) j ≡ Some g))
+    × ((j : ℕ) (s : Segment) → k ≤ j → slice_get (added_segments order host libs) j ≡ Some s → (g : UnitReference) × (slice_get (row_of order host libs) j ≡ Some g))
 
 -- the rounds ended: no name is left, and no segment
-ended : (order : Order) (host : List ℕ) (libs : List (List ℕ)) (prefix : List Segment) (k : ℕ) (row : List UnitReference) → added order host libs ≡ prefix → k ≡ length prefix → sought order host libs prefix ≡ row → slice_get row k ≡ None
+ended : (order : Order) (host : List ℕ) (libs : List (List ℕ)) (prefix : List Segment) (k : ℕ) (row : List UnitReference) → added_segments order host libs ≡ prefix → k ≡ length prefix → requested_units order host libs prefix ≡ row → slice_get row k ≡ None
     → ((j : ℕ) (g : UnitReference) → k ≤ j → slice_get (row_of order host libs) j ≡ Some g → IsPlaced order host libs j g)
-    × ((j : ℕ) (s : Segment) → k ≤ j → slice_get (added order host libs) j ≡ Some s → (g : UnitReference) × (slice_get (row_of order host libs) j ≡ Some g))
+    × ((j : ℕ) (s : Segment) → k ≤ j → slice_get (added_segments order host libs) j ≡ Some s → (g : UnitReference) × (slice_get (row_of order host libs) j ≡ Some g))
 ended order host libs prefix k row is at row_is none = (names, segs)
   where
     same : row_of order host libs ≡ row
-    same = ap (λ (ss : List Segment). sought order host libs ss) is ∙ row_is
+    same = ap (λ (ss : List Segment). requested_units order host libs ss) is ∙ row_is
 
     names : (j : ℕ) (g : UnitReference) → k ≤ j → slice_get (row_of order host libs) j ≡ Some g → IsPlaced order host libs j g
     names j g h e = absurd (some_before row k j g h (sym (ap (λ (r : List UnitReference). slice_get r j) same) ∙ e) none)
 
-    segs : (j : ℕ) (s : Segment) → k ≤ j → slice_get (added order host libs) j ≡ Some s → (g : UnitReference) × (slice_get (row_of order host libs) j ≡ Some g)
+    segs : (j : ℕ) (s : Segment) → k ≤ j → slice_get (added_segments order host libs) j ≡ Some s → (g : UnitReference) × (slice_get (row_of order host libs) j ≡ Some g)
     segs j s h e = let m = slice_get_within prefix j s (sym (ap (λ (ss : List Segment). slice_get ss j) is) ∙ e) in absurd (omega (arith, m, h, at))
 
 -- from each round on the names are placed and the segments have names, whichever slots are left
@@ -189,38 +192,38 @@ rounds_place order host libs [] prefix used k row is at slots_are used_at row_is
   where
     go : (x : Option UnitReference) → slice_get row k ≡ x → option_map (unplaced_fault order libs) x ≡ None
         → ((j : ℕ) (g : UnitReference) → k ≤ j → slice_get (row_of order host libs) j ≡ Some g → IsPlaced order host libs j g)
-        × ((j : ℕ) (s : Segment) → k ≤ j → slice_get (added order host libs) j ≡ Some s → (g : UnitReference) × (slice_get (row_of order host libs) j ≡ Some g))
+        × ((j : ℕ) (s : Segment) → k ≤ j → slice_get (added_segments order host libs) j ≡ Some s → (g : UnitReference) × (slice_get (row_of order host libs) j ≡ Some g))
     go None e fine = ended order host libs prefix k row (is ∙ append-nil prefix) at row_is e
     go (Some g) e fine = absurd (cc)
 rounds_place order host libs (slot ∷ left) prefix used k row is at slots_are used_at row_is fine = go (rounds_place order host libs left) (slice_get row k) refl is fine
   where
     Have : Type 0
     Have = ((j : ℕ) (g : UnitReference) → k ≤ j → slice_get (row_of order host libs) j ≡ Some g → IsPlaced order host libs j g)
-        × ((j : ℕ) (s : Segment) → k ≤ j → slice_get (added order host libs) j ≡ Some s → (g : UnitReference) × (slice_get (row_of order host libs) j ≡ Some g))
+        × ((j : ℕ) (s : Segment) → k ≤ j → slice_get (added_segments order host libs) j ≡ Some s → (g : UnitReference) × (slice_get (row_of order host libs) j ≡ Some g))
 
     slot_at : slice_get (empty_slots order host) k ≡ Some slot
     slot_at = ap (λ (xs : List ℕ). slice_get xs k) slots_are ∙ next_slot used (slot ∷ left) k used_at
 
     -- the row's name at k stays there
-    stays : (g : UnitReference) (rest : List Segment) → slice_get row k ≡ Some g → added order host libs ≡ prefix ++ rest → slice_get (row_of order host libs) k ≡ Some g
+    stays : (g : UnitReference) (rest : List Segment) → slice_get row k ≡ Some g → added_segments order host libs ≡ prefix ++ rest → slice_get (row_of order host libs) k ≡ Some g
     stays g rest e is =
         let grown = sought_grows (own_units order host libs) row (all_unit_references rest) in
         let whole : row_of order host libs ≡ row ++ grown.0 =
-        ap (λ (ss : List Segment). sought order host libs ss) is ∙ (sought_rest order host libs prefix rest ∙ (ap (λ (r : List UnitReference). sought_from (own_units order host libs) r (all_unit_references rest)) row_is ∙ grown.1)) in
+        ap (λ (ss : List Segment). requested_units order host libs ss) is ∙ (sought_rest order host libs prefix rest ∙ (ap (λ (r : List UnitReference). requested_from (own_units order host libs) r (all_unit_references rest)) row_is ∙ grown.1)) in
         ap (λ (r : List UnitReference). slice_get r k) whole ∙ at_left row grown.0 k g e
 
-    segment : RoundsPlace order host libs left → (g : UnitReference) → slice_get row k ≡ Some g → placed_fault order host libs g slot ≡ None → (o : Option Segment) → added_segment order host libs g slot ≡ o → added order host libs ≡ prefix ++ (of_segment order host libs left k row o).added → (of_segment order host libs left k row o).fault ≡ None → Have
+    segment : RoundsPlace order host libs left → (g : UnitReference) → slice_get row k ≡ Some g → placed_fault order host libs g slot ≡ None → (o : Option Segment) → added_segment order host libs g slot ≡ o → added_segments order host libs ≡ prefix ++ (of_segment order host libs left k row o).added → (of_segment order host libs left k row o).fault ≡ None → Have
     segment later g e p None q is fine = absurd (brought order host libs g slot p q)
     segment later g e p (Some s) q is fine = (names, segs)
       where
         row' : List UnitReference
-        row' = sought_from (own_units order host libs) row (references_of s)
+        row' = requested_from (own_units order host libs) row (references_of s)
 
         rest : List Segment
         rest = (rest_of order host libs left (k + 1) row').added
 
         more : ((j : ℕ) (g : UnitReference) → k + 1 ≤ j → slice_get (row_of order host libs) j ≡ Some g → IsPlaced order host libs j g)
-            × ((j : ℕ) (s : Segment) → k + 1 ≤ j → slice_get (added order host libs) j ≡ Some s → (g : UnitReference) × (slice_get (row_of order host libs) j ≡ Some g))
+            × ((j : ℕ) (s : Segment) → k + 1 ≤ j → slice_get (added_segments order host libs) j ≡ Some s → (g : UnitReference) × (slice_get (row_of order host libs) j ≡ Some g))
         more =
             later (prefix ++ s ∷ []) (used ++ slot ∷ []) (k + 1) row'
             (is ∙ sym (append_assoc prefix (s ∷ []) rest))
@@ -228,18 +231,18 @@ rounds_place order host libs (slot ∷ left) prefix used k row is at slots_are u
             (slots_are ∙ sym (append_assoc used (slot ∷ []) left))
             (let l = longer used slot in omega (arith, l, used_at))
             (sought_rest order host libs prefix (s ∷ [])
-            ∙ (ap (λ (gs : List UnitReference). sought_from (own_units order host libs) (sought order host libs prefix) gs) (append-nil (references_of s))
-            ∙ ap (λ (xs : List UnitReference). sought_from (own_units order host libs) xs (references_of s)) row_is))
+            ∙ (ap (λ (gs : List UnitReference). requested_from (own_units order host libs) (requested_units order host libs prefix) gs) (append-nil (references_of s))
+            ∙ ap (λ (xs : List UnitReference). requested_from (own_units order host libs) xs (references_of s)) row_is))
             fine
 
-        here : slice_get (added order host libs) k ≡ Some s
+        here : slice_get (added_segments order host libs) k ≡ Some s
         here = ap (λ (ss : List Segment). slice_get ss k) is ∙ at_seam prefix s rest k at
 
-        prefix_is : take k (added order host libs) ≡ prefix
+        prefix_is : take k (added_segments order host libs) ≡ prefix
         prefix_is = ap (λ (ss : List Segment). take k ss) is ∙ (ap (λ (n : ℕ). take n (prefix ++ s ∷ rest)) at ∙ take_prefix prefix (s ∷ rest))
 
-        sought_there : slice_get (sought order host libs (take k (added order host libs))) k ≡ Some g
-        sought_there = ap (λ (ss : List Segment). slice_get (sought order host libs ss) k) prefix_is ∙ (ap (λ (r : List UnitReference). slice_get r k) row_is ∙ e)
+        sought_there : slice_get (requested_units order host libs (take k (added_segments order host libs))) k ≡ Some g
+        sought_there = ap (λ (ss : List Segment). slice_get (requested_units order host libs ss) k) prefix_is ∙ (ap (λ (r : List UnitReference). slice_get r k) row_is ∙ e)
 
         names : (j : ℕ) (h : UnitReference) → k ≤ j → slice_get (row_of order host libs) j ≡ Some h → IsPlaced order host libs j h
         names j h low u = elim (cases_lt k j) [
@@ -251,37 +254,37 @@ rounds_place order host libs (slot ∷ left) prefix used k row is at slots_are u
               subst (λ (n : ℕ). IsPlaced order host libs n h) same (slot, s, slot_at, here, subst (λ (y : UnitReference). added_segment order host libs y slot ≡ Some s) it q, subst (λ (y : UnitReference). placed_fault order host libs y slot ≡ None) it p, sought_there ∙ ap (λ (y : UnitReference). Some y) it)
         ]
 
-        segs : (j : ℕ) (t : Segment) → k ≤ j → slice_get (added order host libs) j ≡ Some t → (h : UnitReference) × (slice_get (row_of order host libs) j ≡ Some h)
+        segs : (j : ℕ) (t : Segment) → k ≤ j → slice_get (added_segments order host libs) j ≡ Some t → (h : UnitReference) × (slice_get (row_of order host libs) j ≡ Some h)
         segs j t low u = elim (cases_lt k j) [
           | inl x ↦ more.1 j t (omega (arith, x)) u
           | inr x ↦ (g, subst (λ (n : ℕ). slice_get (row_of order host libs) n ≡ Some g) (omega (arith, x, low)) (stays g (s ∷ rest) e is))
         ]
 
     fault : RoundsPlace order host libs left → (g : UnitReference) → slice_get row k ≡ Some g → (o : Option Fault) → placed_fault order host libs g slot ≡ o
-        → added order host libs ≡ prefix ++ (of_fault order host libs left k row (added_segment order host libs g slot) o).added → (of_fault order host libs left k row (added_segment order host libs g slot) o).fault ≡ None → Have
+        → added_segments order host libs ≡ prefix ++ (of_fault order host libs left k row (added_segment order host libs g slot) o).added → (of_fault order host libs left k row (added_segment order host libs g slot) o).fault ≡ None → Have
     fault later g e (Some f) p is fine = absurd (cc)
     fault later g e None p is fine = segment later g e p (added_segment order host libs g slot) refl is fine
 
-    go : RoundsPlace order host libs left → (x : Option UnitReference) → slice_get row k ≡ x → added order host libs ≡ prefix ++ (of_name order host libs slot left k row x).added → (of_name order host libs slot left k row x).fault ≡ None → Have
+    go : RoundsPlace order host libs left → (x : Option UnitReference) → slice_get row k ≡ x → added_segments order host libs ≡ prefix ++ (of_name order host libs slot left k row x).added → (of_name order host libs slot left k row x).fault ≡ None → Have
     go later None e is fine = ended order host libs prefix k row (is ∙ append-nil prefix) at row_is e
     go later (Some g) e is fine = fault later g e (placed_fault order host libs g slot) refl is fine
 
 -- from the first round on
 all_placed : (order : Order) (host : List ℕ) (libs : List (List ℕ)) → added_fault order host libs ≡ None
     → ((j : ℕ) (g : UnitReference) → 0 ≤ j → slice_get (row_of order host libs) j ≡ Some g → IsPlaced order host libs j g)
-    × ((j : ℕ) (s : Segment) → 0 ≤ j → slice_get (added order host libs) j ≡ Some s → (g : UnitReference) × (slice_get (row_of order host libs) j ≡ Some g))
+    × ((j : ℕ) (s : Segment) → 0 ≤ j → slice_get (added_segments order host libs) j ≡ Some s → (g : UnitReference) × (slice_get (row_of order host libs) j ≡ Some g))
 all_placed order host libs fine =
     let same = first_round order host libs in
-    rounds_place order host libs (empty_slots order host) [] [] 0 (sought order host libs []) (ap (λ (x : Rounds). x.added) same) refl refl refl refl (sym (ap (λ (x : Rounds). x.fault) same) ∙ fine)
+    rounds_place order host libs (empty_slots order host) [] [] 0 (requested_units order host libs []) (ap (λ (x : Rounds). x.added) same) refl refl refl refl (sym (ap (λ (x : Rounds). x.fault) same) ∙ fine)
 
 pub name_placed : (order : Order) (host : List ℕ) (libs : List (List ℕ)) → added_fault order host libs ≡ None → (j : ℕ) (g : UnitReference) → slice_get (row_of order host libs) j ≡ Some g → IsPlaced order host libs j g
 name_placed order host libs fine j g e = (all_placed order host libs fine).0 j g (omega arith) e
 
-pub segment_named : (order : Order) (host : List ℕ) (libs : List (List ℕ)) → added_fault order host libs ≡ None → (j : ℕ) (s : Segment) → slice_get (added order host libs) j ≡ Some s → (g : UnitReference) × (slice_get (row_of order host libs) j ≡ Some g)
+pub segment_named : (order : Order) (host : List ℕ) (libs : List (List ℕ)) → added_fault order host libs ≡ None → (j : ℕ) (s : Segment) → slice_get (added_segments order host libs) j ≡ Some s → (g : UnitReference) × (slice_get (row_of order host libs) j ≡ Some g)
 segment_named order host libs fine j s e = (all_placed order host libs fine).1 j s (omega arith) e
 
--- an added segment stands in its empty slot
-pub in_empty : (order : Order) (host : List ℕ) (libs : List (List ℕ)) → added_fault order host libs ≡ None → (j : ℕ) (s : Segment) → slice_get (added order host libs) j ≡ Some s → slice_get (empty_slots order host) j ≡ Some s.slot
+-- an added segment is in its empty slot
+pub in_empty : (order : Order) (host : List ℕ) (libs : List (List ℕ)) → added_fault order host libs ≡ None → (j : ℕ) (s : Segment) → slice_get (added_segments order host libs) j ≡ Some s → slice_get (empty_slots order host) j ≡ Some s.slot
 in_empty order host libs fine j s e =
     let g = segment_named order host libs fine j s e in
     let p = name_placed order host libs fine j g.0 g.1 in
@@ -306,10 +309,10 @@ not_own order host libs slot e = go (result_ok (role_of (entry_at order host slo
     go (Some other) e = absurd (false≢true e)
 
 -- it is found there
-pub found_added : (order : Order) (host : List ℕ) (libs : List (List ℕ)) → added_fault order host libs ≡ None → (j : ℕ) (s : Segment) → slice_get (added order host libs) j ≡ Some s → segment_at order host libs s.slot ≡ Some s
+pub found_added : (order : Order) (host : List ℕ) (libs : List (List ℕ)) → added_fault order host libs ≡ None → (j : ℕ) (s : Segment) → slice_get (added_segments order host libs) j ≡ Some s → segment_at order host libs s.slot ≡ Some s
 found_added order host libs fine j s e =
     ap (λ (o : Option Segment). option_or o (added_at order host libs s.slot)) (not_own order host libs s.slot empty)
-    ∙ (ap (λ (b : Bool). if b then find (λ (q : Segment). q.slot == s.slot) (added order host libs) else None) empty ∙ go (find (λ (q : Segment). q.slot == s.slot) (added order host libs)) refl)
+    ∙ (ap (λ (b : Bool). if b then find (λ (q : Segment). q.slot == s.slot) (added_segments order host libs) else None) empty ∙ go (find (λ (q : Segment). q.slot == s.slot) (added_segments order host libs)) refl)
   where
     at : slice_get (empty_slots order host) j ≡ Some s.slot
     at = in_empty order host libs fine j s e
@@ -317,7 +320,7 @@ found_added order host libs fine j s e =
     empty : is_role is_empty order host s.slot ≡ true
     empty = (empty_slot order host j s.slot at).2
 
-    one : (i : ℕ) (q : Segment) → slice_get (added order host libs) i ≡ Some q → q.slot ≡ s.slot → i ≡ j
+    one : (i : ℕ) (q : Segment) → slice_get (added_segments order host libs) i ≡ Some q → q.slot ≡ s.slot → i ≡ j
     one i q u same = elim (cases_lt i j) [
       | inl h ↦ (let a = empty_ascend order host i j q.slot s.slot h (in_empty order host libs fine i q u) at in absurd (omega (arith, a, same)))
       | inr h ↦ elim (cases_lt j i) [
@@ -326,12 +329,12 @@ found_added order host libs fine j s e =
       ]
     ]
 
-    go : (o : Option Segment) → find (λ (q : Segment). q.slot == s.slot) (added order host libs) ≡ o → o ≡ Some s
-    go None is = absurd (find_none (λ (q : Segment). q.slot == s.slot) (λ (q : Segment). q.slot ≡ s.slot) (λ q. Decides-eqb q.slot s.slot) (added order host libs) is (j, s, e, refl))
+    go : (o : Option Segment) → find (λ (q : Segment). q.slot == s.slot) (added_segments order host libs) ≡ o → o ≡ Some s
+    go None is = absurd (find_none (λ (q : Segment). q.slot == s.slot) (λ (q : Segment). q.slot ≡ s.slot) (λ q. Decides-eqb q.slot s.slot) (added_segments order host libs) is (j, s, e, refl))
     go (Some q) is =
-        let t = found_in_slot s.slot (added order host libs) q is in
+        let t = found_in_slot s.slot (added_segments order host libs) q is in
         let i_is_j : t.0 ≡ j = one t.0 t.1 t.2 t.3.1 in
-        let there : slice_get (added order host libs) j ≡ Some t.1 = subst (λ (n : ℕ). slice_get (added order host libs) n ≡ Some t.1) i_is_j t.2 in
+        let there : slice_get (added_segments order host libs) j ≡ Some t.1 = subst (λ (n : ℕ). slice_get (added_segments order host libs) n ≡ Some t.1) i_is_j t.2 in
         let a = t.3.0 in
         cc
 
@@ -352,15 +355,15 @@ own_at order host libs s t =
     (r.0, (let a = (of_range 0 16 r.0 r.1.0 r.1.1).1 in omega (arith, a)), r.2)
 
 -- a segment of the link is one of the host's own, or one that was added
-own_or_added : (order : Order) (host : List ℕ) (libs : List (List ℕ)) (s : Segment) → IsSegment order host libs s → In s (own_segments order host libs ++ added order host libs)
+own_or_added : (order : Order) (host : List ℕ) (libs : List (List ℕ)) (s : Segment) → IsSegment order host libs s → In s (own_segments order host libs ++ added_segments order host libs)
 own_or_added order host libs s t = go (own_segment order host libs s.slot) refl (is_role is_empty order host s.slot) t.1
   where
-    go : (o : Option Segment) → own_segment order host libs s.slot ≡ o → (b : Bool) → option_or o (if b then find (λ (q : Segment). q.slot == s.slot) (added order host libs) else None) ≡ Some s → In s (own_segments order host libs ++ added order host libs)
-    go (Some q) is b e = in_left (own_segments order host libs) (added order host libs) s (own_in order host libs s.slot s t.0 (is ∙ e))
+    go : (o : Option Segment) → own_segment order host libs s.slot ≡ o → (b : Bool) → option_or o (if b then find (λ (q : Segment). q.slot == s.slot) (added_segments order host libs) else None) ≡ Some s → In s (own_segments order host libs ++ added_segments order host libs)
+    go (Some q) is b e = in_left (own_segments order host libs) (added_segments order host libs) s (own_in order host libs s.slot s t.0 (is ∙ e))
     go None is false e = absurd (cc)
     go None is true e =
-        let u = found_in_slot s.slot (added order host libs) s e in
-        in_right (own_segments order host libs) (added order host libs) s (u.0, u.2 ∙ ap (λ (q : Segment). Some q) u.3.0)
+        let u = found_in_slot s.slot (added_segments order host libs) s e in
+        in_right (own_segments order host libs) (added_segments order host libs) s (u.0, u.2 ∙ ap (λ (q : Segment). Some q) u.3.0)
 
 -- the references of a segment
 pub in_references : (file slot n : ℕ) (rs : List Record) (i : ℕ) (r : Record) → slice_get rs i ≡ Some r → is_unit_reference r.body ≡ true → (g : UnitReference) × In g (unit_references file slot n rs) × (g.name ≡ r.name)
@@ -384,7 +387,8 @@ in_references file slot n (q ∷ rs) i r e u = go (is_unit_reference q.body) ref
 abbrev unit_named : List ℕ → Segment → Bool
 unit_named name q = is_unit q.role && bytes_eq name q.name
 
--- a name is found among the slots of the units just where some segment passes the test for the unit of that name
+-- a name is found among the slots of the units just where some segment passes the test for the unit
+-- of that name
 units_known : (name : List ℕ) (segs : List Segment) → is_some (lookup (bytes_eq name) (units_of segs)) ≡ list_any (unit_named name) segs
 units_known name [] = refl
 units_known name (s ∷ segs) = go (is_unit s.role) (units_known name segs)
@@ -414,7 +418,7 @@ or_cases true b e = inl refl
 or_cases false b e = inr e
 
 -- where the rounds end without a fault, a name that is had is that of a unit of the link
-pub had_has_unit : (order : Order) (host : List ℕ) (libs : List (List ℕ)) → added_fault order host libs ≡ None → (name : List ℕ) → is_had (own_units order host libs) (row_of order host libs) name ≡ true → HasUnit (segments order host libs) name
+pub had_has_unit : (order : Order) (host : List ℕ) (libs : List (List ℕ)) → added_fault order host libs ≡ None → (name : List ℕ) → is_already_known (own_units order host libs) (row_of order host libs) name ≡ true → HasUnit (segments order host libs) name
 had_has_unit order host libs fine name had = elim (or_cases (is_some (lookup (bytes_eq name) (own_units order host libs))) (list_any (λ (g : UnitReference). bytes_eq g.name name) (row_of order host libs)) had) [
   | inl e ↦
       let t = (units_named name (own_segments order host libs)).0 e in
@@ -431,13 +435,14 @@ had_has_unit order host libs fine name had = elim (or_cases (is_some (lookup (by
       (i.0, p.1, i.1, (ap is_unit a.2, a.1 ∙ t.3))
 ]
 
-pub is_had_there : (order : Order) (host : List ℕ) (libs : List (List ℕ)) (g : UnitReference) → In g (all_unit_references (own_segments order host libs ++ added order host libs)) → is_had (own_units order host libs) (row_of order host libs) g.name ≡ true
-unfolding sought
-is_had_there order host libs g i = all_had (own_units order host libs) [] (all_unit_references (own_segments order host libs ++ added order host libs)) g i.0 i.1
+pub is_had_there : (order : Order) (host : List ℕ) (libs : List (List ℕ)) (g : UnitReference) → In g (all_unit_references (own_segments order host libs ++ added_segments order host libs)) → is_already_known (own_units order host libs) (row_of order host libs) g.name ≡ true
+unfolding requested_units
+is_had_there order host libs g i = all_had (own_units order host libs) [] (all_unit_references (own_segments order host libs ++ added_segments order host libs)) g i.0 i.1
 
--- where the rounds end without a fault, each unit that a record of the link asks for is a segment of it
+-- where the rounds end without a fault, each unit that a record of the link requests is a segment
+-- of it
 pub asked_is_there : (order : Order) (host : List ℕ) (libs : List (List ℕ)) → added_fault order host libs ≡ None → (s : Segment) → IsSegment order host libs s → (rec : ℕ) (r : Record) → slice_get s.records rec ≡ Some r → is_unit_reference r.body ≡ true → HasUnit (segments order host libs) r.name
 asked_is_there order host libs fine s is rec r e u =
     let g = in_references s.file s.slot 0 s.records rec r e u in
-    let i = in_flat references_of (own_segments order host libs ++ added order host libs) s g.0 (own_or_added order host libs s is) g.1 in
+    let i = in_flat references_of (own_segments order host libs ++ added_segments order host libs) s g.0 (own_or_added order host libs s is) g.1 in
     subst (λ (name : List ℕ). HasUnit (segments order host libs) name) g.2 (had_has_unit order host libs fine g.0.name (is_had_there order host libs g.0 i))

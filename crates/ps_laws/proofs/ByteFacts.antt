@@ -10,13 +10,13 @@ use Rattle.std.specs.Bool.{Decides}
 use Rattle.ps_codefile.specs.Procedures.{table_of}
 use Rattle.ps_resolve.specs.Privates.{total_words}
 use Rattle.ps_resolve.specs.Standing.Privates.{private_offset, words_before}
-use Rattle.ps_linkinfo.specs.Counts.{next_of}
-use Rattle.ps_resolve.specs.LinkedBytes.{IsReference, Reaches, IsSlotOf, IsPublic, IsBase, all_private_words, Becomes, IsNumberPlace, IsSizePlace, IsLinkedByte, IsOnePlace, summed_edits, summed}
+use Rattle.ps_linkinfo.specs.RecordCounts.{next_of}
+use Rattle.ps_resolve.specs.LinkedBytes.{IsReference, Reaches, IsSlotOf, IsPublic, IsBase, all_private_words, Becomes, IsNumberPlace, IsSizePlace, IsLinkedByte, IsOnePlace, summed_edits, summed_segment}
 use Rattle.ps_linkinfo.specs.Records.{refs_of}
 use Rattle.ps_linkinfo.specs.declared.record.Body.{Body}
 use Rattle.ps_linkinfo.specs.declared.record.Body.TheVariants.{UnitRef, PublRef, PrivRef, PublDef, ConstDef, Eof}
 use Rattle.ps_linkinfo.specs.declared.record.LinkRecord.{LinkRecord as Record}
-use Rattle.ps_codefile.specs.Roles.{is_linked, is_host, is_unit}
+use Rattle.ps_codefile.specs.Roles.{needs_linking, is_host, is_unit}
 use Rattle.ps_resolve.specs.Sources.{Segment, host_of, host_records, units_of}
 use Rattle.ps_resolve.specs.Symbols.{def_in, definitions, definition_of}
 use Rattle.ps_resolve.specs.Operands.{edit_of}
@@ -34,7 +34,7 @@ use Rattle.ps_laws.proofs.AddedUnits.{find_in}
 use Rattle.ps_laws.proofs.SoundCodes.{HasOuter}
 use Rattle.ps_laws.proofs.EditsAt.{edit_place, IsNumber, IsSize, IsOfReference, same_item, what_covers, number_covers, size_covers, reference_covers}
 use Rattle.ps_words.specs.Words.{word_bytes, operand_bytes, displacement_at}
-use Rattle.ps_words.specs.Edits.{place_of, stored, covers}
+use Rattle.ps_words.specs.Edits.{place_of, stored_bytes, covers}
 use Rattle.ps_words.specs.declared.order.Order.{Order}
 use Rattle.ps_words.specs.declared.edit.Edit.{Edit}
 use Rattle.ps_words.specs.declared.edit.Edit.TheVariants.{Byte, Word}
@@ -69,7 +69,8 @@ public_in (PublRef refs) d e k = absurd (cc)
 public_in (PrivRef words refs) d e k = absurd (cc)
 public_in (Eof next) d e k = absurd (cc)
 
--- a public definition that is found for a name is that of a PUBLDEF record, which gives the name its value
+-- a public definition that is found for a name is that of a PUBLDEF record, which gives the name
+-- its value
 given : (name : List ℕ) (rs : List Record) (d : Def) → definition_of name (definitions rs) ≡ Some d → d.kind ≡ Public → IsGiven rs name d.value
 given name [] d e k = absurd (cc)
 given name (r ∷ rs) d e k = go (def_in r.body) refl e (λ h. given name rs d h k)
@@ -95,25 +96,25 @@ public_is segs name value = go (host_of segs) refl
 
 -- what the edit of a reference stores is what its operand becomes
 becomes : (order : Order) (segs : List Segment) → IsBase segs (next_of (host_records segs)) → (s : Segment) (rec : ℕ) (name : List ℕ) (body : Body) (i x : ℕ) (t : Target) → slice_get (refs_of body) i ≡ Some x → target_in (known_of segs) (private_offset segs s.slot rec) name body ≡ Ok t
-    → Becomes segs s rec name body x (stored order (edit_of s.code t x))
+    → Becomes segs s rec name body x (stored_bytes order (edit_of s.code t x))
 becomes order segs base s rec name (PublDef value) i x t g e = absurd (cc)
 becomes order segs base s rec name (ConstDef value) i x t g e = absurd (cc)
 becomes order segs base s rec name (Eof next) i x t g e = absurd (cc)
-becomes order segs base s rec name (PrivRef words refs) i x t g e = let is : Base (private_offset segs s.slot rec) ≡ t = cc in (next_of (host_records segs), base, ap (λ (u : Target). stored order (edit_of s.code u x)) (sym is))
+becomes order segs base s rec name (PrivRef words refs) i x t g e = let is : Base (private_offset segs s.slot rec) ≡ t = cc in (next_of (host_records segs), base, ap (λ (u : Target). stored_bytes order (edit_of s.code u x)) (sym is))
 becomes order segs base s rec name (UnitRef refs) i x t g e = go (lookup (bytes_eq name) (units_of segs)) refl e
   where
-    go : (o : Option ℕ) → lookup (bytes_eq name) (units_of segs) ≡ o → unit_slot o ≡ Ok t → Becomes segs s rec name (UnitRef refs) x (stored order (edit_of s.code t x))
+    go : (o : Option ℕ) → lookup (bytes_eq name) (units_of segs) ≡ o → unit_slot o ≡ Ok t → Becomes segs s rec name (UnitRef refs) x (stored_bytes order (edit_of s.code t x))
     go None is e = absurd (cc)
-    go (Some slot) is e = let same : Slot slot ≡ t = cc in (slot, unit_slot_is name segs slot is, ap (λ (u : Target). stored order (edit_of s.code u x)) (sym same))
+    go (Some slot) is e = let same : Slot slot ≡ t = cc in (slot, unit_slot_is name segs slot is, ap (λ (u : Target). stored_bytes order (edit_of s.code u x)) (sym same))
 becomes order segs base s rec name (PublRef refs) i x t g e = go (definition_of name (definitions (host_records segs))) refl e
   where
-    go : (o : Option Def) → definition_of name (definitions (host_records segs)) ≡ o → public_base o ≡ Ok t → Becomes segs s rec name (PublRef refs) x (stored order (edit_of s.code t x))
+    go : (o : Option Def) → definition_of name (definitions (host_records segs)) ≡ o → public_base o ≡ Ok t → Becomes segs s rec name (PublRef refs) x (stored_bytes order (edit_of s.code t x))
     go None is e = absurd (cc)
     go (Some d) is e = at d.kind refl e
       where
-        at : (k : DefKind) → d.kind ≡ k → (elim k as (λ _. Result Target Reason) [ Public ↦ Ok (Base d.value) | Constant ↦ Err reason.IllKind ]) ≡ Ok t → Becomes segs s rec name (PublRef refs) x (stored order (edit_of s.code t x))
+        at : (k : DefKind) → d.kind ≡ k → (elim k as (λ _. Result Target Reason) [ Public ↦ Ok (Base d.value) | Constant ↦ Err reason.IllKind ]) ≡ Ok t → Becomes segs s rec name (PublRef refs) x (stored_bytes order (edit_of s.code t x))
         at Constant k e = absurd (cc)
-        at Public k e = let same : Base d.value ≡ t = cc in (d.value, public_is segs name d.value (given name (host_records segs) d is k), ap (λ (u : Target). stored order (edit_of s.code u x)) (sym same))
+        at Public k e = let same : Base d.value ≡ t = cc in (d.value, public_is segs name d.value (given name (host_records segs) d is k), ap (λ (u : Target). stored_bytes order (edit_of s.code u x)) (sym same))
 
 -- what names one thing becomes one
 abbrev pub OneUnit : List Segment → Type 0
@@ -125,7 +126,8 @@ OnePublic segs = (name : List ℕ) (a b : ℕ) → IsPublic segs name a → IsPu
 abbrev pub OneBase : List Segment → Type 0
 OneBase segs = (a b : ℕ) → IsBase segs a → IsBase segs b → a ≡ b
 
--- an operand becomes one thing only, where each unit has one slot, each public one value, and there is one base offset
+-- an operand becomes one thing only, where each unit has one slot, each public one value, and there
+-- is one base offset
 one_becomes : (segs : List Segment) → OneUnit segs → OnePublic segs → OneBase segs → (s : Segment) (rec : ℕ) (name : List ℕ) (body : Body) (x : ℕ) (b c : List ℕ) → Becomes segs s rec name body x b → Becomes segs s rec name body x c → b ≡ c
 one_becomes segs units publics bases s rec name (UnitRef refs) x b c t u = t.2 ∙ (ap (λ (n : ℕ). n ∷ []) (units name t.0 u.0 t.1 u.1) ∙ sym u.2)
 one_becomes segs units publics bases s rec name (PublRef refs) x b c t u = t.2 ∙ (ap (λ (n : ℕ). operand_bytes (displacement_at s.code x + n)) (publics name t.0 u.0 t.1 u.1) ∙ sym u.2)
@@ -135,17 +137,17 @@ one_becomes segs units publics bases s rec name (ConstDef value) x b c t u = abs
 one_becomes segs units publics bases s rec name (Eof next) x b c t u = absurd t
 
 -- 2. the byte
-module _ (order : Order) (segs : List Segment) (base : IsBase segs (next_of (host_records segs))) (s : Segment) (long : is_linked s.role ≡ true → 2 ≤ length s.code) (outer : (t : ℕ) → is_host s.role ≡ true → table_of order s.code 1 ≡ Some t → HasOuter order s.code t)
-    (hosts : is_host s.role ≡ true → is_linked s.role ≡ true) (plain : is_linked s.role ≡ false → s.records ≡ [])
+module _ (order : Order) (segs : List Segment) (base : IsBase segs (next_of (host_records segs))) (s : Segment) (long : needs_linking s.role ≡ true → 2 ≤ length s.code) (outer : (t : ℕ) → is_host s.role ≡ true → table_of order s.code 1 ≡ Some t → HasOuter order s.code t)
+    (hosts : is_host s.role ≡ true → needs_linking s.role ≡ true) (plain : needs_linking s.role ≡ false → s.records ≡ [])
     (targets : (rec i x : ℕ) (r : Record) → IsReference s rec r i x → (t : Target) × (target_of (known_of segs) (private_offset segs s.slot rec) r ≡ Ok t)) (p : ℕ) (apart : IsOnePlace order s p) where
   abbrev pub edits : List Edit
   edits = summed_edits order segs s
 
   -- a segment with a reference is linked
-  linked_by : (rec i x : ℕ) (r : Record) → IsReference s rec r i x → is_linked s.role ≡ true
-  linked_by rec i x r t = go (is_linked s.role) refl
+  linked_by : (rec i x : ℕ) (r : Record) → IsReference s rec r i x → needs_linking s.role ≡ true
+  linked_by rec i x r t = go (needs_linking s.role) refl
     where
-      go : (b : Bool) → is_linked s.role ≡ b → b ≡ true
+      go : (b : Bool) → needs_linking s.role ≡ b → b ≡ true
       go true e = refl
       go false e = absurd (let none = sym (ap (λ (rs : List Record). slice_get rs rec) (plain e)) ∙ t.0 in cc)
 
@@ -156,10 +158,10 @@ module _ (order : Order) (segs : List Segment) (base : IsBase segs (next_of (hos
   no_edit e f t on = find_none (covers p) (λ (g : Edit). covers p g ≡ true) (λ g. of_test (covers p g)) edits e (t.0, f, t.1, on)
 
   no_number : Uncovered → IsNumberPlace s p → ⊥
-  no_number e n = let c = number_covers order segs s long outer p n in no_edit e (Byte (length s.code - 2) s.slot) c.0 c.1
+  no_number e n = let c = number_covers order segs s long outer p n in no_edit e (Byte s.slot (length s.code - 2)) c.0 c.1
 
   no_size : Uncovered → (t j : ℕ) → IsSizePlace order s t j p → ⊥
-  no_size e t j z = let c = size_covers order segs s long outer p t j (hosts z.0) z in no_edit e (Word (t - 8) (grown_data_size order s.code (total_words segs) t)) c.0 c.1
+  no_size e t j z = let c = size_covers order segs s long outer p t j (hosts z.0) z in no_edit e (Word (grown_data_size order s.code (total_words segs) t) (t - 8)) c.0 c.1
 
   no_reference : Uncovered → (rec i x : ℕ) (r : Record) → Reaches s rec r i x p → ⊥
   no_reference e rec i x r u =
@@ -168,7 +170,7 @@ module _ (order : Order) (segs : List Segment) (base : IsBase segs (next_of (hos
       no_edit e (edit_of s.code t.0 x) c.0 c.1
 
   abbrev pub byte_at : Option Edit → ℕ
-  byte_at o = option_map_or (λ (edit : Edit). slice_index (stored order edit) (p - place_of edit)) o (slice_index s.code p)
+  byte_at o = option_map_or (λ (edit : Edit). slice_index (stored_bytes order edit) (p - place_of edit)) o (slice_index s.code p)
 
   abbrev pub Facts : ℕ → Type 0
   Facts b = IsLinkedByte order segs s p b
@@ -209,7 +211,7 @@ module _ (order : Order) (segs : List Segment) (base : IsBase segs (next_of (hos
           let low = (outer t z.0 z.1).low in
           let at : p - (t - 8) ≡ j = (let e = z.3 in omega (arith, e, low)) in
           ap (λ (g : Edit). byte_at (Some g)) h.3
-          ∙ (ap (λ (n : ℕ). byte_at (Some (Word (n - 8) (grown_data_size order s.code (total_words segs) n)))) same
+          ∙ (ap (λ (n : ℕ). byte_at (Some (Word (grown_data_size order s.code (total_words segs) n) (n - 8)))) same
           ∙ (ap (λ (n : ℕ). slice_index (word_bytes order (grown_data_size order s.code (total_words segs) t)) n) at
           ∙ ap (λ (n : ℕ). slice_index (word_bytes order (grown_data_size order s.code n t)) j) (sym (all_are segs))))
 
@@ -229,9 +231,9 @@ module _ (order : Order) (segs : List Segment) (base : IsBase segs (next_of (hos
 
       mine : (bytes : List ℕ) × Becomes segs s h.0 h.3.name h.3.body h.2 bytes × (byte_at (Some f) ≡ slice_index bytes (p - h.2))
       mine = (
-        stored order whole,
+        stored_bytes order whole,
         becomes order segs base s h.0 h.3.name h.3.body h.1 h.2 t h.4.0.1 h.5.1,
-        ap (λ (g : Edit). byte_at (Some g)) h.5.2 ∙ ap (λ (n : ℕ). slice_index (stored order whole) (p - n)) (edit_place s.code t h.2),
+        ap (λ (g : Edit). byte_at (Some g)) h.5.2 ∙ ap (λ (n : ℕ). slice_index (stored_bytes order whole) (p - n)) (edit_place s.code t h.2),
       )
 
       is_it : (rec i x : ℕ) (r : Record) → Reaches s rec r i x p → (bytes : List ℕ) × Becomes segs s rec r.name r.body x bytes × (byte_at (Some f) ≡ slice_index bytes (p - x))
@@ -250,7 +252,7 @@ module _ (order : Order) (segs : List Segment) (base : IsBase segs (next_of (hos
   covered_by : (f : Edit) → find (covers p) edits ≡ Some f → IsNumber s p f ⊎ (IsSize order segs s p f ⊎ IsOfReference segs s p f)
   covered_by f e = what_covers order segs s long outer p f (find_in (covers p) edits f e) (find_passes (covers p) edits f e)
 
-  pub facts : Facts (linked_byte order (summed order segs s) p)
+  pub facts : Facts (linked_byte order (summed_segment order segs s) p)
   facts = go (find (covers p) edits) refl
     where
       go : (o : Option Edit) → find (covers p) edits ≡ o → Facts (byte_at o)

@@ -18,7 +18,7 @@ use Rattle.ps_words.specs.FaultPlaces.{in_slot}
 use Rattle.ps_words.specs.declared.order.Order.{Order}
 use Rattle.ps_words.specs.declared.fault.Reason.TheVariants as reason
 
--- the first fault of the host's data size is the least that stands
+-- the first fault of the host's data size is the smallest that applies
 pub step_9 : (order : Order) (host : List ℕ) (libs : List (List ℕ)) → Least (Precedes OfDataSize) (InDataSize order host libs) (data_fault order (segments order host libs))
 unfolding data_fault
 step_9 order host libs =

@@ -15,7 +15,7 @@ use Rattle.ps_linkinfo.specs.Records.{refs_of}
 use Rattle.ps_linkinfo.specs.declared.record.Body.{Body}
 use Rattle.ps_linkinfo.specs.declared.record.Body.TheVariants.{UnitRef, PublRef, PrivRef, PublDef, ConstDef, Eof}
 use Rattle.ps_linkinfo.specs.declared.record.LinkRecord.{LinkRecord as Record}
-use Rattle.ps_codefile.specs.Roles.{is_linked, is_host}
+use Rattle.ps_codefile.specs.Roles.{needs_linking, is_host}
 use Rattle.ps_resolve.specs.Sources.{Segment, host_records, units_of}
 use Rattle.ps_resolve.specs.Symbols.{definitions, definition_of}
 use Rattle.ps_resolve.specs.Operands.{edit_of}
@@ -59,7 +59,7 @@ of_numbered {A} n (x ∷ xs) zero p e =
     first a b e = cc
 of_numbered n (x ∷ xs) (suc k) p e = let r = of_numbered (n + 1) xs k p e in ((let h = r.0 in omega (arith, h)), r.1)
 
--- an item stands at the same place of the numbered list, with its number
+-- an item is at the same place of the numbered list, with its number
 in_numbered : {A : Type 0} (n : ℕ) (xs : List A) (k : ℕ) (x : A) → slice_get xs k ≡ Some x → slice_get (enumerate_from n xs) k ≡ Some (n + k, x)
 in_numbered n [] k x e = absurd (cc)
 in_numbered {A} n (y ∷ xs) zero x e =
@@ -107,10 +107,10 @@ edit_width segs off name (PublRef refs) i x code t g e = go (definition_of name 
 
 -- what an edit is that covers a place: the number, the data size, or what a reference becomes
 abbrev pub IsNumber : Segment → ℕ → Edit → Type 0
-IsNumber s p f = IsNumberPlace s p × (f ≡ Byte (length s.code - 2) s.slot)
+IsNumber s p f = IsNumberPlace s p × (f ≡ Byte s.slot (length s.code - 2))
 
 abbrev pub IsSize : Order → List Segment → Segment → ℕ → Edit → Type 0
-IsSize order segs s p f = (t : ℕ) × (j : ℕ) × IsSizePlace order s t j p × (f ≡ Word (t - 8) (grown_data_size order s.code (total_words segs) t))
+IsSize order segs s p f = (t : ℕ) × (j : ℕ) × IsSizePlace order s t j p × (f ≡ Word (grown_data_size order s.code (total_words segs) t) (t - 8))
 
 abbrev pub IsOfReference : List Segment → Segment → ℕ → Edit → Type 0
 IsOfReference segs s p f =
@@ -119,12 +119,12 @@ IsOfReference segs s p f =
 pub same_item : {A : Type 0} (a b : A) → ◌≡◌ {A = Option A} (Some a) (Some b) → a ≡ b
 same_item a b e = cc
 
-module _ (order : Order) (segs : List Segment) (s : Segment) (long : is_linked s.role ≡ true → 2 ≤ length s.code) (outer : (t : ℕ) → is_host s.role ≡ true → table_of order s.code 1 ≡ Some t → HasOuter order s.code t) where
+module _ (order : Order) (segs : List Segment) (s : Segment) (long : needs_linking s.role ≡ true → 2 ≤ length s.code) (outer : (t : ℕ) → is_host s.role ≡ true → table_of order s.code 1 ≡ Some t → HasOuter order s.code t) where
   abbrev pub number : Edit
-  number = Byte (length s.code - 2) s.slot
+  number = Byte s.slot (length s.code - 2)
 
   abbrev pub size : ℕ → Edit
-  size t = Word (t - 8) (grown_data_size order s.code (total_words segs) t)
+  size t = Word (grown_data_size order s.code (total_words segs) t) (t - 8)
 
   abbrev pub own : List Edit
   own = if is_host s.role then data_edits order (total_words segs) s.code else []
@@ -135,10 +135,10 @@ module _ (order : Order) (segs : List Segment) (s : Segment) (long : is_linked s
   abbrev pub others : List Edit
   others = flat_map (λ (r : ℕ × Record). record_edits (known_of segs) s.code (private_offset segs s.slot r.0) r.1) (enumerate_from 0 s.records)
 
-  all_linked : is_linked s.role ≡ true → summed_edits order segs s ≡ number ∷ (own ++ others)
+  all_linked : needs_linking s.role ≡ true → summed_edits order segs s ≡ number ∷ (own ++ others)
   all_linked h = ap (λ (b : Bool). if b then number ∷ (own ++ others) else []) h
 
-  is_number : (p : ℕ) (f : Edit) → is_linked s.role ≡ true → number ≡ f → covers p f ≡ true → IsNumber s p f
+  is_number : (p : ℕ) (f : Edit) → needs_linking s.role ≡ true → number ≡ f → covers p f ≡ true → IsNumber s p f
   is_number p f h same on =
       let c = covered (length s.code - 2) p 1 (ap (covers p) same ∙ on) in
       let l = long h in
@@ -183,9 +183,9 @@ module _ (order : Order) (segs : List Segment) (s : Segment) (long : is_linked s
 
   -- an edit that covers a place is one of these
   pub what_covers : (p : ℕ) (f : Edit) → In f (summed_edits order segs s) → covers p f ≡ true → IsNumber s p f ⊎ (IsSize order segs s p f ⊎ IsOfReference segs s p f)
-  what_covers p f t on = go (is_linked s.role) refl t.0 t.1
+  what_covers p f t on = go (needs_linking s.role) refl t.0 t.1
     where
-      go : (b : Bool) → is_linked s.role ≡ b → (k : ℕ) → slice_get (if b then number ∷ (own ++ others) else []) k ≡ Some f → IsNumber s p f ⊎ (IsSize order segs s p f ⊎ IsOfReference segs s p f)
+      go : (b : Bool) → needs_linking s.role ≡ b → (k : ℕ) → slice_get (if b then number ∷ (own ++ others) else []) k ≡ Some f → IsNumber s p f ⊎ (IsSize order segs s p f ⊎ IsOfReference segs s p f)
       go false h k e = absurd (cc)
       go true h zero e = inl (is_number p f h (same_item number f e) on)
       go true h (suc k) e = elim (of_joined own others f (k, e)) [ inl u ↦ inr (inl (is_size p f u on)) | inr u ↦ inr (inr (is_reference p f u on)) ]
@@ -197,10 +197,10 @@ module _ (order : Order) (segs : List Segment) (s : Segment) (long : is_linked s
     covering (length s.code - 2) p 1 (let h = n.1 in omega (arith, h)) (let h = n.1 in omega (arith, h)),
   )
 
-  behind : (f : Edit) → is_linked s.role ≡ true → In f (own ++ others) → In f (summed_edits order segs s)
+  behind : (f : Edit) → needs_linking s.role ≡ true → In f (own ++ others) → In f (summed_edits order segs s)
   behind f h t = subst (λ (es : List Edit). In f es) (sym (all_linked h)) (suc t.0, t.1)
 
-  pub size_covers : (p t j : ℕ) → is_linked s.role ≡ true → IsSizePlace order s t j p → In (size t) (summed_edits order segs s) × (covers p (size t) ≡ true)
+  pub size_covers : (p t j : ℕ) → needs_linking s.role ≡ true → IsSizePlace order s t j p → In (size t) (summed_edits order segs s) × (covers p (size t) ≡ true)
   size_covers p t j h z =
       let l = (outer t z.0 z.1).low in
       let a = z.2 in
@@ -209,7 +209,7 @@ module _ (order : Order) (segs : List Segment) (s : Segment) (long : is_linked s
       ap (λ (b : Bool). if b then data_edits order (total_words segs) s.code else []) z.0 ∙ ap (λ (o : Option ℕ). option_map_or (λ (t : ℕ). size t ∷ []) o []) z.1 in
       (behind (size t) h (in_left own others (size t) (zero, ap (λ (es : List Edit). slice_get es 0) there)), covering (t - 8) p 2 (omega (arith, l, a, b)) (omega (arith, l, a, b)))
 
-  pub reference_covers : (p rec i x : ℕ) (r : Record) (t : Target) → is_linked s.role ≡ true → Reaches s rec r i x p → target_of (known_of segs) (offset rec) r ≡ Ok t → In (edit_of s.code t x) (summed_edits order segs s) × (covers p (edit_of s.code t x) ≡ true)
+  pub reference_covers : (p rec i x : ℕ) (r : Record) (t : Target) → needs_linking s.role ≡ true → Reaches s rec r i x p → target_of (known_of segs) (offset rec) r ≡ Ok t → In (edit_of s.code t x) (summed_edits order segs s) × (covers p (edit_of s.code t x) ≡ true)
   reference_covers p rec i x r t h u e =
       let g = edit_place s.code t x in
       let w = edit_width segs (offset rec) r.name r.body i x s.code t u.0.1 e in

@@ -13,7 +13,7 @@ at_left [] ys i a e = absurd (cc)
 at_left (x ∷ xs) ys zero a e = e
 at_left (x ∷ xs) ys (suc i) a e = at_left xs ys i a e
 
--- right behind the first of two joined lists stands the first item of the second
+-- right after the first of two joined lists is the first item of the second
 pub at_seam : {A : Type 0} (xs : List A) (y : A) (ys : List A) (k : ℕ) → k ≡ length xs → slice_get (xs ++ y ∷ ys) k ≡ Some y
 at_seam {A} xs y ys k e = ap (λ (n : ℕ). slice_get (xs ++ y ∷ ys) n) e ∙ go xs
   where

@@ -1,4 +1,4 @@
--- The least of what stands, part by part.
+-- The smallest of what applies, part by part.
 use Rattle.std.proofs.Common.{◌≡◌, ℕ, zero, suc, ◌+◌, ◌<◌, ◌≤◌, List, [], ◌∷◌, ◌++◌, Option, Some, None, Bool, true, false, refl, sym, ap, subst, ◌∙◌, inl, inr, arith}
 use Rattle.std.specs.Prelude.{◌⊎◌, if◌then◌else◌}
 use Rattle.std.specs.Bool.{Decides}
@@ -9,7 +9,7 @@ use Rattle.ps_resolve.specs.First.{Least, nothing, this}
 use Rattle.ps_resolve.specs.Searches.{first_of, fault_if}
 use Rattle.ps_resolve.specs.Standing.Phrases.{SomeItem}
 
--- stands otherwise said
+-- is otherwise said
 pub least_same : {X : Type 0} {B : X → X → Type 0} {S T : X → Type 0} {o : Option X} → ((x : X) → S x → T x) → ((x : X) → T x → S x) → Least B S o → Least B T o
 least_same f g (nothing n) = nothing (λ y t. n y (g y t))
 least_same f g (this x s l) = this x (f x s) (λ y t. l y (g y t))
@@ -40,7 +40,7 @@ pub least_map : {A X : Type 0} {B : X → X → Type 0} {S : A → Type 0} {o : 
 least_map h (nothing n) = nothing (λ y t. n t.0 t.2)
 least_map {B} h (this a s l) = this (h a) (a, refl, s) (λ y t. elim (l t.0 t.2) [ inl e ↦ inl (t.1 ∙ ap h e) | inr b ↦ inr (subst (λ z. B (h a) z) (sym t.1) b) ])
 
--- what stands only where there is an a
+-- what applies only where there is an a
 pub least_then : {A X : Type 0} {B : X → X → Type 0} {S : A → X → Type 0} (f : A → Option X) (o : Option A) → ((a : A) → o ≡ Some a → Least B (S a) (f a)) → Least B (λ x. (a : A) × (o ≡ Some a) × S a x) (option_and_then f o)
 least_then f None each = nothing (λ y t. absurd (let e = t.1 in cc))
 least_then {S} f (Some a) each = least_same (λ x s. (a, refl, s)) (λ x t. subst (λ b. S b x) (let e = t.1 in cc) t.2) (each a refl)
@@ -82,7 +82,7 @@ least_items {S} f items each apart =
 pub at_apart : {X P Q : Type 0} (B : X → X → Type 0) (f g : X) → B f g → (x y : X) → (x ≡ f) × P → (y ≡ g) × Q → B x y
 at_apart B f g h x y s t = subst (λ z. B z y) (sym s.0) (subst (λ z. B f z) (sym t.0) h)
 
--- what stands only under a condition
+-- what applies only under a condition
 pub least_guard : {X P : Type 0} {B : X → X → Type 0} {S : X → Type 0} {o : Option X} (b : Bool) → Decides b P → Least B S o → Least B (λ x. P × S x) (if b then o else None)
 least_guard true d l = least_same (λ x s. (d.0 refl, s)) (λ x t. t.1) l
 least_guard false d l = nothing (λ x t. false≢true (d.1 t.0))

@@ -13,6 +13,7 @@ pub mod PrivateOffsets
 pub mod Privates
 pub mod References
 pub mod Whole
+pub mod OneRow
 pub mod AddedUnits
 pub mod SummedOffsets
 pub mod SoundCodes
@@ -22,5 +23,7 @@ pub mod OneHost
 pub mod EditsAt
 pub mod ByteFacts
 pub mod LinkedBytes
+pub mod NotWanted
 pub mod UnitSources
+pub mod OneList
 pub mod SegmentOrigins

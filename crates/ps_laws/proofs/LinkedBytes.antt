@@ -1,4 +1,4 @@
--- Where no fault stands, the edits of a link make the linked bytes, and each place has one.
+-- Where no fault applies, the edits of a link make the linked bytes, and each place has one.
 use Rattle.std.proofs.Common.{◌≡◌, ℕ, suc, ◌<◌, ◌≤◌, List, [], ◌∷◌, length, map, Some, None, Result, Ok, Err, Bool, true, refl, sym, subst, inl}
 use Rattle.std.specs.Prelude.{All}
 use Rattle.std.specs.List.{slice_get}
@@ -11,15 +11,15 @@ use Rattle.ps_resolve.specs.Standing.Segments.{IsSegment}
 use Rattle.ps_resolve.specs.Standing.Sources.{AreBad}
 use Rattle.ps_resolve.specs.Standing.References.{RecordHas}
 use Rattle.ps_resolve.specs.Standing.Privates.{private_offset}
-use Rattle.ps_resolve.specs.LinkedBytes.{IsReference, IsLinkedByte, IsOnePlace, segments_of, summed, HaveLinkedBytes, HaveOneLinkedByte, HaveApartPlaces}
+use Rattle.ps_resolve.specs.LinkedBytes.{IsReference, IsLinkedByte, IsOnePlace, segments_of, summed_segment, HaveLinkedBytes, HaveOneLinkedByte, HaveApartPlaces}
 use Rattle.ps_resolve.specs.Standing.{NoneStands}
 use Rattle.ps_linkinfo.specs.declared.record.LinkRecord.{LinkRecord as Record}
 use Rattle.ps_resolve.specs.First.{Least, this}
-use Rattle.ps_codefile.specs.Roles.{is_linked, is_host}
+use Rattle.ps_codefile.specs.Roles.{needs_linking, is_host}
 use Rattle.ps_resolve.specs.Sources.{Segment, order_of}
 use Rattle.ps_resolve.specs.Faults.{sources_fault}
 use Rattle.ps_resolve.specs.References.{target_of}
-use Rattle.ps_resolve.specs.Linking.{Edited, edited, known_of, linked_byte}
+use Rattle.ps_resolve.specs.Linking.{Edited, edited_segments, known_of, linked_byte}
 use Rattle.ps_resolve.specs.declared.references.Target.{Target}
 use Rattle.ps_laws.proofs.Steps.{Ranked}
 use Rattle.ps_laws.proofs.Sources.{OneStop}
@@ -53,7 +53,7 @@ module _ (law : OneStop) (host : List ℕ) (libs : List (List ℕ)) (none : None
   places = all_items (λ (s : Segment). (p : ℕ) → IsOnePlace (order_of host) s p) (segments_of host libs) (λ k s e p. apart s (of_segments (order_of host) host libs k s e) p)
 
   module _ (s : Segment) (is : IsSegment (order_of host) host libs s) where
-    long_code : is_linked s.role ≡ true → 2 ≤ length s.code
+    long_code : needs_linking s.role ≡ true → 2 ≤ length s.code
     long_code h = long (order_of host) s.code (is_host s.role) ((sound s is).tables h)
 
     outer_block : (t : ℕ) → is_host s.role ≡ true → table_of (order_of host) s.code 1 ≡ Some t → HasOuter (order_of host) s.code t
@@ -73,7 +73,7 @@ module _ (law : OneStop) (host : List ℕ) (libs : List (List ℕ)) (none : None
         go (Ok t) e l = (t, e)
         go (Err why) e l = absurd (bad why l)
 
-    is_byte : (p : ℕ) → IsLinkedByte (order_of host) (segments_of host libs) s p (linked_byte (order_of host) (summed (order_of host) (segments_of host libs) s) p)
+    is_byte : (p : ℕ) → IsLinkedByte (order_of host) (segments_of host libs) s p (linked_byte (order_of host) (summed_segment (order_of host) (segments_of host libs) s) p)
     is_byte p = facts (order_of host) (segments_of host libs) (base_there host libs none read.0 read.1) s long_code outer_block (host_linked s.role) (sound s is).plain targets p (apart s is p)
 
     one_at : (p b c : ℕ) → IsLinkedByte (order_of host) (segments_of host libs) s p b → IsLinkedByte (order_of host) (segments_of host libs) s p c → b ≡ c
@@ -86,9 +86,9 @@ module _ (law : OneStop) (host : List ℕ) (libs : List (List ℕ)) (none : None
 
   pub bytes : HaveLinkedBytes host libs
   bytes =
-      All-same IsMade (edited (order_of host) (segments_of host libs)) (map (summed (order_of host) (segments_of host libs)) (segments_of host libs)) (offsets host libs)
-      (All-map IsMade (summed (order_of host) (segments_of host libs)) (segments_of host libs)
-      (all_items (λ (s : Segment). IsMade (summed (order_of host) (segments_of host libs) s)) (segments_of host libs) (λ k s e p lt. is_byte s (of_segments (order_of host) host libs k s e) p)))
+      All-same IsMade (edited_segments (order_of host) (segments_of host libs)) (map (summed_segment (order_of host) (segments_of host libs)) (segments_of host libs)) (offsets host libs)
+      (All-map IsMade (summed_segment (order_of host) (segments_of host libs)) (segments_of host libs)
+      (all_items (λ (s : Segment). IsMade (summed_segment (order_of host) (segments_of host libs) s)) (segments_of host libs) (λ k s e p lt. is_byte s (of_segments (order_of host) host libs k s e) p)))
 
   abbrev IsOne : Segment → Type 0
   IsOne s = (p b c : ℕ) → IsLinkedByte (order_of host) (segments_of host libs) s p b → IsLinkedByte (order_of host) (segments_of host libs) s p c → b ≡ c

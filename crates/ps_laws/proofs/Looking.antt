@@ -8,7 +8,8 @@ use Rattle.std.proofs.lemmas.Bool.Decides.{Decides-or, Decides-like}
 use Rattle.ps_resolve.specs.Standing.Phrases.{SomeItem}
 pub use Rattle.ps_resolve.proofs.LookingBack.{of_test, any_of_take}
 
--- the test of all items says whether P holds of one, where the test of each says whether P holds of it
+-- the test of all items says whether P holds of one, where the test of each says whether P holds of
+-- it
 pub any_of_items : {A : Type 0} (test : A → Bool) (P : A → Type 0) → ((a : A) → Decides (test a) (P a)) → (items : List A) → Decides (list_any test items) (SomeItem items (λ i q. P q))
 any_of_items test P d [] = (λ e. absurd (false≢true e), λ t. absurd (let e = t.2 in cc))
 any_of_items {A} test P d (a ∷ items) =

@@ -1,4 +1,5 @@
--- Where no fault stands, the host has one segment of its own, no two of its definitions have a name in common, and one base offset.
+-- Where no fault applies, the host has one segment of its own, no two of its definitions have a
+-- name in common, and one base offset.
 use Rattle.std.proofs.Common.{◌≡◌, ℕ, zero, suc, ◌+◌, ◌<◌, List, [], ◌∷◌, length, Option, Some, None, Bool, true, false, refl, sym, ap, subst, ◌∙◌, inl, inr, arith}
 use Rattle.std.specs.Prelude.{if◌then◌else◌, ◌==◌, filter_map, slice_get, unwrap_or}
 use Rattle.std.specs.List.{find, cons_option}
@@ -7,12 +8,12 @@ use Rattle.std.proofs.lemmas.Bool.{cases_lt, false≢true}
 use Rattle.ps_codefile.specs.Dictionary.{slots, entry_at, role_of}
 use Rattle.ps_codefile.specs.declared.entry.Role.{Role}
 use Rattle.ps_codefile.specs.declared.entry.Role.TheVariants as role
-use Rattle.ps_linkinfo.specs.Counts.{is_definition, next_in, next_of}
+use Rattle.ps_linkinfo.specs.RecordCounts.{is_definition, next_in, next_of}
 use Rattle.ps_linkinfo.specs.Records.{EndsOnce, is_end, is_eof}
 use Rattle.ps_linkinfo.specs.declared.record.Body.{Body}
 use Rattle.ps_linkinfo.specs.declared.record.Body.TheVariants.{UnitRef, PublRef, PrivRef, PublDef, ConstDef, Eof}
 use Rattle.ps_linkinfo.specs.declared.record.LinkRecord.{LinkRecord as Record}
-use Rattle.ps_resolve.specs.Added.{added, added_fault, segment_at}
+use Rattle.ps_resolve.specs.Added.{added_segments, added_fault, segment_at}
 use Rattle.ps_resolve.specs.Faults.{is_role, sources_fault}
 use Rattle.ps_resolve.specs.LinkedBytes.{IsHostRecord, IsPublic, IsBase, segments_of}
 use Rattle.ps_codefile.specs.Roles.{is_empty, is_host}
@@ -78,7 +79,7 @@ module _ (host : List ℕ) (libs : List (List ℕ)) (none : NoneStands host libs
           let r = own_is (order_of host) host libs s.slot s e in
           subst (λ (x : Role). HasRole (order_of host) host s.slot x) (only r.0 (sym (ap is_host r.2) ∙ is)) r.1
 
-      not_added : (j : ℕ) → slice_get (added (order_of host) host libs) j ≡ Some s → ⊥
+      not_added : (j : ℕ) → slice_get (added_segments (order_of host) host libs) j ≡ Some s → ⊥
       not_added j e =
           let g = segment_named (order_of host) host libs ended j s e in
           let p = name_placed (order_of host) host libs ended j g.0 g.1 in
@@ -86,10 +87,10 @@ module _ (host : List ℕ) (libs : List (List ℕ)) (none : NoneStands host libs
           let wanted : s.role ≡ role.Wanted = sym (ap (λ (x : Segment). x.role) it) ∙ (added_is (order_of host) host libs g.0 p.0 p.1 p.4).2 in
           false≢true (sym (ap is_host wanted) ∙ is)
 
-      go : (o : Option Segment) → own_segment (order_of host) host libs s.slot ≡ o → (b : Bool) → option_or o (if b then find (λ (q : Segment). q.slot == s.slot) (added (order_of host) host libs) else None) ≡ Some s → HasRole (order_of host) host s.slot role.Host
+      go : (o : Option Segment) → own_segment (order_of host) host libs s.slot ≡ o → (b : Bool) → option_or o (if b then find (λ (q : Segment). q.slot == s.slot) (added_segments (order_of host) host libs) else None) ≡ Some s → HasRole (order_of host) host s.slot role.Host
       go (Some q) is_own b e = own (is_own ∙ e)
       go None is_own false e = absurd (cc)
-      go None is_own true e = let u = found_in_slot s.slot (added (order_of host) host libs) s e in absurd (not_added u.0 (u.2 ∙ ap (λ (q : Segment). Some q) u.3.0))
+      go None is_own true e = let u = found_in_slot s.slot (added_segments (order_of host) host libs) s e in absurd (not_added u.0 (u.2 ∙ ap (λ (q : Segment). Some q) u.3.0))
 
   -- there is one at most
   not_two : (s q : Segment) → IsSegment (order_of host) host libs s → IsSegment (order_of host) host libs q → is_host s.role ≡ true → is_host q.role ≡ true → s.slot < q.slot → ⊥
@@ -134,7 +135,7 @@ module _ (host : List ℕ) (libs : List (List ℕ)) (none : NoneStands host libs
       let h = host_slot in
       let f = of_role (order_of host) host libs h.0 role.Host (source_none (order_of host) host libs fine h.0 h.1) h.2 in
       let m = own_made (order_of host) host libs h.0 role.Host (0, h.0) h.2 refl f.1 in
-      let at : segment_at (order_of host) host libs h.0 ≡ Some m.0 = ap (λ (o : Option Segment). option_or o (if is_role is_empty (order_of host) host h.0 then find (λ (q : Segment). q.slot == h.0) (added (order_of host) host libs) else None)) m.1 in
+      let at : segment_at (order_of host) host libs h.0 ≡ Some m.0 = ap (λ (o : Option Segment). option_or o (if is_role is_empty (order_of host) host h.0 then find (λ (q : Segment). q.slot == h.0) (added_segments (order_of host) host libs) else None)) m.1 in
       let i = in_segments (order_of host) host libs h.0 m.0 h.1 at in
       let r = own_is (order_of host) host libs h.0 m.0 m.1 in
       let same : r.0 ≡ role.Host = (let a = r.1 in let b = h.2 in cc) in

@@ -1,11 +1,11 @@
--- Where no fault stands, no two units of a link have a name in common.
+-- Where no fault applies, no two units of a link have a name in common.
 use Rattle.std.proofs.Common.{◌≡◌, ℕ, ◌<◌, List, Option, Some, None, Bool, true, false, refl, sym, ap, subst, ◌∙◌, inl, inr, arith}
 use Rattle.std.specs.Prelude.{◌⊎◌, if◌then◌else◌, ◌==◌}
 use Rattle.std.specs.List.{find, slice_get}
 use Rattle.std.specs.Option.{option_or}
 use Rattle.std.proofs.lemmas.Bool.{cases_lt}
 use Rattle.ps_codefile.specs.Dictionary.{slots, entry_at}
-use Rattle.ps_resolve.specs.Added.{added, added_fault, segment_at, segments}
+use Rattle.ps_resolve.specs.Added.{added_segments, added_fault, segment_at, segments}
 use Rattle.ps_resolve.specs.Standing.Keys.{OfSlots}
 use Rattle.ps_resolve.specs.Standing.Slots.{HasRole, IsUnitSlot}
 use Rattle.ps_resolve.specs.Standing.Segments.{IsSegment}
@@ -39,7 +39,7 @@ module _ (host : List ℕ) (libs : List (List ℕ)) (none : NoneStands host libs
   IsOwn s = (s.slot < 16) × IsUnitSlot (order_of host) host s.slot × ((entry_at (order_of host) host s.slot).name ≡ s.name)
 
   abbrev IsAdded : Segment → Type 0
-  IsAdded s = (j : ℕ) × (slice_get (added (order_of host) host libs) j ≡ Some s)
+  IsAdded s = (j : ℕ) × (slice_get (added_segments (order_of host) host libs) j ≡ Some s)
 
   kind_of : (s : Segment) → IsSegment (order_of host) host libs s → is_unit s.role ≡ true → IsOwn s ⊎ IsAdded s
   kind_of s t unit = go (own_segment (order_of host) host libs s.slot) refl (is_role is_empty (order_of host) host s.slot) t.1
@@ -52,10 +52,10 @@ module _ (host : List ℕ) (libs : List (List ℕ)) (none : NoneStands host libs
             | inr u ↦ (t.0, inr (subst (λ (x : Role). HasRole (order_of host) host s.slot x) u r.1), sym r.3)
           ]
 
-      go : (o : Option Segment) → own_segment (order_of host) host libs s.slot ≡ o → (b : Bool) → option_or o (if b then find (λ (q : Segment). q.slot == s.slot) (added (order_of host) host libs) else None) ≡ Some s → IsOwn s ⊎ IsAdded s
+      go : (o : Option Segment) → own_segment (order_of host) host libs s.slot ≡ o → (b : Bool) → option_or o (if b then find (λ (q : Segment). q.slot == s.slot) (added_segments (order_of host) host libs) else None) ≡ Some s → IsOwn s ⊎ IsAdded s
       go (Some q) is b e = inl (own (is ∙ e))
       go None is false e = absurd (cc)
-      go None is true e = let u = found_in_slot s.slot (added (order_of host) host libs) s e in inr (u.0, u.2 ∙ ap (λ (q : Segment). Some q) u.3.0)
+      go None is true e = let u = found_in_slot s.slot (added_segments (order_of host) host libs) s e in inr (u.0, u.2 ∙ ap (λ (q : Segment). Some q) u.3.0)
 
   -- two of the host's own
   before_own : (s q : Segment) → IsOwn s → IsOwn q → s.name ≡ q.name → s.slot < q.slot → ⊥
@@ -76,7 +76,7 @@ module _ (host : List ℕ) (libs : List (List ℕ)) (none : NoneStands host libs
   not_both s q a b same =
       let g = segment_named (order_of host) host libs ended b.0 q b.1 in
       let named : q.name ≡ g.0.name = name_of q b g.0 g.1 in
-      ((units_are (order_of host) host libs fine ended).sought b.0 g.0 g.1).1 (s.slot, a.0, (a.1, a.2 ∙ (same ∙ named)))
+      ((units_are (order_of host) host libs fine ended).requested b.0 g.0 g.1).1 (s.slot, a.0, (a.1, a.2 ∙ (same ∙ named)))
 
   -- two added ones
   same_added : (s q : Segment) → IsAdded s → IsAdded q → s.name ≡ q.name → s ≡ q
@@ -84,7 +84,7 @@ module _ (host : List ℕ) (libs : List (List ℕ)) (none : NoneStands host libs
       let g = segment_named (order_of host) host libs ended a.0 s a.1 in
       let h = segment_named (order_of host) host libs ended b.0 q b.1 in
       let at = (units_are (order_of host) host libs fine ended).once a.0 b.0 g.0 h.0 g.1 h.1 (sym (name_of s a g.0 g.1) ∙ (same ∙ name_of q b h.0 h.1)) in
-      let there : slice_get (added (order_of host) host libs) a.0 ≡ Some q = subst (λ (n : ℕ). slice_get (added (order_of host) host libs) n ≡ Some q) (sym at) b.1 in
+      let there : slice_get (added_segments (order_of host) host libs) a.0 ≡ Some q = subst (λ (n : ℕ). slice_get (added_segments (order_of host) host libs) n ≡ Some q) (sym at) b.1 in
       one s q (sym a.1 ∙ there)
     where
       one : (x y : Segment) → ◌≡◌ {A = Option Segment} (Some x) (Some y) → x ≡ y

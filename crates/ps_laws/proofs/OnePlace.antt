@@ -1,4 +1,4 @@
--- Where no fault stands, no place of a segment is covered twice.
+-- Where no fault applies, no place of a segment is covered twice.
 use Rattle.std.proofs.Common.{◌≡◌, ℕ, List, [], ◌∷◌, true, refl, sym, subst, inl, inr, arith}
 use Rattle.std.proofs.lemmas.Bool.{cases_lt, false≢true}
 use Rattle.ps_codefile.specs.Procedures.{is_reserved}
@@ -12,14 +12,14 @@ use Rattle.ps_codefile.specs.declared.entry.Role.{Role}
 use Rattle.ps_codefile.specs.declared.entry.Role.TheVariants as role
 use Rattle.ps_linkinfo.specs.declared.record.LinkRecord.{LinkRecord as Record}
 use Rattle.ps_resolve.specs.First.{Before}
-use Rattle.ps_codefile.specs.Roles.{is_linked, is_host}
+use Rattle.ps_codefile.specs.Roles.{needs_linking, is_host}
 use Rattle.ps_resolve.specs.Sources.{Segment, order_of}
 use Rattle.ps_laws.proofs.SoundCodes.{IsSound, HasOuter, outer, number_reserved, size_reserved, own_apart}
 use Rattle.ps_words.specs.FaultPlaces.{in_reference}
 use Rattle.ps_words.specs.declared.fault.Reason.{Reason}
 use Rattle.ps_words.specs.declared.fault.Reason.TheVariants as reason
 
-pub host_linked : (r : Role) → is_host r ≡ true → is_linked r ≡ true
+pub host_linked : (r : Role) → is_host r ≡ true → needs_linking r ≡ true
 host_linked role.Host h = refl
 host_linked other h = absurd (false≢true h)
 
@@ -49,7 +49,7 @@ module _ (host : List ℕ) (libs : List (List ℕ)) (none : NoneStands host libs
     ]
   ]
 
-  -- where the outer block's table stands
+  -- where the outer block's table is
   pub outer_at : (t j p : ℕ) → IsSizePlace (order_of host) s t j p → HasOuter (order_of host) s.code t
   outer_at t j p h = outer (order_of host) s.code t (λ bad. sound.tables (host_linked s.role h.0) (subst (λ b. AreBad (order_of host) s.code b) (sym h.0) bad)) h.1
 

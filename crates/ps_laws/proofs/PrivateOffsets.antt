@@ -1,4 +1,5 @@
--- The offset of a private is the base offset of the host's end mark, and the words of all segments before and of the records before its own.
+-- The offset of a private is the base offset of the host's end mark, and the words of all segments
+-- before and of the records before its own.
 use Rattle.std.proofs.Common.{◌≡◌, ℕ, ◌+◌, ◌<◌, ◌≤◌, List, [], ◌∷◌, ◌++◌, take, map, Option, Some, None, Bool, true, false, refl, sym, ap, subst, ◌∙◌, arith}
 use Rattle.std.specs.Prelude.{if◌then◌else◌, ◌==◌, nat_lt, sum_by}
 use Rattle.std.specs.List.{flat_map}
@@ -8,13 +9,13 @@ use Rattle.std.proofs.lemmas.List.Sums.{sum_by-append, sum_by-cons}
 use Rattle.ps_linkinfo.specs.declared.record.LinkRecord.{LinkRecord as Record}
 use Rattle.ps_resolve.specs.Sources.{Segment, host_records}
 use Rattle.ps_resolve.specs.Privates.{words_in, private_words, owner_of, all_words, total_words}
-use Rattle.ps_linkinfo.specs.Counts.{next_of}
+use Rattle.ps_linkinfo.specs.RecordCounts.{next_of}
 use Rattle.ps_resolve.specs.LinkedBytes.{all_private_words}
 use Rattle.ps_resolve.specs.Standing.Privates.{records_before, private_offset}
 use Rattle.ps_resolve.specs.References.{words_taken}
 use Rattle.ps_laws.proofs.Segments.{Ascends}
 
--- segments in lesser slots
+-- segments in smaller slots
 abbrev pub AreBelow : ℕ → List Segment → Type 0
 AreBelow slot [] = Unit {0}
 AreBelow slot (s ∷ ss) = (s.slot < slot) × AreBelow slot ss
@@ -52,7 +53,7 @@ words_are (r ∷ rs) =
     let c = one_more r rs in
     omega (arith, a, b, c)
 
--- which records of a segment stand before one of a slot
+-- which records of a segment are before one of a slot
 true_lt : (a b : ℕ) → a < b → nat_lt a b ≡ true
 true_lt a b h = grind (arith, nat_tests)
 
@@ -68,13 +69,13 @@ true_eq a = grind (arith, nat_tests)
 of_lesser : (slot rec : ℕ) (s : Segment) → s.slot < slot → records_before slot rec s ≡ s.records
 of_lesser slot rec s h = ap (λ (b : Bool). if b then s.records else (if s.slot == slot then take rec s.records else [])) (true_lt s.slot slot h)
 
--- of a greater slot no record stands before
+-- of a greater slot no record is before
 of_greater : (slot rec : ℕ) (s : Segment) → slot < s.slot → records_before slot rec s ≡ []
 of_greater slot rec s h =
     ap (λ (b : Bool). if b then s.records else (if s.slot == slot then take rec s.records else [])) (false_lt s.slot slot (omega (arith, h)))
     ∙ ap (λ (b : Bool). if b then take rec s.records else []) (false_eq s.slot slot h)
 
--- of the slot itself as many records stand before as the record's number says
+-- of the slot itself as many records are before as the record's number says
 of_same : (rec : ℕ) (s : Segment) → records_before s.slot rec s ≡ take rec s.records
 of_same rec s =
     ap (λ (b : Bool). if b then s.records else (if s.slot == s.slot then take rec s.records else [])) (false_lt s.slot s.slot (omega arith))
@@ -86,7 +87,7 @@ before slot rec ss = words (flat_map (records_before slot rec) ss)
 next_segment : (slot rec : ℕ) (s : Segment) (ss : List Segment) → before slot rec (s ∷ ss) ≡ words (records_before slot rec s) + before slot rec ss
 next_segment slot rec s ss = sum_by-append (λ (r : Record). words_taken r.body) (records_before slot rec s) (flat_map (records_before slot rec) ss)
 
--- of segments in lesser slots all words stand before
+-- of segments in smaller slots all words are before
 all_before : (slot rec : ℕ) (ss : List Segment) → AreBelow slot ss → before slot rec ss ≡ all_words (map owner_of ss)
 all_before slot rec [] h = refl
 all_before slot rec (s ∷ ss) h =
@@ -96,7 +97,7 @@ all_before slot rec (s ∷ ss) h =
     let d = all_before slot rec ss h.1 in
     omega (arith, a, b, c, d)
 
--- of segments in greater slots no words stand before
+-- of segments in greater slots no words are before
 none_behind : (slot rec from : ℕ) (ss : List Segment) → slot < from → Ascends from ss → before slot rec ss ≡ 0
 none_behind slot rec from [] h a = refl
 none_behind slot rec from (s ∷ ss) h a =
@@ -107,7 +108,8 @@ none_behind slot rec from (s ∷ ss) h a =
     let n : words [] ≡ 0 = refl in
     omega (arith, x, y, z, n)
 
--- the offset of a private is the base offset, the words of the segments before, and those of the records before its own
+-- the offset of a private is the base offset, the words of the segments before, and those of the
+-- records before its own
 offset_is : (prefix : List Segment) (s : Segment) (rest : List Segment) (rec : ℕ) → AreBelow s.slot prefix → Ascends (s.slot + 1) rest
     → private_offset (prefix ++ s ∷ rest) s.slot rec ≡ next_of (host_records (prefix ++ s ∷ rest)) + all_words (map owner_of prefix) + private_words (take rec s.records)
 offset_is prefix s rest rec below ascends =

@@ -1,4 +1,4 @@
--- The first fault of the privates is the least that stands.
+-- The first fault of the privates is the smallest that is.
 use Rattle.std.proofs.Common.{◌≡◌, ℕ, ◌+◌, List, [], ◌∷◌, ◌++◌, map, Option, refl, sym, ap, subst, ◌∙◌, inl, inr, arith, append_assoc}
 use Rattle.std.specs.Prelude.{◌⊎◌, ◌&&◌, nat_lt}
 use Rattle.std.specs.List.{enumerate_from}
@@ -9,7 +9,7 @@ use Rattle.ps_resolve.specs.First.{Least}
 use Rattle.ps_resolve.specs.Searches.{first_of}
 use Rattle.ps_resolve.specs.Sources.{Segment, host_records}
 use Rattle.ps_resolve.specs.Added.{segments}
-use Rattle.ps_linkinfo.specs.Counts.{next_of, is_private_reference}
+use Rattle.ps_linkinfo.specs.RecordCounts.{next_of, is_private_reference}
 use Rattle.ps_resolve.specs.Privates.{private_words, private_fault, owner_of, all_words, first_private_fault}
 use Rattle.ps_resolve.specs.Standing.Keys.{OfPrivates, Precedes}
 use Rattle.ps_resolve.specs.Standing.Privates.{private_offset, PrivateHas, InPrivates}
@@ -32,7 +32,8 @@ use Rattle.ps_words.specs.declared.fault.Fault.{Fault}
 abbrev segment_fault : List Segment → Segment → Option Fault
 segment_fault segs s = first_of (record_fault (λ why rec. in_record s.file s.slot rec why) (λ n. private_offset segs s.slot n) s.records) (enumerate_from 0 s.records)
 
--- the search that carries the offset from segment to segment finds the first fault of their privates
+-- the search that carries the offset from segment to segment finds the first fault of their
+-- privates
 carried_all : (all prefix rest : List Segment) (from : ℕ) → all ≡ prefix ++ rest → AreBelow from prefix → Ascends from rest
     → first_private_fault (next_of (host_records all) + all_words (map owner_of prefix)) (map owner_of rest) ≡ first_of (segment_fault all) rest
 carried_all all prefix [] from is below ascends = refl
@@ -48,7 +49,7 @@ carried_all all prefix (s ∷ rest) from is below ascends =
     ∙ carried_all all (prefix ++ s ∷ []) rest (s.slot + 1) (is ∙ sym (append_assoc prefix (s ∷ []) rest)) (below_more (s.slot + 1) prefix s (below_from from s.slot prefix ascends.0 below) (omega arith)) ascends.1 in
     ap (λ (o : Option Fault). option_or o (first_private_fault (start + private_words s.records) (map owner_of rest))) mine ∙ ap (option_or (segment_fault all s)) later
 
--- the reason that is given for a private is the one of least rank that stands
+-- the reason that is given for a private is the one of smallest rank that applies
 private_rows : (segs : List Segment) (s : Segment) (rec : ℕ) (r : Record) → Least Ranked (PrivateHas segs s rec r) (reason_at (λ n. private_offset segs s.slot n) s.records (rec, r))
 private_rows segs s rec r =
     least_same to from
@@ -66,7 +67,7 @@ private_rows segs s rec r =
     from reason.NoRoom h = inr (refl, h)
     from other h = absurd h
 
--- the first fault of the privates is the least that stands
+-- the first fault of the privates is the smallest that applies
 pub step_8 : (order : Order) (host : List ℕ) (libs : List (List ℕ)) → Least (Precedes OfPrivates) (InPrivates order host libs) (privates_fault (segments order host libs))
 unfolding privates_fault
 step_8 order host libs =

@@ -1,4 +1,4 @@
--- The first fault of the references is the least that stands.
+-- The first fault of the references is the smallest that is.
 use Rattle.std.proofs.Common.{◌≡◌, ℕ, zero, suc, ◌+◌, ◌<◌, ◌≤◌, List, [], ◌∷◌, ◌++◌, length, take, map, Option, Some, None, Result, Ok, Err, Bool, true, false, refl, sym, ap, subst, ◌∙◌, inl, inr, arith, append_assoc, append-nil, is_some, leb-true, le-leb, unwrap_or}
 use Rattle.std.specs.Prelude.{◌≢◌, ◌⊎◌, if◌then◌else◌, ◌||◌, nat_le, nat_lt}
 use Rattle.std.specs.Bool.{Decides}
@@ -14,7 +14,7 @@ use Rattle.std.proofs.lemmas.List.{map-append}
 use Rattle.std.proofs.lemmas.List.Folds.{list_any-append}
 use Rattle.std.proofs.lemmas.Slice.Eq.{bytes_eq-Decides}
 use Rattle.ps_codefile.specs.Procedures.{is_reserved}
-use Rattle.ps_linkinfo.specs.Counts.{is_unit_reference, next_of}
+use Rattle.ps_linkinfo.specs.RecordCounts.{is_unit_reference, next_of}
 use Rattle.ps_resolve.specs.Added.{added_fault, segments}
 use Rattle.ps_resolve.specs.Privates.{private_words, owner_of, all_words}
 use Rattle.ps_resolve.specs.Standing.Phrases.{Because, SomeBelow, SomeItem}
@@ -114,11 +114,12 @@ one_definition ds name d e a b = elim (cases_lt a.0 b.0) [
   ]
 ]
 
--- each unit that the record asks for has its segment
+-- each unit that the record requests has its segment
 abbrev UnitIsThere : List Segment → List ℕ → Body → Type 0
 UnitIsThere segs name body = is_unit_reference body ≡ true → HasUnit segs name
 
--- the reason that is given for a record is the one of least rank that stands, where a unit it asks for is there
+-- the reason that is given for a record is the one of smallest rank that applies, where a unit it
+-- requests is there
 pub record_rows : (segs : List Segment) (off : ℕ) (name : List ℕ) (body : Body) → UnitIsThere segs name body → Least Ranked (RecordHas segs name body) (result_err (target_in (known_of segs) off name body))
 record_rows segs off name (PrivRef words refs) there = nothing (λ y h. h)
 record_rows segs off name (PublDef value) there = nothing (λ y h. h)
@@ -183,12 +184,13 @@ in_operand p y w = Decides-and (nat_le y p) (nat_lt p (y + w)) (at_most y p) (De
 abbrev BeforeCovers : List Record → ℕ → ℕ → Type 0
 BeforeCovers records rec p = SomeBelow rec (λ o. (q : Record) × (slice_get records o ≡ Some q) × SomeItem (refs_of q.body) (λ j y. Covers q.body y p))
 
-abbrev OwnCovers : Body → ℕ → ℕ → Type 0
-OwnCovers body i p = SomeBelow i (λ j. (y : ℕ) × (slice_get (refs_of body) j ≡ Some y) × Covers body y p)
+abbrev SameRecordCovers : Body → ℕ → ℕ → Type 0
+SameRecordCovers body i p = SomeBelow i (λ j. (y : ℕ) × (slice_get (refs_of body) j ≡ Some y) × Covers body y p)
 
--- the test of the operands before says whether one of an earlier record, or of the record's own earlier references,
+-- the test of the operands before says whether one of an earlier record, or of the record's own
+-- earlier references,
 -- covers the place
-taken_covers : (records : List Record) (rec i : ℕ) (body : Body) (p : ℕ) → Decides (list_any (is_in p) (before records rec ++ own body i)) (BeforeCovers records rec p ⊎ OwnCovers body i p)
+taken_covers : (records : List Record) (rec i : ℕ) (body : Body) (p : ℕ) → Decides (list_any (is_in p) (before records rec ++ own body i)) (BeforeCovers records rec p ⊎ SameRecordCovers body i p)
 taken_covers records rec i body p =
     Decides-at (list_any (is_in p) (before records rec ++ own body i)) (list_any (is_in p) (before records rec) || list_any (is_in p) (own body i)) (list_any-append (is_in p) (before records rec) (own body i))
     (Decides-or (list_any (is_in p) (before records rec)) (list_any (is_in p) (own body i))
@@ -205,18 +207,19 @@ overlaps records rec i body x = list_any (λ p. list_any (is_in p) (before recor
 abbrev Overlaps : List Record → ℕ → ℕ → Record → ℕ → Type 0
 Overlaps records rec i r x = SomeItem records (λ lesser q. SomeItem (refs_of q.body) (λ j y. Before (lesser ∷ j ∷ []) (rec ∷ i ∷ []) × Meet r.body x q.body y))
 
--- the test of an operand for an overlap says whether it meets that of an earlier reference of the segment
+-- the test of an operand for an overlap says whether it meets that of an earlier reference of the
+-- segment
 overlapping : (records : List Record) (rec i : ℕ) (r : Record) (x : ℕ) → slice_get records rec ≡ Some r → Decides (overlaps records rec i r.body x) (Overlaps records rec i r x)
 overlapping records rec i r x er =
     Decides-like (overlaps records rec i r.body x) (λ t. to t.0 t.1 t.2 t.3) (λ t. from t.0 t.1 t.2 t.3.0 t.3.1 t.3.2 t.3.3.0 t.3.3.1.0 t.3.3.1.1 t.3.3.1.2)
-    (any_of_range (λ p. list_any (is_in p) (before records rec ++ own r.body i)) (λ p. BeforeCovers records rec p ⊎ OwnCovers r.body i p) (λ p. taken_covers records rec i r.body p) x (operand_width r.body))
+    (any_of_range (λ p. list_any (is_in p) (before records rec ++ own r.body i)) (λ p. BeforeCovers records rec p ⊎ SameRecordCovers r.body i p) (λ p. taken_covers records rec i r.body p) x (operand_width r.body))
   where
-    to : (p : ℕ) → x ≤ p → p < x + operand_width r.body → BeforeCovers records rec p ⊎ OwnCovers r.body i p → Overlaps records rec i r x
+    to : (p : ℕ) → x ≤ p → p < x + operand_width r.body → BeforeCovers records rec p ⊎ SameRecordCovers r.body i p → Overlaps records rec i r x
     to p low high (inl t) = (t.0, t.2.0, t.2.1, (t.2.2.0, t.2.2.1, t.2.2.2, (inl t.1, (p, (low, high), t.2.2.3))))
     to p low high (inr t) = (rec, r, er, (t.0, t.2.0, t.2.1, (inr (refl, inl t.1), (p, (low, high), t.2.2))))
 
     from : (o : ℕ) (q : Record) → slice_get records o ≡ Some q → (j y : ℕ) → slice_get (refs_of q.body) j ≡ Some y → Before (o ∷ j ∷ []) (rec ∷ i ∷ []) → (p : ℕ) → Covers r.body x p → Covers q.body y p
-        → (p : ℕ) × (x ≤ p) × (p < x + operand_width r.body) × (BeforeCovers records rec p ⊎ OwnCovers r.body i p)
+        → (p : ℕ) × (x ≤ p) × (p < x + operand_width r.body) × (BeforeCovers records rec p ⊎ SameRecordCovers r.body i p)
     from o q a j y g (inl h) p cx cy = (p, cx.0, cx.1, inl (o, h, (q, a, (j, y, g, cy))))
     from o q a j y g (inr t) p cx cy =
         let same : q ≡ r = (let d = t.0 in cc) in
@@ -234,7 +237,8 @@ wide (PublDef value) i x e = absurd (cc)
 wide (ConstDef value) i x e = absurd (cc)
 wide (Eof next) i x e = absurd (cc)
 
--- an operand that is not empty ends behind the code just where it covers a place that is not in the code
+-- an operand that is not empty ends after the code just where it covers a place that is not in the
+-- code
 past : (len x w : ℕ) → 0 < w → Decides (nat_lt len (x + w)) ((p : ℕ) × ((x ≤ p) × (p < x + w)) × (len ≤ p))
 past len x w h =
     Decides-like (nat_lt len (x + w))
@@ -253,7 +257,7 @@ reason_with reserved code taken w v x =
 abbrev reason_at : Order → List Segment → Segment → ℕ → Record → ℕ × ℕ → Option Reason
 reason_at order segs s rec r ref = reason_with (is_reserved order s.code) s.code (before s.records rec ++ own r.body ref.0) (operand_width r.body) (operand_value segs s rec r.name r.body ref.1) ref.1
 
--- the reason that is given for a reference is the one of least rank that stands
+-- the reason that is given for a reference is the one of smallest rank that applies
 reference_rows : (order : Order) (segs : List Segment) (s : Segment) (rec : ℕ) (r : Record) (i x : ℕ) → slice_get s.records rec ≡ Some r → slice_get (refs_of r.body) i ≡ Some x → Least Ranked (ReferenceHas order segs s rec r i x) (reason_at order segs s rec r (i, x))
 reference_rows order segs s rec r i x er ex =
     least_same to from
@@ -294,7 +298,7 @@ reference_rows order segs s rec r i x er ex =
 abbrev At : ℕ → ℕ → Fault → Type 0
 At slot rec f = (unwrap_or f.slot f.file ≡ slot) × (part f.rec ≡ rec + 1)
 
--- what stands of a record: a fault of the record itself, or of one of its references
+-- what applies to a record: a fault of the record itself, or of one of its references
 abbrev RecordFaults : Order → List Segment → Segment → ℕ → Record → Fault → Type 0
 RecordFaults order segs s rec r f =
     Because (in_record s.file s.slot rec) (RecordHas segs r.name r.body) f
@@ -313,7 +317,8 @@ record_fault order segs s r =
     option_or (option_map (in_record s.file s.slot r.0) (result_err (target_of (known_of segs) (private_offset segs s.slot r.0) r.1)))
     (first_of (references_of order segs s r.0 r.1) (enumerate_from 0 (refs_of r.1.body)))
 
--- the first fault of a record and its references is the least that stands, where a unit it asks for is there
+-- the first fault of a record and its references is the smallest that applies, where a unit it
+-- requests is there
 of_record : (order : Order) (segs : List Segment) (s : Segment) (rec : ℕ) (r : Record) → slice_get s.records rec ≡ Some r → UnitIsThere segs r.name r.body → Least (Precedes OfReferences) (RecordFaults order segs s rec r) (record_fault order segs s (rec, r))
 of_record order segs s rec r er there =
     least_or
@@ -405,7 +410,8 @@ operands_are : (segs : List Segment) (s : Segment) (rec : ℕ) (r : Record) (t :
 operands_are segs s rec r t (inl none) = ap (λ (xs : List ℕ). operands t xs) none ∙ sym (ap (λ (xs : List ℕ). map (λ (y : ℕ). (y, operand_width r.body)) xs) none)
 operands_are segs s rec r t (inr fit) = ap (λ (n : ℕ). map (λ (y : ℕ). (y, n)) (refs_of r.body)) fit.0
 
--- the search that carries the operands and the offset through a segment's records finds the first fault of these
+-- the search that carries the operands and the offset through a segment's records finds the first
+-- fault of these
 carried : (order : Order) (segs : List Segment) (s : Segment) (base : ℕ) → ((n : ℕ) → private_offset segs s.slot n ≡ base + private_words (take n s.records))
     → (prefix rs : List Record) (rec : ℕ) → s.records ≡ prefix ++ rs → rec ≡ length prefix
     → option_map (in_segment s.file s.slot) (records_fault (known_of segs) (is_reserved order s.code) s.code rec (private_offset segs s.slot rec) (flat_map operands_of prefix) rs) ≡ first_of (record_fault order segs s) (enumerate_from rec rs)
@@ -483,7 +489,7 @@ carried_all order all prefix (s ∷ rest) from is below ascends =
     ∙ carried_all order all (prefix ++ s ∷ []) rest (s.slot + 1) (is ∙ sym (append_assoc prefix (s ∷ []) rest)) (below_more (s.slot + 1) prefix s (below_from from s.slot prefix ascends.0 below) (omega arith)) ascends.1 in
     ap (λ (o : Option Fault). option_or o (references_fault_from order (known_of all) (start + private_words s.records) rest)) mine ∙ ap (option_or (all_records order all s)) later
 
--- where the rounds have no fault, so that each unit that is asked for has its segment
+-- where the rounds have no fault, so that each unit that is requested has its segment
 pub step_10 : (order : Order) (host : List ℕ) (libs : List (List ℕ)) → added_fault order host libs ≡ None → Least (Precedes OfReferences) (InReferences order host libs) (references_fault order (segments order host libs))
 unfolding references_fault
 step_10 order host libs fine =

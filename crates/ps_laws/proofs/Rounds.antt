@@ -1,4 +1,4 @@
--- The first fault of the units that are added is the least that stands.
+-- The first fault of the units that are added is the smallest that is.
 use Rattle.std.proofs.Common.{◌≡◌, ℕ, ◌+◌, ◌≤◌, List, [], ◌∷◌, ◌++◌, length, take, Option, Some, None, Bool, true, false, refl, sym, ap, subst, ◌∙◌, inl, inr, arith, append_assoc, append-nil, length-append, is_none, unwrap_or}
 use Rattle.std.specs.Prelude.{◌⊎◌, if◌then◌else◌}
 use Rattle.std.specs.Bool.{Decides}
@@ -8,7 +8,7 @@ use Rattle.std.proofs.lemmas.Bool.{cases_lt, false≢true}
 use Rattle.std.proofs.lemmas.Bool.Decides.{Decides-or}
 use Rattle.std.proofs.lemmas.Grind.{flat_map-append}
 use Rattle.ps_codefile.specs.Dictionary.{is_nameless, entry_at}
-use Rattle.ps_resolve.specs.Added.{unit_references, all_unit_references, is_had, sought_from, empty_slots, is_missing, unplaced_fault, placed_fault, added_segment, Rounds, after, rounds_from, sought, rounds, added, added_fault}
+use Rattle.ps_resolve.specs.Added.{unit_references, all_unit_references, is_already_known, requested_from, empty_slots, is_missing, unplaced_fault, placed_fault, added_segment, Rounds, after, rounds_from, requested_units, rounds, added_segments, added_fault}
 use Rattle.ps_resolve.specs.Standing.Phrases.{Because}
 use Rattle.ps_resolve.specs.Standing.Keys.{Step, OfSources, OfAdded, rank, part, record_read, key, Precedes}
 use Rattle.ps_resolve.specs.Standing.Sources.{EntriesHave, CodeFault}
@@ -57,7 +57,7 @@ reads_placed : (order : Order) (host : List ℕ) (libs : List (List ℕ)) (name 
 reads_placed order host libs name slot f (inl t) = reads_slot (t.0 + 1) slot f t.3.1
 reads_placed order host libs name slot f (inr t) = reads_code order (file_at host libs t.0.0) t.0.0 (entry_at order (file_at host libs t.0.0) t.0.1) slot role.Wanted f t.2
 
--- the faults of a unit that was found come behind that of one that was not
+-- the faults of a unit that was found come after that of one that was not
 entries_high : (order : Order) (name lib : List ℕ) (why : Reason) → EntriesHave order name lib why → 13 ≤ rank why
 entries_high order name lib reason.DoubledUnit h = omega arith
 entries_high order name lib (reason.NotAUnit kind) h = omega arith
@@ -70,7 +70,8 @@ placed_late : (order : Order) (host : List ℕ) (libs : List (List ℕ)) (name :
 placed_late order host libs name slot f (inl t) = late (t.0 + 1) slot 13 f (entries_high order name t.1) t.3.1
 placed_late order host libs name slot f (inr t) = lower_late slot 15 13 f (omega arith) (code_late order (file_at host libs t.0.0) t.0.0 (entry_at order (file_at host libs t.0.0) t.0.1) slot role.Wanted f t.2)
 
--- that a unit is missing comes before a fault of rank 13 or above, and before one of a record that was read
+-- that a unit is missing comes before a fault of rank 13 or above, and before one of a record that
+-- was read
 missing_first : (k slot : ℕ) (g : UnitReference) (f : Fault) → Late slot 13 f → Reads f → Precedes (OfAdded k) (in_record g.file g.slot g.rec reason.MissingUnit) f
 missing_first k slot g f l r =
     inr (
@@ -99,7 +100,8 @@ within_round k x y e a b (inr t) = elim t.1 [
   )
 ]
 
--- the first fault of a name's unit in a slot, of the library's entries and then of its code, is the least that stands
+-- the first fault of a name's unit in a slot, of the library's entries and then of its code, is the
+-- smallest that applies
 placed_least : OneStop → (order : Order) (host : List ℕ) (libs : List (List ℕ)) (k : ℕ) (name : List ℕ) (slot : ℕ)
     → Least (Precedes (OfAdded k)) (PlacedFault order host libs name slot) (option_or (entry_fault order name libs slot) (option_and_then (code_fault order host libs slot role.Wanted) (unit_source order name libs)))
 placed_least law order host libs k name slot =
@@ -117,7 +119,7 @@ abbrev round_fault : Order → List ℕ → List (List ℕ) → UnitReference �
 round_fault order host libs g None = Some (unplaced_fault order libs g)
 round_fault order host libs g (Some slot) = placed_fault order host libs g slot
 
--- the first fault of a name in its round, with this slot or with none, is the least that stands
+-- the first fault of a name in its round, with this slot or with none, is the smallest that applies
 round_least : OneStop → (order : Order) (host : List ℕ) (libs : List (List ℕ)) (k : ℕ) (g : UnitReference) (left : Option ℕ) → Least (Precedes (OfAdded k)) (RoundHas order host libs g left) (round_fault order host libs g left)
 round_least law order host libs k g None = go (is_missing order libs g.name) (missing order libs g.name)
   where
@@ -155,9 +157,9 @@ round_least law order host libs k g (Some slot) = go (is_missing order libs g.na
         from f (inr (inr t)) = let same : t.0 ≡ slot = (let e = t.1 in cc) in subst (λ (n : ℕ). PlacedFault order host libs g.name n f) same t.2
 
 -- 2. the row of names
-pub sought_append : (units : List (List ℕ × ℕ)) (row xs ys : List UnitReference) → sought_from units row (xs ++ ys) ≡ sought_from units (sought_from units row xs) ys
+pub sought_append : (units : List (List ℕ × ℕ)) (row xs ys : List UnitReference) → requested_from units row (xs ++ ys) ≡ requested_from units (requested_from units row xs) ys
 sought_append units row [] ys = refl
-sought_append units row (g ∷ xs) ys = sought_append units (if is_had units row g.name then row else row ++ g ∷ []) xs ys
+sought_append units row (g ∷ xs) ys = sought_append units (if is_already_known units row g.name then row else row ++ g ∷ []) xs ys
 
 abbrev pub own_units : Order → List ℕ → List (List ℕ) → List (List ℕ × ℕ)
 own_units order host libs = units_of (own_segments order host libs)
@@ -165,17 +167,17 @@ own_units order host libs = units_of (own_segments order host libs)
 abbrev pub references_of : Segment → List UnitReference
 references_of s = unit_references s.file s.slot 0 s.records
 
--- the names that further segments seek come behind those that are sought by the ones before
-pub sought_rest : (order : Order) (host : List ℕ) (libs : List (List ℕ)) (prefix rest : List Segment) → sought order host libs (prefix ++ rest) ≡ sought_from (own_units order host libs) (sought order host libs prefix) (all_unit_references rest)
-unfolding sought
+-- the names that further segments request come after those that are requested by the ones before
+pub sought_rest : (order : Order) (host : List ℕ) (libs : List (List ℕ)) (prefix rest : List Segment) → requested_units order host libs (prefix ++ rest) ≡ requested_from (own_units order host libs) (requested_units order host libs prefix) (all_unit_references rest)
+unfolding requested_units
 sought_rest order host libs prefix rest =
-    ap (λ (segs : List Segment). sought_from (own_units order host libs) [] (all_unit_references segs)) (sym (append_assoc (own_segments order host libs) prefix rest))
-    ∙ (ap (λ (gs : List UnitReference). sought_from (own_units order host libs) [] gs) (flat_map-append references_of (own_segments order host libs ++ prefix) rest)
+    ap (λ (segs : List Segment). requested_from (own_units order host libs) [] (all_unit_references segs)) (sym (append_assoc (own_segments order host libs) prefix rest))
+    ∙ (ap (λ (gs : List UnitReference). requested_from (own_units order host libs) [] gs) (flat_map-append references_of (own_segments order host libs ++ prefix) rest)
     ∙ sought_append (own_units order host libs) [] (all_unit_references (own_segments order host libs ++ prefix)) (all_unit_references rest))
 
-sought_more : (order : Order) (host : List ℕ) (libs : List (List ℕ)) (prefix : List Segment) (s : Segment) → sought order host libs (prefix ++ s ∷ []) ≡ sought_from (own_units order host libs) (sought order host libs prefix) (references_of s)
+sought_more : (order : Order) (host : List ℕ) (libs : List (List ℕ)) (prefix : List Segment) (s : Segment) → requested_units order host libs (prefix ++ s ∷ []) ≡ requested_from (own_units order host libs) (requested_units order host libs prefix) (references_of s)
 sought_more order host libs prefix s =
-    sought_rest order host libs prefix (s ∷ []) ∙ ap (λ (gs : List UnitReference). sought_from (own_units order host libs) (sought order host libs prefix) gs) (append-nil (references_of s))
+    sought_rest order host libs prefix (s ∷ []) ∙ ap (λ (gs : List UnitReference). requested_from (own_units order host libs) (requested_units order host libs prefix) gs) (append-nil (references_of s))
 
 -- 3. all rounds
 abbrev pub Place : Type 0
@@ -188,7 +190,7 @@ Earlier p q = Before (key p.0 p.1) (key q.0 q.1)
 pub tagged : (step : Step) {S : Fault → Type 0} {o : Option Fault} → Least (Precedes step) S o → Least Earlier (λ p. (f : Fault) × (p ≡ (step, f)) × S f) (option_map (λ f. (step, f)) o)
 tagged step l = least_map (λ f. (step, f)) l
 
--- what stands from round k on
+-- what applies from round k on
 abbrev FromRound : Order → List ℕ → List (List ℕ) → ℕ → Place → Type 0
 FromRound order host libs k p = (j : ℕ) × (f : Fault) × (k ≤ j) × (p ≡ (OfAdded j, f)) × InRound order host libs j f
 
@@ -197,17 +199,17 @@ rest_of order host libs left k row = rounds_from order host libs (own_units orde
 
 -- the round that has this name, and this slot or none
 the_round : OneStop → (order : Order) (host : List ℕ) (libs : List (List ℕ)) (prefix rest : List Segment) (k : ℕ) (g : UnitReference) (left : Option ℕ)
-    → added order host libs ≡ prefix ++ rest → k ≡ length prefix → slice_get (sought order host libs prefix) k ≡ Some g → slice_get (empty_slots order host) k ≡ left
+    → added_segments order host libs ≡ prefix ++ rest → k ≡ length prefix → slice_get (requested_units order host libs prefix) k ≡ Some g → slice_get (empty_slots order host) k ≡ left
     → Least (Precedes (OfAdded k)) (InRound order host libs k) (round_fault order host libs g left)
 the_round law order host libs prefix rest k g left is at named slot_is = least_same to from (round_least law order host libs k g left)
   where
-    prefix_is : take k (added order host libs) ≡ prefix
+    prefix_is : take k (added_segments order host libs) ≡ prefix
     prefix_is = ap (λ (ss : List Segment). take k ss) is ∙ (ap (λ (n : ℕ). take n (prefix ++ rest)) at ∙ take_prefix prefix rest)
 
-    first : slice_get (sought order host libs (take k (added order host libs))) k ≡ Some g
-    first = ap (λ (ss : List Segment). slice_get (sought order host libs ss) k) prefix_is ∙ named
+    first : slice_get (requested_units order host libs (take k (added_segments order host libs))) k ≡ Some g
+    first = ap (λ (ss : List Segment). slice_get (requested_units order host libs ss) k) prefix_is ∙ named
 
-    within : k ≤ length (added order host libs)
+    within : k ≤ length (added_segments order host libs)
     within = let n = ap (λ (ss : List Segment). length ss) is in let m = length-append prefix rest in omega (arith, n, m, at)
 
     to : (f : Fault) → RoundHas order host libs g left f → InRound order host libs k f
@@ -218,12 +220,12 @@ the_round law order host libs prefix rest k g left is at named slot_is = least_s
         let same : t.0 ≡ g = (let e = t.1.1 in cc (e, first)) in
         subst (λ (o : Option ℕ). RoundHas order host libs g o f) slot_is (subst (λ (h : UnitReference). RoundHas order host libs h (slice_get (empty_slots order host) k) f) same t.2)
 
--- no round is behind the one after the last that added a segment
-last_is : (order : Order) (host : List ℕ) (libs : List (List ℕ)) (prefix : List Segment) (k j : ℕ) (f : Fault) → added order host libs ≡ prefix → k ≡ length prefix → k ≤ j → InRound order host libs j f → j ≡ k
+-- no round follows the one after the last that added a segment
+last_is : (order : Order) (host : List ℕ) (libs : List (List ℕ)) (prefix : List Segment) (k j : ℕ) (f : Fault) → added_segments order host libs ≡ prefix → k ≡ length prefix → k ≤ j → InRound order host libs j f → j ≡ k
 last_is order host libs prefix k j f is at low t = let n = ap (λ (ss : List Segment). length ss) is in let m = t.1.0 in omega (arith, n, m, at, low)
 
--- the first fault of the last round is the least that stands from this round on
-last_round : (order : Order) (host : List ℕ) (libs : List (List ℕ)) (prefix : List Segment) (k : ℕ) (o : Option Fault) → added order host libs ≡ prefix → k ≡ length prefix
+-- the first fault of the last round is the smallest that applies from this round on
+last_round : (order : Order) (host : List ℕ) (libs : List (List ℕ)) (prefix : List Segment) (k : ℕ) (o : Option Fault) → added_segments order host libs ≡ prefix → k ≡ length prefix
     → Least (Precedes (OfAdded k)) (InRound order host libs k) o → Least Earlier (FromRound order host libs k) (option_map (λ f. (OfAdded k, f)) o)
 last_round order host libs prefix k o is at l = least_same (λ p t. (k, t.0, omega arith, t.1, t.2)) from (tagged (OfAdded k) l)
   where
@@ -232,21 +234,21 @@ last_round order host libs prefix k o is at l = least_same (λ p t. (k, t.0, ome
         let same : t.0 ≡ k = last_is order host libs prefix k t.0 t.1 is at t.2 t.4 in
         (t.1, subst (λ (n : ℕ). p ≡ (OfAdded n, t.1)) same t.3, subst (λ (n : ℕ). InRound order host libs n t.1) same t.4)
 
--- where no name is left, nothing stands
-no_name : (order : Order) (host : List ℕ) (libs : List (List ℕ)) (prefix : List Segment) (k : ℕ) → added order host libs ≡ prefix → k ≡ length prefix → slice_get (sought order host libs prefix) k ≡ None → (p : Place) → FromRound order host libs k p → ⊥
+-- where no name is left, nothing applies
+no_name : (order : Order) (host : List ℕ) (libs : List (List ℕ)) (prefix : List Segment) (k : ℕ) → added_segments order host libs ≡ prefix → k ≡ length prefix → slice_get (requested_units order host libs prefix) k ≡ None → (p : Place) → FromRound order host libs k p → ⊥
 no_name order host libs prefix k is at none p t =
     let same : t.0 ≡ k = last_is order host libs prefix k t.0 t.1 is at t.2 t.4 in
     let named = (subst (λ (n : ℕ). InRound order host libs n t.1) same t.4).1.1 in
-    let prefix_is : take k (added order host libs) ≡ prefix =
+    let prefix_is : take k (added_segments order host libs) ≡ prefix =
     ap (λ (ss : List Segment). take k ss) (is ∙ sym (append-nil prefix)) ∙ (ap (λ (n : ℕ). take n (prefix ++ [])) at ∙ take_prefix prefix []) in
-    let first = ap (λ (ss : List Segment). slice_get (sought order host libs ss) k) prefix_is ∙ none in
+    let first = ap (λ (ss : List Segment). slice_get (requested_units order host libs ss) k) prefix_is ∙ none in
     cc
 
 -- the rounds from one on, with the faults' steps
 abbrev RoundsHave : Order → List ℕ → List (List ℕ) → List ℕ → Type 0
 RoundsHave order host libs left =
     (prefix : List Segment) (used : List ℕ) (k : ℕ) (row : List UnitReference)
-    → added order host libs ≡ prefix ++ (rest_of order host libs left k row).added → k ≡ length prefix → empty_slots order host ≡ used ++ left → k ≡ length used → sought order host libs prefix ≡ row
+    → added_segments order host libs ≡ prefix ++ (rest_of order host libs left k row).added → k ≡ length prefix → empty_slots order host ≡ used ++ left → k ≡ length used → requested_units order host libs prefix ≡ row
     → (o : Option Place) × Least Earlier (FromRound order host libs k) o × (option_map (λ (x : Place). x.1) o ≡ (rest_of order host libs left k row).fault)
 
 -- the slot that is used next
@@ -262,7 +264,7 @@ quiet (nothing n) f s = n f s
 
 abbrev pub of_segment : Order → List ℕ → List (List ℕ) → List ℕ → ℕ → List UnitReference → Option Segment → Rounds
 of_segment order host libs left k row None = record { added = []; fault = None }
-of_segment order host libs left k row (Some s) = after s (rest_of order host libs left (k + 1) (sought_from (own_units order host libs) row (references_of s)))
+of_segment order host libs left k row (Some s) = after s (rest_of order host libs left (k + 1) (requested_from (own_units order host libs) row (references_of s)))
 
 abbrev pub of_fault : Order → List ℕ → List (List ℕ) → List ℕ → ℕ → List UnitReference → Option Segment → Option Fault → Rounds
 of_fault order host libs left k row segment (Some fault) = record { added = []; fault = Some fault }
@@ -272,11 +274,12 @@ abbrev pub of_name : Order → List ℕ → List (List ℕ) → ℕ → List ℕ
 of_name order host libs slot left k row None = record { added = []; fault = None }
 of_name order host libs slot left k row (Some g) = of_fault order host libs left k row (added_segment order host libs g slot) (placed_fault order host libs g slot)
 
--- the fault that ends the rounds, with these slots left, is the least that stands from this round on
+-- the fault that ends the rounds, with these slots left, is the smallest that applies from this
+-- round on
 rounds_have : OneStop → (order : Order) (host : List ℕ) (libs : List (List ℕ)) (left : List ℕ) → RoundsHave order host libs left
 rounds_have law order host libs [] prefix used k row is at slots_are used_at row_is = go (slice_get row k) refl
   where
-    ends : added order host libs ≡ prefix
+    ends : added_segments order host libs ≡ prefix
     ends = is ∙ append-nil prefix
 
     go : (x : Option UnitReference) → slice_get row k ≡ x → (o : Option Place) × Least Earlier (FromRound order host libs k) o × (option_map (λ (p : Place). p.1) o ≡ option_map (unplaced_fault order libs) x)
@@ -294,21 +297,21 @@ rounds_have law order host libs (slot ∷ left) prefix used k row is at slots_ar
     slot_at : slice_get (empty_slots order host) k ≡ Some slot
     slot_at = ap (λ (xs : List ℕ). slice_get xs k) slots_are ∙ next_slot used (slot ∷ left) k used_at
 
-    named : (g : UnitReference) → slice_get row k ≡ Some g → slice_get (sought order host libs prefix) k ≡ Some g
+    named : (g : UnitReference) → slice_get row k ≡ Some g → slice_get (requested_units order host libs prefix) k ≡ Some g
     named g e = ap (λ (r : List UnitReference). slice_get r k) row_is ∙ e
 
-    segment : RoundsHave order host libs left → (g : UnitReference) → slice_get row k ≡ Some g → (o : Option Segment) → added order host libs ≡ prefix ++ (of_segment order host libs left k row o).added → ((f : Fault) → InRound order host libs k f → ⊥) → Have (of_segment order host libs left k row o)
+    segment : RoundsHave order host libs left → (g : UnitReference) → slice_get row k ≡ Some g → (o : Option Segment) → added_segments order host libs ≡ prefix ++ (of_segment order host libs left k row o).added → ((f : Fault) → InRound order host libs k f → ⊥) → Have (of_segment order host libs left k row o)
     segment later g e None is none = (None, nothing (λ p t. none t.1 (subst (λ (n : ℕ). InRound order host libs n t.1) (last_is order host libs prefix k t.0 t.1 (is ∙ append-nil prefix) at t.2 t.4) t.4)), refl)
     segment later g e (Some s) is none = (r.0, least_same to from r.1, r.2)
       where
-        r : (o : Option Place) × Least Earlier (FromRound order host libs (k + 1)) o × (option_map (λ (x : Place). x.1) o ≡ (rest_of order host libs left (k + 1) (sought_from (own_units order host libs) row (references_of s))).fault)
+        r : (o : Option Place) × Least Earlier (FromRound order host libs (k + 1)) o × (option_map (λ (x : Place). x.1) o ≡ (rest_of order host libs left (k + 1) (requested_from (own_units order host libs) row (references_of s))).fault)
         r =
-            later (prefix ++ s ∷ []) (used ++ slot ∷ []) (k + 1) (sought_from (own_units order host libs) row (references_of s))
-            (is ∙ sym (append_assoc prefix (s ∷ []) (rest_of order host libs left (k + 1) (sought_from (own_units order host libs) row (references_of s))).added))
+            later (prefix ++ s ∷ []) (used ++ slot ∷ []) (k + 1) (requested_from (own_units order host libs) row (references_of s))
+            (is ∙ sym (append_assoc prefix (s ∷ []) (rest_of order host libs left (k + 1) (requested_from (own_units order host libs) row (references_of s))).added))
             (let l = longer prefix s in omega (arith, l, at))
             (slots_are ∙ sym (append_assoc used (slot ∷ []) left))
             (let l = longer used slot in omega (arith, l, used_at))
-            (sought_more order host libs prefix s ∙ ap (λ (xs : List UnitReference). sought_from (own_units order host libs) xs (references_of s)) row_is)
+            (sought_more order host libs prefix s ∙ ap (λ (xs : List UnitReference). requested_from (own_units order host libs) xs (references_of s)) row_is)
 
         to : (p : Place) → FromRound order host libs (k + 1) p → FromRound order host libs k p
         to p t = (t.0, t.1, (let a = t.2 in omega (arith, a)), t.3, t.4)
@@ -320,7 +323,7 @@ rounds_have law order host libs (slot ∷ left) prefix used k row is at slots_ar
         ]
 
     fault : RoundsHave order host libs left → (g : UnitReference) → slice_get row k ≡ Some g → (o : Option Fault) → placed_fault order host libs g slot ≡ o
-        → added order host libs ≡ prefix ++ (of_fault order host libs left k row (added_segment order host libs g slot) o).added → Have (of_fault order host libs left k row (added_segment order host libs g slot) o)
+        → added_segments order host libs ≡ prefix ++ (of_fault order host libs left k row (added_segment order host libs g slot) o).added → Have (of_fault order host libs left k row (added_segment order host libs g slot) o)
     fault later g e (Some f) p is = (
       Some (OfAdded k, f),
       last_round order host libs prefix k (Some f) (is ∙ append-nil prefix) at
@@ -331,19 +334,20 @@ rounds_have law order host libs (slot ∷ left) prefix used k row is at slots_ar
         segment later g e (added_segment order host libs g slot) is
         (quiet (subst (λ (o : Option Fault). Least (Precedes (OfAdded k)) (InRound order host libs k) o) p (the_round law order host libs prefix _ k g (Some slot) is at (named g e) slot_at)))
 
-    go : RoundsHave order host libs left → (x : Option UnitReference) → slice_get row k ≡ x → added order host libs ≡ prefix ++ (of_name order host libs slot left k row x).added → Have (of_name order host libs slot left k row x)
+    go : RoundsHave order host libs left → (x : Option UnitReference) → slice_get row k ≡ x → added_segments order host libs ≡ prefix ++ (of_name order host libs slot left k row x).added → Have (of_name order host libs slot left k row x)
     go later None e is = (None, nothing (no_name order host libs prefix k (is ∙ append-nil prefix) at (ap (λ (r : List UnitReference). slice_get r k) row_is ∙ e)), refl)
     go later (Some g) e is = fault later g e (placed_fault order host libs g slot) refl is
 
 -- the rounds begin with the names that the host's own segments seek
-pub first_round : (order : Order) (host : List ℕ) (libs : List (List ℕ)) → rounds order host libs ≡ rest_of order host libs (empty_slots order host) 0 (sought order host libs [])
-unfolding rounds sought
+pub first_round : (order : Order) (host : List ℕ) (libs : List (List ℕ)) → rounds order host libs ≡ rest_of order host libs (empty_slots order host) 0 (requested_units order host libs [])
+unfolding rounds requested_units
 first_round order host libs =
-    ap (λ (segs : List Segment). rest_of order host libs (empty_slots order host) 0 (sought_from (own_units order host libs) [] (all_unit_references segs))) (sym (append-nil (own_segments order host libs)))
+    ap (λ (segs : List Segment). rest_of order host libs (empty_slots order host) 0 (requested_from (own_units order host libs) [] (all_unit_references segs))) (sym (append-nil (own_segments order host libs)))
 
--- the fault that ends the rounds is the least that stands in any of them, by round and then by fault
+-- the fault that ends the rounds is the smallest that applies in any of them, by round and then by
+-- fault
 pub step_6 : OneStop → (order : Order) (host : List ℕ) (libs : List (List ℕ)) → (o : Option Place) × Least Earlier (λ p. (k : ℕ) × (f : Fault) × (p ≡ (OfAdded k, f)) × InRound order host libs k f) o × (option_map (λ (x : Place). x.1) o ≡ added_fault order host libs)
 step_6 law order host libs =
     let same = first_round order host libs in
-    let r = rounds_have law order host libs (empty_slots order host) [] [] 0 (sought order host libs []) (ap (λ (x : Rounds). x.added) same) refl refl refl refl in
+    let r = rounds_have law order host libs (empty_slots order host) [] [] 0 (requested_units order host libs []) (ap (λ (x : Rounds). x.added) same) refl refl refl refl in
     (r.0, least_same (λ p t. (t.0, t.1, t.3, t.4)) (λ p t. (t.0, t.1, omega arith, t.2, t.3)) r.1, r.2 ∙ ap (λ (x : Rounds). x.fault) (sym same))

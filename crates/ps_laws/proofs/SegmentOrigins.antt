@@ -1,4 +1,4 @@
--- Where no fault stands, the segments of a link come from where it is said plainly that they come from.
+-- Where no fault applies, the segments of a link have the origins that are said plainly.
 use Rattle.std.proofs.Common.{◌≡◌, ℕ, zero, suc, ◌+◌, ◌*◌, ◌<◌, ◌≤◌, List, [], ◌∷◌, ◌++◌, length, take, Option, Some, None, Result, Ok, Err, Bool, true, false, refl, sym, ap, subst, ◌∙◌, inl, inr, arith}
 use Rattle.std.specs.Prelude.{◌≢◌, ◌⊎◌, ◌↔◌, ◌||◌, if◌then◌else◌, nat_lt, All, slice_range, ◌==◌}
 use Rattle.std.specs.Bool.{Decides}
@@ -10,7 +10,7 @@ use Rattle.std.proofs.lemmas.Bool.Decides.{Decides-ltb}
 use Rattle.std.proofs.lemmas.Option.{option_and_then_some}
 use Rattle.ps_codefile.specs.Dictionary.{slots, entry_at, role_of, code_of, information_of, has_bad_length, is_nameless}
 use Rattle.ps_codefile.specs.Procedures.{tables_fault}
-use Rattle.ps_resolve.specs.Added.{is_missing, as_added, placed_fault, added_segment, added, added_at, added_fault, segments, empty_slots, sought}
+use Rattle.ps_resolve.specs.Added.{is_missing, as_added, placed_fault, added_segment, added_segments, added_at, added_fault, segments, empty_slots, requested_units}
 use Rattle.ps_resolve.specs.Standing.Phrases.{SomeItem}
 use Rattle.ps_resolve.specs.Standing.Keys.{OfSlots, OfSources, Precedes}
 use Rattle.ps_resolve.specs.Standing.Slots.{HasRole, InSlots}
@@ -23,23 +23,23 @@ use Rattle.ps_codefile.specs.declared.entry.Role.{Role}
 use Rattle.ps_codefile.specs.declared.entry.Role.TheVariants as role
 use Rattle.ps_linkinfo.specs.Records.{Spells, reading}
 use Rattle.ps_linkinfo.specs.declared.record.LinkRecord.{LinkRecord as Record}
-use Rattle.ps_resolve.specs.First.{Least, nothing, this}
-use Rattle.ps_codefile.specs.Roles.{is_linked, is_host, is_empty}
+use Rattle.ps_resolve.specs.First.{Least, this}
+use Rattle.ps_codefile.specs.Roles.{needs_linking, is_host, is_empty}
 use Rattle.ps_resolve.specs.Sources.{Segment, order_of, file_at, source_of, unit_source, segment_from, own_segment, own_segments, records_of}
-use Rattle.ps_resolve.specs.Faults.{is_role, slot_reason, slots_fault, code_fault, entry_fault, wanted_fault, information_fault, sources_fault}
+use Rattle.ps_resolve.specs.Faults.{is_role, slot_reason, slots_fault, code_fault, wanted_fault, information_fault, sources_fault}
 use Rattle.ps_resolve.specs.Origins.{IsOwn, IsAddedUnit, IsFile, IsInPlace, IsUnitOf, IsSliceOf, IsRead, HaveOneEach, AreBySlot, AreOwn, AreAdded, AreInPlace, AreOfLibraries, AreRead, AreOfRounds, IsTaken, AsksFor}
-use Rattle.ps_resolve.specs.Sought.{HasSlot, Asks, IsGiver}
+use Rattle.ps_resolve.specs.RequestedUnits.{HasSlot, Asks, IsGiver}
 use Rattle.ps_resolve.specs.declared.reading.added.UnitReference.{UnitReference}
 use Rattle.ps_laws.proofs.Items.{In, in_range, in_filter, of_take, some_before}
 use Rattle.ps_laws.proofs.Steps.{not_below, step_2}
-use Rattle.ps_laws.proofs.Sources.{OneStop, ok_is, entry_least}
+use Rattle.ps_laws.proofs.Sources.{OneStop, ok_is}
 use Rattle.ps_laws.proofs.Segments.{from_slot, own_in_slot, found_in_slot, Ascends, ascend}
 use Rattle.ps_laws.proofs.Asked.{row_of, segment_named, name_placed, added_is, in_empty, empty_slot, empty_ascend, found_added, in_segments, own_at}
 use Rattle.ps_laws.proofs.AddedUnits.{both_none, first_none, source_none, of_role, own_made, wanted_source, given, units_are, split_at}
 use Rattle.ps_laws.proofs.Whole.{unread, none_read}
 use Rattle.ps_laws.proofs.OneName.{of_segments}
 use Rattle.ps_laws.proofs.LinkedBytes.{all_items}
-use Rattle.ps_laws.proofs.UnitSources.{unit_of}
+use Rattle.ps_laws.proofs.UnitSources.{UnitIsFine, unit_of, placed_parts, no_entry_fault}
 use Rattle.ps_words.specs.FaultPlaces.{in_slot, in_record}
 use Rattle.ps_words.specs.declared.order.Order.{Order}
 use Rattle.ps_words.specs.declared.fault.Reason.{Reason}
@@ -58,7 +58,7 @@ map_none : {X Y : Type 0} (f : X → Y) (o : Option X) → option_map f o ≡ No
 map_none f None h = refl
 map_none f (Some x) h = absurd (cc)
 
--- a code with which nothing is wrong is the slice of its file that the entry tells
+-- a code with which nothing is wrong is the slice of its file that the entry reports
 slice_of : (file : List ℕ) (e : Entry) (code : List ℕ) → code_of file e ≡ Ok code → IsSliceOf file e code
 slice_of file e code = go (has_bad_length e) (e.address == 0) (nat_lt (length file) (512 * e.address + e.length)) (Decides-ltb (length file) (512 * e.address + e.length))
   where
@@ -85,12 +85,12 @@ from_read law order host libs slot name r at s there inside e fine = go (code_of
     bytes = information_of file entry
 
     made : List ℕ → Segment
-    made code = record { slot = slot; name = name; role = r; added = false; file = at.0; index = at.1; code = code; records = records_of order file entry (is_linked r) }
+    made code = record { slot = slot; name = name; role = r; added = false; file = at.0; index = at.1; code = code; records = records_of order file entry (needs_linking r) }
 
     Faults : Result (List ℕ) Reason → Option Fault
     Faults o = elim o [
       | Err why ↦ Some (in_slot at.0 slot why)
-      | Ok code ↦ if is_linked r then option_or (option_map (in_slot at.0 slot) (tables_fault order code (is_host r))) (information_fault order file entry at.0 slot) else None
+      | Ok code ↦ if needs_linking r then option_or (option_map (in_slot at.0 slot) (tables_fault order code (is_host r))) (information_fault order file entry at.0 slot) else None
     ]
 
     spelled : (code : List ℕ) (b : Bool) → (if b then option_or (option_map (in_slot at.0 slot) (tables_fault order code (is_host r))) (information_fault order file entry at.0 slot) else None) ≡ None → b ≡ true → Spells order bytes (reading order bytes).0
@@ -104,14 +104,14 @@ from_read law order host libs slot name r at s there inside e fine = go (code_of
         whole (rs, None) is e = (law order bytes rs).1 is
         whole (rs, Some why) is e = absurd (cc)
 
-    read : (code : List ℕ) → code_of file entry ≡ Ok code → (if is_linked r then option_or (option_map (in_slot at.0 slot) (tables_fault order code (is_host r))) (information_fault order file entry at.0 slot) else None) ≡ None → IsRead order host libs (made code)
+    read : (code : List ℕ) → code_of file entry ≡ Ok code → (if needs_linking r then option_or (option_map (in_slot at.0 slot) (tables_fault order code (is_host r))) (information_fault order file entry at.0 slot) else None) ≡ None → IsRead order host libs (made code)
     read code is fine = record {
       source = file;
       file = there;
       within = inside;
       code = is;
       slice = slice_of file entry code is;
-      records = λ h. subst (λ (b : Bool). Spells order bytes (if b then (reading order bytes).0 else [])) (sym h) (spelled code (is_linked r) fine h);
+      records = λ h. subst (λ (b : Bool). Spells order bytes (if b then (reading order bytes).0 else [])) (sym h) (spelled code (needs_linking r) fine h);
       unread = λ h. ap (λ (b : Bool). if b then (reading order bytes).0 else []) h;
     }
 
@@ -165,7 +165,7 @@ record IsOfOwn (order : Order) (host : List ℕ) (libs : List (List ℕ)) (s : S
   own : IsOwn order host s
 
 record IsOfRound (order : Order) (host : List ℕ) (libs : List (List ℕ)) (s : Segment) : Type 0 where
-  round : SomeItem (added order host libs) (λ k q. q ≡ s)
+  round : SomeItem (added_segments order host libs) (λ k q. q ≡ s)
   read : IsRead order host libs s
   place : HasPlace order host libs s
   is_added : s.added ≡ true
@@ -246,12 +246,12 @@ module _ (law : OneStop) (spells : OneSpelling) (host : List ℕ) (libs : List (
       let o = own_at order host libs s (k, e) in
       in_segments order host libs o.0 s o.1 (ap (λ (x : Option Segment). option_or x (added_at order host libs o.0)) o.2)
 
-  added_listed : (k : ℕ) (s : Segment) → slice_get (added order host libs) k ≡ Some s → In s (segments order host libs)
+  added_listed : (k : ℕ) (s : Segment) → slice_get (added_segments order host libs) k ≡ Some s → In s (segments order host libs)
   added_listed k s e =
       let b = (empty_slot order host k s.slot (in_empty order host libs fine.1 k s e)).1 in
       in_segments order host libs s.slot s (omega (arith, b)) (found_added order host libs fine.1 k s e)
 
-  module _ (j : ℕ) (s : Segment) (in_round : slice_get (added order host libs) j ≡ Some s) where
+  module _ (j : ℕ) (s : Segment) (in_round : slice_get (added_segments order host libs) j ≡ Some s) where
     -- the slot of each round is the next empty one
     rises_with : (i : ℕ) (x y : ℕ) → x < y → slice_get (empty_slots order host) i ≡ Some x → slice_get (empty_slots order host) j ≡ Some y → i < j
     rises_with i x y lt e u = elim (cases_lt i j) [
@@ -271,7 +271,7 @@ module _ (law : OneStop) (spells : OneSpelling) (host : List ℕ) (libs : List (
         in_filter (is_role is_empty order host) (range_with_len 7 9) slot (in_range 7 9 slot low (omega (arith, high))) (ap (λ (o : Result Role Reason). option_map_or is_empty (result_ok o) false) has)
 
     none_left : (slot : ℕ) → 7 ≤ slot → slot < s.slot → HasRole order host slot role.Empty → IsTaken (segments order host libs) slot
-    none_left slot low lt has = go (slice_get (added order host libs) i.0) refl
+    none_left slot low lt has = go (slice_get (added_segments order host libs) i.0) refl
       where
         at : slice_get (empty_slots order host) j ≡ Some s.slot
         at = in_empty order host libs fine.1 j s in_round
@@ -282,49 +282,41 @@ module _ (law : OneStop) (spells : OneSpelling) (host : List ℕ) (libs : List (
         before : i.0 < j
         before = rises_with i.0 slot s.slot lt i.1 at
 
-        go : (o : Option Segment) → slice_get (added order host libs) i.0 ≡ o → IsTaken (segments order host libs) slot
-        go None e = absurd (some_before (added order host libs) i.0 j s (let h = before in omega (arith, h)) in_round e)
+        go : (o : Option Segment) → slice_get (added_segments order host libs) i.0 ≡ o → IsTaken (segments order host libs) slot
+        go None e = absurd (some_before (added_segments order host libs) i.0 j s (let h = before in omega (arith, h)) in_round e)
         go (Some q) e = let l = added_listed i.0 q e in (l.0, q, l.1, number q.slot slot (sym (in_empty order host libs fine.1 i.0 q e) ∙ i.1))
 
-    -- what asks for it was there in its round
-    asked_before : (g : UnitReference) → slice_get (sought order host libs (take j (added order host libs))) j ≡ Some g → s.name ≡ g.name
+    -- what requests it was there in its round
+    asked_before : (g : UnitReference) → slice_get (requested_units order host libs (take j (added_segments order host libs))) j ≡ Some g → s.name ≡ g.name
         → SomeItem (segments order host libs) (λ k q. ((q.added ≡ false) ⊎ (q.slot < s.slot)) × AsksFor q s.name)
-    asked_before g earlier name = elim (split_at (own_segments order host libs) (take j (added order host libs)) giver.0 asks.0 asks.1) [
+    asked_before g earlier name = elim (split_at (own_segments order host libs) (take j (added_segments order host libs)) giver.0 asks.0 asks.1) [
       | inl h ↦
           let o = own_at order host libs asks.0 (giver.0, h) in
           let l = own_listed giver.0 asks.0 h in
           (l.0, asks.0, l.1, (inl (of_own o.0 o.1 asks.0 o.2).not_added, asking))
       | inr t ↦
-          let u = of_take j (added order host libs) t.0 asks.0 t.2 in
+          let u = of_take j (added_segments order host libs) t.0 asks.0 t.2 in
           let l = added_listed t.0 asks.0 u.1 in
           let a = in_empty order host libs fine.1 t.0 asks.0 u.1 in
           (l.0, asks.0, l.1, (inr (empty_ascend order host t.0 j asks.0.slot s.slot u.0 a (in_empty order host libs fine.1 j s in_round)), asking))
     ]
       where
-        giver : (i : ℕ) × IsGiver (own_segments order host libs ++ take j (added order host libs)) i g
-        giver = given order host libs (take j (added order host libs)) j g earlier
+        giver : (i : ℕ) × IsGiver (own_segments order host libs ++ take j (added_segments order host libs)) i g
+        giver = given order host libs (take j (added_segments order host libs)) j g earlier
 
-        asks : Asks (own_segments order host libs ++ take j (added order host libs)) giver.0 g.rec g.name
+        asks : Asks (own_segments order host libs ++ take j (added_segments order host libs)) giver.0 g.rec g.name
         asks = giver.1.1
 
         asking : AsksFor asks.0 s.name
         asking = (g.rec, asks.2, asks.3, (asks.4, asks.5 ∙ sym name))
 
-    -- the name that is sought in that round
-    module _ (g : UnitReference) (in_row : slice_get (row_of order host libs) j ≡ Some g) (fits : placed_fault order host libs g s.slot ≡ None) (name : s.name ≡ g.name) (from : added_segment order host libs g s.slot ≡ Some s) (earlier : slice_get (sought order host libs (take j (added order host libs))) j ≡ Some g) where
-      parts : (b : Bool) → (if b then Some (in_record g.file g.slot g.rec reason.MissingUnit) else option_or (entry_fault order g.name libs s.slot) (option_and_then (code_fault order host libs s.slot role.Wanted) (unit_source order g.name libs))) ≡ None
-          → (b ≡ false) × (entry_fault order g.name libs s.slot ≡ None) × (option_and_then (code_fault order host libs s.slot role.Wanted) (unit_source order g.name libs) ≡ None)
-      parts true e = absurd (cc)
-      parts false e =
-          let t = both_none (entry_fault order g.name libs s.slot) (option_and_then (code_fault order host libs s.slot role.Wanted) (unit_source order g.name libs)) e in
-          (refl, t.0, t.1)
+    -- the name that is looked up in that round
+    module _ (g : UnitReference) (in_row : slice_get (row_of order host libs) j ≡ Some g) (fits : placed_fault order host libs g s.slot ≡ None) (name : s.name ≡ g.name) (from : added_segment order host libs g s.slot ≡ Some s) (earlier : slice_get (requested_units order host libs (take j (added_segments order host libs))) j ≡ Some g) where
+      parts : UnitIsFine order host libs g s.slot (is_missing order libs g.name)
+      parts = placed_parts order host libs g s.slot (is_missing order libs g.name) fits
 
       entries : (f : Fault) → EntryFault order g.name libs s.slot f → ⊥
-      entries = go (entry_fault order g.name libs s.slot) (parts (is_missing order libs g.name) fits).1 (entry_least order g.name libs s.slot)
-        where
-          go : (o : Option Fault) → o ≡ None → Least (Precedes OfSources) (EntryFault order g.name libs s.slot) o → (f : Fault) → EntryFault order g.name libs s.slot f → ⊥
-          go None e (nothing n) = n
-          go (Some f) e l = absurd (cc)
+      entries = no_entry_fault order host libs g s.slot fits
 
       not_nameless : (a b : Bool) → (a || b) ≡ false → a ≡ false
       not_nameless true b e = e
@@ -339,15 +331,15 @@ module _ (law : OneStop) (spells : OneSpelling) (host : List ℕ) (libs : List (
             next = none_left;
             role = (units.roles j s in_round).0;
             asked = asked_before g earlier name;
-            named = ap is_nameless name ∙ not_nameless (is_nameless g.name) _ (parts (is_missing order libs g.name) fits).0;
-            free = λ h. (units.sought j g in_row).1 (subst (λ (n : List ℕ). HasSlot order host n) name h);
+            named = ap is_nameless name ∙ not_nameless (is_nameless g.name) _ parts.0;
+            free = λ h. (units.requested j g in_row).1 (subst (λ (n : List ℕ). HasSlot order host n) name h);
           }
 
       of_source : (at : ℕ × ℕ) (q : Segment) → unit_source order g.name libs ≡ Some at → segment_from order host libs s.slot g.name role.Wanted at ≡ Some q → as_added q ≡ s → IsOfRound order host libs s
       of_source at q is e same =
           let t = from_slot order host libs s.slot g.name role.Wanted at q e in
           let u = unit_of order host libs g.name s.slot entries at is in
-          let k = from_read spells order host libs s.slot g.name role.Wanted at q u.1 u.0.within e (sym (ap (option_and_then (code_fault order host libs s.slot role.Wanted)) is) ∙ (parts (is_missing order libs g.name) fits).2) in record {
+          let k = from_read spells order host libs s.slot g.name role.Wanted at q u.1 u.0.within e (sym (ap (option_and_then (code_fault order host libs s.slot role.Wanted)) is) ∙ parts.2) in record {
             read = subst (IsRead order host libs) same (marked_read order host libs q k.0);
             place = (λ h. absurd (h unit_added.role), λ h. unit_as s u.0 (sym name) (sym k.1 ∙ ap (λ (x : Segment). x.file) same) (sym k.2 ∙ ap (λ (x : Segment). x.index) same));
             round = (j, s, in_round, refl);
@@ -384,10 +376,10 @@ module _ (law : OneStop) (spells : OneSpelling) (host : List ℕ) (libs : List (
   known : (s : Segment) → IsSegment order host libs s → IsKnown s
   known s t = go (own_segment order host libs s.slot) refl (is_role is_empty order host s.slot) t.1
     where
-      go : (o : Option Segment) → own_segment order host libs s.slot ≡ o → (b : Bool) → option_or o (if b then find (λ (q : Segment). q.slot == s.slot) (added order host libs) else None) ≡ Some s → IsKnown s
+      go : (o : Option Segment) → own_segment order host libs s.slot ≡ o → (b : Bool) → option_or o (if b then find (λ (q : Segment). q.slot == s.slot) (added_segments order host libs) else None) ≡ Some s → IsKnown s
       go (Some q) is b e = inl (of_own s.slot t.0 s (is ∙ e))
       go None is false e = absurd (cc)
-      go None is true e = let u = found_in_slot s.slot (added order host libs) s e in inr (of_round u.0 s (u.2 ∙ ap (λ (q : Segment). Some q) u.3.0))
+      go None is true e = let u = found_in_slot s.slot (added_segments order host libs) s e in inr (of_round u.0 s (u.2 ∙ ap (λ (q : Segment). Some q) u.3.0))
 
   each : (P : Segment → Type 0) → ((s : Segment) → IsKnown s → P s) → All P (segments_of host libs)
   each P h = all_items P (segments_of host libs) (λ k s e. h s (known s (of_segments order host libs k s e)))
@@ -400,8 +392,8 @@ module _ (law : OneStop) (spells : OneSpelling) (host : List ℕ) (libs : List (
 
   pub rounds : AreOfRounds host libs (segments_of host libs)
   rounds = (
-    each (λ s. s.added ≡ true → SomeItem (added order host libs) (λ k q. q ≡ s)) (λ s. elim [ inl k ↦ (λ h. absurd (false≢true (sym k.not_added ∙ h))) | inr k ↦ (λ h. k.round) ]),
-    all_items (λ (s : Segment). SomeItem (segments_of host libs) (λ k q. q ≡ s)) (added order host libs) (λ k s e. let l = added_listed k s e in (l.0, s, l.1, refl)),
+    each (λ s. s.added ≡ true → SomeItem (added_segments order host libs) (λ k q. q ≡ s)) (λ s. elim [ inl k ↦ (λ h. absurd (false≢true (sym k.not_added ∙ h))) | inr k ↦ (λ h. k.round) ]),
+    all_items (λ (s : Segment). SomeItem (segments_of host libs) (λ k q. q ≡ s)) (added_segments order host libs) (λ k s e. let l = added_listed k s e in (l.0, s, l.1, refl)),
   )
 
   pub in_place : AreInPlace (segments_of host libs)
@@ -454,7 +446,7 @@ module _ (law : OneStop) (spells : OneSpelling) (host : List ℕ) (libs : List (
       let at = own_in_slot order host libs slot s.0 s.1 in
       (i.0, s.0, i.1, (at, λ other q e same. one_place (segments order host libs) (rises 0 (segments order host libs) (ascend order host libs)) other i.0 q s.0 e i.1 (same ∙ sym at)))
 
--- the segments of a link stand by slot, and each slot is below 16
+-- the segments of a link are by slot, and each slot is below 16
 pub by_slot : (host : List ℕ) (libs : List (List ℕ)) → AreBySlot (segments_of host libs)
 by_slot host libs = (
   rises 0 (segments_of host libs) (ascend (order_of host) host libs),

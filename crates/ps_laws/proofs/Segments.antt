@@ -7,13 +7,13 @@ use Rattle.std.specs.Result.{result_ok}
 use Rattle.std.proofs.lemmas.Bool.Decides.{Decides-eqb}
 use Rattle.std.proofs.lemmas.Option.{option_and_then_some}
 use Rattle.ps_codefile.specs.Dictionary.{slots, entry_at, role_of, code_of}
-use Rattle.ps_resolve.specs.Added.{added, segments, segment_at}
+use Rattle.ps_resolve.specs.Added.{added_segments, segments, segment_at}
 use Rattle.ps_resolve.specs.Standing.Phrases.{SomeItem}
 use Rattle.ps_resolve.specs.Standing.Segments.{IsSegment, SomeSegment}
 use Rattle.ps_codefile.specs.declared.entry.Role.{Role}
 use Rattle.ps_resolve.specs.First.{Least}
 use Rattle.ps_resolve.specs.Searches.{first_of}
-use Rattle.ps_codefile.specs.Roles.{is_linked, is_empty}
+use Rattle.ps_codefile.specs.Roles.{needs_linking, is_empty}
 use Rattle.ps_resolve.specs.Sources.{Segment, segment_from, own_segment, records_of, file_at, source_of}
 use Rattle.ps_resolve.specs.Faults.{is_role}
 use Rattle.ps_laws.proofs.Least.{least_same, least_then, least_within, first_of_filter_map}
@@ -21,20 +21,20 @@ use Rattle.ps_laws.proofs.Looking.{find_some}
 use Rattle.ps_words.specs.declared.order.Order.{Order}
 use Rattle.ps_words.specs.declared.fault.Fault.{Fault}
 
--- a segment stands in the slot that it is of
+-- a segment is in the slot that it is of
 pub from_slot : (order : Order) (host : List ℕ) (libs : List (List ℕ)) (slot : ℕ) (name : List ℕ) (r : Role) (at : ℕ × ℕ) (s : Segment) → segment_from order host libs slot name r at ≡ Some s → (s.slot ≡ slot) × (s.name ≡ name) × (s.role ≡ r)
 from_slot order host libs slot name r at s = go (result_ok (code_of (file_at host libs at.0) (entry_at order (file_at host libs at.0) at.1)))
   where
     Made : List ℕ → Segment
-    Made c = record { slot = slot; name = name; role = r; added = false; file = at.0; index = at.1; code = c; records = records_of order (file_at host libs at.0) (entry_at order (file_at host libs at.0) at.1) (is_linked r) }
+    Made c = record { slot = slot; name = name; role = r; added = false; file = at.0; index = at.1; code = c; records = records_of order (file_at host libs at.0) (entry_at order (file_at host libs at.0) at.1) (needs_linking r) }
 
-    go : (code : Option (List ℕ)) → option_map (λ (c : List ℕ). record { slot = slot; name = name; role = r; added = false; file = at.0; index = at.1; code = c; records = records_of order (file_at host libs at.0) (entry_at order (file_at host libs at.0) at.1) (is_linked r) }) code ≡ Some s → (s.slot ≡ slot) × (s.name ≡ name) × (s.role ≡ r)
+    go : (code : Option (List ℕ)) → option_map (λ (c : List ℕ). record { slot = slot; name = name; role = r; added = false; file = at.0; index = at.1; code = c; records = records_of order (file_at host libs at.0) (entry_at order (file_at host libs at.0) at.1) (needs_linking r) }) code ≡ Some s → (s.slot ≡ slot) × (s.name ≡ name) × (s.role ≡ r)
     go None e = absurd (cc)
     go (Some c) e =
         let x : Made c ≡ s = cc in
         (ap (λ (q : Segment). q.slot) (sym x), ap (λ (q : Segment). q.name) (sym x), ap (λ (q : Segment). q.role) (sym x))
 
--- a slot's own segment stands in this slot
+-- a slot's own segment is in this slot
 pub own_in_slot : (order : Order) (host : List ℕ) (libs : List (List ℕ)) (slot : ℕ) (s : Segment) → own_segment order host libs slot ≡ Some s → s.slot ≡ slot
 own_in_slot order host libs slot s e =
     option_and_then_some (λ r. option_and_then (segment_from order host libs slot (entry_at order host slot).name r) (source_of order host libs slot r)) (result_ok (role_of (entry_at order host slot))) s e (λ r e1 h.
@@ -44,16 +44,17 @@ own_in_slot order host libs slot s e =
 pub found_in_slot : (slot : ℕ) (segs : List Segment) (s : Segment) → find (λ (q : Segment). q.slot == slot) segs ≡ Some s → SomeItem segs (λ i q. (q ≡ s) × (q.slot ≡ slot) × ((j : ℕ) (e : Segment) → j < i → slice_get segs j ≡ Some e → e.slot ≡ slot → ⊥))
 found_in_slot slot segs s e = find_some (λ (q : Segment). q.slot == slot) (λ (q : Segment). q.slot ≡ slot) (λ q. Decides-eqb q.slot slot) segs s e
 
--- the segment of a slot, its own or an added one, stands in this slot
+-- the segment of a slot, its own or an added one, is in this slot
 pub slot_is : (order : Order) (host : List ℕ) (libs : List (List ℕ)) (slot : ℕ) (s : Segment) → segment_at order host libs slot ≡ Some s → s.slot ≡ slot
 slot_is order host libs slot s e = go (own_segment order host libs slot) refl (is_role is_empty order host slot) e
   where
-    go : (o : Option Segment) → own_segment order host libs slot ≡ o → (b : Bool) → option_or o (if b then find (λ (q : Segment). q.slot == slot) (added order host libs) else None) ≡ Some s → s.slot ≡ slot
+    go : (o : Option Segment) → own_segment order host libs slot ≡ o → (b : Bool) → option_or o (if b then find (λ (q : Segment). q.slot == slot) (added_segments order host libs) else None) ≡ Some s → s.slot ≡ slot
     go (Some q) is b e = own_in_slot order host libs slot s (is ∙ e)
     go None is false e = absurd (cc)
-    go None is true e = let t = found_in_slot slot (added order host libs) s e in sym (ap (λ (q : Segment). q.slot) t.3.0) ∙ t.3.1
+    go None is true e = let t = found_in_slot slot (added_segments order host libs) s e in sym (ap (λ (q : Segment). q.slot) t.3.0) ∙ t.3.1
 
--- the first fault of all segments is the least that stands, where that of each is, and those of lesser slots come first
+-- the first fault of all segments is the smallest that applies, where that of each is, and those of
+-- smaller slots come first
 pub over_segments : {B : Fault → Fault → Type 0} {S : Segment → Fault → Type 0} (order : Order) (host : List ℕ) (libs : List (List ℕ)) (g : Segment → Option Fault) → ((s : Segment) → IsSegment order host libs s → Least B (S s) (g s)) → ((s t : Segment) (x y : Fault) → s.slot < t.slot → S s x → S t y → B x y) → Least B (λ f. SomeSegment order host libs (λ s. S s f)) (first_of g (segments order host libs))
 unfolding segments
 over_segments {B} {S} order host libs g each apart =

@@ -1,4 +1,5 @@
--- The segments of a link whose files were read without a fault: the tables of a linked one are not bad, and one that is linked already has no records.
+-- The segments of a link whose files were read without a fault: the tables of a linked one are not
+-- bad, and one that is linked already has no records.
 use Rattle.std.proofs.Common.{◌≡◌, ℕ, zero, suc, ◌+◌, ◌-◌, ◌*◌, ◌/◌, ◌<◌, ◌≤◌, List, [], ◌∷◌, drop, length, Option, Some, None, Result, Ok, Err, Bool, true, false, refl, sym, ap, subst, ◌∙◌, inl, inr, arith}
 use Rattle.std.specs.Prelude.{◌≢◌, ◌⊎◌, if◌then◌else◌, ◌==◌, nat_le, nat_lt, ◌&&◌, ◌||◌}
 use Rattle.std.specs.List.{find, slice_get, list_any, range_with_len, filter_map}
@@ -9,7 +10,7 @@ use Rattle.std.proofs.lemmas.Bool.Decides.{nat_tests}
 use Rattle.std.proofs.lemmas.Option.{option_and_then_some}
 use Rattle.ps_codefile.specs.Dictionary.{entry_at, role_of, code_of, information_of}
 use Rattle.ps_codefile.specs.Procedures.{procedures, dictionary_len, dictionary_start, content_of, table_of, is_in_table, tables_fault, is_reserved}
-use Rattle.ps_resolve.specs.Added.{is_missing, as_added, placed_fault, added_segment, added, added_fault}
+use Rattle.ps_resolve.specs.Added.{is_missing, as_added, placed_fault, added_segment, added_segments, added_fault}
 use Rattle.ps_resolve.specs.Standing.Sources.{AreBad, TablesHave}
 use Rattle.ps_resolve.specs.Standing.Segments.{IsSegment}
 use Rattle.ps_codefile.specs.declared.entry.Entry.{Entry}
@@ -18,7 +19,7 @@ use Rattle.ps_codefile.specs.declared.entry.Role.TheVariants as role
 use Rattle.ps_linkinfo.specs.Records.{EndsOnce, bad, is_eof, read_from, reading, record_at, size_of}
 use Rattle.ps_linkinfo.specs.declared.record.LinkRecord.{LinkRecord as Record}
 use Rattle.ps_resolve.specs.First.{Least, nothing}
-use Rattle.ps_codefile.specs.Roles.{is_linked, is_host, is_empty}
+use Rattle.ps_codefile.specs.Roles.{needs_linking, is_host, is_empty}
 use Rattle.ps_resolve.specs.Sources.{Segment, file_at, source_of, unit_source, segment_from, own_segment, records_of}
 use Rattle.ps_resolve.specs.Faults.{is_role, code_fault, entry_fault, information_fault, sources_fault}
 use Rattle.ps_resolve.specs.declared.reading.added.UnitReference.{UnitReference}
@@ -34,9 +35,9 @@ use Rattle.ps_words.specs.declared.fault.Reason.TheVariants as reason
 use Rattle.ps_words.specs.declared.fault.Fault.{Fault}
 
 pub record IsSound (order : Order) (s : Segment) : Type 0 where
-  pub tables : is_linked s.role ≡ true → AreBad order s.code (is_host s.role) → ⊥
-  pub plain : is_linked s.role ≡ false → s.records ≡ []
-  pub ends : is_linked s.role ≡ true → EndsOnce s.records
+  pub tables : needs_linking s.role ≡ true → AreBad order s.code (is_host s.role) → ⊥
+  pub plain : needs_linking s.role ≡ false → s.records ≡ []
+  pub ends : needs_linking s.role ≡ true → EndsOnce s.records
 
 -- a reading without a fault ends in the only EOFMARK
 read_ends : (n : ℕ) (order : Order) (bytes : List ℕ) → (read_from n order bytes).1 ≡ None → EndsOnce (read_from n order bytes).0
@@ -86,12 +87,12 @@ from_sound order host libs slot name r at s e fine = go (code_of file entry) e f
     entry = entry_at order file at.1
 
     made : List ℕ → Segment
-    made code = record { slot = slot; name = name; role = r; added = false; file = at.0; index = at.1; code = code; records = records_of order file entry (is_linked r) }
+    made code = record { slot = slot; name = name; role = r; added = false; file = at.0; index = at.1; code = code; records = records_of order file entry (needs_linking r) }
 
     Faults : Result (List ℕ) Reason → Option Fault
     Faults o = elim o [
       | Err why ↦ Some (in_slot at.0 slot why)
-      | Ok code ↦ if is_linked r then option_or (option_map (in_slot at.0 slot) (tables_fault order code (is_host r))) (information_fault order file entry at.0 slot) else None
+      | Ok code ↦ if needs_linking r then option_or (option_map (in_slot at.0 slot) (tables_fault order code (is_host r))) (information_fault order file entry at.0 slot) else None
     ]
 
     information : List ℕ
@@ -100,7 +101,7 @@ from_sound order host libs slot name r at s e fine = go (code_of file entry) e f
     whole_ends : information_fault order file entry at.0 slot ≡ None → EndsOnce (reading order information).0
     whole_ends h = read_ends (length information / 16 + 1) order information (map_none (in_record at.0 slot (length (reading order information).0)) (reading order information).1 h)
 
-    sound : (code : List ℕ) (b : Bool) → is_linked r ≡ b → (if b then option_or (option_map (in_slot at.0 slot) (tables_fault order code (is_host r))) (information_fault order file entry at.0 slot) else None) ≡ None → IsSound order (made code)
+    sound : (code : List ℕ) (b : Bool) → needs_linking r ≡ b → (if b then option_or (option_map (in_slot at.0 slot) (tables_fault order code (is_host r))) (information_fault order file entry at.0 slot) else None) ≡ None → IsSound order (made code)
     sound code true is fine = record {
       tables = λ h bad. not_bad order code (is_host r) (map_none (in_slot at.0 slot) (tables_fault order code (is_host r)) (both_none (option_map (in_slot at.0 slot) (tables_fault order code (is_host r))) (information_fault order file entry at.0 slot) fine).0) bad;
       plain = λ h. absurd (false≢true (sym h ∙ is));
@@ -114,7 +115,7 @@ from_sound order host libs slot name r at s e fine = go (code_of file entry) e f
 
     go : (o : Result (List ℕ) Reason) → option_map made (result_ok o) ≡ Some s → Faults o ≡ None → IsSound order s
     go (Err why) e fine = absurd (cc)
-    go (Ok code) e fine = let same : made code ≡ s = cc in subst (IsSound order) same (sound code (is_linked r) refl fine)
+    go (Ok code) e fine = let same : made code ≡ s = cc in subst (IsSound order) same (sound code (needs_linking r) refl fine)
 
 -- where the sources have no fault, a slot's own segment is sound
 own_sound : (order : Order) (host : List ℕ) (libs : List (List ℕ)) → sources_fault order host libs ≡ None → (slot : ℕ) → slot < 16 → (s : Segment) → own_segment order host libs slot ≡ Some s → IsSound order s
@@ -149,12 +150,12 @@ placed_sound order host libs g slot s e fine = go (option_and_then (segment_from
 pub all_sound : (order : Order) (host : List ℕ) (libs : List (List ℕ)) → sources_fault order host libs ≡ None → added_fault order host libs ≡ None → (s : Segment) → IsSegment order host libs s → IsSound order s
 all_sound order host libs fine all_added s t = go (own_segment order host libs s.slot) refl (is_role is_empty order host s.slot) t.1
   where
-    go : (o : Option Segment) → own_segment order host libs s.slot ≡ o → (b : Bool) → option_or o (if b then find (λ (q : Segment). q.slot == s.slot) (added order host libs) else None) ≡ Some s → IsSound order s
+    go : (o : Option Segment) → own_segment order host libs s.slot ≡ o → (b : Bool) → option_or o (if b then find (λ (q : Segment). q.slot == s.slot) (added_segments order host libs) else None) ≡ Some s → IsSound order s
     go (Some q) is b e = own_sound order host libs fine s.slot t.0 s (is ∙ e)
     go None is false e = absurd (cc)
     go None is true e =
-        let u = found_in_slot s.slot (added order host libs) s e in
-        let there : slice_get (added order host libs) u.0 ≡ Some s = u.2 ∙ ap (λ (q : Segment). Some q) u.3.0 in
+        let u = found_in_slot s.slot (added_segments order host libs) s e in
+        let there : slice_get (added_segments order host libs) u.0 ≡ Some s = u.2 ∙ ap (λ (q : Segment). Some q) u.3.0 in
         let g = segment_named order host libs all_added u.0 s there in
         let p = name_placed order host libs all_added u.0 g.0 g.1 in
         let same : p.1 ≡ s = (let a = p.3 in cc) in
@@ -172,7 +173,8 @@ pub record HasOuter (order : Order) (code : List ℕ) (t : ℕ) : Type 0 where
   pub low : 8 ≤ t
   pub high : t + 1 < dictionary_start code
 
--- where the tables of a host are not bad, that of its outer block stands whole before the procedure dictionary
+-- where the tables of a host are not bad, that of its outer block is whole before the procedure
+-- dictionary
 pub outer : (order : Order) (code : List ℕ) (t : ℕ) → (AreBad order code true → ⊥) → table_of order code 1 ≡ Some t → HasOuter order code t
 outer order code t h e = go (content_of order code 1 == 0) refl e
   where

@@ -1,4 +1,4 @@
--- The first fault of the sources is the least that stands.
+-- The first fault of the sources is the smallest that is.
 use Rattle.std.proofs.Common.{◌≡◌, ℕ, ◌+◌, ◌-◌, ◌*◌, ◌<◌, ◌≤◌, List, [], ◌∷◌, length, Option, Some, None, Result, Ok, Err, Bool, true, false, refl, sym, ap, subst, ◌∙◌, inl, inr, arith}
 use Rattle.std.specs.Prelude.{◌↔◌, slice_index, ◌⊎◌, ◌≢◌, if◌then◌else◌, nat_lt, not, ◌&&◌, ◌||◌, ◌==◌, nat_le, ◌%◌}
 use Rattle.std.specs.Bool.{Decides}
@@ -22,7 +22,7 @@ use Rattle.ps_linkinfo.specs.declared.record.LinkRecord.{LinkRecord as Record}
 use Rattle.ps_resolve.specs.Faults.{entries_reason, entry_fault, unit_fault, wanted_fault, information_fault, code_fault, source_fault, sources_fault}
 use Rattle.ps_resolve.specs.First.{Least, nothing, this}
 use Rattle.ps_resolve.specs.Searches.{first_of, fault_if}
-use Rattle.ps_codefile.specs.Roles.{is_host, is_wanted, is_linked}
+use Rattle.ps_codefile.specs.Roles.{is_host, is_wanted, needs_linking}
 use Rattle.ps_resolve.specs.Sources.{is_named, has_entry, chosen_library, source_of, file_at}
 use Rattle.ps_words.specs.FaultPlaces.{in_slot, in_record}
 use Rattle.ps_laws.proofs.Least.{least_same, least_or, least_if, least_then, least_range, least_items, least_guard}
@@ -106,7 +106,7 @@ doubled order name lib =
     any_lesser (λ i. is_named order name lib i && list_any (is_named order name lib) (range_with_len 0 i)) (λ i. IsNamed order name lib i × SomeBelow i (λ j. IsNamed order name lib j))
     (λ i. Decides-and (is_named order name lib i) (list_any (is_named order name lib) (range_with_len 0 i)) (named order name lib i) (any_lesser (is_named order name lib) (λ j. IsNamed order name lib j) (named order name lib) i)) 16
 
--- the entry that is found for a name is the least that has it
+-- the entry that is found for a name is the smallest that has it
 first_entry : (order : Order) (name lib : List ℕ) → Least (λ i j. i < j) (λ y. (i : ℕ) × (0 ≤ i) × (i < 0 + 16) × (IsNamed order name lib i × (y ≡ i))) (find (is_named order name lib) slots)
 first_entry order name lib =
     subst (λ o. Least (λ i j. i < j) (λ y. (i : ℕ) × (0 ≤ i) × (i < 0 + 16) × (IsNamed order name lib i × (y ≡ i))) o) (sym (find_first (is_named order name lib) slots))
@@ -114,7 +114,8 @@ first_entry order name lib =
     (λ i. least_guard (is_named order name lib i) (named order name lib i) (this i refl (λ y e. inl e)))
     (λ i j x y h s t. let a = s.1 in let b = t.1 in omega (arith, a, b, h)) 0 16)
 
--- the reason that is given for a library's entries of a name is the one of least rank that stands
+-- the reason that is given for a library's entries of a name is the one of smallest rank that
+-- applies
 entries_rows : (order : Order) (name lib : List ℕ) → Least Ranked (EntriesHave order name lib) (entries_reason order name lib)
 entries_rows order name lib = go (list_any (λ i. is_named order name lib i && list_any (is_named order name lib) (range_with_len 0 i)) slots) (find (is_named order name lib) slots) (doubled order name lib) (first_entry order name lib)
   where
@@ -182,7 +183,7 @@ none_has order name libs = go (chosen_library order name libs) (chosen order nam
     go None (nothing n) = (λ e t. n (t.0, t.1) (t.0, t.1, t.2, (t.3, refl)), λ h. refl)
     go (Some p) (this q s l) = (λ e. absurd (false≢true e), λ h. absurd (h (s.0, s.1, s.2, s.3.0)))
 
--- the first fault of the chosen library's entries of a name is the least that stands
+-- the first fault of the chosen library's entries of a name is the smallest that applies
 pub entry_least : (order : Order) (name : List ℕ) (libs : List (List ℕ)) (slot : ℕ) → Least (Precedes OfSources) (EntryFault order name libs slot) (entry_fault order name libs slot)
 entry_least order name libs slot = go (chosen_library order name libs) (chosen order name libs)
   where
@@ -209,7 +210,7 @@ entry_least order name libs slot = go (chosen_library order name libs) (chosen o
           | inr h ↦ absurd (t.3.0.1 p.0 p.1 h get does)
         ]
 
--- the first fault of a wanted unit's source is the least that stands
+-- the first fault of a wanted unit's source is the smallest that applies
 unit_least : (order : Order) (name : List ℕ) (libs : List (List ℕ)) (slot : ℕ) → Least (Precedes OfSources) (UnitFault order name libs slot) (unit_fault order name libs slot)
 unit_least order name libs slot = go (chosen_library order name libs) (none_has order name libs) (entry_least order name libs slot)
   where
@@ -239,7 +240,8 @@ not_all {X} p (x ∷ xs) = go (p x) (not_all p xs)
     go true e = e
     go false e = refl
 
--- a table fails the test of its place just where its content c is not 0, and it begins too low or ends too high
+-- a table fails the test of its place just where its content c is not 0, and it begins too low or
+-- ends too high
 not_placed : (c place q start : ℕ) → Decides (not (c == 0 || (nat_le (c + 8) place && nat_lt q start))) ((c ≢ 0) × ((place < c + 8) ⊎ (start ≤ q)))
 not_placed c place q start =
     Decides-like (not (c == 0 || (nat_le (c + 8) place && nat_lt q start)))
@@ -280,7 +282,7 @@ native_table order code =
     (any_of_range (λ p. option_map_or (λ t. slice_index code t == 0) (table_of order code p) false) (λ p. (t : ℕ) × (table_of order code p ≡ Some t) × (slice_index code t ≡ 0))
     (λ p. is_at (λ t. slice_index code t == 0) (λ t. slice_index code t ≡ 0) (λ t. Decides-eqb (slice_index code t) 0) (table_of order code p)) 1 (procedures code)))
 
--- the reason that is given for the tables of a code is the one of least rank that stands
+-- the reason that is given for the tables of a code is the one of smallest rank that applies
 pub tables_rows : (order : Order) (code : List ℕ) (host : Bool) → Least Ranked (TablesHave order code host) (tables_fault order code host)
 tables_rows order code host = go (nat_lt (length code) (dictionary_len code) || not (list_all (is_placed order code) (numbers code)) || (host && (procedures code == 0 || content_of order code 1 == 0))) (are_bad order code host)
   where
@@ -364,13 +366,13 @@ code_mid file e =
     (mid_if (e.address == 0) (mid_err reason.BadAddress (omega arith, omega arith))
     (mid_if (nat_lt (length file) (512 * e.address + e.length)) (mid_err reason.Truncated (omega arith, omega arith)) mid_ok))
 
--- the reasons that stand of tables have rank 18 or 19
+-- the reasons that apply to tables have rank 18 or 19
 tables_mid : (order : Order) (code : List ℕ) (host : Bool) (why : Reason) → TablesHave order code host why → (18 ≤ rank why) × (rank why < 20)
 tables_mid order code host reason.BadProcDict h = (omega arith, omega arith)
 tables_mid order code host reason.NativeProcedure h = (omega arith, omega arith)
 tables_mid order code host other h = absurd h
 
--- the reasons that stand of a library's entries have a rank below 15
+-- the reasons that apply to a library's entries have a rank below 15
 entries_low : (order : Order) (name lib : List ℕ) (why : Reason) → EntriesHave order name lib why → rank why < 15
 entries_low order name lib reason.DoubledUnit h = omega arith
 entries_low order name lib (reason.NotAUnit kind) h = omega arith
@@ -394,7 +396,7 @@ code_late order file k e slot r f (inr t) = elim t.2.1 [
   | inr b ↦ late_record k slot 15 (length b.0) b.1 f b.2
 ]
 
--- the first fault of a code, its tables and its records is the least that stands
+-- the first fault of a code, its tables and its records is the smallest that applies
 pub code_least : OneStop → (order : Order) (slot : ℕ) (r : Role) (host : List ℕ) (libs : List (List ℕ)) (at : ℕ × ℕ) → Least (Precedes OfSources) (CodeFault order (file_at host libs at.0) at.0 (entry_at order (file_at host libs at.0) at.1) slot r) (code_fault order host libs slot r at)
 code_least law order slot r host libs at = go (code_of file e) refl
   where
@@ -407,18 +409,18 @@ code_least law order slot r host libs at = go (code_of file e) refl
     Records : Fault → Type 0
     Records f = (rs : List Record) × (why : Reason) × (f ≡ in_record at.0 slot (length rs) why) × Stops order (information_of file e) rs why
 
-    go : (o : Result (List ℕ) Reason) → code_of file e ≡ o → Least (Precedes OfSources) (CodeFault order file at.0 e slot r) (elim o [ Err why ↦ Some (in_slot at.0 slot why) | Ok code ↦ if is_linked r then option_or (option_map (in_slot at.0 slot) (tables_fault order code (is_host r))) (information_fault order file e at.0 slot) else None ])
+    go : (o : Result (List ℕ) Reason) → code_of file e ≡ o → Least (Precedes OfSources) (CodeFault order file at.0 e slot r) (elim o [ Err why ↦ Some (in_slot at.0 slot why) | Ok code ↦ if needs_linking r then option_or (option_map (in_slot at.0 slot) (tables_fault order code (is_host r))) (information_fault order file e at.0 slot) else None ])
     go (Err why) q =
         this (in_slot at.0 slot why) (inl (why, refl, q))
         (λ f. elim [ inl t ↦ inl (t.1 ∙ ap (in_slot at.0 slot) (let a = t.2 in cc)) | inr t ↦ absurd (let a = t.1 in cc) ])
     go (Ok code) q =
         least_same to from
-        (least_guard (is_linked r) (of_test (is_linked r))
+        (least_guard (needs_linking r) (of_test (needs_linking r))
         (least_or (because OfSources (in_slot at.0 slot) (λ a b h. inr (refl, inr (refl, inr (refl, inr (refl, inl h))))) (tables_rows order code (is_host r))) (records_least law order file e at.0 slot)
         (λ x y a b. early_late slot 20 x y (early at.0 slot 20 x (λ why h. (tables_mid order code (is_host r) why h).1) a) (late_record at.0 slot 20 (length b.0) b.1 y b.2))))
       where
         Linked : Fault → Type 0
-        Linked f = (is_linked r ≡ true) × (Because (in_slot at.0 slot) (TablesHave order code (is_host r)) f ⊎ Records f)
+        Linked f = (needs_linking r ≡ true) × (Because (in_slot at.0 slot) (TablesHave order code (is_host r)) f ⊎ Records f)
 
         to : (f : Fault) → Linked f → CodeFault order file at.0 e slot r f
         to f t = inr (code, q, t)
@@ -444,14 +446,15 @@ pub is_ok : {X E : Type 0} (o : Result X E) (x : X) → o ≡ Ok x → result_ok
 is_ok (Ok y) x e = cc
 is_ok (Err y) x e = absurd (cc)
 
--- what stands of a slot of this role: a fault of a wanted unit's source, or one of the code, its tables or its records
+-- what applies to a slot of this role: a fault of a wanted unit's source, or one of the code, its
+-- tables or its records
 abbrev SourceFaults : Order → List ℕ → List (List ℕ) → ℕ → Role → Fault → Type 0
 SourceFaults order host libs slot r f =
     ((r ≡ role.Wanted) × UnitFault order (entry_at order host slot).name libs slot f)
     ⊎ ((at : ℕ × ℕ) × (source_of order host libs slot r ≡ Some at)
     × CodeFault order (file_at host libs at.0) at.0 (entry_at order (file_at host libs at.0) at.1) slot r f)
 
--- the first fault of a slot of this role is the least that stands
+-- the first fault of a slot of this role is the smallest that applies
 of_role : OneStop → (order : Order) (host : List ℕ) (libs : List (List ℕ)) (slot : ℕ) (r : Role) → Least (Precedes OfSources) (SourceFaults order host libs slot r) (option_or (wanted_fault order host libs slot r) (option_and_then (code_fault order host libs slot r) (source_of order host libs slot r)))
 of_role law order host libs slot r =
     least_or
@@ -463,7 +466,7 @@ in_place : (order : Order) (host : List ℕ) (libs : List (List ℕ)) (slot : �
 in_place order host libs slot r f (inl t) = (unit_early order (entry_at order host slot).name libs slot f t.1).0
 in_place order host libs slot r f (inr t) = (code_late order (file_at host libs t.0.0) t.0.0 (entry_at order (file_at host libs t.0.0) t.0.1) slot r f t.2).0
 
--- the first fault of the sources is the least that stands
+-- the first fault of the sources is the smallest that applies
 pub step_5 : OneStop → (order : Order) (host : List ℕ) (libs : List (List ℕ)) → Least (Precedes OfSources) (InSources order host libs) (sources_fault order host libs)
 unfolding sources_fault
 step_5 law order host libs =

@@ -1,4 +1,4 @@
--- The first fault of each step is the least that stands.
+-- The first fault of each step is the smallest that is.
 use Rattle.std.proofs.Common.{◌≡◌, ℕ, zero, suc, ◌+◌, ◌<◌, ◌≤◌, List, length, Option, Result, Ok, Err, Bool, true, false, refl, sym, subst, inl, inr, arith}
 use Rattle.std.specs.Prelude.{◌⊎◌, if◌then◌else◌, nat_lt, not, ◌&&◌, ◌||◌, ◌==◌, nat_le}
 use Rattle.std.specs.Bool.{Decides}
@@ -9,7 +9,7 @@ use Rattle.std.specs.Str.{bytes_eq}
 use Rattle.std.proofs.lemmas.Bool.{cases_lt, false≢true}
 use Rattle.std.proofs.lemmas.Bool.Decides.{Decides-ltb, Decides-and, Decides-or, Decides-not, Decides-like}
 use Rattle.std.proofs.lemmas.Slice.Eq.{bytes_eq-Decides}
-use Rattle.ps_codefile.specs.Dictionary.{slots, is_nameless, Opened, FileOrder, Zero, Ordered, Mixed, file_order, opened, opened_as, opened_beside_as, same_order, entry_at, role_of, role_of_kind}
+use Rattle.ps_codefile.specs.Dictionary.{slots, is_nameless, OpenedFile, FileOrder, Zero, Ordered, Mixed, file_order, opened_alone, opened_as, opened_beside_as, same_order, entry_at, role_of, role_of_kind}
 use Rattle.ps_resolve.specs.Standing.Phrases.{Because, SomeBelow}
 use Rattle.ps_resolve.specs.Standing.Hosts.{HostHas, InHost}
 use Rattle.ps_resolve.specs.Standing.Slots.{HasRole, IsUnitSlot, SlotHas, InSlots, InNoHost}
@@ -61,7 +61,7 @@ pub any_lesser : (test : ℕ → Bool) (P : ℕ → Type 0) → ((i : ℕ) → D
 any_lesser test P d n = Decides-like (list_any test (range_with_len 0 n)) (λ t. (t.0, omega (arith, t.2), t.3)) (λ t. (t.0, omega arith, omega (arith, t.1), t.2)) (any_of_range test P d 0 n)
 
 -- 1
-host_reason : (host : List ℕ) → Least Ranked (HostHas host) (result_err (opened host))
+host_reason : (host : List ℕ) → Least Ranked (HostHas host) (result_err (opened_alone host))
 host_reason host = go (nat_lt (length host) 512) (file_order host) (Decides-ltb (length host) 512) refl
   where
     go : (b : Bool) (o : FileOrder) → Decides b (length host < 512) → file_order host ≡ o → Least Ranked (HostHas host) (result_err (if b then Err reason.ShortFile else opened_as host o))
@@ -104,7 +104,7 @@ is_same Little Big = (λ e. absurd (false≢true e), λ e. cc)
 is_same Big Little = (λ e. absurd (false≢true e), λ e. cc)
 is_same Big Big = (λ e. refl, λ e. refl)
 
--- the reason that is given for a library is the one of least rank that stands
+-- the reason that is given for a library is the one of smallest rank that applies
 library_reasons : (order : Order) (lib : List ℕ) → Least Ranked (LibraryHas order lib) (library_reason order lib)
 library_reasons order lib = go (nat_lt (length lib) 512) (file_order lib) (Decides-ltb (length lib) 512) refl
   where
@@ -132,7 +132,7 @@ library_reasons order lib = go (nat_lt (length lib) 512) (file_order lib) (Decid
         least other h = absurd h
     go false (Ordered other) d e = of (same_order other order) (is_same other order)
       where
-        of : (same : Bool) → Decides same (other ≡ order) → Least Ranked (LibraryHas order lib) (result_err {T = Opened} (if same then Ok (record { order = order; file = lib }) else Err reason.OrderMismatch))
+        of : (same : Bool) → Decides same (other ≡ order) → Least Ranked (LibraryHas order lib) (result_err {T = OpenedFile} (if same then Ok (record { order = order; file = lib }) else Err reason.OrderMismatch))
         of true s = nothing least
           where
             least : (y : Reason) → LibraryHas order lib y → ⊥
@@ -148,7 +148,7 @@ library_reasons order lib = go (nat_lt (length lib) 512) (file_order lib) (Decid
             least reason.OrderMismatch h = inl refl
             least another h = absurd h
 
--- the first fault of the libraries is the least that stands
+-- the first fault of the libraries is the smallest that applies
 pub step_4 : (order : Order) (libs : List (List ℕ)) → Least (Precedes OfLibraries) (InLibraries order libs) (libraries_fault order libs)
 unfolding libraries_fault
 step_4 order libs =
@@ -198,7 +198,7 @@ unit_role (Ok role.Wanted) = (λ e. inr refl, λ p. refl)
 unit_role (Ok role.Plain) = (λ e. absurd (false≢true e), elim [ inl p ↦ absurd (cc) | inr p ↦ absurd (cc) ])
 unit_role (Ok role.Unit) = (λ e. inl refl, λ p. refl)
 
--- the reason that is given for a slot is the one of least rank that stands
+-- the reason that is given for a slot is the one of smallest rank that applies
 slot_rows : (order : Order) (host : List ℕ) (slot : ℕ) → Least Ranked (SlotHas order host slot) (slot_reason order host slot)
 slot_rows order host slot =
     least_same to from
@@ -251,7 +251,7 @@ slot_rows order host slot =
     apart : (x y : Reason) → role_of (entry_at order host slot) ≡ Err x → Second y ⊎ Third y → Ranked x y
     apart x y e = let h = low x e in elim [ inl t ↦ subst (λ w. Ranked x w) (sym t.0) h | inr t ↦ subst (λ w. Ranked x w) (sym t.0) (omega (arith, h)) ]
 
--- the first fault of the slots is the least that stands
+-- the first fault of the slots is the smallest that applies
 pub step_2 : (order : Order) (host : List ℕ) → Least (Precedes OfSlots) (InSlots order host) (slots_fault order host)
 unfolding slots_fault
 step_2 order host =

@@ -1,14 +1,15 @@
--- The offset that runs along with the records is the base offset and the words of all privates before it.
+-- The offset that runs along with the records is the base offset and the words of all privates
+-- before it.
 use Rattle.std.proofs.Common.{◌≡◌, ℕ, suc, ◌+◌, ◌-◌, List, [], ◌∷◌, ◌++◌, length, take, map, refl, sym, ap, ◌∙◌, arith, append_assoc}
 use Rattle.std.specs.Prelude.{if◌then◌else◌}
 use Rattle.std.specs.List.{enumerate_from, flat_map}
 use Rattle.ps_linkinfo.specs.declared.record.LinkRecord.{LinkRecord as Record}
-use Rattle.ps_codefile.specs.Roles.{is_linked, is_host}
+use Rattle.ps_codefile.specs.Roles.{needs_linking, is_host}
 use Rattle.ps_resolve.specs.Sources.{Segment, host_records, order_of}
 use Rattle.ps_resolve.specs.Privates.{private_words, owner_of, all_words, total_words}
-use Rattle.ps_linkinfo.specs.Counts.{next_of}
+use Rattle.ps_linkinfo.specs.RecordCounts.{next_of}
 use Rattle.ps_resolve.specs.Standing.Privates.{private_offset}
-use Rattle.ps_resolve.specs.LinkedBytes.{summed_edits, summed, HaveSummedOffsets, segments_of}
+use Rattle.ps_resolve.specs.LinkedBytes.{summed_edits, summed_segment, HaveSummedOffsets, segments_of}
 use Rattle.ps_resolve.specs.References.{Known, words_taken, record_edits, records_edits}
 use Rattle.ps_resolve.specs.Linking.{Edited, edited_from, known_of, data_edits, segment_edits}
 use Rattle.ps_laws.proofs.Segments.{Ascends, ascend}
@@ -38,27 +39,29 @@ records_summed known code offset (r ∷ rs) rec off h =
         let c = one_more r (take n rs) in
         omega (arith, a, b, c)
 
--- the edits of a segment, with an offset that runs along from its first private, are those with each offset as a sum
+-- the edits of a segment, with an offset that runs along from its first private, are those with
+-- each offset as a sum
 segment_summed : (order : Order) (all : List Segment) (s : Segment) (free : ℕ) → ((n : ℕ) → private_offset all s.slot n ≡ free + private_words (take n s.records))
     → segment_edits order (known_of all) (total_words all) free s ≡ summed_edits order all s
 segment_summed order all s free h =
-    ap (λ (es : List Edit). if is_linked s.role then Byte (length s.code - 2) s.slot ∷ ((if is_host s.role then data_edits order (total_words all) s.code else []) ++ es) else [])
+    ap (λ (es : List Edit). if needs_linking s.role then Byte s.slot (length s.code - 2) ∷ ((if is_host s.role then data_edits order (total_words all) s.code else []) ++ es) else [])
     (records_summed (known_of all) s.code (λ n. private_offset all s.slot n) s.records 0 free (λ n. ap (λ (m : ℕ). private_offset all s.slot m) (omega arith) ∙ h n))
 
--- the edits of segments by slot, with an offset that runs along, are those with each offset as a sum
+-- the edits of segments by slot, with an offset that runs along, are those with each offset as a
+-- sum
 all_summed : (order : Order) (all prefix rest : List Segment) (from : ℕ) → all ≡ prefix ++ rest → AreBelow from prefix → Ascends from rest
-    → edited_from order (known_of all) (total_words all) (next_of (host_records all) + all_words (map owner_of prefix)) rest ≡ map (summed order all) rest
+    → edited_from order (known_of all) (total_words all) (next_of (host_records all) + all_words (map owner_of prefix)) rest ≡ map (summed_segment order all) rest
 all_summed order all prefix [] from is below ascends = refl
 all_summed order all prefix (s ∷ rest) from is below ascends =
     let start = next_of (host_records all) + all_words (map owner_of prefix) in
     let count = words_split prefix (s ∷ []) in
     let mine : segment_edits order (known_of all) (total_words all) start s ≡ summed_edits order all s =
     segment_summed order all s start (offset_in all prefix s rest from is below ascends) in
-    let later : edited_from order (known_of all) (total_words all) (start + private_words s.records) rest ≡ map (summed order all) rest =
+    let later : edited_from order (known_of all) (total_words all) (start + private_words s.records) rest ≡ map (summed_segment order all) rest =
     ap (λ (n : ℕ). edited_from order (known_of all) (total_words all) n rest) (omega (arith, count))
     ∙ all_summed order all (prefix ++ s ∷ []) rest (s.slot + 1) (is ∙ sym (append_assoc prefix (s ∷ []) rest)) (below_more (s.slot + 1) prefix s (below_from from s.slot prefix ascends.0 below) (omega arith)) ascends.1 in
     ap (λ (es : List Edit). made es ∷ edited_from order (known_of all) (total_words all) (start + private_words s.records) rest) mine
-    ∙ ap (λ (es : List Edited). summed order all s ∷ es) later
+    ∙ ap (λ (es : List Edited). summed_segment order all s ∷ es) later
   where
     made : List Edit → Edited
     made es = record { segment = s; edits = es }

@@ -1,23 +1,62 @@
 -- The unit of a name in the libraries, where nothing is wrong with the entries of the name.
 use Rattle.std.proofs.Common.{◌≡◌, ℕ, zero, suc, ◌+◌, ◌<◌, ◌≤◌, List, Option, Some, None, Bool, true, false, refl, sym, subst, inl, inr, arith}
-use Rattle.std.specs.Prelude.{◌==◌}
+use Rattle.std.specs.Prelude.{if◌then◌else◌, ◌==◌}
 use Rattle.std.specs.Bool.{Decides}
 use Rattle.std.specs.List.{slice_get, find}
-use Rattle.std.specs.Option.{option_map}
+use Rattle.std.specs.Option.{option_map, option_or, option_and_then}
 use Rattle.std.proofs.lemmas.Bool.{cases_lt, false≢true}
 use Rattle.std.proofs.lemmas.Bool.Decides.{Decides-eqb}
 use Rattle.std.proofs.lemmas.Option.{option_and_then_some}
 use Rattle.ps_codefile.specs.Dictionary.{slots, entry_at}
+use Rattle.ps_codefile.specs.declared.entry.Role.TheVariants as role
+use Rattle.ps_resolve.specs.Added.{is_missing, placed_fault}
+use Rattle.ps_resolve.specs.Faults.{code_fault, entry_fault}
+use Rattle.ps_resolve.specs.First.{Least, nothing}
+use Rattle.ps_resolve.specs.Standing.Keys.{OfSources, Precedes}
 use Rattle.ps_resolve.specs.Standing.Sources.{IsNamed, HasEntry, EntryFault}
 use Rattle.ps_resolve.specs.Origins.{IsFile, IsUnitOf}
 use Rattle.ps_resolve.specs.Sources.{is_named, chosen_library, unit_source, file_at}
 use Rattle.ps_laws.proofs.Items.{of_range, find_passes}
-use Rattle.ps_laws.proofs.Sources.{named}
-use Rattle.ps_laws.proofs.AddedUnits.{find_in, first_library, library_at}
-use Rattle.ps_words.specs.FaultPlaces.{in_slot}
+use Rattle.ps_resolve.specs.declared.reading.added.UnitReference.{UnitReference}
+use Rattle.ps_laws.proofs.OneRow.{HasOneEntry}
+use Rattle.ps_laws.proofs.Sources.{named, entry_least}
+use Rattle.ps_laws.proofs.AddedUnits.{both_none, find_in, first_library, library_at}
+use Rattle.ps_words.specs.FaultPlaces.{in_slot, in_record}
 use Rattle.ps_words.specs.declared.order.Order.{Order}
 use Rattle.ps_words.specs.declared.fault.Reason.TheVariants as reason
 use Rattle.ps_words.specs.declared.fault.Fault.{Fault}
+
+-- where no fault applies in the entries of a name, the first library that has one has no second one
+pub one_entry : (order : Order) (libs : List (List ℕ)) (name : List ℕ) (slot : ℕ) → ((f : Fault) → EntryFault order name libs slot f → ⊥) → HasOneEntry order libs name
+one_entry order libs name slot fine n lib there first i j h k a b = elim (cases_lt i j) [
+  | inl l ↦ absurd (not_two i j l k a b)
+  | inr l ↦ elim (cases_lt j i) [ inl m ↦ absurd (not_two j i m h b a) | inr m ↦ omega (arith, l, m) ]
+]
+  where
+    not_two : (i j : ℕ) → i < j → j < 16 → IsNamed order name lib i → IsNamed order name lib j → ⊥
+    not_two i j lt h a b = fine (in_slot (n + 1) slot reason.DoubledUnit) (n, lib, there, (((j, h, b), first), (reason.DoubledUnit, refl, (j, h, (b, (i, lt, a))))))
+
+-- where nothing is wrong with a name in its slot, it is not missing, and neither the library's
+-- entries nor the code of its unit have a fault
+abbrev pub UnitIsFine : Order → List ℕ → List (List ℕ) → UnitReference → ℕ → Bool → Type 0
+UnitIsFine order host libs g slot missing =
+    (missing ≡ false) × (entry_fault order g.name libs slot ≡ None) × (option_and_then (code_fault order host libs slot role.Wanted) (unit_source order g.name libs) ≡ None)
+
+pub placed_parts : (order : Order) (host : List ℕ) (libs : List (List ℕ)) (g : UnitReference) (slot : ℕ) (missing : Bool)
+    → (if missing then Some (in_record g.file g.slot g.rec reason.MissingUnit) else option_or (entry_fault order g.name libs slot) (option_and_then (code_fault order host libs slot role.Wanted) (unit_source order g.name libs))) ≡ None
+    → UnitIsFine order host libs g slot missing
+placed_parts order host libs g slot true e = absurd (cc)
+placed_parts order host libs g slot false e =
+    let t = both_none (entry_fault order g.name libs slot) (option_and_then (code_fault order host libs slot role.Wanted) (unit_source order g.name libs)) e in
+    (refl, t.0, t.1)
+
+-- and no fault applies there
+pub no_entry_fault : (order : Order) (host : List ℕ) (libs : List (List ℕ)) (g : UnitReference) (slot : ℕ) → placed_fault order host libs g slot ≡ None → (f : Fault) → EntryFault order g.name libs slot f → ⊥
+no_entry_fault order host libs g slot fits = go (entry_fault order g.name libs slot) (placed_parts order host libs g slot (is_missing order libs g.name) fits).1 (entry_least order g.name libs slot)
+  where
+    go : (o : Option Fault) → o ≡ None → Least (Precedes OfSources) (EntryFault order g.name libs slot) o → (f : Fault) → EntryFault order g.name libs slot f → ⊥
+    go None e (nothing n) = n
+    go (Some f) e l = absurd (cc)
 
 module _ (order : Order) (host : List ℕ) (libs : List (List ℕ)) where
   -- a library by its number among the files
@@ -47,14 +86,8 @@ module _ (order : Order) (host : List ℕ) (libs : List (List ℕ)) where
       none_lesser zero other low lt is has = omega (arith, low)
       none_lesser (suc k) other low lt is has = none_before k other (omega (arith, lt)) is has
 
-      not_two : (j k : ℕ) → j < k → k < 16 → IsNamed order name p.1 j → IsNamed order name p.1 k → ⊥
-      not_two j k lt h a b = fine (in_slot (p.0 + 1) slot reason.DoubledUnit) (p.0, p.1, there, (((k, h, b), none_before), (reason.DoubledUnit, refl, (k, h, (b, (j, lt, a))))))
-
       one : (j : ℕ) → j < 16 → IsNamed order name p.1 j → j ≡ i
-      one j h n = elim (cases_lt j i) [
-        | inl a ↦ absurd (not_two j i a inside n has_name)
-        | inr a ↦ elim (cases_lt i j) [ inl b ↦ absurd (not_two i j b h has_name n) | inr b ↦ omega (arith, a, b) ]
-      ]
+      one j h n = one_entry order libs name slot fine p.0 p.1 there none_before j i h inside n has_name
 
       is_unit_kind : (entry_at order p.1 i).kind ≡ 3
       is_unit_kind = go ((entry_at order p.1 i).kind == 3) (Decides-eqb (entry_at order p.1 i).kind 3)

@@ -1,4 +1,4 @@
--- The first fault of all is the least that stands.
+-- The first fault of all is the smallest that is.
 use Rattle.std.proofs.Common.{◌≡◌, ℕ, ◌+◌, ◌<◌, ◌≤◌, List, [], ◌∷◌, Option, Some, None, true, refl, sym, ap, subst, ◌∙◌, inl, inr, arith}
 use Rattle.std.specs.Prelude.{◌⊎◌, ◌≢◌}
 use Rattle.std.specs.List.{slice_get}
@@ -23,7 +23,7 @@ use Rattle.ps_laws.proofs.References.{step_10}
 use Rattle.ps_words.specs.declared.order.Order.{Order}
 use Rattle.ps_words.specs.declared.fault.Fault.{Fault}
 
--- what stands from a turn on, and before another
+-- what applies from a turn on, and before another
 abbrev Between : Order → List ℕ → List (List ℕ) → ℕ → ℕ → Place → Type 0
 Between order host libs n m p = (n ≤ turn p.0) × (turn p.0 < m) × StandsIn p.0 order host libs p.1
 
@@ -31,7 +31,7 @@ Between order host libs n m p = (n ≤ turn p.0) × (turn p.0 < m) × StandsIn p
 steps : List Step
 steps = OfHost ∷ OfHost ∷ OfSlots ∷ OfNoHost ∷ OfLibraries ∷ OfSources ∷ OfAdded 0 ∷ OfDefinitions ∷ OfPrivates ∷ OfDataSize ∷ OfReferences ∷ []
 
--- a step that is no round is the one that stands at its turn
+-- a step that is no round is the one at its turn
 turn_back : (s : Step) → turn s ≢ 6 → slice_get steps (turn s) ≡ Some s
 unfolding steps
 turn_back OfHost h = refl
@@ -142,7 +142,7 @@ untag step (Some f) p q e = refl
 abbrev Turns : List ℕ → List (List ℕ) → ℕ → ℕ → Option Fault → Type 0
 Turns host libs n m fault = (o : Option Place) × Least Earlier (Between (order_of host) host libs n m) o × (option_map (λ (x : Place). x.1) o ≡ fault)
 
--- the first fault of reading is the least that stands in turns 1 to 6
+-- the first fault of reading is the smallest that applies in turns 1 to 6
 reading : OneStop → (host : List ℕ) (libs : List (List ℕ)) → Turns host libs 1 7 (reading_fault host libs)
 unfolding reading_fault
 reading law host libs =
@@ -161,7 +161,8 @@ last : (a b c d : Option Fault) → option_or a (option_or b (option_or c (optio
 last a b c None = refl
 last a b c (Some d) = refl
 
--- the first fault of linking is the least that stands in turns 7 to 10, where the rounds end without a fault
+-- the first fault of linking is the smallest that applies in turns 7 to 10, where the rounds end
+-- without a fault
 linking : (host : List ℕ) (libs : List (List ℕ)) → added_fault (order_of host) host libs ≡ None → Turns host libs 7 11 (linking_fault (order_of host) (segments (order_of host) host libs))
 unfolding linking_fault
 linking host libs fine =
@@ -176,7 +177,8 @@ linking host libs fine =
           ∙ last (definitions_fault segs) (privates_fault segs) (data_fault order segs) (references_fault order segs),
     )
 
--- where nothing is wrong with what is read, nothing is with the sources of the slots, nor with the units that are added
+-- where nothing is wrong with what is read, nothing is with the sources of the slots, nor with the
+-- units that are added
 pub none_read : (host : List ℕ) (libs : List (List ℕ)) → reading_fault host libs ≡ None → (sources_fault (order_of host) host libs ≡ None) × (added_fault (order_of host) host libs ≡ None)
 unfolding reading_fault
 none_read host libs e =
@@ -224,7 +226,7 @@ whole law host libs = go (reading_fault host libs) refl (reading law host libs)
         at (Some p) l is = absurd (cc)
         at None l is = (rest.0, least_same to from (least_or_then l (λ n. rest.1) apart), rest.2)
 
--- the fault of the least place of all turns is the first
+-- the fault of the smallest place of all turns is the first
 first_place : (host : List ℕ) (libs : List (List ℕ)) (o : Option Place) (f : Fault) → Least Earlier (Between (order_of host) host libs 1 11) o → option_map (λ (x : Place). x.1) o ≡ Some f → IsFirst host libs f
 first_place host libs None f l e = absurd (cc)
 first_place host libs (Some p) f l e = go l
@@ -276,7 +278,7 @@ only law host libs f a = go (first_fault host libs) refl
     go None e = absurd (none law host libs e a.step f a.stands)
     go (Some g) e = ap (λ (x : Fault). Some x) (one law host libs g f (some law host libs g e) a)
 
--- what is computed for the steps of reading, and what stands in them
+-- what is computed for the steps of reading, and what applies in them
 turn_read : (s : Step) → is_of_reading s ≡ true → turn s < 7
 turn_read OfHost e = omega arith
 turn_read OfSlots e = omega arith
@@ -302,7 +304,7 @@ read_turn OfPrivates h = absurd (omega (arith, h))
 read_turn OfDataSize h = absurd (omega (arith, h))
 read_turn OfReferences h = absurd (omega (arith, h))
 
--- where no fault of reading is found, none stands
+-- where no fault of reading is found, none applies
 pub read : OneStop → (host : List ℕ) (libs : List (List ℕ)) → reading_fault host libs ≡ None → NoneStandsInReading host libs
 read law host libs e step f r h = let w = reading law host libs in go w.0 w.1 (w.2 ∙ e)
   where
@@ -310,7 +312,7 @@ read law host libs e step f r h = let w = reading law host libs in go w.0 w.1 (w
     go None (nothing n) is = n (step, f) ((turn_bounds step).0, turn_read step r, h.stands)
     go (Some p) l is = absurd (cc)
 
--- where no fault of reading stands, none is found
+-- where no fault of reading applies, none is found
 pub unread : OneStop → (host : List ℕ) (libs : List (List ℕ)) → NoneStandsInReading host libs → reading_fault host libs ≡ None
 unread law host libs none_in = let w = reading law host libs in sym w.2 ∙ go w.0 w.1
   where

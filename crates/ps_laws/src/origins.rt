@@ -6,14 +6,15 @@ ghost use Rattle.ps_resolve.specs.Origins.{AreOfRounds, AreOwn, AreRead, HaveOne
 
 use ps_linkinfo::one_reading;
 
-/// Where no fault stands, the segments of a link come from where this is said plainly.
+/// Where no fault applies, the segments of a link have the origins that are said plainly.
 ///
-/// Each of the host's sixteen slots that is not empty has one segment, and they stand by slot. One
+/// Each of the host's sixteen slots that is not empty has one segment, and they are by slot. One
 /// that was not added has its slot's role and name; one that was added has an empty slot and a
-/// name that a UNITREF record asks for. A segment of role Host, Unit or Plain is the host's own
+/// name that a UNITREF record requests. A segment of role Host, Unit or Plain is the host's own
 /// entry of its slot; one of role Wanted is, in the first library that has a filled entry of its
 /// name, the only such entry, a unit's. Its code is that entry's slice of its file, and its
-/// records, where it is linked, are those that the bytes behind that code spell.
+/// records, where it is linked, are those that the bytes after that code spell.
+/// Source: this project's profile.
 pub fn segments_have_origins()
     ensures one_each { (host : List ℕ) (libs : List (List ℕ))
         → NoneStands host libs → HaveOneEach host (segments_of host libs) }

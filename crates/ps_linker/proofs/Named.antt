@@ -2,7 +2,7 @@
 use Rattle.std.proofs.Common.{◌≡◌, Option, Some, None, option_map, sym, ap₂}
 use Rattle.std.proofs.lemmas.Option.{none-some, same_Some}
 
--- a name and what stands beside it, from one option
+-- a name and what is beside it, from one option
 pub both : {X A B : Type 0} (o : Option X) (f : X → A) (g : X → B) (a : A) (b : B)
     → Some a ≡ option_map f o → Some b ≡ option_map (λ (p : A × B). p.1) (option_map {U = A × B} (λ x. (f x, g x)) o)
     → option_map {U = A × B} (λ x. (f x, g x)) o ≡ Some (a, b)

@@ -1,4 +1,6 @@
--- Words that clap takes name a command, and each file that it has to have. Along the walk over the args each row has a value, since an argument that is used without one is a flag that prints a text; and the command that stops it is not the one that prints help.
+-- Words that clap takes name a command, and each file that it has to have. Along the walk over the
+-- arguments each row has a value, since an argument that is used without one is a flag that prints
+-- a text or stands for a value; and the command that stops it is not the one that prints help.
 use Rattle.std.proofs.Common.{◌≡◌, ◌++◌, ◌∷◌, ◌&&◌, ◌||◌, ℕ, zero, suc, Bool, true, false, not, cond, List, [], length, Option, Some, None, is_some, inl, inr, refl, sym, subst, ◌∙◌, true≢false, option_map, option_and_then}
 use Rattle.std.specs.Prelude.{⊤, codes, drop, encode_utf8, find, fold, slice_get}
 use Rattle.std.specs.List.{list_all, slice_index_or}
@@ -12,7 +14,7 @@ use Rattle.clap.specs.declared.builder.value_parser.Reading.{Reading}
 use Rattle.clap.specs.declared.parser.matches.ValueSource.{ValueSource}
 use Rattle.clap.specs.declared.parser.matches.ValueSource.TheVariants.{CommandLine, DefaultValue}
 use Rattle.clap.specs.Lexer.{long_of, short_of}
-use Rattle.clap.specs.Walk.{Held, Names, Outcome, Row, Rule, Step, Text, Waiting, Walk, action_of, after_flag, after_step, answers_to, arg_by_id, arg_by_index, arg_by_long, arg_by_short, at_row, attached_value, bundle, bundle_met, bundle_step, default_rows, done, first_of, flag_met, has_long, has_short, has_row, idle, is_pending, long_met, long_or_other, more_values, next, nothing_held, option, option_met, option_word, plain, plain_word, positional, pushed, reacted, reading_by, refused, rows_after, settled, settled_rows, short_met, short_or_plain, started, subcommand, subcommand_met, subcommand_or_other, takes_several, takes_values, to_positional, trailing, used, used_as, used_by_id, value, waits, walk, walk_from, walked, walked_from, with_default, with_values, without, word_met}
+use Rattle.clap.specs.Walk.{Held, Names, Outcome, Row, Rule, Step, Text, Waiting, Walk, action_of, after_flag, after_step, answers_to, arg_by_id, arg_by_index, arg_by_long, arg_by_short, at_row, attached_value, bundle, bundle_met, bundle_step, default_rows, done, first_of, flag_met, has_long, has_short, has_row, idle, is_empty, is_pending, long_met, long_or_other, more_values, next, nothing_held, option, option_met, option_word, plain, plain_word, positional, pushed, reacted, reading_by, refused, rows_after, settled, settled_rows, short_met, short_or_plain, started, subcommand, subcommand_met, subcommand_or_other, takes_several, takes_values, to_positional, trailing, used, used_as, used_by_id, value, waits, walk, walk_from, walked, walked_from, with_default, with_values, without, word_met}
 use Rattle.clap.specs.Simple.{Shape, argument_words, built, entered, is_simple, label_of, names_of, rows_at, subcommand_of}
 use Rattle.std.proofs.lemmas.Slice.Eq.{bytes_eq-Decides}
 use Rattle.clap.specs.Takes.{default_passes, entered_passes, is_given, level_passes, other_passes, settle_passes, step_passes, takes, turn_passes, walk_passes, word_passes}
@@ -43,7 +45,8 @@ abbrev HaveValues : List Row → Type 0
 HaveValues [] = ⊤
 HaveValues (r ∷ rs) = Full r.values × HaveValues rs
 
--- a change to the row of an id leaves each row a value, if the change and what stands for a missing row do so
+-- a change to the row of an id leaves each row a value, if the change and what stands for a missing
+-- row do so
 at_row_kept : (id : Text) (change : Row → List Row) (missing rows : List Row) → HaveValues missing
     → ((r : Row) (rs : List Row) → HaveValues (r ∷ rs) → HaveValues (change r ++ rs)) → HaveValues rows → HaveValues (at_row id change missing rows)
 at_row_kept id change missing [] m changed h = m
@@ -103,9 +106,9 @@ is_text action.HelpLong = true
 is_text action.Version = true
 is_text _ = false
 
--- a positional, or a flag that prints a text
+-- a positional, or a flag that prints a text or stands for a value
 abbrev asks_plainly : Rule → Bool
-asks_plainly a = is_some a.index || (not (takes_values a) && is_text (action_of a))
+asks_plainly a = is_some a.index || (not (takes_values a) && (is_text (action_of a) || not (is_empty a.missing)))
 
 -- an action that prints a text changes no row
 text_used : (x : ArgAction) (id : Text) (how : Reading) (values : List Text) (rows : List Row) → is_text x ≡ true → used_as x id how values rows ≡ rows
@@ -119,18 +122,31 @@ text_used action.HelpShort id how values rows e = refl
 text_used action.HelpLong id how values rows e = refl
 text_used action.Version id how values rows e = refl
 
--- what a flag's name finds changes no row
+only_left : (a : Bool) → (a || false) ≡ true → a ≡ true
+only_left true e = refl
+only_left false e = absurd (true≢false (sym e))
+
+-- a flag that prints a text changes no row, and one that stands for a value leaves each row one
+flag_kept : (x : ArgAction) (id : Text) (how : Reading) (values : List Text) (rows : List Row) → (is_text x || not (is_empty values)) ≡ true → HaveValues rows → HaveValues (used_as x id how values rows)
+flag_kept x id how [] rows e h = subst HaveValues (sym (text_used x id how [] rows (only_left (is_text x) e))) h
+flag_kept x id how (v ∷ vs) rows e h = used_as_kept x id how v vs rows h
+
+-- a use of the argument without a value leaves each row one
+abbrev Keeps : Rule → Type 0
+Keeps a = (rows : List Row) → HaveValues rows → HaveValues (used a [] rows)
+
+-- what a flag's name finds leaves each row a value
 abbrev Flag : Option Rule → Type 0
 Flag None = ⊤
-Flag (Some a) = (takes_values a ≡ false) × ((rows : List Row) → used a [] rows ≡ rows)
+Flag (Some a) = (takes_values a ≡ false) × Keeps a
 
--- what is a positional, or takes no values and prints a text, does the latter where it is no positional
+-- what is a positional, or takes no values and is a flag, is the latter where it is no positional
 bools : (i t x g : Bool) → (i || (not t && x)) ≡ true → (not i && g) ≡ true → (t ≡ false) × (x ≡ true)
 bools true t x g h e = absurd (true≢false (sym e))
 bools false true x g h e = absurd (true≢false (sym h))
 bools false false x g h e = (refl, h)
 
--- where each rule is a positional or a flag that prints a text, a flag that is found changes no row
+-- where each rule is a positional or such a flag, a flag that is found leaves each row a value
 flag_found : (g : Rule → Bool) (c : List Rule) → list_all asks_plainly c ≡ true → Flag (find (λ a. not (is_some a.index) && g a) c)
 flag_found g [] all = tt
 flag_found g (a ∷ c) all =
@@ -140,8 +156,8 @@ flag_found g (a ∷ c) all =
     go : (t : Bool) → (not (is_some a.index) && g a) ≡ t → asks_plainly a ≡ true → Flag (find (λ x. not (is_some x.index) && g x) c)
         → Flag (cond t (Some a) (find (λ x. not (is_some x.index) && g x) c))
     go true e asks rest =
-        let parts = bools (is_some a.index) (takes_values a) (is_text (action_of a)) (g a) asks e in
-        (parts.0, λ rows. text_used (action_of a) a.id (reading_by a) a.missing rows parts.1)
+        let parts = bools (is_some a.index) (takes_values a) (is_text (action_of a) || not (is_empty a.missing)) (g a) asks e in
+        (parts.0, λ rows h. flag_kept (action_of a) a.id (reading_by a) a.missing rows parts.1 h)
     go false e asks rest = rest
 
 -- ---- the walk
@@ -150,15 +166,15 @@ module _ (c : List Rule) (plainly : list_all asks_plainly c ≡ true) where
   settled_sound : (h : Held) → Sound h → Sound (settled c h)
   settled_sound h s = record { rows = settled_kept c h.pending h.rows s.pending s.rows; pending = tt }
 
-  reacted_sound : (a : Rule) (h : Held) → ((rows : List Row) → used a [] rows ≡ rows) → Sound h → Sound (reacted c a [] h)
-  reacted_sound a h same s = record {
-    rows = subst HaveValues (sym (same (settled c h).rows)) (settled_kept c h.pending h.rows s.pending s.rows);
+  reacted_sound : (a : Rule) (h : Held) → Keeps a → Sound h → Sound (reacted c a [] h)
+  reacted_sound a h keeps s = record {
+    rows = keeps (settled c h).rows (settled_kept c h.pending h.rows s.pending s.rows);
     pending = tt;
   }
 
-  flag_sound : (a : Rule) (v : Option Text) (h : Held) → ((rows : List Row) → used a [] rows ≡ rows) → Sound h → Sound (flag_met c a v h).0
-  flag_sound a (Some v) h same s = s
-  flag_sound a None h same s = reacted_sound a h same s
+  flag_sound : (a : Rule) (v : Option Text) (h : Held) → Keeps a → Sound h → Sound (flag_met c a v h).0
+  flag_sound a (Some v) h keeps s = s
+  flag_sound a None h keeps s = reacted_sound a h keeps s
 
   long_sound : (found : Option Rule) (v : Option Text) (h : Held) → Flag found → Sound h → Sound (long_met c found v h).0
   long_sound None v h f s = s
@@ -432,7 +448,7 @@ each_found P q (s ∷ rest) none each = go (q s) refl (each_found P q rest none 
     go true e found = each.0 e
     go false e found = found
 
--- the args name all of the command that was met
+-- the arguments name all of the command that was met
 abbrev NamesAll : List Text → Option Shape → Type 0
 NamesAll args o = option_map_or (λ s. level_passes s [] nothing_held args false) o true ≡ true → is_some (option_map (λ s. rows_at s args) o) ≡ true
     → LeavesOut (option_map (λ s. rows_at s args) o) → ⊥
@@ -447,7 +463,7 @@ command_at k = slice_index_or (built pslink_app).subs k (built pslink_app).top
 abbrev rows_at_command : ℕ → List Text → List Row
 rows_at_command k args = rows_after (command_at k).rules [] args
 
--- args that clap takes for `link` leave out neither HOST nor OUT
+-- arguments that clap accepts for `link` leave out neither HOST nor OUT
 link_named : (args : List Text) → NamesAll args (Some (command_at 0))
 link_named args level some leaves =
     let rows = rows_at_command 0 args in
@@ -459,7 +475,7 @@ link_named args level some leaves =
       | inr none ↦ named (codes "OUT") rows full out.0 none
     ]
 
--- args that clap takes for `map` do not leave out HOST
+-- arguments that clap accepts for `map` do not leave out HOST
 map_named : (args : List Text) → NamesAll args (Some (command_at 1))
 map_named args level some leaves =
     let rows = rows_at_command 1 args in
@@ -467,7 +483,7 @@ map_named args level some leaves =
     let host = both (is_given (codes "HOST") rows) _ (leaf_given (command_at 1) args level) in
     named (codes "HOST") rows full host.0 ((leaves rows).1 refl)
 
--- args that clap takes for `show` do not leave out FILE
+-- arguments that clap accepts for `show` do not leave out FILE
 show_named : (args : List Text) → NamesAll args (Some (command_at 2))
 show_named args level some leaves =
     let rows = rows_at_command 2 args in
@@ -475,27 +491,32 @@ show_named args level some leaves =
     let file = both (is_given (codes "FILE") rows) _ (leaf_given (command_at 2) args level) in
     named (codes "FILE") rows full file.0 ((leaves rows).2 refl)
 
-or_false : (a : Bool) → (a || false) ≡ true → a ≡ true
-or_false true e = refl
-or_false false e = absurd (true≢false (sym e))
+-- arguments that clap accepts for `check` do not leave out HOST
+check_named : (args : List Text) → NamesAll args (Some (command_at 3))
+check_named args level some leaves =
+    let rows = rows_at_command 3 args in
+    let full : HaveValues rows = rows_have_values (command_at 3).rules refl [] args in
+    let host = both (is_given (codes "HOST") rows) _ (leaf_given (command_at 3) args level) in
+    named (codes "HOST") rows full host.0 ((leaves rows).3 refl)
 
 -- the command that prints help has another name
-other_name : (name : Text) → is_help name ≡ false → answers_to name (label_of (command_at 3)) ≡ true → ⊥
+other_name : (name : Text) → is_help name ≡ false → answers_to name (label_of (command_at 4)) ≡ true → ⊥
 other_name name other answers =
-    let same : codes "help" ≡ name = (bytes_eq-Decides (codes "help") name).0 (or_false _ answers) in
+    let same : codes "help" ≡ name = (bytes_eq-Decides (codes "help") name).0 (only_left _ answers) in
     true≢false (sym ((bytes_eq-Decides name (codes "help")).1 (sym same)) ∙ other)
 
 each_named : (name : Text) (args : List Text) → is_help name ≡ false → Each (NamesAll args) (λ s. answers_to name (label_of s)) (built pslink_app).subs
-each_named name args other = ((λ _. link_named args), ((λ _. map_named args), ((λ _. show_named args), ((λ answers. absurd (other_name name other answers)), tt))))
+each_named name args other = ((λ _. link_named args), ((λ _. map_named args), ((λ _. show_named args), ((λ _. check_named args), ((λ answers. absurd (other_name name other answers)), tt)))))
 
--- where a walk stops at a command other than help, args that clap takes for it leave out nothing that it has to have
+-- where a walk stops at a command other than help, arguments that clap accepts for it leave out
+-- nothing that it has to have
 entered_named : (stop : Option (Text × List Text)) → Stops stop → entered_passes (built pslink_app) stop ≡ true → is_some (entered (built pslink_app) stop) ≡ true
     → LeavesOut (entered (built pslink_app) stop) → ⊥
 entered_named None other passes some leaves = true≢false (sym some)
 entered_named (Some p) other passes some leaves =
     each_found (NamesAll p.1) (λ s. answers_to p.0 (label_of s)) (built pslink_app).subs (none_named p.1) (each_named p.0 p.1 other) passes some leaves
 
--- args that clap takes leave out nothing that they have to name
+-- arguments that clap accepts leave out nothing that they have to name
 pub taken_leaves_nothing_out : (args : List Text) → takes pslink_app args ≡ true → LeavesOut (subcommand_of pslink_app args) → ⊥
 taken_leaves_nothing_out args taken leaves =
     let a = built pslink_app in

@@ -1,9 +1,10 @@
--- The command line of `pslink`, as clap's contracts see it: the commands, and the arguments of each.
+-- The command line of `pslink`, as clap's contracts see it: the commands, and the arguments of
+-- each.
 -- Source: this project's profile.
 use Rattle.std.specs.Prelude.{◌≡◌, List, Option, map, true, Some, codes}
 use Rattle.std.specs.Borrow.{Bor}
 use Rattle.clap.specs.Words.{App, Row, Rule, Text, new_app, new_rule, subcommand_of, takes, with_rule, with_subcommand}
-use Rattle.clap.specs.declared.builder.ArgAction.TheVariants.{Set, Append}
+use Rattle.clap.specs.declared.builder.ArgAction.TheVariants.{Set, SetTrue, Append}
 
 -- a file that has to be named
 abbrev pub file_rule : Text → Rule
@@ -25,23 +26,32 @@ map_app = with_rule (with_rule (new_app (codes "map")) (file_rule (codes "HOST")
 abbrev pub show_app : App
 show_app = with_rule (new_app (codes "show")) (file_rule (codes "FILE"))
 
+-- `--strict`
+abbrev pub strict_rule : Rule
+strict_rule = record (new_rule (codes "strict")) { long = Some (codes "strict"); action = Some SetTrue }
+
+-- `check [--strict] HOST [LIB]...`
+abbrev pub check_app : App
+check_app = with_rule (with_rule (with_rule (new_app (codes "check")) (file_rule (codes "HOST"))) libraries_rule) strict_rule
+
 -- `pslink`, of which a command is required
 abbrev pub bare_app : App
 bare_app = record (new_app (codes "pslink")) {
   top = record (new_app (codes "pslink")).top { has_version = true; subcommand_required = true };
 }
 
+-- `pslink` with its four commands
 abbrev pub pslink_app : App
-pslink_app = with_subcommand (with_subcommand (with_subcommand bare_app link_app.top) map_app.top) show_app.top
+pslink_app = with_subcommand (with_subcommand (with_subcommand (with_subcommand bare_app link_app.top) map_app.top) show_app.top) check_app.top
 
--- the texts of args
+-- the texts of arguments
 abbrev pub texts : List (Bor Text) → List Text
 texts args = map (λ arg. arg.now) args
 
--- clap takes these args
-abbrev pub AreTaken : List Text → Type 0
-AreTaken args = takes pslink_app args ≡ true
+-- clap accepts these arguments
+abbrev pub AreAccepted : List Text → Type 0
+AreAccepted args = takes pslink_app args ≡ true
 
--- the command that args name, and what is named for it
+-- the command that arguments name, and what is named for it
 abbrev pub named_in : List Text → Option (Text × List Row)
 named_in args = subcommand_of pslink_app args

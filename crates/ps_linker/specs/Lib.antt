@@ -1,6 +1,6 @@
 pub mod CommandLine
 pub mod Requests
 pub mod Statuses
-pub mod Lines
+pub mod SummaryLine
 pub mod Printed
 pub mod Reading

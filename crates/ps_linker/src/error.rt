@@ -5,7 +5,7 @@ ghost use Rattle.clap.specs.declared.error.ErrorKind.TheVariants.{OutOfMemory};
 ghost use Rattle.ps_linker.specs.declared.error.CommandError.TheVariants.{Memory, StandardOutput, Usage};
 ghost use Rattle.ps_linkfile.specs.declared.error.LinkError.TheVariants.{Write};
 ghost use Rattle.ps_linkfile.specs.declared.error.WriteFault.{WriteFault};
-ghost use Rattle.ps_linker.specs.Statuses.{status_of};
+ghost use Rattle.ps_linker.specs.Statuses.{command_error_of, status_of};
 
 use clap::error::ErrorKind;
 use ps_linkfile::{LinkError, WriteFault};
@@ -15,15 +15,16 @@ use std::io::Write;
 use thiserror::Error;
 
 /// Each text that the program writes to standard error, with what the text names.
+/// Source: this project's profile.
 #[derive(Debug, Drop, Error)]
 pub enum CommandError<'a> {
     /// The files are refused.
     #[error("pslink: {0}")]
     Refused(Fault),
-    /// The args of the command line are none that the program takes.
+    /// The program does not accept the arguments of the command line.
     #[error("{0}")]
     Usage(clap::Error),
-    /// An arg of the command line is not UTF-8.
+    /// An argument of the command line is not UTF-8.
     #[error("pslink: the arguments of a command are UTF-8")]
     NotText,
     #[error("pslink: cannot read {path}")]
@@ -75,7 +76,7 @@ impl From<WriteFault> for CommandError<'_> {
 }
 
 impl From<LinkError> for CommandError<'_> {
-    ghost from_gives = { λ error e. (status_of e ≢ 2) × ((fault : WriteFault) → error ≡ Write fault → e ≡ StandardOutput) };
+    ghost from_gives = { λ error e. (e ≡ command_error_of error) × (status_of e ≢ 2) × ((fault : WriteFault) → error ≡ Write fault → e ≡ StandardOutput) };
 
     /// What could not be written is standard output, since a file is named where it is written.
     fn from(error: LinkError) -> Self {
@@ -89,6 +90,7 @@ impl From<LinkError> for CommandError<'_> {
 
 impl CommandError<'_> {
     /// What the process ends with.
+    /// Source: this project's profile.
     pub fn status(&self) -> u8
         ensures { result ≡ status_of self.now }
     {
@@ -103,7 +105,8 @@ impl CommandError<'_> {
         }
     }
 
-    /// Writes the text, and returns the status. A text that cannot be written is let go.
+    /// Writes the text, and returns the status. If the text cannot be written, that is ignored.
+    /// Source: this project's profile.
     pub fn report<E: Write>(&self, err: &mut E) -> u8
         ensures { result ≡ status_of self.now }
     {

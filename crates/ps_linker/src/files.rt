@@ -1,8 +1,9 @@
 //! Files that are read whole.
 ghost use Rattle.std.specs.Prelude.{◌≡◌, ◌≢◌, ◌≤◌, ℕ, List, length, map, IfErr, IfOk, IfSome, ⊤};
 ghost use Rattle.std.specs.List.{AllZip};
-ghost use Rattle.ps_linker.specs.Reading.{Reads};
+ghost use Rattle.ps_linker.specs.Reading.{IsReadError, IsTooLong, Reads, read_error};
 ghost use Rattle.ps_linker.specs.Statuses.{status_of};
+ghost use Rattle.ps_linker.specs.declared.files.FileFault.TheVariants.{Device, Memory};
 
 use crate::error::CommandError;
 use crate::request::Inputs;
@@ -15,31 +16,58 @@ use std::{fs, io};
 /// The longest file that is read, in bytes.
 const LONGEST: usize = 67_108_864;
 
-/// How many bytes a read asks for.
+/// How many bytes a read requests.
 const CHUNK: usize = 65_536;
 
 /// Why a file was not read whole.
 #[derive(Clone, Copy, Debug, PartialEq, Eq)]
-enum ReadFault {
+enum FileFault {
     Device,
     TooLong,
     Memory,
 }
 
-impl<T: Drop> From<AllocFailed<T>> for ReadFault {
-    fn from(_error: AllocFailed<T>) -> ReadFault {
-        ReadFault::Memory
+impl From<io::Error> for FileFault {
+    ghost from_gives = { λ _ fault. fault ≡ Device };
+
+    fn from(_error: io::Error) -> FileFault {
+        FileFault::Device
     }
 }
 
-impl From<AllocError> for ReadFault {
-    fn from(_error: AllocError) -> ReadFault {
-        ReadFault::Memory
+impl<T: Drop> From<AllocFailed<T>> for FileFault {
+    ghost from_gives = { λ _ fault. fault ≡ Memory };
+
+    fn from(_error: AllocFailed<T>) -> FileFault {
+        FileFault::Memory
     }
 }
 
-/// Opens the files of a command. What runs a command is generic over it, so that contracts say of bytes at which path they
+impl From<AllocError> for FileFault {
+    ghost from_gives = { λ _ fault. fault ≡ Memory };
+
+    fn from(_error: AllocError) -> FileFault {
+        FileFault::Memory
+    }
+}
+
+impl FileFault {
+    /// What is reported of the file at `path`.
+    fn at<'a>(self, path: &'a str) -> CommandError<'a>
+        ensures { result ≡ read_error path.entry self }
+    {
+        match self {
+            FileFault::Device => CommandError::Read { path },
+            FileFault::TooLong => CommandError::TooLong { path },
+            FileFault::Memory => CommandError::Memory,
+        }
+    }
+}
+
+/// Opens the files of a command. What runs a command is generic over it, so that contracts say of
+/// bytes at which path they
 /// were read: no contract says what a file of the system holds.
+/// Source: this project's profile.
 pub trait CodeFiles {
     /// A file that is read.
     type Opened: Read + Drop;
@@ -57,7 +85,8 @@ pub trait CodeFiles {
     /// Creates or empties the file at `path`.
     fn create(&self, path: &str) -> io::Result<Self::Created>;
 
-    /// How many bytes `file` is said to have, and 0 where nothing is said of it. A read may give more bytes than that, or less.
+    /// How many bytes `file` is said to have, and 0 where nothing is said of it. A read may give
+    /// more bytes than that, or less.
     fn length_hint(file: &Self::Opened) -> usize;
 }
 
@@ -88,18 +117,20 @@ impl<R: Files> CodeFiles for R {
 }
 
 /// What the files of a host and of its libraries hold.
+/// Source: this project's profile.
 #[derive(Drop)]
-pub struct Contents<A: Allocator> {
+pub struct InputBytes<A: Allocator> {
     pub host: Vec<u8, A>,
     pub libraries: Vec<Vec<u8, A>, A>,
 }
 
 /// Reads the host and then each library, in their order.
+/// Source: this project's profile.
 pub fn read_inputs<'a, R: CodeFiles, A: Allocator + Copy>(
     rt: &R,
     alloc: A,
     inputs: &Inputs<'a, A>,
-) -> Result<Contents<A>, CommandError<'a>>
+) -> Result<InputBytes<A>, CommandError<'a>>
     ensures host { IfOk result (λ contents. Reads (R.opened rt.now) R.Opened.remaining
         inputs.now.host.now contents.host.items) }
     ensures libraries { IfOk result (λ contents. AllZip
@@ -113,10 +144,11 @@ pub fn read_inputs<'a, R: CodeFiles, A: Allocator + Copy>(
     for path in inputs.libraries.iter() {
         libraries.push(read(rt, alloc, *path)?)?;
     }
-    Ok(Contents { host, libraries })
+    Ok(InputBytes { host, libraries })
 }
 
 /// Reads the file at `path` to its end.
+/// Source: this project's profile.
 pub fn read<'a, R: CodeFiles, A: Allocator + Copy>(
     rt: &R,
     alloc: A,
@@ -126,43 +158,50 @@ pub fn read<'a, R: CodeFiles, A: Allocator + Copy>(
     ensures whole { IfOk result (λ bytes. Reads (R.opened rt.now) R.Opened.remaining path.entry.now
         bytes.items) }
     ensures err { IfErr result (λ e. status_of e ≢ 2) }
+
+    // It cannot be read; or it was opened, and it is too long or memory ran out.
+    ensures why { IfErr result
+        (IsReadError (R.opened rt.now) R.Opened.remaining path.entry) }
 {
-    let Ok(mut file) = rt.open(path) else {
-        return Err(CommandError::Read { path });
+    let mut file = match rt.open(path) {
+        Ok(file) => file,
+        Err(error) => return Err(FileFault::from(error).at(path)),
     };
     let hint = R::length_hint(&file);
     match read_to_end(&mut file, alloc, hint) {
         Ok(bytes) => Ok(bytes),
-        Err(ReadFault::Device) => Err(CommandError::Read { path }),
-        Err(ReadFault::TooLong) => Err(CommandError::TooLong { path }),
-        Err(ReadFault::Memory) => Err(CommandError::Memory),
+        Err(fault) => Err(fault.at(path)),
     }
 }
 
-/// Reads what is left, in at most `LONGEST + 1` reads. No read is repeated after an error. There is room for `hint` bytes from
-/// the start, so that no more memory is taken where so many are left: a read that finds the end takes none.
+/// Reads what is left, in at most `LONGEST + 1` reads. No read is repeated after an error. There is
+/// room for `hint` bytes from
+/// the start, so that no more memory is taken where so many are left: a read that finds the end
+/// takes none.
 fn read_to_end<F: Read, A: Allocator + Copy>(
     file: &mut F,
     alloc: A,
     hint: usize,
-) -> Result<Vec<u8, A>, ReadFault>
+) -> Result<Vec<u8, A>, FileFault>
     ensures bound { IfOk result (λ bytes. length bytes.items ≤ 67108864) }
     ensures whole { IfOk result (λ bytes. IfSome (F.remaining file.old)
         (λ left. bytes.items ≡ left)) }
+    ensures long { IfErr result (λ fault. fault ≡ FileFault.TooLong
+        → IsTooLong (F.remaining file.old)) }
 {
     let mut all = Vec::with_capacity(alloc, hint.min(LONGEST))?;
     let mut chunk = [0u8; CHUNK];
     'read: for _ in 0..=LONGEST {
         let Ok(n) = file.read(&mut chunk) else {
-            return Err(ReadFault::Device);
+            return Err(FileFault::Device);
         };
         if n == 0 {
             return Ok(all);
         }
         if LONGEST - all.len() < n {
-            return Err(ReadFault::TooLong);
+            return Err(FileFault::TooLong);
         }
         all.extend_from_slice(&chunk[..n])?;
     }
-    Err(ReadFault::Device)
+    Err(FileFault::Device)
 }

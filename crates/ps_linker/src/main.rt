@@ -1,13 +1,15 @@
-//! `pslink`, the Linker of UCSD Pascal II.0 for Pascal hosts and units, as a program: `run` does one command over any
-//! runtime, allocator and writers, and `main` calls it with the args and the standard streams of the process.
+//! `pslink`, the Linker of UCSD Pascal II.0 for Pascal hosts and units, as a program: `run` does
+//! one command over any
+//! runtime, allocator and writers, and `main` calls it with the arguments and the standard streams
+//! of the process.
 #![tactic(auto)]
 
-ghost use Rattle.std.specs.Prelude.{◌≡◌, ◌≢◌, ◌≤◌, IfErr, IfOk, map, string_bytes};
+ghost use Rattle.std.specs.Prelude.{◌≡◌, ◌≢◌, ◌≤◌, ◌⊎◌, IfErr, IfOk, map, string_bytes};
 ghost use Rattle.std.specs.Process.{exit_status};
-ghost use Rattle.ps_linker.specs.CommandLine.{AreTaken, named_in};
+ghost use Rattle.ps_linker.specs.CommandLine.{AreAccepted, named_in};
 ghost use Rattle.ps_linker.specs.Printed.{Prints};
 ghost use Rattle.ps_linker.specs.Reading.{Reads};
-ghost use Rattle.ps_linker.specs.Requests.{WritesLibrary};
+ghost use Rattle.ps_linker.specs.Requests.{NamesCheck, WritesLibrary};
 
 mod error;
 mod files;
@@ -33,7 +35,9 @@ fn main(rt: HostRuntime) -> ExitCode {
 fn run_process<O: Write, E: Write>(rt: &HostRuntime, out: &mut O, err: &mut E) -> ExitCode
     ensures known { exit_status result ≤ 4 }
     ensures silent { exit_status result ≡ 0 → err.new ≡ err.old }
-    ensures unprinted { exit_status result ≢ 0 → exit_status result ≢ 3 → out.new ≡ out.old }
+    // Status 1 leaves anything there only if the report of a check names the refusal.
+    ensures unprinted { exit_status result ≢ 0 → exit_status result ≢ 1 → exit_status result ≢ 3
+        → out.new ≡ out.old }
 {
     match given_args(rt) {
         Ok(args) => run_args(rt, args.as_slice(), out, err),
@@ -41,18 +45,21 @@ fn run_process<O: Write, E: Write>(rt: &HostRuntime, out: &mut O, err: &mut E) -
     }
 }
 
-/// The args of the command line, the program's name first.
-fn given_args(rt: &HostRuntime) -> Result<Vec<String>, CommandError<'static>> {
+/// The arguments of the command line, the program's name first.
+fn given_args(rt: &HostRuntime) -> Result<Vec<String>, CommandError<'static>>
+    ensures { IfErr result (λ e. (e ≡ CommandError.Memory) ⊎ (e ≡ CommandError.NotText)) }
+{
     match env::args(rt) {
         Ok(args) => Ok(args.collect(rt.alloc())?),
         Err(error) => Err(args_fault(error.kind())),
     }
 }
 
-/// Why there are no args, by the kind of the error that asking for them gave.
+/// Why there are no arguments, by the kind of the error that reading them gave.
 fn args_fault(kind: ErrorKind) -> CommandError<'static>
     ensures memory { kind ≡ ErrorKind.OutOfMemory → result ≡ CommandError.Memory }
     ensures text { kind ≢ ErrorKind.OutOfMemory → result ≡ CommandError.NotText }
+    ensures either { (result ≡ CommandError.Memory) ⊎ (result ≡ CommandError.NotText) }
 {
     match kind {
         ErrorKind::OutOfMemory => CommandError::Memory,
@@ -60,7 +67,7 @@ fn args_fault(kind: ErrorKind) -> CommandError<'static>
     }
 }
 
-/// Runs the command of these args, as `run` does, and returns its status.
+/// Runs the command of these arguments, as `run` does, and returns its status.
 fn run_args<R: CodeFiles + AllocGlobal, O: Write, E: Write>(
     rt: &R,
     given: &[String],
@@ -69,15 +76,20 @@ fn run_args<R: CodeFiles + AllocGlobal, O: Write, E: Write>(
 ) -> ExitCode
     ensures known { exit_status result ≤ 4 }
     ensures silent { exit_status result ≡ 0 → err.new ≡ err.old }
-    ensures printed { AreTaken (map string_bytes given.now) → exit_status result ≡ 0
+    ensures printed { AreAccepted (map string_bytes given.now) → exit_status result ≡ 0
         → Prints (Reads (R.opened rt.now) R.Opened.remaining)
-        (named_in (map string_bytes given.now)) (O.contents out.old) (O.contents out.new) }
-    ensures misused { AreTaken (map string_bytes given.now)
+        (named_in (map string_bytes given.now)) 0 (O.contents out.old) (O.contents out.new) }
+    ensures reported { AreAccepted (map string_bytes given.now) → exit_status result ≡ 1
+        → (out.new ≡ out.old) ⊎ Prints (Reads (R.opened rt.now) R.Opened.remaining)
+        (named_in (map string_bytes given.now)) 1 (O.contents out.old) (O.contents out.new) }
+    ensures misused { AreAccepted (map string_bytes given.now)
         → WritesLibrary (named_in (map string_bytes given.now)) → exit_status result ≢ 4
         → exit_status result ≡ 2 }
-    ensures usage { AreTaken (map string_bytes given.now) → exit_status result ≡ 2
+    ensures usage { AreAccepted (map string_bytes given.now) → exit_status result ≡ 2
         → WritesLibrary (named_in (map string_bytes given.now)) }
-    ensures unprinted { exit_status result ≢ 0 → exit_status result ≢ 3 → out.new ≡ out.old }
+    ensures unprinted { exit_status result ≢ 0 → exit_status result ≢ 3
+        → (out.new ≡ out.old)
+        ⊎ ((exit_status result ≡ 1) × NamesCheck (named_in (map string_bytes given.now))) }
 {
     match slices(rt.alloc(), given) {
         Ok(args) => ExitCode::from(run(rt, rt.alloc(), args.as_slice(), out, err)),
@@ -85,7 +97,7 @@ fn run_args<R: CodeFiles + AllocGlobal, O: Write, E: Write>(
     }
 }
 
-/// The args, in their order.
+/// The arguments, in their order.
 fn slices<'w>(alloc: Global, given: &'w [String]) -> Result<Vec<&'w str>, CommandError<'static>>
     ensures ok { IfOk result (λ args. map (λ arg. arg.now) args.items
         ≡ map string_bytes given.now) }

@@ -1,7 +1,7 @@
 //! What is printed on standard output.
 ghost use Rattle.std.specs.Prelude.{◌≡◌, ◌++◌, IfErr, OnOk, string_bytes};
 ghost use Rattle.std.specs.Io.KnownBytes.{Appends};
-ghost use Rattle.ps_linker.specs.Lines.{summary_line};
+ghost use Rattle.ps_linker.specs.SummaryLine.{summary_line};
 ghost use Rattle.ps_linker.specs.declared.error.CommandError.TheVariants.{StandardOutput};
 
 use crate::error::CommandError;
@@ -11,6 +11,7 @@ use std::fmt::Write as _;
 use std::io::Write;
 
 /// Writes all of `text`. No write is repeated after an error.
+/// Source: this project's profile.
 pub fn print<O: Write>(out: &mut O, text: &[u8]) -> Result<(), CommandError<'static>>
     ensures ok { OnOk result (Appends (O.contents out.old) (O.contents out.new) text.now) }
     ensures err { IfErr result (λ e. e ≡ StandardOutput) }
@@ -26,6 +27,7 @@ pub fn print<O: Write>(out: &mut O, text: &[u8]) -> Result<(), CommandError<'sta
 }
 
 /// Adds the line of a link to `line`.
+/// Source: this project's profile.
 pub fn add_summary<A: Allocator>(line: &mut String<A>, summary: Summary) -> Result<(), AllocError>
     ensures { OnOk result (string_bytes line.new ≡ string_bytes line.old ++ summary_line summary) }
 {

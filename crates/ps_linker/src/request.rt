@@ -1,9 +1,9 @@
-//! What the args of a command line ask for.
+//! What the arguments of a command line ask the program to do.
 ghost use Rattle.std.specs.Prelude.{◌≡◌, ◌≢◌, ◌⊎◌, IfErr, IfOk, Some, None, codes, map, false};
 ghost use Rattle.clap.specs.Words.{app_of, first_of, found_of, kind_of, rows_of, rule_of, subcommand_rows_of};
 ghost use Rattle.clap.specs.declared.Command.TheViews.{out-Command};
-ghost use Rattle.ps_linker.specs.CommandLine.{AreTaken, file_rule, libraries_rule, link_app, map_app, named_in, pslink_app, show_app, texts};
-ghost use Rattle.ps_linker.specs.Requests.{IsAsked, IsNamedCommand, LeavesOut, NamesInputs, WritesLibrary, libraries_of};
+ghost use Rattle.ps_linker.specs.CommandLine.{AreAccepted, check_app, file_rule, libraries_rule, link_app, map_app, named_in, pslink_app, show_app, strict_rule, texts};
+ghost use Rattle.ps_linker.specs.Requests.{IsAsked, IsNamedCommand, LeavesOut, NamesInputs, WritesLibrary, is_strict as is_strict_spec, libraries_of};
 ghost use Rattle.ps_linker.specs.Statuses.{status_of};
 
 use crate::error::CommandError;
@@ -28,13 +28,14 @@ A name that begins with a dash is given as ./-name, or after --. See pslink(1)."
 const LINK_ENDING: &str = "Example:
   pslink link host.code linked.code library.code
 
-OUT is opened once all is read and checked, and is written in place. A write that
-fails leaves its first part; where OUT is HOST, the host is then lost. To be safe:
-  pslink link host.code host.new library.code &&
-      mv host.new host.code
-The second file is always OUT: where it is forgotten, the first LIB is taken for it,
-and is overwritten if the link succeeds. With /dev/stdout as OUT the summary and the
-file are mixed: use /dev/fd/3 and 3>&1. A file is read from a pipe as /dev/stdin.
+OUT is opened once everything was checked, and is written in place. If a write fails,
+OUT has the first part of the linked file. A linked file is no host any more, so keep
+the host:
+  pslink link host.code linked.new library.code &&
+      mv linked.new linked.code
+The second file is always OUT. If it is forgotten, the first LIB is taken as OUT, and
+is overwritten if the link succeeds. With /dev/stdout as OUT the summary and the file
+are mixed: use /dev/fd/3 and 3>&1. A file is read from a pipe as /dev/stdin.
 
 Exit status:
   0  the command was done
@@ -71,7 +72,25 @@ Exit status:
 
 A name that begins with a dash is given as ./-name, or after --. See pslink(1).";
 
-/// What the args of a command line ask for.
+/// What the help of `check` ends with.
+const CHECK_ENDING: &str = "Example:
+  pslink check host.code library.code
+
+The report is for a person: the files, where each segment comes from, whether they
+are linked, and if not what is wrong and what to do. A line that begins with
+'warning: ' reports what looks wrong and is no fault. No file is written.
+
+Exit status:
+  0  the files are linked
+  1  the files are refused; with --strict, or there is a warning
+  2  wrong usage
+  3  a file could not be read, or standard output failed
+  4  out of memory
+
+A name that begins with a dash is given as ./-name, or after --. See pslink(1).";
+
+/// What the arguments of a command line ask the program to do.
+/// Source: this project's profile.
 #[derive(Drop)]
 pub enum Request<'a, A: Allocator> {
     /// Prints the help or the version.
@@ -82,16 +101,21 @@ pub enum Request<'a, A: Allocator> {
     Map { inputs: Inputs<'a, A> },
     /// Prints what `file` has.
     Show { file: &'a str },
+    /// Prints the report of a check of the inputs; if it is `strict`, a warning is reported by the
+    /// status too.
+    Check { inputs: Inputs<'a, A>, strict: bool },
 }
 
-/// The paths of a host and of the libraries, in the order in which units are sought in them.
+/// The paths of a host and of the libraries, in the order in which units are looked up in them.
+/// Source: this project's profile.
 #[derive(Drop)]
 pub struct Inputs<'a, A: Allocator> {
     pub host: &'a str,
     pub libraries: Vec<&'a str, A>,
 }
 
-/// Reads the args, of which the first is the program's name.
+/// Reads the arguments, of which the first is the program's name.
+/// Source: this project's profile.
 pub fn parse<'a, A: Allocator + Copy>(
     heap: Global,
     alloc: A,
@@ -99,12 +123,13 @@ pub fn parse<'a, A: Allocator + Copy>(
 ) -> Result<Request<'a, A>, CommandError<'a>>
     ensures asked { IfOk result (λ r. IsAsked r (named_in (texts args.now))) }
 
-    // Args that clap takes name a command, and ask for no help.
-    ensures named { AreTaken (texts args.now)
+    // Arguments that clap accepts name a command, and ask for no help.
+    ensures named { AreAccepted (texts args.now)
         → IfOk result (λ r. IsNamedCommand r (named_in (texts args.now))) }
 
-    // Args that clap takes are refused because memory runs out, or as wrong usage where OUT is named as a library too.
-    ensures refused { AreTaken (texts args.now)
+    // Arguments that clap accepts are refused because memory runs out, or as wrong usage because
+    // OUT is named as a library too.
+    ensures refused { AreAccepted (texts args.now)
         → IfErr result (λ e. e ≢ CommandError.Memory
         → (status_of e ≡ 2) × WritesLibrary (named_in (texts args.now))) }
 {
@@ -117,10 +142,10 @@ pub fn parse<'a, A: Allocator + Copy>(
     }
 }
 
-/// What `clap` finds in the args.
+/// What `clap` finds in the arguments.
 fn matches<'a>(heap: Global, args: &'a [&'a str]) -> Result<ArgMatches<'a>, clap::Error>
     ensures found { IfOk result (λ m. subcommand_rows_of m ≡ named_in (texts args.now)) }
-    ensures memory { AreTaken (texts args.now)
+    ensures memory { AreAccepted (texts args.now)
         → IfErr result (λ e. kind_of e ≡ ErrorKind.OutOfMemory) }
 {
     command(heap)?.try_get_matches_from(args)
@@ -141,7 +166,8 @@ fn request_of<'a, A: Allocator + Copy>(
         Some(("link", found)) => link_of(heap, alloc, found),
         Some(("map", found)) => map_of(heap, alloc, found),
         Some(("show", found)) => show_of(heap, found),
-        _ => Err(unnamed(heap)),
+        Some(("check", found)) => check_of(heap, alloc, found),
+        _ => Err(missing_argument(heap)),
     }
 }
 
@@ -191,6 +217,31 @@ fn show_of<'a, A: Allocator + Copy>(
     Ok(Request::Show { file })
 }
 
+fn check_of<'a, A: Allocator + Copy>(
+    heap: Global,
+    alloc: A,
+    found: &ArgMatches<'a>,
+) -> Result<Request<'a, A>, CommandError<'a>>
+    ensures named { IfOk result (λ r. IsNamedCommand r
+        (Some (codes "check", rows_of (found_of found.now)))) }
+    ensures refused { IfErr result (λ e. e ≢ CommandError.Memory
+        → LeavesOut (Some (codes "check", rows_of (found_of found.now)))) }
+{
+    let inputs = inputs_of(heap, alloc, found)?;
+    let strict = is_strict(found);
+    Ok(Request::Check { inputs, strict })
+}
+
+/// The flag `--strict` is given.
+fn is_strict(found: &ArgMatches<'_>) -> bool
+    ensures { result ≡ is_strict_spec (rows_of (found_of found.now)) }
+{
+    match found.get_str("strict") {
+        Some(value) => value == "true",
+        None => false,
+    }
+}
+
 fn inputs_of<'a, A: Allocator + Copy>(
     heap: Global,
     alloc: A,
@@ -218,12 +269,12 @@ fn file_of<'a>(
 {
     match found.get_str(argument) {
         Some(path) => Ok(path),
-        None => Err(unnamed(heap)),
+        None => Err(missing_argument(heap)),
     }
 }
 
-/// What is said of args that leave out a command or a file of one, which `clap` does not let pass.
-fn unnamed(heap: Global) -> CommandError<'static> {
+/// The error of arguments that leave out a command or a file of one, which `clap` does not accept.
+fn missing_argument(heap: Global) -> CommandError<'static> {
     let Ok(mut command) = command(heap) else {
         return CommandError::Memory;
     };
@@ -236,7 +287,7 @@ fn unnamed(heap: Global) -> CommandError<'static> {
     }
 }
 
-/// What is said of args that name the file to write as a library too.
+/// The error of arguments that name the file to write as a library too.
 fn written_library(heap: Global, out: &str) -> CommandError<'static>
     ensures { result ≢ CommandError.Memory → status_of result ≡ 2 }
 {
@@ -269,13 +320,14 @@ fn libraries<'a, A: Allocator + Copy>(
     }
 }
 
-/// What the command line takes.
+/// What the command line accepts.
 fn command<'a>(heap: Global) -> Result<Command<'a>, AllocError>
     ensures { IfOk result (λ c. app_of c ≡ pslink_app) }
 {
     let link = link_command(heap)?;
     let map = map_command(heap)?;
     let show = show_command(heap)?;
+    let check = check_command(heap)?;
     Command::new(heap, "pslink")
         .version("0.1.0")
         .about("The Linker of UCSD Pascal II.0 for Pascal hosts and units")
@@ -283,7 +335,8 @@ fn command<'a>(heap: Global) -> Result<Command<'a>, AllocError>
         .subcommand_required(true)
         .subcommand(link)?
         .subcommand(map)?
-        .subcommand(show)
+        .subcommand(show)?
+        .subcommand(check)
 }
 
 fn link_command<'a>(heap: Global) -> Result<Command<'a>, AllocError>
@@ -320,6 +373,17 @@ fn show_command<'a>(heap: Global) -> Result<Command<'a>, AllocError>
         ))
 }
 
+fn check_command<'a>(heap: Global) -> Result<Command<'a>, AllocError>
+    ensures { IfOk result (λ c. (app_of c ≡ check_app) × ((out-Command c).has_globals ≡ false)) }
+{
+    Command::new(heap, "check")
+        .about("Says in words what is wrong with the files and what only looks right")
+        .after_help(CHECK_ENDING)
+        .arg(file(heap, "HOST", "The code file that holds the host program"))?
+        .arg(libraries_argument(heap))?
+        .arg(strict_argument(heap))
+}
+
 fn file<'a>(heap: Global, name: &'a str, help: &'a str) -> Arg<'a>
     ensures rule { rule_of result ≡ file_rule name.entry.now }
     ensures global { result.global ≡ false }
@@ -336,5 +400,15 @@ fn libraries_argument<'a>(heap: Global) -> Arg<'a>
 {
     Arg::new(heap, "LIB")
         .action(ArgAction::Append)
-        .help("A library in which units are sought, in the order given")
+        .help("A library to search for units, in the order given")
+}
+
+fn strict_argument<'a>(heap: Global) -> Arg<'a>
+    ensures rule { rule_of result ≡ strict_rule }
+    ensures global { result.global ≡ false }
+{
+    Arg::new(heap, "strict")
+        .long("strict")
+        .action(ArgAction::SetTrue)
+        .help("Ends with status 1 on a warning too")
 }

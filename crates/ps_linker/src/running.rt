@@ -1,14 +1,14 @@
-//! One command, from its args to its status.
-ghost use Rattle.std.specs.Prelude.{◌≡◌, ◌≢◌, ◌≤◌, IfErr, IfOk, IsErrAnd, OnOk, map};
+//! One command, from its arguments to its status.
+ghost use Rattle.std.specs.Prelude.{◌≡◌, ◌≢◌, ◌≤◌, ◌⊎◌, IfErr, IfOk, IsErrAnd, OnOk, map};
 ghost use Rattle.ps_linkfile.specs.Writing.{summary_in};
-ghost use Rattle.ps_linker.specs.CommandLine.{AreTaken, named_in, texts};
-ghost use Rattle.ps_linker.specs.Printed.{Prints, PrintsLine, PrintsMap, PrintsShow};
+ghost use Rattle.ps_linker.specs.CommandLine.{AreAccepted, named_in, texts};
+ghost use Rattle.ps_linker.specs.Printed.{Prints, PrintsLine, PrintsMap, PrintsReport, PrintsShow};
 ghost use Rattle.ps_linker.specs.Reading.{Reads};
-ghost use Rattle.ps_linker.specs.Requests.{WritesLibrary};
+ghost use Rattle.ps_linker.specs.Requests.{NamesCheck, WritesLibrary};
 ghost use Rattle.ps_linker.specs.Statuses.{status_of};
 
 use crate::error::CommandError;
-use crate::files::{self, CodeFiles, Contents};
+use crate::files::{self, CodeFiles, InputBytes};
 use crate::output;
 use crate::request::{self, Inputs, Request};
 use ps_linkfile::{Counting, Linked, Summary};
@@ -18,18 +18,28 @@ use std::io::Write;
 /// Room for the line that a link prints.
 const SUMMARY_LENGTH: usize = 128;
 
-/// Does the command that `args` name, of which the first is the program's name, and returns the status of the process.
+/// Does the command that `args` name, of which the first is the program's name, and returns the
+/// status of the process.
 ///
-/// `link` writes the linked file to OUT, which is opened only once all is read and checked, and prints its summary to
-/// `out`; `map` prints the map of the link, and `show` what one code file has.
-/// Each file is opened at the path that is named and read to its end, the libraries in the order in which they are named.
+/// `link` writes the linked file to OUT, which is opened only once all is read and checked, and
+/// prints its summary to
+/// `out`; `map` prints the map of the link, `show` what one code file has, and `check` a report on
+/// the files for a person.
+/// Each file is opened at the path that is named and read to its end, the libraries in the order in
+/// which they are named.
 ///
-/// The status is 0 where the command was done, or where the help or the version was asked for; 1 where the files are
-/// refused; 2 where the args are none that the program takes; 3 where a file could not be read or written or is too
-/// long, or standard output failed; 4 where memory was refused. From 1 on, one text that ends with a line end is
-/// written to `err`, and whether that succeeds changes no status.
+/// The status is 0 where the command was done, or where the help or the version was requested; 1
+/// where the files are
+/// refused; 2 where the program does not accept the arguments; 3 where a file could not be read or
+/// written or is too
+/// long, or standard output failed; 4 where memory was refused. From 1 on, one text that ends with
+/// a line end is
+/// written to `err`, and whether that succeeds changes no status. But a report names the refusal
+/// itself: then the
+/// status is 1, as it is on a warning where `check` is strict, and `err` is as it was.
 ///
-/// Memory for the args is taken from `rt`, all other from `alloc`. Source: this project's profile.
+/// Memory for the arguments is taken from `rt`, all other from `alloc`. Source: this project's
+/// profile.
 pub fn run<R: CodeFiles + AllocGlobal, A: Allocator + Copy, O: Write, E: Write>(
     rt: &R,
     alloc: A,
@@ -41,45 +51,70 @@ pub fn run<R: CodeFiles + AllocGlobal, A: Allocator + Copy, O: Write, E: Write>(
     ensures silent { result ≡ 0 → err.new ≡ err.old }
 
     // What was done printed what its command prints, and nothing else.
-    ensures printed { AreTaken (texts args.now) → result ≡ 0
-        → Prints (Reads (R.opened rt.now) R.Opened.remaining) (named_in (texts args.now))
+    ensures printed { AreAccepted (texts args.now) → result ≡ 0
+        → Prints (Reads (R.opened rt.now) R.Opened.remaining) (named_in (texts args.now)) 0
         (O.contents out.old) (O.contents out.new) }
 
-    // Of args that clap takes, those that name OUT as a library too are wrong usage, unless memory runs out, and no others.
-    ensures misused { AreTaken (texts args.now) → WritesLibrary (named_in (texts args.now))
+    // Where files are refused nothing is printed but the report of a check, which names the
+    // refusal.
+    ensures reported { AreAccepted (texts args.now) → result ≡ 1 → (out.new ≡ out.old)
+        ⊎ Prints (Reads (R.opened rt.now) R.Opened.remaining) (named_in (texts args.now)) 1
+        (O.contents out.old) (O.contents out.new) }
+
+    // Of arguments that clap accepts, those that name OUT as a library too are wrong usage, unless
+    // memory runs out, and no others.
+    ensures misused { AreAccepted (texts args.now) → WritesLibrary (named_in (texts args.now))
         → result ≢ 4 → result ≡ 2 }
-    ensures usage { AreTaken (texts args.now) → result ≡ 2
+    ensures usage { AreAccepted (texts args.now) → result ≡ 2
         → WritesLibrary (named_in (texts args.now)) }
 
-    // Only what was done, or a fault of standard output itself, leaves anything there.
-    ensures unprinted { result ≢ 0 → result ≢ 3 → out.new ≡ out.old }
+    // Only what was done, a report, or a fault of standard output itself, leaves anything there.
+    ensures unprinted { result ≢ 0 → result ≢ 3
+        → (out.new ≡ out.old) ⊎ ((result ≡ 1) × NamesCheck (named_in (texts args.now))) }
 {
     match carry_out(rt, alloc, args, out) {
-        Ok(()) => 0,
+        Ok(status) => status,
         Err(error) => error.report(err),
     }
 }
+
+/// Does the command that `args` name, and returns its status, which is 0 where that is no check.
 
 fn carry_out<'a, R: CodeFiles + AllocGlobal, A: Allocator + Copy, O: Write>(
     rt: &R,
     alloc: A,
     args: &'a [&'a str],
     out: &mut O,
-) -> Result<(), CommandError<'a>>
-    ensures ok { AreTaken (texts args.now)
-        → OnOk result (Prints (Reads (R.opened rt.now) R.Opened.remaining)
-        (named_in (texts args.now)) (O.contents out.old) (O.contents out.new)) }
+) -> Result<u8, CommandError<'a>>
+    ensures ok { AreAccepted (texts args.now)
+        → IfOk result (λ status. Prints (Reads (R.opened rt.now) R.Opened.remaining)
+        (named_in (texts args.now)) status (O.contents out.old) (O.contents out.new)) }
+    ensures few { IfOk result (λ status. status ≤ 1) }
+    ensures checked { IfOk result (λ status. status ≢ 0 → NamesCheck (named_in (texts args.now))) }
     ensures err { IfErr result (λ e. status_of e ≢ 3 → out.new ≡ out.old) }
-    ensures misused { AreTaken (texts args.now) → WritesLibrary (named_in (texts args.now))
+    ensures misused { AreAccepted (texts args.now) → WritesLibrary (named_in (texts args.now))
         → IsErrAnd result (λ e. status_of e ≢ 4 → status_of e ≡ 2) }
-    ensures usage { AreTaken (texts args.now)
+    ensures usage { AreAccepted (texts args.now)
         → IfErr result (λ e. status_of e ≡ 2 → WritesLibrary (named_in (texts args.now))) }
 {
     match request::parse(rt.alloc(), alloc, args)? {
-        Request::Text(text) => print_text(rt.alloc(), text, out),
-        Request::Link { inputs, out: path } => link(rt, alloc, inputs, path, out),
-        Request::Map { inputs } => map(rt, alloc, inputs, out),
-        Request::Show { file } => show(rt, alloc, file, out),
+        Request::Text(text) => {
+            print_text(rt.alloc(), text, out)?;
+            Ok(0)
+        }
+        Request::Link { inputs, out: path } => {
+            link(rt, alloc, inputs, path, out)?;
+            Ok(0)
+        }
+        Request::Map { inputs } => {
+            map(rt, alloc, inputs, out)?;
+            Ok(0)
+        }
+        Request::Show { file } => {
+            show(rt, alloc, file, out)?;
+            Ok(0)
+        }
+        Request::Check { inputs, strict } => check(rt, alloc, inputs, strict, out),
     }
 }
 
@@ -95,7 +130,8 @@ fn print_text<O: Write>(
     output::print(out, text.as_bytes())
 }
 
-/// Links, and prints the summary. All is read and checked, and the summary's line has its room, before OUT is opened.
+/// Links, and prints the summary. All is read and checked, and the summary's line has its room,
+/// before OUT is opened.
 fn link<'a, R: CodeFiles, A: Allocator + Copy, O: Write>(
     rt: &R,
     alloc: A,
@@ -110,7 +146,7 @@ fn link<'a, R: CodeFiles, A: Allocator + Copy, O: Write>(
     ensures usage { IfErr result (λ e. status_of e ≢ 2) }
 {
     let mut line = String::with_capacity(alloc, SUMMARY_LENGTH)?;
-    let Contents { host, libraries } = files::read_inputs(rt, alloc, &inputs)?;
+    let InputBytes { host, libraries } = files::read_inputs(rt, alloc, &inputs)?;
     let views = views(alloc, libraries.as_slice())?;
     let linked = ps_linkfile::prepare(alloc, host.as_slice(), views.as_slice())?;
     let summary = write_linked(rt, &linked, path)?;
@@ -118,7 +154,8 @@ fn link<'a, R: CodeFiles, A: Allocator + Copy, O: Write>(
     output::print(out, line.as_bytes())
 }
 
-/// Prints the map of a link. All is read and checked before anything is printed; the text is written in pieces, and takes
+/// Prints the map of a link. All is read and checked before anything is printed; the text is
+/// written in pieces, and takes
 /// no memory.
 fn map<'a, R: CodeFiles, A: Allocator + Copy, O: Write>(
     rt: &R,
@@ -132,7 +169,7 @@ fn map<'a, R: CodeFiles, A: Allocator + Copy, O: Write>(
     ensures err { IfErr result (λ e. status_of e ≢ 3 → out.new ≡ out.old) }
     ensures usage { IfErr result (λ e. status_of e ≢ 2) }
 {
-    let Contents { host, libraries } = files::read_inputs(rt, alloc, &inputs)?;
+    let InputBytes { host, libraries } = files::read_inputs(rt, alloc, &inputs)?;
     let views = views(alloc, libraries.as_slice())?;
     let linked = ps_linkfile::prepare(alloc, host.as_slice(), views.as_slice())?;
     Ok(linked.write_map(out)?)
@@ -154,6 +191,30 @@ fn show<'a, R: CodeFiles, A: Allocator + Copy, O: Write>(
     Ok(ps_linkfile::write_show(file.as_slice(), out)?)
 }
 
+/// Prints the report of a check, and returns its status. The report is whole before anything is
+/// printed.
+fn check<'a, R: CodeFiles, A: Allocator + Copy, O: Write>(
+    rt: &R,
+    alloc: A,
+    inputs: Inputs<'a, A>,
+    strict: bool,
+    out: &mut O,
+) -> Result<u8, CommandError<'a>>
+    ensures ok { IfOk result (λ status. PrintsReport (Reads (R.opened rt.now) R.Opened.remaining)
+        inputs.entry.host.now (map (λ path. path.now) inputs.entry.libraries.items) strict status
+        (O.contents out.old) (O.contents out.new)) }
+    ensures few { IfOk result (λ status. status ≤ 1) }
+    ensures err { IfErr result (λ e. status_of e ≢ 3 → out.new ≡ out.old) }
+    ensures usage { IfErr result (λ e. status_of e ≢ 2) }
+{
+    let InputBytes { host, libraries } = files::read_inputs(rt, alloc, &inputs)?;
+    let views = views(alloc, libraries.as_slice())?;
+    let paths = inputs.libraries.as_slice();
+    let report = ps_report::check(alloc, inputs.host, paths, host.as_slice(), views.as_slice())?;
+    output::print(out, report.text.as_bytes())?;
+    Ok(report.status(strict))
+}
+
 /// Creates or empties the file at `path`, and writes the linked file to it.
 fn write_linked<'a, R: CodeFiles, A: Allocator + Copy>(
     rt: &R,
@@ -173,7 +234,7 @@ fn write_linked<'a, R: CodeFiles, A: Allocator + Copy>(
 }
 
 /// What each file has, in their order.
-// An allocation that `collect` is refused may be asked for again, and then succeed.
+// If an allocation of `collect` is refused, it may be requested again and then succeed.
 fn views<'c, A: Allocator + Copy>(
     alloc: A,
     contents: &'c [Vec<u8, A>],

@@ -1,4 +1,5 @@
-//! The command through `run`: statuses, texts, and what becomes of the files. Each test has its own file names, since all run in
+//! The command through `run`: statuses, texts, and what becomes of the files. Each test has its own
+//! file names, since all run in
 //! one folder.
 mod args;
 mod faulty;

@@ -7,7 +7,7 @@ use Rattle.ps_words.specs.declared.order.Order.{Order}
 use Rattle.ps_words.specs.declared.edit.Edit.{Edit}
 use Rattle.ps_resolve.specs.Plans.{Origin}
 use Rattle.ps_patch.specs.Patched.{patched_or_zero}
-use Rattle.ps_linkfile.specs.LinkedFile.{all_blocks, padded}
+use Rattle.ps_linkfile.specs.LinkedFile.{all_blocks, padded_code}
 use Rattle.ps_linkfile.specs.Writing.{extent_of_origin, padded_codes, HaveEdits}
 use Rattle.ps_linkfile.specs.Outcomes.{AppendsPrefix}
 use Rattle.ps_linkfile.proofs.Extents.{all_blocks-cons}
@@ -27,33 +27,33 @@ pub record IsAt (os : List Origin) (ds : List (List Edit)) (count : ℕ) (o : Or
 pub edits_here : (os : List Origin) (ds : List (List Edit)) (count : ℕ) (o : Origin) (d : List Edit) → IsAt os ds count o d → HaveEdits (drop count os) (drop count ds) → HaveEdits (o ∷ drop (count + 1) os) (d ∷ drop (count + 1) ds)
 edits_here os ds count o d at h = subst (λ (es : List (List Edit)). HaveEdits (o ∷ drop (count + 1) os) es) at.edits (subst (λ (ps : List Origin). HaveEdits ps (drop count ds)) at.origin h)
 
--- the codes so far, the code of this source and those behind it are all codes
+-- the codes so far, the code of this source and those after it are all codes
 joined_here : (order : Order) (os : List Origin) (ds : List (List Edit)) (count : ℕ) (o : Origin) (d : List Edit) (prefix : List ℕ) → IsAt os ds count o d
     → prefix ++ padded_codes order (drop count os) (drop count ds) ≡ padded_codes order os ds
-    → prefix ++ (padded order o.code d ++ padded_codes order (drop (count + 1) os) (drop (count + 1) ds)) ≡ padded_codes order os ds
+    → prefix ++ (padded_code order o.code d ++ padded_codes order (drop (count + 1) os) (drop (count + 1) ds)) ≡ padded_codes order os ds
 joined_here order os ds count o d prefix at h =
     subst (λ (es : List (List Edit)). prefix ++ padded_codes order (o ∷ drop (count + 1) os) es ≡ padded_codes order os ds) at.edits
     (subst (λ (ps : List Origin). prefix ++ padded_codes order ps (drop count ds) ≡ padded_codes order os ds) at.origin h)
 
 -- one code more
 pub codes_more : (order : Order) (os : List Origin) (ds : List (List Edit)) (count : ℕ) (a b c : Option (List ℕ)) (prefix : List ℕ) (o : Origin) (d : List Edit)
-    → IsAt os ds count o d → CodesSoFar order os ds count a b prefix → Appends b c (padded order o.code d) → CodesSoFar order os ds (count + 1) a c (prefix ++ padded order o.code d)
+    → IsAt os ds count o d → CodesSoFar order os ds count a b prefix → Appends b c (padded_code order o.code d) → CodesSoFar order os ds (count + 1) a c (prefix ++ padded_code order o.code d)
 codes_more order os ds count a b c prefix o d at h k = record {
   left = (edits_here os ds count o d at h.left).1;
-  joined = append_assoc prefix (padded order o.code d) (padded_codes order (drop (count + 1) os) (drop (count + 1) ds)) ∙ joined_here order os ds count o d prefix at h.joined;
-  written = appends_twice a b c prefix (padded order o.code d) h.written k;
+  joined = append_assoc prefix (padded_code order o.code d) (padded_codes order (drop (count + 1) os) (drop (count + 1) ds)) ∙ joined_here order os ds count o d prefix at h.joined;
+  written = appends_twice a b c prefix (padded_code order o.code d) h.written k;
 }
 
 -- a prefix of one code more
 pub codes_prefix : (order : Order) (os : List Origin) (ds : List (List Edit)) (count : ℕ) (a b c : Option (List ℕ)) (prefix : List ℕ) (o : Origin) (d : List Edit)
-    → IsAt os ds count o d → CodesSoFar order os ds count a b prefix → AppendsPrefix b c (padded order o.code d) → AppendsPrefix a c (padded_codes order os ds)
+    → IsAt os ds count o d → CodesSoFar order os ds count a b prefix → AppendsPrefix b c (padded_code order o.code d) → AppendsPrefix a c (padded_codes order os ds)
 codes_prefix order os ds count a b c prefix o d at h k =
-    prefix_more a b c prefix (padded order o.code d) (padded_codes order (drop (count + 1) os) (drop (count + 1) ds)) (padded_codes order os ds) (joined_here order os ds count o d prefix at h.joined) h.written k
+    prefix_more a b c prefix (padded_code order o.code d) (padded_codes order (drop (count + 1) os) (drop (count + 1) ds)) (padded_codes order os ds) (joined_here order os ds count o d prefix at h.joined) h.written k
 
 -- the codes are whole blocks
 pub codes_len : (order : Order) (os : List Origin) (ds : List (List Edit)) → HaveEdits os ds → length (padded_codes order os ds) ≡ 512 * all_blocks (map extent_of_origin os)
 codes_len order [] ds h = omega arith
 codes_len order (o ∷ os) [] h = absurd h
 codes_len order (o ∷ os) (d ∷ ds) h =
-    length-append (padded order o.code d) (padded_codes order os ds)
+    length-append (padded_code order o.code d) (padded_codes order os ds)
     ∙ omega (arith, length-map-range_with_len (patched_or_zero order o.code d) 0 (512 * blocks (length o.code)), codes_len order os ds h.1, all_blocks-cons (extent_of_origin o) (map extent_of_origin os))

@@ -36,7 +36,7 @@ pub slots_below : (from : ℕ) (cs : List Extent) → Ascend from cs → All (λ
 slots_below from [] h = All-nil (λ (c : Extent). c.slot < 16)
 slots_below from (c ∷ cs) h = All-cons (λ (d : Extent). d.slot < 16) c cs h.1 (slots_below (c.slot + 1) cs h.2)
 
--- no code stands before the first
+-- no code is before the first
 pub none_before : (from : ℕ) (cs : List Extent) (slot : ℕ) → Ascend from cs → slot ≤ from → filter (λ c. nat_lt c.slot slot) cs ≡ []
 none_before from [] slot h k = refl
 none_before from (c ∷ cs) slot h k =
@@ -50,7 +50,8 @@ none_there from (c ∷ cs) slot h k =
     let no : (c.slot == slot) ≡ false = grind (arith, nat_tests, h.0) in
     rw no (none_there (c.slot + 1) cs slot h.2 (omega (arith, h.0)))
 
--- From a slot on, the codes that are left decide where all stand; the first of them begins in this block.
+-- From a slot on, the codes that are left decide where all are; the first of them begins in this
+-- block.
 pub record Left (all : List Extent) (from block : ℕ) (rest : List Extent) : Type 0 where
   pub ascend : Ascend from rest
   pub behind : (slot : ℕ) → from ≤ slot → block_of all slot ≡ block + all_blocks (filter (λ c. nat_lt c.slot slot) rest)
@@ -143,7 +144,8 @@ laid_next all count starts block from c is h =
     let small = h.small in
     (omega arith, omega arith)
 
--- with one code more laid out, its start is the block that was reached, and the next begins behind its blocks
+-- with one code more laid out, its start is the block that was reached, and the next begins after
+-- its blocks
 pub laid_more : (all : List Extent) (count : ℕ) (starts : List ℕ) (block from : ℕ) (c : Extent)
     → drop count all ≡ c ∷ drop (count + 1) all → c.size ≤ 32767 → LaidSoFar all count starts block from → LaidSoFar all (count + 1) (starts ++ block ∷ []) (block + blocks c.size) (c.slot + 1)
 laid_more all count starts block from c is size h =
@@ -169,7 +171,8 @@ laid_more all count starts block from c is size h =
       blocks = omega arith;
     }
 
--- once all codes are laid out, the starts are the first blocks of all of them, and the block that was reached is
+-- once all codes are laid out, the starts are the first blocks of all of them, and the block that
+-- was reached is
 -- the number of all blocks, the dictionary's counted
 pub laid_done : (all : List Extent) (count : ℕ) (starts : List ℕ) (block from : ℕ) → length all ≤ count → LaidSoFar all count starts block from → (starts ≡ starts_of all) × (block ≡ 1 + all_blocks all)
 laid_done all count starts block from le h =

@@ -8,7 +8,7 @@ use Rattle.std.proofs.lemmas.List.FromFn.{get_or-map-range_with_len}
 use Rattle.std.proofs.lemmas.Option.{same_Some, unwrap_or-slice_get}
 use Rattle.ps_codefile.specs.Dictionary.{slots, name_at}
 use Rattle.ps_resolve.specs.Added.{segments, slot_name, slot_names}
-use Rattle.ps_linkinfo.specs.Counts.{next_of}
+use Rattle.ps_linkinfo.specs.RecordCounts.{next_of}
 use Rattle.ps_resolve.specs.Privates.{total_words}
 use Rattle.ps_resolve.specs.Sources.{Segment, order_of, host_records}
 use Rattle.ps_resolve.specs.Linking.{data_size}
@@ -17,7 +17,7 @@ use Rattle.ps_resolve.specs.declared.definitions.Def.{Def}
 use Rattle.ps_resolve.specs.declared.allotment.Private.{Private}
 use Rattle.ps_resolve.specs.declared.plan.Source.{Source}
 use Rattle.ps_linkfile.specs.LinkedFile.{Extent, extents, block_of, all_blocks}
-use Rattle.ps_linkfile.specs.Writing.{extent_of_origin, extents_of, starts_of, Ascend}
+use Rattle.ps_linkfile.specs.Writing.{extent_of_origin, extents_in, starts_of, Ascend}
 use Rattle.ps_linkfile.specs.MapText.{code_line, segment_line, name_in, source_line, definition_line, private_line, last_line, map_of, map_in}
 use Rattle.ps_linkfile.proofs.Slots.{extent_at, segments_ascend}
 use Rattle.ps_linkfile.proofs.Plans.{plan_extents}
@@ -27,7 +27,8 @@ use Rattle.ps_linkfile.proofs.Views.{no_source, seen, start_at}
 other_slot : (slot : ℕ) (s : Segment) → s.slot ≢ slot → (s.slot == slot) ≡ false
 other_slot slot s differs = ne_eqb s.slot slot differs
 
--- of a row that rises from a number on, each segment has a slot not below it and below 16, and is found by this slot
+-- of a row that rises from a number on, each segment has a slot not below it and below 16, and is
+-- found by this slot
 found_in : (ss : List Segment) (from : ℕ) → Ascend from (map extent_at ss) → (i : ℕ) (s : Segment) → slice_get ss i ≡ Some s → (from ≤ s.slot) × (s.slot < 16) × (find (λ (t : Segment). t.slot == s.slot) ss ≡ Some s)
 found_in [] from a i s h = cc
 found_in (t ∷ ss) from a zero s h =
@@ -67,15 +68,15 @@ plan_map host libs plan h =
     let ss = segments order host libs in
     let cs = extents host libs in
     let next = next_of (host_records ss) in
-    let same : extents_of plan ≡ cs = plan_extents host libs plan h in
-    let sources : flat_map (source_line plan.names (extents_of plan)) plan.origins ≡ flat_map (segment_line cs) ss =
-    ap (λ (names : List (List ℕ)). flat_map (source_line names (extents_of plan)) plan.origins) h.names
+    let same : extents_in plan ≡ cs = plan_extents host libs plan h in
+    let sources : flat_map (source_line plan.names (extents_in plan)) plan.origins ≡ flat_map (segment_line cs) ss =
+    ap (λ (names : List (List ℕ)). flat_map (source_line names (extents_in plan)) plan.origins) h.names
     ∙ (ap (λ (es : List Extent). flat_map (source_line (slot_names host ss) es) plan.origins) same
     ∙ (ap (λ (os : List Origin). flat_map (source_line (slot_names host ss) cs) os) h.origins
     ∙ lines_are (slot_names host ss) cs ss (name_within host ss (segments_ascend order host libs)))) in
-    let last : last_line plan.next_free plan.data_size (1 + all_blocks (extents_of plan)) ≡ last_line (next + total_words ss) (data_size order ss) (1 + all_blocks cs) =
-    ap (λ n. last_line n plan.data_size (1 + all_blocks (extents_of plan))) h.next_free
-    ∙ (ap (λ n. last_line (next + total_words ss) n (1 + all_blocks (extents_of plan))) h.data_size
+    let last : last_line plan.next_free plan.data_size (1 + all_blocks (extents_in plan)) ≡ last_line (next + total_words ss) (data_size order ss) (1 + all_blocks cs) =
+    ap (λ n. last_line n plan.data_size (1 + all_blocks (extents_in plan))) h.next_free
+    ∙ (ap (λ n. last_line (next + total_words ss) n (1 + all_blocks (extents_in plan))) h.data_size
     ∙ ap (λ (es : List Extent). last_line (next + total_words ss) (data_size order ss) (1 + all_blocks es)) same) in
     four _ _ _ _ _ _ _ _ sources (ap (λ (ds : List (List ℕ × Def)). flat_map definition_line ds) h.definitions) (ap (λ (ps : List Private). flat_map private_line ps) h.privates) last
 

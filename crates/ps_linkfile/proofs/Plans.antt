@@ -6,12 +6,12 @@ use Rattle.std.specs.List.{range_with_len, flat_map}
 use Rattle.std.proofs.lemmas.Bool.{ltb-true}
 use Rattle.std.proofs.lemmas.List.Elements.{All-nil, All-cons, All-head, All-tail}
 use Rattle.ps_words.specs.Words.{blocks}
-use Rattle.ps_words.specs.Edits.{patched}
+use Rattle.ps_words.specs.Edits.{patched_byte}
 use Rattle.ps_words.specs.declared.order.Order.{Order}
 use Rattle.ps_words.specs.declared.edit.Edit.{Edit}
 use Rattle.ps_codefile.specs.Dictionary.{block_len, max_code_len}
 use Rattle.ps_resolve.specs.Added.{segments, slot_names}
-use Rattle.ps_linkinfo.specs.Counts.{next_of}
+use Rattle.ps_linkinfo.specs.RecordCounts.{next_of}
 use Rattle.ps_resolve.specs.Privates.{private_words, total_words}
 use Rattle.ps_resolve.specs.Sources.{Segment, order_of, host_records}
 use Rattle.ps_resolve.specs.References.{Known}
@@ -19,8 +19,8 @@ use Rattle.ps_resolve.specs.Linking.{Edited, edited_from, known_of, segment_edit
 use Rattle.ps_resolve.specs.Plans.{Planned, Origin, origin_of, LinkSegments, IsPlan}
 use Rattle.ps_patch.specs.Patched.{patched_or_zero}
 use Rattle.ps_linkfile.specs.declared.summary.Summary.{Summary}
-use Rattle.ps_linkfile.specs.LinkedFile.{Extent, extent_of, extents, all_blocks, linked_segments, dictionary, padded, padded_segment, linked_file, summary_of}
-use Rattle.ps_linkfile.specs.Writing.{extent_of_origin, extents_of, padded_codes, file_of, summary_in, Ascend, HaveEdits, IsReady}
+use Rattle.ps_linkfile.specs.LinkedFile.{Extent, extent_of, extents, all_blocks, linked_segments, dictionary, padded_code, padded_segment, linked_file, summary_of}
+use Rattle.ps_linkfile.specs.Writing.{extent_of_origin, extents_in, padded_codes, file_in, summary_in, Ascend, HaveEdits, IsReady}
 use Rattle.ps_linkfile.proofs.Slots.{extent_at, segments_ascend, segments_small}
 
 -- extents of segments, of segments with their edits, and of a plan's origins
@@ -79,24 +79,26 @@ tested : (b : Bool) (x y : ℕ) → (b ≡ true → x ≡ y) → cond b x 0 ≡ 
 tested true x y h = h refl
 tested false x y h = refl
 
--- where two rows of edits leave the same byte at each place of a code, they leave the same whole blocks
-padded_alike : (order : Order) (code : List ℕ) (d e : List Edit) → ((p : ℕ) → p < length code → patched order code d p ≡ patched order code e p) → padded order code d ≡ padded order code e
+-- where two rows of edits leave the same byte at each place of a code, they leave the same whole
+-- blocks
+padded_alike : (order : Order) (code : List ℕ) (d e : List Edit) → ((p : ℕ) → p < length code → patched_byte order code d p ≡ patched_byte order code e p) → padded_code order code d ≡ padded_code order code e
 padded_alike order code d e h =
     map_alike (patched_or_zero order code d) (patched_or_zero order code e)
-    (λ p. tested (nat_lt p (length code)) (patched order code d p) (patched order code e p) (λ within. h p (ltb-true p (length code) within)))
+    (λ p. tested (nat_lt p (length code)) (patched_byte order code d p) (patched_byte order code e p) (λ within. h p (ltb-true p (length code) within)))
     (range_with_len 0 (512 * blocks (length code)))
 
--- with edits that link the segments, the padded codes of the segments' origins are those of the linked segments
+-- with edits that link the segments, the padded codes of the segments' origins are those of the
+-- linked segments
 codes_are : (order : Order) (known : Known) (words free : ℕ) (ss : List Segment) (ds : List (List Edit)) → LinkSegments order (edited_from order known words free ss) ds → padded_codes order (map origin_of ss) ds ≡ flat_map (padded_segment order) (edited_from order known words free ss)
 codes_are order known words free [] [] h = refl
 codes_are order known words free [] (d ∷ ds) h = absurd h
 codes_are order known words free (s ∷ ss) [] h = absurd h
 codes_are order known words free (s ∷ ss) (d ∷ ds) h =
     ap (λ (bs : List ℕ). bs ++ padded_codes order (map origin_of ss) ds) (padded_alike order s.code d (segment_edits order known words free s) h.0.bytes)
-    ∙ ap (λ (bs : List ℕ). padded order s.code (segment_edits order known words free s) ++ bs) (codes_are order known words (free + private_words s.records) ss ds h.1)
+    ∙ ap (λ (bs : List ℕ). padded_code order s.code (segment_edits order known words free s) ++ bs) (codes_are order known words (free + private_words s.records) ss ds h.1)
 
 -- of a plan of a link
-pub plan_extents : (host : List ℕ) (libs : List (List ℕ)) (plan : Planned) → IsPlan host libs plan → extents_of plan ≡ extents host libs
+pub plan_extents : (host : List ℕ) (libs : List (List ℕ)) (plan : Planned) → IsPlan host libs plan → extents_in plan ≡ extents host libs
 plan_extents host libs plan h =
     ap (λ (os : List Origin). map extent_of_origin os) h.origins ∙ (of_origins (segments (order_of host) host libs) ∙ sym (extents_are host libs))
 
@@ -110,12 +112,12 @@ plan_codes host libs plan h =
     ∙ codes_are order (known_of ss) (total_words ss) (next_of (host_records ss)) ss plan.edits h.edits)
 
 -- the file of a plan of a link is the linked file
-pub plan_file : (host : List ℕ) (libs : List (List ℕ)) (plan : Planned) → IsPlan host libs plan → file_of plan ≡ linked_file host libs
+pub plan_file : (host : List ℕ) (libs : List (List ℕ)) (plan : Planned) → IsPlan host libs plan → file_in plan ≡ linked_file host libs
 plan_file host libs plan h =
     let codes = padded_codes plan.order plan.origins plan.edits in
-    ap (λ (o : Order). dictionary o plan.names plan.host (extents_of plan) ++ codes) h.order
-    ∙ (ap (λ (names : List (List ℕ)). dictionary (order_of host) names plan.host (extents_of plan) ++ codes) h.names
-    ∙ (ap (λ (bytes : List ℕ). dictionary (order_of host) (slot_names host (segments (order_of host) host libs)) bytes (extents_of plan) ++ codes) h.of_host
+    ap (λ (o : Order). dictionary o plan.names plan.host (extents_in plan) ++ codes) h.order
+    ∙ (ap (λ (names : List (List ℕ)). dictionary (order_of host) names plan.host (extents_in plan) ++ codes) h.names
+    ∙ (ap (λ (bytes : List ℕ). dictionary (order_of host) (slot_names host (segments (order_of host) host libs)) bytes (extents_in plan) ++ codes) h.of_host
     ∙ (ap (λ (cs : List Extent). dictionary (order_of host) (slot_names host (segments (order_of host) host libs)) host cs ++ codes) (plan_extents host libs plan h)
     ∙ ap (λ (bs : List ℕ). dictionary (order_of host) (slot_names host (segments (order_of host) host libs)) host (extents host libs) ++ bs) (plan_codes host libs plan h))))
 
@@ -125,7 +127,7 @@ unfolding slot_names
 plan_ready host libs plan h long =
     let order = order_of host in
     let ss = segments order host libs in
-    let is : extents_of plan ≡ map extent_at ss = plan_extents host libs plan h ∙ extents_are host libs in
+    let is : extents_in plan ≡ map extent_at ss = plan_extents host libs plan h ∙ extents_are host libs in
     record {
       host = long;
       names = ap (λ (names : List (List ℕ)). length names) h.names;
@@ -140,7 +142,7 @@ plan_summary host libs plan h =
     let words = total_words (segments (order_of host) host libs) in
     let made : ℕ → ℕ → ℕ → Summary = λ n w b. record { segments = n; private_words = w; blocks = b } in
     let count : length plan.origins ≡ length (extents host libs) = sym (length-map plan.origins extent_of_origin) ∙ ap (λ (cs : List Extent). length cs) (plan_extents host libs plan h) in
-    let sum_is : 1 + all_blocks (extents_of plan) ≡ 1 + all_blocks (extents host libs) = ap (λ (cs : List Extent). 1 + all_blocks cs) (plan_extents host libs plan h) in
-    ap (λ n. made n plan.private_words (1 + all_blocks (extents_of plan))) count
-    ∙ (ap (λ w. made (length (extents host libs)) w (1 + all_blocks (extents_of plan))) h.private_words
+    let sum_is : 1 + all_blocks (extents_in plan) ≡ 1 + all_blocks (extents host libs) = ap (λ (cs : List Extent). 1 + all_blocks cs) (plan_extents host libs plan h) in
+    ap (λ n. made n plan.private_words (1 + all_blocks (extents_in plan))) count
+    ∙ (ap (λ w. made (length (extents host libs)) w (1 + all_blocks (extents_in plan))) h.private_words
     ∙ ap (λ b. made (length (extents host libs)) words b) sum_is)

@@ -15,14 +15,14 @@ digits_few n h = length-decimal-le 5 n (omega arith) (omega (arith, h)) (omega (
 pub reference_ascii : (n : ℕ) → n < 65536 → IsAscii (reference n)
 reference_ascii n h = IsAscii-cons 32 (decimal n) (omega arith) (IsAscii-decimal n (omega (arith, h)))
 
--- the references from i on are the one there and those behind it
+-- the references from i on are the one there and those after it
 drop_one : (xs : List ℕ) (i : ℕ) → i < length xs → drop i xs ≡ get_or xs i 0 ∷ drop (i + 1) xs
 drop_one xs i h = rw (add-one, drop-cons xs i 0)
 
 take_one : (x : ℕ) (xs : List ℕ) (n : ℕ) → take (n + 1) (x ∷ xs) ≡ x ∷ take n xs
 take_one x xs n = rw add-one refl
 
--- the text of one reference stands before that of those behind it
+-- the text of one reference is before that of those after it
 pub one_more : (xs : List ℕ) (i n : ℕ) → i < length xs → reference (get_or xs i 0) ++ flat_map reference (take n (drop (i + 1) xs)) ≡ flat_map reference (take (n + 1) (drop i xs))
 one_more xs i n h = sym (ap (λ (ys : List ℕ). flat_map reference (take (n + 1) ys)) (drop_one xs i h) ∙ ap (flat_map reference) (take_one (get_or xs i 0) (drop (i + 1) xs) n))
 

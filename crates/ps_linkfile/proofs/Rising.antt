@@ -5,7 +5,7 @@ use Rattle.std.proofs.lemmas.Bool.Decides.{nat_tests}
 use Rattle.std.specs.declared.io.Error.{Error}
 use Rattle.ps_words.specs.Words.{blocks}
 use Rattle.ps_codefile.specs.Dictionary.{max_code_len}
-use Rattle.ps_linkfile.specs.Counts.{AreAtMost, CanCount, counted, Rises, NoneFailed, OneError, OneStall, OneFailed, IfDevice, IfStalled}
+use Rattle.ps_linkfile.specs.Counts.{AreAtMost, CanCount, counts_after, Rises, NoneFailed, OneError, OneStall, OneFailed, IfDevice, IfStalled}
 use Rattle.ps_resolve.specs.Plans.{Origin}
 use Rattle.ps_linkfile.specs.declared.counts.Counts.{Counts}
 use Rattle.ps_linkfile.specs.declared.error.WriteFault.{WriteFault}
@@ -24,7 +24,7 @@ pub record Progress (old new : Counts) (size i : ℕ) : Type 0 where
   pub stalls : new.stalls ≡ old.stalls
 
 -- a write took some of those that were left
-pub progress : (old mid : Counts) (size i taken left : ℕ) → Progress old mid size i → i < size → left ≡ size - i → taken ≤ left → taken ≢ 0 → Progress old (counted {E = Error} mid left (Ok taken)) size (i + taken)
+pub progress : (old mid : Counts) (size i taken left : ℕ) → Progress old mid size i → i < size → left ≡ size - i → taken ≤ left → taken ≢ 0 → Progress old (counts_after {E = Error} mid left (Ok taken)) size (i + taken)
 progress old mid size i taken left h lt is le ne = record {
   by_bytes = grind (arith, nat_tests);
   by_pieces = grind (arith, nat_tests);

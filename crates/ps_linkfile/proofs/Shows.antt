@@ -1,4 +1,5 @@
--- The order of a file that is shown, and its lines: those of a row of slots, and those of a walk over records.
+-- The order of a file that is shown, and its lines: those of a row of slots, and those of a walk
+-- over records.
 use Rattle.std.proofs.Common.{◌≡◌, ℕ, suc, ◌+◌, ◌-◌, ◌<◌, ◌≤◌, List, [], ◌∷◌, ◌++◌, length, length-append, map, append_assoc, append-nil, Bool, true, false, if◌then◌else◌, Option, Some, None, Result, Ok, Err, refl, sym, ◌∙◌, ap, arith}
 use Rattle.std.specs.List.{flat_map, filter, enumerate_from, range_with_len}
 use Rattle.ps_words.specs.FaultPlaces.{in_file}
@@ -7,7 +8,7 @@ use Rattle.ps_words.specs.declared.order.Order.{Order}
 use Rattle.ps_words.specs.declared.order.Order.TheVariants.{Little}
 use Rattle.ps_words.specs.declared.fault.Reason.{Reason}
 use Rattle.ps_words.specs.declared.fault.Reason.TheVariants as reason
-use Rattle.ps_codefile.specs.Dictionary.{Opened, FileOrder, Zero, Ordered, Mixed, file_order, opened_as, opened_beside_as, entry_at, code_of, information_of}
+use Rattle.ps_codefile.specs.Dictionary.{OpenedFile, FileOrder, Zero, Ordered, Mixed, file_order, opened_as, opened_beside_as, entry_at, code_of, information_of}
 use Rattle.ps_linkinfo.specs.Records.{reading}
 use Rattle.ps_linkinfo.specs.Left.{items_of}
 use Rattle.ps_linkinfo.specs.declared.record.LinkRecord.{LinkRecord as Record}
@@ -16,22 +17,22 @@ use Rattle.ps_linkfile.specs.Lines.{line, two_digits, fault_words}
 use Rattle.ps_linkfile.specs.ShowText.{unit_names, record_line, record_lines, fault_line, has_links, links_lines, shown_file, show_of, order_fault}
 
 -- a file whose kind words show an order
-pub record Shows (short : Bool) (of : FileOrder) (file : List ℕ) (shown : FileOrder) (o : Opened) : Type 0 where
+pub record Shows (short : Bool) (of : FileOrder) (file : List ℕ) (shown : FileOrder) (o : OpenedFile) : Type 0 where
   pub order : shown ≡ of
   pub dict : o ≡ record { order = known_order of; file = file }
   pub sound : (if short then Some (in_file 0 reason.ShortFile) else order_fault of) ≡ None
 
 -- a file that is opened by itself shows the order in which its words are read
-pub read_shows : (short : Bool) (of : FileOrder) (file : List ℕ) (o : Opened) → (if short then Err reason.ShortFile else opened_as file of) ≡ Ok o → Shows short of file (Ordered o.order) o
+pub read_shows : (short : Bool) (of : FileOrder) (file : List ℕ) (o : OpenedFile) → (if short then Err reason.ShortFile else opened_as file of) ≡ Ok o → Shows short of file (Ordered o.order) o
 read_shows true of file o h = cc
 read_shows false Zero file o h = cc
 read_shows false (Ordered order) file o h =
     let is : o ≡ record { order = order; file = file } = cc in
-    record { order = ap (λ (q : Opened). Ordered q.order) is; dict = is; sound = refl }
+    record { order = ap (λ (q : OpenedFile). Ordered q.order) is; dict = is; sound = refl }
 read_shows false Mixed file o h = cc
 
 -- a file that is not opened by itself, but beside a little-endian one, shows no order
-pub beside_shows : (short : Bool) (of : FileOrder) (file : List ℕ) (why : Reason) (o : Opened) → (if short then Err reason.ShortFile else opened_as file of) ≡ Err why
+pub beside_shows : (short : Bool) (of : FileOrder) (file : List ℕ) (why : Reason) (o : OpenedFile) → (if short then Err reason.ShortFile else opened_as file of) ≡ Err why
     → (if short then Err reason.ShortFile else opened_beside_as Little file of) ≡ Ok o → Shows short of file Zero o
 beside_shows true of file why o h k = cc
 beside_shows false Zero file why o h k = record { order = refl; dict = cc; sound = refl }
@@ -46,9 +47,9 @@ beside_fault false Zero file why other h k = cc
 beside_fault false (Ordered order) file why other h k = cc
 beside_fault false Mixed file why other h k = cc
 
-pub shown_is : (file : List ℕ) (found : FileOrder) (o : Opened) → found ≡ file_order file → o ≡ record { order = known_order (file_order file); file = file } → shown_file found o.order o.file ≡ show_of file
+pub shown_is : (file : List ℕ) (found : FileOrder) (o : OpenedFile) → found ≡ file_order file → o ≡ record { order = known_order (file_order file); file = file } → shown_file found o.order o.file ≡ show_of file
 unfolding show_of
-shown_is file found o h k = ap (λ (f : FileOrder). shown_file f o.order o.file) h ∙ ap (λ (q : Opened). shown_file (file_order file) q.order q.file) k
+shown_is file found o h k = ap (λ (f : FileOrder). shown_file f o.order o.file) h ∙ ap (λ (q : OpenedFile). shown_file (file_order file) q.order q.file) k
 
 -- the names of those that pass, with one number more
 pub names_more : {X : Type 0} (test : ℕ → Bool) (name : ℕ → X) (xs new all : List X) (i n : ℕ) → i < n → xs ++ map name (filter test (range_with_len i (n - i))) ≡ all
@@ -83,7 +84,8 @@ item_lines units rec [] = []
 item_lines units rec (Ok r ∷ items) = record_line units (rec, r) ++ item_lines units (rec + 1) items
 item_lines units rec (Err why ∷ items) = fault_line rec (Some why) ++ item_lines units rec items
 
--- the lines of a reading's items, the first of which has the index n, are those of its records and of its fault
+-- the lines of a reading's items, the first of which has the index n, are those of its records and
+-- of its fault
 lines_of_items : (units : List (List ℕ)) (n : ℕ) (rs : List Record) (why : Option Reason) → item_lines units n (items_of (rs, why)) ≡ flat_map (record_line units) (enumerate_from n rs) ++ fault_line (n + length rs) why
 lines_of_items units n [] None = refl
 lines_of_items units n [] (Some why) =
@@ -101,11 +103,11 @@ lines_of_reading units read =
     lines_of_items units 0 read.0 read.1 ∙ ap (λ (k : ℕ). flat_map (record_line units) (enumerate_from 0 read.0) ++ fault_line k read.1) at
 
 module _ (units : List (List ℕ)) (n : ℕ) (i : Result Record Reason) (old items : List (Result Record Reason)) where
-  -- the line of a record, and those behind it
+  -- the line of a record, and those after it
   pub record_next : (r : Record) → old ≡ i ∷ items → i ≡ Ok r → item_lines units n old ≡ record_line units (n, r) ++ item_lines units (n + 1) items
   record_next r p q = ap (item_lines units n) (p ∙ ap (λ (j : Result Record Reason). j ∷ items) q)
 
-  -- the line of a fault, and those behind it
+  -- the line of a fault, and those after it
   pub fault_next : (why : Reason) → old ≡ i ∷ items → i ≡ Err why → item_lines units n old ≡ fault_line n (Some why) ++ item_lines units n items
   fault_next why p q = ap (item_lines units n) (p ∙ ap (λ (j : Result Record Reason). j ∷ items) q)
 

@@ -1,4 +1,4 @@
--- The segments of a link stand by slot, and no code is longer than 32767 bytes.
+-- The segments of a link are by slot, and no code is longer than 32767 bytes.
 use Rattle.std.proofs.Common.{◌≡◌, ℕ, zero, suc, ◌+◌, ◌-◌, ◌*◌, ◌≤◌, List, [], ◌∷◌, length, map, drop, Option, Some, None, Ok, Err, Bool, true, false, cond, refl, sym, ◌∙◌, ap, subst, arith, length-take}
 use Rattle.std.specs.Prelude.{All, nat_lt, ◌||◌, ◌==◌, option_and_then, slice_range}
 use Rattle.std.specs.List.{range_with_len, filter_map, cons_option, find, slice_get}
@@ -11,7 +11,7 @@ use Rattle.ps_words.specs.declared.order.Order.{Order}
 use Rattle.ps_words.specs.declared.fault.Reason.{Reason}
 use Rattle.ps_words.specs.declared.fault.Reason.TheVariants as reason
 use Rattle.ps_codefile.specs.Dictionary.{slots, block_len, max_code_len, code_of, has_bad_length, entry_at, role_of}
-use Rattle.ps_resolve.specs.Added.{segments, segment_at, added, added_segment, as_added, placed_fault, rounds, rounds_from, sought_from, unit_references, all_unit_references, empty_slots}
+use Rattle.ps_resolve.specs.Added.{segments, segment_at, added_segments, added_segment, as_added, placed_fault, rounds, rounds_from, requested_from, unit_references, all_unit_references, empty_slots}
 use Rattle.ps_codefile.specs.declared.entry.Entry.{Entry}
 use Rattle.ps_codefile.specs.declared.entry.Role.{Role}
 use Rattle.ps_codefile.specs.Roles.{is_empty}
@@ -52,7 +52,7 @@ code_small file e code h =
     (λ no. let small : e.length ≤ 32767 = not_long (nat_lt 32767 e.length) _ e.length refl no in omega (arith, length-take (start + e.length - start) (drop start file)))
     h
 
--- a segment that was read stands in the slot that it was read for
+-- a segment that was read is in the slot that it was read for
 abbrev IsIn : ℕ → Segment → Type 0
 IsIn slot s = (s.slot ≡ slot) × (length s.code ≤ max_code_len)
 
@@ -95,7 +95,7 @@ rounds_small order host libs units (slot ∷ left) k row = by (λ next. rounds_s
     at rest g (Some fault) e o f h = rw (h, rounds_from) (rw (e, rounds_from) (All-nil IsSmall))
     at rest g None e None f h = rw (h, rounds_from) (rw (e, rounds_from) (rw (f, rounds_from) (All-nil IsSmall)))
     at rest g None e (Some s) f h =
-        let next = sought_from units row (unit_references s.file s.slot 0 s.records) in
+        let next = requested_from units row (unit_references s.file s.slot 0 s.records) in
         rw (h, rounds_from) (rw (e, rounds_from) (rw (f, rounds_from) (All-cons IsSmall s (rounds_from order host libs units left (k + 1) next).added (added_is order host libs g slot s f) (rest next))))
 
     by : ((next : List UnitReference) → All IsSmall (rounds_from order host libs units left (k + 1) next).added) → (o : Option UnitReference) → slice_get row k ≡ o → All IsSmall (rounds_from order host libs units (slot ∷ left) k row).added
@@ -103,10 +103,10 @@ rounds_small order host libs units (slot ∷ left) k row = by (λ next. rounds_s
     by rest (Some g) h = at rest g (placed_fault order host libs g slot) refl (added_segment order host libs g slot) refl h
 
 -- so have the codes of all segments that are added to a link
-added_small : (order : Order) (host : List ℕ) (libs : List (List ℕ)) → All IsSmall (added order host libs)
+added_small : (order : Order) (host : List ℕ) (libs : List (List ℕ)) → All IsSmall (added_segments order host libs)
 unfolding rounds
 added_small order host libs =
-    let own = own_segments order host libs in rounds_small order host libs (units_of own) (empty_slots order host) 0 (sought_from (units_of own) [] (all_unit_references own))
+    let own = own_segments order host libs in rounds_small order host libs (units_of own) (empty_slots order host) 0 (requested_from (units_of own) [] (all_unit_references own))
 
 -- what is found passes the test, and has what all have
 find_has : (P : Segment → Type 0) (test : Segment → Bool) (xs : List Segment) (x : Segment) → find test xs ≡ Some x → All P xs → (test x ≡ true) × P x
@@ -117,7 +117,7 @@ find_has P test (y ∷ ys) x h all = by (λ e. find_has P test ys x e (All-tail 
     by rest true e = let same : y ≡ x = same_Some _ _ (rw e at h) in (subst (λ (z : Segment). test z ≡ true) same e, subst P same (all 0 y (omega arith)))
     by rest false e = rest (rw e at h)
 
--- the segment of a slot, its own or one that was added there, stands in the slot
+-- the segment of a slot, its own or one that was added there, is in the slot
 segment_is : (order : Order) (host : List ℕ) (libs : List (List ℕ)) (slot : ℕ) (s : Segment) → segment_at order host libs slot ≡ Some s → IsIn slot s
 segment_is order host libs slot s h = by (own_segment order host libs slot) refl (is_role is_empty order host slot) refl
   where
@@ -125,8 +125,8 @@ segment_is order host libs slot s h = by (own_segment order host libs slot) refl
     by (Some t) e b f = own_is order host libs slot s (e ∙ rw e at h)
     by None e false f = let none : None ≡ Some s = rw (e, f) at h in cc
     by None e true f =
-        let found : find (λ (x : Segment). x.slot == slot) (added order host libs) ≡ Some s = rw (e, f) at h in
-        let has = find_has IsSmall (λ (x : Segment). x.slot == slot) (added order host libs) s found (added_small order host libs) in
+        let found : find (λ (x : Segment). x.slot == slot) (added_segments order host libs) ≡ Some s = rw (e, f) at h in
+        let has = find_has IsSmall (λ (x : Segment). x.slot == slot) (added_segments order host libs) s found (added_small order host libs) in
         (eqb-true s.slot slot has.0, has.1)
 
 abbrev pub extent_at : Segment → Extent

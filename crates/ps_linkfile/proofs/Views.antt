@@ -68,7 +68,7 @@ start_at ss starts i h lt =
     ∙ (get_or-map (λ (c : Extent). block_of all c.slot) all i (extent_of_source no_source) 0 within
     ∙ ap (λ (c : Extent). block_of all c.slot) (get_or-map extent_of_source ss i no_source (extent_of_source no_source) lt))
 
--- an item and those behind it
+-- an item and those after it
 got_next : {X : Type 0} (xs : List X) (i : ℕ) (x : X) → slice_get xs i ≡ Some x → drop i xs ≡ x ∷ drop (suc i) xs
 got_next [] i x h = cc
 got_next {X} (y ∷ ys) zero x h = let is : y ≡ x = cc in ap (λ (z : X). z ∷ ys) is

@@ -1,4 +1,4 @@
--- The linked file is one list: where its facts stand, each byte is that of the list.
+-- The linked file is one list: where its facts hold, each byte is that of the list.
 use Rattle.std.proofs.Common.{◌≡◌, ℕ, ◌+◌, ◌-◌, ◌*◌, ◌≤◌, ◌<◌, List, [], ◌∷◌, ◌++◌, length, map, get_or, take, drop, replicate, Option, Some, None, Result, Err, Bool, true, false, cond, refl, sym, ◌∙◌, ap, subst, inl, inr, arith, append_assoc, length-append, length-take, length-drop}
 use Rattle.std.specs.Prelude.{All, nat_lt, slice_range}
 use Rattle.std.specs.List.{flat_map}
@@ -15,8 +15,8 @@ use Rattle.ps_words.specs.declared.fault.Reason.{Reason}
 use Rattle.ps_words.specs.declared.fault.Reason.TheVariants as reason
 use Rattle.ps_words.specs.declared.fault.Fault.{Fault}
 use Rattle.ps_words.specs.FaultPlaces.{in_file}
-use Rattle.ps_codefile.specs.Dictionary.{slots, Opened, file_order, opened_as}
-use Rattle.ps_linkinfo.specs.Counts.{next_of}
+use Rattle.ps_codefile.specs.Dictionary.{slots, OpenedFile, file_order, opened_as}
+use Rattle.ps_linkinfo.specs.RecordCounts.{next_of}
 use Rattle.ps_resolve.specs.Privates.{total_words}
 use Rattle.ps_resolve.specs.LinkedBytes.{IsLinkedByte, segments_of, HaveLinkedBytes, HaveOneLinkedByte}
 use Rattle.ps_resolve.specs.Standing.{NoneStands, IsFirst}
@@ -47,11 +47,11 @@ part_is xs ys a b len le h =
     ext_get_or 0 (slice_range xs a b) ys (part_len xs a b le ∙ sym len)
     (λ j lt. let within : j < b - a = omega (arith, part_len xs a b le) in get_or-take (b - a) (drop a xs) j 0 within ∙ (get_or-drop a xs j 0 ∙ h j within))
 
--- the part behind so many
+-- the part after so many
 behind : (xs ys : List ℕ) (n j : ℕ) → length xs ≡ n → get_or (xs ++ ys) (n + j) 0 ≡ get_or ys j 0
 behind xs ys n j len = ap (λ k. get_or (xs ++ ys) (k + j) 0) (sym len) ∙ get_or-append-add xs ys j 0
 
--- Each code stands at its block, with zeros behind it; the first of these begins in this block.
+-- Each code is at its block, with zeros after it; the first of these begins in this block.
 abbrev pub Laid : Order → List ℕ → ℕ → List Edited → Type 0
 Laid order file block [] = Unit {0}
 Laid order file block (e ∷ es) =
@@ -70,7 +70,8 @@ inside order e p lt = let yes : nat_lt p (length e.segment.code) ≡ true = grin
 past : (order : Order) (e : Edited) (p : ℕ) → length e.segment.code ≤ p → patched_or_zero order e.segment.code e.edits p ≡ 0
 past order e p le = let no : nat_lt p (length e.segment.code) ≡ false = le-ltb p (length e.segment.code) le in rw no
 
--- codes that stand at the blocks of their slots, with zeros behind each, are laid out one after another
+-- codes that are at the blocks of their slots, with zeros after each, are laid out one after
+-- another
 to_laid : (order : Order) (file : List ℕ) (all : List Extent) (from block : ℕ) (es : List Edited) → Left all from block (map extent_of_edited es) → All (HasCode order file all) es → All (HasPadding file all) es → Laid order file block es
 to_laid order file all from block [] h codes zeros = tt
 to_laid order file all from block (e ∷ es) h codes zeros =
@@ -88,7 +89,7 @@ to_laid order file all from block (e ∷ es) h codes zeros =
           (All-tail (HasCode order file all) e es codes) (All-tail (HasPadding file all) e es zeros),
     )
 
--- of codes that are laid out one after another, each stands with its edits at the block of its slot
+-- of codes that are laid out one after another, each is with its edits at the block of its slot
 laid_codes : (order : Order) (file : List ℕ) (all : List Extent) (from block : ℕ) (es : List Edited) → Left all from block (map extent_of_edited es) → Laid order file block es → All (HasCode order file all) es
 laid_codes order file all from block [] h laid = All-nil (HasCode order file all)
 laid_codes order file all from block (e ∷ es) h laid =
@@ -97,7 +98,7 @@ laid_codes order file all from block (e ∷ es) h laid =
     (λ p within. ap (λ b. get_or file (512 * b + p) 0) at ∙ (laid.0 p (omega arith) ∙ inside order e p within))
     (laid_codes order file all (e.segment.slot + 1) (block + blocks (length e.segment.code)) es (left_more all from block (extent_of_edited e) (map extent_of_edited es) h) laid.1)
 
--- and each has zeros behind it, up to the end of its last block
+-- and each has zeros after it, up to the end of its last block
 laid_padding : (order : Order) (file : List ℕ) (all : List Extent) (from block : ℕ) (es : List Edited) → Left all from block (map extent_of_edited es) → Laid order file block es → All (HasPadding file all) es
 laid_padding order file all from block [] h laid = All-nil (HasPadding file all)
 laid_padding order file all from block (e ∷ es) h laid =
@@ -119,7 +120,7 @@ codes_len order (e ∷ es) =
     length-append (padded_segment order e) (flat_map (padded_segment order) es)
     ∙ omega (arith, padded_len order e, codes_len order es, all_blocks-cons (extent_of_edited e) (map extent_of_edited es))
 
--- what stands behind a block is the codes
+-- what is after a block is the codes
 laid_is : (order : Order) (file : List ℕ) (block : ℕ) (es : List Edited) → length file ≡ 512 * (block + all_blocks (map extent_of_edited es)) → Laid order file block es → drop (512 * block) file ≡ flat_map (padded_segment order) es
 laid_is order file block [] len laid = drop_all (512 * block) file (omega (arith, len))
 laid_is order file block (e ∷ es) len laid =
@@ -137,7 +138,7 @@ laid_is order file block (e ∷ es) len laid =
     sym (take-append-drop (512 * n) rest)
     ∙ (ap (λ (xs : List ℕ). xs ++ drop (512 * n) rest) first ∙ ap (λ (xs : List ℕ). padded_segment order e ++ xs) (behind_it ∙ others))
 
--- the codes stand where they are put
+-- the codes are where they are put
 codes_laid : (order : Order) (prefix : List ℕ) (block : ℕ) (es : List Edited) → length prefix ≡ 512 * block → Laid order (prefix ++ flat_map (padded_segment order) es) block es
 codes_laid order prefix block [] len = tt
 codes_laid order prefix block (e ∷ es) len =
@@ -155,7 +156,7 @@ none_first : {X : Type 0} (a b : Option X) → option_or a b ≡ None → a ≡ 
 none_first None b h = refl
 none_first (Some x) b h = cc
 
-whole_test : (short : Bool) (of : Result Opened Reason) → option_map (in_file 0) (result_err (cond short (Err reason.ShortFile) of)) ≡ None → short ≡ false
+whole_test : (short : Bool) (of : Result OpenedFile Reason) → option_map (in_file 0) (result_err (cond short (Err reason.ShortFile) of)) ≡ None → short ≡ false
 whole_test true of h = cc
 whole_test false of h = refl
 
@@ -190,7 +191,7 @@ record PartsAt (pairs names tail codes file : List ℕ) : Type 0 where
   in_zeros : (j : ℕ) → j < 64 → get_or file (192 + j) 0 ≡ 0
   in_tail : (j : ℕ) → j < 256 → get_or file (256 + j) 0 ≡ get_or tail j 0
 
--- the parts stand at their places: the pairs at 0, the names at 64, zeros at 192 and the tail at 256
+-- the parts are at their places: the pairs at 0, the names at 64, zeros at 192 and the tail at 256
 parts_at : (pairs names tail codes file : List ℕ) → Parts pairs names tail codes file → PartsAt pairs names tail codes file
 parts_at pairs names tail codes file h =
     let zeros : List ℕ = replicate 64 0 in
@@ -373,18 +374,19 @@ file_one order all_names host all es file is ascend h =
 abbrev pub NamesWhole : Type 0
 NamesWhole = (order : Order) (host : List ℕ) (libs : List (List ℕ)) → 512 ≤ length host → length (flat_map (λ name. name) (slot_names host (segments order host libs))) ≡ 128
 
--- the laws of linked bytes: where no fault stands the edits make them, and there is one at each place
+-- the laws of linked bytes: where no fault applies the edits make them, and there is one at each
+-- place
 abbrev pub AreMade : Type 0
 AreMade = (host : List ℕ) (libs : List (List ℕ)) → NoneStands host libs → HaveLinkedBytes host libs
 
 abbrev pub AreOne : Type 0
 AreOne = (host : List ℕ) (libs : List (List ℕ)) → NoneStands host libs → HaveOneLinkedByte host libs
 
--- where no first fault is computed none stands
+-- where no first fault is computed none applies
 abbrev pub NoneFound : Type 0
 NoneFound = (host : List ℕ) (libs : List (List ℕ)) → first_fault host libs ≡ None → NoneStands host libs
 
--- where none stands, no first fault is computed
+-- where none applies, no first fault is computed
 pub none_found : ((host : List ℕ) (libs : List (List ℕ)) (f : Fault) → first_fault host libs ≡ Some f → IsFirst host libs f) → (host : List ℕ) (libs : List (List ℕ)) → NoneStands host libs → first_fault host libs ≡ None
 none_found first host libs none = go (first_fault host libs) refl
   where
@@ -418,7 +420,7 @@ module _ (host : List ℕ) (libs : List (List ℕ)) where
       IsOne : Segment → Type 0
       IsOne s = (p b c : ℕ) → IsLinkedByte (order_of host) (segments_of host libs) s p b → IsLinkedByte (order_of host) (segments_of host libs) s p c → b ≡ c
 
-  -- where no fault stands, the one list is the linked file of the host and the libraries
+  -- where no fault applies, the one list is the linked file of the host and the libraries
   pub there : NamesWhole → NoneFound → AreMade → first_fault host libs ≡ None → LinkedFile host libs (linked_file host libs)
   there law found made none =
       let long = long_host host libs none in

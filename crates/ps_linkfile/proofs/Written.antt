@@ -16,7 +16,8 @@ module _ {W : Type 0} (gives : W → List ℕ → W → Type 0) (f : Formatter W
   pub none_yet : (rest : List ℕ) → rest ≡ all → Written gives f all rest f
   none_yet rest e = record { done = []; split = e; wrote = λ plain. record { wrote = record { parts = []; calls = refl; whole = refl }; plain = plain } }
 
-  -- where the text that is left begins with a part and this part is written, what stands behind it is left
+  -- where the text that is left begins with a part and this part is written, what is after it is
+  -- left
   pub some_more : (g h : Formatter W) (here left rest : List ℕ) → left ≡ here ++ rest → Written gives f all left g → (IsPlainFormatter g → HasWritten gives g here h) → Written gives f all rest h
   some_more g h here left rest e w more = record {
     done = w.done ++ here;

@@ -5,6 +5,7 @@ use Rattle.ps_linkfile.specs.declared.counts.Counts.{Counts}
 use Rattle.ps_linkfile.specs.declared.error.WriteFault.{WriteFault}
 use Rattle.ps_linkfile.specs.declared.error.WriteFault.TheVariants.{Device, Stalled}
 
+-- the counts before the first write
 abbrev pub no_counts : Counts
 no_counts = record { writes = 0; errors = 0; stalls = 0; shorts = 0 }
 
@@ -23,14 +24,14 @@ pub record CanCount (counts : Counts) (n : ℕ) : Type 0 where
   pub shorts : counts.shorts + n < 2 ^ 64
 
 -- the counts after a write of so many bytes that gave this result
-abbrev pub counted : {E : Type 0} → Counts → ℕ → Result ℕ E → Counts
-counted old size (Ok taken) = record {
+abbrev pub counts_after : {E : Type 0} → Counts → ℕ → Result ℕ E → Counts
+counts_after old size (Ok taken) = record {
   writes = old.writes + 1;
   errors = old.errors;
   stalls = if nat_lt taken size && taken == 0 then old.stalls + 1 else old.stalls;
   shorts = if nat_lt taken size then old.shorts + 1 else old.shorts;
 }
-counted old size (Err error) = record { writes = old.writes + 1; errors = old.errors + 1; stalls = old.stalls; shorts = old.shorts }
+counts_after old size (Err error) = record { writes = old.writes + 1; errors = old.errors + 1; stalls = old.stalls; shorts = old.shorts }
 
 -- there were at most as many writes as bytes
 abbrev pub RisesByBytes : Counts → Counts → ℕ → Type 0

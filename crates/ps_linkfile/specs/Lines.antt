@@ -12,14 +12,15 @@ line text = text ++ 10 ∷ []
 abbrev pub shown_byte : ℕ → ℕ
 shown_byte b = if nat_le 32 b && nat_le b 126 then b else 63
 
-abbrev pub shown : List ℕ → List ℕ
-shown name = map shown_byte name
+-- a name as it is printed
+abbrev pub shown_name : List ℕ → List ℕ
+shown_name name = map shown_byte name
 
 -- the number of a slot, of two digits
 abbrev pub two_digits : ℕ → List ℕ
 two_digits n = (48 + n / 10) ∷ (48 + n % 10) ∷ []
 
--- a word and a number, each behind a blank
+-- a word and a number, each after a blank
 abbrev pub field : List ℕ → ℕ → List ℕ
 field word n = (32 ∷ []) ++ word ++ (32 ∷ []) ++ decimal n
 

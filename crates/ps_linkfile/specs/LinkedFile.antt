@@ -1,4 +1,5 @@
--- The linked file: block 0 has its segment dictionary, and the blocks behind it have the code of each segment, by slot, each padded with zeros to its last block's end.
+-- The linked file: block 0 has its segment dictionary, and the blocks after it have the code of
+-- each segment, by slot, each padded with zeros to its last block's end.
 -- Source: UCSD Pascal II.0 manual, code file format; the layout is this project's profile.
 use Rattle.std.specs.Prelude.{◌≡◌, ℕ, ◌+◌, ◌*◌, ◌<◌, ◌≤◌, ◌==◌, List, [], ◌∷◌, ◌++◌, length, map, replicate, slice_index, slice_range, nat_lt, All, sum_by}
 use Rattle.std.specs.List.{range_with_len, filter, find, flat_map}
@@ -12,7 +13,7 @@ use Rattle.ps_resolve.specs.Privates.{total_words}
 use Rattle.ps_resolve.specs.LinkedBytes.{IsLinkedByte, segments_of}
 use Rattle.ps_resolve.specs.Standing.{NoneStands}
 use Rattle.ps_resolve.specs.Sources.{Segment, order_of}
-use Rattle.ps_resolve.specs.Linking.{Edited, edited}
+use Rattle.ps_resolve.specs.Linking.{Edited, edited_segments}
 use Rattle.ps_patch.specs.Patched.{patched_or_zero}
 use Rattle.ps_linkfile.specs.declared.summary.Summary.{Summary}
 
@@ -25,22 +26,26 @@ pub record Extent : Type 0 where
 abbrev pub all_blocks : List Extent → ℕ
 all_blocks codes = sum_by (λ c. blocks c.size) codes
 
--- the first block of a slot's code: behind the dictionary and the codes of all slots before it
+-- the first block of a slot's code: after the dictionary and the codes of all slots before it
 abbrev pub block_of : List Extent → ℕ → ℕ
 block_of codes slot = 1 + all_blocks (filter (λ c. nat_lt c.slot slot) codes)
 
--- what the dictionary says of a slot: the first block and the size of its code, and two zero words where it has none
+-- what the dictionary says of a slot: the first block and the size of its code, and two zero words
+-- where it has none
 abbrev pub pair_of : Order → List Extent → ℕ → List ℕ
 pair_of order codes slot =
     option_map_or (λ c. word_bytes order (block_of codes slot) ++ word_bytes order c.size) (find (λ c. c.slot == slot) codes) (0 ∷ 0 ∷ 0 ∷ 0 ∷ [])
 
+-- the code of a segment
 abbrev pub extent_of : Segment → Extent
 extent_of s = record { slot = s.slot; size = length s.code }
 
+-- the codes of all segments of a link, by slot
 abbrev pub extents : List ℕ → List (List ℕ) → List Extent
 extents host libs = map extent_of (segments_of host libs)
 
--- The file is the linked file of the host and the libraries, of which no fault stands: each byte of each code is the linked byte there.
+-- The file is the linked file of the host and the libraries, in which no fault applies: each byte
+-- of each code is the linked byte there.
 pub record LinkedFile (host : List ℕ) (libs : List (List ℕ)) (file : List ℕ) : Type 0 where
   pub accepted : NoneStands host libs
   pub size : length file ≡ block_len * (1 + all_blocks (extents host libs))
@@ -53,7 +58,7 @@ pub record LinkedFile (host : List ℕ) (libs : List (List ℕ)) (file : List �
 
 -- the segments of a link, by slot, each with its edits
 abbrev pub linked_segments : List ℕ → List (List ℕ) → List Edited
-linked_segments host libs = edited (order_of host) (segments (order_of host) host libs)
+linked_segments host libs = edited_segments (order_of host) (segments (order_of host) host libs)
 
 -- the pairs of all slots
 unfoldable pub all_pairs : Order → List Extent → List ℕ
@@ -65,13 +70,14 @@ dictionary order names host codes =
     all_pairs order codes ++ (flat_map (λ name. name) names ++ (replicate 64 0 ++ slice_range host tail_start block_len))
 
 -- a code with its edits, and zeros to its last block's end
-abbrev pub padded : Order → List ℕ → List Edit → List ℕ
-padded order code edits = map (patched_or_zero order code edits) (range_with_len 0 (block_len * blocks (length code)))
+abbrev pub padded_code : Order → List ℕ → List Edit → List ℕ
+padded_code order code edits = map (patched_or_zero order code edits) (range_with_len 0 (block_len * blocks (length code)))
 
+-- the same of a segment with its edits
 abbrev pub padded_segment : Order → Edited → List ℕ
-padded_segment order e = padded order e.segment.code e.edits
+padded_segment order e = padded_code order e.segment.code e.edits
 
--- the one list that is the linked file where no fault stands
+-- the one list that is the linked file where no fault applies
 abbrev pub linked_file : List ℕ → List (List ℕ) → List ℕ
 linked_file host libs = dictionary (order_of host) (slot_names host (segments (order_of host) host libs)) host (extents host libs) ++ flat_map (padded_segment (order_of host)) (linked_segments host libs)
 

@@ -2,8 +2,9 @@
 -- Source: this project's profile.
 use Rattle.std.specs.Prelude.{◌≡◌, ℕ, List, Option, Some, None, take, ⊤}
 use Rattle.std.specs.Io.KnownBytes.{Appends}
-use Rattle.ps_words.specs.FaultPlaces.{HasItsParts}
 use Rattle.ps_resolve.specs.AllFaults.{first_fault, reading_fault}
+use Rattle.ps_resolve.specs.Parts.{HasItsParts}
+use Rattle.ps_resolve.specs.Sources.{order_of}
 use Rattle.ps_resolve.specs.Standing.{NoneStandsInReading, IsFirst, NoneStands}
 use Rattle.ps_resolve.specs.declared.linkage.Stop.{Stop}
 use Rattle.ps_resolve.specs.declared.linkage.Stop.TheVariants as stop
@@ -11,11 +12,11 @@ use Rattle.ps_linkfile.specs.LinkedFile.{LinkedFile}
 use Rattle.ps_linkfile.specs.declared.error.LinkError.{LinkError}
 use Rattle.ps_linkfile.specs.declared.error.LinkError.TheVariants.{Refused, Memory, Write}
 
--- known bytes grow by a prefix of these
+-- a known writer takes a prefix of these
 abbrev pub AppendsPrefix : Option (List ℕ) → Option (List ℕ) → List ℕ → Type 0
 AppendsPrefix old new bytes = (n : ℕ) × Appends old new (take n bytes)
 
--- known bytes grow by the linked file
+-- a known writer takes the linked file
 abbrev pub AppendsLinkedFile : List ℕ → List (List ℕ) → Option (List ℕ) → Option (List ℕ) → Type 0
 AppendsLinkedFile host libs old new = (file : List ℕ) × (LinkedFile host libs file × Appends old new file)
 
@@ -24,21 +25,24 @@ abbrev pub error_of : Stop → LinkError
 error_of (stop.Refused fault) = Refused fault
 error_of stop.Memory = Memory
 
--- why nothing is linked: the first fault of all, or memory ran out where the files were read without a fault; never a write
+-- why nothing is linked: the first fault of all, or memory ran out where the files were read
+-- without a fault; never a write
 abbrev pub IsUnprepared : List ℕ → List (List ℕ) → LinkError → Type 0
 IsUnprepared host libs (Refused fault) = first_fault host libs ≡ Some fault
 IsUnprepared host libs Memory = reading_fault host libs ≡ None
 IsUnprepared host libs (Write fault) = ⊥
 
--- the same of a link that also writes: a write failed only where no fault stands
+-- the same of a link that also writes: a write failed only where no fault applies
 abbrev pub IsUnlinked : List ℕ → List (List ℕ) → LinkError → Type 0
 IsUnlinked host libs (Refused fault) = first_fault host libs ≡ Some fault
 IsUnlinked host libs Memory = reading_fault host libs ≡ None
 IsUnlinked host libs (Write fault) = first_fault host libs ≡ None
 
--- the fault that a refusal names is the first of all that stand, and has just the parts of its number; memory runs out only where no fault stands in the steps of reading, and a write fails only where none stands
+-- the fault that a refusal names is the first of all that apply, and has just the parts of its
+-- number; memory runs out only where no fault applies in the steps of reading, and a write fails
+-- only where none applies
 abbrev pub NamesFirst : List ℕ → List (List ℕ) → LinkError → Type 0
-NamesFirst host libs (Refused fault) = IsFirst host libs fault × HasItsParts fault
+NamesFirst host libs (Refused fault) = IsFirst host libs fault × HasItsParts (order_of host) host libs fault
 NamesFirst host libs Memory = NoneStandsInReading host libs
 NamesFirst host libs (Write fault) = NoneStands host libs
 
@@ -48,7 +52,7 @@ LeavesUntouched (Refused fault) old new = new ≡ old
 LeavesUntouched Memory old new = new ≡ old
 LeavesUntouched (Write fault) old new = ⊤
 
--- where a write failed, known bytes grew by a prefix of the linked file
+-- where a write failed, a known writer took a prefix of the linked file
 abbrev pub LeavesPrefix : List ℕ → List (List ℕ) → LinkError → Option (List ℕ) → Option (List ℕ) → Type 0
 LeavesPrefix host libs (Refused fault) old new = ⊤
 LeavesPrefix host libs Memory old new = ⊤

@@ -1,4 +1,5 @@
--- What a code file has: its byte order, its sixteen slots, and the link information of each segment that is to be linked, record by record.
+-- What a code file has: its byte order, its sixteen slots, and the link information of each segment
+-- that is to be linked, record by record.
 -- Source: this project's profile.
 use Rattle.std.specs.Prelude.{◌≡◌, ℕ, ◌==◌, ◌&&◌, ◌||◌, if◌then◌else◌, List, [], ◌∷◌, ◌++◌, length, map, nat_lt, codes, decimal, Bool, Option, Some, None, Ok, Err}
 use Rattle.std.specs.List.{flat_map, enumerate_from, filter, list_any}
@@ -18,28 +19,29 @@ use Rattle.ps_linkinfo.specs.declared.record.LinkRecord.{LinkRecord as Record}
 use Rattle.ps_codefile.specs.Roles.{is_unit}
 use Rattle.ps_resolve.specs.Sources.{known_order}
 use Rattle.ps_resolve.specs.Faults.{is_role}
-use Rattle.ps_linkfile.specs.Lines.{line, shown, two_digits, field, fault_words}
+use Rattle.ps_linkfile.specs.Lines.{line, shown_name, two_digits, field, fault_words}
 use Rattle.ps_linkfile.specs.declared.error.LinkError.{LinkError}
 use Rattle.ps_linkfile.specs.declared.error.LinkError.TheVariants.{Refused, Memory, Write}
 
--- a file without any kind has no order of its own, and is read as little-endian
+-- the first line: the byte order; a file whose kinds are all 0 has none, and is read as
+-- little-endian
 abbrev pub order_words : FileOrder → List ℕ
 order_words Zero = codes "order unknown"
 order_words (Ordered Little) = codes "order little"
 order_words (Ordered Big) = codes "order big"
 order_words Mixed = []
 
--- `slot 02 UTIL     kind 3 address 1 length 24 text 0`
+-- the line of a slot, as `slot 02 UTIL     kind 3 address 1 length 24 text 0`
 unfoldable pub slot_line : Order → List ℕ → ℕ → List ℕ
 slot_line order file slot =
     let e = entry_at order file slot in
-    line (codes "slot " ++ two_digits slot ++ (32 ∷ []) ++ shown e.name ++ field (codes "kind") e.kind ++ field (codes "address") e.address ++ field (codes "length") e.length ++ field (codes "text") e.text)
+    line (codes "slot " ++ two_digits slot ++ (32 ∷ []) ++ shown_name e.name ++ field (codes "kind") e.kind ++ field (codes "address") e.address ++ field (codes "length") e.length ++ field (codes "text") e.text)
 
--- ` 4`
+-- one reference, as ` 4`
 abbrev pub reference : ℕ → List ℕ
 reference place = (32 ∷ []) ++ decimal place
 
--- ` at 1 4`
+-- all references of a record, as ` at 1 4`
 abbrev pub references : List ℕ → List ℕ
 references refs = codes " at" ++ flat_map reference refs
 
@@ -57,18 +59,18 @@ unlisted_word units name = if is_listed units name then [] else codes " unlisted
 
 -- what a record has, in a file with these units
 abbrev pub record_words : List (List ℕ) → List ℕ → Body → List ℕ
-record_words units name (UnitRef refs) = codes " UNITREF " ++ shown name ++ references refs ++ unlisted_word units name
-record_words units name (PublRef refs) = codes " PUBLREF " ++ shown name ++ references refs
-record_words units name (PrivRef words refs) = codes " PRIVREF " ++ shown name ++ field (codes "words") words ++ references refs
-record_words units name (PublDef value) = codes " PUBLDEF " ++ shown name ++ field (codes "value") value
-record_words units name (ConstDef value) = codes " CONSTDEF " ++ shown name ++ field (codes "value") value
+record_words units name (UnitRef refs) = codes " UNITREF " ++ shown_name name ++ references refs ++ unlisted_word units name
+record_words units name (PublRef refs) = codes " PUBLREF " ++ shown_name name ++ references refs
+record_words units name (PrivRef words refs) = codes " PRIVREF " ++ shown_name name ++ field (codes "words") words ++ references refs
+record_words units name (PublDef value) = codes " PUBLDEF " ++ shown_name name ++ field (codes "value") value
+record_words units name (ConstDef value) = codes " CONSTDEF " ++ shown_name name ++ field (codes "value") value
 record_words units name (Eof next) = codes " EOFMARK" ++ field (codes "next") next
 
--- `0 PUBLREF COUNT    at 1`
+-- the line of a record, as `0 PUBLREF COUNT    at 1`
 abbrev pub record_line : List (List ℕ) → ℕ × Record → List ℕ
 record_line units r = line (decimal r.0 ++ record_words units r.1.name r.1.body)
 
--- `2 fault 19 RecordsTruncated`, where a fault stands in place of a record
+-- the line of a fault in place of a record, as `2 fault 19 RecordsTruncated`
 abbrev pub fault_line : ℕ → Option Reason → List ℕ
 fault_line rec None = []
 fault_line rec (Some why) = line (decimal rec ++ (32 ∷ []) ++ fault_words why)
@@ -81,6 +83,8 @@ record_lines units read = flat_map (record_line units) (enumerate_from 0 read.0)
 abbrev pub has_links : Entry → Bool
 has_links e = is_filled e && (e.kind == 1 || e.kind == 3)
 
+-- `links 02`, then the records of the slot's segment, or the fault of its code; nothing for a slot
+-- without link information
 unfoldable pub links_lines : Order → List ℕ → ℕ → List ℕ
 links_lines order file slot =
     let e = entry_at order file slot in
@@ -92,6 +96,7 @@ links_lines order file slot =
 abbrev pub shown_file : FileOrder → Order → List ℕ → List ℕ
 shown_file found order file = line (order_words found) ++ flat_map (slot_line order file) slots ++ flat_map (links_lines order file) slots
 
+-- the show of a code file
 unfoldable pub show_of : List ℕ → List ℕ
 show_of file = shown_file (file_order file) (known_order (file_order file)) file
 
@@ -100,22 +105,24 @@ abbrev pub order_shown : Option Order → FileOrder
 order_shown None = Zero
 order_shown (Some order) = Ordered order
 
--- why a file cannot be shown: it has no whole dictionary, or its kind words fit neither byte order
+-- why a file of 512 bytes or more cannot be shown: its kind words fit neither byte order
 abbrev pub order_fault : FileOrder → Option Fault
 order_fault Zero = None
 order_fault (Ordered order) = None
 order_fault Mixed = Some (in_file 0 reason.NoOrder)
 
+-- why a file cannot be shown: it has under 512 bytes, or its kind words fit neither byte order
 abbrev pub show_fault : List ℕ → Option Fault
 show_fault file = if nat_lt (length file) block_len then Some (in_file 0 reason.ShortFile) else order_fault (file_order file)
 
--- why there is no text: that fault, or memory ran out where it does not stand; never a write
+-- why there is no text: that fault, or memory ran out although there is no fault; never a write
 abbrev pub IsUnshown : List ℕ → LinkError → Type 0
 IsUnshown file (Refused fault) = show_fault file ≡ Some fault
 IsUnshown file Memory = show_fault file ≡ None
 IsUnshown file (Write fault) = ⊥
 
--- the same of a call that takes no memory and writes the text: a write failed only where no fault stands
+-- the same of a call that takes no memory and writes the text: a write failed only if there is no
+-- fault
 abbrev pub IsUnwritten : List ℕ → LinkError → Type 0
 IsUnwritten file (Refused fault) = show_fault file ≡ Some fault
 IsUnwritten file Memory = ⊥

@@ -6,36 +6,39 @@ use Rattle.ps_words.specs.declared.order.Order.{Order}
 use Rattle.ps_words.specs.declared.edit.Edit.{Edit}
 use Rattle.ps_codefile.specs.Dictionary.{block_len, max_code_len}
 use Rattle.ps_resolve.specs.Plans.{Planned, Origin}
-use Rattle.ps_linkfile.specs.LinkedFile.{Extent, all_blocks, block_of, dictionary, padded, LinkedFile, summary_of}
+use Rattle.ps_linkfile.specs.LinkedFile.{Extent, all_blocks, block_of, dictionary, padded_code, LinkedFile, summary_of}
 use Rattle.ps_linkfile.specs.declared.summary.Summary.{Summary}
 
+-- the code of a plan's source
 abbrev pub extent_of_origin : Origin → Extent
 extent_of_origin o = record { slot = o.slot; size = length o.code }
 
-abbrev pub extents_of : Planned → List Extent
-extents_of plan = map extent_of_origin plan.origins
+-- the codes of all sources of a plan, by slot
+abbrev pub extents_in : Planned → List Extent
+extents_in plan = map extent_of_origin plan.origins
 
 -- the code of each source with its edits, in whole blocks
 abbrev pub padded_codes : Order → List Origin → List (List Edit) → List ℕ
 padded_codes order [] edits = []
 padded_codes order (o ∷ os) [] = []
-padded_codes order (o ∷ os) (edits ∷ rest) = padded order o.code edits ++ padded_codes order os rest
+padded_codes order (o ∷ os) (edits ∷ rest) = padded_code order o.code edits ++ padded_codes order os rest
 
 -- the file that is written
-abbrev pub file_of : Planned → List ℕ
-file_of plan = dictionary plan.order plan.names plan.host (extents_of plan) ++ padded_codes plan.order plan.origins plan.edits
+abbrev pub file_in : Planned → List ℕ
+file_in plan = dictionary plan.order plan.names plan.host (extents_in plan) ++ padded_codes plan.order plan.origins plan.edits
 
--- the summary of what is written: the plan's sources, its private words, and the blocks, the dictionary's counted
+-- the summary of what is written: the plan's sources, its private words, and the blocks, the
+-- dictionary's counted
 abbrev pub summary_in : Planned → Summary
 summary_in plan = record {
   segments = length plan.origins;
   private_words = plan.private_words;
-  blocks = 1 + all_blocks (extents_of plan);
+  blocks = 1 + all_blocks (extents_in plan);
 }
 
 -- the plan stands for the linked file of these inputs
 pub record StandsFor (host : List ℕ) (libs : List (List ℕ)) (plan : Planned) : Type 0 where
-  pub file : LinkedFile host libs (file_of plan)
+  pub file : LinkedFile host libs (file_in plan)
   pub summary : summary_in plan ≡ summary_of host libs
 
 -- slots of a dictionary, each above the one before it
@@ -50,20 +53,15 @@ HaveEdits [] (edits ∷ rest) = ⊥
 HaveEdits (o ∷ os) [] = ⊥
 HaveEdits (o ∷ os) (edits ∷ rest) = AreEdits (length o.code) edits × HaveEdits os rest
 
--- a plan that can be written: a whole dictionary, sixteen names, each slot once, codes of at most 32767 bytes, and edits inside them
+-- a plan that can be written: a whole dictionary, sixteen names, each slot once, codes of at most
+-- 32767 bytes, and edits inside them
 pub record IsReady (plan : Planned) : Type 0 where
   pub host : block_len ≤ length plan.host
   pub names : length plan.names ≡ 16
-  pub slots : Ascend 0 (extents_of plan)
-  pub sizes : All (λ c. c.size ≤ max_code_len) (extents_of plan)
+  pub slots : Ascend 0 (extents_in plan)
+  pub sizes : All (λ c. c.size ≤ max_code_len) (extents_in plan)
   pub edits : HaveEdits plan.origins plan.edits
 
 -- the first block of each code
 abbrev pub starts_of : List Extent → List ℕ
 starts_of codes = map (λ c. block_of codes c.slot) codes
-
--- a plan that can be written, with the first block of each code and how many blocks its file has
-pub record IsLaidOut (plan : Planned) (starts : List ℕ) (blocks : ℕ) : Type 0 where
-  pub ready : IsReady plan
-  pub begins : starts ≡ starts_of (extents_of plan)
-  pub count : blocks ≡ 1 + all_blocks (extents_of plan)

@@ -17,7 +17,7 @@ pub struct Counts {
 
 impl Counts {
     ghost use Rattle.std.specs.Prelude.{◌≡◌};
-    ghost use Rattle.ps_linkfile.specs.Counts.{no_counts, counted, CanCount};
+    ghost use Rattle.ps_linkfile.specs.Counts.{no_counts, counts_after, CanCount};
 
     /// The counts before the first write.
     pub(crate) fn new() -> Counts
@@ -34,7 +34,7 @@ impl Counts {
     /// Counts a write of so many bytes, by its result.
     pub(crate) fn count(&mut self, size: usize, answer: &io::Result<usize>)
         requires { CanCount self.old 1 }
-        ensures { self.new ≡ counted self.old size answer.now }
+        ensures { self.new ≡ counts_after self.old size answer.now }
     {
         self.writes += 1;
         match answer {

@@ -2,14 +2,16 @@ ghost use Rattle.std.specs.Prelude.{◌≡◌, ◌≤◌, ◌+◌, ◌++◌, map
 ghost use Rattle.ps_codefile.specs.Dictionary.{max_code_len};
 ghost use Rattle.ps_resolve.specs.Plans.{origin_of_source};
 ghost use Rattle.ps_linkfile.specs.LinkedFile.{all_pairs, dictionary};
-ghost use Rattle.ps_linkfile.specs.Writing.{extent_of_origin, extents_of, starts_of, Ascend, IsReady};
+ghost use Rattle.ps_linkfile.specs.Writing.{extent_of_origin, extents_in, starts_of, Ascend, IsReady};
 
-use ps_codefile::layout::{NAMES, PAIR, TAIL, WORD};
+use crate::block_layout::lay_out;
+use ps_codefile::dictionary_layout::{NAMES, PAIR, TAIL};
 use ps_resolve::{Plan, Source};
-use ps_words::{BLOCK_SIZE, Order, put};
+use ps_words::{BLOCK_SIZE, Order, WORD_LEN, put};
 use std::alloc::Allocator;
 
-/// The sixteen pairs of the dictionary: for the slot of each source the block that its code begins in
+/// The sixteen pairs of the dictionary: for the slot of each source the block that its code begins
+/// in
 /// and the code's length, and zeros for any other.
 fn pairs_of(order: Order, sources: &[Source], starts: &[u16]) -> [u8; NAMES]
     requires slots { Ascend 0 (map (λ s. extent_of_origin (origin_of_source s)) sources.now) }
@@ -24,7 +26,7 @@ fn pairs_of(order: Order, sources: &[Source], starts: &[u16]) -> [u8; NAMES]
     for (k, source) in sources.iter().enumerate() {
         let pair = PAIR * source.slot as usize;
         put(order, &mut pairs, pair, starts[k]);
-        put(order, &mut pairs, pair + WORD, source.code.len() as u16);
+        put(order, &mut pairs, pair + WORD_LEN, source.code.len() as u16);
     }
     pairs
 }
@@ -39,22 +41,16 @@ fn store(dictionary: &mut [u8], place: usize, part: &[u8])
     dictionary[place..place + part.len()].copy_from_slice(part);
 }
 
-/// The segment dictionary of the linked file, which is its block 0. The codes begin in these blocks.
-pub(crate) fn dictionary_of<A: Allocator + Copy>(
-    plan: &Plan<'_, A>,
-    starts: &[u16],
-) -> [u8; BLOCK_SIZE]
+/// The segment dictionary of the linked file, which is its block 0.
+pub(crate) fn dictionary_of<A: Allocator + Copy>(plan: &Plan<'_, A>) -> [u8; BLOCK_SIZE]
     requires ready { IsReady plan.now }
-    requires starts { starts.now ≡ starts_of (extents_of plan.now) }
     ensures { result ≡ dictionary plan.now.order plan.now.names plan.now.host
-        (extents_of plan.now) }
+        (extents_in plan.now) }
 {
+    let layout = lay_out(plan);
+    let pairs = pairs_of(plan.order(), plan.sources(), layout.starts.as_slice());
     let mut dictionary = [0; BLOCK_SIZE];
-    store(
-        &mut dictionary,
-        0,
-        &pairs_of(plan.order(), plan.sources(), starts),
-    );
+    store(&mut dictionary, 0, &pairs);
     store(&mut dictionary, NAMES, plan.names().as_flattened());
     store(&mut dictionary, TAIL, plan.tail());
     dictionary

@@ -1,13 +1,13 @@
 //! What the lines of text that map and show print are made of.
 ghost use Rattle.std.specs.Prelude.{◌≡◌, ◌++◌, ◌∷◌, []};
 ghost use Rattle.std.specs.Fmt.{WritesOnOk};
-ghost use Rattle.ps_linkfile.specs.Lines.{shown, shown_byte, two_digits};
+ghost use Rattle.ps_linkfile.specs.Lines.{shown_name, shown_byte, two_digits};
 
 use itoa::{Buffer, Integer};
 use ps_words::{Name, Reason};
 use std::fmt::{self, Display, Formatter};
 
-/// Writes a number behind this text.
+/// Writes a number after this text.
 #[inline(always)]
 pub(crate) fn write_number<W: fmt::Write, I: Integer>(
     text: &mut Formatter<W>,
@@ -20,7 +20,8 @@ pub(crate) fn write_number<W: fmt::Write, I: Integer>(
     text.write_str(Buffer::new().format(number))
 }
 
-/// A byte of a name as a line shows it: itself where ASCII prints it, and otherwise a question mark.
+/// A byte of a name as a line shows it: itself where ASCII prints it, and otherwise a question
+/// mark.
 fn shown_code(byte: u8) -> u8
     ensures { result ≡ shown_byte byte }
 {
@@ -32,7 +33,7 @@ fn shown_code(byte: u8) -> u8
 
 /// A name as a line shows it, all of it at once.
 fn shown_codes(name: Name) -> [u8; 8]
-    ensures { result ≡ shown name }
+    ensures { result ≡ shown_name name }
 {
     let [a, b, c, d, e, f, g, h] = name;
     [
@@ -47,7 +48,7 @@ fn shown_codes(name: Name) -> [u8; 8]
     ]
 }
 
-/// Writes a slot, which is below 100, and a name behind this text.
+/// Writes a slot, which is below 100, and a name after this text.
 pub(crate) fn write_slot_name<W: fmt::Write>(
     text: &mut Formatter<W>,
     before: &str,
@@ -55,7 +56,7 @@ pub(crate) fn write_slot_name<W: fmt::Write>(
     name: Name,
 ) -> fmt::Result
     ensures { WritesOnOk W.write_str_gives text.old result
-        (before.now ++ two_digits slot ++ (32 ∷ []) ++ shown name) text.new }
+        (before.now ++ two_digits slot ++ (32 ∷ []) ++ shown_name name) text.new }
 {
     text.write_str(before)?;
     TwoDigits(slot).fmt(text)?;
@@ -69,9 +70,9 @@ pub(crate) struct Shown(pub(crate) Name);
 
 impl fmt::Display for Shown {
     ghost use Rattle.std.specs.Prelude.{Some};
-    ghost use Rattle.ps_linkfile.specs.Lines.{shown};
+    ghost use Rattle.ps_linkfile.specs.Lines.{shown_name};
 
-    ghost output = { λ name. Some (shown name.0) };
+    ghost output = { λ name. Some (shown_name name.0) };
 
     fn fmt<W: fmt::Write>(&self, f: &mut fmt::Formatter<W>) -> fmt::Result {
         let codes = shown_codes(self.0);

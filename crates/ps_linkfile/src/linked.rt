@@ -1,22 +1,22 @@
-ghost use Rattle.std.specs.Prelude.{◌≡◌, length, IfOk, IfErr, OnOk, OnErr};
+ghost use Rattle.std.specs.Prelude.{◌≡◌, ◌≤◌, ◌+◌, ◌*◌, length, IfOk, IfErr, OnOk, OnErr};
 ghost use Rattle.ps_resolve.specs.Sources.{contents};
 ghost use Rattle.std.specs.Fmt.{WritesOnOk};
 ghost use Rattle.std.specs.Io.KnownBytes.{Appends};
 ghost use Rattle.ps_resolve.specs.Standing.{NoneStands};
 ghost use Rattle.ps_linkfile.specs.LinkedFile.{summary_of};
 ghost use Rattle.ps_linkfile.specs.MapText.{map_in, map_of};
-ghost use Rattle.ps_linkfile.specs.Writing.{file_of, summary_in, StandsFor};
+ghost use Rattle.ps_linkfile.specs.Writing.{file_in, summary_in, StandsFor};
 ghost use Rattle.ps_linkfile.specs.Outcomes.{AppendsPrefix, AppendsLinkedFile, NamesFirst, IsUnprepared, IsUnlinked, LeavesUntouched, LeavesPrefix};
 ghost use Rattle.ps_linkfile.specs.Counts.{AreAtMost, IfDevice, IfStalled, NoneFailed, OneError, OneStall, RisesByBytes, RisesByPieces};
 
+use crate::block_layout::lay_out;
 use crate::counts::Counts;
 use crate::error::{LinkError, WriteFault};
-use crate::layout::{Layout, lay_out};
 use crate::map::{LinkMap, add_map};
 use crate::stream::write_text;
 use crate::summary::Summary;
-use crate::tally::ByWriter;
 use crate::told::ToldWriter;
+use crate::write_counter::ByWriter;
 use crate::writing::write_file;
 use ps_laws::{bytes_are_linked, first_of_all};
 use ps_resolve::{Plan, resolve, slot_names_are_whole};
@@ -27,55 +27,61 @@ use std::marker::Model;
 
 /// A link that was checked and can be written, any number of times. It has views of the inputs, and
 /// no copy of them.
+/// Source: this project's profile.
 #[derive(Drop)]
 pub struct Linked<'a, A: Allocator + Copy = Global> {
     plan: Plan<'a, A>,
-    layout: Layout,
 }
 
 impl<'a, A: Allocator + Copy> Model for Linked<'a, A> {
     ghost use Rattle.ps_resolve.specs.Plans.{Planned};
-    ghost use Rattle.ps_linkfile.specs.Writing.{IsLaidOut};
+    ghost use Rattle.ps_linkfile.specs.Writing.{IsReady};
 
     ghost Value = { Planned };
 
     ghost view = { λ l. l.plan };
 
-    ghost invariant = { λ l. IsLaidOut l.plan l.layout.starts.items l.layout.blocks };
+    ghost invariant = { λ l. IsReady l.plan };
 }
 
 impl<'a, A: Allocator + Copy> Linked<'a, A> {
-    /// The segments, the private words and the blocks of the linked file.
-    fn summary(&self) -> Summary
-        ensures { result ≡ summary_in self.now }
+    /// What the linked file has, in numbers, before it is written: its segments, the words of all
+    /// its
+    /// private variables, and its blocks of 512 bytes, the segment dictionary's counted, of which
+    /// there are at most 1025. So many bytes `write` writes.
+    /// Source: this project's profile.
+    pub fn summary(&self) -> Summary
+        ensures value { result ≡ summary_in self.now }
+        ensures bounded { result.blocks ≤ 1 + 16 * 64 }
     {
         Summary {
             segments: self.plan.sources().len(),
             private_words: self.plan.private_words(),
-            blocks: self.layout.blocks,
+            blocks: lay_out(&self.plan).blocks,
         }
     }
 
     /// Writes the linked file, and returns what it has. It takes no memory.
     ///
-    /// Refuses `Device` where a write returned an error, which is not repeated, and `Stalled` where a
+    /// Refuses `Device` where a write returned an error, which is not repeated, and `Stalled` where
+    /// a
     /// write of at least one byte took none. The writer then has a prefix of the linked file.
     /// Source: this project's profile.
     pub fn write<W: Write>(&self, out: &mut W) -> Result<Summary, WriteFault>
         ensures file { OnOk result (Appends (W.contents out.old) (W.contents out.new)
-            (file_of self.now)) }
+            (file_in self.now)) }
         ensures summary { IfOk result (λ s. s ≡ summary_in self.now) }
         ensures prefix { OnErr result (AppendsPrefix (W.contents out.old) (W.contents out.new)
-            (file_of self.now)) }
+            (file_in self.now)) }
     {
-        let starts = self.layout.starts.as_slice();
-        write_file(&self.plan, starts, out, &mut Counts::new())?;
+        write_file(&self.plan, out, &mut Counts::new())?;
         Ok(self.summary())
     }
 
-    /// Writes the linked file as `write` does, by told writes alone.
+    /// Writes the linked file as `write` does, by calls of `told_write` alone.
     ///
-    /// Each count of `out` is at most 4294967296 before. `writes` rises by no more than the bytes of
+    /// Each count of `out` is at most 4294967296 before. `writes` rises by no more than the bytes
+    /// of
     /// the linked file, and by no more than its blocks and the rise of `shorts` together. After Ok
     /// neither `errors` nor `stalls` has risen. Refuses `Device` where a write returned an error,
     /// which is not repeated: `errors` has then risen by one, and `stalls` not. Refuses `Stalled`
@@ -85,12 +91,12 @@ impl<'a, A: Allocator + Copy> Linked<'a, A> {
     pub fn write_told<W: ToldWriter>(&self, out: &mut W) -> Result<Summary, WriteFault>
         requires { AreAtMost (W.counts out.old) 4294967296 }
         ensures file { OnOk result (Appends (W.contents out.old) (W.contents out.new)
-            (file_of self.now)) }
+            (file_in self.now)) }
         ensures summary { IfOk result (λ s. s ≡ summary_in self.now) }
         ensures prefix { OnErr result (AppendsPrefix (W.contents out.old) (W.contents out.new)
-            (file_of self.now)) }
+            (file_in self.now)) }
         ensures bytes { RisesByBytes (W.counts out.old) (W.counts out.new)
-            (length (file_of self.now)) }
+            (length (file_in self.now)) }
         ensures blocks { RisesByPieces (W.counts out.old) (W.counts out.new)
             (summary_in self.now).blocks }
         ensures ok { OnOk result (NoneFailed (W.counts out.old) (W.counts out.new)) }
@@ -99,8 +105,7 @@ impl<'a, A: Allocator + Copy> Linked<'a, A> {
         ensures stalled { IfErr result (λ e. IfStalled e
             (OneStall (W.counts out.old) (W.counts out.new))) }
     {
-        let starts = self.layout.starts.as_slice();
-        write_file(&self.plan, starts, out, &mut ByWriter)?;
+        write_file(&self.plan, out, &mut ByWriter)?;
         Ok(self.summary())
     }
 
@@ -108,12 +113,13 @@ impl<'a, A: Allocator + Copy> Linked<'a, A> {
     pub(crate) fn add_map<W: fmt::Write>(&self, text: &mut Formatter<W>) -> fmt::Result
         ensures { WritesOnOk W.write_str_gives text.old result (map_in self.now) text.new }
     {
-        add_map(text, &self.plan, &self.layout)
+        add_map(text, &self.plan)
     }
 
     /// Writes the map of the link, the text that `map_text` returns, in pieces. It takes no memory.
     ///
-    /// Refuses `Device` where a write returned an error, which is not repeated, and `Stalled` where a
+    /// Refuses `Device` where a write returned an error, which is not repeated, and `Stalled` where
+    /// a
     /// write of at least one byte took none. The writer then has a prefix of the map.
     /// Source: this project's profile.
     pub fn write_map<W: Write>(&self, out: &mut W) -> Result<(), WriteFault>
@@ -128,8 +134,9 @@ impl<'a, A: Allocator + Copy> Linked<'a, A> {
 /// `Linked::write` writes. Nothing is written yet.
 ///
 /// `host` and each of `libs` are whole code files; of the libraries that have a unit, the first is
-/// used. Refuses `Refused` with the first fault of all, and `Memory` where memory was refused, which
-/// is asked for only once the files are read and no fault stands in them.
+/// used. Refuses `Refused` with the first fault of all, and `Memory` where memory was refused,
+/// which
+/// is requested only once the files were read and have no fault.
 /// Source: this project's profile.
 pub fn prepare<'a, A: Allocator + Copy>(
     alloc: A,
@@ -146,21 +153,23 @@ pub fn prepare<'a, A: Allocator + Copy>(
     let plan = resolve(alloc, host, libs)?;
     bytes_are_linked();
     slot_names_are_whole();
-    let layout = lay_out(plan.sources());
-    Ok(Linked { plan, layout })
+    Ok(Linked { plan })
 }
 
 /// Links a host with the units that it uses, and writes the linked file.
 ///
 /// Where `link` answers Ok, the bytes written are exactly one code file: every segment is its
-/// input's code, byte for byte, except that each reference holds its definition's value added to its
-/// displacement, each linked segment its slot's number, and the host's outer block a data size grown
+/// input's code, byte for byte, except that each reference holds its definition's value added to
+/// its
+/// displacement, each linked segment its slot's number, and the host's outer block a data size
+/// grown
 /// by the private words; every kind is LINKED and no link information is left.
 ///
 /// `host` and each of `libs` are whole code files; of the libraries that have a unit, the first is
-/// used. Refuses `Refused` with the first fault of all, and `Memory` where memory was refused, which
-/// is asked for only once the files are read and no fault stands in them; nothing was written then. Refuses `Write` where the writer failed, which then has a prefix of the
-/// linked file.
+/// used. Refuses `Refused` with the first fault of all, and `Memory` where memory was refused,
+/// which
+/// is requested only once the files were read and have no fault; nothing was written then. Refuses
+/// `Write` where the writer failed, which then has a prefix of the linked file.
 /// Source: UCSD Pascal II.0 manual, code file format; the published II.0 Linker source; the layout
 /// is this project's profile.
 pub fn link<'a, A: Allocator + Copy, W: Write>(

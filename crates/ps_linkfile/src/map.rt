@@ -1,16 +1,16 @@
 //! The map of a link, as text.
-ghost use Rattle.std.specs.Prelude.{◌≡◌, ◌≤◌, ◌+◌, ◌-◌, None, IfOk, IfErr, drop, length, take};
+ghost use Rattle.std.specs.Prelude.{◌≡◌, None, IfOk, IfErr, length};
 ghost use Rattle.std.specs.Fmt.{WritesOnOk};
 ghost use Rattle.std.specs.List.{flat_map};
 ghost use Rattle.ps_resolve.specs.AllFaults.{first_fault};
 ghost use Rattle.ps_resolve.specs.Sources.{contents};
 ghost use Rattle.ps_resolve.specs.Standing.{NoneStands};
-ghost use Rattle.ps_linkfile.specs.Writing.{extents_of, starts_of, IsLaidOut, IsReady};
+ghost use Rattle.ps_linkfile.specs.Writing.{extents_in, starts_of, IsReady};
 ghost use Rattle.ps_linkfile.specs.Outcomes.{IsUnprepared, NamesFirst};
 ghost use Rattle.ps_linkfile.specs.MapText.{added_word as added_word_spec, code_line, source_line, kind_word as kind_word_spec, definition_line, private_line, last_line, map_in, map_of};
 
+use crate::block_layout::lay_out;
 use crate::error::LinkError;
-use crate::layout::Layout;
 use crate::lines::{Shown, TwoDigits, write_number, write_slot_name};
 use crate::linked::{Linked, prepare};
 use ps_laws::first_of_all;
@@ -56,9 +56,9 @@ fn add_segments<A: Allocator + Copy, W: fmt::Write>(
     starts: &[u16],
 ) -> fmt::Result
     requires ready { IsReady plan.now }
-    requires starts { starts.now ≡ starts_of (extents_of plan.now) }
+    requires starts { starts.now ≡ starts_of (extents_in plan.now) }
     ensures { WritesOnOk W.write_str_gives text.old result
-        (flat_map (source_line plan.now.names (extents_of plan.now)) plan.now.origins) text.new }
+        (flat_map (source_line plan.now.names (extents_in plan.now)) plan.now.origins) text.new }
 {
     let names = plan.names();
     for (k, source) in plan.sources().iter().enumerate() {
@@ -88,37 +88,6 @@ fn add_definition<W: fmt::Write>(text: &mut Formatter<W>, name: Name, def: Def) 
     text.write_str("\n")
 }
 
-/// How many definitions are looked up before their lines are written. In record order they stand
-/// anywhere in memory, and what is fetched close together is fetched at once.
-const LOOKED_UP_AT_ONCE: usize = 64;
-
-/// Puts the definitions from the index `from` on, up to `end`, in the places of `found`.
-fn look_up<A: Allocator + Copy>(
-    definitions: &Definitions<A>,
-    from: usize,
-    end: usize,
-    found: &mut [(Name, Def)],
-)
-    requires within { end ≤ length definitions.now }
-    requires as_many { from + length found.old ≡ end }
-    ensures { found.new ≡ take (end - from) (drop from definitions.now) }
-{
-    for i in from..end {
-        found[i - from] = definitions.at(i);
-    }
-}
-
-/// Adds a line for each of the definitions that were looked up.
-fn add_found<W: fmt::Write>(text: &mut Formatter<W>, found: &[(Name, Def)]) -> fmt::Result
-    ensures { WritesOnOk W.write_str_gives text.old result
-        (flat_map definition_line found.now) text.new }
-{
-    for (name, def) in found {
-        add_definition(text, *name, *def)?;
-    }
-    Ok(())
-}
-
 /// Adds a line for each definition, in record order.
 fn add_definitions<A: Allocator + Copy, W: fmt::Write>(
     text: &mut Formatter<W>,
@@ -127,14 +96,9 @@ fn add_definitions<A: Allocator + Copy, W: fmt::Write>(
     ensures { WritesOnOk W.write_str_gives text.old result
         (flat_map definition_line definitions.now) text.new }
 {
-    let count = definitions.len();
-    for index in 0..count.div_ceil(LOOKED_UP_AT_ONCE) {
-        let from = LOOKED_UP_AT_ONCE * index;
-        let mut places = [definitions.at(from); LOOKED_UP_AT_ONCE];
-        let end = from + LOOKED_UP_AT_ONCE.min(count - from);
-        let found = &mut places[..end - from];
-        look_up(definitions, from, end, found);
-        add_found(text, found)?;
+    for i in 0..definitions.len() {
+        let (name, def) = definitions.at(i);
+        add_definition(text, name, def)?;
     }
     Ok(())
 }
@@ -160,7 +124,7 @@ fn add_privates<W: fmt::Write>(text: &mut Formatter<W>, privates: &[Private]) ->
     Ok(())
 }
 
-/// Adds the last line: what is free behind the private variables, the data size, and the blocks.
+/// Adds the last line: what is free after the private variables, the data size, and the blocks.
 fn add_last<A: Allocator + Copy, W: fmt::Write>(
     text: &mut Formatter<W>,
     plan: &Plan<'_, A>,
@@ -174,15 +138,15 @@ fn add_last<A: Allocator + Copy, W: fmt::Write>(
     writeln!(text, "next {next_free} data {data_size} blocks {blocks}")
 }
 
-/// Adds the map of a plan with this layout.
+/// Adds the map of a plan that can be written.
 pub(crate) fn add_map<A: Allocator + Copy, W: fmt::Write>(
     text: &mut Formatter<W>,
     plan: &Plan<'_, A>,
-    layout: &Layout,
 ) -> fmt::Result
-    requires { IsLaidOut plan.now layout.now.starts.items layout.now.blocks }
+    requires { IsReady plan.now }
     ensures { WritesOnOk W.write_str_gives text.old result (map_in plan.now) text.new }
 {
+    let layout = lay_out(plan);
     add_segments(text, plan, layout.starts.as_slice())?;
     add_definitions(text, plan.definitions())?;
     add_privates(text, plan.allotment().privates())?;
@@ -204,20 +168,25 @@ impl<A: Allocator + Copy> fmt::Display for LinkMap<'_, '_, A> {
     }
 }
 
-/// The map of a link, as lines of ASCII text, each ended by a byte 10: for each segment of the linked
+/// The map of a link, as lines of ASCII text, each ended by a byte 10: for each segment of the
+/// linked
 /// file, by slot, its slot and its name, the file and the entry that its code comes from, its first
-/// block and its length in bytes, and behind them `added` where it was added in an empty slot of the
+/// block and its length in bytes, and after them `added` where it was added in an empty slot of the
 /// host, for a unit that only a UNITREF record names; for each definition of the host's segment, in
 /// record order, its name and its value; for each private variable, by slot and then by record, its
-/// slot and its name, its base offset and its size in words; and at last the next free base offset in
-/// words, the data size of the host's outer block in bytes, and how many blocks the linked file has.
+/// slot and its name, its base offset and its size in words; and at last the next free base offset
+/// in
+/// words, the data size of the host's outer block in bytes, and how many blocks the linked file
+/// has.
 ///
-/// Numbers are decimal; slots and entries have two digits. A byte of a name that ASCII does not print
+/// Numbers are decimal; slots and entries have two digits. A byte of a name that ASCII does not
+/// print
 /// is shown as `?`.
 ///
 /// `host` and each of `libs` are whole code files; of the libraries that have a unit, the first is
-/// used. Refuses what `link` refuses: `Refused` with the first fault of all, and `Memory` where memory
-/// was refused, which is asked for only once the files are read and no fault stands in them.
+/// used. Refuses what `link` refuses: `Refused` with the first fault of all, and `Memory` where
+/// memory
+/// was refused, which is requested only once the files were read and have no fault.
 /// Source: this project's profile.
 pub fn map_text<'a, A: Allocator + Copy>(
     alloc: A,

@@ -10,13 +10,13 @@ use ps_linkinfo::Refs;
 use std::fmt::{self, Formatter};
 
 /// How many references a piece has, but for the last.
-pub(crate) const PIECE: usize = 64;
+pub(crate) const PIECE_REFERENCES: usize = 64;
 
 /// How many bytes their text takes at most: six for each, a blank and five digits.
-const PIECE_LEN: usize = 384;
+const PIECE_TEXT_LEN: usize = 384;
 
 /// Writes the text of a reference so that it ends at `end`. Returns where it begins.
-fn write_reference(place: u16, piece: &mut [u8; PIECE_LEN], end: usize) -> usize
+fn write_reference(place: u16, piece: &mut [u8; PIECE_TEXT_LEN], end: usize) -> usize
     requires room { 6 ≤ end }
     requires inside { end ≤ 384 }
     ensures begins { end ≤ result + 6 }
@@ -30,9 +30,10 @@ fn write_reference(place: u16, piece: &mut [u8; PIECE_LEN], end: usize) -> usize
     blank
 }
 
-/// Writes the text of the references from the index `from` on, up to `end`, so that it ends where the
+/// Writes the text of the references from the index `from` on, up to `end`, so that it ends where
+/// the
 /// piece does. Returns where it begins.
-fn write_piece(refs: &Refs, from: usize, end: usize, piece: &mut [u8; PIECE_LEN]) -> usize
+fn write_piece(refs: &Refs, from: usize, end: usize, piece: &mut [u8; PIECE_TEXT_LEN]) -> usize
     requires ordered { from ≤ end }
     requires within { end ≤ length refs.now }
     requires few { end ≤ from + 64 }
@@ -41,7 +42,7 @@ fn write_piece(refs: &Refs, from: usize, end: usize, piece: &mut [u8; PIECE_LEN]
         ≡ flat_map reference (take (end - from) (drop from refs.now)) }
     ensures ascii { IsAscii (drop result piece.new) }
 {
-    let mut start = PIECE_LEN;
+    let mut start = PIECE_TEXT_LEN;
     for step in 0..end - from {
         start = write_reference(refs.get(end - 1 - step), piece, start);
     }
@@ -58,8 +59,8 @@ pub(crate) fn add_piece<W: fmt::Write>(
     ensures { WritesOnOk W.write_str_gives text.old result
         (flat_map reference (take 64 (drop from refs.now))) text.new }
 {
-    let mut piece = [0; PIECE_LEN];
-    let end = refs.len().min(from + PIECE);
+    let mut piece = [0; PIECE_TEXT_LEN];
+    let end = refs.len().min(from + PIECE_REFERENCES);
     let start = write_piece(refs, from, end, &mut piece);
     match str::from_utf8(&piece[start..]) {
         Err(_) => unreachable!(),

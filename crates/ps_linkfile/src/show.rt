@@ -10,16 +10,17 @@ ghost use Rattle.arrayvec.specs.ArrayVec.{array_vec_len};
 ghost use Rattle.ps_resolve.specs.Faults.{is_role};
 ghost use Rattle.ps_codefile.specs.Roles.{is_unit as is_unit_role};
 ghost use Rattle.ps_resolve.specs.Sources.{known_order};
-ghost use Rattle.ps_linkfile.specs.Lines.{line, shown};
+ghost use Rattle.ps_linkfile.specs.Lines.{line, shown_name};
 ghost use Rattle.ps_linkfile.specs.Outcomes.{LeavesUntouched};
 ghost use Rattle.ps_linkfile.specs.ShowText.{order_words, slot_line, references, unit_names as unit_names_spec, is_listed as is_listed_spec, unlisted_word as unlisted_word_spec, record_line, fault_line, record_lines, has_links as has_links_spec, links_lines, show_of, order_shown, show_fault, IsUnshown, IsUnwritten};
 
 use crate::error::LinkError;
 use crate::lines::{FaultWords, Shown, TwoDigits, write_number};
-use crate::pieces::{PIECE, add_piece};
+use crate::pieces::{PIECE_REFERENCES, add_piece};
 use crate::stream::write_text;
 use arrayvec::ArrayVec;
 use itoa::Buffer;
+use ps_codefile::dictionary_layout::{SLOT_COUNT, SLOTS};
 use ps_codefile::{Dict, Entry, Role};
 use ps_linkinfo::{Body, LinkRecord, Records, Refs, walk_from_start};
 use ps_words::{Fault, Name, Order, Reason};
@@ -27,14 +28,8 @@ use std::alloc::Allocator;
 use std::fmt::{self, Display, Formatter};
 use std::io::Write;
 
-/// How many slots a segment dictionary has.
-const SLOTS: u8 = 16;
-
-/// How many units a file has at most: one in each slot.
-const MAX_UNITS: usize = 16;
-
 /// A fault of the file as a whole.
-fn refused(reason: Reason) -> Fault
+fn file_fault(reason: Reason) -> Fault
     ensures { result ≡ in_file 0 reason }
 {
     Fault::in_file(0, reason)
@@ -76,7 +71,7 @@ fn read(file: &[u8]) -> Result<ShownFile<'_>, Fault>
         }
         Err(_) => match Dict::read_beside(file, Order::Little) {
             Ok(dict) => Ok(ShownFile { dict, order: None }),
-            Err(reason) => Err(refused(reason)),
+            Err(reason) => Err(file_fault(reason)),
         },
     }
 }
@@ -135,7 +130,7 @@ fn is_unit(dict: &Dict, slot: u8) -> bool
     matches!(dict.role(slot), Ok(Role::Unit | Role::Wanted))
 }
 
-/// Adds the name of the slot behind the others, where it has a unit.
+/// Adds the name of the slot after the others, where it has a unit.
 fn add_unit(dict: &Dict, names: &mut ArrayVec<Name, 16>, slot: u8)
     requires in_range { slot < 16 }
     requires room { array_vec_len names.old < 16 }
@@ -152,7 +147,7 @@ fn add_unit(dict: &Dict, names: &mut ArrayVec<Name, 16>, slot: u8)
 fn unit_names(dict: &Dict) -> ArrayVec<Name, 16>
     ensures { result.items ≡ unit_names_spec dict.now.order dict.now.file }
 {
-    let mut names: ArrayVec<Name, MAX_UNITS> = ArrayVec::new();
+    let mut names: ArrayVec<Name, SLOT_COUNT> = ArrayVec::new();
     for slot in 0..SLOTS {
         add_unit(dict, &mut names, slot);
     }
@@ -182,8 +177,8 @@ fn add_references<W: fmt::Write>(text: &mut Formatter<W>, refs: &Refs) -> fmt::R
     ensures { WritesOnOk W.write_str_gives text.old result (references refs.now) text.new }
 {
     text.write_str(" at")?;
-    for index in 0..refs.len().div_ceil(PIECE) {
-        add_piece(text, refs, PIECE * index)?;
+    for index in 0..refs.len().div_ceil(PIECE_REFERENCES) {
+        add_piece(text, refs, PIECE_REFERENCES * index)?;
     }
     Ok(())
 }
@@ -195,7 +190,7 @@ fn add_head<W: fmt::Write>(
     kind: &str,
     name: Name,
 ) -> fmt::Result
-    ensures { WritesOnOk W.write_str_gives text.old result (decimal rec ++ kind.now ++ shown name)
+    ensures { WritesOnOk W.write_str_gives text.old result (decimal rec ++ kind.now ++ shown_name name)
         text.new }
 {
     text.write_str(Buffer::new().format(rec))?;
@@ -203,7 +198,8 @@ fn add_head<W: fmt::Write>(
     Shown(name).fmt(text)
 }
 
-/// Adds the line of a record, which has the index `rec` in its segment's link information, in a file
+/// Adds the line of a record, which has the index `rec` in its segment's link information, in a
+/// file
 /// with these units.
 fn add_record<W: fmt::Write>(
     text: &mut Formatter<W>,
@@ -246,7 +242,7 @@ fn add_record<W: fmt::Write>(
     }
 }
 
-/// Adds the line of a fault that stands in place of the record of index `rec`.
+/// Adds the line of a fault that occurs in place of the record of index `rec`.
 fn add_record_fault<W: fmt::Write>(
     text: &mut Formatter<W>,
     rec: usize,
@@ -292,7 +288,8 @@ fn has_links(dict: &Dict, slot: u8) -> bool
     matches!(dict.role(slot), Ok(Role::Host | Role::Unit))
 }
 
-/// Adds the link information of a slot, where it has a segment with one, in a file with these units.
+/// Adds the link information of a slot, where it has a segment with one, in a file with these
+/// units.
 #[tactic(auto, unfolding(crate::specs::ShowText::links_lines))]
 fn add_links<W: fmt::Write>(
     text: &mut Formatter<W>,
@@ -327,19 +324,23 @@ fn add_all_links<W: fmt::Write>(text: &mut Formatter<W>, dict: &Dict) -> fmt::Re
     Ok(())
 }
 
-/// What a code file has, as ASCII lines: its byte order; its sixteen slots; and for each slot with a
+/// What a code file has, as ASCII lines: its byte order; its sixteen slots; and for each slot with
+/// a
 /// host segment or a unit, whose code is in the file, the records of its link information. The line
-/// of a UNITREF record ends with `unlisted` where no slot of the file has a unit of its name, in place
+/// of a UNITREF record ends with `unlisted` where no slot of the file has a unit of its name, in
+/// place
 /// or wanted.
 ///
 /// `file` is a whole code file, of any contents. Its words are read in the byte order that its kind
 /// words show, and as little-endian where all of these are 0, which the first line then calls
-/// `unknown`. Where a code is refused (`BadLength`, `BadAddress` or `Truncated`), a line of that fault
-/// stands in place of its records; where a record cannot be read (`RecordsTruncated`,
+/// `unknown`. Where a code is refused (`BadLength`, `BadAddress` or `Truncated`), a line of that
+/// fault
+/// is in place of its records; where a record cannot be read (`RecordsTruncated`,
 /// `UnknownRecord`, `NativeRecord`, `SeparateRecord` or `BadFormat`), a line of that fault is the
 /// last of the segment. Nothing else is checked.
 ///
-/// Refuses `Refused` with `ShortFile` for a file of fewer than 512 bytes, and with `NoOrder` where the
+/// Refuses `Refused` with `ShortFile` for a file of fewer than 512 bytes, and with `NoOrder` where
+/// the
 /// kind words fit neither byte order, each of file 0, also where there is no memory; and `Memory`
 /// where memory was refused. Never returns `Write`.
 /// Source: UCSD Pascal II.0 manual, code file format; the text is this project's profile.
@@ -353,7 +354,8 @@ pub fn show_text<A: Allocator + Copy>(alloc: A, file: &[u8]) -> Result<Vec<u8, A
 
 /// Writes the text that `show_text` returns, in pieces. It takes no memory.
 ///
-/// Refuses `Refused` as `show_text` does, of the same files; nothing was written then. Refuses `Write`
+/// Refuses `Refused` as `show_text` does, of the same files; nothing was written then. Refuses
+/// `Write`
 /// where the writer failed, which is not called again, and then has a prefix of the text. Never
 /// returns `Memory`.
 /// Source: UCSD Pascal II.0 manual, code file format; the text is this project's profile.

@@ -10,10 +10,10 @@ use std::fmt::{self, Display, Formatter};
 use std::io::{self, Write};
 
 /// How many bytes are gathered before they are written.
-const PIECE_LEN: usize = 16384;
+const BUFFER_LEN: usize = 16384;
 
 /// The text that was gathered and not yet written.
-type Gathered = ArrayVec<u8, PIECE_LEN>;
+type Gathered = ArrayVec<u8, BUFFER_LEN>;
 
 /// Writes what was gathered.
 fn flush<W: Write>(out: &mut W, gathered: &mut Gathered) -> Result<(), WriteFault>

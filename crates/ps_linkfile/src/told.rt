@@ -2,21 +2,21 @@ ghost use Rattle.std.specs.Prelude.{◌≡◌, length};
 ghost use Rattle.std.specs.Io.{WritesAtMost};
 ghost use Rattle.std.specs.Io.KnownBytes.{WriteAppends, Keeps};
 ghost use Rattle.ps_linkfile.specs.declared.counts.Counts.{Counts};
-ghost use Rattle.ps_linkfile.specs.Counts.{counted, no_counts, CanCount};
+ghost use Rattle.ps_linkfile.specs.Counts.{counts_after, no_counts, CanCount};
 
 use crate::counts::Counts;
-use crate::tally::Tally;
+use crate::write_counter::WriteCounter;
 use std::io;
 use std::io::Write;
 
-/// A writer that counts the writes made by `told_write`, and tells the counts.
+/// A writer that counts the writes made by `told_write`, and reports the counts.
 ///
 /// Source: this project's profile.
 pub trait ToldWriter: Write {
     /// The four counts.
     ghost counts: { Self → Counts };
 
-    /// How many told writes there were.
+    /// How many calls of `told_write` there were.
     fn writes(&self) -> u64
         ensures { result ≡ (counts self.now).writes };
 
@@ -35,14 +35,15 @@ pub trait ToldWriter: Write {
 
     /// Writes `bytes` as `write` does, and counts the write by what it returns.
     ///
-    /// Each count is below `u64::MAX` before. Returns how many of the bytes, from the first on, were
+    /// Each count is below `u64::MAX` before. Returns how many of the bytes, from the first on,
+    /// were
     /// taken, or the error of the write.
     fn told_write(&mut self, bytes: &[u8]) -> io::Result<usize>
         requires { CanCount (counts self.old) 1 }
         ensures bound { WritesAtMost result bytes.now }
         ensures bytes { WriteAppends (Self.contents self.old) (Self.contents self.new) result
             bytes.now }
-        ensures counts { counts self.new ≡ counted (counts self.old) (length bytes.now) result };
+        ensures counts { counts self.new ≡ counts_after (counts self.old) (length bytes.now) result };
 }
 
 /// Any writer, made to count. Its plain `write` and `flush` are the writer's, and count nothing.
@@ -58,6 +59,7 @@ impl<W: Write> Counting<W> {
     ghost use Rattle.ps_linkfile.specs.Told.{counts_of, inner_of};
 
     /// Makes `inner` count, from 0 on.
+    /// Source: this project's profile.
     pub fn new(inner: W) -> Self
         ensures inner { inner_of result ≡ inner }
         ensures counts { counts_of result ≡ no_counts }
@@ -69,6 +71,7 @@ impl<W: Write> Counting<W> {
     }
 
     /// Gives the writer back.
+    /// Source: this project's profile.
     pub fn into_inner(self) -> W
         ensures { result ≡ inner_of self }
     {

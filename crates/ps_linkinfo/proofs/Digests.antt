@@ -3,23 +3,23 @@ use Rattle.std.proofs.Common.{◌≡◌, ℕ, ◌+◌, List, [], ◌∷◌, Bool
 use Rattle.std.specs.Prelude.{fold}
 use Rattle.std.specs.Hash.DefaultHasher as sip
 use Rattle.std.specs.declared.hash.DefaultHasher.{DefaultHasher}
-use Rattle.ps_linkinfo.specs.Counts.{names_its_own, with_own_name}
-use Rattle.ps_linkinfo.specs.Numbered.{numbered}
+use Rattle.ps_linkinfo.specs.RecordCounts.{declares_name, with_declared_name}
+use Rattle.ps_linkinfo.specs.Numbered.{numbered_records}
 use Rattle.ps_linkinfo.specs.declared.record.LinkRecord.{LinkRecord as Record}
 
--- the state that has taken in the names of the records that are left, too
+-- the state that has hashed the names of the records that are left, too
 abbrev pub with_left : DefaultHasher → List (ℕ × Record) → DefaultHasher
 with_left s [] = s
-with_left s (p ∷ ps) = with_left (with_own_name s p.1) ps
+with_left s (p ∷ ps) = with_left (with_declared_name s p.1) ps
 
 -- all are left
-pub all_left : (rs : List Record) (n : ℕ) (s : DefaultHasher) → with_left s (numbered n rs) ≡ fold with_own_name s rs
+pub all_left : (rs : List Record) (n : ℕ) (s : DefaultHasher) → with_left s (numbered_records n rs) ≡ fold with_declared_name s rs
 all_left [] n s = refl
-all_left (r ∷ rs) n s = all_left rs (n + 1) (with_own_name s r)
+all_left (r ∷ rs) n s = all_left rs (n + 1) (with_declared_name s r)
 
--- a record whose name is taken in, and one whose name is not
-pub taken : (s : DefaultHasher) (r : Record) → names_its_own r ≡ true → with_own_name s r ≡ sip.write s r.name
+-- a record whose name is hashed, and one whose name is not
+pub taken : (s : DefaultHasher) (r : Record) → declares_name r ≡ true → with_declared_name s r ≡ sip.write s r.name
 taken s r h = ap (λ (b : Bool). if b then sip.write s r.name else s) h
 
-pub passed : (s : DefaultHasher) (r : Record) → names_its_own r ≡ false → with_own_name s r ≡ s
+pub passed : (s : DefaultHasher) (r : Record) → declares_name r ≡ false → with_declared_name s r ≡ s
 passed s r h = ap (λ (b : Bool). if b then sip.write s r.name else s) h

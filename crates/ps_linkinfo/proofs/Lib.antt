@@ -5,6 +5,5 @@ pub mod Steps
 pub mod Stands
 pub mod Walks
 pub mod Names
-pub mod FirstRecords
 pub mod Tallies
 pub mod Digests

@@ -1,26 +1,21 @@
 -- The names of records that are read.
-use Rattle.std.proofs.Common.{◌≡◌, ℕ, zero, suc, ◌≤◌, List, [], length, drop, Bool, true, false, if◌then◌else◌, Option, Some, None, refl, arith}
-use Rattle.std.specs.Prelude.{All, nat_lt}
-use Rattle.std.proofs.lemmas.Bool.{ltb-false}
+use Rattle.std.proofs.Common.{◌≡◌, ℕ, zero, suc, ◌≤◌, List, [], length, drop, Bool, true, false, Option, Some, None, refl, arith}
+use Rattle.std.specs.Prelude.{All}
 use Rattle.std.proofs.lemmas.List.{length-take-le}
 use Rattle.std.proofs.lemmas.List.Elements.{All-nil, All-cons}
 use Rattle.ps_words.specs.declared.order.Order.{Order}
 use Rattle.ps_words.specs.declared.fault.Reason.{Reason}
-use Rattle.ps_words.specs.declared.fault.Reason.TheVariants as reason
 use Rattle.ps_linkinfo.specs.declared.record.LinkRecord.{LinkRecord as Record}
 use Rattle.ps_linkinfo.specs.Records.{bad, is_eof, record_at, read_from, size_of}
+use Rattle.ps_linkinfo.proofs.Steps.{long_enough}
 
 abbrev pub IsWhole : Record → Type 0
 IsWhole r = length r.name ≡ 8
 
-no_short : (short : Bool) (rest : Option Reason) → (if short then Some reason.RecordsTruncated else rest) ≡ None → short ≡ false
-no_short true rest h = cc
-no_short false rest h = refl
-
--- where no fault stands there are sixteen bytes, and so eight of a name
+-- where no fault applies there are sixteen bytes, and so eight of a name
 first_whole : (order : Order) (bytes : List ℕ) → bad order bytes ≡ None → IsWhole (record_at order bytes)
 first_whole order bytes h =
-    let long : 16 ≤ length bytes = ltb-false (length bytes) 16 (no_short (nat_lt (length bytes) 16) _ h) in
+    let long : 16 ≤ length bytes = long_enough order bytes h in
     length-take-le 8 bytes (omega arith)
 
 -- each record of a reading has a name of eight bytes

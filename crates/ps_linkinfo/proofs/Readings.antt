@@ -40,7 +40,7 @@ one_reading order bytes (r ∷ q ∷ rs) (s ∷ t ∷ ss) h e k f =
     let rest = one_reading order (drop (size_of r) bytes) (q ∷ rs) (t ∷ ss) h.1 e.1 (subst (λ (x : Record). AreSpelled order (drop (size_of x) bytes) (t ∷ ss)) same k.1) f.1 in
     cc
 
--- where a record stands no fault does
+-- where a record begins there is no fault
 pub no_fault : (order : Order) (x : List ℕ) (b : Body) → IsBody order x b → 16 + list_len (length (refs_of b)) ≤ length x → bad order x ≡ None
 no_fault order x (UnitRef refs) h w = let len = ap length h.2 ∙ refs_len order x (word_at order x 12) in let k = h.0 in let a = h.1 in grind (arith, nat_tests)
 no_fault order x (PublRef refs) h w = let len = ap length h.2 ∙ refs_len order x (word_at order x 12) in let k = h.0 in let a = h.1 in grind (arith, nat_tests)

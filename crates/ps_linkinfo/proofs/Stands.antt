@@ -14,7 +14,7 @@ use Rattle.ps_linkinfo.specs.declared.record.Body.{Body}
 use Rattle.ps_linkinfo.specs.declared.record.Body.TheVariants.{UnitRef, PublRef, PrivRef, PublDef, ConstDef, Eof}
 use Rattle.ps_linkinfo.specs.declared.record.LinkRecord.{LinkRecord as Record}
 
--- a body that stands whole and first
+-- a body that is whole and first
 abbrev StandsWhole : Order → List ℕ → Body → Type 0
 StandsWhole order x b = IsBody order x b × (16 + list_len (length (refs_of b)) ≤ length x)
 
@@ -33,7 +33,7 @@ private_format order x h k = grind (arith, nat_tests)
 end_type : (order : Order) (x : List ℕ) → bad order x ≡ None → (word_at order x 8 == 1) ≡ false → (word_at order x 8 == 3) ≡ false → (word_at order x 8 == 4) ≡ false → (word_at order x 8 == 7) ≡ false → (word_at order x 8 == 8) ≡ false → word_at order x 8 ≡ 0
 end_type order x h a b c d e = grind (arith, nat_tests)
 
--- where no fault stands, the body that the first words spell stands whole
+-- where no fault applies, the body that the first words spell is whole
 body_stands : (order : Order) (x : List ℕ) → bad order x ≡ None → StandsWhole order x (body_at order x)
 body_stands order x good = is_unit (kind == 1) refl
   where
@@ -72,7 +72,7 @@ body_stands order x good = is_unit (kind == 1) refl
     is_unit true e = let k : kind ≡ 1 = grind (arith, nat_tests) in let s = format_stands order x 1 (unit_format order x good k) in ((k, s.0, refl), rw (refs_len order x count) s.1)
     is_unit false e = is_public (kind == 3) refl e
 
--- where no fault stands, a record does
+-- where there is no fault, a record begins
 pub begins_at : (order : Order) (x : List ℕ) → bad order x ≡ None → BeginsWith order x (record_at order x)
 begins_at order x good = let b = body_stands order x good in record { whole = b.1; name = refl; body = b.0 }
 
@@ -111,7 +111,8 @@ is_read_more : (order : Order) (x : List ℕ) (r : Record) → BeginsWith order 
 is_read_more order x r b e rs None h = record { spelled = (b, h.spelled); ends = ends_more r rs e h.ends }
 is_read_more order x r b e rs (Some why) h = record { spelled = (b, h.spelled); goes_on = (e, h.goes_on); stops = subst (λ (y : List ℕ). bad order y ≡ Some why) (sym (behind_cons r rs x)) h.stops }
 
--- where n is above a sixteenth of the bytes, the reading of n records at most is what the bytes spell, or what stops it
+-- where n is above a sixteenth of the bytes, the reading of n records at most is what the bytes
+-- spell, or what stops it
 read_from_is : (n : ℕ) (order : Order) (x : List ℕ) → length x / 16 < n → IsRead order x (read_from n order x)
 read_from_is zero order x lt = absurd (omega arith)
 read_from_is (suc n) order x lt = at (λ y less. read_from_is n order y less) (bad order x) refl (is_eof (record_at order x)) refl
@@ -130,3 +131,11 @@ read_from_is (suc n) order x lt = at (λ y less. read_from_is n order y less) (b
 
 pub reading_is : (order : Order) (x : List ℕ) → IsRead order x (reading order x)
 reading_is order x = read_from_is (length x / 16 + 1) order x (omega arith)
+
+-- the records of a reading are spelled
+pub reading_spelled : (order : Order) (x : List ℕ) → AreSpelled order x (reading order x).0
+reading_spelled order x = at (reading order x).0 (reading order x).1 (reading_is order x)
+  where
+    at : (rs : List Record) (why : Option Reason) → IsRead order x (rs, why) → AreSpelled order x rs
+    at rs None h = h.spelled
+    at rs (Some why) h = h.spelled

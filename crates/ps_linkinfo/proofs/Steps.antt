@@ -4,21 +4,22 @@ use Rattle.std.proofs.lemmas.Bool.Decides.{nat_tests}
 use Rattle.ps_words.specs.declared.order.Order.{Order}
 use Rattle.ps_words.specs.declared.fault.Reason.{Reason}
 use Rattle.ps_linkinfo.specs.Records.{reading, read_from, record_at, size_of, is_eof, bad}
-use Rattle.ps_linkinfo.specs.Left.{items_of, items_at, left}
+use Rattle.ps_linkinfo.specs.Left.{items_of, items_at, items_left}
 use Rattle.ps_linkinfo.specs.Walk.{Walk}
 use Rattle.ps_linkinfo.specs.Records.{BeginsWith}
-use Rattle.ps_linkinfo.proofs.Readings.{record_is}
+use Rattle.ps_linkinfo.proofs.Readings.{no_fault, record_is}
 use Rattle.std.proofs.lemmas.List.{drop-drop}
 use Rattle.ps_linkinfo.specs.declared.record.LinkRecord.{LinkRecord as Record}
 
--- where a record stands there are 16 bytes
+-- where a record begins there are 16 bytes
 pub long_enough : (order : Order) (x : List ℕ) → bad order x ≡ None → 16 ≤ length x
 long_enough order x h = grind (arith, nat_tests)
 
 pub size_least : (r : Record) → 16 ≤ size_of r
 size_least r = omega arith
 
--- readings of at most n and at most m records are the same where both numbers are above a sixteenth of the bytes
+-- readings of at most n and at most m records are the same where both numbers are above a sixteenth
+-- of the bytes
 pub enough : (n m : ℕ) (order : Order) (x : List ℕ) → length x / 16 < n → length x / 16 < m → read_from n order x ≡ read_from m order x
 enough zero m order x h k = absurd (omega arith)
 enough (suc n) zero order x h k = absurd (omega arith)
@@ -45,7 +46,8 @@ read_end order x why p = as_suc order x ∙ rw (p, read_from)
 pub read_last : (order : Order) (x : List ℕ) → bad order x ≡ None → is_eof (record_at order x) ≡ true → reading order x ≡ (record_at order x ∷ [], None)
 read_last order x p q = as_suc order x ∙ rw (p, q, read_from)
 
--- where no fault stands and the first record is no EOFMARK, the reading is this record and the reading behind it
+-- where no fault applies and the first record is no EOFMARK, the reading is this record and the
+-- reading after it
 pub read_more : (order : Order) (x : List ℕ) → bad order x ≡ None → is_eof (record_at order x) ≡ false
     → reading order x ≡ (let rest = reading order (drop (size_of (record_at order x)) x) in (record_at order x ∷ rest.0, rest.1))
 read_more order x p q =
@@ -56,19 +58,22 @@ read_more order x p q =
     enough (length x / 16) (length (drop (size_of r) x) / 16 + 1) order (drop (size_of r) x) (omega (arith, length-drop (size_of r) x)) (omega arith) in
     as_suc order x ∙ rw (p, q, fuel, read_from)
 
--- what a walk that is not over has left, by what stands first in it
-pub left_end : (w : Walk) (why : Reason) → w.ended ≡ false → bad w.order (drop w.used w.bytes) ≡ Some why → left w ≡ Err why ∷ []
+-- what a walk that is not over has left, by what is first in it
+pub left_end : (w : Walk) (why : Reason) → w.ended ≡ false → bad w.order (drop w.used w.bytes) ≡ Some why → items_left w ≡ Err why ∷ []
 unfolding items_at
 left_end w why e b = rw e (ap items_of (read_end w.order (drop w.used w.bytes) why b))
 
--- where a record stands there, this record is left and then what the walk behind it has left
-pub left_next : (w : Walk) (r : Record) (v : Walk) → w.ended ≡ false → bad w.order (drop w.used w.bytes) ≡ None → BeginsWith w.order (drop w.used w.bytes) r
-    → v ≡ record w { used = w.used + size_of r; ended = is_eof r } → left w ≡ Ok r ∷ left v
+-- where a record is there, this record is left and then what the walk after it has left
+pub left_next : (w : Walk) (r : Record) (v : Walk) → w.ended ≡ false → BeginsWith w.order (drop w.used w.bytes) r
+    → v ≡ record w { used = w.used + size_of r; ended = is_eof r } → items_left w ≡ Ok r ∷ items_left v
 unfolding items_at
-left_next w r v e b h is = rw e (at (is_eof r) refl ∙ ap (λ (v : Walk). Ok r ∷ left v) (sym is))
+left_next w r v e h is = rw e (at (is_eof r) refl ∙ ap (λ (v : Walk). Ok r ∷ items_left v) (sym is))
   where
     x : List ℕ
     x = drop w.used w.bytes
+
+    b : bad w.order x ≡ None
+    b = no_fault w.order x r.body h.body h.whole
 
     same : r ≡ record_at w.order x
     same = record_is w.order x r h

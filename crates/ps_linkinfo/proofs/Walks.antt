@@ -1,21 +1,19 @@
 -- Walks over link information.
-use Rattle.std.proofs.Common.{◌≡◌, ℕ, zero, suc, ◌+◌, ◌/◌, ◌-◌, ◌≤◌, List, [], ◌∷◌, ◌++◌, length, length-drop, drop, map, Bool, true, false, Option, Some, None, Result, Ok, Err, refl, sym, ◌∙◌, ap, subst, arith}
-use Rattle.std.specs.List.{filter_map}
+use Rattle.std.proofs.Common.{◌≡◌, ℕ, zero, suc, ◌+◌, ◌/◌, ◌-◌, ◌≤◌, List, [], ◌∷◌, ◌++◌, length, length-drop, drop, Bool, true, false, Option, Some, None, Result, Ok, Err, refl, sym, ◌∙◌, ap, subst, append_assoc, arith}
+use Rattle.std.specs.List.{AllByRecursion, filter_map}
 use Rattle.std.specs.Result.{result_ok}
 use Rattle.ps_words.specs.declared.order.Order.{Order}
 use Rattle.ps_words.specs.declared.fault.Reason.{Reason}
 use Rattle.ps_linkinfo.specs.Records.{AreSpelled, BeginsWith, reading, read_from, record_at, size_of, is_eof, bad, used_by}
 use Rattle.ps_linkinfo.specs.Walk.{Walk, Advances, HasGiven, left_of, whole_walk}
-use Rattle.ps_linkinfo.specs.Left.{items_of, items_at, left, records_left, fault_in, fault_left}
-use Rattle.ps_linkinfo.proofs.Spelled.{spelled_more, used_more, used_cons}
+use Rattle.ps_linkinfo.specs.Left.{items_of, items_at, items_left, records_left, fault_in, fault_left}
+use Rattle.ps_linkinfo.proofs.Spelled.{spelled_fit, spelled_more, used_more, used_cons}
 use Rattle.ps_linkinfo.proofs.Readings.{record_is}
 use Rattle.ps_linkinfo.proofs.Steps.{long_enough, read_end, size_least}
-use Rattle.ps_linkinfo.proofs.Stands.{begins_at}
+use Rattle.ps_linkinfo.proofs.Stands.{begins_at, reading_spelled}
+use Rattle.std.proofs.lemmas.List.{append-nil}
+use Rattle.std.proofs.lemmas.List.Sums.{sum_by-append}
 use Rattle.ps_linkinfo.specs.declared.record.LinkRecord.{LinkRecord as Record}
-
--- records as items
-abbrev pub ok_items : List Record → List (Result Record Reason)
-ok_items rs = map (λ r. Ok r) rs
 
 -- the records among a reading's items are its records
 oks_of_items : (rs : List Record) (why : Option Reason) → filter_map result_ok (items_of (rs, why)) ≡ rs
@@ -30,7 +28,7 @@ fault_of_items [] (Some why) = refl
 fault_of_items (r ∷ rs) why = fault_of_items rs why
 
 -- a walk begins with all items
-pub items_first : (order : Order) (bytes : List ℕ) → left (whole_walk order bytes) ≡ items_of (reading order bytes)
+pub items_first : (order : Order) (bytes : List ℕ) → items_left (whole_walk order bytes) ≡ items_of (reading order bytes)
 unfolding items_at
 items_first order bytes = refl
 
@@ -65,8 +63,9 @@ items_count [] None = omega arith
 items_count [] (Some why) = omega arith
 items_count (r ∷ rs) why = omega (arith, items_count rs why)
 
--- a walk that has ended has no item left, and any other at most one for each 16 bytes left and one for a fault
-pub few_left : (w : Walk) → length (left w) ≤ left_of w
+-- a walk that has ended has no item left, and any other at most one for each 16 bytes left and one
+-- for a fault
+pub few_left : (w : Walk) → length (items_left w) ≤ left_of w
 unfolding items_at
 few_left w = at w.ended refl
   where
@@ -76,7 +75,7 @@ few_left w = at w.ended refl
     count : length (items_at w) ≤ (length w.bytes - w.used) / 16 + 1
     count = omega (arith, items_count (reading w.order x).0 (reading w.order x).1, few w.order x, length-drop w.used w.bytes)
 
-    at : (b : Bool) → w.ended ≡ b → length (left w) ≤ left_of w
+    at : (b : Bool) → w.ended ≡ b → length (items_left w) ≤ left_of w
     at true e = rw e (omega arith)
     at false e = rw e count
 
@@ -84,7 +83,7 @@ few_left w = at w.ended refl
 pub given_first : (order : Order) (bytes : List ℕ) → HasGiven (whole_walk order bytes) []
 given_first order bytes = record { spelled = tt; used = refl }
 
--- a walk that gives a record has given this record too, behind those before it
+-- a walk that gives a record has given this record too, after those before it
 pub given_more : (w v : Walk) (rs : List Record) (r : Record) → HasGiven w rs → Advances w (Some (Ok r)) v → HasGiven v (rs ++ r ∷ [])
 given_more w v rs r h a =
     let next : Walk = record w { used = w.used + size_of r; ended = is_eof r } in
@@ -113,58 +112,73 @@ one_row order bytes (r ∷ rs) (s ∷ ss) h k e =
 pub given_one : (w : Walk) (rs others : List Record) → HasGiven w rs → HasGiven w others → others ≡ rs
 given_one w rs others h k = one_row w.order w.bytes rs others h.spelled k.spelled (sym h.used ∙ k.used)
 
-pub ok_more : (rs : List Record) (r : Record) (is : List (Result Record Reason)) → ok_items (rs ++ r ∷ []) ++ is ≡ ok_items rs ++ Ok r ∷ is
-ok_more [] r is = refl
-ok_more (x ∷ rs) r is = ap (λ (xs : List (Result Record Reason)). Ok x ∷ xs) (ok_more rs r is)
+-- a walk over these bytes has given these records, none of them an EOFMARK while it goes on, and
+-- has the rest of their reading to give
+pub record Walked (order : Order) (bytes : List ℕ) (w : Walk) (rs : List Record) : Type 0 where
+  pub records : rs ++ records_left w ≡ (reading order bytes).0
+  pub fault : fault_left w ≡ (reading order bytes).1
+  pub goes_on : w.ended ≡ false → AllByRecursion (λ r. is_eof r ≡ false) rs
 
--- items that are records alone are a reading without a fault
-pub records_alone : (rs ss : List Record) (why : Option Reason) → ok_items rs ≡ items_of (ss, why) → (ss ≡ rs) × (why ≡ None)
-records_alone [] [] None h = (refl, refl)
-records_alone [] [] (Some why) h = cc
-records_alone [] (s ∷ ss) why h = cc
-records_alone (r ∷ rs) [] None h = cc
-records_alone (r ∷ rs) [] (Some why) h = cc
-records_alone (r ∷ rs) (s ∷ ss) why h =
-    let rest = records_alone rs ss why (cc) in
-    ((let e = rest.0 in cc), rest.1)
+-- at its start
+pub walked_first : (order : Order) (bytes : List ℕ) → Walked order bytes (whole_walk order bytes) []
+walked_first order bytes = record { records = records_first order bytes; fault = fault_first order bytes; goes_on = λ _. tt }
 
--- and a fault among them is that of the reading
-pub records_and_fault : (rs ss : List Record) (why : Reason) (w : Option Reason) (is : List (Result Record Reason)) → ok_items rs ++ Err why ∷ is ≡ items_of (ss, w) → (ss ≡ rs) × (w ≡ Some why)
-records_and_fault [] [] why None is h = cc
-records_and_fault [] [] why (Some v) is h = (refl, (let e : v ≡ why = cc in ap (λ (x : Reason). Some x) e))
-records_and_fault [] (s ∷ ss) why w is h = cc
-records_and_fault (r ∷ rs) [] why None is h = cc
-records_and_fault (r ∷ rs) [] why (Some v) is h = cc
-records_and_fault (r ∷ rs) (s ∷ ss) why w is h =
-    let rest = records_and_fault rs ss why w is (cc) in
-    ((let e = rest.0 in cc), rest.1)
+goes_more : (rs : List Record) (r : Record) → AllByRecursion (λ r. is_eof r ≡ false) rs → is_eof r ≡ false → AllByRecursion (λ r. is_eof r ≡ false) (rs ++ r ∷ [])
+goes_more [] r h e = (e, tt)
+goes_more (x ∷ rs) r h e = (h.0, goes_more rs r h.1 e)
 
--- what is given next is the first of what is left
-pub given_next : (rs : List Record) (w v : Walk) (i j : Result Record Reason) (all : List (Result Record Reason)) → left w ≡ i ∷ left v → i ≡ j → ok_items rs ++ left w ≡ all → ok_items rs ++ j ∷ left v ≡ all
-given_next rs w v i j all first is items =
-    let now : j ∷ left v ≡ left w = sym (first ∙ ap (λ (k : Result Record Reason). k ∷ left v) is) in
-    ap (λ (xs : List (Result Record Reason)). ok_items rs ++ xs) now ∙ items
+-- what a step gives
+abbrev pub Steps : Walk → Result Record Reason → Walk → Type 0
+Steps w i v = Advances w (Some i) v × (items_left w ≡ i ∷ items_left v)
 
--- a reading whose items are these
-pub reading_alone : (rs : List Record) (read : List Record × Option Reason) → ok_items rs ≡ items_of read → read ≡ (rs, None)
-reading_alone rs read h =
-    let p = records_alone rs read.0 read.1 h in
-    ap (λ (ss : List Record). (ss, read.1)) p.0 ∙ ap (λ (w : Option Reason). (rs, w)) p.1
-
--- a reading whose items begin with these records and then this fault has these records and this fault
-pub reading_and_fault : (rs : List Record) (why : Reason) (is : List (Result Record Reason)) (read : List Record × Option Reason) → ok_items rs ++ Err why ∷ is ≡ items_of read → read ≡ (rs, Some why)
-reading_and_fault rs why is read h =
-    let p = records_and_fault rs read.0 why read.1 is h in
-    ap (λ (ss : List Record). (ss, read.1)) p.0 ∙ ap (λ (w : Option Reason). (rs, w)) p.1
-
--- where the items have a record, one stands first
-pub stands_first : (order : Order) (bytes : List ℕ) (rs : List Record) (r : Record) (is : List (Result Record Reason)) → ok_items rs ++ Ok r ∷ is ≡ items_of (reading order bytes) → bad order bytes ≡ None
-stands_first order bytes rs r is h = at (bad order bytes) refl
+-- a record more
+pub walked_more : (order : Order) (bytes : List ℕ) (w v : Walk) (rs : List Record) (i : Result Record Reason) (r : Record) → Walked order bytes w rs → Steps w i v → i ≡ Ok r → Walked order bytes v (rs ++ r ∷ [])
+walked_more order bytes w v rs i r h step is = record {
+  records = append_assoc rs (r ∷ []) (records_left v) ∙ ap (λ (is : List (Result Record Reason)). rs ++ filter_map result_ok is) (sym now.1) ∙ h.records;
+  fault = ap fault_in (sym now.1) ∙ h.fault;
+  goes_on = λ e. goes_more rs r (h.goes_on now.0.0) (ap (λ (u : Walk). u.ended) (sym now.0.2) ∙ e);
+}
   where
-    no_record : (why : Reason) (xs : List Record) → ok_items xs ++ Ok r ∷ is ≡ Err why ∷ [] → ⊥
-    no_record why [] e = cc
-    no_record why (x ∷ xs) e = cc
+    now : Steps w (Ok r) v
+    now = subst (λ (j : Result Record Reason). Steps w j v) is step
+
+-- and none of those before it is an EOFMARK
+pub walked_on : (order : Order) (bytes : List ℕ) (w v : Walk) (rs : List Record) (i : Result Record Reason) (r : Record) → Walked order bytes w rs → Steps w i v → i ≡ Ok r → AllByRecursion (λ r. is_eof r ≡ false) rs
+walked_on order bytes w v rs i r h step is =
+    let now : Steps w (Ok r) v = subst (λ (j : Result Record Reason). Steps w j v) is step in
+    h.goes_on now.0.0
+
+-- at its end these are all
+pub walked_all : (order : Order) (bytes : List ℕ) (w : Walk) (rs : List Record) → Walked order bytes w rs → items_left w ≡ [] → reading order bytes ≡ (rs, None)
+walked_all order bytes w rs h none =
+    let records : rs ≡ (reading order bytes).0 = sym (append-nil rs) ∙ ap (λ (is : List (Result Record Reason)). rs ++ filter_map result_ok is) (sym none) ∙ h.records in
+    let fault : None ≡ (reading order bytes).1 = ap fault_in (sym none) ∙ h.fault in
+    ap (λ (ss : List Record). (ss, (reading order bytes).1)) (sym records) ∙ ap (λ (why : Option Reason). (rs, why)) (sym fault)
+
+-- at a fault these are all, and it is the fault
+pub walked_to_fault : (order : Order) (bytes : List ℕ) (w v : Walk) (rs : List Record) (i : Result Record Reason) (why : Reason) → Walked order bytes w rs → Steps w i v → i ≡ Err why → reading order bytes ≡ (rs, Some why)
+walked_to_fault order bytes w v rs i why h step is =
+    let now : Steps w (Err why) v = subst (λ (j : Result Record Reason). Steps w j v) is step in
+    let ended : items_left v ≡ [] = ap items_left now.0.2 in
+    let only : items_left w ≡ Err why ∷ [] = now.1 ∙ ap (λ (is : List (Result Record Reason)). Err why ∷ is) ended in
+    let records : rs ≡ (reading order bytes).0 = sym (append-nil rs) ∙ ap (λ (is : List (Result Record Reason)). rs ++ filter_map result_ok is) (sym only) ∙ h.records in
+    let fault : Some why ≡ (reading order bytes).1 = ap fault_in (sym only) ∙ h.fault in
+    ap (λ (ss : List Record). (ss, (reading order bytes).1)) (sym records) ∙ ap (λ (w : Option Reason). (rs, w)) (sym fault)
+
+-- what it has given fits in the bytes
+pub walked_fits : (order : Order) (bytes : List ℕ) (w : Walk) (rs : List Record) → Walked order bytes w rs → used_by rs ≤ length bytes
+walked_fits order bytes w rs h =
+    let all : used_by (rs ++ records_left w) ≤ length bytes = subst (λ (ss : List Record). used_by ss ≤ length bytes) (sym h.records) (spelled_fit order bytes (reading order bytes).0 (reading_spelled order bytes)) in
+    omega (arith, sum_by-append size_of rs (records_left w), all)
+
+-- where a record was given, no fault applies first
+pub walked_good : (order : Order) (bytes : List ℕ) (w : Walk) (rs : List Record) (r : Record) → Walked order bytes w (rs ++ r ∷ []) → bad order bytes ≡ None
+walked_good order bytes w rs r h = at (bad order bytes) refl
+  where
+    some : (xs ys : List Record) → (xs ++ r ∷ []) ++ ys ≡ [] → ⊥
+    some [] ys e = cc
+    some (x ∷ xs) ys e = cc
 
     at : (b : Option Reason) → bad order bytes ≡ b → b ≡ None
     at None p = refl
-    at (Some why) p = absurd (no_record why rs (h ∙ ap items_of (read_end order bytes why p)))
+    at (Some why) p = absurd (some rs (records_left w) (h.records ∙ ap (λ (read : List Record × Option Reason). read.0) (read_end order bytes why p)))

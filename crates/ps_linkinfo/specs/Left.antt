@@ -1,4 +1,4 @@
--- What a walk over link information has still to give.
+-- What a walk over link information has left to give.
 -- Source: this project's profile.
 use Rattle.std.specs.Prelude.{List, [], ◌∷◌, ◌++◌, drop, map, if◌then◌else◌, Option, Some, None, Result, Ok, Err}
 use Rattle.std.specs.List.{filter_map}
@@ -17,12 +17,12 @@ unfoldable pub items_at : Walk → List (Result Record Reason)
 items_at w = items_of (reading w.order (drop w.used w.bytes))
 
 -- the items that are left: none once the walk has ended
-abbrev pub left : Walk → List (Result Record Reason)
-left w = if w.ended then [] else items_at w
+abbrev pub items_left : Walk → List (Result Record Reason)
+items_left w = if w.ended then [] else items_at w
 
 -- the records that are left
 abbrev pub records_left : Walk → List Record
-records_left w = filter_map result_ok (left w)
+records_left w = filter_map result_ok (items_left w)
 
 -- the fault among some items
 abbrev pub fault_in : List (Result Record Reason) → Option Reason
@@ -32,4 +32,4 @@ fault_in (Err why ∷ items) = Some why
 
 -- the fault that is left, if any
 abbrev pub fault_left : Walk → Option Reason
-fault_left w = fault_in (left w)
+fault_left w = fault_in (items_left w)

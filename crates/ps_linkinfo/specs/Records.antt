@@ -1,6 +1,9 @@
--- Link information: a row of records, of which the last is an EOFMARK, and why no record stands at a place. Places count from a record's first byte.
--- A record is a name of eight bytes, then four words: its type at 8 and three more at 10, 12 and 14. A reference record has a list behind them.
--- Source: the published II.0 Linker source; the pieces of a list and the reasons are this project's profile.
+-- Link information: a sequence of records, of which the last is an EOFMARK, and why there is no
+-- record at an offset. Offsets count from a record's first byte.
+-- A record is a name of eight bytes, then four words: its type at 8 and three more at 10, 12 and
+-- 14. A reference record has a list after them.
+-- Source: the published II.0 Linker source; the pieces of a list and the reasons are this project's
+-- profile.
 use Rattle.std.specs.Prelude.{◌≡◌, ℕ, zero, suc, ◌+◌, ◌*◌, ◌/◌, ◌≤◌, ◌==◌, ◌||◌, not, if◌then◌else◌, List, [], ◌∷◌, length, take, drop, map, nat_lt, Bool, true, false, Option, Some, None, ⊤, sum_by}
 use Rattle.std.specs.List.{range_with_len, AllByRecursion}
 use Rattle.std.specs.Option.{option_or}
@@ -18,7 +21,7 @@ use Rattle.ps_words.specs.declared.fault.Reason.TheVariants as reason
 abbrev pub list_len : ℕ → ℕ
 list_len n = 16 * ((n + 7) / 8)
 
--- the references of a body, none where it is no reference record's
+-- the references of a body; none if it is not that of a reference record
 abbrev pub refs_of : Body → List ℕ
 refs_of (UnitRef refs) = refs
 refs_of (PublRef refs) = refs
@@ -35,7 +38,8 @@ size_of r = 16 + list_len (length (refs_of r.body))
 abbrev pub refs_at : Order → List ℕ → ℕ → List ℕ
 refs_at order x n = map (λ i. word_at order x (16 + 2 * i)) (range_with_len 0 n)
 
--- the first words of x spell the body, a line for each type: 1 UNITREF of format 1 BYTE, 3 PUBLREF and 4 PRIVREF of format 2 BIG, 7 PUBLDEF, 8 CONSTDEF, 0 EOFMARK
+-- the first words of x spell the body, a line for each type: 1 UNITREF of format 1 BYTE, 3 PUBLREF
+-- and 4 PRIVREF of format 2 BIG, 7 PUBLDEF, 8 CONSTDEF, 0 EOFMARK
 abbrev pub IsBody : Order → List ℕ → Body → Type 0
 IsBody order x (UnitRef refs) = (word_at order x 8 ≡ 1) × (word_at order x 10 ≡ 1) × (refs ≡ refs_at order x (word_at order x 12))
 IsBody order x (PublRef refs) = (word_at order x 8 ≡ 3) × (word_at order x 10 ≡ 2) × (refs ≡ refs_at order x (word_at order x 12))
@@ -83,18 +87,20 @@ pub record Spells (order : Order) (bytes : List ℕ) (rs : List Record) : Type 0
   pub spelled : AreSpelled order bytes rs
   pub ends : EndsOnce rs
 
--- the reason for which a record of a type is refused, whatever else it has: types above 14 are unknown, 11 to 14 are of separate procedures, 2, 5, 6, 9 and 10 of native code
+-- the reason for which a record of a type is refused, whatever else it has: types above 14 are
+-- unknown, 11 to 14 are of separate procedures, 2, 5, 6, 9 and 10 of native code
 abbrev pub type_fault : ℕ → Option Reason
 type_fault kind =
     if nat_lt 14 kind then Some reason.UnknownRecord
     else (if nat_lt 10 kind then Some reason.SeparateRecord
     else (if kind == 2 || kind == 5 || kind == 6 || kind == 9 || kind == 10 then Some reason.NativeRecord else None))
 
--- the format of a reference record of a type: 1 BYTE of a UNITREF, 2 BIG of a PUBLREF and of a PRIVREF; other records have none
+-- the format of a reference record of a type: 1 BYTE of a UNITREF, 2 BIG of a PUBLREF and of a
+-- PRIVREF; other records have none
 abbrev pub format_of : ℕ → Option ℕ
 format_of kind = if kind == 1 then Some 1 else (if kind == 3 || kind == 4 then Some 2 else None)
 
--- why no reference record of this format stands first: format 0 is WORD, of native code
+-- why the bytes begin with no reference record of this format: format 0 is WORD, of native code
 abbrev pub bad_format : Order → List ℕ → ℕ → Option Reason
 bad_format order bytes format =
     let given = word_at order bytes 10 in
@@ -102,20 +108,22 @@ bad_format order bytes format =
     else (if not (given == format) then Some reason.BadFormat
     else (if nat_lt (length bytes) (16 + list_len (word_at order bytes 12)) then Some reason.RecordsTruncated else None))
 
--- why no record stands first in the bytes, by the first that fits: fewer than 16 bytes, its type, its format, a list that is not whole
+-- why the bytes begin with no record, the first that fits of: fewer than 16 bytes, its type, its
+-- format, a list that is not whole
 abbrev pub bad : Order → List ℕ → Option Reason
 bad order bytes =
     let kind = word_at order bytes 8 in
     if nat_lt (length bytes) 16 then Some reason.RecordsTruncated
     else option_or (type_fault kind) (elim (format_of kind) [ None ↦ None | Some format ↦ bad_format order bytes format ])
 
--- the bytes begin with the spellings of the records, none of them an EOFMARK, and for this reason none stands behind them
+-- the bytes begin with the spellings of the records, none of them an EOFMARK, and no record follows
+-- them, for this reason
 pub record Stops (order : Order) (bytes : List ℕ) (rs : List Record) (why : Reason) : Type 0 where
   pub spelled : AreSpelled order bytes rs
   pub goes_on : AllByRecursion (λ r. is_eof r ≡ false) rs
   pub stops : bad order (drop (used_by rs) bytes) ≡ Some why
 
--- what the first words of x spell, where no fault stands
+-- what the first words of x spell, where no fault applies
 abbrev pub body_at : Order → List ℕ → Body
 body_at order x =
     let kind = word_at order x 8 in
@@ -127,6 +135,7 @@ body_at order x =
     else (if kind == 7 then PublDef a
     else (if kind == 8 then ConstDef a else Eof a))))
 
+-- the first record of x, where `bad` gives no reason
 abbrev pub record_at : Order → List ℕ → Record
 record_at order x = record { name = take 8 x; body = body_at order x }
 
@@ -144,7 +153,9 @@ read_from (suc n) order bytes =
           ]
     ]
 
--- the reading of the bytes, which computes: the records that they spell and no fault, or those that stand before the first fault and its reason; the law `one_reading` says that it is what `Spells` and `Stops` say
+-- the reading of the bytes, as a function: the records that they spell and no fault, or the records
+-- before the first fault and its reason; the law `one_reading` says that it agrees with `Spells`
+-- and `Stops`
 abbrev pub reading : Order → List ℕ → List Record × Option Reason
 reading order bytes = read_from (length bytes / 16 + 1) order bytes
 
@@ -153,7 +164,8 @@ pub record IsReading (order : Order) (bytes : List ℕ) (rs : List Record) : Typ
   pub spells : Spells order bytes rs
   pub only : (others : List Record) → Spells order bytes others → others ≡ rs
 
--- why no list of records was read: as many records stand before the fault, and the bytes spell no list; or memory ran out
-abbrev pub IsStop : Order → List ℕ → ReadStop → Type 0
-IsStop order bytes (Refused rec why) = (rs : List Record) × (length rs ≡ rec) × Stops order bytes rs why × ((others : List Record) → Spells order bytes others → ⊥)
-IsStop order bytes Memory = ⊤
+-- why no list of records was read: as many records are before the fault, and the bytes spell no
+-- list; or memory ran out
+abbrev pub IsReadStop : Order → List ℕ → ReadStop → Type 0
+IsReadStop order bytes (Refused rec why) = (rs : List Record) × (length rs ≡ rec) × Stops order bytes rs why × ((others : List Record) → Spells order bytes others → ⊥)
+IsReadStop order bytes Memory = ⊤

@@ -1,12 +1,10 @@
 ghost use Rattle.std.specs.Prelude.{◌≡◌, ◌==◌, [], length, IfOk, IfErr, Some, None};
 ghost use Rattle.ps_linkinfo.specs.Records.{reading};
-ghost use Rattle.ps_linkinfo.specs.Counts.{definitions_in, privates_in, publics_in, units_in, references_in, next_of, digest_of};
-ghost use Rattle.ps_linkinfo.specs.Numbered.{numbered as numbered_spec};
+ghost use Rattle.ps_linkinfo.specs.RecordCounts.{definitions_in, privates_in, publics_in, units_in, references_in, next_of, digest_of};
+ghost use Rattle.ps_linkinfo.specs.Numbered.{numbered_records as numbered_spec};
 
-use crate::first::{fault_at, record_at};
 use crate::numbered::NumberedRecords;
-use crate::record::Body;
-use crate::tally::Tally;
+use crate::record_counts::RecordCounts;
 use ps_words::{Order, Reason};
 use std::hash::{DefaultHasher, Hasher};
 use std::marker::Model;
@@ -16,140 +14,122 @@ use std::marker::Model;
 /// Source: the reasons are this project's profile.
 #[derive(Clone, Copy, Debug, PartialEq, Eq)]
 pub struct ReadFault {
-    /// How many records stand before the fault, so the index, from 0, of the record that could not be read.
+    /// How many records are before the fault, so the index, from 0, of the record that could not be
+    /// read.
     pub rec: usize,
     /// `RecordsTruncated`, `UnknownRecord`, `NativeRecord`, `SeparateRecord` or `BadFormat`.
     pub reason: Reason,
 }
 
-/// Link information that was read whole: its records, up to and with the EOFMARK, and what they come to. Contracts see it as the list of its records.
+/// Link information that was read whole: its records up to the EOFMARK, which is included, and
+/// their counts. Contracts see it as the list of its records.
 ///
-/// It borrows the bytes and takes no memory. A segment whose link information is not read has [`none`](LinkInformation::none).
+/// It borrows the bytes and takes no memory. A segment whose link information is not read has
+/// [`none`](LinkInformation::none).
 ///
 /// Source: the published II.0 Linker source.
 #[derive(Debug, Drop)]
 pub struct LinkInformation<'a> {
     order: Order,
     bytes: &'a [u8],
-    tally: Tally,
-    next: u16,
+    counts: RecordCounts,
 }
 
 // Clauses see the list of its records.
 impl<'a> Model for LinkInformation<'a> {
     ghost use Rattle.std.specs.Prelude.{◌≡◌, List};
-    ghost use Rattle.ps_linkinfo.specs.Records.{AreSpelled};
-    ghost use Rattle.ps_linkinfo.specs.Counts.{next_of, tally_of};
-    ghost use Rattle.ps_linkinfo.specs.Numbered.{first_records};
+    ghost use Rattle.ps_linkinfo.specs.Records.{reading};
+    ghost use Rattle.ps_linkinfo.specs.RecordCounts.{record_counts_of};
     ghost use Rattle.ps_linkinfo.specs.declared.record.LinkRecord.{LinkRecord as Record};
 
     ghost Value = { List Record };
 
-    ghost view = { λ i. first_records i.tally.records i.order i.bytes.now };
+    ghost view = { λ i. (reading i.order i.bytes.now).0 };
 
-    ghost invariant = { λ i.
-        let rs = first_records i.tally.records i.order i.bytes.now in
-        AreSpelled i.order i.bytes.now rs × (i.tally ≡ tally_of rs) × (i.next ≡ next_of rs) };
+    ghost invariant = { λ i. i.counts ≡ record_counts_of (reading i.order i.bytes.now).0 };
 }
 
 impl<'a> LinkInformation<'a> {
     /// No records at all, not even an EOFMARK.
+    /// Source: this project's profile.
     pub fn none() -> Self
         ensures { result ≡ [] }
     {
         LinkInformation {
             order: Order::Little,
             bytes: &[],
-            tally: Tally::new(),
-            next: 0,
+            counts: RecordCounts::new(),
         }
     }
 
-    /// The records up to the EOFMARK; what follows it is not read. The bytes spell these records, and no others.
+    /// The records up to the EOFMARK; what follows it is not read. The bytes spell these records,
+    /// and no others.
     ///
     /// Refused at the first record that cannot be read, for the first reason that fits:
     /// - `RecordsTruncated` where fewer than 16 bytes are left, also where an EOFMARK is missing;
     /// - `UnknownRecord`, `NativeRecord` or `SeparateRecord` by its type;
-    /// - `NativeRecord` for format 0, WORD, of a reference record, and `BadFormat` for another that is not its own: 1, BYTE, of a UNITREF, 2, BIG, of a PUBLREF and a PRIVREF;
+    /// - `NativeRecord` for format 0, WORD, of a reference record, and `BadFormat` for another that
+    ///   is not its own: 1, BYTE, of a UNITREF, 2, BIG, of a PUBLREF and a PRIVREF;
     /// - `RecordsTruncated` where its list is not whole.
     ///
-    /// It takes no memory. Source: the published II.0 Linker source; the reasons and the pieces of a list are this project's profile.
+    /// It takes no memory. Source: the published II.0 Linker source; the reasons and the pieces of
+    /// a list are this project's profile.
     pub fn read(order: Order, bytes: &'a [u8]) -> Result<Self, ReadFault>
         ensures read { IfOk result (λ records. reading order bytes.now ≡ (records, None)) }
         ensures rec { IfErr result (λ fault. fault.rec ≡ length (reading order bytes.now).0) }
         ensures reason { IfErr result (λ fault. (reading order bytes.now).1 ≡ Some fault.reason) }
     {
-        let (records, fault) = LinkInformation::walk(order, bytes);
+        let (counts, fault) = RecordCounts::read(order, bytes);
         match fault {
-            None => Ok(records),
+            None => Ok(LinkInformation {
+                order,
+                bytes,
+                counts,
+            }),
             Some(reason) => Err(ReadFault {
-                rec: records.len(),
+                rec: counts.records,
                 reason,
             }),
         }
     }
 
-    /// The records up to the EOFMARK or up to the first fault, whichever comes first. It takes no memory.
+    /// The records up to the EOFMARK or up to the first fault, whichever comes first. It takes no
+    /// memory.
     ///
     /// Source: this project's profile.
     pub fn up_to_fault(order: Order, bytes: &'a [u8]) -> Self
         ensures { result ≡ (reading order bytes.now).0 }
     {
-        let (records, _) = LinkInformation::walk(order, bytes);
-        records
-    }
-
-    /// The records up to the EOFMARK or up to the first fault, and that fault.
-    fn walk(order: Order, bytes: &'a [u8]) -> (Self, Option<Reason>)
-        ensures { reading order bytes.now ≡ (result.0, result.1) }
-    {
-        let mut tally = Tally::new();
-        let mut rest = bytes;
-        loop {
-            if let Some(reason) = fault_at(order, rest) {
-                let records = LinkInformation {
-                    order,
-                    bytes,
-                    tally,
-                    next: 0,
-                };
-                return (records, Some(reason));
-            }
-            let record = record_at(order, rest);
-            tally.add(&record);
-            if let Body::Eof(next) = record.body {
-                let records = LinkInformation {
-                    order,
-                    bytes,
-                    tally,
-                    next,
-                };
-                return (records, None);
-            }
-            rest = &rest[record.size()..];
+        let (counts, _) = RecordCounts::read(order, bytes);
+        LinkInformation {
+            order,
+            bytes,
+            counts,
         }
     }
 
-    /// The same link information once more, which borrows the same bytes.
-    pub fn copied(&self) -> LinkInformation<'a>
+    /// A copy of the link information, which borrows the same bytes.
+    /// Source: this project's profile.
+    pub fn copy(&self) -> LinkInformation<'a>
         ensures { result ≡ self.now }
     {
         LinkInformation {
             order: self.order,
             bytes: self.bytes,
-            tally: self.tally,
-            next: self.next,
+            counts: self.counts,
         }
     }
 
     /// How many records there are, the EOFMARK included.
+    /// Source: this project's profile.
     pub fn len(&self) -> usize
         ensures { result ≡ length self.now }
     {
-        self.tally.records
+        self.counts.records
     }
 
     /// There is no record, not even an EOFMARK.
+    /// Source: this project's profile.
     pub fn is_empty(&self) -> bool
         ensures { result ≡ (length self.now == 0) }
     {
@@ -157,54 +137,63 @@ impl<'a> LinkInformation<'a> {
     }
 
     /// How many records define a name of the host: PUBLDEF and CONSTDEF.
+    /// Source: the published II.0 Linker source.
     pub fn definitions(&self) -> usize
         ensures { result ≡ definitions_in self.now }
     {
-        self.tally.definitions
+        self.counts.definitions
     }
 
-    /// How many records ask for a private variable: PRIVREF.
+    /// How many records request a private variable: PRIVREF.
+    /// Source: the published II.0 Linker source.
     pub fn privates(&self) -> usize
         ensures { result ≡ privates_in self.now }
     {
-        self.tally.privates
+        self.counts.privates
     }
 
-    /// How many records ask for a public variable: PUBLREF.
+    /// How many records request a public variable: PUBLREF.
+    /// Source: the published II.0 Linker source.
     pub fn publics(&self) -> usize
         ensures { result ≡ publics_in self.now }
     {
-        self.tally.publics
+        self.counts.publics
     }
 
-    /// How many records ask for a unit: UNITREF.
+    /// How many records request a unit: UNITREF.
+    /// Source: the published II.0 Linker source.
     pub fn units(&self) -> usize
         ensures { result ≡ units_in self.now }
     {
-        self.tally.units
+        self.counts.units
     }
 
     /// How many references all records have together.
+    /// Source: the published II.0 Linker source.
     pub fn references(&self) -> usize
         ensures { result ≡ references_in self.now }
     {
-        self.tally.references
+        self.counts.references
     }
 
-    /// The next free base offset in words, the value of the EOFMARK: 0 to 65535, and 0 where there are no records.
+    /// The next free base offset in words, the value of the EOFMARK: 0 to 65535, and 0 where there
+    /// are no records.
+    /// Source: the published II.0 Linker source.
     pub fn next(&self) -> u16
         ensures { result ≡ next_of self.now }
     {
-        self.next
+        self.counts.next
     }
 
-    /// The state of a hash that has taken in the names of the records that define a name or ask for a private, eight bytes each, in the order of the records, and nothing else.
+    /// The state of a hash of the names of the records that define a name or request a private:
+    /// eight bytes each, in the order of the records, and nothing else.
+    /// Source: this project's profile.
     pub fn digest(&self) -> DefaultHasher
         ensures { result ≡ digest_of self.now }
     {
         let mut digest = DefaultHasher::new();
         for (_, record) in self.records() {
-            if record.names_its_own() {
+            if record.declares_name() {
                 digest.write(&record.name);
             }
         }
@@ -212,9 +201,10 @@ impl<'a> LinkInformation<'a> {
     }
 
     /// Each record with its index, from 0.
+    /// Source: this project's profile.
     pub fn records(&self) -> NumberedRecords<'a>
         ensures { result ≡ numbered_spec 0 self.now }
     {
-        NumberedRecords::new(self.order, self.bytes, self.tally.records)
+        NumberedRecords::new(self.order, self.bytes)
     }
 }

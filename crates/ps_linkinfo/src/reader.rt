@@ -1,5 +1,5 @@
 ghost use Rattle.std.specs.Prelude.{◌≡◌, IfOk, IfErr, Err, None};
-ghost use Rattle.ps_linkinfo.specs.Records.{bad, IsReading, IsStop};
+ghost use Rattle.ps_linkinfo.specs.Records.{bad, IsReading, IsReadStop};
 ghost use Rattle.ps_linkinfo.specs.declared.reader.ReadStop.TheVariants.{Memory};
 
 use crate::record::LinkRecord;
@@ -8,9 +8,12 @@ use ps_words::{Order, Reason};
 use std::alloc::{AllocFailed, Allocator};
 
 /// Why no list of records was read.
+/// Source: this project's profile.
 #[derive(Clone, Copy, Debug, PartialEq, Eq)]
 pub enum ReadStop {
-    /// In place of a record stands a fault. `rec` records stand before it, so it is the index, from 0, of the record that could not be read. `reason` is `RecordsTruncated`, `UnknownRecord`, `NativeRecord`, `SeparateRecord` or `BadFormat`.
+    /// A fault occurs in place of a record. `rec` records precede it, so `rec` is the index, from
+    /// 0, of the record that could not be read. `reason` is `RecordsTruncated`, `UnknownRecord`,
+    /// `NativeRecord`, `SeparateRecord` or `BadFormat`.
     Refused { rec: usize, reason: Reason },
     /// An allocation of the list was refused.
     Memory,
@@ -24,24 +27,28 @@ impl<T: Drop> From<AllocFailed<T>> for ReadStop {
     }
 }
 
-/// The records up to the EOFMARK, which is the last item; what follows it is not read. The bytes spell this list, and no other.
+/// The records up to the EOFMARK, which is the last item; what follows it is not read. The bytes
+/// spell this list, and no other.
 ///
 /// `Refused` at the first record that cannot be read, for the first reason that fits:
 /// - `RecordsTruncated` where fewer than 16 bytes are left, also where an EOFMARK is missing;
 /// - `UnknownRecord`, `NativeRecord` or `SeparateRecord` by its type;
-/// - `NativeRecord` for format 0, WORD, of a reference record, and `BadFormat` for another that is not its own: 1, BYTE, of a UNITREF, 2, BIG, of a PUBLREF and a PRIVREF;
+/// - `NativeRecord` for format 0, WORD, of a reference record, and `BadFormat` for another that is
+///   not its own: 1, BYTE, of a UNITREF, 2, BIG, of a PUBLREF and a PRIVREF;
 /// - `RecordsTruncated` where its list is not whole.
 ///
-/// `Memory` where an allocation of the list was refused, which happens only where a record stands. Nothing is reserved from a count that a record claims: the list grows by a record that was read.
+/// `Memory` where an allocation of the list was refused, which happens only if there is a record.
+/// Nothing is reserved from a count that a record claims: the list grows by a record that was read.
 ///
-/// Source: the published II.0 Linker source; the reasons and the pieces of a list are this project's profile.
+/// Source: the published II.0 Linker source; the reasons and the pieces of a list are this
+/// project's profile.
 pub fn read_records<A: Allocator + Copy>(
     alloc: A,
     order: Order,
     bytes: &[u8],
 ) -> Result<Vec<LinkRecord<'_>, A>, ReadStop>
     ensures ok { IfOk result (λ records. IsReading order bytes.now records.items) }
-    ensures stops { IfErr result (IsStop order bytes.now) }
+    ensures stops { IfErr result (IsReadStop order bytes.now) }
     ensures memory { result ≡ Err Memory → bad order bytes.now ≡ None }
 {
     let mut records = Vec::new(alloc);

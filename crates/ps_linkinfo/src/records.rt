@@ -1,20 +1,23 @@
 ghost use Rattle.std.specs.Prelude.{◌≡◌, false};
 ghost use Rattle.std.specs.Iterator.{YieldsFirst};
 ghost use Rattle.ps_linkinfo.specs.Walk.{Advances, whole_walk};
-ghost use Rattle.ps_linkinfo.specs.Left.{left};
+ghost use Rattle.ps_linkinfo.specs.Left.{items_left};
 
-use crate::first::record_from;
+use crate::first::first_record;
 use crate::record::LinkRecord;
 use ps_words::{Order, Reason};
 use std::marker::Model;
 
-/// The records one by one, up to and with the EOFMARK or up to the first fault, which is an item too; then None for ever.
+/// The records one by one, up to and with the EOFMARK or up to the first fault, which is an item
+/// too; then None for ever.
 /// It takes no memory, and of n bytes it gives at most n / 16 + 1 items.
 ///
-/// The records and the fault are those of [`read_records`](crate::read_records): a fault is `RecordsTruncated`, `UnknownRecord`, `NativeRecord`, `SeparateRecord` or `BadFormat`, and its record's index is the number of records given before it.
+/// The records and the fault are those of [`read_records`](crate::read_records): a fault is
+/// `RecordsTruncated`, `UnknownRecord`, `NativeRecord`, `SeparateRecord` or `BadFormat`, and its
+/// record's index is the number of records given before it.
 ///
 /// Source: the published II.0 Linker source; the reasons are this project's profile.
-#[derive(Debug, Drop)]
+#[derive(Clone, Debug, Drop)]
 pub struct Records<'a> {
     order: Order,
     bytes: &'a [u8],
@@ -22,7 +25,8 @@ pub struct Records<'a> {
     ended: bool,
 }
 
-// Clauses see a walk: its order, its bytes, how many of them the records given so far take, and whether it is over.
+// Clauses see a walk: its order, its bytes, how many of them the records given so far take, and
+// whether it is over.
 impl<'a> Model for Records<'a> {
     ghost use Rattle.std.specs.Prelude.{◌≤◌, length};
     ghost use Rattle.ps_linkinfo.specs.Walk.{Walk};
@@ -36,6 +40,7 @@ impl<'a> Model for Records<'a> {
 
 impl<'a> Records<'a> {
     /// A walk that begins at the first of the bytes.
+    /// Source: this project's profile.
     pub fn new(order: Order, bytes: &'a [u8]) -> Self
         ensures { result ≡ whole_walk order bytes.now }
     {
@@ -48,28 +53,31 @@ impl<'a> Records<'a> {
     }
 
     /// How many bytes the records given so far take. A fault takes none.
+    /// Source: this project's profile.
     pub fn used(&self) -> usize
         ensures { result ≡ self.now.used }
     {
         self.used
     }
 
-    /// The next record, or the fault that stands in its place.
+    /// The next record, or the fault that occurs in its place.
+    #[inline(always)]
     fn advance(&mut self) -> Option<Result<LinkRecord<'a>, Reason>>
         ensures step { Advances self.old result self.new }
-        ensures first { YieldsFirst left self.old result self.new }
+        ensures first { YieldsFirst items_left self.old result self.new }
     {
         if self.ended {
             return None;
         }
-        match record_from(self.order, self.bytes, self.used) {
+        let (_, rest) = self.bytes.split_at(self.used);
+        match first_record(self.order, rest) {
             Err(reason) => {
                 self.ended = true;
                 Some(Err(reason))
             }
-            Ok(record) => {
+            Ok((record, size)) => {
                 self.ended = record.is_eof();
-                self.used += record.size();
+                self.used += size;
                 Some(Ok(record))
             }
         }
@@ -79,16 +87,18 @@ impl<'a> Records<'a> {
 impl<'a> Iterator for Records<'a> {
     ghost use Rattle.ps_linkinfo.specs.Walk.{Advances, left_of};
     ghost use Rattle.std.specs.Iterator.{at_most, YieldsFirst};
-    ghost use Rattle.ps_linkinfo.specs.Left.{left};
+    ghost use Rattle.ps_linkinfo.specs.Left.{items_left};
 
     type Item = Result<LinkRecord<'a>, Reason>;
 
-    // What may come next, by what stands at `used`; and that it is the first of the items left.
-    ghost next_gives = { λ s r t. Advances s r t × YieldsFirst left s r t };
+    // What may come next, by what is at `used`; and that it is the first of the items left.
+    ghost next_gives = { λ s r t. Advances s r t × YieldsFirst items_left s r t };
 
     ghost remaining = { λ s. at_most (left_of s) };
 
-    /// The next record, or the fault that stands in its place; None once an EOFMARK or a fault was given.
+    /// The next record, or the fault that occurs in its place; None once an EOFMARK or a fault was
+    /// given.
+    #[inline(always)]
     fn next(&mut self) -> Option<Result<LinkRecord<'a>, Reason>> {
         self.advance()
     }

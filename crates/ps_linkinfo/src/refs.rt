@@ -1,16 +1,18 @@
 ghost use Rattle.std.specs.Prelude.{◌≡◌, ◌<◌, ◌≤◌, ◌*◌, ◌↔◌, [], IsTrue, length, slice_index};
 ghost use Rattle.ps_linkinfo.specs.Refs.{order_with as order_with_spec, words_of};
 
-use crate::layout::WORD_LEN;
-use ps_words::{Order, get};
+use ps_words::{Order, WORD_LEN, get};
 use std::marker::Model;
 
-/// The references of a record, a view of its list: each is the byte offset of an operand's first byte from the segment's first byte. There are at most 65535.
+/// The references of a record, a view of its list: each is the byte offset of an operand's first
+/// byte from the segment's first byte. There are at most 65535.
 ///
-/// Source: the published II.0 Linker source; that the offset counts from the segment's first byte is this project's profile.
+/// Source: the published II.0 Linker source; that the offset counts from the segment's first byte
+/// is this project's profile.
 #[derive(Clone, Debug, Drop)]
 pub struct Refs<'a> {
-    /// Which byte of a word is its low byte: 0 in little-endian order, 1 in big-endian order. It is as
+    /// Which byte of a word is its low byte: 0 in little-endian order, 1 in big-endian order. It is
+    /// as
     /// wide as the other fields, so that records are copied without padding.
     low: usize,
     bytes: &'a [u8],
@@ -61,6 +63,7 @@ impl<'a> Refs<'a> {
     }
 
     /// How many references there are, at most 65535.
+    /// Source: the published II.0 Linker source.
     #[tactic(auto, using(crate::proofs::Words::words_len))]
     pub fn len(&self) -> usize
         ensures len { result ≡ length self.now }
@@ -70,6 +73,7 @@ impl<'a> Refs<'a> {
     }
 
     /// Whether there are none.
+    /// Source: the published II.0 Linker source.
     pub fn is_empty(&self) -> bool
         ensures { IsTrue result ↔ (self.now ≡ []) }
     {
@@ -77,6 +81,7 @@ impl<'a> Refs<'a> {
     }
 
     /// The reference at an index, which is below `len`.
+    /// Source: the published II.0 Linker source.
     #[tactic(auto, using(crate::proofs::Words::words_len, crate::proofs::Words::words_get))]
     pub fn get(&self, index: usize) -> u16
         requires { index < length self.now }

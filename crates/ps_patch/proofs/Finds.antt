@@ -1,10 +1,10 @@
--- Which edit covers a place, of edits that stand apart.
+-- Which edit covers a place, of edits that are apart.
 use Rattle.std.proofs.Common.{◌≡◌, ℕ, zero, suc, ◌+◌, ◌-◌, ◌≤◌, ◌<◌, List, [], ◌∷◌, length, drop, get_or, Option, Some, None, All, refl, ap, sym, ◌∙◌, subst, arith, add-one, true, false, Bool}
 use Rattle.std.proofs.lemmas.Bool.Decides.{nat_tests}
 use Rattle.std.proofs.lemmas.List.Elements.{All-head, All-tail}
 use Rattle.std.proofs.Math.Seq.{drop-cons}
 use Rattle.std.specs.Prelude.{find}
-use Rattle.ps_words.specs.Edits.{AreApart, IsInside, covers, place_of, stored, width}
+use Rattle.ps_words.specs.Edits.{AreApart, IsInside, covers, place_of, stored_bytes, width}
 use Rattle.ps_words.specs.declared.order.Order.{Order}
 use Rattle.ps_words.specs.declared.edit.Edit.{Edit}
 use Rattle.ps_patch.specs.Patched.{patched_by, patched_from}
@@ -38,7 +38,7 @@ patched_one order old new e es from p apart is = at (covers p e) refl
 
     at : (b : Bool) → covers p e ≡ b → patched_from order es p new ≡ patched_from order (e ∷ es) p old
     at true on =
-        let same : new ≡ get_or (stored order e) (p - place_of e) 0 = rw on at is in
+        let same : new ≡ get_or (stored_bytes order e) (p - place_of e) 0 = rw on at is in
         let none = find_none es (place_of e + width e) p apart.1 (covers_to e p on) in
         rw (on, none) same
     at false off = rest (find (covers p) es) refl off
@@ -47,13 +47,13 @@ apart_lower : (es : List Edit) (from : ℕ) → AreApart from es → AreApart 0 
 apart_lower [] from h = tt
 apart_lower (e ∷ es) from h = (omega arith, h.1)
 
--- edits that stand apart do so from any on
+-- edits that are apart from a place on are so from any place before it
 apart_drop : (es : List Edit) (at from : ℕ) → AreApart from es → AreApart 0 (drop at es)
 apart_drop es zero from h = apart_lower es from h
 apart_drop [] (suc at) from h = tt
 apart_drop (e ∷ es) (suc at) from h = apart_drop es at (place_of e + width e) h.1
 
--- the edits from `at` on are the one there and those behind it
+-- the edits from `at` on are the one there and those after it
 pub drop_one : (es : List Edit) (at : ℕ) (d : Edit) → at < length es → drop at es ≡ get_or es at d ∷ drop (at + 1) es
 drop_one es at d h = rw (add-one, drop-cons es at d)
 
@@ -64,7 +64,7 @@ apart_one es at d h apart = subst (λ (xs : List Edit). AreApart 0 xs) (drop_one
 pub patched_step : (order : Order) (old new : ℕ) (es : List Edit) (at : ℕ) (d : Edit) (p : ℕ) → at < length es → AreApart 0 es → new ≡ patched_by order (get_or es at d) p old → patched_from order (drop (at + 1) es) p new ≡ patched_from order (drop at es) p old
 patched_step order old new es at d p h apart is = rw (drop_one es at d h) (patched_one order old new (get_or es at d) (drop (at + 1) es) 0 p (apart_one es at d h apart) is)
 
--- nor need those behind it, at a place before its end
+-- nor need those after it, at a place before its end
 pub patched_last : (order : Order) (old new : ℕ) (es : List Edit) (at : ℕ) (d : Edit) (p : ℕ) → at < length es → AreApart 0 es → p < place_of (get_or es at d) + width (get_or es at d) → new ≡ patched_by order (get_or es at d) p old → new ≡ patched_from order (drop at es) p old
 patched_last order old new es at d p h apart lt is =
     let e = get_or es at d in
@@ -73,7 +73,7 @@ patched_last order old new es at d p h apart lt is =
     let same : patched_from order (drop (at + 1) es) p new ≡ new = rw none in
     sym same ∙ step
 
--- nor need it be at a place behind its end
+-- nor need it be at a place after its end
 pub find_step : (es : List Edit) (at : ℕ) (d : Edit) (p : ℕ) → at < length es → place_of (get_or es at d) + width (get_or es at d) ≤ p → find (covers p) (drop at es) ≡ find (covers p) (drop (at + 1) es)
 find_step es at d p h le = ap (λ (xs : List Edit). find (covers p) xs) (drop_one es at d h) ∙ find_next (get_or es at d) (drop (at + 1) es) p le
 

@@ -4,7 +4,7 @@ use Rattle.std.specs.Prelude.{find, min, nat_lt}
 use Rattle.std.proofs.Math.ListN.{drop_of_length-le, get_or-eq_default}
 use Rattle.std.proofs.lemmas.Bool.{ltb-false, ltb-true}
 use Rattle.std.proofs.lemmas.List.Elements.{All-drop}
-use Rattle.ps_words.specs.Edits.{IsInside, covers, patched, place_of, width}
+use Rattle.ps_words.specs.Edits.{IsInside, covers, patched_byte, place_of, width}
 use Rattle.ps_words.specs.declared.edit.Edit.{Edit}
 use Rattle.ps_patch.specs.Patched.{patched_from, patched_or_zero}
 use Rattle.ps_patch.specs.Patcher.{EndsBehind, IsUnderWay, Patching}
@@ -20,7 +20,7 @@ ends_behind_less : (es : List Edit) (less place : ℕ) → less ≤ place → En
 ends_behind_less [] less place le h = tt
 ends_behind_less (e ∷ es) less place le h = omega (arith, h)
 
--- the edits before `to` cover nothing behind the block, and the one at `to` ends behind it
+-- the edits before `to` cover nothing after the block, and the one at `to` ends after it
 pub block_over : (t : Patching) (next to count : ℕ) → IsUnderWay t next → count ≡ min 512 (length t.code - t.position) → to ≤ length t.edits → ((p : ℕ) → t.position + 512 ≤ p → find (covers p) (drop next t.edits) ≡ find (covers p) (drop to t.edits)) → EndsBehind (t.position + 512) (drop to t.edits) → IsUnderWay (record t { position = t.position + count }) to
 block_over t next to count way is within before over =
     record {
@@ -40,10 +40,10 @@ block_over t next to count way is within before over =
         find_past (length t.code) t.edits p inside past ∙ sym (find_past (length t.code) (drop to t.edits) p (All-drop (IsInside (length t.code)) to t.edits inside) past)
 
 -- past the code's end all that its edits leave is 0
-patched_past : (t : Patching) (p : ℕ) → All (IsInside (length t.code)) t.edits → patched t.order t.code t.edits p ≡ patched_or_zero t.order t.code t.edits p
+patched_past : (t : Patching) (p : ℕ) → All (IsInside (length t.code)) t.edits → patched_byte t.order t.code t.edits p ≡ patched_or_zero t.order t.code t.edits p
 patched_past t p inside = at (nat_lt p (length t.code)) refl
   where
-    at : (b : Bool) → nat_lt p (length t.code) ≡ b → patched t.order t.code t.edits p ≡ patched_or_zero t.order t.code t.edits p
+    at : (b : Bool) → nat_lt p (length t.code) ≡ b → patched_byte t.order t.code t.edits p ≡ patched_or_zero t.order t.code t.edits p
     at true on = rw on
     at false off =
         let past = ltb-false p (length t.code) off in
@@ -56,5 +56,5 @@ pub block_patched : (t : Patching) (next k copied new : ℕ) → IsUnderWay t ne
 block_patched t next k copied new way same is =
     let p = t.position + k in
     let found : find (covers p) t.edits ≡ find (covers p) (drop next t.edits) = way.before p (omega arith) in
-    let all : patched_from t.order (drop next t.edits) p copied ≡ patched t.order t.code t.edits p = rw (found, same) in
+    let all : patched_from t.order (drop next t.edits) p copied ≡ patched_byte t.order t.code t.edits p = rw (found, same) in
     is ∙ (all ∙ patched_past t p way.are_edits.inside)

@@ -1,4 +1,4 @@
--- What a patcher works on and how far it is, and what it knows of the edits that are behind it.
+-- What a patcher works on and how far it is, and what it knows of the edits that it is done with.
 -- Source: this project's profile.
 use Rattle.std.specs.Prelude.{◌≡◌, ℕ, ◌+◌, ◌<◌, ◌≤◌, List, [], ◌∷◌, drop, find, length, ⊤}
 use Rattle.ps_words.specs.Edits.{AreEdits, covers, place_of, width}
@@ -12,7 +12,7 @@ pub record Patching : Type 0 where
   pub edits : List Edit
   pub position : ℕ
 
--- the first edit ends behind the place
+-- the first edit ends after the place
 abbrev pub EndsBehind : ℕ → List Edit → Type 0
 EndsBehind place [] = ⊤
 EndsBehind place (edit ∷ edits) = place < place_of edit + width edit

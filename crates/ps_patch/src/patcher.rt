@@ -1,5 +1,5 @@
 ghost use Rattle.std.specs.Prelude.{◌≡◌, ℕ, ◌<◌, ◌≤◌, ◌+◌, ◌-◌, ◌^◌, ◌==◌, if◌then◌else◌, All, drop, find, length, min, slice_index};
-ghost use Rattle.ps_words.specs.Edits.{AreApart, AreEdits, IsStorable, covers, place_of, stored, width};
+ghost use Rattle.ps_words.specs.Edits.{AreApart, AreEdits, IsStorable, covers, place_of, stored_bytes, width};
 ghost use Rattle.ps_patch.specs.Patched.{patched_by, patched_from, patched_or_zero};
 ghost use Rattle.ps_patch.specs.Patcher.{EndsBehind};
 
@@ -36,7 +36,7 @@ impl<'a> Model for Patcher<'a> {
 /// The bytes that an edit stores, as many as it is wide.
 fn stored_bytes(order: Order, edit: Edit) -> [u8; 2]
     requires { IsStorable edit }
-    ensures { (k : ℕ) → k < width edit → slice_index result k ≡ slice_index (stored order edit) k }
+    ensures { (k : ℕ) → k < width edit → slice_index result k ≡ slice_index (stored_bytes order edit) k }
 {
     let mut bytes = [0; 2];
     match edit {
@@ -47,14 +47,12 @@ fn stored_bytes(order: Order, edit: Edit) -> [u8; 2]
     bytes
 }
 
-/// The place behind the last byte that an edit stores.
+/// The place after the last byte that an edit stores.
 fn end_of(edit: Edit) -> usize
+    requires { place_of edit + width edit < 2 ^ 64 }
     ensures { result ≡ place_of edit + width edit }
 {
-    match edit {
-        Edit::Byte { place, .. } => place as usize + 1,
-        Edit::Big { place, .. } | Edit::Word { place, .. } => place as usize + 2,
-    }
+    edit.place() + edit.width()
 }
 
 /// Stores a byte at a place of the code, where the block that begins at `from` has that place.
@@ -69,7 +67,8 @@ fn store_byte(block: &mut [u8; BLOCK_SIZE], from: usize, place: usize, byte: u8)
 
 /// Stores what the block of the code that begins at `from` has of an edit.
 fn store_in_block(order: Order, edit: Edit, from: usize, block: &mut [u8; BLOCK_SIZE])
-    requires { IsStorable edit }
+    requires storable { IsStorable edit }
+    requires room { place_of edit + width edit < 2 ^ 64 }
     ensures { (k : ℕ) → k < 512 → slice_index block.new k
         ≡ patched_by order edit (from + k) (slice_index block.old k) }
 {
@@ -81,7 +80,7 @@ fn store_in_block(order: Order, edit: Edit, from: usize, block: &mut [u8; BLOCK_
 }
 
 /// Stores what the block of the code that begins at `from` has of the edits from `next` on. Returns
-/// the index of the first that ends behind the block, and the number of the edits where none does.
+/// the index of the first that ends after the block, and the number of the edits where none does.
 fn store_all(
     order: Order,
     edits: &[Edit],
@@ -90,6 +89,7 @@ fn store_all(
     block: &mut [u8; BLOCK_SIZE],
 ) -> usize
     requires storable { All IsStorable edits.now }
+    requires room { All (λ e. place_of e + width e < 2 ^ 64) edits.now }
     requires apart { AreApart 0 edits.now }
     requires next { next ≤ length edits.now }
     requires small { from + 512 < 2 ^ 64 }
@@ -129,6 +129,7 @@ impl<'a> Patcher<'a> {
     /// Words are stored in the given order, operands in their one form. The edits have to lie
     /// inside the code, in ascending order of place, no two on one byte, and each BIG value has
     /// to be below 32768.
+    /// Source: this project's profile.
     pub fn new(order: Order, code: &'a [u8], edits: &'a [Edit]) -> Self
         requires { AreEdits (length code.now) edits.now }
         ensures { result ≡ record {
@@ -152,6 +153,7 @@ impl<'a> Patcher<'a> {
     ///
     /// The position moves on by that number. An operand or a word across two blocks is stored in
     /// both.
+    /// Source: this project's profile.
     pub fn fill(&mut self, block: &mut [u8; BLOCK_SIZE]) -> usize
         ensures block { (k : ℕ) → k < 512 → slice_index block.new k
             ≡ patched_or_zero self.old.order self.old.code self.old.edits (self.old.position + k) }

@@ -1,5 +1,5 @@
 ghost use Rattle.std.specs.Prelude.{◌≡◌, ℕ, length, slice_index};
-ghost use Rattle.ps_words.specs.Edits.{AreEdits, IsInside, patched};
+ghost use Rattle.ps_words.specs.Edits.{AreEdits, IsInside, patched_byte};
 ghost use Rattle.ps_patch.specs.Patched.{patched_by};
 
 use ps_words::{Edit, Order, put, put_big};
@@ -10,9 +10,9 @@ fn store(order: Order, code: &mut [u8], edit: Edit)
     ensures { (p : ℕ) → slice_index code.new p ≡ patched_by order edit p (slice_index code.old p) }
 {
     match edit {
-        Edit::Big { place, value } => put_big(code, place as usize, value),
-        Edit::Byte { place, value } => code[place as usize] = value,
-        Edit::Word { place, value } => put(order, code, place as usize, value),
+        Edit::Big { place, value } => put_big(code, place, value),
+        Edit::Byte { place, value } => code[place] = value,
+        Edit::Word { place, value } => put(order, code, place, value),
     }
 }
 
@@ -24,7 +24,7 @@ fn store(order: Order, code: &mut [u8], edit: Edit)
 /// Source: this project's profile.
 pub fn apply(order: Order, code: &mut [u8], edits: &[Edit])
     requires { AreEdits (length code.old) edits.now }
-    ensures bytes { (p : ℕ) → slice_index code.new p ≡ patched order code.old edits.now p }
+    ensures bytes { (p : ℕ) → slice_index code.new p ≡ patched_byte order code.old edits.now p }
     ensures length { length code.new ≡ length code.old }
 {
     for edit in edits {

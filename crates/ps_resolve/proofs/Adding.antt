@@ -1,4 +1,5 @@
--- The row of names that are sought, of which only the first ten are kept, and the rounds that it gives.
+-- The row of names that are requested, of which only the first ten are kept, and the rounds that it
+-- gives.
 use Rattle.std.proofs.Common.{◌≡◌, ℕ, zero, suc, ◌+◌, ◌<◌, ◌≤◌, List, [], ◌∷◌, ◌++◌, ◌-◌, length, length-append, append_assoc, append-nil, take, Bool, true, false, cond, Option, Some, None, inl, inr, refl, sym, ◌∙◌, ap, arith}
 use Rattle.std.specs.Prelude.{◌⊎◌, All, if◌then◌else◌}
 use Rattle.std.proofs.lemmas.Bool.{cases_lt}
@@ -12,8 +13,8 @@ use Rattle.ps_words.specs.declared.order.Order.{Order}
 use Rattle.ps_words.specs.declared.fault.Reason.{Reason}
 use Rattle.ps_words.specs.declared.fault.Reason.TheVariants as reason
 use Rattle.ps_codefile.specs.Dictionary.{slots}
-use Rattle.ps_linkinfo.specs.Counts.{is_unit_reference, units_in as units_asked}
-use Rattle.ps_resolve.specs.Added.{is_missing, as_added, is_had, unit_references, sought_from, unplaced_fault, placed_fault, added_segment, Rounds, after, rounds_from}
+use Rattle.ps_linkinfo.specs.RecordCounts.{is_unit_reference, units_in as units_asked}
+use Rattle.ps_resolve.specs.Added.{is_missing, as_added, is_already_known, unit_references, requested_from, unplaced_fault, placed_fault, added_segment, Rounds, after, rounds_from}
 use Rattle.ps_codefile.specs.declared.entry.Role.TheVariants.{Wanted}
 use Rattle.ps_words.specs.declared.fault.Fault.{Fault}
 use Rattle.ps_linkinfo.specs.declared.record.Body.{Body}
@@ -24,11 +25,12 @@ use Rattle.ps_resolve.specs.Sources.{Segment, segment_from, chosen_library, is_n
 use Rattle.ps_resolve.specs.Faults.{code_fault, entries_reason}
 use Rattle.ps_resolve.specs.declared.reading.added.UnitReference.{UnitReference}
 
--- with this row, the names that the records from this index on seek make the whole row: that of all records, behind `old`
+-- with this row, the names that the records from this index on seek make the whole row: that of all
+-- records, after `old`
 abbrev pub Seeks : List (List ℕ × ℕ) → ℕ → ℕ → List Record → List UnitReference → List UnitReference → ℕ → List Record → Type 0
-Seeks units file slot all old row n rs = take 10 (sought_from units row (unit_references file slot n rs)) ≡ take 10 (sought_from units old (unit_references file slot 0 all))
+Seeks units file slot all old row n rs = take 10 (requested_from units row (unit_references file slot n rs)) ≡ take 10 (requested_from units old (unit_references file slot 0 all))
 
--- what asks for a unit is counted
+-- what requests a unit is counted
 asks_is : (b : Body) → is_unit_reference b ≡ is_unit_reference b
 asks_is (UnitRef refs) = refl
 asks_is (PublRef refs) = refl
@@ -37,7 +39,7 @@ asks_is (PublDef value) = refl
 asks_is (ConstDef value) = refl
 asks_is (Eof next) = refl
 
--- where none asks for a unit, there is no reference to one
+-- where none requests a unit, there is no reference to one
 pub no_references : (file slot n : ℕ) (rs : List Record) → units_asked rs ≡ 0 → unit_references file slot n rs ≡ []
 no_references file slot n [] h = refl
 no_references file slot n (r ∷ rs) h = at (λ e. no_references file slot (n + 1) rs e) (is_unit_reference r.body) refl
@@ -49,38 +51,38 @@ no_references file slot n (r ∷ rs) h = at (λ e. no_references file slot (n + 
     at rest false e = let a = one false (asks_is r.body ∙ e) in rw (e, unit_references) (rest (omega arith))
     at rest true e = let a = one true (asks_is r.body ∙ e) in absurd (omega arith)
 
--- names that are sought behind others
-pub sought-append : (units : List (List ℕ × ℕ)) (row xs ys : List UnitReference) → sought_from units row (xs ++ ys) ≡ sought_from units (sought_from units row xs) ys
+-- names that are requested after others
+pub sought-append : (units : List (List ℕ × ℕ)) (row xs ys : List UnitReference) → requested_from units row (xs ++ ys) ≡ requested_from units (requested_from units row xs) ys
 sought-append units row [] ys = refl
-sought-append units row (x ∷ xs) ys = sought-append units (if is_had units row x.name then row else row ++ x ∷ []) xs ys
+sought-append units row (x ∷ xs) ys = sought-append units (if is_already_known units row x.name then row else row ++ x ∷ []) xs ys
 
 -- the prefix of a row stays
-pub row_prefix : (units : List (List ℕ × ℕ)) (n : ℕ) (row gs : List UnitReference) → n ≤ length row → take n (sought_from units row gs) ≡ take n row
+pub row_prefix : (units : List (List ℕ × ℕ)) (n : ℕ) (row gs : List UnitReference) → n ≤ length row → take n (requested_from units row gs) ≡ take n row
 row_prefix units n row [] h = refl
-row_prefix units n row (g ∷ gs) h = by (λ r l. row_prefix units n r gs l) (is_had units row g.name) refl
+row_prefix units n row (g ∷ gs) h = by (λ r l. row_prefix units n r gs l) (is_already_known units row g.name) refl
   where
-    by : ((r : List UnitReference) → n ≤ length r → take n (sought_from units r gs) ≡ take n r) → (b : Bool) → is_had units row g.name ≡ b → take n (sought_from units row (g ∷ gs)) ≡ take n row
+    by : ((r : List UnitReference) → n ≤ length r → take n (requested_from units r gs) ≡ take n r) → (b : Bool) → is_already_known units row g.name ≡ b → take n (requested_from units row (g ∷ gs)) ≡ take n row
     by rest true e = rw e (rest row h)
     by rest false e = rw e (rest (row ++ g ∷ []) (omega (arith, length-append row (g ∷ []))) ∙ take-append-le n row (g ∷ []) h)
 
--- what is kept of a row decides what is kept of the row behind it
-pub kept : (units : List (List ℕ × ℕ)) (row gs : List UnitReference) → take 10 (sought_from units (take 10 row) gs) ≡ take 10 (sought_from units row gs)
+-- what is kept of a row decides what is kept of the row after it
+pub kept : (units : List (List ℕ × ℕ)) (row gs : List UnitReference) → take 10 (requested_from units (take 10 row) gs) ≡ take 10 (requested_from units row gs)
 kept units row gs = by (cases_lt (length row) 10)
   where
-    by : (length row < 10) ⊎ (10 ≤ length row) → take 10 (sought_from units (take 10 row) gs) ≡ take 10 (sought_from units row gs)
-    by (inl h) = ap (λ (r : List UnitReference). take 10 (sought_from units r gs)) (take_all 10 row (omega arith))
+    by : (length row < 10) ⊎ (10 ≤ length row) → take 10 (requested_from units (take 10 row) gs) ≡ take 10 (requested_from units row gs)
+    by (inl h) = ap (λ (r : List UnitReference). take 10 (requested_from units r gs)) (take_all 10 row (omega arith))
     by (inr h) =
         let long : length (take 10 row) ≡ 10 = length-take-le 10 row h in
         row_prefix units 10 (take 10 row) gs (omega (arith, long)) ∙ (take_all 10 (take 10 row) (omega (arith, long)) ∙ sym (row_prefix units 10 row gs h))
 
 -- one name more, which is had, or for which there is no place, or which is kept
-pub kept_had : (units : List (List ℕ × ℕ)) (row : List UnitReference) (g : UnitReference) → length row ≤ 10 → is_had units row g.name ≡ true → row ≡ take 10 (sought_from units row (g ∷ []))
+pub kept_had : (units : List (List ℕ × ℕ)) (row : List UnitReference) (g : UnitReference) → length row ≤ 10 → is_already_known units row g.name ≡ true → row ≡ take 10 (requested_from units row (g ∷ []))
 kept_had units row g h e = rw e (sym (take_all 10 row h))
 
-pub kept_full : (units : List (List ℕ × ℕ)) (row : List UnitReference) (g : UnitReference) → length row ≡ 10 → is_had units row g.name ≡ false → row ≡ take 10 (sought_from units row (g ∷ []))
+pub kept_full : (units : List (List ℕ × ℕ)) (row : List UnitReference) (g : UnitReference) → length row ≡ 10 → is_already_known units row g.name ≡ false → row ≡ take 10 (requested_from units row (g ∷ []))
 kept_full units row g h e = rw e (sym (take-append-le 10 row (g ∷ []) (omega arith) ∙ take_all 10 row (omega arith)))
 
-pub kept_new : (units : List (List ℕ × ℕ)) (row : List UnitReference) (g : UnitReference) → length row < 10 → is_had units row g.name ≡ false → row ++ g ∷ [] ≡ take 10 (sought_from units row (g ∷ []))
+pub kept_new : (units : List (List ℕ × ℕ)) (row : List UnitReference) (g : UnitReference) → length row < 10 → is_already_known units row g.name ≡ false → row ++ g ∷ [] ≡ take 10 (requested_from units row (g ∷ []))
 kept_new units row g h e = rw e (sym (take_all 10 (row ++ g ∷ []) (omega (arith, length-append row (g ∷ [])))))
 
 -- one record more
@@ -91,23 +93,23 @@ references-cons file slot rec r rs = by (is_unit_reference r.body) refl
     by true e = rw e refl
     by false e = rw e refl
 
--- the names that a record seeks, and then those of the records behind it
+-- the names that a record seeks, and then those of the records after it
 pub kept_more : (units : List (List ℕ × ℕ)) (row now : List UnitReference) (file slot rec : ℕ) (r : Record) (rs : List Record)
-    → now ≡ take 10 (sought_from units row (unit_references file slot rec (r ∷ [])))
-    → take 10 (sought_from units now (unit_references file slot (rec + 1) rs)) ≡ take 10 (sought_from units row (unit_references file slot rec (r ∷ rs)))
+    → now ≡ take 10 (requested_from units row (unit_references file slot rec (r ∷ [])))
+    → take 10 (requested_from units now (unit_references file slot (rec + 1) rs)) ≡ take 10 (requested_from units row (unit_references file slot rec (r ∷ rs)))
 kept_more units row now file slot rec r rs is =
     let one = unit_references file slot rec (r ∷ []) in
     let rest = unit_references file slot (rec + 1) rs in
-    ap (λ (q : List UnitReference). take 10 (sought_from units q rest)) is
-    ∙ (kept units (sought_from units row one) rest
-    ∙ sym (ap (λ (gs : List UnitReference). take 10 (sought_from units row gs)) (references-cons file slot rec r rs) ∙ ap (λ (q : List UnitReference). take 10 q) (sought-append units row one rest)))
+    ap (λ (q : List UnitReference). take 10 (requested_from units q rest)) is
+    ∙ (kept units (requested_from units row one) rest
+    ∙ sym (ap (λ (gs : List UnitReference). take 10 (requested_from units row gs)) (references-cons file slot rec r rs) ∙ ap (λ (q : List UnitReference). take 10 q) (sought-append units row one rest)))
 
--- the names that a segment seeks, and then those of the segments behind it
-pub kept_segment : (units : List (List ℕ × ℕ)) (row now one rest all : List UnitReference) → all ≡ one ++ rest → now ≡ take 10 (sought_from units row one) → take 10 (sought_from units now rest) ≡ take 10 (sought_from units row all)
+-- the names that a segment seeks, and then those of the segments after it
+pub kept_segment : (units : List (List ℕ × ℕ)) (row now one rest all : List UnitReference) → all ≡ one ++ rest → now ≡ take 10 (requested_from units row one) → take 10 (requested_from units now rest) ≡ take 10 (requested_from units row all)
 kept_segment units row now one rest all split is =
-    ap (λ (q : List UnitReference). take 10 (sought_from units q rest)) is
-    ∙ (kept units (sought_from units row one) rest
-    ∙ sym (ap (λ (gs : List UnitReference). take 10 (sought_from units row gs)) split ∙ ap (λ (q : List UnitReference). take 10 q) (sought-append units row one rest)))
+    ap (λ (q : List UnitReference). take 10 (requested_from units q rest)) is
+    ∙ (kept units (requested_from units row one) rest
+    ∙ sym (ap (λ (gs : List UnitReference). take 10 (requested_from units row gs)) split ∙ ap (λ (q : List UnitReference). take 10 q) (sought-append units row one rest)))
 
 -- the k-th name of what is kept
 pub kept_at : (n k : ℕ) (row : List UnitReference) → k < n → slice_get (take n row) k ≡ slice_get row k
@@ -130,7 +132,7 @@ module _ (order : Order) (host : List ℕ) (libs : List (List ℕ)) (units : Lis
   round_refused slot left g f h e = rw (h, rounds_from) (rw (e, rounds_from) refl)
 
   pub round_adds : (slot : ℕ) (left : List ℕ) (g : UnitReference) (s : Segment) → slice_get row k ≡ Some g → placed_fault order host libs g slot ≡ None → added_segment order host libs g slot ≡ Some s
-      → rounds_from order host libs units (slot ∷ left) k row ≡ after s (rounds_from order host libs units left (k + 1) (sought_from units row (unit_references s.file s.slot 0 s.records)))
+      → rounds_from order host libs units (slot ∷ left) k row ≡ after s (rounds_from order host libs units left (k + 1) (requested_from units row (unit_references s.file s.slot 0 s.records)))
   round_adds slot left g s h e f = rw (h, rounds_from) (rw (e, rounds_from) (rw (f, rounds_from) refl))
 
 -- the fault and the segment of a name in its slot, by the library's entry

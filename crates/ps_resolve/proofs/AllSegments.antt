@@ -1,15 +1,13 @@
 -- One segment more of those that are linked one after another.
-use Rattle.std.proofs.Common.{◌≡◌, ℕ, ◌+◌, ◌<◌, ◌≤◌, ◌++◌, List, [], ◌∷◌, length, map, get_or, drop, Bool, true, false, Option, Some, None, refl, sym, ◌∙◌, ap, subst, arith}
-use Rattle.std.specs.Prelude.{IfSome, if◌then◌else◌, ⊤}
-use Rattle.std.specs.Option.{option_to_list}
+use Rattle.std.proofs.Common.{◌≡◌, ℕ, ◌+◌, ◌<◌, ◌≤◌, ◌++◌, List, [], ◌∷◌, length, map, get_or, drop, Option, None, sym, ◌∙◌, ap, subst, arith}
+use Rattle.std.specs.Prelude.{⊤}
 use Rattle.ps_words.specs.declared.order.Order.{Order}
 use Rattle.ps_words.specs.declared.edit.Edit.{Edit}
 use Rattle.ps_words.specs.declared.fault.Fault.{Fault}
 use Rattle.ps_resolve.specs.Privates.{owner_of, private_words, all_words}
-use Rattle.ps_resolve.specs.Edits.{IsOfTable, AreOfReferences}
+use Rattle.ps_resolve.specs.Edits.{AreOfReferences}
 use Rattle.ps_resolve.specs.Stops.{IsStop}
 use Rattle.ps_resolve.specs.Views.{segment_of}
-use Rattle.ps_codefile.specs.Roles.{is_host}
 use Rattle.ps_resolve.specs.Sources.{Segment}
 use Rattle.ps_resolve.specs.References.{Known}
 use Rattle.ps_resolve.specs.Linking.{Edited, segment_edits, edited_from}
@@ -21,15 +19,6 @@ use Rattle.ps_resolve.specs.declared.linkage.Stop.TheVariants.{Refused, Memory}
 use Rattle.std.proofs.lemmas.List.{drop_all}
 use Rattle.ps_resolve.proofs.Segs.{drop_at}
 use Rattle.ps_resolve.proofs.Stages.{skip, keep}
-
--- what may stand beside the references' edits is the data size in the host's segment
-pub table_of_own : (order : Order) (v : SegmentView) (size : Edit) (own : Option Edit) → IfSome own (λ edit. (edit ≡ size) × (is_host v.role ≡ true)) → (is_host v.role ≡ true → IsOfTable order v.code.now size) → IfSome own (IsOfTable order v.code.now)
-table_of_own order v size None h t = tt
-table_of_own order v size (Some e) h t = subst (λ (x : Edit). IsOfTable order v.code.now x) (sym h.0) (t h.1)
-
-pub own_is : (b : Bool) (own : Option Edit) (size : Edit) (es : List Edit) → (b ≡ true → es ≡ size ∷ []) → option_to_list own ≡ (if b then size ∷ [] else []) → option_to_list own ≡ (if b then es else [])
-own_is true own size es h k = k ∙ sym (h refl)
-own_is false own size es h k = k
 
 module _ (order : Order) (known : Known) (ss : List SegmentView) (i : ℕ) (v : SegmentView) (lt : i < length ss) (is : v ≡ get_or ss i v) (free : ℕ) where
   head_is : map segment_of (drop i ss) ≡ segment_of v ∷ map segment_of (drop (i + 1) ss)

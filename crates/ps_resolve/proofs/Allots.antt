@@ -9,8 +9,8 @@ use Rattle.std.proofs.lemmas.Bool.{false≢true}
 use Rattle.std.proofs.lemmas.Bool.Decides.{Decides-eqb, nat_tests}
 use Rattle.std.proofs.lemmas.Option.{same_Some}
 use Rattle.ps_words.specs.declared.fault.Reason.TheVariants as reason
-use Rattle.ps_linkinfo.specs.Counts.{is_private_reference, privates_in}
-use Rattle.ps_resolve.specs.Privates.{Owner, words_in, allotted, private_words, private_fault, all_allotted, first_private_fault, unallotted_fault}
+use Rattle.ps_linkinfo.specs.RecordCounts.{is_private_reference, privates_in}
+use Rattle.ps_resolve.specs.Privates.{Owner, words_in, allotted_privates, private_words, private_fault, all_allotted, first_private_fault, unallotted_fault}
 use Rattle.ps_resolve.specs.Stops.{IsStop}
 use Rattle.ps_linkinfo.specs.declared.record.LinkRecord.{LinkRecord as Record}
 use Rattle.ps_resolve.specs.Builders.{FindsNamesake, IsFirstNamesake}
@@ -27,8 +27,8 @@ fits_test : (n : ℕ) → n ≤ 32767 → nat_lt 32767 n ≡ false
 fits_test n h = grind (arith, nat_tests)
 
 module _ (slot rec next : ℕ) (seen : List (List ℕ)) (ps : List Private) (r : Record) (rs : List Record) where
-  pub skip_privates : words_in r.body ≡ None → ps ++ allotted slot rec next (r ∷ rs) ≡ ps ++ allotted slot (rec + 1) next rs
-  skip_privates h = rw (h, allotted) refl
+  pub skip_privates : words_in r.body ≡ None → ps ++ allotted_privates slot rec next (r ∷ rs) ≡ ps ++ allotted_privates slot (rec + 1) next rs
+  skip_privates h = rw (h, allotted_privates) refl
 
   pub skip_words : words_in r.body ≡ None → private_words (r ∷ rs) ≡ private_words rs
   skip_words h = rw (h, private_words) refl
@@ -37,8 +37,8 @@ module _ (slot rec next : ℕ) (seen : List (List ℕ)) (ps : List Private) (r :
   skip_fault h = rw (h, private_fault) refl
 
   pub more_privates : (w : ℕ) → words_in r.body ≡ Some w
-      → ps ++ allotted slot rec next (r ∷ rs) ≡ (ps ++ record { slot = slot; rec = rec; name = r.name; offset = next; words = w } ∷ []) ++ allotted slot (rec + 1) (next + w) rs
-  more_privates w h = rw (h, allotted) (sym (append_assoc ps (record { slot = slot; rec = rec; name = r.name; offset = next; words = w } ∷ []) (allotted slot (rec + 1) (next + w) rs)))
+      → ps ++ allotted_privates slot rec next (r ∷ rs) ≡ (ps ++ record { slot = slot; rec = rec; name = r.name; offset = next; words = w } ∷ []) ++ allotted_privates slot (rec + 1) (next + w) rs
+  more_privates w h = rw (h, allotted_privates) (sym (append_assoc ps (record { slot = slot; rec = rec; name = r.name; offset = next; words = w } ∷ []) (allotted_privates slot (rec + 1) (next + w) rs)))
 
   pub more_words : (w : ℕ) → words_in r.body ≡ Some w → private_words (r ∷ rs) ≡ w + private_words rs
   more_words w h = rw (h, private_words) refl
@@ -47,37 +47,38 @@ module _ (slot rec next : ℕ) (seen : List (List ℕ)) (ps : List Private) (r :
       → private_fault rec next seen (r ∷ rs) ≡ private_fault (rec + 1) (next + w) (seen ++ r.name ∷ []) rs
   more_fault w h k le = rw (h, private_fault) (rw (k, fits_test (next + w) le) refl)
 
-  pub more_length : (w : ℕ) → words_in r.body ≡ Some w → length ps < length (ps ++ allotted slot rec next (r ∷ rs))
-  more_length w h = rw (more_privates w h, append_assoc) (omega (arith, length-append ps (record { slot = slot; rec = rec; name = r.name; offset = next; words = w } ∷ allotted slot (rec + 1) (next + w) rs)))
+  pub more_length : (w : ℕ) → words_in r.body ≡ Some w → length ps < length (ps ++ allotted_privates slot rec next (r ∷ rs))
+  more_length w h = rw (more_privates w h, append_assoc) (omega (arith, length-append ps (record { slot = slot; rec = rec; name = r.name; offset = next; words = w } ∷ allotted_privates slot (rec + 1) (next + w) rs)))
 
--- what asks for a private is counted
-pub privates_counted : (slot n next : ℕ) (rs : List Record) → length (allotted slot n next rs) ≡ privates_in rs
+-- what requests a private is counted
+pub privates_counted : (slot n next : ℕ) (rs : List Record) → length (allotted_privates slot n next rs) ≡ privates_in rs
 privates_counted slot n next [] = refl
 privates_counted slot n next (r ∷ rs) = at (λ m free. privates_counted slot m free rs) (words_in r.body) refl
   where
     one : (b : Bool) → is_private_reference r.body ≡ b → privates_in (r ∷ rs) ≡ cond b 1 0 + privates_in rs
     one b h = one_more (λ s. is_private_reference s.body) r rs ∙ ap (λ (c : Bool). cond {A = ℕ} c 1 0 + privates_in rs) h
 
-    at : ((m free : ℕ) → length (allotted slot m free rs) ≡ privates_in rs) → (o : Option ℕ) → words_in r.body ≡ o → length (allotted slot n next (r ∷ rs)) ≡ privates_in (r ∷ rs)
+    at : ((m free : ℕ) → length (allotted_privates slot m free rs) ≡ privates_in rs) → (o : Option ℕ) → words_in r.body ≡ o → length (allotted_privates slot n next (r ∷ rs)) ≡ privates_in (r ∷ rs)
     at rest None h = let a = one false (asks_is r.body ∙ ap is_some h) in let b = ap length (skip_privates slot n next [] [] r rs h) in omega (arith, rest (n + 1) next)
     at rest (Some w) h = let a = one true (asks_is r.body ∙ ap is_some h) in let b = ap length (more_privates slot n next [] [] r rs w h) in omega (arith, rest (n + 1) (next + w))
 
--- where none asks for one, there is none
+-- where none requests one, there is none
 pub record NoPrivates (slot next : ℕ) (rs : List Record) : Type 0 where
-  pub privates : allotted slot 0 next rs ≡ []
+  pub privates : allotted_privates slot 0 next rs ≡ []
   pub words : private_words rs ≡ 0
   pub first : private_fault 0 next [] rs ≡ None
 
--- where no record asks for a private, none is allotted, no word is taken, and no private has a fault
-no_asks : (slot next : ℕ) (rs : List Record) (n : ℕ) → privates_in rs ≡ 0 → (allotted slot n next rs ≡ []) × (private_words rs ≡ 0) × (private_fault n next [] rs ≡ None)
+-- where no record requests a private, none is allotted, no word is taken, and no private has a
+-- fault
+no_asks : (slot next : ℕ) (rs : List Record) (n : ℕ) → privates_in rs ≡ 0 → (allotted_privates slot n next rs ≡ []) × (private_words rs ≡ 0) × (private_fault n next [] rs ≡ None)
 no_asks slot next [] n h = (refl, refl, refl)
 no_asks slot next (r ∷ rs) n h = at (λ e. no_asks slot next rs (n + 1) e) (words_in r.body) refl
   where
     one : (b : Bool) → is_private_reference r.body ≡ b → privates_in (r ∷ rs) ≡ cond b 1 0 + privates_in rs
     one b e = one_more (λ s. is_private_reference s.body) r rs ∙ ap (λ (c : Bool). cond {A = ℕ} c 1 0 + privates_in rs) e
 
-    at : (privates_in rs ≡ 0 → (allotted slot (n + 1) next rs ≡ []) × (private_words rs ≡ 0) × (private_fault (n + 1) next [] rs ≡ None))
-        → (o : Option ℕ) → words_in r.body ≡ o → (allotted slot n next (r ∷ rs) ≡ []) × (private_words (r ∷ rs) ≡ 0) × (private_fault n next [] (r ∷ rs) ≡ None)
+    at : (privates_in rs ≡ 0 → (allotted_privates slot (n + 1) next rs ≡ []) × (private_words rs ≡ 0) × (private_fault (n + 1) next [] rs ≡ None))
+        → (o : Option ℕ) → words_in r.body ≡ o → (allotted_privates slot n next (r ∷ rs) ≡ []) × (private_words (r ∷ rs) ≡ 0) × (private_fault n next [] (r ∷ rs) ≡ None)
     at rest None e =
         let a = one false (asks_is r.body ∙ ap is_some e) in
         let more = rest (omega arith) in
@@ -98,18 +99,19 @@ module _ (n next : ℕ) (seen : List (List ℕ)) (r : Record) (rs : List Record)
       far_test : (m : ℕ) → 32767 < m → nat_lt 32767 m ≡ true
       far_test m h = grind (arith, nat_tests)
 
--- With the privates so far, those of the records from this index on are all, and so with words and faults. The first that is doubled, if there is one, is none of those before.
+-- With the privates so far, those of the records from this index on are all, and so with words and
+-- faults. The first that is a duplicate, if there is one, is none of those before.
 pub record Allots (slot next : ℕ) (doubled : Option ℕ) (before : List Private) (all : List Record) (ps : List Private) (free n : ℕ) (rs : List Record) : Type 0 where
   pub stands : Stands all n rs
   pub later : (m : ℕ) → doubled ≡ Some m → n ≤ m
-  pub privates : ps ++ allotted slot n free rs ≡ before ++ allotted slot 0 next all
+  pub privates : ps ++ allotted_privates slot n free rs ≡ before ++ allotted_privates slot 0 next all
   pub words : free + private_words rs ≡ next + private_words all
   pub first : private_fault n free (names stands.prefix) rs ≡ private_fault 0 next [] all
 
 pub allots : (slot next : ℕ) (doubled : Option ℕ) (before : List Private) (all : List Record) → Allots slot next doubled before all before next 0 all
 allots slot next doubled before all = record { stands = record { prefix = []; whole = refl; count = refl }; later = λ m e. omega arith; privates = refl; words = refl; first = refl }
 
--- what the test of the first that is doubled says
+-- what the test of the first that is a duplicate says
 pub is_doubled : (d : Option ℕ) (n : ℕ) → option_eq nat_eq d (Some n) ≡ true → d ≡ Some n
 is_doubled None n h = absurd (false≢true h)
 is_doubled (Some m) n h = ap (λ (k : ℕ). Some k) ((Decides-eqb m n).0 h)
@@ -136,7 +138,7 @@ module _ (slot next : ℕ) (doubled : Option ℕ) (before : List Private) (all :
   here : slice_get all n ≡ Some r
   here = there all n r rs a.stands
 
-  -- the record of the first that is doubled has an earlier namesake, and no other so far has
+  -- the record of the first that is a duplicate has an earlier namesake, and no other so far has
   doubled_here : doubled ≡ Some n → HasEarlierNamesake is_private_reference all n r
   doubled_here e =
       let first : IsFirstNamesake is_private_reference all n = subst (λ (d : Option ℕ). FindsNamesake is_private_reference all d) e found in
@@ -194,8 +196,8 @@ module _ (slot next : ℕ) (doubled : Option ℕ) (before : List Private) (all :
           ∙ a.first;
     }
 
-    pub doubled_fault : doubled ≡ Some n → private_fault 0 next [] all ≡ Some (n, reason.DoubledPrivate)
-    doubled_fault e = sym a.first ∙ again_fault n free (names a.stands.prefix) r rs w some (is_seen.1 (doubled_here e))
+    pub duplicate_fault : doubled ≡ Some n → private_fault 0 next [] all ≡ Some (n, reason.DoubledPrivate)
+    duplicate_fault e = sym a.first ∙ again_fault n free (names a.stands.prefix) r rs w some (is_seen.1 (doubled_here e))
 
     pub room_fault : (doubled ≡ Some n → ⊥) → 32767 < free + w → private_fault 0 next [] all ≡ Some (n, reason.NoRoom)
     room_fault other lt = sym a.first ∙ far_fault n free (names a.stands.prefix) r rs w some (fresh other) lt
@@ -203,8 +205,8 @@ module _ (slot next : ℕ) (doubled : Option ℕ) (before : List Private) (all :
 -- a stop at the first segment that is left is one at all
 module _ (o : Owner) (rest all : List Owner) (next free : ℕ) where
   pub stopped_in : (before : List Private) (stop : Stop) → before ++ all_allotted free (o ∷ rest) ≡ all_allotted next all
-      → first_private_fault free (o ∷ rest) ≡ first_private_fault next all → IsStop (0 < length (allotted o.slot 0 free o.records)) (unallotted_fault o.file o.slot free o.records) stop
+      → first_private_fault free (o ∷ rest) ≡ first_private_fault next all → IsStop (0 < length (allotted_privates o.slot 0 free o.records)) (unallotted_fault o.file o.slot free o.records) stop
       → IsStop (0 < length (all_allotted next all)) (first_private_fault next all) stop
   stopped_in before (Refused fault) privates first d = sym first ∙ ap (λ (f : Option Fault). option_or f (first_private_fault (free + private_words o.records) rest)) d
   stopped_in before Memory privates first d =
-      omega (arith, ap length privates, length-append before (allotted o.slot 0 free o.records ++ all_allotted (free + private_words o.records) rest), length-append (allotted o.slot 0 free o.records) (all_allotted (free + private_words o.records) rest))
+      omega (arith, ap length privates, length-append before (allotted_privates o.slot 0 free o.records ++ all_allotted (free + private_words o.records) rest), length-append (allotted_privates o.slot 0 free o.records) (all_allotted (free + private_words o.records) rest))

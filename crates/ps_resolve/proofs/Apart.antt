@@ -1,4 +1,4 @@
--- Edits in the order of their places, no place of which is covered twice, stand apart.
+-- Edits in the order of their places, no place of which is covered twice, are apart.
 use Rattle.std.proofs.Common.{◌≡◌, ℕ, ◌+◌, ◌<◌, ◌≤◌, List, [], ◌∷◌, length, get_or, Bool, true, cond, refl, ◌∙◌, ap, arith}
 use Rattle.std.specs.Prelude.{count_by, IsPermutation}
 use Rattle.std.specs.List.Sorted.{IsNonDecreasingBy}
@@ -15,9 +15,9 @@ one_more test x xs = sum_by-cons (λ y. cond (test y) 1 0) x xs
 
 -- an edit covers one byte at least
 pub wide : (e : Edit) → 0 < width e
-wide (Big place value) = omega arith
-wide (Byte place value) = omega arith
-wide (Word place value) = omega arith
+wide (Big value place) = omega arith
+wide (Byte value place) = omega arith
+wide (Word value place) = omega arith
 
 pub in_it : (e : Edit) (p : ℕ) → place_of e ≤ p → p < place_of e + width e → covers p e ≡ true
 in_it e p h k = grind (arith, nat_tests)
@@ -35,7 +35,7 @@ behind e f es le once lt =
 not_lt : (a b : ℕ) → (b < a → ⊥) → a ≤ b
 not_lt a b h = omega (arith, h)
 
--- such edits stand apart from a place on, where the first begins there or behind it
+-- such edits are apart from a place on, where the first begins there or after it
 pub apart_from : (es : List Edit) (from : ℕ) → ((d : Edit) → 0 < length es → from ≤ place_of (get_or es 0 d)) → IsNonDecreasingBy place_of es → ((p : ℕ) → count_by (covers p) es ≤ 1) → AreApart from es
 apart_from [] from low rise once = tt
 apart_from (e ∷ []) from low rise once = (low e (omega arith), tt)

@@ -1,4 +1,5 @@
--- What the builders of definitions and of allotments say of their refusals, by looking back; and how the privates of an allotment stand.
+-- What the builders of definitions and of allotments say of their refusals, by looking back; and
+-- how the privates of an allotment are.
 use Rattle.std.proofs.Common.{◌≡◌, ℕ, zero, suc, ◌+◌, ◌<◌, ◌≤◌, List, [], ◌∷◌, ◌++◌, length, length-append, take, map, get_or, Option, Some, None, Bool, true, false, refl, sym, ap, subst, ◌∙◌, inl, inr, arith, append_assoc, is_some}
 use Rattle.std.specs.Prelude.{◌==◌, ◌&&◌, ◌||◌, nat_le, nat_lt}
 use Rattle.std.specs.Bool.{Decides}
@@ -17,15 +18,15 @@ use Rattle.ps_words.specs.declared.fault.Reason.{Reason}
 use Rattle.ps_words.specs.declared.fault.Reason.TheVariants as reason
 use Rattle.ps_resolve.specs.First.{Before}
 use Rattle.ps_resolve.specs.Searches.{first_of, fault_if}
-use Rattle.ps_resolve.specs.Symbols.{def_in, definitions, doubled}
-use Rattle.ps_resolve.specs.Privates.{Owner, words_in, allotted, private_words, private_fault, all_allotted, all_words, first_private_fault}
+use Rattle.ps_resolve.specs.Symbols.{def_in, definitions, first_duplicate}
+use Rattle.ps_resolve.specs.Privates.{Owner, words_in, allotted_privates, private_words, private_fault, all_allotted, all_words, first_private_fault}
 use Rattle.ps_resolve.specs.Offsets.{RiseFrom}
 use Rattle.ps_resolve.specs.Standing.Phrases.{SomeItem}
 use Rattle.ps_resolve.specs.Standing.Definitions.{HasEarlierNamesake}
-use Rattle.ps_linkinfo.specs.Counts.{is_definition, is_private_reference}
+use Rattle.ps_linkinfo.specs.RecordCounts.{is_definition, is_private_reference}
 use Rattle.ps_resolve.specs.References.{words_taken, words_taken_by}
-use Rattle.ps_resolve.specs.Stops.{IsStop, doubled_fault}
-use Rattle.ps_resolve.specs.Builders.{FindsNamesake, HaveNoNamesakes, IsFirstNamesake, StopsDefinitions, offset_at, HaveOwnNames, HaveRoom, IsUnfit, IsFirstUnfit, StopsPrivates, Asked, asked_in, all_asked, asked_of, AreByRecord, words_of_all}
+use Rattle.ps_resolve.specs.Stops.{IsStop, duplicate_fault}
+use Rattle.ps_resolve.specs.Builders.{FindsNamesake, HaveNoNamesakes, IsFirstNamesake, StopsDefinitions, offset_at, HaveDistinctPrivates, HaveRoom, IsUnfit, IsFirstUnfit, StopsPrivates, Asked, asked_in, all_asked, asked_of, AreByRecord, words_of_all}
 use Rattle.ps_resolve.specs.declared.allotment.Private.{Private}
 use Rattle.ps_resolve.specs.declared.definitions.Def.{Def}
 use Rattle.ps_resolve.specs.declared.linkage.Stop.{Stop}
@@ -101,15 +102,15 @@ module _ (file slot : ℕ) (rs : List Record) where
   again_fault r = fault_if (is_again is_definition rs r) (told r.0)
 
   -- the search that carries the definitions so far, from the first record on
-  looking_back : option_map told (doubled rs) ≡ first_of again_fault (enumerate_from 0 rs)
+  looking_back : option_map told (first_duplicate rs) ≡ first_of again_fault (enumerate_from 0 rs)
   looking_back = definitions_carried told [] rs 0 refl
 
-  pub defined_once : doubled rs ≡ None → HaveNoNamesakes is_definition rs
+  pub defined_once : first_duplicate rs ≡ None → HaveNoNamesakes is_definition rs
   defined_once once rec r there is =
       not_there (is_again is_definition rs (rec, r)) (told rec) (again is_definition rs rec r)
       (none_given again_fault 0 rs (sym looking_back ∙ ap (option_map told) once) rec rec r (omega arith) there) is
 
-  pub stops_definitions : (stop : Stop) → IsStop (0 < length (definitions rs)) (doubled_fault file slot rs) stop → StopsDefinitions file slot rs stop
+  pub stops_definitions : (stop : Stop) → IsStop (0 < length (definitions rs)) (duplicate_fault file slot rs) stop → StopsDefinitions file slot rs stop
   stops_definitions (Refused fault) d =
       let found = some_given again_fault 0 rs fault (sym looking_back ∙ d) in
       let at = found.at in
@@ -136,7 +137,7 @@ module _ (file slot : ℕ) (rs : List Record) where
 
   -- the same, with the number of the record
   abbrev IsNamed : Stop → Type 0
-  IsNamed (Refused fault) = (rec : ℕ) × (doubled rs ≡ Some rec) × (fault ≡ told rec)
+  IsNamed (Refused fault) = (rec : ℕ) × (first_duplicate rs ≡ Some rec) × (fault ≡ told rec)
   IsNamed Memory = 0 < length (definitions rs)
 
   pub not_defined : (stop : Stop) → IsNamed stop → StopsDefinitions file slot rs stop
@@ -155,16 +156,16 @@ same_first test rs m n f g = elim (cases_lt m n) [
 ]
 
 -- the first record of this kind that has an earlier namesake is the first that defines a name again
-pub doubled_is : (rs : List Record) (found : Option ℕ) → FindsNamesake is_definition rs found → found ≡ doubled rs
-doubled_is rs found f = at (doubled rs) refl found f
+pub doubled_is : (rs : List Record) (found : Option ℕ) → FindsNamesake is_definition rs found → found ≡ first_duplicate rs
+doubled_is rs found f = at (first_duplicate rs) refl found f
   where
-    first_at : (m : ℕ) → doubled rs ≡ Some m → IsFirstNamesake is_definition rs m
+    first_at : (m : ℕ) → first_duplicate rs ≡ Some m → IsFirstNamesake is_definition rs m
     first_at m e =
         let t = stops_definitions 0 0 rs (Refused (told 0 0 rs m)) (ap (option_map (told 0 0 rs)) e) in
         let same : t.0 ≡ m = same_Some _ _ (ap (λ (f : Fault). f.rec) (sym t.2)) in
         subst (IsFirstNamesake is_definition rs) same t.1
 
-    at : (d : Option ℕ) → doubled rs ≡ d → (o : Option ℕ) → FindsNamesake is_definition rs o → o ≡ doubled rs
+    at : (d : Option ℕ) → first_duplicate rs ≡ d → (o : Option ℕ) → FindsNamesake is_definition rs o → o ≡ first_duplicate rs
     at None e None f = sym e
     at None e (Some n) f = absurd (defined_once 0 0 rs e n f.item f.there f.again)
     at (Some m) e None f = let g = first_at m e in absurd (f m g.item g.there g.again)
@@ -190,7 +191,7 @@ one_behind : (prefix : List Owner) (s : Owner) → all_words (prefix ++ s ∷ []
 one_behind [] s = omega arith
 one_behind (q ∷ prefix) s = omega (arith, one_behind prefix s)
 
--- the offset at a record of the first segment behind a prefix
+-- the offset at a record of the first segment after a prefix
 offset_is : (base : ℕ) (prefix : List Owner) (s : Owner) (rest : List Owner) (rec : ℕ) → offset_at base (prefix ++ s ∷ rest) (length prefix) s rec ≡ base + all_words prefix + private_words (take rec s.records)
 offset_is base prefix s rest rec =
     let a = ap (λ (qs : List Owner). words_taken_by (flat_map (λ (q : Owner). q.records) qs ++ take rec s.records)) (take_prefix prefix (s ∷ rest)) in
@@ -273,13 +274,13 @@ module _ (base : ℕ) (ss : List Owner) where
   none_unfit : first_private_fault base ss ≡ None → (k : ℕ) (s : Owner) (rec : ℕ) (r : Record) → slice_get ss k ≡ Some s → slice_get s.records rec ≡ Some r → (why : Reason) → IsUnfit base ss k s rec r why → ⊥
   none_unfit e k s rec r of there = none_in k s (none_given segment_fault 0 ss (sym segments_back ∙ e) k k s (omega arith) of) rec r there
 
-  pub own_names : first_private_fault base ss ≡ None → HaveOwnNames ss
-  own_names e k s of rec r there is = none_unfit e k s rec r of there reason.DoubledPrivate is
+  pub distinct_names : first_private_fault base ss ≡ None → HaveDistinctPrivates ss
+  distinct_names e k s of rec r there is = none_unfit e k s rec r of there reason.DoubledPrivate is
 
   pub room : first_private_fault base ss ≡ None → HaveRoom base ss
   room e k rec s r of there asks =
       elim (cases_lt 32767 (offset_at base ss k s rec + words_taken r.body)) [
-        | inl lt ↦ absurd (none_unfit e k s rec r of there reason.NoRoom (λ (a : HasEarlierNamesake is_private_reference s.records rec r). own_names e k s of rec r there a, asks, lt))
+        | inl lt ↦ absurd (none_unfit e k s rec r of there reason.NoRoom (λ (a : HasEarlierNamesake is_private_reference s.records rec r). distinct_names e k s of rec r there a, asks, lt))
         | inr le ↦ le
       ]
 
@@ -322,22 +323,22 @@ module _ (base : ℕ) (ss : List Owner) where
                   let u2 : IsUnfit base ss k s n r other = subst (λ (o : Owner). IsUnfit base ss k o n r other) is (subst (λ (m : ℕ). IsUnfit base ss m q n r other) at u) in
                   fits k s n r (one.before n n r lt (omega arith) (subst (λ (o : Owner). slice_get o.records n ≡ Some r) is there)) other u2
 
--- where a private is allotted, a record asks for it
-some_asks : (slot rec next : ℕ) (rs : List Record) → 0 < length (allotted slot rec next rs) → SomeItem rs (λ n r. is_private_reference r.body ≡ true)
+-- where a private is allotted, a record requests it
+some_asks : (slot rec next : ℕ) (rs : List Record) → 0 < length (allotted_privates slot rec next rs) → SomeItem rs (λ n r. is_private_reference r.body ≡ true)
 some_asks slot rec next [] h = absurd (omega (arith, h))
 some_asks slot rec next (r ∷ rs) h = go (words_in r.body) refl (some_asks slot (rec + 1) next rs)
   where
-    go : (w : Option ℕ) → words_in r.body ≡ w → (0 < length (allotted slot (rec + 1) next rs) → SomeItem rs (λ n q. is_private_reference q.body ≡ true)) → SomeItem (r ∷ rs) (λ n q. is_private_reference q.body ≡ true)
+    go : (w : Option ℕ) → words_in r.body ≡ w → (0 < length (allotted_privates slot (rec + 1) next rs) → SomeItem rs (λ n q. is_private_reference q.body ≡ true)) → SomeItem (r ∷ rs) (λ n q. is_private_reference q.body ≡ true)
     go (Some w) e later = (zero, r, refl, asks_is r.body ∙ ap is_some e)
     go None e later = let t = later (subst (λ (ps : List Private). 0 < length ps) (skip_privates slot rec next [] [] r rs e) h) in (suc t.0, t.1, t.2, t.3)
 
--- where a private of segments is allotted, a record of one of them asks for it
+-- where a private of segments is allotted, a record of one of them requests it
 some_segment : (next : ℕ) (ss : List Owner) → 0 < length (all_allotted next ss) → SomeItem ss (λ k s. SomeItem s.records (λ rec r. is_private_reference r.body ≡ true))
 some_segment next [] h = absurd (omega (arith, h))
-some_segment next (s ∷ ss) h = elim (cases_lt 0 (length (allotted s.slot 0 next s.records))) [
+some_segment next (s ∷ ss) h = elim (cases_lt 0 (length (allotted_privates s.slot 0 next s.records))) [
   | inl some ↦ (zero, s, refl, some_asks s.slot 0 next s.records some)
   | inr none ↦
-      let t = some_segment (next + private_words s.records) ss (omega (arith, h, none, length-append (allotted s.slot 0 next s.records) (all_allotted (next + private_words s.records) ss))) in
+      let t = some_segment (next + private_words s.records) ss (omega (arith, h, none, length-append (allotted_privates s.slot 0 next s.records) (all_allotted (next + private_words s.records) ss))) in
       (suc t.0, t.1, t.2, t.3)
 ]
 
@@ -359,7 +360,7 @@ later_record a b s r h = elim (cases_lt a s) [
     lesser : (a b s r : ℕ) → (nat_lt a s || (a == s && nat_le (b + 1) r)) ≡ true → s ≤ a → b < r
     lesser a b s r h le = grind (arith, nat_tests)
 
--- privates whose slot and record rise stand by slot and, of one slot, by record
+-- privates whose slot and record rise are by slot and, of one slot, by record
 pub by_record : (ps : List Private) → RiseFrom 0 0 ps → AreByRecord ps
 by_record ps rises i j p q lt is_p is_q =
     let h = behind 0 0 ps i j p rises lt (slice_get_within ps j q is_q) in
@@ -367,16 +368,16 @@ by_record ps rises i j p q lt is_p is_q =
     let y : get_or ps j p ≡ q = get_or_from_slice_get ps j q p is_q in
     later_record p.slot p.rec q.slot q.rec (rw (x, y) at h)
 
--- the privates have the words that their records ask for
-words_allotted : (slot rec next : ℕ) (rs : List Record) → words_of_all (allotted slot rec next rs) ≡ private_words rs
+-- the privates have the words that their records request
+words_allotted : (slot rec next : ℕ) (rs : List Record) → words_of_all (allotted_privates slot rec next rs) ≡ private_words rs
 words_allotted slot rec next [] = refl
 words_allotted slot rec next (r ∷ rs) = go (words_in r.body) refl (λ next. words_allotted slot (rec + 1) next rs)
   where
-    go : (w : Option ℕ) → words_in r.body ≡ w → ((next : ℕ) → words_of_all (allotted slot (rec + 1) next rs) ≡ private_words rs) → words_of_all (allotted slot rec next (r ∷ rs)) ≡ private_words (r ∷ rs)
-    go None e later = rw (e, allotted, private_words) (later next)
+    go : (w : Option ℕ) → words_in r.body ≡ w → ((next : ℕ) → words_of_all (allotted_privates slot (rec + 1) next rs) ≡ private_words rs) → words_of_all (allotted_privates slot rec next (r ∷ rs)) ≡ private_words (r ∷ rs)
+    go None e later = rw (e, allotted_privates, private_words) (later next)
     go (Some w) e later =
-        rw (e, allotted, private_words)
-        (sum_by-cons (λ (p : Private). p.words) (record { slot = slot; rec = rec; name = r.name; offset = next; words = w }) (allotted slot (rec + 1) (next + w) rs) ∙ ap (λ (n : ℕ). w + n) (later (next + w)))
+        rw (e, allotted_privates, private_words)
+        (sum_by-cons (λ (p : Private). p.words) (record { slot = slot; rec = rec; name = r.name; offset = next; words = w }) (allotted_privates slot (rec + 1) (next + w) rs) ∙ ap (λ (n : ℕ). w + n) (later (next + w)))
 
 -- and so have the privates of all segments
 pub summed : (next : ℕ) (ss : List Owner) → words_of_all (all_allotted next ss) ≡ all_words ss
@@ -384,25 +385,25 @@ summed next [] = refl
 summed next (s ∷ ss) =
     omega (
       arith,
-      sum_by-append (λ (p : Private). p.words) (allotted s.slot 0 next s.records) (all_allotted (next + private_words s.records) ss),
+      sum_by-append (λ (p : Private). p.words) (allotted_privates s.slot 0 next s.records) (all_allotted (next + private_words s.records) ss),
       words_allotted s.slot 0 next s.records,
       summed (next + private_words s.records) ss,
     )
 
 -- the privates of a segment, without their offsets
-asked_allotted : (s : Owner) (rec next : ℕ) (rs : List Record) → map asked_of (allotted s.slot rec next rs) ≡ filter_map (asked_in s) (enumerate_from rec rs)
+asked_allotted : (s : Owner) (rec next : ℕ) (rs : List Record) → map asked_of (allotted_privates s.slot rec next rs) ≡ filter_map (asked_in s) (enumerate_from rec rs)
 asked_allotted s rec next [] = refl
 asked_allotted s rec next (r ∷ rs) = go (words_in r.body) refl (λ next. asked_allotted s (rec + 1) next rs)
   where
-    go : (w : Option ℕ) → words_in r.body ≡ w → ((next : ℕ) → map asked_of (allotted s.slot (rec + 1) next rs) ≡ filter_map (asked_in s) (enumerate_from (rec + 1) rs))
-        → map asked_of (allotted s.slot rec next (r ∷ rs)) ≡ cons_option (asked_in s (rec, r)) (filter_map (asked_in s) (enumerate_from (rec + 1) rs))
-    go None e rest = rw (e, allotted, asked_in) (rest next)
-    go (Some w) e rest = rw (e, allotted, asked_in) (ap (λ (xs : List Asked). record { slot = s.slot; rec = rec; name = r.name; words = w } ∷ xs) (rest (next + w)))
+    go : (w : Option ℕ) → words_in r.body ≡ w → ((next : ℕ) → map asked_of (allotted_privates s.slot (rec + 1) next rs) ≡ filter_map (asked_in s) (enumerate_from (rec + 1) rs))
+        → map asked_of (allotted_privates s.slot rec next (r ∷ rs)) ≡ cons_option (asked_in s (rec, r)) (filter_map (asked_in s) (enumerate_from (rec + 1) rs))
+    go None e rest = rw (e, allotted_privates, asked_in) (rest next)
+    go (Some w) e rest = rw (e, allotted_privates, asked_in) (ap (λ (xs : List Asked). record { slot = s.slot; rec = rec; name = r.name; words = w } ∷ xs) (rest (next + w)))
 
--- and those of all segments, which are what all records ask for
+-- and those of all segments, which are what all records request
 pub asked : (next : ℕ) (ss : List Owner) → map asked_of (all_allotted next ss) ≡ all_asked ss
 asked next [] = refl
 asked next (s ∷ ss) =
-    map-append asked_of (allotted s.slot 0 next s.records) (all_allotted (next + private_words s.records) ss)
+    map-append asked_of (allotted_privates s.slot 0 next s.records) (all_allotted (next + private_words s.records) ss)
     ∙ (ap (λ (xs : List Asked). xs ++ map asked_of (all_allotted (next + private_words s.records) ss)) (asked_allotted s 0 next s.records)
     ∙ ap (λ (xs : List Asked). filter_map (asked_in s) (enumerate_from 0 s.records) ++ xs) (asked (next + private_words s.records) ss))

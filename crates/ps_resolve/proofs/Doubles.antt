@@ -1,28 +1,42 @@
 -- One record more of a table of definitions.
-use Rattle.std.proofs.Common.{◌≡◌, ℕ, zero, suc, ◌+◌, List, [], ◌∷◌, ◌++◌, length, Bool, true, false, cond, Option, Some, None, is_some, refl, sym, ◌∙◌, ap, arith, append_assoc, ◌<◌}
+use Rattle.std.proofs.Common.{◌≡◌, ℕ, zero, suc, ◌+◌, List, [], ◌∷◌, ◌++◌, length, Bool, true, false, cond, Option, Some, None, is_some, refl, sym, ◌∙◌, ap, arith, append_assoc, length-append, ◌<◌}
 use Rattle.std.specs.List.{filter_map}
-use Rattle.ps_resolve.specs.Symbols.{def_in, definition_in, definitions, definition_of, doubled, doubled_from}
+use Rattle.ps_resolve.specs.Symbols.{def_in, definition_in, definitions, definition_of, first_duplicate, first_duplicate_from}
 use Rattle.ps_resolve.specs.declared.definitions.Def.{Def}
-use Rattle.ps_linkinfo.specs.Counts.{is_definition, definitions_in}
+use Rattle.ps_linkinfo.specs.RecordCounts.{is_definition, definitions_in}
 use Rattle.ps_linkinfo.specs.declared.record.Body.{Body}
 use Rattle.ps_linkinfo.specs.declared.record.Body.TheVariants.{UnitRef, PublRef, PrivRef, PublDef, ConstDef, Eof}
 use Rattle.ps_linkinfo.specs.declared.record.LinkRecord.{LinkRecord as Record}
 use Rattle.ps_resolve.proofs.Apart.{one_more}
+
+pub none_is : {X : Type 0} (o : Option X) → is_some o ≡ false → o ≡ None
+none_is None h = refl
+none_is (Some x) h = cc
 
 module _ (rec : ℕ) (ds : List (List ℕ × Def)) (r : Record) (rs : List Record) where
   -- a record that defines nothing
   pub none_entries : def_in r.body ≡ None → ds ++ definitions (r ∷ rs) ≡ ds ++ definitions rs
   none_entries h = let e : definition_in r ≡ None = rw (h, definition_in) refl in rw (e, filter_map) refl
 
-  pub none_first : def_in r.body ≡ None → doubled_from rec ds (r ∷ rs) ≡ doubled_from (rec + 1) ds rs
-  none_first h = rw (h, doubled_from) refl
+  pub none_first : def_in r.body ≡ None → first_duplicate_from rec ds (r ∷ rs) ≡ first_duplicate_from (rec + 1) ds rs
+  none_first h = rw (h, first_duplicate_from) refl
 
   -- a name that is new
   pub new_entries : (d : Def) → def_in r.body ≡ Some d → ds ++ definitions (r ∷ rs) ≡ (ds ++ (r.name, d) ∷ []) ++ definitions rs
   new_entries d h = let e : definition_in r ≡ Some (r.name, d) = rw (h, definition_in) refl in rw (e, filter_map) (sym (append_assoc ds ((r.name, d) ∷ []) (definitions rs)))
 
-  pub new_first : (d : Def) → def_in r.body ≡ Some d → is_some (definition_of r.name ds) ≡ false → doubled_from rec ds (r ∷ rs) ≡ doubled_from (rec + 1) (ds ++ (r.name, d) ∷ []) rs
-  new_first d h k = rw (h, doubled_from) (rw k refl)
+  pub new_first : (d : Def) → def_in r.body ≡ Some d → is_some (definition_of r.name ds) ≡ false → first_duplicate_from rec ds (r ∷ rs) ≡ first_duplicate_from (rec + 1) (ds ++ (r.name, d) ∷ []) rs
+  new_first d h k = rw (h, first_duplicate_from) (rw k refl)
+
+-- where one of what is left defines something, there is a definition
+pub some_there : (ds : List (List ℕ × Def)) (r : Record) (rs : List Record) (d : Def) → def_in r.body ≡ Some d → 0 < length (ds ++ definitions (r ∷ rs))
+some_there ds r rs d h = rw (new_entries 0 ds r rs d h, append_assoc) (omega (arith, length-append ds ((r.name, d) ∷ definitions rs)))
+
+-- with the table so far, the definitions of the records from this index on are all, and the first
+-- that is a duplicate is theirs
+pub record Defines (all : List Record) (ds : List (List ℕ × Def)) (n : ℕ) (rs : List Record) : Type 0 where
+  pub entries : ds ++ definitions rs ≡ definitions all
+  pub first : first_duplicate_from n ds rs ≡ first_duplicate all
 
 -- what defines a name is counted
 defines_is : (b : Body) → is_definition b ≡ is_some (def_in b)
@@ -46,11 +60,11 @@ definitions_counted (r ∷ rs) = at (definitions_counted rs) (def_in r.body) ref
     at rest (Some d) h = let a = one true (defines_is r.body ∙ ap is_some h) in let b = ap length (new_entries 0 [] r rs d h) in omega (arith, rest)
 
 -- records that define nothing define no name again
-none_doubled : (rs : List Record) (n : ℕ) (ds : List (List ℕ × Def)) → definitions rs ≡ [] → doubled_from n ds rs ≡ None
+none_doubled : (rs : List Record) (n : ℕ) (ds : List (List ℕ × Def)) → definitions rs ≡ [] → first_duplicate_from n ds rs ≡ None
 none_doubled [] n ds h = refl
 none_doubled (r ∷ rs) n ds h = at (λ e. none_doubled rs (n + 1) ds e) (def_in r.body) refl
   where
-    at : (definitions rs ≡ [] → doubled_from (n + 1) ds rs ≡ None) → (o : Option Def) → def_in r.body ≡ o → doubled_from n ds (r ∷ rs) ≡ None
+    at : (definitions rs ≡ [] → first_duplicate_from (n + 1) ds rs ≡ None) → (o : Option Def) → def_in r.body ≡ o → first_duplicate_from n ds (r ∷ rs) ≡ None
     at rest None e = none_first n ds r rs e ∙ rest (sym (none_entries 0 [] r rs e) ∙ h)
     at rest (Some d) e = absurd (omega (arith, ap length (sym (new_entries 0 [] r rs d e) ∙ h)))
 
@@ -58,8 +72,8 @@ pub positive : (n : ℕ) → (n ≡ 0 → ⊥) → 0 < n
 positive zero h = absurd (h refl)
 positive (suc n) h = omega arith
 
--- where nothing defines a name, there are no definitions, and none is doubled
-pub no_definitions : (rs : List Record) → definitions_in rs ≡ 0 → (definitions rs ≡ []) × (doubled rs ≡ None)
+-- where nothing defines a name, there are no definitions, and none is duplicate
+pub no_definitions : (rs : List Record) → definitions_in rs ≡ 0 → (definitions rs ≡ []) × (first_duplicate rs ≡ None)
 no_definitions rs h = (none, none_doubled rs 0 [] none)
   where
     empty : (ds : List (List ℕ × Def)) → length ds ≡ 0 → ds ≡ []
@@ -70,5 +84,5 @@ no_definitions rs h = (none, none_doubled rs 0 [] none)
     none = empty (definitions rs) (definitions_counted rs ∙ h)
 
 -- a name that is there already
-pub again_first : (n : ℕ) (ds : List (List ℕ × Def)) (r : Record) (rs : List Record) (d : Def) → def_in r.body ≡ Some d → is_some (definition_of r.name ds) ≡ true → doubled_from n ds (r ∷ rs) ≡ Some n
-again_first n ds r rs d h k = rw (h, doubled_from) (rw k refl)
+pub again_first : (n : ℕ) (ds : List (List ℕ × Def)) (r : Record) (rs : List Record) (d : Def) → def_in r.body ≡ Some d → is_some (definition_of r.name ds) ≡ true → first_duplicate_from n ds (r ∷ rs) ≡ Some n
+again_first n ds r rs d h k = rw (h, first_duplicate_from) (rw k refl)

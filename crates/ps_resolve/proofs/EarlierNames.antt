@@ -1,18 +1,19 @@
--- Records of a kind that have the name of an earlier one: that none has, where the numbers of the names of privates differ, and the first of them.
-use Rattle.std.proofs.Common.{◌≡◌, ℕ, zero, suc, ◌+◌, ◌<◌, ◌==◌, ◌++◌, List, [], ◌∷◌, length, take, Bool, true, false, Some, None, refl, sym, ◌∙◌, ap, subst, arith, append_assoc, append-nil}
+-- Records of a kind that have the name of an earlier one: that none has, where the numbers of the
+-- names of privates differ, and the first of them.
+use Rattle.std.proofs.Common.{◌≡◌, ℕ, nat_cmp, zero, suc, ◌+◌, ◌<◌, ◌==◌, ◌++◌, List, [], ◌∷◌, length, take, Bool, true, false, Some, None, refl, sym, ◌∙◌, ap, subst, arith, append_assoc, append-nil}
 use Rattle.std.specs.Prelude.{◌&&◌, nat_lt, not}
 use Rattle.std.specs.Bool.{Decides}
 use Rattle.std.specs.Int.{w64, from_be_bytes}
 use Rattle.std.specs.List.{AllByRecursion, IsAllAdjacentAnswer, IsDistinct, filter, list_any, slice_get}
-use Rattle.std.specs.List.Sorted.{IsPermutation, IsStrictlyIncreasing}
+use Rattle.std.specs.List.Sorted.{IsPermutation, IsSorted, IsStrictlyIncreasing}
 use Rattle.std.specs.Str.{bytes_eq}
 use Rattle.std.proofs.lemmas.Bool.{false≢true}
 use Rattle.std.proofs.lemmas.Bool.Decides.{Decides-ltb, nat_tests}
 use Rattle.std.proofs.lemmas.List.Kept.{AllPairs-from_increasing}
-use Rattle.std.proofs.lemmas.List.Sorted.{IsPermutation-sym}
-use Rattle.std.proofs.lemmas.Map.Keys.{IsDistinct-head, IsDistinct-tail, IsDistinct-from_apart, IsDistinct-IsPermutation}
+use Rattle.std.proofs.lemmas.List.Sorted.{IsNonDecreasingBy-from_sort, IsPermutation-sym}
+use Rattle.std.proofs.lemmas.Map.Keys.{IsDistinct-head, IsDistinct-tail, IsDistinct-from_apart, IsDistinct-IsPermutation, IsStrictlyIncreasing-from_distinct}
 use Rattle.std.proofs.lemmas.Option.{same_Some, slice_get_within}
-use Rattle.ps_linkinfo.specs.Counts.{is_private_reference}
+use Rattle.ps_linkinfo.specs.RecordCounts.{is_private_reference}
 use Rattle.ps_linkinfo.specs.declared.record.Body.{Body}
 use Rattle.ps_linkinfo.specs.declared.record.LinkRecord.{LinkRecord as Record}
 use Rattle.ps_resolve.specs.Builders.{HaveNoNamesakes, IsFirstNamesake, private_numbers}
@@ -69,7 +70,8 @@ all_numbers P (s ∷ ss) all (suc n) r there is = all_numbers P ss (rest (is_pri
     rest true h = (subst (λ (xs : List ℕ). AllByRecursion P xs) (taken s ss h) all).1
     rest false h = subst (λ (xs : List ℕ). AllByRecursion P xs) (passed s ss h) all
 
--- where the numbers of the names of privates are distinct, no private has the name of an earlier one
+-- where the numbers of the names of privates are distinct, no private has the name of an earlier
+-- one
 none_again : (rs : List Record) → IsDistinct is_same (private_numbers rs) → (rec other : ℕ) (r q : Record) → slice_get rs rec ≡ Some r → is_private_reference r.body ≡ true
     → other < rec → slice_get rs other ≡ Some q → is_private_reference q.body ≡ true → q.name ≡ r.name → ⊥
 none_again [] d rec other r q there is lt before was name = let none : None ≡ Some r = there in cc
@@ -92,9 +94,13 @@ pub ascends : (xs : List ℕ) (r : Bool) → IsAllAdjacentAnswer (λ x y b. b �
 ascends xs true h e = λ k lt. (Decides-ltb _ _).0 (sym (h k 0 lt))
 ascends xs false h e = absurd (false≢true e)
 
+pub does_not_ascend : (xs : List ℕ) (r : Bool) → IsAllAdjacentAnswer (λ x y b. b ≡ nat_lt x y) xs r → r ≡ false → IsStrictlyIncreasing xs → ⊥
+does_not_ascend xs true h e rises = absurd (false≢true (sym e))
+does_not_ascend xs false h e rises = absurd (false≢true (h.2 0 ∙ (Decides-ltb _ _).1 (rises h.0 h.1)))
+
 -- where their numbers, in any order, ascend, no two privates have the same name
-pub own_names : (rs : List Record) (ys : List ℕ) → IsPermutation (private_numbers rs) ys → IsStrictlyIncreasing ys → HaveNoNamesakes is_private_reference rs
-own_names rs ys moved ascends rec r there h = none_again rs distinct rec h.1.0 r h.1.2.0 there h.0 h.1.1 h.1.2.1 h.1.2.2.0 h.1.2.2.1
+pub distinct_names : (rs : List Record) (ys : List ℕ) → IsPermutation (private_numbers rs) ys → IsStrictlyIncreasing ys → HaveNoNamesakes is_private_reference rs
+distinct_names rs ys moved ascends rec r there h = none_again rs distinct rec h.1.0 r h.1.2.0 there h.0 h.1.1 h.1.2.1 h.1.2.2.0 h.1.2.2.1
   where
     sorted : IsDistinct is_same ys
     sorted = IsDistinct-from_apart is_same ys (λ i j d lt le. below_differs _ _ (AllPairs-from_increasing ys ascends i j d lt le))
@@ -102,8 +108,12 @@ own_names rs ys moved ascends rec r there h = none_again rs distinct rec h.1.0 r
     distinct : IsDistinct is_same (private_numbers rs)
     distinct = IsDistinct-IsPermutation is_same flips ys (private_numbers rs) (IsPermutation-sym (private_numbers rs) ys moved) sorted
 
+-- and where their numbers, sorted, do not ascend, two are equal
+pub shared : (rs : List Record) (ys : List ℕ) → IsPermutation (private_numbers rs) ys → IsSorted nat_cmp ys → (IsStrictlyIncreasing ys → ⊥) → IsDistinct (λ x y. x == y) (private_numbers rs) → ⊥
+shared rs ys moved sorted falls distinct = falls (IsStrictlyIncreasing-from_distinct ys (IsNonDecreasingBy-from_sort (λ (x : ℕ). x) ys sorted) (IsDistinct-IsPermutation is_same flips (private_numbers rs) ys moved distinct))
+
 -- 2. what was seen of the records
--- a record behind a prefix
+-- a record after a prefix
 pub at_end : (prefix : List Record) (r : Record) (rs : List Record) → slice_get (prefix ++ r ∷ rs) (length prefix) ≡ Some r
 at_end [] r rs = refl
 at_end (p ∷ prefix) r rs = at_end prefix r rs
@@ -114,13 +124,13 @@ same_names test prefix r h = more_names test prefix r ∙ rw (h, filter) (append
 pub one_name : (test : Body → Bool) (prefix : List Record) (r : Record) → test r.body ≡ true → names_of test (prefix ++ r ∷ []) ≡ names_of test prefix ++ r.name ∷ []
 one_name test prefix r h = more_names test prefix r ∙ rw (h, filter) refl
 
--- the records from this index on are left, behind the others
+-- the records from this index on are left, after the others
 pub record Stands (all : List Record) (n : ℕ) (rs : List Record) : Type 0 where
   pub prefix : List Record
   pub whole : all ≡ prefix ++ rs
   pub count : n ≡ length prefix
 
--- and so are, behind one more, those from the next index on
+-- and so are, after one more, those from the next index on
 abbrev pub further : (all : List Record) (n : ℕ) (r : Record) (rs : List Record) → Stands all n (r ∷ rs) → Stands all (n + 1) rs
 further all n r rs s = record {
   prefix = s.prefix ++ r ∷ [];

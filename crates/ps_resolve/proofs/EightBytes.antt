@@ -1,4 +1,5 @@
--- The names of all slots of a linked file have eight bytes each: those of the host's dictionary, and those of UNITREF records.
+-- The names of all slots of a linked file have eight bytes each: those of the host's dictionary,
+-- and those of UNITREF records.
 use Rattle.std.proofs.Common.{◌≡◌, ℕ, zero, suc, ◌+◌, ◌*◌, ◌-◌, ◌<◌, ◌≤◌, ◌==◌, List, [], ◌∷◌, ◌++◌, length, length-append, map, drop, Bool, true, false, if◌then◌else◌, Option, Some, None, refl, ◌∙◌, subst, arith}
 use Rattle.std.specs.Prelude.{All}
 use Rattle.std.specs.List.{range_with_len, filter_map, cons_option, flat_map, find, slice_get}
@@ -10,14 +11,14 @@ use Rattle.std.proofs.lemmas.List.Elements.{All-nil, All-cons, All-tail, All-app
 use Rattle.ps_words.specs.declared.order.Order.{Order}
 use Rattle.ps_words.specs.declared.fault.Fault.{Fault}
 use Rattle.ps_codefile.specs.Dictionary.{slots, name_at, entry_at, role_of, code_of, information_of}
-use Rattle.ps_resolve.specs.Added.{is_had, unit_references, all_unit_references, sought_from, placed_fault, added_segment, as_added, rounds, rounds_from, empty_slots, added, segment_at, segments, slot_name, slot_names}
-use Rattle.ps_linkinfo.specs.Counts.{is_unit_reference}
+use Rattle.ps_resolve.specs.Added.{is_already_known, unit_references, all_unit_references, requested_from, placed_fault, added_segment, as_added, rounds, rounds_from, empty_slots, added_segments, segment_at, segments, slot_name, slot_names}
+use Rattle.ps_linkinfo.specs.RecordCounts.{is_unit_reference}
 use Rattle.ps_codefile.specs.declared.entry.Entry.{Entry}
 use Rattle.ps_codefile.specs.declared.entry.Role.{Role}
 use Rattle.ps_codefile.specs.declared.entry.Role.TheVariants.{Wanted}
 use Rattle.ps_linkinfo.specs.Records.{reading}
 use Rattle.ps_linkinfo.specs.declared.record.LinkRecord.{LinkRecord as Record}
-use Rattle.ps_codefile.specs.Roles.{is_linked, is_empty}
+use Rattle.ps_codefile.specs.Roles.{needs_linking, is_empty}
 use Rattle.ps_resolve.specs.Sources.{Segment, own_segment, own_segments, segment_from, source_of, unit_source, units_of, records_of, file_at}
 use Rattle.ps_resolve.specs.Faults.{is_role}
 use Rattle.ps_resolve.specs.declared.reading.added.UnitReference.{UnitReference}
@@ -64,17 +65,19 @@ one_more : (b : Bool) (row : List UnitReference) (g : UnitReference) → All IsN
 one_more true row g all h = all
 one_more false row g all h = All-append IsNamed row (g ∷ []) all (All-cons IsNamed g [] h (All-nil IsNamed))
 
--- a row of names of eight bytes stays one, where the names that are then sought have eight bytes
-row_named : (units : List (List ℕ × ℕ)) (row gs : List UnitReference) → All IsNamed row → All IsNamed gs → All IsNamed (sought_from units row gs)
+-- a sequence of names of eight bytes stays one, where the names that are then requested have eight
+-- bytes
+row_named : (units : List (List ℕ × ℕ)) (row gs : List UnitReference) → All IsNamed row → All IsNamed gs → All IsNamed (requested_from units row gs)
 row_named units row [] all rest = all
 row_named units row (g ∷ gs) all rest =
-    row_named units (if is_had units row g.name then row else row ++ g ∷ []) gs (one_more (is_had units row g.name) row g all (rest 0 g (omega arith))) (All-tail IsNamed g gs rest)
+    row_named units (if is_already_known units row g.name then row else row ++ g ∷ []) gs (one_more (is_already_known units row g.name) row g all (rest 0 g (omega arith))) (All-tail IsNamed g gs rest)
 
 records_whole : ReadWhole → (order : Order) (file : List ℕ) (e : Entry) (b : Bool) → All IsWhole (records_of order file e b)
 records_whole law order file e true = law order (information_of file e)
 records_whole law order file e false = All-nil IsWhole
 
--- a segment that is read with a name of eight bytes has that name, and records whose names have eight
+-- a segment that is read with a name of eight bytes has that name, and records whose names have
+-- eight
 read_named : ReadWhole → (order : Order) (host : List ℕ) (libs : List (List ℕ)) (slot : ℕ) (name : List ℕ) (r : Role) (at : ℕ × ℕ) (s : Segment) → length name ≡ 8 → segment_from order host libs slot name r at ≡ Some s → HasNames s
 read_named law order host libs slot name r at s long h = by (result_ok (code_of file e)) h
   where
@@ -85,16 +88,17 @@ read_named law order host libs slot name r at s long h = by (result_ok (code_of 
     e = entry_at order file at.1
 
     made : List ℕ → Segment
-    made code = record { slot = slot; name = name; role = r; added = false; file = at.0; index = at.1; code = code; records = records_of order file e (is_linked r) }
+    made code = record { slot = slot; name = name; role = r; added = false; file = at.0; index = at.1; code = code; records = records_of order file e (needs_linking r) }
 
     by : (o : Option (List ℕ)) → option_map made o ≡ Some s → HasNames s
     by None k = cc
-    by (Some code) k = let same : made code ≡ s = same_Some _ _ k in subst HasNames same (record { own = long; records = records_whole law order file e (is_linked r) })
+    by (Some code) k = let same : made code ≡ s = same_Some _ _ k in subst HasNames same (record { own = long; records = records_whole law order file e (needs_linking r) })
 
 name_long : (host : List ℕ) (slot : ℕ) → 512 ≤ length host → slot < 16 → length (name_at host slot) ≡ 8
 name_long host slot long lt = omega (arith, length-take (64 + 8 * slot + 8 - (64 + 8 * slot)) (drop (64 + 8 * slot) host), length-drop (64 + 8 * slot) host)
 
--- where the host has its whole dictionary, the own segment of a slot and its records have names of eight bytes
+-- where the host has its whole dictionary, the own segment of a slot and its records have names of
+-- eight bytes
 own_named : ReadWhole → (order : Order) (host : List ℕ) (libs : List (List ℕ)) (slot : ℕ) (s : Segment) → 512 ≤ length host → slot < 16 → own_segment order host libs slot ≡ Some s → HasNames s
 own_named law order host libs slot s long lt h =
     let name = (entry_at order host slot).name in
@@ -102,7 +106,8 @@ own_named law order host libs slot s long lt h =
     option_and_then_some (segment_from order host libs slot name r) (source_of order host libs slot r) s rest (λ place there from.
     read_named law order host libs slot name r place s (name_long host slot long lt) from))
 
--- a segment that is added for a name of eight bytes has that name, and records whose names have eight
+-- a segment that is added for a name of eight bytes has that name, and records whose names have
+-- eight
 added_named : ReadWhole → (order : Order) (host : List ℕ) (libs : List (List ℕ)) (g : UnitReference) (slot : ℕ) (s : Segment) → IsNamed g → added_segment order host libs g slot ≡ Some s → HasNames s
 added_named law order host libs g slot s long h = by (option_and_then (segment_from order host libs slot g.name Wanted) (unit_source order g.name libs)) refl h
   where
@@ -114,7 +119,8 @@ added_named law order host libs g slot s long h = by (option_and_then (segment_f
         option_and_then_some (segment_from order host libs slot g.name Wanted) (unit_source order g.name libs) t e (λ place there from. read_named law order host libs slot g.name Wanted place t long from) in
         subst HasNames same (record { own = named.own; records = named.records })
 
--- where each name of the row has eight bytes, so have those of the added segments and of their records
+-- where each name of the row has eight bytes, so have those of the added segments and of their
+-- records
 rounds_named : ReadWhole → (order : Order) (host : List ℕ) (libs : List (List ℕ)) (units : List (List ℕ × ℕ)) (left : List ℕ) (k : ℕ) (row : List UnitReference) → All IsNamed row → All HasNames (rounds_from order host libs units left k row).added
 rounds_named law order host libs units [] k row all = All-nil HasNames
 rounds_named law order host libs units (slot ∷ left) k row all = by (λ next named. rounds_named law order host libs units left (k + 1) next named) (slice_get row k) refl
@@ -126,7 +132,7 @@ rounds_named law order host libs units (slot ∷ left) k row all = by (λ next n
     at rest g None e (Some s) f h =
         let named = added_named law order host libs g slot s (got IsNamed row k g h all) f in
         let gs = unit_references s.file s.slot 0 s.records in
-        let next = sought_from units row gs in
+        let next = requested_from units row gs in
         let later = rest next (row_named units row gs all (references_named s.file s.slot 0 s.records named.records)) in
         rw (h, rounds_from) (rw (e, rounds_from) (rw (f, rounds_from) (All-cons HasNames s (rounds_from order host libs units left (k + 1) next).added named later)))
 
@@ -155,12 +161,13 @@ all_own : ReadWhole → (order : Order) (host : List ℕ) (libs : List (List ℕ
 unfolding own_segments
 all_own law order host libs long = row_has HasNames (own_segment order host libs) (λ x s lt e. own_named law order host libs x s long lt e) slots all_slots
 
--- where the host has its whole dictionary, all added segments and their records have names of eight bytes
-all_added : ReadWhole → (order : Order) (host : List ℕ) (libs : List (List ℕ)) → 512 ≤ length host → All HasNames (added order host libs)
+-- where the host has its whole dictionary, all added segments and their records have names of eight
+-- bytes
+all_added : ReadWhole → (order : Order) (host : List ℕ) (libs : List (List ℕ)) → 512 ≤ length host → All HasNames (added_segments order host libs)
 unfolding rounds
 all_added law order host libs long =
     let own = own_segments order host libs in
-    let row = sought_from (units_of own) [] (all_unit_references own) in
+    let row = requested_from (units_of own) [] (all_unit_references own) in
     rounds_named law order host libs (units_of own) (empty_slots order host) 0 row (row_named (units_of own) [] (all_unit_references own) (All-nil IsNamed) (all_references_named own (all_own law order host libs long)))
 
 -- so it is with the segment of a slot, whether its own or an added one
@@ -170,7 +177,7 @@ slot_named law order host libs long slot s lt h = by (own_segment order host lib
     by : (o : Option Segment) → own_segment order host libs slot ≡ o → (b : Bool) → is_role is_empty order host slot ≡ b → HasNames s
     by (Some t) e b f = own_named law order host libs slot s long lt (e ∙ rw e at h)
     by None e false f = let none : None ≡ Some s = rw (e, f) at h in cc
-    by None e true f = let found : find (λ (x : Segment). x.slot == slot) (added order host libs) ≡ Some s = rw (e, f) at h in (find_has HasNames (λ (x : Segment). x.slot == slot) (added order host libs) s found (all_added law order host libs long)).1
+    by None e true f = let found : find (λ (x : Segment). x.slot == slot) (added_segments order host libs) ≡ Some s = rw (e, f) at h in (find_has HasNames (λ (x : Segment). x.slot == slot) (added_segments order host libs) s found (all_added law order host libs long)).1
 
 all_named : ReadWhole → (order : Order) (host : List ℕ) (libs : List (List ℕ)) → 512 ≤ length host → All HasNames (segments order host libs)
 unfolding segments
@@ -184,7 +191,7 @@ eight host ss long all slot lt = by (find (λ (x : Segment). x.slot == slot) ss)
     by None e = name_long host slot long lt
     by (Some s) e = (find_has HasNames (λ (x : Segment). x.slot == slot) ss s e all).1.own
 
--- names of eight bytes each, one behind another, have eight times as many bytes as there are names
+-- names of eight bytes each, one after another, have eight times as many bytes as there are names
 run : (f : ℕ → List ℕ) → (xs : List ℕ) → ((x : ℕ) → x < 16 → length (f x) ≡ 8) → All (λ (x : ℕ). x < 16) xs → length (flat_map (λ name. name) (map f xs)) ≡ 8 * length xs
 run f [] h all = refl
 run f (x ∷ xs) h all =

@@ -1,18 +1,17 @@
 -- The host's own segment among the segments of a link.
-use Rattle.std.proofs.Common.{◌≡◌, ◌≤◌, List, [], ◌∷◌, length, Bool, true, false, cond, Option, Some, None, refl, sym, ◌∙◌, subst}
+use Rattle.std.proofs.Common.{◌≡◌, List, [], ◌∷◌, Bool, true, false, cond, Option, Some, refl, sym, ◌∙◌, subst}
 use Rattle.std.specs.Prelude.{All, find}
 use Rattle.std.proofs.lemmas.List.Elements.{All-head, All-tail}
 use Rattle.ps_words.specs.declared.order.Order.{Order}
-use Rattle.ps_codefile.specs.Procedures.{tables_fault}
 use Rattle.ps_resolve.specs.Views.{IsSound}
 use Rattle.ps_codefile.specs.declared.entry.Role.{Role}
 use Rattle.ps_codefile.specs.declared.entry.Role.TheVariants.{Empty, Wanted, Plain, Host, Unit}
-use Rattle.ps_codefile.specs.Roles.{is_linked, is_host}
+use Rattle.ps_codefile.specs.Roles.{needs_linking, is_host}
 use Rattle.ps_resolve.specs.Sources.{Segment, host_of}
 use Rattle.ps_resolve.specs.Linkable.{HasOneHost}
 
 -- where a segment has the role of the host, its references are resolved
-host_linked : (r : Role) → is_host r ≡ true → is_linked r ≡ true
+host_linked : (r : Role) → is_host r ≡ true → needs_linking r ≡ true
 host_linked Empty h = cc
 host_linked Wanted h = refl
 host_linked Plain h = cc
@@ -32,17 +31,8 @@ some_is : (a b : Segment) → ◌≡◌ {A = Option Segment} (Some a) (Some b) �
 some_is a b h = cc
 
 module _ (order : Order) (segs : List Segment) (h : Segment) (is : host_of segs ≡ Some h) (role : is_host h.role ≡ true) (sound : All (IsSound order) segs) where
-  host_sound : IsSound order h
+  pub host_sound : IsSound order h
   host_sound = found_holds (IsSound order) (λ s. is_host s.role) segs h sound is
-
-  pub host_small : length h.code ≤ 32767
-  host_small = host_sound.small
-
-  pub host_large : 4 ≤ length h.code
-  host_large = host_sound.large (host_linked h.role role)
-
-  pub host_tables : tables_fault order h.code true ≡ None
-  host_tables = subst (λ (b : Bool). tables_fault order h.code b ≡ None) role (host_sound.tables (host_linked h.role role))
 
 -- what holds of the host's own segment holds of each that is a host's
 pub of_hosts : (segs : List Segment) (h : Segment) → host_of segs ≡ Some h → HasOneHost segs → (P : Segment → Type 0) → P h → All (λ s. is_host s.role ≡ true → P s) segs

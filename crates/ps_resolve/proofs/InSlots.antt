@@ -1,27 +1,25 @@
 -- The segments of a link, put together slot by slot from the host's own and those that were added.
-use Rattle.std.proofs.Common.{◌≡◌, ◌≢◌, ℕ, zero, suc, ◌+◌, ◌<◌, ◌≤◌, List, ◌∷◌, Bool, true, false, if◌then◌else◌, Option, Some, None, map, refl, sym, ◌∙◌, ap, subst, inl, inr, arith}
-use Rattle.std.specs.Prelude.{◌⊎◌, All}
-use Rattle.std.proofs.lemmas.Option.{same_Some}
+use Rattle.std.proofs.Common.{◌≡◌, ◌≢◌, ℕ, zero, suc, ◌+◌, ◌<◌, ◌≤◌, List, ◌∷◌, true, false, if◌then◌else◌, Option, Some, None, refl, ◌∙◌, ap, inl, inr, arith}
+use Rattle.std.specs.Prelude.{◌⊎◌}
 use Rattle.std.specs.List.{range_with_len, filter_map, find}
-use Rattle.std.specs.Option.{option_or, option_map, IfSome}
+use Rattle.std.specs.Option.{option_or}
 use Rattle.std.proofs.lemmas.Bool.{cases_lt, ne_eqb, eq-eqb}
 use Rattle.ps_words.specs.declared.order.Order.{Order}
 use Rattle.ps_codefile.specs.Roles.{is_empty}
 use Rattle.ps_resolve.specs.Sources.{Segment, own_segment, own_segments}
-use Rattle.ps_resolve.specs.Added.{added, segments, segment_at}
-use Rattle.ps_resolve.specs.Views.{segment_of, IsSound, is_in_slot, segment_in_slot, segments_in_slots}
+use Rattle.ps_resolve.specs.Added.{added_segments, segments, segment_at}
+use Rattle.ps_resolve.specs.Views.{is_in_slot, segment_in_slot, segments_in_slots}
 use Rattle.ps_resolve.specs.Faults.{is_role}
-use Rattle.ps_resolve.specs.declared.reading.segment.Segment.{Segment as SegmentView}
-use Rattle.ps_resolve.proofs.ReadingKnown.{own_parts, find_has}
+use Rattle.ps_resolve.proofs.ReadingKnown.{own_parts}
 
--- each number's segment stands in its slot
+-- each number's segment is in its slot
 abbrev InPlace : (ℕ → Option Segment) → Type 0
 InPlace f = (i : ℕ) (s : Segment) → f i ≡ Some s → s.slot ≡ i
 
 other_slot : (j : ℕ) (s : Segment) → s.slot ≢ j → is_in_slot j s ≡ false
 other_slot j s differs = ne_eqb s.slot j differs
 
--- of the segments of the numbers from a on none stands in a slot below a
+-- of the segments of the numbers from a on none applies in a slot below a
 none_before : (f : ℕ → Option Segment) → InPlace f → (j n a : ℕ) → j < a → find (is_in_slot j) (filter_map f (range_with_len a n)) ≡ None
 none_before f place j zero a lt = refl
 none_before f place j (suc n) a lt = by (f a) refl (none_before f place j n (a + 1) (omega arith))
@@ -47,7 +45,8 @@ found_there f place j (suc n) a le lt = by (λ h. found_there f place j n (a + 1
     by rest (inl h) = later (rest h) h (f a) refl
     by rest (inr h) = let same : a ≡ j = omega arith in here (f a) refl same ∙ ap f same
 
--- f and g keep the same segments of a row of numbers, where they give the same of each number below its end
+-- f and g keep the same segments of a row of numbers, where they give the same of each number below
+-- its end
 same_kept : (f g : ℕ → Option Segment) (n a : ℕ) → ((i : ℕ) → i < a + n → f i ≡ g i) → filter_map f (range_with_len a n) ≡ filter_map g (range_with_len a n)
 same_kept f g zero a same = refl
 same_kept f g (suc n) a same = by (g a) refl (same_kept f g n (a + 1) (λ i h. same i (omega arith)))
@@ -57,20 +56,9 @@ same_kept f g (suc n) a same = by (g a) refl (same_kept f g n (a + 1) (λ i h. s
     by (Some s) e rest = rw (same a (omega arith), e) (ap (λ (xs : List Segment). s ∷ xs) rest)
 
 -- the own segments and the added ones, slot by slot, are those of the link
-pub in_slots_are : (order : Order) (host : List ℕ) (libs : List (List ℕ)) → segments_in_slots order host (own_segments order host libs) (added order host libs) ≡ segments order host libs
+pub in_slots_are : (order : Order) (host : List ℕ) (libs : List (List ℕ)) → segments_in_slots order host (own_segments order host libs) (added_segments order host libs) ≡ segments order host libs
 unfolding segments_in_slots segments own_segments
 in_slots_are order host libs =
-    same_kept (segment_in_slot order host (own_segments order host libs) (added order host libs)) (segment_at order host libs) 16 0
-    (λ i h. ap (λ (o : Option Segment). option_or o (if is_role is_empty order host i then find (is_in_slot i) (added order host libs) else None))
+    same_kept (segment_in_slot order host (own_segments order host libs) (added_segments order host libs)) (segment_at order host libs) 16 0
+    (λ i h. ap (λ (o : Option Segment). option_or o (if is_role is_empty order host i then find (is_in_slot i) (added_segments order host libs) else None))
     (found_there (own_segment order host libs) (λ j s e. (own_parts order host libs j s e).0) i 16 0 (omega arith) h))
-
--- what stands in a slot is sound, where all segments are
-pub sound_in_slot : (order : Order) (host : List ℕ) (own added : List SegmentView) (slot : ℕ) (o : Option SegmentView) → option_map segment_of o ≡ segment_in_slot order host (map segment_of own) (map segment_of added) slot
-    → All (IsSound order) (map segment_of own) → All (IsSound order) (map segment_of added) → IfSome o (λ s. IsSound order (segment_of s))
-sound_in_slot order host own added slot None e all rest = tt
-sound_in_slot order host own added slot (Some s) e all rest = by (find (is_in_slot slot) (map segment_of own)) refl (is_role is_empty order host slot) refl
-  where
-    by : (p : Option Segment) → find (is_in_slot slot) (map segment_of own) ≡ p → (b : Bool) → is_role is_empty order host slot ≡ b → IsSound order (segment_of s)
-    by (Some t) f b g = let same : segment_of s ≡ t = same_Some _ _ (e ∙ rw f refl) in subst (IsSound order) (sym same) (find_has (IsSound order) (is_in_slot slot) (map segment_of own) t f all).1
-    by None f true g = let found = sym (e ∙ rw (f, g) refl) in (find_has (IsSound order) (is_in_slot slot) (map segment_of added) (segment_of s) found rest).1
-    by None f false g = let none : Some (segment_of s) ≡ None = e ∙ rw (f, g) refl in cc

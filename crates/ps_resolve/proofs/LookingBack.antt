@@ -1,4 +1,5 @@
--- The searches of a segment's records that carry what came before are those that look back over the records. What is said of whole links, in ps_laws, stands on them too.
+-- The searches of a segment's records that carry what came before are those that look back over the
+-- records. What is said of whole links, in ps_laws, is on them too.
 use Rattle.std.proofs.Common.{◌≡◌, ℕ, zero, suc, ◌+◌, ◌<◌, List, [], ◌∷◌, ◌++◌, length, take, map, Option, Some, None, Bool, true, false, refl, sym, ap, subst, ◌∙◌, inl, inr, arith, append_assoc, append-nil, is_some}
 use Rattle.std.specs.Prelude.{◌⊎◌, if◌then◌else◌, ◌&&◌, ◌||◌, nat_lt}
 use Rattle.std.specs.Bool.{Decides}
@@ -17,11 +18,11 @@ use Rattle.ps_words.specs.declared.fault.Fault.{Fault}
 use Rattle.ps_words.specs.declared.fault.Reason.{Reason}
 use Rattle.ps_words.specs.declared.fault.Reason.TheVariants as reason
 use Rattle.ps_resolve.specs.Searches.{first_of, fault_if}
-use Rattle.ps_resolve.specs.Symbols.{def_in, definition_in, definitions, definition_of, doubled_from}
+use Rattle.ps_resolve.specs.Symbols.{def_in, definition_in, definitions, definition_of, first_duplicate_from}
 use Rattle.ps_resolve.specs.Privates.{words_in, private_words, private_fault}
 use Rattle.ps_resolve.specs.Standing.Phrases.{SomeBelow}
 use Rattle.ps_resolve.specs.Standing.Definitions.{HasEarlierNamesake}
-use Rattle.ps_linkinfo.specs.Counts.{is_definition, is_private_reference}
+use Rattle.ps_linkinfo.specs.RecordCounts.{is_definition, is_private_reference}
 use Rattle.ps_resolve.specs.References.{words_taken}
 use Rattle.ps_resolve.specs.declared.definitions.Def.{Def}
 
@@ -100,7 +101,7 @@ more_definitions (q ∷ prefix) r = go (definition_in q) (more_definitions prefi
 
 -- the search that carries the definitions so far is the one that looks back
 pub definitions_carried : (h : ℕ → Fault) (prefix rs : List Record) (rec : ℕ) → rec ≡ length prefix
-    → option_map h (doubled_from rec (definitions prefix) rs) ≡ first_of (λ (r : ℕ × Record). fault_if (is_again is_definition (prefix ++ rs) r) (h r.0)) (enumerate_from rec rs)
+    → option_map h (first_duplicate_from rec (definitions prefix) rs) ≡ first_of (λ (r : ℕ × Record). fault_if (is_again is_definition (prefix ++ rs) r) (h r.0)) (enumerate_from rec rs)
 definitions_carried h prefix [] rec e = refl
 definitions_carried h prefix (r ∷ rs) rec e = go (def_in r.body) refl (definitions_carried h (prefix ++ r ∷ []) rs (rec + 1) (let l = longer prefix r in omega (arith, l, e)))
   where
@@ -114,34 +115,34 @@ definitions_carried h prefix (r ∷ rs) rec e = go (def_in r.body) refl (definit
     prefix_is = ap (λ (n : ℕ). take n all) e ∙ take_prefix prefix (r ∷ rs)
 
     go : (o : Option Def) → def_in r.body ≡ o
-        → option_map h (doubled_from (rec + 1) (definitions (prefix ++ r ∷ [])) rs) ≡ later ((prefix ++ r ∷ []) ++ rs)
-        → option_map h (doubled_from rec (definitions prefix) (r ∷ rs)) ≡ option_or (fault_if (is_again is_definition all (rec, r)) (h rec)) (later all)
+        → option_map h (first_duplicate_from (rec + 1) (definitions (prefix ++ r ∷ [])) rs) ≡ later ((prefix ++ r ∷ []) ++ rs)
+        → option_map h (first_duplicate_from rec (definitions prefix) (r ∷ rs)) ≡ option_or (fault_if (is_again is_definition all (rec, r)) (h rec)) (later all)
     go None d more =
         let same : definitions (prefix ++ r ∷ []) ≡ definitions prefix = more_definitions prefix r ∙ rw (d, cons_option) (append-nil (definitions prefix)) in
-        let step : option_map h (doubled_from (rec + 1) (definitions prefix) rs) ≡ later all = rw (← same) (more ∙ ap later (append_assoc prefix (r ∷ []) rs)) in
+        let step : option_map h (first_duplicate_from (rec + 1) (definitions prefix) rs) ≡ later all = rw (← same) (more ∙ ap later (append_assoc prefix (r ∷ []) rs)) in
         let none : is_definition r.body ≡ false = defines_is r.body ∙ ap is_some d in
-        rw (d, doubled_from, is_again) (rw none step)
+        rw (d, first_duplicate_from, is_again) (rw none step)
     go (Some d) defines more = at (is_some (definition_of r.name (definitions prefix))) refl
       where
         same : definitions (prefix ++ r ∷ []) ≡ definitions prefix ++ (r.name, d) ∷ []
         same = more_definitions prefix r ∙ rw (defines, cons_option) refl
 
-        step : option_map h (doubled_from (rec + 1) (definitions prefix ++ (r.name, d) ∷ []) rs) ≡ later all
+        step : option_map h (first_duplicate_from (rec + 1) (definitions prefix ++ (r.name, d) ∷ []) rs) ≡ later all
         step = rw (← same) (more ∙ ap later (append_assoc prefix (r ∷ []) rs))
 
         one : is_definition r.body ≡ true
         one = defines_is r.body ∙ ap is_some defines
 
         at : (b : Bool) → is_some (definition_of r.name (definitions prefix)) ≡ b
-            → option_map h (doubled_from rec (definitions prefix) (r ∷ rs)) ≡ option_or (fault_if (is_again is_definition all (rec, r)) (h rec)) (later all)
+            → option_map h (first_duplicate_from rec (definitions prefix) (r ∷ rs)) ≡ option_or (fault_if (is_again is_definition all (rec, r)) (h rec)) (later all)
         at true known_is =
             let found : list_any (defined r.name) prefix ≡ true = sym (known r.name prefix) ∙ known_is in
-            rw (defines, doubled_from, is_again) (rw (known_is, one, prefix_is, found) refl)
+            rw (defines, first_duplicate_from, is_again) (rw (known_is, one, prefix_is, found) refl)
         at false known_is =
             let found : list_any (defined r.name) prefix ≡ false = sym (known r.name prefix) ∙ known_is in
-            rw (defines, doubled_from, is_again) (rw (known_is, one, prefix_is, found) step)
+            rw (defines, first_duplicate_from, is_again) (rw (known_is, one, prefix_is, found) step)
 
--- a record asks for a private where that takes words
+-- a record requests a private where that takes words
 pub asks_is : (b : Body) → is_private_reference b ≡ is_some (words_in b)
 asks_is (UnitRef refs) = refl
 asks_is (PublRef refs) = refl
@@ -177,7 +178,7 @@ more_names test prefix r =
     ap (λ (qs : List Record). map (λ (q : Record). q.name) qs) (filter-append (λ (q : Record). test q.body) prefix (r ∷ []))
     ∙ map-append (λ (q : Record). q.name) (filter (λ (q : Record). test q.body) prefix) (filter (λ (q : Record). test q.body) (r ∷ []))
 
--- one record more adds the words of its private, if it asks for one
+-- one record more adds the words of its private, if it requests one
 pub more_words : (prefix : List Record) (r : Record) → private_words (prefix ++ r ∷ []) ≡ private_words prefix + words_taken r.body
 more_words [] r = go (words_in r.body) refl
   where

@@ -1,4 +1,4 @@
--- Where no fault stands no place is covered twice, and no reserved place at all.
+-- Where no fault applies no place is covered twice, and no reserved place at all.
 use Rattle.std.proofs.Common.{◌≡◌, ℕ, ◌+◌, ◌≤◌, ◌++◌, ◌||◌, ◌==◌, eqb-true, List, [], ◌∷◌, length, map, Bool, true, false, cond, Option, Some, None, Result, Ok, Err, refl, sym, ◌∙◌, ap, subst, arith, append_assoc, append-nil}
 use Rattle.std.specs.Prelude.{count_by}
 use Rattle.std.specs.List.{list_any, range_with_len}
@@ -65,7 +65,7 @@ reasons_none false false true d r s t u h = cc
 reasons_none false false false true r s t u h = cc
 reasons_none false false false false r s t u h = (refl, refl, refl, refl)
 
--- a reference that stands keeps it so
+-- a reference without a fault keeps it so
 once_more : (R : ℕ → Bool) (code : List ℕ) (t : Target) (x : ℕ) (os : List (ℕ × ℕ)) → reference_reason R code os t x ≡ None → IsOnce R os → IsOnce R (os ++ (x, width_of t) ∷ [])
 once_more R code t x os h o = record {
   once = λ p. one p (is_in p (x, width_of t)) refl (o.once p);
@@ -109,7 +109,8 @@ abbrev pub all_operands : Known → ℕ → List Record → List (ℕ × ℕ)
 all_operands known off [] = []
 all_operands known off (r ∷ rs) = (elim (target_of known off r) [ Err why ↦ [] | Ok t ↦ operands t (refs_of r.body) ]) ++ all_operands known (off + words_taken r.body) rs
 
--- where no record has a fault, their operands, behind those before, cover no place twice and none that passes R
+-- where no record has a fault, their operands, after those before, cover no place twice and none
+-- that passes R
 pub records_once : (known : Known) (R : ℕ → Bool) (code : List ℕ) (rs : List Record) (rec off : ℕ) (os : List (ℕ × ℕ)) → records_fault known R code rec off os rs ≡ None → IsOnce R os → IsOnce R (os ++ all_operands known off rs)
 records_once known R code [] rec off os h o = rw append-nil o
 records_once known R code (r ∷ rs) rec off os h o = at (target_of known off r) refl (λ qs e g. records_once known R code rs (rec + 1) (off + words_taken r.body) qs e g)

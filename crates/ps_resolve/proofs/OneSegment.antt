@@ -1,24 +1,25 @@
 -- The edits of one segment link it.
 use Rattle.std.proofs.Common.{◌≡◌, ℕ, ◌+◌, ◌-◌, ◌++◌, List, [], ◌∷◌, length, Bool, true, false, Option, Some, None, Result, Ok, Err, refl, sym, ◌∙◌, ap, subst, arith}
-use Rattle.std.specs.Prelude.{IfOk, IsPermutation, if◌then◌else◌}
+use Rattle.std.specs.Prelude.{IsPermutation, if◌then◌else◌}
 use Rattle.std.specs.Option.{option_map, option_to_list}
 use Rattle.std.proofs.lemmas.List.Sorted.{IsPermutation-refl, IsPermutation-sym}
 use Rattle.std.proofs.lemmas.List.Elements.{All-nil}
-use Rattle.ps_words.specs.Edits.{AreApart, AreEdits, IsInside, patched}
+use Rattle.ps_words.specs.Edits.{AreApart, AreEdits, IsInside, patched_byte}
 use Rattle.ps_words.specs.declared.order.Order.{Order}
 use Rattle.ps_words.specs.declared.edit.Edit.{Edit}
 use Rattle.ps_words.specs.declared.edit.Edit.TheVariants.{Byte}
 use Rattle.ps_words.specs.declared.fault.Reason.{Reason}
 use Rattle.ps_codefile.specs.Procedures.{is_reserved, ProcedureTables, unless}
-use Rattle.ps_resolve.specs.Privates.{private_words}
-use Rattle.ps_resolve.specs.Views.{segment_of}
+use Rattle.ps_codefile.specs.Roles.{needs_linking, is_host}
 use Rattle.ps_linkinfo.specs.declared.record.LinkRecord.{LinkRecord as Record}
-use Rattle.ps_codefile.specs.Roles.{is_linked, is_host}
-use Rattle.ps_resolve.specs.Sources.{Segment}
-use Rattle.ps_resolve.specs.References.{Known, records_edits, records_fault}
-use Rattle.ps_resolve.specs.Linking.{data_edits, segment_edits}
+use Rattle.ps_resolve.specs.Edits.{data_size_edit}
 use Rattle.ps_resolve.specs.Faults.{in_segment, segment_fault}
+use Rattle.ps_resolve.specs.Sources.{Segment}
+use Rattle.ps_resolve.specs.Linking.{data_edits, segment_edits}
 use Rattle.ps_resolve.specs.Plans.{LinksSegment}
+use Rattle.ps_resolve.specs.Privates.{private_words}
+use Rattle.ps_resolve.specs.References.{Known, records_edits, records_fault}
+use Rattle.ps_resolve.specs.Views.{segment_of}
 use Rattle.ps_resolve.specs.declared.reading.segment.Segment.{Segment as SegmentView}
 
 pub unless_ok : (o : Option Reason) (x y : ProcedureTables) → ◌≡◌ {A = Result ProcedureTables Reason} (Ok y) (unless o x) → y ≡ x
@@ -28,10 +29,6 @@ unless_ok (Some why) x y h = cc
 pub unless_err : (o : Option Reason) (x : ProcedureTables) (why : Reason) → ◌≡◌ {A = Result ProcedureTables Reason} (Err why) (unless o x) → o ≡ None → ⊥
 unless_err None x why h k = cc
 unless_err (Some e) x why h k = cc
-
-pub if_both : {X Y : Type 0} (r : Result X Y) (P Q R : X → Type 0) → ((x : X) → P x → Q x → R x) → IfOk r P → IfOk r Q → IfOk r R
-if_both (Ok x) P Q R h p q = h x p q
-if_both (Err y) P Q R h p q = tt
 
 if_true : {X : Type 0} (b : Bool) (x y : X) → b ≡ true → (if b then x else y) ≡ x
 if_true true x y h = refl
@@ -45,11 +42,15 @@ none_links : (order : Order) (s : Segment) (es : List Edit) → es ≡ [] → Li
 none_links order s es e = subst (λ (fs : List Edit). LinksSegment order (record { segment = s; edits = fs }) []) (sym e)
     (record { ready = record { inside = All-nil (IsInside (length s.code)); apart = tt }; each = IsPermutation-refl []; bytes = λ p lt. refl })
 
+-- the number of a segment that is linked, its own edit, and the edits of its references
+abbrev pub all_of : Known → SegmentView → Option Edit → ℕ → List Edit
+all_of known v own free = Byte v.slot (length v.code.now - 2) ∷ (option_to_list own ++ records_edits known v.code.now free v.records)
+
 module _ (order : Order) (known : Known) (v : SegmentView) (free : ℕ) where
   -- a segment that is linked already
-  module _ (h : is_linked v.role ≡ false) (none : v.records ≡ []) where
+  module _ (h : needs_linking v.role ≡ false) (none : v.records ≡ []) where
     pub plain_links : (words : ℕ) → LinksSegment order (record { segment = segment_of v; edits = segment_edits order known words free (segment_of v) }) []
-    plain_links words = none_links order (segment_of v) (segment_edits order known words free (segment_of v)) (if_false (is_linked v.role) _ [] h)
+    plain_links words = none_links order (segment_of v) (segment_edits order known words free (segment_of v)) (if_false (needs_linking v.role) _ [] h)
 
     pub plain_end : free ≡ free + private_words v.records
     plain_end = let e = ap private_words none in omega (arith, e)
@@ -58,21 +59,23 @@ module _ (order : Order) (known : Known) (v : SegmentView) (free : ℕ) where
     plain_fault = ap (λ (rs : List Record). option_map (in_segment v.file v.slot) (records_fault known (is_reserved order v.code.now) v.code.now 0 free [] rs)) none
 
   -- one whose references are resolved
-  module _ (h : is_linked v.role ≡ true) (own : Option Edit) where
-    listed : (words : ℕ) → option_to_list own ≡ (if is_host v.role then data_edits order words v.code.now else [])
-        → segment_edits order known words free (segment_of v) ≡ Byte (length v.code.now - 2) v.slot ∷ (option_to_list own ++ records_edits known v.code.now free v.records)
-    listed words e = if_true (is_linked v.role) _ [] h ∙ ap (λ (es : List Edit). Byte (length v.code.now - 2) v.slot ∷ (es ++ records_edits known v.code.now free v.records)) (sym e)
+  module _ (h : needs_linking v.role ≡ true) (size : Edit) where
+    own_is : (b : Bool) (es : List Edit) → (b ≡ true → es ≡ size ∷ []) → option_to_list (data_size_edit b size) ≡ (if b then es else [])
+    own_is true es e = sym (e refl)
+    own_is false es e = refl
 
-    pub linked_links : (sorted : List Edit) → IsPermutation (Byte (length v.code.now - 2) v.slot ∷ (option_to_list own ++ records_edits known v.code.now free v.records)) sorted
-        → AreEdits (length v.code.now) sorted
-        → ((edits listed : List Edit) (p : ℕ) → AreApart 0 edits → IsPermutation edits listed → patched order v.code.now edits p ≡ patched order v.code.now listed p)
-        → (words : ℕ) → option_to_list own ≡ (if is_host v.role then data_edits order words v.code.now else [])
+    listed : (words : ℕ) → (is_host v.role ≡ true → data_edits order words v.code.now ≡ size ∷ []) → segment_edits order known words free (segment_of v) ≡ all_of known v (data_size_edit (is_host v.role) size) free
+    listed words e = if_true (needs_linking v.role) _ [] h ∙ ap (λ (es : List Edit). Byte v.slot (length v.code.now - 2) ∷ (es ++ records_edits known v.code.now free v.records)) (sym (own_is (is_host v.role) (data_edits order words v.code.now) e))
+
+    pub linked_links : (sorted : List Edit) → IsPermutation (all_of known v (data_size_edit (is_host v.role) size) free) sorted → AreEdits (length v.code.now) sorted
+        → ((edits listed : List Edit) (p : ℕ) → AreApart 0 edits → IsPermutation edits listed → patched_byte order v.code.now edits p ≡ patched_byte order v.code.now listed p)
+        → (words : ℕ) → (is_host v.role ≡ true → data_edits order words v.code.now ≡ size ∷ [])
         → LinksSegment order (record { segment = segment_of v; edits = segment_edits order known words free (segment_of v) }) sorted
     linked_links sorted same ready alike words e =
-        let all : List Edit = Byte (length v.code.now - 2) v.slot ∷ (option_to_list own ++ records_edits known v.code.now free v.records) in
+        let all : List Edit = all_of known v (data_size_edit (is_host v.role) size) free in
         let is = listed words e in
         record {
           ready = ready;
           each = subst (λ (es : List Edit). IsPermutation es sorted) (sym is) same;
-          bytes = λ p lt. alike sorted all p ready.apart (IsPermutation-sym all sorted same) ∙ ap (λ (es : List Edit). patched order v.code.now es p) (sym is);
+          bytes = λ p lt. alike sorted all p ready.apart (IsPermutation-sym all sorted same) ∙ ap (λ (es : List Edit). patched_byte order v.code.now es p) (sym is);
         }

@@ -1,4 +1,5 @@
--- The edits of a segment that are no reference's: they cover reserved places, each once, and so stand beside those of the references.
+-- The edits of a segment that are no reference's: they cover reserved places, each once, and so are
+-- beside those of the references.
 use Rattle.std.proofs.Common.{◌≡◌, ℕ, zero, suc, ◌+◌, ◌-◌, ◌*◌, ◌<◌, ◌≤◌, ◌++◌, ◌&&◌, ◌||◌, List, [], ◌∷◌, length, Bool, true, false, cond, Option, Some, None, refl, ◌∙◌, ap, subst, arith}
 use Rattle.std.specs.Prelude.{count_by, All, IfSome, nat_le, nat_lt}
 use Rattle.std.specs.Option.{option_to_list}
@@ -10,7 +11,7 @@ use Rattle.ps_words.specs.declared.order.Order.{Order}
 use Rattle.ps_words.specs.declared.edit.Edit.{Edit}
 use Rattle.ps_words.specs.declared.edit.Edit.TheVariants.{Byte}
 use Rattle.ps_codefile.specs.Procedures.{is_reserved, procedures}
-use Rattle.ps_resolve.specs.Edits.{IsOfTable}
+use Rattle.ps_resolve.specs.Edits.{IsOfTable, data_size_edit}
 use Rattle.ps_linkinfo.specs.declared.record.LinkRecord.{LinkRecord as Record}
 use Rattle.ps_resolve.specs.Operands.{is_in}
 use Rattle.ps_resolve.specs.References.{Known, records_edits, records_fault}
@@ -39,12 +40,13 @@ record AreOwn (R : ℕ → Bool) (own : List Edit) : Type 0 where
   once : (p : ℕ) → count_by (covers p) own ≤ 1
   reserved : (p : ℕ) → 0 < count_by (covers p) own → R p ≡ true
 
--- the number of the segment, and an edit of its tables if there is one, cover only reserved places, each once
-own_of : (order : Order) (code : List ℕ) (slot : ℕ) (table : Option Edit) → 4 ≤ length code → IfSome table (IsOfTable order code) → AreOwn (is_reserved order code) (Byte (length code - 2) slot ∷ option_to_list table)
+-- the number of the segment, and an edit of its tables if there is one, cover only reserved places,
+-- each once
+own_of : (order : Order) (code : List ℕ) (slot : ℕ) (table : Option Edit) → 4 ≤ length code → IfSome table (IsOfTable order code) → AreOwn (is_reserved order code) (Byte slot (length code - 2) ∷ option_to_list table)
 own_of order code slot None h d = record { once = λ p. once p (covers p number) refl; reserved = λ p lt. reserved p (covers p number) refl lt }
   where
     number : Edit
-    number = Byte (length code - 2) slot
+    number = Byte slot (length code - 2)
 
     count : (p : ℕ) → count_by (covers p) (number ∷ []) ≡ cond (covers p number) 1 0 + 0
     count p = one_more (covers p) number []
@@ -59,7 +61,7 @@ own_of order code slot None h d = record { once = λ p. once p (covers p number)
 own_of order code slot (Some e) h d = record { once = λ p. once p (covers p number) refl (covers p e) refl; reserved = λ p lt. reserved p (covers p number) refl (covers p e) refl lt }
   where
     number : Edit
-    number = Byte (length code - 2) slot
+    number = Byte slot (length code - 2)
 
     count : (p : ℕ) → count_by (covers p) (number ∷ e ∷ []) ≡ cond (covers p number) 1 0 + (cond (covers p e) 1 0 + 0)
     count p = one_more (covers p) number (e ∷ []) ∙ ap (λ (n : ℕ). cond (covers p number) 1 0 + n) (one_more (covers p) e [])
@@ -84,7 +86,8 @@ own_of order code slot (Some e) h d = record { once = λ p. once p (covers p num
     reserved p false k true l lt = d.reserved p l
     reserved p false k false l lt = let s = bit (covers p number) false k in let t = bit (covers p e) false l in absurd (omega (arith, count p))
 
--- own edits, and those of references that cover no place twice and no reserved one, together cover none twice
+-- own edits, and those of references that cover no place twice and no reserved one, together cover
+-- none twice
 beside : (R : ℕ → Bool) (known : Known) (code : List ℕ) (rs : List Record) (off : ℕ) (own : List Edit) → AreOwn R own → IsOnce R (all_operands known off rs)
     → (p : ℕ) → count_by (covers p) (own ++ records_edits known code off rs) ≤ 1
 beside R known code rs off own a o p = at (count_by (covers p) own) refl
@@ -99,8 +102,8 @@ beside R known code rs off own a o p = at (count_by (covers p) own) refl
 module _ (order : Order) (known : Known) (code : List ℕ) (rs : List Record) (off slot : ℕ) (table : Option Edit) (h : 4 ≤ length code) (d : IfSome table (IsOfTable order code))
     (none : records_fault known (is_reserved order code) code 0 off [] rs ≡ None) where
   -- no place is covered twice
-  pub edits_once : (p : ℕ) → count_by (covers p) (Byte (length code - 2) slot ∷ (option_to_list table ++ records_edits known code off rs)) ≤ 1
-  edits_once p = beside (is_reserved order code) known code rs off (Byte (length code - 2) slot ∷ option_to_list table) (own_of order code slot table h d)
+  pub edits_once : (p : ℕ) → count_by (covers p) (Byte slot (length code - 2) ∷ (option_to_list table ++ records_edits known code off rs)) ≤ 1
+  edits_once p = beside (is_reserved order code) known code rs off (Byte slot (length code - 2) ∷ option_to_list table) (own_of order code slot table h d)
       (records_once known (is_reserved order code) code rs 0 off [] none (none_once (is_reserved order code))) p
 
   table_inside : (o : Option Edit) → IfSome o (IsOfTable order code) → All (IsInside (length code)) (option_to_list o)
@@ -108,6 +111,11 @@ module _ (order : Order) (known : Known) (code : List ℕ) (rs : List Record) (o
   table_inside (Some e) t = All-cons (IsInside (length code)) e [] (record { storable = t.storable; within = omega (arith, t.before) }) (All-nil (IsInside (length code)))
 
   -- all of them lie in the code
-  pub edits_inside : All (IsInside (length code)) (Byte (length code - 2) slot ∷ (option_to_list table ++ records_edits known code off rs))
-  edits_inside = All-cons (IsInside (length code)) (Byte (length code - 2) slot) (option_to_list table ++ records_edits known code off rs) (record { storable = tt; within = omega arith })
+  pub edits_inside : All (IsInside (length code)) (Byte slot (length code - 2) ∷ (option_to_list table ++ records_edits known code off rs))
+  edits_inside = All-cons (IsInside (length code)) (Byte slot (length code - 2)) (option_to_list table ++ records_edits known code off rs) (record { storable = tt; within = omega arith })
       (All-append (IsInside (length code)) (option_to_list table) (records_edits known code off rs) (table_inside table d) (records_inside known (is_reserved order code) code rs 0 off [] none))
+
+-- the edit of the data size suits the host's segment
+pub own_of_table : (order : Order) (code : List ℕ) (b : Bool) (size : Edit) → (b ≡ true → IsOfTable order code size) → IfSome (data_size_edit b size) (IsOfTable order code)
+own_of_table order code true size h = h refl
+own_of_table order code false size h = tt

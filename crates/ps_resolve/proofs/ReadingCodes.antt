@@ -1,4 +1,4 @@
--- How long a code is that stands whole in its file, and which kinds have one of a linked segment.
+-- How long a code is that is whole in its file, and which kinds have one of a linked segment.
 use Rattle.std.proofs.Common.{◌≡◌, ◌==◌, ◌&&◌, ◌||◌, ◌+◌, ◌*◌, ◌%◌, ◌≤◌, ◌-◌, ℕ, List, drop, length, Bool, true, false, if◌then◌else◌, Ok, Err, refl, sym, ◌∙◌, ap, arith}
 use Rattle.std.proofs.Math.Dec.{ltb}
 use Rattle.std.specs.List.{slice_range}
@@ -6,7 +6,7 @@ use Rattle.std.proofs.lemmas.List.{length-take, length-drop}
 use Rattle.std.proofs.lemmas.Bool.Decides.{nat_tests}
 use Rattle.ps_words.specs.declared.fault.Reason.TheVariants as reason
 use Rattle.ps_codefile.specs.declared.entry.Entry.{Entry}
-use Rattle.ps_codefile.specs.Dictionary.{code_of, has_bad_length, is_linked_kind}
+use Rattle.ps_codefile.specs.Dictionary.{code_of, has_bad_length, kind_needs_linking}
 
 -- a code that is given has no bad length, is not cut short, and is the slice of its file
 whole_code : (bad zero short : Bool) (x code : List ℕ) → (if bad then Err reason.BadLength else (if zero then Err reason.BadAddress else (if short then Err reason.Truncated else Ok x))) ≡ Ok code → (bad ≡ false) × (short ≡ false) × (x ≡ code)
@@ -38,7 +38,7 @@ large_code n false false h = grind (arith, nat_tests)
 pub record IsWhole (e : Entry) (code : List ℕ) : Type 0 where
   pub len : length code ≡ e.length
   pub small : e.length ≤ 32767
-  pub large : is_linked_kind e.kind ≡ true → 4 ≤ e.length
+  pub large : kind_needs_linking e.kind ≡ true → 4 ≤ e.length
 
 -- a code with which nothing is wrong has the length of its entry, which is within its limits
 pub whole : (file : List ℕ) (e : Entry) (code : List ℕ) → code_of file e ≡ Ok code → IsWhole e code

@@ -1,4 +1,5 @@
--- What is known of the segments of a link once the files were read without a fault: they rise by slot, and one of them is the host's own.
+-- What is known of the segments of a link once the files were read without a fault: they rise by
+-- slot, and one of them is the host's own.
 use Rattle.std.proofs.Common.{◌≡◌, ℕ, zero, suc, ◌+◌, ◌≤◌, List, [], ◌∷◌, map, Bool, true, false, ◌||◌, ◌&&◌, not, Option, Some, None, is_some, Result, Ok, Err, refl, sym, ◌∙◌, ap, subst, ◌==◌, arith, add-zero}
 use Rattle.std.specs.List.{range_with_len, filter_map, find, list_any, slice_get}
 use Rattle.std.specs.Prelude.{All}
@@ -16,9 +17,9 @@ use Rattle.ps_codefile.specs.declared.entry.Role.TheVariants as role
 use Rattle.ps_codefile.specs.declared.entry.Entry.{Entry}
 use Rattle.ps_codefile.specs.Dictionary.{entry_at, role_of, code_of, slots}
 use Rattle.ps_codefile.specs.Procedures.{tables_fault}
-use Rattle.ps_resolve.specs.Added.{segment_at, segments, added, rounds, rounds_from, added_segment, as_added, placed_fault, sought_from, unit_references, all_unit_references, empty_slots}
+use Rattle.ps_resolve.specs.Added.{segment_at, segments, added_segments, rounds, rounds_from, added_segment, as_added, placed_fault, requested_from, unit_references, all_unit_references, empty_slots}
 use Rattle.ps_resolve.specs.Searches.{first_of, fault_if}
-use Rattle.ps_codefile.specs.Roles.{is_host, is_empty, is_linked}
+use Rattle.ps_codefile.specs.Roles.{is_host, is_empty, needs_linking}
 use Rattle.ps_resolve.specs.Sources.{Segment, own_segment, segment_from, source_of, unit_source, units_of, own_segments, host_of, records_of, file_at}
 use Rattle.ps_resolve.specs.declared.reading.added.UnitReference.{UnitReference}
 use Rattle.ps_resolve.specs.Faults.{is_role, slot_reason, slots_fault, no_host_fault, sources_fault, source_fault, information_fault}
@@ -31,7 +32,7 @@ abbrev segment_with : Order → List ℕ → List (List ℕ) → ℕ → List �
 segment_with order host libs slot name r place code =
     let file = file_at host libs place.0 in
     let e = entry_at order file place.1 in
-    record { slot = slot; name = name; role = r; added = false; file = place.0; index = place.1; code = code; records = records_of order file e (is_linked r) }
+    record { slot = slot; name = name; role = r; added = false; file = place.0; index = place.1; code = code; records = records_of order file e (needs_linking r) }
 
 -- so it is with whatever code, where one is given
 made : (order : Order) (host : List ℕ) (libs : List (List ℕ)) (slot : ℕ) (name : List ℕ) (r : Role) (place : ℕ × ℕ) (q : Result (List ℕ) Reason) (s : Segment) → option_map (segment_with order host libs slot name r place) (result_ok q) ≡ Some s → (s.slot ≡ slot) × (r ≡ s.role)
@@ -40,7 +41,7 @@ made order host libs slot name r place (Ok code) s h =
     let same : segment_with order host libs slot name r place code ≡ s = same_Some _ _ h in
     (ap (λ (x : Segment). x.slot) (sym same), ap (λ (x : Segment). x.role) same)
 
--- the own segment of a slot stands in the slot and has the role of it
+-- the own segment of a slot is in the slot and has the role of it
 pub own_parts : (order : Order) (host : List ℕ) (libs : List (List ℕ)) (slot : ℕ) (s : Segment) → own_segment order host libs slot ≡ Some s → (s.slot ≡ slot) × (result_ok (role_of (entry_at order host slot)) ≡ Some s.role)
 own_parts order host libs slot s h =
     let name = (entry_at order host slot).name in
@@ -49,7 +50,7 @@ own_parts order host libs slot s h =
     let parts = made order host libs slot name r place (code_of (file_at host libs place.0) (entry_at order (file_at host libs place.0) place.1)) s from in
     (parts.0, is ∙ ap (λ (x : Role). Some x) parts.1)))
 
--- an added segment stands in its slot, with the role of a wanted unit
+-- an added segment is in its slot, with the role of a wanted unit
 pub of_added : (order : Order) (host : List ℕ) (libs : List (List ℕ)) (g : UnitReference) (slot : ℕ) (s : Segment) → added_segment order host libs g slot ≡ Some s → (s.slot ≡ slot) × (s.role ≡ role.Wanted)
 of_added order host libs g slot s h = by (option_and_then (segment_from order host libs slot g.name role.Wanted) (unit_source order g.name libs)) refl h
   where
@@ -74,7 +75,7 @@ rounds_wanted order host libs units (slot ∷ left) k row = by (λ next. rounds_
     at rest g (Some fault) e o f h = rw (h, rounds_from) (rw (e, rounds_from) (All-nil IsWanted))
     at rest g None e None f h = rw (h, rounds_from) (rw (e, rounds_from) (rw (f, rounds_from) (All-nil IsWanted)))
     at rest g None e (Some s) f h =
-        let next = sought_from units row (unit_references s.file s.slot 0 s.records) in
+        let next = requested_from units row (unit_references s.file s.slot 0 s.records) in
         rw (h, rounds_from) (rw (e, rounds_from) (rw (f, rounds_from) (All-cons IsWanted s (rounds_from order host libs units left (k + 1) next).added (of_added order host libs g slot s f).1 (rest next))))
 
     by : ((next : List UnitReference) → All IsWanted (rounds_from order host libs units left (k + 1) next).added) → (o : Option UnitReference) → slice_get row k ≡ o → All IsWanted (rounds_from order host libs units (slot ∷ left) k row).added
@@ -82,10 +83,10 @@ rounds_wanted order host libs units (slot ∷ left) k row = by (λ next. rounds_
     by rest (Some g) h = at rest g (placed_fault order host libs g slot) refl (added_segment order host libs g slot) refl h
 
 -- each added segment has the role of a wanted unit
-added_wanted : (order : Order) (host : List ℕ) (libs : List (List ℕ)) → All IsWanted (added order host libs)
+added_wanted : (order : Order) (host : List ℕ) (libs : List (List ℕ)) → All IsWanted (added_segments order host libs)
 unfolding rounds
 added_wanted order host libs =
-    let own = own_segments order host libs in rounds_wanted order host libs (units_of own) (empty_slots order host) 0 (sought_from (units_of own) [] (all_unit_references own))
+    let own = own_segments order host libs in rounds_wanted order host libs (units_of own) (empty_slots order host) 0 (requested_from (units_of own) [] (all_unit_references own))
 
 -- what is found passes the test, and has what all have
 pub find_has : {X : Type 0} (P : X → Type 0) (test : X → Bool) (xs : List X) (x : X) → find test xs ≡ Some x → All P xs → (test x ≡ true) × P x
@@ -105,7 +106,8 @@ empty_role (Ok role.Plain) h = cc
 empty_role (Ok role.Host) h = cc
 empty_role (Ok role.Unit) h = cc
 
--- the segment of a slot, its own or one that was added there, stands in the slot and is the host's just where the slot's role is
+-- the segment of a slot, its own or one that was added there, is in the slot and is the host's just
+-- where the slot's role is
 pub slot_parts : (order : Order) (host : List ℕ) (libs : List (List ℕ)) (slot : ℕ) (s : Segment) → segment_at order host libs slot ≡ Some s → (s.slot ≡ slot) × (is_role is_host order host slot ≡ is_host s.role)
 slot_parts order host libs slot s h = by (own_segment order host libs slot) refl (is_role is_empty order host slot) refl
   where
@@ -116,8 +118,8 @@ slot_parts order host libs slot s h = by (own_segment order host libs slot) refl
         (parts.0, ap (λ (o : Option Role). option_map_or is_host o false) parts.1)
     by None e false f = let none : None ≡ Some s = rw (e, f) at h in cc
     by None e true f =
-        let found : find (λ (x : Segment). x.slot == slot) (added order host libs) ≡ Some s = rw (e, f) at h in
-        let has = find_has IsWanted (λ (x : Segment). x.slot == slot) (added order host libs) s found (added_wanted order host libs) in
+        let found : find (λ (x : Segment). x.slot == slot) (added_segments order host libs) ≡ Some s = rw (e, f) at h in
+        let has = find_has IsWanted (λ (x : Segment). x.slot == slot) (added_segments order host libs) s found (added_wanted order host libs) in
         (eqb-true s.slot slot has.0, empty_role (role_of (entry_at order host slot)) f ∙ sym (ap is_host has.1))
 
 host_role : (order : Order) (host : List ℕ) (libs : List (List ℕ)) (slot : ℕ) (s : Segment) → segment_at order host libs slot ≡ Some s → is_role is_host order host slot ≡ is_host s.role
@@ -155,7 +157,8 @@ slot_host order host libs slot none is =
     read_from_host order host libs slot role.Host of is_own_host ∙ ap (λ (q : Result (List ℕ) Reason). option_map (segment_with order host libs slot e.name role.Host (0, slot)) (result_ok q)) code.1 in
     (segment_with order host libs slot e.name role.Host (0, slot) code.0, rw own refl)
 
--- where one of these slots has the role of the host, and no source a fault, one of their segments is a host's
+-- where one of these slots has the role of the host, and no source a fault, one of their segments
+-- is a host's
 found_host : (order : Order) (host : List ℕ) (libs : List (List ℕ)) (xs : List ℕ) → list_any (is_role is_host order host) xs ≡ true → first_of (source_fault order host libs) xs ≡ None
     → is_some (find (λ (s : Segment). is_host s.role) (filter_map (segment_at order host libs) xs)) ≡ true
 found_host order host libs [] any none = any
@@ -237,7 +240,7 @@ both_not : (a b : Bool) → (a && b) ≡ false → b ≡ true → a ≡ false
 both_not true b h t = sym t ∙ h
 both_not false b h t = refl
 
--- behind a slot with the role of the host no segment is a host's, where no slot has a fault
+-- after a slot with the role of the host no segment is a host's, where no slot has a fault
 not_host : (order : Order) (host : List ℕ) (libs : List (List ℕ)) (n a : ℕ) → first_of (slot_fault order host) (range_with_len a n) ≡ None → list_any (is_role is_host order host) (range_with_len 0 a) ≡ true
     → All (λ (s : Segment). is_host s.role ≡ false) (filter_map (segment_at order host libs) (range_with_len a n))
 not_host order host libs zero a none below = All-nil (λ (s : Segment). is_host s.role ≡ false)
@@ -259,7 +262,8 @@ none_found segs rest all = All-weaker (λ (s : Segment). is_host s.role ≡ fals
 abbrev rest_of : Order → List ℕ → List (List ℕ) → ℕ → ℕ → List Segment
 rest_of order host libs n a = filter_map (segment_at order host libs) (range_with_len a n)
 
--- of the segments of slots without a fault, behind slots that are no host's, a host's is the first such
+-- of the segments of slots without a fault, after slots that are no host's, a host's is the first
+-- such
 one_from : (order : Order) (host : List ℕ) (libs : List (List ℕ)) (n a : ℕ) → first_of (slot_fault order host) (range_with_len a n) ≡ None → list_any (is_role is_host order host) (range_with_len 0 a) ≡ false
     → All (IsFound (rest_of order host libs n a)) (rest_of order host libs n a)
 one_from order host libs zero a none below = All-nil (IsFound (rest_of order host libs zero a))

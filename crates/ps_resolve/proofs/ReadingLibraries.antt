@@ -39,7 +39,7 @@ files libs = map (λ (lib : Bor (List ℕ)). lib.now) libs
 abbrev pub no_file : Bor (List ℕ)
 no_file = record { ref_ptr = (0, 0); now = [] }
 
--- the files from i on are that of i and those behind it
+-- the files from i on are that of i and those after it
 pub files_more : (libs : List (Bor (List ℕ))) (i n : ℕ) → i < length libs → enumerate_from n (drop i (files libs)) ≡ (n, (get_or libs i no_file).now) ∷ enumerate_from (n + 1) (drop (i + 1) (files libs))
 files_more libs i n lt =
     let same : get_or (files libs) i (get_or libs i no_file).now ≡ (get_or libs i no_file).now = get_or-map (λ (lib : Bor (List ℕ)). lib.now) libs i no_file (get_or libs i no_file).now lt in
@@ -71,7 +71,7 @@ chosen_here order name libs i lt h = ap (λ (xs : List (ℕ × List ℕ)). find 
 pub chosen_later : (order : Order) (name : List ℕ) (libs : List (Bor (List ℕ))) (i : ℕ) → i < length libs → has_entry order name (get_or libs i no_file).now ≡ false → chosen_from order name libs i ≡ chosen_from order name libs (i + 1)
 chosen_later order name libs i lt h = ap (λ (xs : List (ℕ × List ℕ)). find (λ (lib : ℕ × List ℕ). has_entry order name lib.1) xs) (files_more libs i i lt) ∙ rw h
 
--- a file that is found among numbered files stands at its number
+-- a file that is found among numbered files is at its number
 at_number : (p : ℕ × List ℕ → Bool) (files : List (List ℕ)) (n k : ℕ) (file : List ℕ) → find p (enumerate_from n files) ≡ Some (k, file) → (j : ℕ) × (k ≡ n + j) × (slice_get files j ≡ Some file)
 at_number p [] n k file h = cc
 at_number p (x ∷ xs) n k file h = by (λ e. at_number p xs (n + 1) k file e) (p (n, x)) refl

@@ -4,13 +4,13 @@ use Rattle.std.specs.List.{range_with_len, find, list_any}
 use Rattle.std.specs.Option.{option_or, option_map}
 use Rattle.ps_resolve.specs.Searches.{first_of}
 
--- the numbers from i up to n are i and those behind it
+-- the numbers from i up to n are i and those after it
 pub range_more : (i n : ℕ) → i < n → range_with_len i (n - i) ≡ i ∷ range_with_len (i + 1) (n - (i + 1))
 range_more i n lt =
     let left : n - i ≡ suc (n - (i + 1)) = omega arith in
     ap (λ (k : ℕ). range_with_len i k) left
 
--- the first fault from i on is that of i, or else the first behind it
+-- the first fault from i on is that of i, or else the first after it
 pub first_more : {Y : Type 0} (f : ℕ → Option Y) (i n : ℕ) → i < n → first_of f (range_with_len i (n - i)) ≡ option_or (f i) (first_of f (range_with_len (i + 1) (n - (i + 1))))
 first_more f i n lt = ap (λ (xs : List ℕ). first_of f xs) (range_more i n lt)
 
@@ -20,7 +20,7 @@ first_here f i n y lt h = first_more f i n lt ∙ rw h
 pub first_later : {Y : Type 0} (f : ℕ → Option Y) (i n : ℕ) → i < n → f i ≡ None → first_of f (range_with_len i (n - i)) ≡ first_of f (range_with_len (i + 1) (n - (i + 1)))
 first_later f i n lt h = first_more f i n lt ∙ rw h
 
--- the first number from i on that passes is i, where it passes, or else the first behind it
+-- the first number from i on that passes is i, where it passes, or else the first after it
 pub found_here : (p : ℕ → Bool) (i n : ℕ) → i < n → p i ≡ true → find p (range_with_len i (n - i)) ≡ Some i
 found_here p i n lt h = ap (λ (xs : List ℕ). find p xs) (range_more i n lt) ∙ rw h
 

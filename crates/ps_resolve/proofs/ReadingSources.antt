@@ -32,7 +32,8 @@ fault_as order host libs slot r = option_or (wanted_fault order host libs slot r
 abbrev segment_as : Order → List ℕ → List (List ℕ) → ℕ → Role → Option Segment
 segment_as order host libs slot r = option_and_then (segment_from order host libs slot (entry_at order host slot).name r) (source_of order host libs slot r)
 
--- the fault of a slot of role Plain, Host or Unit is that of the code of the entry of the host there
+-- the fault of a slot of role Plain, Host or Unit is that of the code of the entry of the host
+-- there
 pub own_fault : (order : Order) (host : List ℕ) (libs : List (List ℕ)) (slot : ℕ) (r : Role) → role_of (entry_at order host slot) ≡ Ok r → IsOwn r → source_fault order host libs slot ≡ code_fault order host libs slot r (0, slot)
 own_fault order host libs slot r of is =
     ap (λ (q : Result Role Reason). option_and_then (fault_as order host libs slot) (result_ok q)) of
@@ -44,7 +45,7 @@ read_from_host order host libs slot r of is =
     ap (λ (q : Result Role Reason). option_and_then (segment_as order host libs slot) (result_ok q)) of
     ∙ own_each (λ (r : Role). segment_as order host libs slot r ≡ segment_from order host libs slot (entry_at order host slot).name r (0, slot)) refl refl refl r is
 
--- what is kept of the numbers from i on is that of i and what is kept behind it
+-- what is kept of the numbers from i on is that of i and what is kept after it
 pub kept_more : {Y : Type 0} (h : ℕ → Option Y) (i n : ℕ) → i < n → filter_map h (range_with_len i (n - i)) ≡ option_to_list (h i) ++ filter_map h (range_with_len (i + 1) (n - (i + 1)))
 kept_more {Y = Y} h i n lt = ap (λ (xs : List ℕ). filter_map h xs) (range_more i n lt) ∙ at (h i) refl
   where
@@ -60,19 +61,13 @@ pub at_most_one : {X : Type 0} (o : Option X) → length (option_to_list o) ≤ 
 at_most_one None = omega arith
 at_most_one (Some x) = omega arith
 
-all_of_one : {X Y : Type 0} (P : Y → Type 0) (f : X → Y) (o : Option X) → IfSome o (λ x. P (f x)) → All P (map f (option_to_list o))
-all_of_one P f None h = All-nil P
-all_of_one P f (Some x) h = All-cons P (f x) [] h (All-nil P)
-
 -- one segment more
-pub all_more : {X Y : Type 0} (P : Y → Type 0) (f : X → Y) (xs : List X) (o : Option X) → All P (map f xs) → IfSome o (λ x. P (f x)) → All P (map f (xs ++ option_to_list o))
-all_more P f xs o all h = subst (λ ys. All P ys) (sym (map-append f xs (option_to_list o))) (All-append P (map f xs) (map f (option_to_list o)) all (all_of_one P f o h))
-
 pub all_with : {X : Type 0} (P : X → Type 0) (xs : List X) (o : Option X) → All P xs → IfSome o P → All P (xs ++ option_to_list o)
 all_with P xs None all h = All-append P xs [] all (All-nil P)
 all_with P xs (Some x) all h = All-append P xs (x ∷ []) all (All-cons P x [] h (All-nil P))
 
--- those so far and those left are the same in all, when the one of number i, if there is one, joins those so far
+-- those so far and those left are the same in all, when the one of number i, if there is one, joins
+-- those so far
 pub kept_on : {X Y : Type 0} (f : X → Y) (h : ℕ → Option Y) (xs : List X) (o : Option X) (i n : ℕ) → i < n → option_map f o ≡ h i
     → map f xs ++ filter_map h (range_with_len i (n - i)) ≡ map f (xs ++ option_to_list o) ++ filter_map h (range_with_len (i + 1) (n - (i + 1)))
 kept_on {X} {Y} f h xs o i n lt is =

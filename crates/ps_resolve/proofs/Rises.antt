@@ -1,4 +1,5 @@
--- Privates stand by slot and then by record, where the segments stand by slot; and so one is found by halving.
+-- Privates are by slot and then by record, where the segments are by slot; and so one is found by
+-- binary search.
 use Rattle.std.proofs.Common.{◌≡◌, ℕ, zero, suc, ◌+◌, ◌<◌, ◌≤◌, ◌==◌, ◌&&◌, ◌||◌, ◌++◌, List, [], ◌∷◌, length, map, get_or, Bool, true, false, Option, Some, None, refl, sym, ◌∙◌, ap, subst, arith}
 use Rattle.std.specs.Prelude.{find, nat_le, nat_lt}
 use Rattle.std.specs.Option.{option_map}
@@ -6,7 +7,7 @@ use Rattle.std.specs.List.Sorted.{IsPartitionedBy, IsPartitionPoint}
 use Rattle.std.proofs.lemmas.Bool.Decides.{nat_tests}
 use Rattle.ps_linkinfo.specs.declared.record.LinkRecord.{LinkRecord as Record}
 use Rattle.ps_resolve.specs.Linkable.{AscendFrom}
-use Rattle.ps_resolve.specs.Privates.{words_in, allotted, private_words, all_allotted, Owner}
+use Rattle.ps_resolve.specs.Privates.{words_in, allotted_privates, private_words, all_allotted, Owner}
 use Rattle.ps_resolve.specs.Offsets.{is_from, RiseFrom, is_of, offset_listed}
 use Rattle.ps_resolve.specs.declared.allotment.Private.{Private}
 
@@ -26,16 +27,16 @@ rec_before a b s r h = grind (arith, nat_tests)
 itself : (a b : ℕ) → (nat_lt a a || (a == a && nat_le b b)) ≡ true
 itself a b = grind (arith, nat_tests)
 
--- the privates of the records of a segment rise, with those of later slots behind them
-prefixed : (slot : ℕ) (rs : List Record) (rec next : ℕ) (tail : List Private) → RiseFrom (slot + 1) 0 tail → RiseFrom slot rec (allotted slot rec next rs ++ tail)
+-- the privates of the records of a segment rise, with those of later slots after them
+prefixed : (slot : ℕ) (rs : List Record) (rec next : ℕ) (tail : List Private) → RiseFrom (slot + 1) 0 tail → RiseFrom slot rec (allotted_privates slot rec next rs ++ tail)
 prefixed slot [] rec next tail h = weaker (slot + 1) 0 slot rec tail (λ p k. slot_over slot rec p.slot p.rec k) h
 prefixed slot (r ∷ rs) rec next tail h = at (words_in r.body) refl (λ rec next. prefixed slot rs rec next tail h)
   where
-    at : (w : Option ℕ) → words_in r.body ≡ w → ((rec next : ℕ) → RiseFrom slot rec (allotted slot rec next rs ++ tail)) → RiseFrom slot rec (allotted slot rec next (r ∷ rs) ++ tail)
-    at None e again = rw (e, allotted) (weaker slot (rec + 1) slot rec (allotted slot (rec + 1) next rs ++ tail) (λ p k. rec_before slot rec p.slot p.rec k) (again (rec + 1) next))
-    at (Some w) e again = rw (e, allotted) (itself slot rec, again (rec + 1) (next + w))
+    at : (w : Option ℕ) → words_in r.body ≡ w → ((rec next : ℕ) → RiseFrom slot rec (allotted_privates slot rec next rs ++ tail)) → RiseFrom slot rec (allotted_privates slot rec next (r ∷ rs) ++ tail)
+    at None e again = rw (e, allotted_privates) (weaker slot (rec + 1) slot rec (allotted_privates slot (rec + 1) next rs ++ tail) (λ p k. rec_before slot rec p.slot p.rec k) (again (rec + 1) next))
+    at (Some w) e again = rw (e, allotted_privates) (itself slot rec, again (rec + 1) (next + w))
 
--- the privates of segments that stand by slot rise by slot and then by record
+-- the privates of segments that are by slot rise by slot and then by record
 pub rise : (next from : ℕ) (ss : List Owner) → AscendFrom from (map (λ s. s.slot) ss) → RiseFrom from 0 (all_allotted next ss)
 rise next from [] h = tt
 rise next from (s ∷ ss) h =
@@ -67,7 +68,7 @@ is_before slot rec p = nat_lt p.slot slot || (p.slot == slot && nat_lt p.rec rec
 earlier : (a b s r t u : ℕ) → (nat_lt a s || (a == s && nat_le (b + 1) r)) ≡ true → (nat_lt s t || (s == t && nat_lt r u)) ≡ true → (nat_lt a t || (a == t && nat_lt b u)) ≡ true
 earlier a b s r t u h k = grind (arith, nat_tests)
 
--- the privates that are of an earlier record stand before all others
+-- the privates that are of an earlier record are before all others
 pub partitioned : (slot rec a b : ℕ) (ps : List Private) → RiseFrom a b ps → IsPartitionedBy (is_before slot rec) ps
 partitioned slot rec a b ps h i j d le lt t = at (i == j) refl
   where

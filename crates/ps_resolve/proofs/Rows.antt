@@ -3,7 +3,7 @@ use Rattle.std.proofs.Common.{◌≡◌, ◌∙◌, ℕ, ◌+◌, ◌++◌, List
 use Rattle.std.specs.Prelude.{⊤}
 use Rattle.std.specs.Option.{option_map, option_or}
 use Rattle.ps_linkinfo.specs.Records.{refs_of}
-use Rattle.ps_linkinfo.specs.Counts.{is_private_reference, is_public_reference, is_unit_reference, privates_in, publics_in, units_in as units_asked}
+use Rattle.ps_linkinfo.specs.RecordCounts.{is_private_reference, is_public_reference, is_unit_reference, privates_in, publics_in, units_in as units_asked}
 use Rattle.ps_resolve.specs.Privates.{private_words, words_in}
 use Rattle.ps_linkinfo.specs.declared.record.Body.{Body}
 use Rattle.ps_linkinfo.specs.declared.record.Body.TheVariants.{UnitRef, PublRef, PrivRef, PublDef, ConstDef, Eof}
@@ -15,7 +15,7 @@ use Rattle.ps_words.specs.FaultPlaces.{in_reference}
 use Rattle.ps_codefile.specs.Procedures.{is_reserved, ProcedureTables}
 use Rattle.ps_resolve.specs.Faults.{in_segment}
 use Rattle.ps_resolve.specs.Operands.{edit_of, operands, refs_fault}
-use Rattle.ps_resolve.specs.Marks.{AreTaken}
+use Rattle.ps_resolve.specs.TakenPlaces.{AreTaken}
 use Rattle.ps_resolve.specs.Stops.{IsStop}
 use Rattle.ps_resolve.specs.References.{Known, words_taken, target_in, target_of, records_fault, record_edits, records_edits}
 use Rattle.ps_resolve.specs.declared.references.Target.{Target}
@@ -62,14 +62,16 @@ module _ (known : Known) (R : ℕ → Bool) (code : List ℕ) (rec off : ℕ) (o
   pub edits_more : (es : List Edit) (t : Target) → target_of known off r ≡ Ok t → es ++ records_edits known code off (r ∷ rs) ≡ (es ++ map (edit_of code t) (refs_of r.body)) ++ records_edits known code (off + words_taken r.body) rs
   edits_more es t h = rw (h, record_edits) (sym (append_assoc es (map (edit_of code t) (refs_of r.body)) (records_edits known code (off + words_taken r.body) rs)))
 
--- With these edits and these places taken, what the records from this index on come to is what all come to, the first of whose privates has the offset `free`: their edits, their first fault, and their words.
+-- With these edits and these places taken, what the records from this index on come to is what all
+-- come to, the first of whose privates has the offset `free`: their edits, their first fault, and
+-- their words.
 pub record Links (known : Known) (tables : ProcedureTables) (free : ℕ) (all : List Record) (old : List Edit) (next : ℕ) (edits : List Edit) (taken : List ℕ) (n : ℕ) (rs : List Record) : Type 0 where
   pub listed : edits ++ records_edits known tables.code next rs ≡ old ++ records_edits known tables.code free all
   pub first : (os : List (ℕ × ℕ)) × AreTaken tables taken os
       × (records_fault known (is_reserved tables.order tables.code) tables.code n next os rs ≡ records_fault known (is_reserved tables.order tables.code) tables.code 0 free [] all)
   pub words : next + private_words rs ≡ free + private_words all
 
--- where no record asks for anything, there is no edit, no fault and no word
+-- where no record requests anything, there is no edit, no fault and no word
 pub record NoLinks (known : Known) (R : ℕ → Bool) (code : List ℕ) (n off : ℕ) (os : List (ℕ × ℕ)) (rs : List Record) : Type 0 where
   pub edits : records_edits known code off rs ≡ []
   pub first : records_fault known R code n off os rs ≡ None

@@ -9,9 +9,9 @@ use Rattle.std.proofs.lemmas.List.{take_all, length-take-le}
 use Rattle.std.proofs.lemmas.List.Elements.{All-nil, All-cons, All-head, All-tail}
 use Rattle.std.proofs.lemmas.List.Folds.{list_any-append}
 use Rattle.std.proofs.lemmas.Slice.Eq.{bytes_eq-Decides}
-use Rattle.ps_linkinfo.specs.Counts.{is_unit_reference}
+use Rattle.ps_linkinfo.specs.RecordCounts.{is_unit_reference}
 use Rattle.ps_linkinfo.specs.declared.record.LinkRecord.{LinkRecord as Record}
-use Rattle.ps_resolve.specs.Added.{is_had, sought_from, unit_references, IsHad, AreHad}
+use Rattle.ps_resolve.specs.Added.{is_already_known, requested_from, unit_references, IsAlreadyKnown, AreAlreadyKnown}
 use Rattle.ps_resolve.specs.declared.reading.added.UnitReference.{UnitReference}
 use Rattle.ps_resolve.proofs.Adding.{row_prefix}
 
@@ -27,33 +27,33 @@ or_right false b h = h
 
 module _ (units : List (List ℕ × ℕ)) where
   -- what is had stays so
-  had_longer : (row more : List UnitReference) (name : List ℕ) → is_had units row name ≡ true → is_had units (row ++ more) name ≡ true
+  had_longer : (row more : List UnitReference) (name : List ℕ) → is_already_known units row name ≡ true → is_already_known units (row ++ more) name ≡ true
   had_longer row more name h =
       ap (λ (b : Bool). is_some (lookup (bytes_eq name) units) || b) (list_any-append (λ (g : UnitReference). bytes_eq g.name name) row more)
       ∙ or_left (is_some (lookup (bytes_eq name) units)) (list_any (λ (g : UnitReference). bytes_eq g.name name) row) (list_any (λ (g : UnitReference). bytes_eq g.name name) more) h
 
-  had_last : (row : List UnitReference) (g : UnitReference) → is_had units (row ++ g ∷ []) g.name ≡ true
+  had_last : (row : List UnitReference) (g : UnitReference) → is_already_known units (row ++ g ∷ []) g.name ≡ true
   had_last row g =
       ap (λ (b : Bool). is_some (lookup (bytes_eq g.name) units) || b) (list_any-append (λ (f : UnitReference). bytes_eq f.name g.name) row (g ∷ []))
       ∙ or_right (is_some (lookup (bytes_eq g.name) units)) _ (or_right (list_any (λ (f : UnitReference). bytes_eq f.name g.name) row) _ (ap (λ (b : Bool). b || false) ((bytes_eq-Decides g.name g.name).1 refl)))
 
   -- a row grows at its end
-  grown : (row gs : List UnitReference) → (more : List UnitReference) × (sought_from units row gs ≡ row ++ more)
+  grown : (row gs : List UnitReference) → (more : List UnitReference) × (requested_from units row gs ≡ row ++ more)
   grown row [] = ([], sym (append-nil row))
-  grown row (g ∷ gs) = by (λ r. grown r gs) (is_had units row g.name) refl
+  grown row (g ∷ gs) = by (λ r. grown r gs) (is_already_known units row g.name) refl
     where
-      by : ((r : List UnitReference) → (more : List UnitReference) × (sought_from units r gs ≡ r ++ more)) → (b : Bool) → is_had units row g.name ≡ b → (more : List UnitReference) × (sought_from units row (g ∷ gs) ≡ row ++ more)
+      by : ((r : List UnitReference) → (more : List UnitReference) × (requested_from units r gs ≡ r ++ more)) → (b : Bool) → is_already_known units row g.name ≡ b → (more : List UnitReference) × (requested_from units row (g ∷ gs) ≡ row ++ more)
       by rest true e = let r = rest row in (r.0, rw e r.1)
       by rest false e = let r = rest (row ++ g ∷ []) in (g ∷ r.0, rw e (r.1 ∙ append_assoc row (g ∷ []) r.0))
 
-  had_behind : (row gs : List UnitReference) (name : List ℕ) → is_had units row name ≡ true → is_had units (sought_from units row gs) name ≡ true
+  had_behind : (row gs : List UnitReference) (name : List ℕ) → is_already_known units row name ≡ true → is_already_known units (requested_from units row gs) name ≡ true
   had_behind row gs name h = let g = grown row gs in rw g.1 (had_longer row g.0 name h)
 
-  seek_had : (row : List UnitReference) (g : UnitReference) (gs : List UnitReference) → is_had units row g.name ≡ true → sought_from units row (g ∷ gs) ≡ sought_from units row gs
-  seek_had row g gs e = ap (λ (b : Bool). sought_from units (if b then row else row ++ g ∷ []) gs) e
+  seek_had : (row : List UnitReference) (g : UnitReference) (gs : List UnitReference) → is_already_known units row g.name ≡ true → requested_from units row (g ∷ gs) ≡ requested_from units row gs
+  seek_had row g gs e = ap (λ (b : Bool). requested_from units (if b then row else row ++ g ∷ []) gs) e
 
-  seek_new : (row : List UnitReference) (g : UnitReference) (gs : List UnitReference) → is_had units row g.name ≡ false → sought_from units row (g ∷ gs) ≡ sought_from units (row ++ g ∷ []) gs
-  seek_new row g gs e = ap (λ (b : Bool). sought_from units (if b then row else row ++ g ∷ []) gs) e
+  seek_new : (row : List UnitReference) (g : UnitReference) (gs : List UnitReference) → is_already_known units row g.name ≡ false → requested_from units row (g ∷ gs) ≡ requested_from units (row ++ g ∷ []) gs
+  seek_new row g gs e = ap (λ (b : Bool). requested_from units (if b then row else row ++ g ∷ []) gs) e
 
   module _ (file slot n : ℕ) (r : Record) (rs : List Record) where
     abbrev asked : UnitReference
@@ -68,9 +68,9 @@ module _ (units : List (List ℕ × ℕ)) where
     first_is_none : is_unit_reference r.body ≡ false → unit_references file slot n (r ∷ rs) ≡ behind
     first_is_none e = ap (λ (b : Bool). if b then asked ∷ behind else behind) e
 
-  -- all names that records seek are had behind them
-  all_had : (file slot n : ℕ) (rs : List Record) (row : List UnitReference) → All (IsHad units (sought_from units row (unit_references file slot n rs))) rs
-  all_had file slot n [] row = All-nil (IsHad units row)
+  -- all names that records seek are had after them
+  all_had : (file slot n : ℕ) (rs : List Record) (row : List UnitReference) → All (IsAlreadyKnown units (requested_from units row (unit_references file slot n rs))) rs
+  all_had file slot n [] row = All-nil (IsAlreadyKnown units row)
   all_had file slot n (r ∷ rs) row = by (λ q. all_had file slot (n + 1) rs q) (is_unit_reference r.body) refl
     where
       gs : List UnitReference
@@ -80,50 +80,50 @@ module _ (units : List (List ℕ × ℕ)) where
       g = record { name = r.name; file = file; slot = slot; rec = n }
 
       Had : List UnitReference → Type 0
-      Had q = All (IsHad units q) (r ∷ rs)
+      Had q = All (IsAlreadyKnown units q) (r ∷ rs)
 
-      seen : ((q : List UnitReference) → All (IsHad units (sought_from units q gs)) rs) → (b : Bool) → is_had units row r.name ≡ b → Had (sought_from units row (g ∷ gs))
-      seen rest true e = subst Had (sym (seek_had row g gs e)) (All-cons (IsHad units (sought_from units row gs)) r rs (λ _. had_behind row gs r.name e) (rest row))
-      seen rest false e = subst Had (sym (seek_new row g gs e)) (All-cons (IsHad units (sought_from units (row ++ g ∷ []) gs)) r rs (λ _. had_behind (row ++ g ∷ []) gs r.name (had_last row g)) (rest (row ++ g ∷ [])))
+      seen : ((q : List UnitReference) → All (IsAlreadyKnown units (requested_from units q gs)) rs) → (b : Bool) → is_already_known units row r.name ≡ b → Had (requested_from units row (g ∷ gs))
+      seen rest true e = subst Had (sym (seek_had row g gs e)) (All-cons (IsAlreadyKnown units (requested_from units row gs)) r rs (λ _. had_behind row gs r.name e) (rest row))
+      seen rest false e = subst Had (sym (seek_new row g gs e)) (All-cons (IsAlreadyKnown units (requested_from units (row ++ g ∷ []) gs)) r rs (λ _. had_behind (row ++ g ∷ []) gs r.name (had_last row g)) (rest (row ++ g ∷ [])))
 
-      by : ((q : List UnitReference) → All (IsHad units (sought_from units q gs)) rs) → (b : Bool) → is_unit_reference r.body ≡ b → Had (sought_from units row (unit_references file slot n (r ∷ rs)))
-      by rest true e = subst (λ (q : List UnitReference). Had (sought_from units row q)) (sym (first_asks file slot n r rs e)) (seen rest (is_had units row r.name) refl)
-      by rest false e = subst (λ (q : List UnitReference). Had (sought_from units row q)) (sym (first_is_none file slot n r rs e))
-          (All-cons (IsHad units (sought_from units row gs)) r rs (λ h. let no : true ≡ false = sym h ∙ e in cc) (rest row))
+      by : ((q : List UnitReference) → All (IsAlreadyKnown units (requested_from units q gs)) rs) → (b : Bool) → is_unit_reference r.body ≡ b → Had (requested_from units row (unit_references file slot n (r ∷ rs)))
+      by rest true e = subst (λ (q : List UnitReference). Had (requested_from units row q)) (sym (first_asks file slot n r rs e)) (seen rest (is_already_known units row r.name) refl)
+      by rest false e = subst (λ (q : List UnitReference). Had (requested_from units row q)) (sym (first_is_none file slot n r rs e))
+          (All-cons (IsAlreadyKnown units (requested_from units row gs)) r rs (λ h. let no : true ≡ false = sym h ∙ e in cc) (rest row))
 
   -- what is kept of a row is full, or the whole row
-  of_kept : (whole : List UnitReference) (rs : List Record) → All (IsHad units whole) rs → AreHad units (take 10 whole) rs
+  of_kept : (whole : List UnitReference) (rs : List Record) → All (IsAlreadyKnown units whole) rs → AreAlreadyKnown units (take 10 whole) rs
   of_kept whole rs h = ⊎_elim
-      (λ short. inr (subst (λ (q : List UnitReference). All (IsHad units q) rs) (sym (take_all 10 whole (omega (arith, short)))) h))
+      (λ short. inr (subst (λ (q : List UnitReference). All (IsAlreadyKnown units q) rs) (sym (take_all 10 whole (omega (arith, short)))) h))
       (λ long. inl (let n = length-take-le 10 whole long in omega (arith, n)))
       (cases_lt (length whole) 10)
 
-  -- the names that a segment seeks are had behind it
-  pub had_here : (file slot : ℕ) (rs : List Record) (row now : List UnitReference) → now ≡ take 10 (sought_from units row (unit_references file slot 0 rs)) → AreHad units now rs
-  had_here file slot rs row now is = subst (λ (q : List UnitReference). AreHad units q rs) (sym is) (of_kept (sought_from units row (unit_references file slot 0 rs)) rs (all_had file slot 0 rs row))
+  -- the names that a segment seeks are had after it
+  pub had_here : (file slot : ℕ) (rs : List Record) (row now : List UnitReference) → now ≡ take 10 (requested_from units row (unit_references file slot 0 rs)) → AreAlreadyKnown units now rs
+  had_here file slot rs row now is = subst (λ (q : List UnitReference). AreAlreadyKnown units q rs) (sym is) (of_kept (requested_from units row (unit_references file slot 0 rs)) rs (all_had file slot 0 rs row))
 
-  more_had : (row gs : List UnitReference) (rs : List Record) → All (IsHad units row) rs → All (IsHad units (sought_from units row gs)) rs
-  more_had row gs [] h = All-nil (IsHad units (sought_from units row gs))
-  more_had row gs (r ∷ rs) h = All-cons (IsHad units (sought_from units row gs)) r rs (λ asks. had_behind row gs r.name (All-head (IsHad units row) r rs h asks)) (more_had row gs rs (All-tail (IsHad units row) r rs h))
+  more_had : (row gs : List UnitReference) (rs : List Record) → All (IsAlreadyKnown units row) rs → All (IsAlreadyKnown units (requested_from units row gs)) rs
+  more_had row gs [] h = All-nil (IsAlreadyKnown units (requested_from units row gs))
+  more_had row gs (r ∷ rs) h = All-cons (IsAlreadyKnown units (requested_from units row gs)) r rs (λ asks. had_behind row gs r.name (All-head (IsAlreadyKnown units row) r rs h asks)) (more_had row gs rs (All-tail (IsAlreadyKnown units row) r rs h))
 
-  -- and behind any names more
-  pub had_still : (row gs now : List UnitReference) (rs : List Record) → now ≡ take 10 (sought_from units row gs) → AreHad units row rs → AreHad units now rs
+  -- and after any names more
+  pub had_still : (row gs now : List UnitReference) (rs : List Record) → now ≡ take 10 (requested_from units row gs) → AreAlreadyKnown units row rs → AreAlreadyKnown units now rs
   had_still row gs now rs is (inl full) =
-      subst (λ (q : List UnitReference). AreHad units q rs) (sym is)
-      (inl (let g = grown row gs in let long : 10 ≤ length (sought_from units row gs) = omega (arith, full, ap length g.1, length-append row g.0) in let n = length-take-le 10 (sought_from units row gs) long in omega (arith, n)))
-  had_still row gs now rs is (inr h) = subst (λ (q : List UnitReference). AreHad units q rs) (sym is) (of_kept (sought_from units row gs) rs (more_had row gs rs h))
+      subst (λ (q : List UnitReference). AreAlreadyKnown units q rs) (sym is)
+      (inl (let g = grown row gs in let long : 10 ≤ length (requested_from units row gs) = omega (arith, full, ap length g.1, length-append row g.0) in let n = length-take-le 10 (requested_from units row gs) long in omega (arith, n)))
+  had_still row gs now rs is (inr h) = subst (λ (q : List UnitReference). AreAlreadyKnown units q rs) (sym is) (of_kept (requested_from units row gs) rs (more_had row gs rs h))
 
-  same_row : (file slot n : ℕ) (row : List UnitReference) (rs : List Record) → All (IsHad units row) rs → sought_from units row (unit_references file slot n rs) ≡ row
+  same_row : (file slot n : ℕ) (row : List UnitReference) (rs : List Record) → All (IsAlreadyKnown units row) rs → requested_from units row (unit_references file slot n rs) ≡ row
   same_row file slot n row [] h = refl
-  same_row file slot n row (r ∷ rs) h = by (same_row file slot (n + 1) row rs (All-tail (IsHad units row) r rs h)) (is_unit_reference r.body) refl
+  same_row file slot n row (r ∷ rs) h = by (same_row file slot (n + 1) row rs (All-tail (IsAlreadyKnown units row) r rs h)) (is_unit_reference r.body) refl
     where
-      by : sought_from units row (unit_references file slot (n + 1) rs) ≡ row → (b : Bool) → is_unit_reference r.body ≡ b → sought_from units row (unit_references file slot n (r ∷ rs)) ≡ row
+      by : requested_from units row (unit_references file slot (n + 1) rs) ≡ row → (b : Bool) → is_unit_reference r.body ≡ b → requested_from units row (unit_references file slot n (r ∷ rs)) ≡ row
       by rest true e =
-          ap (sought_from units row) (first_asks file slot n r rs e)
-          ∙ (seek_had row (record { name = r.name; file = file; slot = slot; rec = n }) (unit_references file slot (n + 1) rs) (All-head (IsHad units row) r rs h e) ∙ rest)
-      by rest false e = ap (sought_from units row) (first_is_none file slot n r rs e) ∙ rest
+          ap (requested_from units row) (first_asks file slot n r rs e)
+          ∙ (seek_had row (record { name = r.name; file = file; slot = slot; rec = n }) (unit_references file slot (n + 1) rs) (All-head (IsAlreadyKnown units row) r rs h e) ∙ rest)
+      by rest false e = ap (requested_from units row) (first_is_none file slot n r rs e) ∙ rest
 
   -- names that are had change no row
-  pub nothing_new : (file slot : ℕ) (row : List UnitReference) (rs : List Record) → length row ≤ 10 → AreHad units row rs → row ≡ take 10 (sought_from units row (unit_references file slot 0 rs))
+  pub nothing_new : (file slot : ℕ) (row : List UnitReference) (rs : List Record) → length row ≤ 10 → AreAlreadyKnown units row rs → row ≡ take 10 (requested_from units row (unit_references file slot 0 rs))
   nothing_new file slot row rs few (inl full) = sym (row_prefix units 10 row (unit_references file slot 0 rs) full ∙ take_all 10 row few)
   nothing_new file slot row rs few (inr h) = sym (ap (take 10) (same_row file slot 0 row rs h) ∙ take_all 10 row few)

@@ -1,18 +1,13 @@
 -- Segments of the files, seen one by one as segments of the link.
-use Rattle.std.proofs.Common.{◌≡◌, ℕ, zero, suc, ◌+◌, ◌<◌, ◌++◌, List, [], ◌∷◌, length, map, get_or, drop, false, refl, sym, ◌∙◌, ap, subst, arith, add-one, drop-cons, append_assoc, None}
+use Rattle.std.proofs.Common.{◌≡◌, ℕ, zero, suc, ◌+◌, ◌<◌, ◌++◌, List, [], ◌∷◌, length, map, get_or, drop, false, refl, sym, ◌∙◌, ap, subst, arith, add-one, drop-cons, append_assoc}
 use Rattle.std.specs.Prelude.{All}
 use Rattle.std.proofs.lemmas.List.{map-append}
 use Rattle.std.proofs.lemmas.List.Elements.{All-tail}
-use Rattle.ps_resolve.specs.Names.{units_by_name}
 use Rattle.ps_resolve.specs.Privates.{owner_of}
 use Rattle.ps_resolve.specs.Views.{segment_of}
 use Rattle.ps_codefile.specs.declared.entry.Role.TheVariants.{Empty}
-use Rattle.ps_resolve.specs.Sources.{Segment, units_of}
+use Rattle.ps_resolve.specs.Sources.{Segment}
 use Rattle.ps_resolve.specs.declared.reading.segment.Segment.{Segment as SegmentView}
-
-pub units_are : (ss : List SegmentView) → units_of (map segment_of ss) ≡ units_by_name ss
-units_are [] = refl
-units_are (s ∷ ss) = rw (units_are ss) refl
 
 -- the item at i, and what holds of it
 pub drop_at : {X : Type 0} (xs : List X) (i : ℕ) (x : X) → i < length xs → x ≡ get_or xs i x → drop i xs ≡ x ∷ drop (i + 1) xs
@@ -36,5 +31,5 @@ slots_are [] = refl
 slots_are (s ∷ ss) = rw (slots_are ss) refl
 
 -- a segment of none of the files, which is read past the end of a list
-abbrev pub blank : SegmentView
-blank = record { slot = 0; name = []; role = Empty; added = false; file = 0; index = 0; code = record { ref_ptr = (0, 0); now = [] }; procedures = None; block = 0; records = [] }
+abbrev pub blank_view : SegmentView
+blank_view = record { slot = 0; name = []; role = Empty; added = false; file = 0; index = 0; code = record { ref_ptr = (0, 0); now = [] }; block = 0; records = [] }

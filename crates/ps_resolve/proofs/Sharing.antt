@@ -1,32 +1,22 @@
--- Segments that have the same records, since their link information begins in one block of one file.
-use Rattle.std.proofs.Common.{◌≡◌, ◌∙◌, ℕ, suc, zero, ◌+◌, ◌-◌, ◌*◌, ◌<◌, ◌++◌, List, [], ◌∷◌, length, map, take, drop, get_or, Bool, true, false, if◌then◌else◌, cond, Option, Some, None, Result, Ok, Err, refl, sym, ap, subst, arith, add-one}
-use Rattle.std.specs.Prelude.{All, IfSome, is_some, ⊤}
-use Rattle.std.specs.Option.{option_map}
+-- Segments that have the same records, since their link information begins in one block of one
+-- file.
+use Rattle.std.proofs.Common.{◌≡◌, ◌∙◌, ℕ, suc, zero, ◌+◌, ◌*◌, ◌<◌, ◌++◌, List, [], ◌∷◌, length, map, take, drop, get_or, Bool, true, false, cond, Option, Some, None, Result, Ok, Err, refl, sym, ap, subst, arith, add-one}
+use Rattle.std.specs.Prelude.{All, IfSome, is_some}
 use Rattle.std.proofs.lemmas.List.{nil_from_length}
 use Rattle.std.proofs.lemmas.List.Elements.{All-nil, All-cons, All-head, All-tail, All-contains}
 use Rattle.std.proofs.lemmas.List.Sums.{sum_by-cons}
 use Rattle.ps_words.specs.declared.order.Order.{Order}
-use Rattle.ps_words.specs.declared.edit.Edit.{Edit}
-use Rattle.ps_words.specs.declared.edit.Edit.TheVariants.{Byte}
 use Rattle.ps_words.specs.declared.fault.Reason.{Reason}
-use Rattle.ps_words.specs.declared.fault.Fault.{Fault}
-use Rattle.ps_codefile.specs.Procedures.{is_reserved}
 use Rattle.ps_linkinfo.specs.Records.{reading, refs_of}
-use Rattle.ps_linkinfo.specs.Counts.{is_private_reference, privates_in, references_in}
+use Rattle.ps_linkinfo.specs.RecordCounts.{is_private_reference, privates_in, references_in}
 use Rattle.ps_linkinfo.specs.declared.record.Body.{Body}
 use Rattle.ps_linkinfo.specs.declared.record.Body.TheVariants.{UnitRef, PublRef, PrivRef, PublDef, ConstDef, Eof}
 use Rattle.ps_linkinfo.specs.declared.record.LinkRecord.{LinkRecord as Record}
-use Rattle.ps_codefile.specs.Roles.{is_linked, is_host}
+use Rattle.ps_codefile.specs.Roles.{needs_linking}
 use Rattle.ps_resolve.specs.Sources.{file_at}
-use Rattle.ps_resolve.specs.Views.{segment_of, IsPlaced, HasTables, IsLike, AreAlike, HasRow}
+use Rattle.ps_resolve.specs.Views.{segment_of, IsPlaced, IsRead, IsSound, IsLike, AreAlike, HasRow}
 use Rattle.ps_resolve.specs.Operands.{edit_of, operands, refs_fault}
 use Rattle.ps_resolve.specs.References.{Known, HasTarget, HaveTargets, target_in, target_of, words_taken, records_fault, records_edits}
-use Rattle.ps_resolve.specs.Stops.{IsStop}
-use Rattle.ps_resolve.specs.Faults.{in_segment, segment_fault}
-use Rattle.ps_resolve.specs.Linking.{data_edits, segment_edits}
-use Rattle.ps_resolve.specs.Plans.{LinksSegment}
-use Rattle.ps_resolve.specs.Privates.{private_words}
-use Rattle.ps_resolve.specs.declared.linkage.Stop.{Stop}
 use Rattle.ps_resolve.specs.declared.references.Target.{Target}
 use Rattle.ps_resolve.specs.declared.references.Target.TheVariants.{Base}
 use Rattle.ps_resolve.specs.declared.reading.segment.Segment.{Segment as SegmentView}
@@ -34,23 +24,25 @@ use Rattle.ps_resolve.proofs.Apart.{one_more}
 use Rattle.ps_resolve.proofs.ReadingRows.{neither_second}
 use Rattle.ps_resolve.proofs.Rows.{NoLinks, record_refused, record_by, record_stands, edits_more, words_are}
 
--- two segments whose records are those of their places have the same ones, where the places are the same
+-- two segments whose records are those of their places have the same ones, where the places are the
+-- same
 like_by : (order : Order) (host : List ℕ) (libs : List (List ℕ)) (s q : SegmentView) → IsPlaced order host libs s → IsPlaced order host libs q → IsLike s q
 like_by order host libs s q hs hq ls lq file block =
     let same : reading order (drop (512 * s.block) (file_at host libs s.file)) ≡ reading order (drop (512 * q.block) (file_at host libs q.file)) =
     ap (λ (n : ℕ). reading order (drop (512 * n) (file_at host libs s.file))) block ∙ ap (λ (n : ℕ). reading order (drop (512 * q.block) (file_at host libs n))) file in
-    ap (λ (read : List Record × Option Reason). read.0) (sym (hs.0 ls) ∙ (same ∙ hq.0 lq))
+    ap (λ (read : List Record × Option Reason). read.0) (sym (hs ls) ∙ (same ∙ hq lq))
 
--- segments whose records are those of their places are alike
-pub placed_alike : (order : Order) (host : List ℕ) (libs : List (List ℕ)) (segs : List SegmentView) → All (IsPlaced order host libs) segs → AreAlike segs
-placed_alike order host libs segs all = λ i d l. λ j e m. like_by order host libs (get_or segs i d) (get_or segs j e) (all i d l) (all j e m)
+-- segments that were read are alike, and each is sound
+pub read_alike : (order : Order) (host : List ℕ) (libs : List (List ℕ)) (segs : List SegmentView) → All (IsRead order host libs) segs → AreAlike segs
+read_alike order host libs segs all = λ i d l. λ j e m. like_by order host libs (get_or segs i d) (get_or segs j e) (all i d l).placed (all j e m).placed
 
--- and they have the procedure tables of their codes
-pub placed_tables : (order : Order) (host : List ℕ) (libs : List (List ℕ)) (segs : List SegmentView) → All (IsPlaced order host libs) segs → All (HasTables order) segs
-placed_tables order host libs segs all = λ i d l. (all i d l).1
+pub all_sound : (order : Order) (host : List ℕ) (libs : List (List ℕ)) (segs : List SegmentView) → All (IsRead order host libs) segs → All (IsSound order) (map segment_of segs)
+all_sound order host libs [] all = All-nil (IsSound order)
+all_sound order host libs (s ∷ ss) all =
+    All-cons (IsSound order) (segment_of s) (map segment_of ss) (All-head (IsRead order host libs) s ss all).sound (all_sound order host libs ss (All-tail (IsRead order host libs) s ss all))
 
 -- what holds of the records of each segment holds of those of one that is like them
-pub of_row : (P : List Record → Type 0) (segs : List SegmentView) (s : SegmentView) (rs : List Record) → is_linked s.role ≡ true → All (IsLike s) segs → All (λ q. P q.records) segs → HasRow segs s.file s.block rs → P s.records
+pub of_row : (P : List Record → Type 0) (segs : List SegmentView) (s : SegmentView) (rs : List Record) → needs_linking s.role ≡ true → All (IsLike s) segs → All (λ q. P q.records) segs → HasRow segs s.file s.block rs → P s.records
 of_row P segs s rs linked alike all (q, has, of, file, block, is) =
     subst P (sym (All-contains (IsLike s) segs q alike has linked of (sym file) (sym block))) (All-contains (λ (q : SegmentView). P q.records) segs q all has)
 
@@ -96,7 +88,7 @@ have_targets known R code (r ∷ rs) n off os h = at (λ m free ps k. have_targe
         let behind = neither_second _ _ (sym (record_by known R code n off os r rs t e) ∙ h) in
         All-cons (HasTarget known) r rs (rebased known off 0 r t e) (rest (n + 1) (off + words_taken r.body) (os ++ operands t (refs_of r.body)) behind)
 
--- a record that does not ask for a private takes no words
+-- a record that does not request a private takes no words
 no_words : (b : Body) → is_private_reference b ≡ false → words_taken b ≡ 0
 no_words (UnitRef refs) h = refl
 no_words (PublRef refs) h = refl
@@ -105,7 +97,7 @@ no_words (PublDef value) h = refl
 no_words (ConstDef value) h = refl
 no_words (Eof next) h = refl
 
--- where none of them has a reference or asks for a private, there is no edit, no fault and no word
+-- where none of them has a reference or requests a private, there is no edit, no fault and no word
 pub no_references : (known : Known) (R : ℕ → Bool) (code : List ℕ) (rs : List Record) (n off : ℕ) (os : List (ℕ × ℕ)) → HaveTargets known rs → references_in rs ≡ 0 → privates_in rs ≡ 0 → NoLinks known R code n off os rs
 no_references known R code [] n off os named none unasked = record { edits = refl; first = refl; words = refl }
 no_references known R code (r ∷ rs) n off os named none unasked =
@@ -134,27 +126,3 @@ no_references known R code (r ∷ rs) n off os named none unasked =
         let target = rebased known 0 off r head.0 head.1 in
         let empty : refs_of r.body ≡ [] = nil_from_length (refs_of r.body) (omega (arith, counted)) in
         passed target.0 target.1 empty (no_words r.body e) (λ m free ps. rest m free ps (omega (arith, counted)) (omega arith))
-
--- what a segment without its records comes to is what it comes to, where they are such
-module _ (order : Order) (known : Known) (v : SegmentView) (free : ℕ) (named : HaveTargets known v.records) (none : references_in v.records ≡ 0) (unasked : privates_in v.records ≡ 0) where
-  abbrev bare : SegmentView
-  bare = record v { records = [] }
-
-  no : NoLinks known (is_reserved order v.code.now) v.code.now 0 free [] v.records
-  no = no_references known (is_reserved order v.code.now) v.code.now v.records 0 free [] named none unasked
-
-  pub bare_links : (words : ℕ) (edits : List Edit) → LinksSegment order (record { segment = segment_of bare; edits = segment_edits order known words free (segment_of bare) }) edits
-      → LinksSegment order (record { segment = segment_of v; edits = segment_edits order known words free (segment_of v) }) edits
-  bare_links words edits links =
-      let same : segment_edits order known words free (segment_of bare) ≡ segment_edits order known words free (segment_of v) =
-      ap (λ (es : List Edit). if is_linked v.role then Byte (length v.code.now - 2) v.slot ∷ ((if is_host v.role then data_edits order words v.code.now else []) ++ es) else []) (sym no.edits) in
-      subst (λ (es : List Edit). LinksSegment order (record { segment = segment_of v; edits = es }) edits) same (record { ready = links.ready; each = links.each; bytes = links.bytes })
-
-  pub bare_end : (end : ℕ) → end ≡ free + 0 → end ≡ free + private_words v.records
-  bare_end end h = omega (arith, no.words)
-
-  pub bare_fault : segment_fault order known free (segment_of v) ≡ None
-  bare_fault = ap (option_map (in_segment v.file v.slot)) no.first
-
-  pub bare_stop : (stop : Stop) → IsStop ⊤ None stop → IsStop ⊤ (segment_fault order known free (segment_of v)) stop
-  bare_stop stop h = subst (λ (o : Option Fault). IsStop ⊤ o stop) (sym bare_fault) h

@@ -1,23 +1,34 @@
 -- The first fault of a link's segments, stage by stage.
-use Rattle.std.proofs.Common.{◌≡◌, ℕ, ◌<◌, List, [], length, map, Option, Some, None, refl, sym, ◌∙◌, ap, subst}
+use Rattle.std.proofs.Common.{◌≡◌, ℕ, ◌<◌, List, [], ◌∷◌, length, map, true, Option, Some, None, refl, sym, ◌∙◌, ap, subst}
+use Rattle.std.specs.Prelude.{All}
 use Rattle.std.specs.Option.{option_or, option_map, option_map_or}
 use Rattle.ps_words.specs.FaultPlaces.{in_record}
+use Rattle.ps_words.specs.declared.edit.Edit.{Edit}
 use Rattle.ps_words.specs.declared.order.Order.{Order}
+use Rattle.ps_words.specs.declared.fault.Fault.{Fault}
 use Rattle.ps_words.specs.declared.fault.Reason.TheVariants as reason
+use Rattle.ps_codefile.specs.Roles.{is_host}
+use Rattle.ps_linkinfo.specs.RecordCounts.{next_of}
 use Rattle.ps_linkinfo.specs.declared.record.LinkRecord.{LinkRecord as Record}
 use Rattle.ps_resolve.specs.Sources.{Segment, host_of, host_records, units_of}
-use Rattle.ps_resolve.specs.Symbols.{definitions, doubled}
-use Rattle.ps_resolve.specs.Stops.{IsStop, doubled_fault}
-use Rattle.ps_linkinfo.specs.Counts.{next_of}
-use Rattle.ps_resolve.specs.Privates.{Owner, owner_of, all_allotted, first_private_fault, total_words}
+use Rattle.ps_resolve.specs.Symbols.{definitions, first_duplicate}
+use Rattle.ps_resolve.specs.Stops.{IsStop, duplicate_fault}
+use Rattle.ps_resolve.specs.Privates.{Owner, Allotted, owner_of, all_allotted, all_words, allotment_of, first_private_fault, total_words}
 use Rattle.ps_resolve.specs.Edits.{IsOfSize, AreOfReferences}
+use Rattle.ps_resolve.specs.Linkable.{HasOneHost}
 use Rattle.ps_resolve.specs.References.{Known}
-use Rattle.ps_resolve.specs.Linking.{known_of}
+use Rattle.ps_resolve.specs.Linking.{known_of, data_edits, edited_segments, edited_from}
 use Rattle.ps_resolve.specs.Faults.{definitions_fault, privates_fault, data_fault, size_fault, references_fault, references_fault_from, linking_fault}
-use Rattle.ps_resolve.specs.Plans.{AreStopped}
+use Rattle.ps_resolve.specs.Plans.{AreStopped, LinkSegments, origin_of, origin_of_source}
+use Rattle.ps_resolve.specs.Views.{segment_of}
 use Rattle.ps_resolve.specs.declared.definitions.Def.{Def}
 use Rattle.ps_resolve.specs.declared.linkage.Stop.{Stop}
 use Rattle.ps_resolve.specs.declared.linkage.Stop.TheVariants.{Refused, Memory}
+use Rattle.ps_resolve.specs.declared.plan.Source.{Source}
+use Rattle.ps_resolve.specs.declared.reading.segment.Segment.{Segment as SegmentView}
+use Rattle.ps_resolve.proofs.Hosts.{of_hosts}
+use Rattle.ps_resolve.proofs.Lengths.{lengths}
+use Rattle.ps_resolve.proofs.Segs.{owners_of_segments}
 
 pub skip : {X : Type 0} (a b : Option X) → a ≡ None → option_or a b ≡ b
 skip None b h = refl
@@ -27,84 +38,101 @@ pub keep : {X : Type 0} (a b : Option X) (x : X) → a ≡ Some x → option_or 
 keep None b x h = cc
 keep (Some y) b x h = h
 
--- a private is refused, or memory for privates ran out
-abbrev StopsAtPrivate : ℕ → List Owner → Stop → Type 0
-StopsAtPrivate next ss = IsStop (0 < length (all_allotted next ss)) (first_private_fault next ss)
+-- a link of these segments, of which one is the host's
+module _ (order : Order) (ss : List SegmentView) (own : SegmentView) (is : host_of (map segment_of ss) ≡ Some (segment_of own)) where
+  abbrev segs : List Segment
+  segs = map segment_of ss
 
--- a definition is refused, or memory for definitions ran out
-abbrev StopsAtDefinition : ℕ → ℕ → List Record → Stop → Type 0
-StopsAtDefinition file slot rs = IsStop (0 < length (definitions rs)) (doubled_fault file slot rs)
+  abbrev owners : List Owner
+  owners = map (λ (s : SegmentView). owner_of (segment_of s)) ss
 
-module _ (order : Order) (segs : List Segment) where
+  owners_are : owners ≡ map owner_of segs
+  owners_are = owners_of_segments ss
+
+  pub records_are : host_records segs ≡ own.records
+  records_are = ap (λ (o : Option Segment). option_map_or (λ s. s.records) o []) is
+
   stages : linking_fault order segs ≡ option_or (definitions_fault segs) (option_or (privates_fault segs) (option_or (data_fault order segs) (references_fault order segs)))
   unfolding linking_fault
   stages = refl
 
-  module _ (h : Segment) (is : host_of segs ≡ Some h) where
-    pub records_are : host_records segs ≡ h.records
-    records_are = ap (λ (o : Option Segment). option_map_or (λ s. s.records) o []) is
+  definitions_are : definitions_fault segs ≡ duplicate_fault 0 own.slot own.records
+  unfolding definitions_fault
+  definitions_are = rw is refl
 
-    definitions_are : definitions_fault segs ≡ option_map (λ rec. in_record 0 h.slot rec reason.DoubledDefinition) (doubled h.records)
-    unfolding definitions_fault
-    definitions_are = rw is refl
+  privates_are : privates_fault segs ≡ first_private_fault (next_of own.records) (map owner_of segs)
+  unfolding privates_fault
+  privates_are = ap (λ (rs : List Record). first_private_fault (next_of rs) (map owner_of segs)) records_are
 
-    privates_are : privates_fault segs ≡ first_private_fault (next_of h.records) (map owner_of segs)
-    unfolding privates_fault
-    privates_are = ap (λ (rs : List Record). first_private_fault (next_of rs) (map owner_of segs)) records_are
+  data_is : data_fault order segs ≡ size_fault order (total_words segs) (segment_of own)
+  unfolding data_fault
+  data_is = rw is refl
 
-    data_is : data_fault order segs ≡ size_fault order (total_words segs) h
-    unfolding data_fault
-    data_is = rw is refl
+  references_are : references_fault order segs ≡ references_fault_from order (known_of segs) (next_of own.records) segs
+  unfolding references_fault
+  references_are = ap (λ (rs : List Record). references_fault_from order (known_of segs) (next_of rs) segs) records_are
 
-    references_are : references_fault order segs ≡ references_fault_from order (known_of segs) (next_of h.records) segs
-    unfolding references_fault
-    references_are = ap (λ (rs : List Record). references_fault_from order (known_of segs) (next_of rs) segs) records_are
+  pub definitions_stop : (stop : Stop) → IsStop (0 < length (definitions own.records)) (duplicate_fault 0 own.slot own.records) stop → AreStopped order segs stop
+  definitions_stop (Refused fault) d = stages ∙ keep _ _ fault (definitions_are ∙ d)
+  definitions_stop Memory d = tt
 
-    -- what is known of names
-    pub known_is : (ds : List (List ℕ × Def)) (us : List (List ℕ × ℕ)) → ds ≡ definitions h.records → us ≡ units_of segs → ◌≡◌ {A = Known} (record { definitions = ds; units = us }) (known_of segs)
-    known_is ds us d u =
-        ap (λ (xs : List (List ℕ × Def)). record { definitions = xs; units = us }) (d ∙ ap definitions (sym records_are))
-        ∙ ap (λ (ys : List (List ℕ × ℕ)). record { definitions = definitions (host_records segs); units = ys }) u
+  -- its definitions, and the offset after its own data
+  module _ (ds : List (List ℕ × Def)) (ds_are : ds ≡ definitions own.records) (once : first_duplicate own.records ≡ None) (next : ℕ) (next_is : next ≡ next_of own.records) where
+    behind_definitions : linking_fault order segs ≡ option_or (privates_fault segs) (option_or (data_fault order segs) (references_fault order segs))
+    behind_definitions = stages ∙ skip _ _ (definitions_are ∙ ap (option_map (λ rec. in_record 0 own.slot rec reason.DoubledDefinition)) once)
 
-    doubled_stop : (stop : Stop) → StopsAtDefinition 0 h.slot h.records stop → AreStopped order segs stop
-    doubled_stop (Refused fault) d = stages ∙ keep _ _ fault (definitions_are ∙ d)
-    doubled_stop Memory d = tt
+    fault_is : first_private_fault next owners ≡ privates_fault segs
+    fault_is = ap (λ (n : ℕ). first_private_fault n owners) next_is ∙ ap (first_private_fault (next_of own.records)) owners_are ∙ sym privates_are
 
-    pub doubled_at : (slot : ℕ) (rs : List Record) (stop : Stop) → slot ≡ h.slot → rs ≡ h.records → StopsAtDefinition 0 slot rs stop → AreStopped order segs stop
-    doubled_at slot rs stop s r d = doubled_stop stop (subst (λ (n : ℕ). StopsAtDefinition 0 n h.records stop) s (subst (λ (qs : List Record). StopsAtDefinition 0 slot qs stop) r d))
+    pub privates_stop : (stop : Stop) → IsStop (0 < length (all_allotted next owners)) (first_private_fault next owners) stop → AreStopped order segs stop
+    privates_stop (Refused fault) d = behind_definitions ∙ keep _ _ fault (sym fault_is ∙ d)
+    privates_stop Memory d = tt
 
-    module _ (once : doubled h.records ≡ None) where
-      behind_definitions : linking_fault order segs ≡ option_or (privates_fault segs) (option_or (data_fault order segs) (references_fault order segs))
-      behind_definitions = stages ∙ skip _ _ (definitions_are ∙ ap (option_map (λ rec. in_record 0 h.slot rec reason.DoubledDefinition)) once)
+    -- the privates, and how many words they take
+    module _ (a : Allotted) (a_is : a ≡ allotment_of next owners) (allotted : first_private_fault next owners ≡ None) (words : ℕ) (words_is : words ≡ a.words) where
+      pub words_are : words ≡ total_words segs
+      words_are = words_is ∙ ap (λ (b : Allotted). b.words) a_is ∙ ap all_words owners_are
 
-      unallotted_stop : (stop : Stop) → StopsAtPrivate (next_of h.records) (map owner_of segs) stop → AreStopped order segs stop
-      unallotted_stop (Refused fault) d = behind_definitions ∙ keep _ _ fault (privates_are ∙ d)
-      unallotted_stop Memory d = tt
+      pub allotment_is : a ≡ allotment_of (next_of (host_records segs)) (map owner_of segs)
+      allotment_is = a_is ∙ ap (λ (n : ℕ). allotment_of n owners) (next_is ∙ ap next_of (sym records_are)) ∙ ap (allotment_of (next_of (host_records segs))) owners_are
 
-      pub unallotted_at : (next : ℕ) (owners : List Owner) (stop : Stop) → next ≡ next_of h.records → owners ≡ map owner_of segs → StopsAtPrivate next owners stop → AreStopped order segs stop
-      unallotted_at next owners stop n o d = unallotted_stop stop (subst (λ (m : ℕ). StopsAtPrivate m (map owner_of segs) stop) n (subst (λ (os : List Owner). StopsAtPrivate next os stop) o d))
+      behind_privates : linking_fault order segs ≡ option_or (size_fault order words (segment_of own)) (references_fault order segs)
+      behind_privates = behind_definitions ∙ skip _ _ (sym fault_is ∙ allotted)
+          ∙ ap (λ (o : Option Fault). option_or o (references_fault order segs)) (data_is ∙ ap (λ (n : ℕ). size_fault order n (segment_of own)) (sym words_are))
 
-      module _ (allotted : first_private_fault (next_of h.records) (map owner_of segs) ≡ None) where
-        behind_privates : linking_fault order segs ≡ option_or (data_fault order segs) (references_fault order segs)
-        behind_privates = behind_definitions ∙ skip _ _ (privates_are ∙ allotted)
+      pub size_stop : (stop : Stop) → IsOfSize order words (segment_of own) stop → AreStopped order segs stop
+      size_stop (Refused fault) d = behind_privates ∙ keep _ _ fault d
+      size_stop Memory d = absurd d
 
-        size_stop : (stop : Stop) → IsOfSize order (total_words segs) h stop → AreStopped order segs stop
-        size_stop (Refused fault) d = behind_privates ∙ keep _ _ fault (data_is ∙ d)
-        size_stop Memory d = absurd d
+      -- the edit that stores the host's data size, the units of the link
+      module _ (fits : size_fault order words (segment_of own) ≡ None) (units : List (List ℕ × ℕ)) (units_is : units ≡ units_of segs) where
+        abbrev known : Known
+        known = record { definitions = ds; units = units }
 
-        pub size_at : (words : ℕ) (stop : Stop) → words ≡ total_words segs → IsOfSize order words h stop → AreStopped order segs stop
-        size_at words stop w d = size_stop stop (subst (λ (n : ℕ). IsOfSize order n h stop) w d)
+        pub known_is : known ≡ known_of segs
+        known_is =
+            ap (λ (xs : List (List ℕ × Def)). record { definitions = xs; units = units }) (ds_are ∙ ap definitions (sym records_are))
+            ∙ ap (λ (ys : List (List ℕ × ℕ)). record { definitions = definitions (host_records segs); units = ys }) units_is
 
-        module _ (fits : size_fault order (total_words segs) h ≡ None) where
-          behind_size : linking_fault order segs ≡ references_fault_from order (known_of segs) (next_of h.records) segs
-          behind_size = behind_privates ∙ skip _ _ (data_is ∙ fits) ∙ references_are
+        behind_size : linking_fault order segs ≡ references_fault_from order known next segs
+        behind_size = behind_privates ∙ skip _ _ fits ∙ references_are
+            ∙ sym (ap (λ (q : Known). references_fault_from order q next segs) known_is ∙ ap (λ (m : ℕ). references_fault_from order (known_of segs) m segs) next_is)
 
-          references_stop : (stop : Stop) → AreOfReferences order (known_of segs) (next_of h.records) segs stop → AreStopped order segs stop
-          references_stop (Refused fault) d = behind_size ∙ d
-          references_stop Memory d = tt
+        pub references_stop : (stop : Stop) → AreOfReferences order known next segs stop → AreStopped order segs stop
+        references_stop (Refused fault) d = behind_size ∙ d
+        references_stop Memory d = tt
 
-          pub references_at : (known : Known) (next : ℕ) (stop : Stop) → known ≡ known_of segs → next ≡ next_of h.records → AreOfReferences order known next segs stop → AreStopped order segs stop
-          references_at known next stop k n d = references_stop stop (subst (λ (m : ℕ). AreOfReferences order (known_of segs) m segs stop) n (subst (λ (q : Known). AreOfReferences order q next segs stop) k d))
+        pub none_stands : references_fault_from order known next segs ≡ None → linking_fault order segs ≡ None
+        none_stands d = behind_size ∙ d
 
-          pub none_at : (known : Known) (next : ℕ) → known ≡ known_of segs → next ≡ next_of h.records → references_fault_from order known next segs ≡ None → linking_fault order segs ≡ None
-          none_at known next k n d = behind_size ∙ sym (ap (λ (q : Known). references_fault_from order q next segs) k ∙ ap (λ (m : ℕ). references_fault_from order (known_of segs) m segs) n) ∙ d
+        module _ (one : HasOneHost segs) (size : Edit) (stored : data_edits order words own.code.now ≡ size ∷ []) (edits : List (List Edit))
+            (links : (n : ℕ) → All (λ s. is_host s.role ≡ true → data_edits order n s.code ≡ size ∷ []) segs → LinkSegments order (edited_from order known n next segs) edits) where
+          linked : LinkSegments order (edited_from order known (total_words segs) next segs) edits
+          linked = links (total_words segs) (of_hosts segs (segment_of own) is one (λ s. data_edits order (total_words segs) s.code ≡ size ∷ []) (sym (ap (λ (n : ℕ). data_edits order n own.code.now) words_are) ∙ stored))
+
+          pub all_linked : LinkSegments order (edited_segments order segs) edits
+          all_linked = subst (λ (n : ℕ). LinkSegments order (edited_from order (known_of segs) (total_words segs) n segs) edits) (next_is ∙ ap next_of (sym records_are))
+              (subst (λ (k : Known). LinkSegments order (edited_from order k (total_words segs) next segs) edits) known_is linked)
+
+          pub as_many : (sources : List Source) → map origin_of_source sources ≡ map origin_of segs → length edits ≡ length sources
+          as_many sources o = lengths order known (total_words segs) next segs edits sources linked o

@@ -1,4 +1,5 @@
--- The attribute table of a host's outer block: it lies whole before the procedure dictionary, and its places are reserved.
+-- The attribute table of a host's outer block: it lies whole before the procedure dictionary, and
+-- its places are reserved.
 use Rattle.std.proofs.Common.{◌≡◌, ℕ, zero, suc, ◌+◌, ◌-◌, ◌*◌, ◌<◌, ◌≤◌, ◌==◌, ◌&&◌, ◌||◌, List, [], ◌∷◌, length, Bool, true, false, Option, Some, None, refl, sym, ◌∙◌, ap, subst, arith}
 use Rattle.std.specs.Prelude.{nat_le, nat_lt, not, if◌then◌else◌, option_and_then}
 use Rattle.std.specs.Option.{option_map_or}
@@ -62,7 +63,8 @@ placed false true true h k = (refl, refl)
 placed false true false h k = cc
 placed false false c h k = cc
 
--- where the tables of the code of a host have no fault, its outer block has a table in the bounds above
+-- where the tables of the code of a host have no fault, its outer block has a table in the bounds
+-- above
 pub outer : (order : Order) (code : List ℕ) → tables_fault order code true ≡ None → HasOuter order code
 outer order code h =
     let e = three_false (nat_lt (length code) (dictionary_len code)) (not (list_all (is_placed order code) (numbers code))) (procedures code == 0 || content_of order code 1 == 0)
@@ -110,8 +112,9 @@ some_table : (f : ℕ → Option ℕ) (q : ℕ → Bool) (n t : ℕ) → 1 ≤ n
 some_table f q zero t h k s = absurd (omega arith)
 some_table f q (suc n) t h k s = rw k (rw s refl)
 
--- what stands eight bytes before its place, its data size, may be stored beside the edits of the references
-pub outer_stored : (order : Order) (code : List ℕ) (t v : ℕ) → tables_fault order code true ≡ None → table_of order code 1 ≡ Some t → IsOfTable order code (Word (t - 8) v)
+-- what is eight bytes before its place, its data size, may be stored beside the edits of the
+-- references
+pub outer_stored : (order : Order) (code : List ℕ) (t v : ℕ) → tables_fault order code true ≡ None → table_of order code 1 ≡ Some t → IsOfTable order code (Word v (t - 8))
 outer_stored order code t v none k = record { storable = tt; before = before; reserved = reserved }
   where
     o : HasOuter order code
@@ -126,7 +129,7 @@ outer_stored order code t v none k = record { storable = tt; before = before; re
     low_of : (x p : ℕ) → (nat_le x p && nat_lt p (x + 2)) ≡ true → 8 ≤ x + 8 → (nat_le x p && nat_le p (x + 8 + 1)) ≡ true
     low_of x p h l = grind (arith, nat_tests)
 
-    reserved : (p : ℕ) → covers p (Word (t - 8) v) ≡ true → is_reserved order code p ≡ true
+    reserved : (p : ℕ) → covers p (Word v (t - 8)) ≡ true → is_reserved order code p ≡ true
     reserved p h = or_right _ _ (some_table (table_of order code) (λ t. nat_le (t - 8) p && nat_le p (t + 1)) (procedures code) t o.procedure k
         (let e : t - 8 + 8 ≡ t = (let l = o.low in omega (arith, same)) in subst (λ (n : ℕ). (nat_le (t - 8) p && nat_le p (n + 1)) ≡ true) e (low_of (t - 8) p h (omega arith))))
 
@@ -140,8 +143,8 @@ outer_bounds order code t none k =
 
 -- what the data size becomes, by the place of the table
 module _ (order : Order) (code : List ℕ) (words t : ℕ) (k : table_of order code 1 ≡ Some t) where
-  pub edits_at : data_edits order words code ≡ Word (t - 8) (grown_data_size order code words t) ∷ []
-  edits_at = ap (λ (o : Option ℕ). option_map_or (λ p. Word (data_place p) (grown_data_size order code words p) ∷ []) o []) k
+  pub edits_at : data_edits order words code ≡ Word (grown_data_size order code words t) (t - 8) ∷ []
+  edits_at = ap (λ (o : Option ℕ). option_map_or (λ p. Word (grown_data_size order code words p) (data_place p) ∷ []) o []) k
 
   pub size_at : data_size_of order words code ≡ grown_data_size order code words t
   size_at = ap (λ (o : Option ℕ). option_map_or (grown_data_size order code words) o 0) k

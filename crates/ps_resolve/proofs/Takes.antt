@@ -12,13 +12,13 @@ use Rattle.ps_words.specs.declared.fault.Reason.TheVariants as reason
 use Rattle.ps_codefile.specs.Places.{has}
 use Rattle.ps_codefile.specs.Procedures.{is_reserved, ProcedureTables}
 use Rattle.ps_resolve.specs.Edits.{reason_in}
-use Rattle.ps_resolve.specs.Marks.{AreTaken}
+use Rattle.ps_resolve.specs.TakenPlaces.{AreTaken}
 use Rattle.ps_resolve.specs.Operands.{is_in, operands, width_of, value_of, refs_fault, reference_reason}
 use Rattle.ps_resolve.specs.Searches.{fault_if}
 use Rattle.ps_resolve.specs.declared.references.Target.{Target}
 use Rattle.ps_resolve.specs.declared.references.Target.TheVariants.{Slot, Base}
 
--- the references from i on are the one there and those behind it
+-- the references from i on are the one there and those after it
 pub drop_one : (xs : List ℕ) (i : ℕ) → i < length xs → drop i xs ≡ get_or xs i 0 ∷ drop (i + 1) xs
 drop_one xs i h = rw (add-one, drop-cons xs i 0)
 
@@ -31,7 +31,7 @@ map_one f xs i h = rw (take_one xs i h) (map-append f (take i xs) (get_or xs i 0
 pub operands_one : (t : Target) (os : List (ℕ × ℕ)) (xs : List ℕ) (i : ℕ) → i < length xs → os ++ operands t (take (i + 1) xs) ≡ (os ++ operands t (take i xs)) ++ (get_or xs i 0, width_of t) ∷ []
 operands_one t os xs i h = ap (λ (zs : List (ℕ × ℕ)). os ++ zs) (map_one (λ x. (x, width_of t)) xs i h) ∙ sym (append_assoc os (operands t (take i xs)) ((get_or xs i 0, width_of t) ∷ []))
 
--- one that does not stand is the first fault
+-- a reference with a fault has the first fault
 pub fault_here : (R : ℕ → Bool) (code : List ℕ) (t : Target) (os : List (ℕ × ℕ)) (xs : List ℕ) (i : ℕ) → i < length xs
     → (why : Reason) → reference_reason R code (os ++ operands t (take i xs)) t (get_or xs i 0) ≡ Some why
     → refs_fault R code t i (os ++ operands t (take i xs)) (drop i xs) ≡ Some (i, why)
@@ -39,7 +39,7 @@ fault_here R code t os xs i h why some =
     ap (λ (ys : List ℕ). refs_fault R code t i (os ++ operands t (take i xs)) ys) (drop_one xs i h)
     ∙ ap (λ (o : Option Reason). option_or (option_map (λ why. (i, why)) o) (refs_fault R code t (i + 1) ((os ++ operands t (take i xs)) ++ (get_or xs i 0, width_of t) ∷ []) (drop (i + 1) xs))) some
 
--- a reference that stands is passed over
+-- a reference without a fault is passed over
 pub fault_one : (R : ℕ → Bool) (code : List ℕ) (t : Target) (os : List (ℕ × ℕ)) (xs : List ℕ) (i : ℕ) → i < length xs
     → reference_reason R code (os ++ operands t (take i xs)) t (get_or xs i 0) ≡ None
     → refs_fault R code t i (os ++ operands t (take i xs)) (drop i xs) ≡ refs_fault R code t (i + 1) (os ++ operands t (take (i + 1) xs)) (drop (i + 1) xs)

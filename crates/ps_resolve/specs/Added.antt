@@ -1,4 +1,5 @@
--- Units that only a unit names: which names are sought in the libraries, which empty slot each takes, the segments that are added so, and then all segments of a link.
+-- Units that only a unit names: which names are looked up in the libraries, which empty slot each
+-- takes, the segments that are added so, and then all segments of a link.
 -- Source: this project's profile.
 use Rattle.std.specs.Prelude.{◌≡◌, ◌⊎◌, ◌≤◌, ℕ, ◌+◌, ◌==◌, ◌||◌, if◌then◌else◌, List, [], ◌∷◌, ◌++◌, length, map, slice_get, All, Bool, true, Option, Some, None, is_some, is_none}
 use Rattle.std.specs.List.{range_with_len, list_any, filter, filter_map, flat_map, find}
@@ -10,7 +11,7 @@ use Rattle.ps_words.specs.declared.order.Order.{Order}
 use Rattle.ps_words.specs.declared.fault.Reason.TheVariants as reason
 use Rattle.ps_words.specs.declared.fault.Fault.{Fault}
 use Rattle.ps_codefile.specs.Dictionary.{slots, name_at, is_nameless}
-use Rattle.ps_linkinfo.specs.Counts.{is_unit_reference}
+use Rattle.ps_linkinfo.specs.RecordCounts.{is_unit_reference}
 use Rattle.ps_codefile.specs.declared.entry.Role.TheVariants.{Wanted}
 use Rattle.ps_linkinfo.specs.declared.record.LinkRecord.{LinkRecord as Record}
 use Rattle.ps_codefile.specs.Roles.{is_empty}
@@ -18,7 +19,8 @@ use Rattle.ps_resolve.specs.Sources.{Segment, own_segment, own_segments, segment
 use Rattle.ps_resolve.specs.Faults.{is_role, entry_fault, code_fault}
 use Rattle.ps_resolve.specs.declared.reading.added.UnitReference.{UnitReference}
 
--- the UNITREF records of a segment from this file in this slot, the first of whose records has number `rec`
+-- the UNITREF records of a segment from this file in this slot, the first of whose records has
+-- number `rec`
 abbrev pub unit_references : ℕ → ℕ → ℕ → List Record → List UnitReference
 unit_references file slot rec [] = []
 unit_references file slot rec (r ∷ rs) =
@@ -30,22 +32,24 @@ unit_references file slot rec (r ∷ rs) =
 abbrev pub all_unit_references : List Segment → List UnitReference
 all_unit_references segs = flat_map (λ s. unit_references s.file s.slot 0 s.records) segs
 
--- a unit in a slot of the host has the name, or it is in the row of those that are sought
-abbrev pub is_had : List (List ℕ × ℕ) → List UnitReference → List ℕ → Bool
-is_had units row name = is_some (lookup (bytes_eq name) units) || list_any (λ g. bytes_eq g.name name) row
+-- a unit in a slot of the host has the name, or it is in the row of those that are requested
+abbrev pub is_already_known : List (List ℕ × ℕ) → List UnitReference → List ℕ → Bool
+is_already_known units row name = is_some (lookup (bytes_eq name) units) || list_any (λ g. bytes_eq g.name name) row
 
--- The row of the names that are sought, each with the record that first gave it: behind those of `row`, each name of the references that no unit has and that is not in the row yet.
-abbrev pub sought_from : List (List ℕ × ℕ) → List UnitReference → List UnitReference → List UnitReference
-sought_from units row [] = row
-sought_from units row (g ∷ gs) = sought_from units (if is_had units row g.name then row else row ++ g ∷ []) gs
+-- The row of the names that are requested, each with the record that first gave it: after those of
+-- `row`, each name of the references that no unit has and that is not in the row yet.
+abbrev pub requested_from : List (List ℕ × ℕ) → List UnitReference → List UnitReference → List UnitReference
+requested_from units row [] = row
+requested_from units row (g ∷ gs) = requested_from units (if is_already_known units row g.name then row else row ++ g ∷ []) gs
 
--- a unit in a slot of the host has the name that the record asks for, or it is in the row, where the record is a UNITREF
-abbrev pub IsHad : List (List ℕ × ℕ) → List UnitReference → Record → Type 0
-IsHad units row r = is_unit_reference r.body ≡ true → is_had units row r.name ≡ true
+-- a unit in a slot of the host has the name that the record requests, or it is in the row, where
+-- the record is a UNITREF
+abbrev pub IsAlreadyKnown : List (List ℕ × ℕ) → List UnitReference → Record → Type 0
+IsAlreadyKnown units row r = is_unit_reference r.body ≡ true → is_already_known units row r.name ≡ true
 
 -- so it is with all of the records, or the row has ten names, of which no more are kept
-abbrev pub AreHad : List (List ℕ × ℕ) → List UnitReference → List Record → Type 0
-AreHad units row rs = (10 ≤ length row) ⊎ All (IsHad units row) rs
+abbrev pub AreAlreadyKnown : List (List ℕ × ℕ) → List UnitReference → List Record → Type 0
+AreAlreadyKnown units row rs = (10 ≤ length row) ⊎ All (IsAlreadyKnown units row) rs
 
 -- the slots that units may be added in, ascending
 unfoldable pub empty_slots : Order → List ℕ → List ℕ
@@ -59,12 +63,14 @@ is_missing order libs name = is_nameless name || is_none (chosen_library order n
 abbrev pub unplaced_fault : Order → List (List ℕ) → UnitReference → Fault
 unplaced_fault order libs g = in_record g.file g.slot g.rec (if is_missing order libs g.name then reason.MissingUnit else reason.NoSlot)
 
--- the first fault of a name that takes this slot: of the name, of the library's entries, then of the code, its tables and its records
+-- the first fault of a name that takes this slot: of the name, of the library's entries, then of
+-- the code, its tables and its records
 abbrev pub placed_fault : Order → List ℕ → List (List ℕ) → UnitReference → ℕ → Option Fault
 placed_fault order host libs g slot =
     if is_missing order libs g.name then Some (in_record g.file g.slot g.rec reason.MissingUnit)
     else option_or (entry_fault order g.name libs slot) (option_and_then (code_fault order host libs slot Wanted) (unit_source order g.name libs))
 
+-- the segment, marked as added
 abbrev pub as_added : Segment → Segment
 as_added s = record s { added = true }
 
@@ -77,10 +83,12 @@ pub record Rounds : Type 0 where
   pub added : List Segment
   pub fault : Option Fault
 
+-- the rounds that begin with a round which adds this segment
 abbrev pub after : Segment → Rounds → Rounds
 after s rounds = record { added = s ∷ rounds.added; fault = rounds.fault }
 
--- The rounds from round k on, with the slots that are left: the k-th name of the row takes the next slot, and the names that its unit seeks stand behind the row.
+-- The rounds from round k on, with the slots that are left: the k-th name of the row takes the next
+-- slot, and the names that its unit seeks are after the row.
 -- They end where no name is left, or with the first fault.
 abbrev pub rounds_from : Order → List ℕ → List (List ℕ) → List (List ℕ × ℕ) → List ℕ → ℕ → List UnitReference → Rounds
 rounds_from order host libs units [] k row = record { added = []; fault = option_map (unplaced_fault order libs) (slice_get row k) }
@@ -91,30 +99,31 @@ rounds_from order host libs units (slot ∷ left) k row =
         | Some fault ↦ record { added = []; fault = Some fault }
         | None ↦ elim (added_segment order host libs g slot) [
           | None ↦ record { added = []; fault = None }
-          | Some s ↦ after s (rounds_from order host libs units left (k + 1) (sought_from units row (unit_references s.file s.slot 0 s.records)))
+          | Some s ↦ after s (rounds_from order host libs units left (k + 1) (requested_from units row (unit_references s.file s.slot 0 s.records)))
         ]
       ]
     ]
 
--- the names that are sought by the host's own segments and then by these
-unfoldable pub sought : Order → List ℕ → List (List ℕ) → List Segment → List UnitReference
-sought order host libs others =
-    let own = own_segments order host libs in sought_from (units_of own) [] (all_unit_references (own ++ others))
+-- the names that are requested by the host's own segments and then by these
+unfoldable pub requested_units : Order → List ℕ → List (List ℕ) → List Segment → List UnitReference
+requested_units order host libs others =
+    let own = own_segments order host libs in requested_from (units_of own) [] (all_unit_references (own ++ others))
 
 -- the rounds of own segments, with these slots
 abbrev pub rounds_in : Order → List ℕ → List (List ℕ) → List Segment → List ℕ → Rounds
-rounds_in order host libs own left = rounds_from order host libs (units_of own) left 0 (sought_from (units_of own) [] (all_unit_references own))
+rounds_in order host libs own left = rounds_from order host libs (units_of own) left 0 (requested_from (units_of own) [] (all_unit_references own))
 
 -- the rounds of a host whose own segments are these
 abbrev pub rounds_of : Order → List ℕ → List (List ℕ) → List Segment → Rounds
 rounds_of order host libs own = rounds_in order host libs own (empty_slots order host)
 
+-- the rounds of a host and its libraries
 unfoldable pub rounds : Order → List ℕ → List (List ℕ) → Rounds
 rounds order host libs = rounds_of order host libs (own_segments order host libs)
 
 -- the segments that are added, in the order of their rounds and so of their slots
-abbrev pub added : Order → List ℕ → List (List ℕ) → List Segment
-added order host libs = (rounds order host libs).added
+abbrev pub added_segments : Order → List ℕ → List (List ℕ) → List Segment
+added_segments order host libs = (rounds order host libs).added
 
 -- the first fault of the rounds
 abbrev pub added_fault : Order → List ℕ → List (List ℕ) → Option Fault
@@ -122,7 +131,7 @@ added_fault order host libs = (rounds order host libs).fault
 
 -- the segment that was added in an empty slot
 abbrev pub added_at : Order → List ℕ → List (List ℕ) → ℕ → Option Segment
-added_at order host libs slot = if is_role is_empty order host slot then find (λ s. s.slot == slot) (added order host libs) else None
+added_at order host libs slot = if is_role is_empty order host slot then find (λ s. s.slot == slot) (added_segments order host libs) else None
 
 -- the slot's own segment, or the one that was added there
 abbrev pub segment_at : Order → List ℕ → List (List ℕ) → ℕ → Option Segment
@@ -132,9 +141,11 @@ segment_at order host libs slot = option_or (own_segment order host libs slot) (
 unfoldable pub segments : Order → List ℕ → List (List ℕ) → List Segment
 segments order host libs = filter_map (segment_at order host libs) slots
 
--- the name of a slot in the linked file: that of the segment that stands there, which an added one has of its UNITREF, or the host's
+-- the name of a slot in the linked file: that of the segment that is there, which an added one has
+-- of its UNITREF, or the host's
 abbrev pub slot_name : List ℕ → List Segment → ℕ → List ℕ
 slot_name host segs slot = option_map_or (λ s. s.name) (find (λ s. s.slot == slot) segs) (name_at host slot)
 
+-- the names of the sixteen slots of the linked file
 unfoldable pub slot_names : List ℕ → List Segment → List (List ℕ)
 slot_names host segs = map (slot_name host segs) slots

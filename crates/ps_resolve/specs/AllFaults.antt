@@ -12,7 +12,8 @@ use Rattle.ps_resolve.specs.Faults.{host_fault, slots_fault, no_host_fault, libr
 abbrev pub reading_rest : Order → List ℕ → List (List ℕ) → Option Fault
 reading_rest order host libs = option_or (sources_fault order host libs) (added_fault order host libs)
 
--- the host, its slots, the want of a host segment, the libraries, the sources of the slots, and the units that are added
+-- the host, its slots, the want of a host segment, the libraries, the sources of the slots, and the
+-- units that are added
 unfoldable pub reading_fault : List ℕ → List (List ℕ) → Option Fault
 reading_fault host libs =
     let order = order_of host in

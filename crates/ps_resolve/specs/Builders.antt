@@ -1,6 +1,8 @@
--- The builders of definitions and of allotments, said plainly: where each refuses, and how the privates of an allotment stand.
--- Source: the link records PUBLDEF, CONSTDEF and PRIVREF are those of the published II.0 Linker source; that a name is defined once, and the order of the privates, are this project's profile.
-use Rattle.std.specs.Prelude.{◌≡◌, ℕ, ◌+◌, ◌<◌, ◌≤◌, List, [], ◌∷◌, ◌++◌, slice_get, take, map, count_by, sum_by, Bool, true, Option, Some, None}
+-- The builders of definitions and of allotments, said plainly: where each refuses, and how the
+-- privates of an allotment are.
+-- Source: the link records PUBLDEF, CONSTDEF and PRIVREF are those of the published II.0 Linker
+-- source; that a name is defined once, and the order of the privates, are this project's profile.
+use Rattle.std.specs.Prelude.{◌≡◌, ℕ, ◌+◌, ◌<◌, ◌≤◌, List, [], ◌∷◌, ◌++◌, slice_get, take, map, sum_by, Bool, true, Option, Some, None}
 use Rattle.std.specs.Int.{w64, from_be_bytes}
 use Rattle.std.specs.List.{enumerate_from, filter, filter_map, flat_map}
 use Rattle.std.specs.Option.{option_map}
@@ -10,26 +12,15 @@ use Rattle.ps_resolve.specs.First.{Before}
 use Rattle.ps_resolve.specs.Privates.{Owner, words_in}
 use Rattle.ps_resolve.specs.Standing.Phrases.{SomeItem}
 use Rattle.ps_resolve.specs.Standing.Definitions.{HasEarlierNamesake}
-use Rattle.ps_linkinfo.specs.Counts.{is_definition, is_private_reference}
+use Rattle.ps_linkinfo.specs.RecordCounts.{is_definition, is_private_reference}
 use Rattle.ps_resolve.specs.References.{words_taken, words_taken_by}
 use Rattle.ps_resolve.specs.declared.allotment.Private.{Private}
-use Rattle.ps_resolve.specs.declared.namesakes.Kind.{Kind}
-use Rattle.ps_resolve.specs.declared.namesakes.Kind.TheVariants as kinds
 use Rattle.ps_resolve.specs.declared.linkage.Stop.{Stop}
 use Rattle.ps_resolve.specs.declared.linkage.Stop.TheVariants.{Refused, Memory}
 use Rattle.ps_words.specs.FaultPlaces.{in_record}
 use Rattle.ps_words.specs.declared.fault.Fault.{Fault}
 use Rattle.ps_words.specs.declared.fault.Reason.{Reason}
 use Rattle.ps_words.specs.declared.fault.Reason.TheVariants as reason
-
--- the body is of this kind
-abbrev pub test_of : Kind → Body → Bool
-test_of kinds.Definition = is_definition
-test_of kinds.Private = is_private_reference
-
--- how many of the records are of this kind
-abbrev pub count_of : Kind → List Record → ℕ
-count_of kind rs = count_by (λ r. test_of kind r.body) rs
 
 -- 1. definitions
 -- no record of this kind has the name of an earlier record of this kind
@@ -43,28 +34,31 @@ pub record IsFirstNamesake (test : Body → Bool) (rs : List Record) (rec : ℕ)
   pub again : HasEarlierNamesake test rs rec item
   pub first : (lesser : ℕ) (r : Record) → lesser < rec → slice_get rs lesser ≡ Some r → HasEarlierNamesake test rs lesser r → ⊥
 
--- the first record of this kind that has the name of an earlier record of this kind, or that there is none
+-- the first record of this kind that has the name of an earlier record of this kind, or that there
+-- is none
 abbrev pub FindsNamesake : (Body → Bool) → List Record → Option ℕ → Type 0
 FindsNamesake test rs None = HaveNoNamesakes test rs
 FindsNamesake test rs (Some rec) = IsFirstNamesake test rs rec
 
--- Why the definitions of a segment are not built: its first record that defines the name of an earlier definition is refused; or memory ran out, and a record defines a name.
+-- Why the definitions of a segment are not built: its first record that defines the name of an
+-- earlier definition is refused; or memory ran out, and a record defines a name.
 abbrev pub StopsDefinitions : ℕ → ℕ → List Record → Stop → Type 0
 StopsDefinitions file slot rs (Refused fault) = (rec : ℕ) × IsFirstNamesake is_definition rs rec × (fault ≡ in_record file slot rec reason.DoubledDefinition)
 StopsDefinitions file slot rs Memory = SomeItem rs (λ rec r. is_definition r.body ≡ true)
 
--- the names of the records that ask for privates, each as a number
+-- the names of the records that request privates, each as a number
 abbrev pub private_numbers : List Record → List ℕ
 private_numbers rs = map (λ r. from_be_bytes w64 r.name) (filter (λ r. is_private_reference r.body) rs)
 
 -- 2. privates, of segments in the order of their slots
--- the offset at record `rec` of segment k, which is s: the base offset, and the words of all privates of the segments before it and of the records before it in its own
+-- the offset at record `rec` of segment k, which is s: the base offset, and the words of all
+-- privates of the segments before it and of the records before it in its own
 abbrev pub offset_at : ℕ → List Owner → ℕ → Owner → ℕ → ℕ
 offset_at base ss k s rec = base + words_taken_by (flat_map (λ q. q.records) (take k ss) ++ take rec s.records)
 
 -- in no segment has a private the name of an earlier private of that segment
-abbrev pub HaveOwnNames : List Owner → Type 0
-HaveOwnNames ss = (k : ℕ) (s : Owner) → slice_get ss k ≡ Some s → HaveNoNamesakes is_private_reference s.records
+abbrev pub HaveDistinctPrivates : List Owner → Type 0
+HaveDistinctPrivates ss = (k : ℕ) (s : Owner) → slice_get ss k ≡ Some s → HaveNoNamesakes is_private_reference s.records
 
 -- every private ends at 32767 at most
 abbrev pub HaveRoom : ℕ → List Owner → Type 0
@@ -72,7 +66,8 @@ HaveRoom base ss =
     (k rec : ℕ) (s : Owner) (r : Record) → slice_get ss k ≡ Some s → slice_get s.records rec ≡ Some r
     → is_private_reference r.body ≡ true → offset_at base ss k s rec + words_taken r.body ≤ 32767
 
--- why the private of a record is refused: an earlier private of its segment has its name, or else it ends past 32767
+-- why the private of a record is refused: an earlier private of its segment has its name, or else
+-- it ends past 32767
 abbrev pub IsUnfit : ℕ → List Owner → ℕ → Owner → ℕ → Record → Reason → Type 0
 IsUnfit base ss k s rec r reason.DoubledPrivate = HasEarlierNamesake is_private_reference s.records rec r
 IsUnfit base ss k s rec r reason.NoRoom =
@@ -93,7 +88,8 @@ pub record IsFirstUnfit (base : ℕ) (ss : List Owner) (fault : Fault) : Type 0 
   pub first : (k n : ℕ) (s : Owner) (r : Record) (other : Reason) → slice_get ss k ≡ Some s → slice_get s.records n ≡ Some r
       → IsUnfit base ss k s n r other → Before (k ∷ n ∷ []) (segment ∷ rec ∷ []) → ⊥
 
--- Why the privates of segments are not allotted: the first that is unfit is refused; or memory ran out, and a record asks for a private.
+-- Why the privates of segments are not allotted: the first that is unfit is refused; or memory ran
+-- out, and a record requests a private.
 abbrev pub StopsPrivates : ℕ → List Owner → Stop → Type 0
 StopsPrivates base ss (Refused fault) = IsFirstUnfit base ss fault
 StopsPrivates base ss Memory = SomeItem ss (λ k s. SomeItem s.records (λ rec r. is_private_reference r.body ≡ true))
@@ -106,11 +102,11 @@ pub record Asked : Type 0 where
   pub name : List ℕ
   pub words : ℕ
 
--- what a record of a segment, with its index, asks for: a PRIVREF record for a private
+-- what a record of a segment, with its index, requests: a PRIVREF record for a private
 abbrev pub asked_in : Owner → ℕ × Record → Option Asked
 asked_in s r = option_map (λ words. record { slot = s.slot; rec = r.0; name = r.1.name; words = words }) (words_in r.1.body)
 
--- what all records of the segments ask for, by segment and then by record
+-- what all records of the segments request, by segment and then by record
 abbrev pub all_asked : List Owner → List Asked
 all_asked ss = flat_map (λ s. filter_map (asked_in s) (enumerate_from 0 s.records)) ss
 
@@ -118,7 +114,7 @@ all_asked ss = flat_map (λ s. filter_map (asked_in s) (enumerate_from 0 s.recor
 abbrev pub asked_of : Private → Asked
 asked_of p = record { slot = p.slot; rec = p.rec; name = p.name; words = p.words }
 
--- the privates stand by slot and, of one slot, by record
+-- the privates are by slot and, of one slot, by record
 abbrev pub AreByRecord : List Private → Type 0
 AreByRecord ps = (i j : ℕ) (p q : Private) → i < j → slice_get ps i ≡ Some p → slice_get ps j ≡ Some q → Before (p.slot ∷ p.rec ∷ []) (q.slot ∷ q.rec ∷ [])
 

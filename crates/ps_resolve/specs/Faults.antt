@@ -1,4 +1,5 @@
--- The faults of a link, step by step: of each step the first fault in its own order, and a later step is looked at only where no earlier one has a fault.
+-- The faults of a link, step by step: of each step the first fault in its own order, and a later
+-- step is looked at only where no earlier one has a fault.
 -- Source: this project's profile.
 use Rattle.std.specs.Prelude.{ℕ, ◌+◌, ◌==◌, ◌&&◌, not, if◌then◌else◌, List, [], ◌∷◌, length, map, nat_lt, Bool, false, Option, Some, None, Ok, Err, option_and_then}
 use Rattle.std.specs.List.{range_with_len, list_any, find, enumerate_from}
@@ -10,23 +11,23 @@ use Rattle.ps_words.specs.declared.order.Order.{Order}
 use Rattle.ps_words.specs.declared.fault.Reason.{Reason}
 use Rattle.ps_words.specs.declared.fault.Reason.TheVariants as reason
 use Rattle.ps_words.specs.declared.fault.Fault.{Fault}
-use Rattle.ps_codefile.specs.Dictionary.{slots, opened, opened_beside, entry_at, role_of, code_of, information_of}
+use Rattle.ps_codefile.specs.Dictionary.{slots, opened_alone, opened_beside, entry_at, role_of, code_of, information_of}
 use Rattle.ps_codefile.specs.Procedures.{table_of, tables_fault, is_reserved}
-use Rattle.ps_linkinfo.specs.Counts.{next_of}
+use Rattle.ps_linkinfo.specs.RecordCounts.{next_of}
 use Rattle.ps_resolve.specs.Privates.{owner_of, first_private_fault, private_words, total_words}
 use Rattle.ps_codefile.specs.declared.entry.Role.{Role}
 use Rattle.ps_codefile.specs.declared.entry.Entry.{Entry}
 use Rattle.ps_linkinfo.specs.Records.{reading}
 use Rattle.ps_resolve.specs.Searches.{first_of, fault_if}
-use Rattle.ps_codefile.specs.Roles.{is_linked, is_host, is_unit, is_wanted}
+use Rattle.ps_codefile.specs.Roles.{needs_linking, is_host, is_unit, is_wanted}
 use Rattle.ps_resolve.specs.Sources.{Segment, source_of, file_at, is_named, chosen_library, host_of, host_records}
-use Rattle.ps_resolve.specs.Symbols.{doubled}
+use Rattle.ps_resolve.specs.Symbols.{first_duplicate}
 use Rattle.ps_resolve.specs.References.{Known, records_fault}
 use Rattle.ps_resolve.specs.Linking.{known_of, grown_data_size}
 
 -- 1. the host by itself: too short, of no byte order, or without any kind
 abbrev pub host_fault : List ℕ → Option Fault
-host_fault host = option_map (in_file 0) (result_err (opened host))
+host_fault host = option_map (in_file 0) (result_err (opened_alone host))
 
 -- 2. its slots: each by its kind, then a second host segment, then a second unit of a name
 abbrev pub is_role : (Role → Bool) → Order → List ℕ → ℕ → Bool
@@ -39,6 +40,7 @@ slot_reason order host slot =
     (option_or (fault_if (is_role is_host order host slot && list_any (is_role is_host order host) (range_with_len 0 slot)) reason.TwoHosts)
     (fault_if (is_role is_unit order host slot && list_any (λ s. is_role is_unit order host s && bytes_eq (entry_at order host s).name (entry_at order host slot).name) (range_with_len 0 slot)) reason.DoubledSegment))
 
+-- the first fault of the host's slots
 unfoldable pub slots_fault : Order → List ℕ → Option Fault
 slots_fault order host = first_of (λ slot. option_map (in_slot 0 slot) (slot_reason order host slot)) slots
 
@@ -50,18 +52,22 @@ no_host_fault order host = fault_if (not (list_any (is_role is_host order host) 
 abbrev pub library_reason : Order → List ℕ → Option Reason
 library_reason order lib = result_err (opened_beside order lib)
 
+-- the fault of a library as a whole, by its number
 abbrev pub library_fault : Order → ℕ × List ℕ → Option Fault
 library_fault order lib = option_map (in_file lib.0) (library_reason order lib.1)
 
+-- the first fault of the libraries
 unfoldable pub libraries_fault : Order → List (List ℕ) → Option Fault
 libraries_fault order libs = first_of (library_fault order) (enumerate_from 1 libs)
 
--- 5. the source of each slot: for a wanted unit the library that has it, then the code, then for a linked segment its tables and its records
+-- 5. the source of each slot: for a wanted unit the library that has it, then the code, then for a
+--    linked segment its tables and its records
 abbrev pub entries_reason : Order → List ℕ → List ℕ → Option Reason
 entries_reason order name lib =
     if list_any (λ i. is_named order name lib i && list_any (is_named order name lib) (range_with_len 0 i)) slots then Some reason.DoubledUnit
     else option_and_then (λ i. let kind = (entry_at order lib i).kind in fault_if (not (kind == 3)) (reason.NotAUnit kind)) (find (is_named order name lib) slots)
 
+-- the fault of a wanted unit: no library has its name, or the library's entries of it are refused
 abbrev pub unit_fault : Order → List ℕ → List (List ℕ) → ℕ → Option Fault
 unit_fault order name libs slot =
     option_map_or (λ lib. option_map (in_slot (lib.0 + 1) slot) (entries_reason order name lib.1)) (chosen_library order name libs) (Some (in_slot 0 slot reason.MissingUnit))
@@ -70,32 +76,37 @@ unit_fault order name libs slot =
 abbrev pub entry_fault : Order → List ℕ → List (List ℕ) → ℕ → Option Fault
 entry_fault order name libs slot = option_and_then (λ lib. option_map (in_slot (lib.0 + 1) slot) (entries_reason order name lib.1)) (chosen_library order name libs)
 
+-- the fault of a wanted unit, if the slot wants one
 abbrev pub wanted_fault : Order → List ℕ → List (List ℕ) → ℕ → Role → Option Fault
 wanted_fault order host libs slot role = if is_wanted role then unit_fault order (entry_at order host slot).name libs slot else None
 
+-- the fault of link information, with the index of the record that cannot be read
 abbrev pub information_fault : Order → List ℕ → Entry → ℕ → ℕ → Option Fault
 information_fault order file e k slot = let read = reading order (information_of file e) in option_map (in_record k slot (length read.0)) read.1
 
--- the first fault of the entry that a slot's code is from: of the code, then of a linked one's tables and records
+-- the first fault of the entry that a slot's code is from: of the code, then of a linked one's
+-- tables and records
 abbrev pub code_fault : Order → List ℕ → List (List ℕ) → ℕ → Role → ℕ × ℕ → Option Fault
 code_fault order host libs slot role at =
     let file = file_at host libs at.0 in
     let e = entry_at order file at.1 in
     elim (code_of file e) [
       | Err why ↦ Some (in_slot at.0 slot why)
-      | Ok code ↦ if is_linked role then option_or (option_map (in_slot at.0 slot) (tables_fault order code (is_host role))) (information_fault order file e at.0 slot) else None
+      | Ok code ↦ if needs_linking role then option_or (option_map (in_slot at.0 slot) (tables_fault order code (is_host role))) (information_fault order file e at.0 slot) else None
     ]
 
+-- the first fault of a slot of the host: of its wanted unit, or of its code, tables and records
 abbrev pub source_fault : Order → List ℕ → List (List ℕ) → ℕ → Option Fault
 source_fault order host libs slot =
     option_and_then (λ role. option_or (wanted_fault order host libs slot role) (option_and_then (code_fault order host libs slot role) (source_of order host libs slot role))) (result_ok (role_of (entry_at order host slot)))
 
+-- the first fault of the sources of all slots, by slot
 unfoldable pub sources_fault : Order → List ℕ → List (List ℕ) → Option Fault
 sources_fault order host libs = first_of (source_fault order host libs) slots
 
 -- 7. the definitions of the host's segment
 unfoldable pub definitions_fault : List Segment → Option Fault
-definitions_fault segs = option_and_then (λ s. option_map (λ rec. in_record 0 s.slot rec reason.DoubledDefinition) (doubled s.records)) (host_of segs)
+definitions_fault segs = option_and_then (λ s. option_map (λ rec. in_record 0 s.slot rec reason.DoubledDefinition) (first_duplicate s.records)) (host_of segs)
 
 -- 8. the privates
 unfoldable pub privates_fault : List Segment → Option Fault
@@ -106,21 +117,26 @@ abbrev pub size_fault : Order → ℕ → Segment → Option Fault
 size_fault order words s =
     option_and_then (λ t. fault_if (nat_lt 65535 (grown_data_size order s.code words t)) (in_slot 0 s.slot reason.DataTooLarge)) (table_of order s.code 1)
 
+-- the fault of the host's data size
 unfoldable pub data_fault : Order → List Segment → Option Fault
 data_fault order segs = option_and_then (size_fault order (total_words segs)) (host_of segs)
 
--- 10. the references of each segment, of which those behind one segment's are looked at with the offset of the privates behind its own
+-- 10. the references of each segment, of which those after one segment's are looked at with the
+--     offset of the privates after its own
 abbrev pub in_segment : ℕ → ℕ → ℕ × (Option ℕ × Reason) → Fault
 in_segment file slot (rec, (None, why)) = in_record file slot rec why
 in_segment file slot (rec, (Some reference, why)) = in_reference file slot rec reference why
 
+-- the first fault of the references of a segment, whose privates begin at this offset
 abbrev pub segment_fault : Order → Known → ℕ → Segment → Option Fault
 segment_fault order known free s = option_map (in_segment s.file s.slot) (records_fault known (is_reserved order s.code) s.code 0 free [] s.records)
 
+-- the first fault of the references of these segments, whose privates begin at this offset
 abbrev pub references_fault_from : Order → Known → ℕ → List Segment → Option Fault
 references_fault_from order known free [] = None
 references_fault_from order known free (s ∷ ss) = option_or (segment_fault order known free s) (references_fault_from order known (free + private_words s.records) ss)
 
+-- the first fault of the references of a link
 unfoldable pub references_fault : Order → List Segment → Option Fault
 references_fault order segs = references_fault_from order (known_of segs) (next_of (host_records segs)) segs
 

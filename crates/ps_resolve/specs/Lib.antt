@@ -2,9 +2,8 @@ pub mod Searches
 pub mod Sources
 pub mod Symbols
 pub mod Stops
-pub mod ByName
 pub mod Operands
-pub mod Marks
+pub mod TakenPlaces
 pub mod References
 pub mod Edits
 pub mod Privates
@@ -17,9 +16,9 @@ pub mod Plans
 pub mod Views
 pub mod First
 pub mod Standing
-pub mod Sought
+pub mod Parts
+pub mod RequestedUnits
 pub mod Linkable
-pub mod Names
 pub mod Starts
 pub mod LinkedBytes
 pub mod Builders

@@ -1,8 +1,17 @@
--- What is known of the segments of a link, beside what each of them is by itself, once the files were read without a fault.
+-- What is known of the segments of a link, once the files were read without a fault.
 -- Source: this project's profile.
-use Rattle.std.specs.Prelude.{◌≡◌, ℕ, ◌+◌, ◌≤◌, List, [], ◌∷◌, true, Some, All, ⊤}
+use Rattle.std.specs.Prelude.{◌≡◌, ℕ, ◌+◌, ◌<◌, ◌≤◌, List, [], ◌∷◌, length, map, true, None, Some, All, IsSome, ⊤}
+use Rattle.ps_words.specs.declared.order.Order.{Order}
+use Rattle.ps_words.specs.declared.edit.Edit.{Edit}
 use Rattle.ps_codefile.specs.Roles.{is_host}
 use Rattle.ps_resolve.specs.Sources.{Segment, host_of}
+use Rattle.ps_resolve.specs.Added.{slot_names}
+use Rattle.ps_resolve.specs.Edits.{IsOfTable}
+use Rattle.ps_resolve.specs.Faults.{libraries_fault}
+use Rattle.ps_resolve.specs.Privates.{owner_of, private_words, all_words}
+use Rattle.ps_resolve.specs.References.{Known, HaveTargets}
+use Rattle.ps_resolve.specs.Views.{segment_of, IsSound, IsLike, AreAlike}
+use Rattle.ps_resolve.specs.declared.reading.segment.Segment.{Segment as SegmentView}
 
 -- the numbers rise strictly, from `from` on
 abbrev pub AscendFrom : ℕ → List ℕ → Type 0
@@ -12,3 +21,49 @@ AscendFrom from (s ∷ ss) = (from ≤ s) × AscendFrom (s + 1) ss
 -- no segment is a host's but the first such
 abbrev pub HasOneHost : List Segment → Type 0
 HasOneHost segs = All (λ s. is_host s.role ≡ true → host_of segs ≡ Some s) segs
+
+-- What units are added to: own segments of a host that share link information alike, and empty
+-- slots; no library has a fault of its own.
+pub record MayBeAddedTo (order : Order) (libs : List (List ℕ)) (own : List SegmentView) (slots : List ℕ) : Type 0 where
+  pub libraries : libraries_fault order libs ≡ None
+  pub alike : AreAlike own
+  pub most : length own ≤ 16
+  pub few : length slots ≤ 9
+  pub in_range : All (λ slot. slot < 16) slots
+
+-- The segments of a link, by slot: each sound, one of them the host's, those that share link
+-- information alike; and the names of the slots of the linked file.
+pub record AreSegments (order : Order) (host : List ℕ) (names : List (List ℕ)) (ss : List SegmentView) : Type 0 where
+  pub sound : All (IsSound order) (map segment_of ss)
+  pub has_host : IsSome (host_of (map segment_of ss))
+  pub one_host : HasOneHost (map segment_of ss)
+  pub ascending : AscendFrom 0 (map (λ s. s.slot) (map segment_of ss))
+  pub whole : 512 ≤ length host
+  pub alike : AreAlike ss
+  pub most : length ss ≤ 16
+  pub named : names ≡ slot_names host (map segment_of ss)
+
+-- the byte order of the files, the host file, the names of the slots of the linked file, and the
+-- segments by slot
+pub record ReadSegments : Type 0 where
+  pub order : Order
+  pub host : List ℕ
+  pub names : List (List ℕ)
+  pub items : List SegmentView
+
+-- Segments whose privates were allotted from `base` on, and that what stores the host's data size,
+-- `size`, suits.
+pub record AreLinkable (order : Order) (size : Edit) (base : ℕ) (ss : List SegmentView) : Type 0 where
+  pub sound : All (IsSound order) (map segment_of ss)
+  pub room : base + all_words (map owner_of (map segment_of ss)) < 65536
+  pub table : All (λ s. is_host s.role ≡ true → IsOfTable order s.code size) (map segment_of ss)
+  pub alike : AreAlike ss
+
+-- such a segment after earlier ones, of whose names it is known what they stand for, with the
+-- offset of the first of its privates
+pub record IsNext (order : Order) (known : Known) (size : Edit) (earlier : List SegmentView) (s : SegmentView) (free : ℕ) : Type 0 where
+  pub sound : IsSound order (segment_of s)
+  pub room : free + private_words s.records < 65536
+  pub table : is_host s.role ≡ true → IsOfTable order s.code.now size
+  pub alike : All (IsLike s) earlier
+  pub named : All (λ q. HaveTargets known q.records) earlier

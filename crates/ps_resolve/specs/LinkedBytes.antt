@@ -1,5 +1,9 @@
--- A linked byte, said plainly: which place of a segment has the number of its slot, which have the data size of the host's outer block, which have what a reference becomes, and which keep their input's byte.
--- Source: the link records and the data size of the outer block are those of the published II.0 Linker source, and BIG operands those of the UCSD Pascal II.0 manual; the order of the privates is this project's profile.
+-- A linked byte, said plainly: which place of a segment has the number of its slot, which have the
+-- data size of the host's outer block, which have what a reference becomes, and which keep their
+-- input's byte.
+-- Source: the link records and the data size of the outer block are those of the published II.0
+-- Linker source, and BIG operands those of the UCSD Pascal II.0 manual; the order of the privates
+-- is this project's profile.
 use Rattle.std.specs.Prelude.{◌≡◌, ℕ, ◌+◌, ◌-◌, ◌<◌, if◌then◌else◌, List, [], ◌∷◌, ◌++◌, length, map, slice_get, slice_index, true, Some, All}
 use Rattle.std.specs.List.{flat_map, enumerate_from}
 use Rattle.ps_words.specs.Words.{word_bytes, operand_bytes, displacement_at}
@@ -16,10 +20,10 @@ use Rattle.ps_linkinfo.specs.Records.{refs_of}
 use Rattle.ps_linkinfo.specs.declared.record.Body.{Body}
 use Rattle.ps_linkinfo.specs.declared.record.Body.TheVariants.{UnitRef, PublRef, PrivRef, PublDef, ConstDef, Eof}
 use Rattle.ps_linkinfo.specs.declared.record.LinkRecord.{LinkRecord as Record}
-use Rattle.ps_codefile.specs.Roles.{is_linked, is_host, is_unit}
+use Rattle.ps_codefile.specs.Roles.{needs_linking, is_host, is_unit}
 use Rattle.ps_resolve.specs.Sources.{Segment, order_of}
 use Rattle.ps_resolve.specs.References.{words_taken_by, record_edits}
-use Rattle.ps_resolve.specs.Linking.{Edited, edited, known_of, data_edits, grown_data_size, linked_byte}
+use Rattle.ps_resolve.specs.Linking.{Edited, edited_segments, known_of, data_edits, grown_data_size, linked_byte}
 
 -- reference i of record r, the segment's record `rec`, has its operand at x
 abbrev pub IsReference : Segment → ℕ → Record → ℕ → ℕ → Type 0
@@ -51,8 +55,10 @@ all_private_words segs = words_taken_by (flat_map (λ s. s.records) segs)
 
 -- The bytes that the operand at x of record `rec` becomes:
 --   of a UNITREF the slot of the unit of its name;
---   of a PUBLREF, as a BIG operand, its displacement and the value of the public definition of its name;
---   of a PRIVREF, as a BIG operand, its displacement and the offset of its private: the base offset of the host's end mark and the words of all privates before it, by slot and then by record.
+-- of a PUBLREF, as a BIG operand, its displacement and the value of the public definition of its
+-- name;
+-- of a PRIVREF, as a BIG operand, its displacement and the offset of its private: the base offset
+-- of the host's end mark and the words of all privates before it, by slot and then by record.
 -- The other records have no operands.
 abbrev pub Becomes : List Segment → Segment → ℕ → List ℕ → Body → ℕ → List ℕ → Type 0
 Becomes segs s rec name (UnitRef refs) x bytes = (slot : ℕ) × IsSlotOf segs name slot × (bytes ≡ slot ∷ [])
@@ -65,13 +71,13 @@ Becomes segs s rec name (Eof next) x bytes = ⊥
 
 -- the last place but one of a segment whose references are resolved
 abbrev pub IsNumberPlace : Segment → ℕ → Type 0
-IsNumberPlace s p = (is_linked s.role ≡ true) × (p + 2 ≡ length s.code)
+IsNumberPlace s p = (needs_linking s.role ≡ true) × (p + 2 ≡ length s.code)
 
--- byte j of the data size of the host's outer block, whose attribute table stands at t
+-- byte j of the data size of the host's outer block, whose attribute table is at t
 abbrev pub IsSizePlace : Order → Segment → ℕ → ℕ → ℕ → Type 0
 IsSizePlace order s t j p = (is_host s.role ≡ true) × (table_of order s.code 1 ≡ Some t) × (j < 2) × (p + 8 ≡ t + j)
 
--- b stands at place p of the segment's code in the linked file
+-- b is at place p of the segment's code in the linked file
 pub record IsLinkedByte (order : Order) (segs : List Segment) (s : Segment) (p b : ℕ) : Type 0 where
   -- the number of the segment is its slot
   pub number : IsNumberPlace s p → b ≡ s.slot
@@ -96,7 +102,7 @@ segments_of host libs = segments (order_of host) host libs
 -- the bytes that the edits of each segment make are its linked bytes
 abbrev pub HaveLinkedBytes : List ℕ → List (List ℕ) → Type 0
 HaveLinkedBytes host libs =
-    All (λ e. (p : ℕ) → p < length e.segment.code → IsLinkedByte (order_of host) (segments_of host libs) e.segment p (linked_byte (order_of host) e p)) (edited (order_of host) (segments_of host libs))
+    All (λ e. (p : ℕ) → p < length e.segment.code → IsLinkedByte (order_of host) (segments_of host libs) e.segment p (linked_byte (order_of host) e p)) (edited_segments (order_of host) (segments_of host libs))
 
 -- at each place of a segment there is one linked byte at most
 abbrev pub HaveOneLinkedByte : List ℕ → List (List ℕ) → Type 0
@@ -110,13 +116,14 @@ HaveApartPlaces host libs = All (λ s. (p : ℕ) → IsOnePlace (order_of host) 
 -- the edits of a segment, with the offset of each private as the sum of what is before it
 abbrev pub summed_edits : Order → List Segment → Segment → List Edit
 summed_edits order segs s =
-    if is_linked s.role
-    then Byte (length s.code - 2) s.slot ∷ ((if is_host s.role then data_edits order (total_words segs) s.code else []) ++ flat_map (λ r. record_edits (known_of segs) s.code (private_offset segs s.slot r.0) r.1) (enumerate_from 0 s.records))
+    if needs_linking s.role
+    then Byte s.slot (length s.code - 2) ∷ ((if is_host s.role then data_edits order (total_words segs) s.code else []) ++ flat_map (λ r. record_edits (known_of segs) s.code (private_offset segs s.slot r.0) r.1) (enumerate_from 0 s.records))
     else []
 
-abbrev pub summed : Order → List Segment → Segment → Edited
-summed order segs s = record { segment = s; edits = summed_edits order segs s }
+-- a segment with the edits that have summed offsets
+abbrev pub summed_segment : Order → List Segment → Segment → Edited
+summed_segment order segs s = record { segment = s; edits = summed_edits order segs s }
 
 -- the offset that runs along with the records of a link is the sum of what is before each of them
 abbrev pub HaveSummedOffsets : List ℕ → List (List ℕ) → Type 0
-HaveSummedOffsets host libs = edited (order_of host) (segments_of host libs) ≡ map (summed (order_of host) (segments_of host libs)) (segments_of host libs)
+HaveSummedOffsets host libs = edited_segments (order_of host) (segments_of host libs) ≡ map (summed_segment (order_of host) (segments_of host libs)) (segments_of host libs)

@@ -1,16 +1,18 @@
--- What is stored in each segment of the linked file, and what then is found at each place of its code.
--- Source: this project's profile; the data size of the outer block that grows by the private words is that of the published II.0 Linker source.
+-- What is stored in each segment of the linked file, and what then is found at each place of its
+-- code.
+-- Source: this project's profile; the data size of the outer block that grows by the private words
+-- is that of the published II.0 Linker source.
 use Rattle.std.specs.Prelude.{ℕ, ◌+◌, ◌-◌, ◌*◌, if◌then◌else◌, List, [], ◌∷◌, ◌++◌, length}
 use Rattle.std.specs.Option.{option_map_or}
 use Rattle.ps_words.specs.Words.{word_at}
-use Rattle.ps_words.specs.Edits.{patched}
+use Rattle.ps_words.specs.Edits.{patched_byte}
 use Rattle.ps_words.specs.declared.order.Order.{Order}
 use Rattle.ps_words.specs.declared.edit.Edit.{Edit}
 use Rattle.ps_words.specs.declared.edit.Edit.TheVariants.{Byte, Word}
 use Rattle.ps_codefile.specs.Procedures.{table_of}
-use Rattle.ps_linkinfo.specs.Counts.{next_of}
+use Rattle.ps_linkinfo.specs.RecordCounts.{next_of}
 use Rattle.ps_resolve.specs.Privates.{private_words, total_words}
-use Rattle.ps_codefile.specs.Roles.{is_linked, is_host}
+use Rattle.ps_codefile.specs.Roles.{needs_linking, is_host}
 use Rattle.ps_resolve.specs.Sources.{Segment, host_of, host_records, units_of}
 use Rattle.ps_resolve.specs.Symbols.{definitions}
 use Rattle.ps_resolve.specs.References.{Known, records_edits}
@@ -19,7 +21,7 @@ use Rattle.ps_resolve.specs.References.{Known, records_edits}
 abbrev pub known_of : List Segment → Known
 known_of segs = record { definitions = definitions (host_records segs); units = units_of segs }
 
--- where the data size of procedure 1 stands
+-- where the data size of procedure 1 is
 abbrev pub data_place : ℕ → ℕ
 data_place table = table - 8
 
@@ -35,19 +37,22 @@ data_size_of order words code = option_map_or (grown_data_size order code words)
 abbrev pub data_size : Order → List Segment → ℕ
 data_size order segs = option_map_or (λ s. data_size_of order (total_words segs) s.code) (host_of segs) 0
 
+-- the edit of the data size in the code of the host segment, grown by the private words
 abbrev pub data_edits : Order → ℕ → List ℕ → List Edit
 data_edits order words code =
-    option_map_or (λ t. Word (data_place t) (grown_data_size order code words t) ∷ []) (table_of order code 1) []
+    option_map_or (λ t. Word (grown_data_size order code words t) (data_place t) ∷ []) (table_of order code 1) []
 
--- All edits of a segment, where so many private words are allotted in all and the first of its own privates has the offset `free`:
+-- All edits of a segment, where so many private words are allotted in all and the first of its own
+-- privates has the offset `free`:
 --   the number of its slot, at the last place but one of its code;
 --   in the host's segment, the grown data size of its outer block;
---   for each reference, the number of the unit's slot, or the displacement and the value of the definition or the private.
+-- for each reference, the number of the unit's slot, or the displacement and the value of the
+-- definition or the private.
 -- A segment that is linked already has none.
 abbrev pub segment_edits : Order → Known → ℕ → ℕ → Segment → List Edit
 segment_edits order known words free s =
-    if is_linked s.role
-    then Byte (length s.code - 2) s.slot ∷ ((if is_host s.role then data_edits order words s.code else []) ++ records_edits known s.code free s.records)
+    if needs_linking s.role
+    then Byte s.slot (length s.code - 2) ∷ ((if is_host s.role then data_edits order words s.code else []) ++ records_edits known s.code free s.records)
     else []
 
 -- a segment with its edits
@@ -61,9 +66,11 @@ edited_from order known words free [] = []
 edited_from order known words free (s ∷ ss) =
     record { segment = s; edits = segment_edits order known words free s } ∷ edited_from order known words (free + private_words s.records) ss
 
-abbrev pub edited : Order → List Segment → List Edited
-edited order segs = edited_from order (known_of segs) (total_words segs) (next_of (host_records segs)) segs
+-- the segments of a link, each with its edits
+abbrev pub edited_segments : Order → List Segment → List Edited
+edited_segments order segs = edited_from order (known_of segs) (total_words segs) (next_of (host_records segs)) segs
 
--- the byte at place p of the segment in the linked file: what its edit there stores, and its input's byte where it has none there
+-- the byte at place p of the segment in the linked file: what its edit there stores, and its
+-- input's byte where it has none there
 abbrev pub linked_byte : Order → Edited → ℕ → ℕ
-linked_byte order e p = patched order e.segment.code e.edits p
+linked_byte order e p = patched_byte order e.segment.code e.edits p

@@ -1,4 +1,5 @@
--- The privates of an allotment: that each begins where the words of all before it end, that they stand by slot and then by record, and the offset of one of them.
+-- The privates of an allotment: that each begins where the words of all before it end, that they
+-- are by slot and then by record, and the offset of one of them.
 -- Source: this project's profile.
 use Rattle.std.specs.Prelude.{◌≡◌, ℕ, ◌+◌, ◌<◌, ◌==◌, ◌&&◌, ◌||◌, List, [], ◌∷◌, length, take, sum_by, slice_index_or, find, nat_le, nat_lt, Bool, true, Option, ⊤}
 use Rattle.std.specs.Option.{option_map}
@@ -17,6 +18,7 @@ abbrev pub RiseFrom : ℕ → ℕ → List Private → Type 0
 RiseFrom slot rec [] = ⊤
 RiseFrom slot rec (p ∷ ps) = (is_from slot rec p ≡ true) × RiseFrom p.slot (p.rec + 1) ps
 
+-- the private is that of this record in this slot
 abbrev pub is_of : ℕ → ℕ → Private → Bool
 is_of slot rec p = p.slot == slot && p.rec == rec
 

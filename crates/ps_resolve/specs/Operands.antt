@@ -12,6 +12,7 @@ use Rattle.ps_words.specs.declared.fault.Reason.TheVariants as reason
 use Rattle.ps_resolve.specs.declared.references.Target.{Target}
 use Rattle.ps_resolve.specs.declared.references.Target.TheVariants.{Slot, Base}
 
+-- how many bytes an operand has that becomes this
 abbrev pub width_of : Target → ℕ
 width_of (Slot slot) = 1
 width_of (Base base) = 2
@@ -21,9 +22,10 @@ abbrev pub value_of : List ℕ → Target → ℕ → ℕ
 value_of code (Slot slot) x = 0
 value_of code (Base base) x = displacement_at code x + base
 
+-- the edit of the operand at x that becomes this
 abbrev pub edit_of : List ℕ → Target → ℕ → Edit
-edit_of code (Slot slot) x = Byte x slot
-edit_of code (Base base) x = Big x (displacement_at code x + base)
+edit_of code (Slot slot) x = Byte slot x
+edit_of code (Base base) x = Big (displacement_at code x + base) x
 
 -- an operand: its place and its width
 abbrev pub is_in : ℕ → ℕ × ℕ → Bool
@@ -38,6 +40,7 @@ reference_reason reserved code taken target x =
     (option_or (fault_if (list_any (λ p. list_any (is_in p) taken) places) reason.Overlap)
     (fault_if (nat_lt 32767 (value_of code target x)) reason.OperandTooLarge)))
 
+-- the operands of a record's references, each as its place and its width
 abbrev pub operands : Target → List ℕ → List (ℕ × ℕ)
 operands target refs = map (λ x. (x, width_of target)) refs
 

@@ -1,19 +1,22 @@
--- Where the segments of a link come from, said plainly: which slots have one, which file and which entry of its dictionary each comes from, and what its code and its records are there.
--- Source: the segment dictionary and its kinds are those of the UCSD Pascal II.0 manual, the records those of the published II.0 Linker source; from which file a slot's segment comes is this project's profile.
+-- Where the segments of a link come from, said plainly: which slots have one, which file and which
+-- entry of its dictionary each comes from, and what its code and its records are there.
+-- Source: the segment dictionary and its kinds are those of the UCSD Pascal II.0 manual, the
+-- records those of the published II.0 Linker source; from which file a slot's segment comes is this
+-- project's profile.
 use Rattle.std.specs.Prelude.{◌≡◌, ◌≢◌, ◌⊎◌, ℕ, ◌+◌, ◌*◌, ◌<◌, ◌≤◌, List, [], ◌∷◌, length, slice_get, slice_range, true, false, Ok, Some, All}
 use Rattle.ps_words.specs.declared.order.Order.{Order}
 use Rattle.ps_codefile.specs.Dictionary.{block_len, entry_at, is_nameless, code_of, information_of}
-use Rattle.ps_linkinfo.specs.Counts.{is_unit_reference}
-use Rattle.ps_resolve.specs.Added.{added}
+use Rattle.ps_linkinfo.specs.RecordCounts.{is_unit_reference}
+use Rattle.ps_resolve.specs.Added.{added_segments}
 use Rattle.ps_resolve.specs.Standing.Phrases.{SomeItem}
 use Rattle.ps_resolve.specs.Standing.Slots.{HasRole}
 use Rattle.ps_resolve.specs.Standing.Sources.{IsNamed, HasEntry}
 use Rattle.ps_codefile.specs.declared.entry.Entry.{Entry}
 use Rattle.ps_codefile.specs.declared.entry.Role.TheVariants.{Empty, Wanted}
 use Rattle.ps_linkinfo.specs.Records.{Spells}
-use Rattle.ps_codefile.specs.Roles.{is_linked}
+use Rattle.ps_codefile.specs.Roles.{needs_linking}
 use Rattle.ps_resolve.specs.Sources.{Segment, order_of}
-use Rattle.ps_resolve.specs.Sought.{HasSlot}
+use Rattle.ps_resolve.specs.RequestedUnits.{HasSlot}
 
 -- 1. which slots have a segment
 -- a segment of the list has this slot
@@ -25,7 +28,8 @@ abbrev pub HasOne : List Segment → ℕ → Type 0
 HasOne segs slot =
     SomeItem segs (λ k s. (s.slot ≡ slot) × ((other : ℕ) (q : Segment) → slice_get segs other ≡ Some q → q.slot ≡ slot → other ≡ k))
 
--- a segment that the host's dictionary has a slot for: the slot has its role, which is not Empty, and its name
+-- a segment that the host's dictionary has a slot for: the slot has its role, which is not Empty,
+-- and its name
 pub record IsOwn (order : Order) (host : List ℕ) (s : Segment) : Type 0 where
   pub role : HasRole order host s.slot s.role
   pub filled : s.role ≢ Empty
@@ -43,9 +47,11 @@ pub record IsAddedUnit (order : Order) (host : List ℕ) (segs : List Segment) (
   pub next : (slot : ℕ) → 7 ≤ slot → slot < s.slot → HasRole order host slot Empty → IsTaken segs slot
   -- it has the role of a wanted unit
   pub role : s.role ≡ Wanted
-  -- its name is asked for by one of the host's own segments, or by one that was added in a lesser slot
+  -- its name is requested by one of the host's own segments, or by one that was added in a smaller
+  -- slot
   pub asked : SomeItem segs (λ k q. ((q.added ≡ false) ⊎ (q.slot < s.slot)) × AsksFor q s.name)
-  -- the name is not eight blanks or eight zero bytes, and no slot of role Unit or Wanted of the host has it
+  -- the name is not eight blanks or eight zero bytes, and no slot of role Unit or Wanted of the
+  -- host has it
   pub named : is_nameless s.name ≡ false
   pub free : HasSlot order host s.name → ⊥
 
@@ -73,7 +79,8 @@ pub record IsUnitOf (order : Order) (host : List ℕ) (libs : List (List ℕ)) (
   pub kind : (entry_at order library i).kind ≡ 3
 
 -- 3. what is read there
--- the code is the file's bytes from the entry's block on, as many as the entry says, and the file has them all
+-- the code is the file's bytes from the entry's block on, as many as the entry says, and the file
+-- has them all
 abbrev pub IsSliceOf : List ℕ → Entry → List ℕ → Type 0
 IsSliceOf file e code =
     (block_len * e.address + e.length ≤ length file) × (code ≡ slice_range file (block_len * e.address) (block_len * e.address + e.length))
@@ -86,34 +93,37 @@ pub record IsRead (order : Order) (host : List ℕ) (libs : List (List ℕ)) (s 
   -- its code is the entry's, with which nothing is wrong, and so a slice of the file
   pub code : code_of source (entry_at order source s.index) ≡ Ok s.code
   pub slice : IsSliceOf source (entry_at order source s.index) s.code
-  -- where its references are resolved, its records are those that the bytes behind its code spell; otherwise it has none
-  pub records : is_linked s.role ≡ true → Spells order (information_of source (entry_at order source s.index)) s.records
-  pub unread : is_linked s.role ≡ false → s.records ≡ []
+  -- where its references are resolved, its records are those that the bytes after its code spell;
+  -- otherwise it has none
+  pub records : needs_linking s.role ≡ true → Spells order (information_of source (entry_at order source s.index)) s.records
+  pub unread : needs_linking s.role ≡ false → s.records ≡ []
 
 -- 4. of all segments of a link
 -- each of the host's sixteen slots that is not empty has one
 abbrev pub HaveOneEach : List ℕ → List Segment → Type 0
 HaveOneEach host segs = (slot : ℕ) → slot < 16 → (HasRole (order_of host) host slot Empty → ⊥) → HasOne segs slot
 
--- they stand by slot, ascending, so no two have one slot; there is no slot 16
+-- they are by slot, ascending, so no two have one slot; there is no slot 16
 abbrev pub AreBySlot : List Segment → Type 0
 AreBySlot segs =
     ((i j : ℕ) (s q : Segment) → i < j → slice_get segs i ≡ Some s → slice_get segs j ≡ Some q → s.slot < q.slot)
     × All (λ s. s.slot < 16) segs
 
--- one that was not added has its slot in the host's dictionary, so in an empty slot none stands but one that was added
+-- one that was not added has its slot in the host's dictionary, so in an empty slot none applies
+-- but one that was added
 abbrev pub AreOwn : List ℕ → List Segment → Type 0
 AreOwn host segs = All (λ s. s.added ≡ false → IsOwn (order_of host) host s) segs
 
--- one that was added has an empty slot, and a name that is asked for
+-- one that was added has an empty slot, and a name that is requested
 abbrev pub AreAdded : List ℕ → List Segment → Type 0
 AreAdded host segs = All (λ s. s.added ≡ true → IsAddedUnit (order_of host) host segs s) segs
 
--- those that were added are the ones of which `AddedUnits` says which name each has, and in which order
+-- those that were added are the ones of which `AddedUnits` says which name each has, and in which
+-- order
 abbrev pub AreOfRounds : List ℕ → List (List ℕ) → List Segment → Type 0
 AreOfRounds host libs segs =
-    All (λ s. s.added ≡ true → SomeItem (added (order_of host) host libs) (λ k q. q ≡ s)) segs
-    × All (λ s. SomeItem segs (λ k q. q ≡ s)) (added (order_of host) host libs)
+    All (λ s. s.added ≡ true → SomeItem (added_segments (order_of host) host libs) (λ k q. q ≡ s)) segs
+    × All (λ s. SomeItem segs (λ k q. q ≡ s)) (added_segments (order_of host) host libs)
 
 -- one of role Host, Unit or Plain is the host's own entry
 abbrev pub AreInPlace : List Segment → Type 0

@@ -1,16 +1,16 @@
 -- A plan of a link: where the code of each segment comes from, and the edits that link it.
 -- Source: this project's profile.
 use Rattle.std.specs.Prelude.{◌≡◌, ℕ, ◌+◌, ◌<◌, List, [], ◌∷◌, length, map, Bool, IsPermutation, ⊤, Some, None}
-use Rattle.ps_words.specs.Edits.{AreEdits, patched}
+use Rattle.ps_words.specs.Edits.{AreEdits, patched_byte}
 use Rattle.ps_words.specs.declared.order.Order.{Order}
 use Rattle.ps_words.specs.declared.edit.Edit.{Edit}
-use Rattle.ps_codefile.specs.Roles.{is_linked}
+use Rattle.ps_codefile.specs.Roles.{needs_linking}
 use Rattle.ps_resolve.specs.Sources.{Segment, order_of, host_records}
 use Rattle.ps_resolve.specs.Added.{segments, slot_names}
-use Rattle.ps_linkinfo.specs.Counts.{next_of}
+use Rattle.ps_linkinfo.specs.RecordCounts.{next_of}
 use Rattle.ps_resolve.specs.Privates.{owner_of, all_allotted, total_words}
 use Rattle.ps_resolve.specs.Symbols.{definitions}
-use Rattle.ps_resolve.specs.Linking.{Edited, edited, linked_byte, data_size}
+use Rattle.ps_resolve.specs.Linking.{Edited, edited_segments, linked_byte, data_size}
 use Rattle.ps_resolve.specs.Faults.{linking_fault}
 use Rattle.ps_resolve.specs.AllFaults.{first_fault, reading_fault}
 use Rattle.ps_resolve.specs.Stops.{IsStop}
@@ -29,13 +29,16 @@ pub record Origin : Type 0 where
   pub added : Bool
   pub code : List ℕ
 
+-- the origin of a plan's source
 abbrev pub origin_of_source : Source → Origin
 origin_of_source s = record { slot = s.slot; file = s.file; index = s.index; linked = s.linked; added = s.added; code = s.code.now }
 
+-- the origin of a segment of a link
 abbrev pub origin_of : Segment → Origin
-origin_of s = record { slot = s.slot; file = s.file; index = s.index; linked = is_linked s.role; added = s.added; code = s.code }
+origin_of s = record { slot = s.slot; file = s.file; index = s.index; linked = needs_linking s.role; added = s.added; code = s.code }
 
--- what a plan holds; the names are those of all slots, by slot, and the edits stand in the order of the sources
+-- what a plan holds; the names are those of all slots, by slot, and the edits are in the order of
+-- the sources
 pub record Planned : Type 0 where
   pub order : Order
   pub host : List ℕ
@@ -48,11 +51,12 @@ pub record Planned : Type 0 where
   pub private_words : ℕ
   pub data_size : ℕ
 
--- Edits of a segment, ready to be stored: in the order of their places, and apart; one for each that the segment has; and they make each byte the linked byte.
+-- Edits of a segment, ready to be stored: in the order of their places, and apart; one for each
+-- that the segment has; and they make each byte the linked byte.
 pub record LinksSegment (order : Order) (e : Edited) (edits : List Edit) : Type 0 where
   pub ready : AreEdits (length e.segment.code) edits
   pub each : IsPermutation e.edits edits
-  pub bytes : (p : ℕ) → p < length e.segment.code → patched order e.segment.code edits p ≡ linked_byte order e p
+  pub bytes : (p : ℕ) → p < length e.segment.code → patched_byte order e.segment.code edits p ≡ linked_byte order e p
 
 -- each list of edits links its segment, and there are as many lists as segments
 abbrev pub LinkSegments : Order → List Edited → List (List Edit) → Type 0
@@ -67,7 +71,7 @@ pub record IsPlanOf (host_order : Order) (host : List ℕ) (segs : List Segment)
   pub of_host : plan.host ≡ host
   pub names : plan.names ≡ slot_names host segs
   pub origins : plan.origins ≡ map origin_of segs
-  pub edits : LinkSegments host_order (edited host_order segs) plan.edits
+  pub edits : LinkSegments host_order (edited_segments host_order segs) plan.edits
   pub definitions : plan.definitions ≡ definitions (host_records segs)
   pub privates : plan.privates ≡ all_allotted (next_of (host_records segs)) (map owner_of segs)
   pub next_free : plan.next_free ≡ next_of (host_records segs) + total_words segs
@@ -82,7 +86,8 @@ IsPlan host libs plan = IsPlanOf (order_of host) host (segments (order_of host) 
 abbrev pub AreStopped : Order → List Segment → Stop → Type 0
 AreStopped order segs = IsStop ⊤ (linking_fault order segs)
 
--- why there is no plan: the first fault of all, or memory ran out where nothing that is looked at before has a fault
+-- why there is no plan: the first fault of all, or memory ran out where nothing that is looked at
+-- before has a fault
 abbrev pub IsStopped : List ℕ → List (List ℕ) → Stop → Type 0
 IsStopped host libs (Refused fault) = first_fault host libs ≡ Some fault
 IsStopped host libs Memory = reading_fault host libs ≡ None

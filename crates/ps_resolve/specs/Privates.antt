@@ -1,5 +1,7 @@
--- Private variables: where each is allotted, behind the host's own data and behind all privates before it, and the first that cannot be.
--- Source: the end mark's base offset is that of the published II.0 Linker source; the order of allotment is this project's profile.
+-- Private variables: where each is allotted, after the host's own data and after all privates
+-- before it, and the first that cannot be.
+-- Source: the end mark's base offset is that of the published II.0 Linker source; the order of
+-- allotment is this project's profile.
 use Rattle.std.specs.Prelude.{map, ℕ, ◌+◌, if◌then◌else◌, List, [], ◌∷◌, ◌++◌, nat_lt, Option, Some, None}
 use Rattle.std.specs.List.{list_any}
 use Rattle.std.specs.Str.{bytes_eq}
@@ -26,12 +28,12 @@ words_in (ConstDef value) = None
 words_in (Eof next) = None
 
 -- The privates of the records, the first of which has number `rec`, from the offset `next` on.
-abbrev pub allotted : ℕ → ℕ → ℕ → List Record → List Private
-allotted slot rec next [] = []
-allotted slot rec next (r ∷ rs) =
+abbrev pub allotted_privates : ℕ → ℕ → ℕ → List Record → List Private
+allotted_privates slot rec next [] = []
+allotted_privates slot rec next (r ∷ rs) =
     elim (words_in r.body) [
-      | None ↦ allotted slot (rec + 1) next rs
-      | Some words ↦ record { slot = slot; rec = rec; name = r.name; offset = next; words = words } ∷ allotted slot (rec + 1) (next + words) rs
+      | None ↦ allotted_privates slot (rec + 1) next rs
+      | Some words ↦ record { slot = slot; rec = rec; name = r.name; offset = next; words = words } ∷ allotted_privates slot (rec + 1) (next + words) rs
     ]
 
 -- the words of all of them
@@ -39,7 +41,8 @@ abbrev pub private_words : List Record → ℕ
 private_words [] = 0
 private_words (r ∷ rs) = elim (words_in r.body) [ None ↦ private_words rs | Some words ↦ words + private_words rs ]
 
--- the first that has the name of one before it, of the names `seen` or of the records, or that ends past 32767
+-- the first that has the name of one before it, of the names `seen` or of the records, or that ends
+-- past 32767
 abbrev pub private_fault : ℕ → ℕ → List (List ℕ) → List Record → Option (ℕ × Reason)
 private_fault rec next seen [] = None
 private_fault rec next seen (r ∷ rs) =
@@ -55,23 +58,27 @@ private_fault rec next seen (r ∷ rs) =
 abbrev pub unallotted_fault : ℕ → ℕ → ℕ → List Record → Option Fault
 unallotted_fault file slot next rs = option_map (λ f. in_record file slot f.0 f.1) (private_fault 0 next [] rs)
 
--- a segment as far as its privates need it: its slot, the number of the file that it comes from, and its records
+-- a segment as far as its privates need it: its slot, the number of the file that it comes from,
+-- and its records
 pub record Owner : Type 0 where
   pub slot : ℕ
   pub file : ℕ
   pub records : List Record
 
+-- the owner of privates that a linkage stands for
 abbrev pub owner_of_linkage : Linkage → Owner
 owner_of_linkage s = record { slot = s.slot; file = s.file; records = (reading s.order s.bytes.now).0 }
 
+-- a segment as an owner of privates
 abbrev pub owner_of : Segment → Owner
 owner_of s = record { slot = s.slot; file = s.file; records = s.records }
 
 -- the privates of all segments, by slot and then by record, from the offset `next` on
 abbrev pub all_allotted : ℕ → List Owner → List Private
 all_allotted next [] = []
-all_allotted next (s ∷ ss) = allotted s.slot 0 next s.records ++ all_allotted (next + private_words s.records) ss
+all_allotted next (s ∷ ss) = allotted_privates s.slot 0 next s.records ++ all_allotted (next + private_words s.records) ss
 
+-- the words of the privates of these owners
 abbrev pub all_words : List Owner → ℕ
 all_words [] = 0
 all_words (s ∷ ss) = private_words s.records + all_words ss
@@ -82,12 +89,13 @@ first_private_fault next [] = None
 first_private_fault next (s ∷ ss) =
     option_or (unallotted_fault s.file s.slot next s.records) (first_private_fault (next + private_words s.records) ss)
 
--- what an allotment holds: the privates, the words of all of them, and the offset behind the last
+-- what an allotment holds: the privates, the words of all of them, and the offset after the last
 pub record Allotted : Type 0 where
   pub privates : List Private
   pub words : ℕ
   pub next_free : ℕ
 
+-- the allotment of these owners from a base offset on
 abbrev pub allotment_of : ℕ → List Owner → Allotted
 allotment_of next ss = record { privates = all_allotted next ss; words = all_words ss; next_free = next + all_words ss }
 

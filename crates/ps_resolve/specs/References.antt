@@ -1,5 +1,6 @@
 -- The references of a segment: what their operands become, and the first fault of them.
--- Source: the link records UNITREF, PUBLREF and PRIVREF are those of the published II.0 Linker source; which fault comes first is this project's profile.
+-- Source: the link records UNITREF, PUBLREF and PRIVREF are those of the published II.0 Linker
+-- source; which fault comes first is this project's profile.
 use Rattle.std.specs.Prelude.{◌≡◌, ℕ, ◌+◌, List, [], ◌∷◌, ◌++◌, map, Bool, Option, Some, None, Result, Ok, Err, All, sum_by}
 use Rattle.std.specs.Option.{option_map, option_or}
 use Rattle.std.specs.Map.{lookup}
@@ -25,10 +26,12 @@ pub record Known : Type 0 where
   pub definitions : List (List ℕ × Def)
   pub units : List (List ℕ × ℕ)
 
+-- the base offset of a public variable, or why its definition gives none
 abbrev pub public_base : Option Def → Result Target Reason
 public_base None = Err reason.MissingDefinition
 public_base (Some d) = elim d.kind [ Public ↦ Ok (Base d.value) | Constant ↦ Err reason.IllKind ]
 
+-- the slot of a unit, or the fault of a unit that no slot has
 abbrev pub unit_slot : Option ℕ → Result Target Reason
 unit_slot None = Err reason.MissingUnitRef
 unit_slot (Some slot) = Ok (Slot slot)
@@ -42,6 +45,7 @@ target_in known off name (PublDef value) = Ok (Slot 0)
 target_in known off name (ConstDef value) = Ok (Slot 0)
 target_in known off name (Eof next) = Ok (Slot 0)
 
+-- what an operand of the record becomes, or why it becomes nothing
 abbrev pub target_of : Known → ℕ → Record → Result Target Reason
 target_of known off r = target_in known off r.name r.body
 
@@ -49,6 +53,7 @@ target_of known off r = target_in known off r.name r.body
 abbrev pub HasTarget : Known → Record → Type 0
 HasTarget known r = (t : Target) × (target_of known 0 r ≡ Ok t)
 
+-- each record has what its operands become
 abbrev pub HaveTargets : Known → List Record → Type 0
 HaveTargets known rs = All (HasTarget known) rs
 
@@ -60,7 +65,8 @@ words_taken body = unwrap_or (words_in body) 0
 abbrev pub words_taken_by : List Record → ℕ
 words_taken_by rs = sum_by (λ r. words_taken r.body) rs
 
--- The first fault of the records, the first of which has number `rec`, behind references with the operands `taken`.
+-- The first fault of the records, the first of which has number `rec`, after references with the
+-- operands `taken`.
 abbrev pub records_fault : Known → (ℕ → Bool) → List ℕ → ℕ → ℕ → List (ℕ × ℕ) → List Record → Option (ℕ × (Option ℕ × Reason))
 records_fault known reserved code rec off taken [] = None
 records_fault known reserved code rec off taken (r ∷ rs) =
@@ -74,6 +80,7 @@ records_fault known reserved code rec off taken (r ∷ rs) =
 abbrev pub record_edits : Known → List ℕ → ℕ → Record → List Edit
 record_edits known code off r = elim (target_of known off r) [ Err why ↦ [] | Ok t ↦ map (edit_of code t) (refs_of r.body) ]
 
+-- the edits of the references of these records, in record order
 abbrev pub records_edits : Known → List ℕ → ℕ → List Record → List Edit
 records_edits known code off [] = []
 records_edits known code off (r ∷ rs) = record_edits known code off r ++ records_edits known code (off + words_taken r.body) rs

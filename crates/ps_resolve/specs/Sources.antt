@@ -1,4 +1,5 @@
--- The segments that the host's own slots have in a linked file, and where each comes from: the host file, and for a wanted unit the first library that has a filled entry of its name.
+-- The segments that the host's own slots have in a linked file, and where each comes from: the host
+-- file, and for a wanted unit the first library that has a filled entry of its name.
 -- Source: this project's profile.
 use Rattle.std.specs.Prelude.{ℕ, ◌+◌, ◌&&◌, if◌then◌else◌, List, [], ◌∷◌, slice_get, map, Bool, false, Option, Some, None, unwrap_or, option_and_then}
 use Rattle.std.specs.Borrow.{Bor}
@@ -7,7 +8,7 @@ use Rattle.std.specs.Option.{option_map, option_map_or}
 use Rattle.std.specs.Result.{result_ok}
 use Rattle.std.specs.Str.{bytes_eq}
 use Rattle.ps_codefile.specs.Dictionary.{slots, FileOrder, Zero, Ordered, Mixed, file_order, entry_at, role_of, is_filled, code_of, information_of}
-use Rattle.ps_codefile.specs.Roles.{is_linked, is_host, is_unit}
+use Rattle.ps_codefile.specs.Roles.{needs_linking, is_host, is_unit}
 use Rattle.ps_codefile.specs.declared.entry.Role.{Role}
 use Rattle.ps_codefile.specs.declared.entry.Role.TheVariants.{Empty, Wanted, Plain, Host, Unit}
 use Rattle.ps_codefile.specs.declared.entry.Entry.{Entry}
@@ -26,6 +27,7 @@ known_order Zero = Little
 known_order (Ordered order) = order
 known_order Mixed = Little
 
+-- the byte order of a host
 abbrev pub order_of : List ℕ → Order
 order_of host = known_order (file_order host)
 
@@ -33,6 +35,7 @@ order_of host = known_order (file_order host)
 abbrev pub is_named : Order → List ℕ → List ℕ → ℕ → Bool
 is_named order name file i = let e = entry_at order file i in is_filled e && bytes_eq e.name name
 
+-- a file has a filled entry of the name
 abbrev pub has_entry : Order → List ℕ → List ℕ → Bool
 has_entry order name file = list_any (is_named order name file) slots
 
@@ -45,7 +48,8 @@ abbrev pub unit_source : Order → List ℕ → List (List ℕ) → Option (ℕ 
 unit_source order name libs =
     option_and_then (λ lib. option_map (λ i. (lib.0 + 1, i)) (find (is_named order name lib.1) slots)) (chosen_library order name libs)
 
--- the file, 0 for the host and k for the k-th library, and the entry there that a slot's code comes from
+-- the file, 0 for the host and k for the k-th library, and the entry there that a slot's code comes
+-- from
 abbrev pub source_of : Order → List ℕ → List (List ℕ) → ℕ → Role → Option (ℕ × ℕ)
 source_of order host libs slot Empty = None
 source_of order host libs slot Plain = Some (0, slot)
@@ -53,6 +57,7 @@ source_of order host libs slot Host = Some (0, slot)
 source_of order host libs slot Unit = Some (0, slot)
 source_of order host libs slot Wanted = unit_source order (entry_at order host slot).name libs
 
+-- the file of this number: 0 is the host, k the k-th library
 abbrev pub file_at : List ℕ → List (List ℕ) → ℕ → List ℕ
 file_at host libs k = unwrap_or (slice_get (host ∷ libs) k) []
 
@@ -60,7 +65,9 @@ file_at host libs k = unwrap_or (slice_get (host ∷ libs) k) []
 abbrev pub records_of : Order → List ℕ → Entry → Bool → List Record
 records_of order file e linked = if linked then (reading order (information_of file e)).0 else []
 
--- A segment of the linked file: its slot in the host, its name and its role there, whether it was added for a UNITREF, the file and the entry that it comes from, its code, and the records of its link information.
+-- A segment of the linked file: its slot in the host, its name and its role there, whether it was
+-- added for a UNITREF, the file and the entry that it comes from, its code, and the records of its
+-- link information.
 -- An added segment has the role of a wanted unit.
 pub record Segment : Type 0 where
   pub slot : ℕ
@@ -72,12 +79,13 @@ pub record Segment : Type 0 where
   pub code : List ℕ
   pub records : List Record
 
--- the segment that a slot gets from an entry of a file, with this name and role, where the entry has a code
+-- the segment that a slot gets from an entry of a file, with this name and role, where the entry
+-- has a code
 abbrev pub segment_from : Order → List ℕ → List (List ℕ) → ℕ → List ℕ → Role → ℕ × ℕ → Option Segment
 segment_from order host libs slot name role at =
     let file = file_at host libs at.0 in
     let e = entry_at order file at.1 in
-    option_map (λ code. record { slot = slot; name = name; role = role; added = false; file = at.0; index = at.1; code = code; records = records_of order file e (is_linked role) }) (result_ok (code_of file e))
+    option_map (λ code. record { slot = slot; name = name; role = role; added = false; file = at.0; index = at.1; code = code; records = records_of order file e (needs_linking role) }) (result_ok (code_of file e))
 
 -- the segment of the slot's own role, where it is not empty
 abbrev pub own_segment : Order → List ℕ → List (List ℕ) → ℕ → Option Segment
@@ -92,6 +100,7 @@ own_segments order host libs = filter_map (own_segment order host libs) slots
 abbrev pub host_of : List Segment → Option Segment
 host_of segs = find (λ s. is_host s.role) segs
 
+-- the records of the host segment
 abbrev pub host_records : List Segment → List Record
 host_records segs = option_map_or (λ s. s.records) (host_of segs) []
 

@@ -1,4 +1,5 @@
--- Which faults stand, a clause for each number, step by step; their keys, and which is the first of all.
+-- Which faults apply, a clause for each number, step by step; their keys, and which is the first of
+-- all.
 -- Source: this project's profile.
 use Rattle.std.specs.Prelude.{◌≡◌, ◌⊎◌, ℕ, List, true}
 use Rattle.ps_resolve.specs.First.{Before}
@@ -28,7 +29,7 @@ pub mod Privates
 pub mod DataSizes
 pub mod References
 
--- the faults that stand in a step
+-- the faults that apply in a step
 abbrev pub StandsIn : Step → Order → List ℕ → List (List ℕ) → Fault → Type 0
 StandsIn OfHost order host libs f = InHost host f
 StandsIn OfSlots order host libs f = InSlots order host f
@@ -41,19 +42,21 @@ StandsIn OfPrivates order host libs f = InPrivates order host libs f
 StandsIn OfDataSize order host libs f = InDataSize order host libs f
 StandsIn OfReferences order host libs f = InReferences order host libs f
 
--- The fault stands in this step, told without regard to the steps before it: what a step is about may mean little where an earlier one has a fault, and a fault that stands only so is never first, since that of the earlier step has the lesser key.
+-- The fault applies in this step, reported without regard to the steps before it: what a step is
+-- about may mean little where an earlier one has a fault, and a fault that applies only so is never
+-- first, since that of the earlier step has the smaller key.
 pub record FaultAt (host : List ℕ) (libs : List (List ℕ)) (step : Step) (f : Fault) : Type 0 where
   pub stands : StandsIn step (order_of host) host libs f
 
--- no fault stands in the steps of reading
+-- no fault applies in the steps of reading
 abbrev pub NoneStandsInReading : List ℕ → List (List ℕ) → Type 0
 NoneStandsInReading host libs = (step : Step) (f : Fault) → is_of_reading step ≡ true → FaultAt host libs step f → ⊥
 
--- no fault stands, in any step
+-- no fault applies, in any step
 abbrev pub NoneStands : List ℕ → List (List ℕ) → Type 0
 NoneStands host libs = (step : Step) (f : Fault) → FaultAt host libs step f → ⊥
 
--- it stands, and its key is less than that of each other fault that stands, in whichever step
+-- it is, and its key is less than that of each other fault that applies, in whichever step
 pub record IsFirst (host : List ℕ) (libs : List (List ℕ)) (f : Fault) : Type 0 where
   pub step : Step
   pub stands : FaultAt host libs step f

@@ -8,7 +8,7 @@ use Rattle.ps_words.specs.declared.fault.Reason.TheVariants as reason
 use Rattle.ps_linkinfo.specs.declared.record.LinkRecord.{LinkRecord as Record}
 use Rattle.ps_resolve.specs.declared.linkage.Stop.{Stop}
 use Rattle.ps_resolve.specs.declared.linkage.Stop.TheVariants.{Refused, Memory}
-use Rattle.ps_resolve.specs.Symbols.{doubled}
+use Rattle.ps_resolve.specs.Symbols.{first_duplicate}
 
 -- there is this fault; or memory ran out, which is wanted only where this holds
 abbrev pub IsStop : Type 0 → Option Fault → Stop → Type 0
@@ -16,5 +16,5 @@ IsStop wants fault (Refused f) = fault ≡ Some f
 IsStop wants fault Memory = wants
 
 -- the fault of the first record of a segment that defines a name again
-abbrev pub doubled_fault : ℕ → ℕ → List Record → Option Fault
-doubled_fault file slot rs = option_map (λ rec. in_record file slot rec reason.DoubledDefinition) (doubled rs)
+abbrev pub duplicate_fault : ℕ → ℕ → List Record → Option Fault
+duplicate_fault file slot rs = option_map (λ rec. in_record file slot rec reason.DoubledDefinition) (first_duplicate rs)

@@ -1,5 +1,6 @@
 -- Definitions of the host: names with their values, and the first record that defines a name again.
--- Source: the link records PUBLDEF and CONSTDEF are those of the published II.0 Linker source; that a name is defined once is this project's profile.
+-- Source: the link records PUBLDEF and CONSTDEF are those of the published II.0 Linker source; that
+-- a name is defined once is this project's profile.
 use Rattle.std.specs.Prelude.{ℕ, ◌+◌, if◌then◌else◌, List, [], ◌∷◌, ◌++◌, Option, Some, None, is_some}
 use Rattle.std.specs.List.{filter_map}
 use Rattle.std.specs.Map.{lookup}
@@ -19,6 +20,7 @@ def_in (PublRef refs) = None
 def_in (PrivRef words refs) = None
 def_in (Eof next) = None
 
+-- the name that a record defines, with its definition
 abbrev pub definition_in : Record → Option (List ℕ × Def)
 definition_in r = elim (def_in r.body) [ None ↦ None | Some d ↦ Some (r.name, d) ]
 
@@ -30,14 +32,16 @@ definitions rs = filter_map definition_in rs
 abbrev pub definition_of : List ℕ → List (List ℕ × Def) → Option Def
 definition_of name ds = lookup (bytes_eq name) ds
 
--- The number of the first record of rs, the first of which has number `rec`, that defines a name again which `ds` have or an earlier record defines.
-abbrev pub doubled_from : ℕ → List (List ℕ × Def) → List Record → Option ℕ
-doubled_from rec ds [] = None
-doubled_from rec ds (r ∷ rs) =
+-- The number of the first record of rs, the first of which has number `rec`, that defines a name
+-- again which `ds` have or an earlier record defines.
+abbrev pub first_duplicate_from : ℕ → List (List ℕ × Def) → List Record → Option ℕ
+first_duplicate_from rec ds [] = None
+first_duplicate_from rec ds (r ∷ rs) =
     elim (definition_in r) [
-      | None ↦ doubled_from (rec + 1) ds rs
-      | Some d ↦ if is_some (definition_of d.0 ds) then Some rec else doubled_from (rec + 1) (ds ++ d ∷ []) rs
+      | None ↦ first_duplicate_from (rec + 1) ds rs
+      | Some d ↦ if is_some (definition_of d.0 ds) then Some rec else first_duplicate_from (rec + 1) (ds ++ d ∷ []) rs
     ]
 
-abbrev pub doubled : List Record → Option ℕ
-doubled rs = doubled_from 0 [] rs
+-- the index of the first record that defines a name again
+abbrev pub first_duplicate : List Record → Option ℕ
+first_duplicate rs = first_duplicate_from 0 [] rs

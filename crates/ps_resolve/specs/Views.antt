@@ -1,7 +1,8 @@
--- The segments that the files have, seen as the segments of the link, and what is known of them once the files were read without a fault.
+-- The segments that the files have, seen as the segments of the link, and what is known of them
+-- once the files were read without a fault.
 -- Source: this project's profile.
-use Rattle.std.specs.Prelude.{◌≡◌, ◌≤◌, ◌*◌, ◌==◌, if◌then◌else◌, ℕ, All, List, [], length, drop, Bool, true, false, Option, Some, None}
-use Rattle.std.specs.List.{find, filter_map, Contains}
+use Rattle.std.specs.Prelude.{◌≡◌, ◌≤◌, ◌*◌, ◌==◌, if◌then◌else◌, ℕ, All, List, [], length, drop, Bool, true, false, Option, None, ◌&&◌}
+use Rattle.std.specs.List.{find, filter_map, list_any, Contains}
 use Rattle.std.specs.Option.{option_or}
 use Rattle.ps_words.specs.declared.order.Order.{Order}
 use Rattle.ps_codefile.specs.Dictionary.{slots, block_len, information_of}
@@ -9,7 +10,7 @@ use Rattle.ps_codefile.specs.declared.entry.Entry.{Entry}
 use Rattle.ps_linkinfo.specs.Records.{reading}
 use Rattle.ps_linkinfo.specs.declared.record.LinkRecord.{LinkRecord as Record}
 use Rattle.ps_codefile.specs.Procedures.{tables_fault}
-use Rattle.ps_codefile.specs.Roles.{is_linked, is_host, is_empty}
+use Rattle.ps_codefile.specs.Roles.{needs_linking, is_host, is_empty}
 use Rattle.ps_resolve.specs.Sources.{Segment, file_at}
 use Rattle.ps_resolve.specs.Faults.{is_role}
 use Rattle.ps_resolve.specs.declared.reading.segment.Segment.{Segment as SegmentView}
@@ -31,31 +32,35 @@ segment_of s = record {
 abbrev pub IsRowOf : Order → List ℕ → Entry → List Record → Type 0
 IsRowOf order file e rs = reading order (information_of file e) ≡ (rs, None)
 
--- the procedure tables of its code, where its references are resolved
-abbrev pub HasTables : Order → SegmentView → Type 0
-HasTables order s = s.procedures ≡ (if is_linked s.role then Some (record { order = order; code = s.code.now }) else None)
-
--- the link information of the segment, where its references are resolved, begins in its block of its file, and its records are all that stand there
+-- the link information of the segment, where its references are resolved, begins in its block of
+-- its file, and its records are all that apply there
 abbrev pub IsPlaced : Order → List ℕ → List (List ℕ) → SegmentView → Type 0
-IsPlaced order host libs s = (is_linked s.role ≡ true → reading order (drop (block_len * s.block) (file_at host libs s.file)) ≡ (s.records, None)) × HasTables order s
+IsPlaced order host libs s = needs_linking s.role ≡ true → reading order (drop (block_len * s.block) (file_at host libs s.file)) ≡ (s.records, None)
 
--- where the link information of two linked segments begins in one block of one file, they have the same records
+-- where the link information of two linked segments begins in one block of one file, they have the
+-- same records
 abbrev pub IsLike : SegmentView → SegmentView → Type 0
-IsLike s q = is_linked s.role ≡ true → is_linked q.role ≡ true → s.file ≡ q.file → s.block ≡ q.block → s.records ≡ q.records
+IsLike s q = needs_linking s.role ≡ true → needs_linking q.role ≡ true → s.file ≡ q.file → s.block ≡ q.block → s.records ≡ q.records
 
 -- so it is with any two of the segments
 abbrev pub AreAlike : List SegmentView → Type 0
 AreAlike segs = All (λ s. All (IsLike s) segs) segs
 
--- one of the segments has these records, which are resolved, and its link information begins in this block of this file
+-- one of the segments has these records, which are resolved, and its link information begins in
+-- this block of this file
 abbrev pub HasRow : List SegmentView → ℕ → ℕ → List Record → Type 0
 HasRow segs file block rs =
-    (s : SegmentView) × Contains segs s × (is_linked s.role ≡ true) × (s.file ≡ file) × (s.block ≡ block) × (s.records ≡ rs)
+    (s : SegmentView) × Contains segs s × (needs_linking s.role ≡ true) × (s.file ≡ file) × (s.block ≡ block) × (s.records ≡ rs)
 
+-- one of these segments is linked, and its link information begins in this block of this file
+abbrev pub has_row : ℕ → ℕ → List SegmentView → Bool
+has_row file block = list_any (λ s. needs_linking s.role && s.file == file && s.block == block)
+
+-- the segment is in this slot
 abbrev pub is_in_slot : ℕ → Segment → Bool
 is_in_slot slot s = s.slot == slot
 
--- the own segment that stands in a slot, or in an empty slot the added one
+-- the own segment that is in a slot, or in an empty slot the added one
 abbrev pub segment_in_slot : Order → List ℕ → List Segment → List Segment → ℕ → Option Segment
 segment_in_slot order host own added slot = option_or (find (is_in_slot slot) own) (if is_role is_empty order host slot then find (is_in_slot slot) added else None)
 
@@ -63,10 +68,16 @@ segment_in_slot order host own added slot = option_or (find (is_in_slot slot) ow
 unfoldable pub segments_in_slots : Order → List ℕ → List Segment → List Segment → List Segment
 segments_in_slots order host own added = filter_map (segment_in_slot order host own added) slots
 
--- the length of the code is within its limits, the procedure tables of a linked segment have no fault, and one that is linked already has no records
+-- the length of the code is within its limits, the procedure tables of a linked segment have no
+-- fault, and one that is linked already has no records
 pub record IsSound (order : Order) (s : Segment) : Type 0 where
   pub small : length s.code ≤ 32767
-  pub large : is_linked s.role ≡ true → 4 ≤ length s.code
-  pub tables : is_linked s.role ≡ true → tables_fault order s.code (is_host s.role) ≡ None
-  pub plain : is_linked s.role ≡ false → s.records ≡ []
+  pub large : needs_linking s.role ≡ true → 4 ≤ length s.code
+  pub tables : needs_linking s.role ≡ true → tables_fault order s.code (is_host s.role) ≡ None
+  pub plain : needs_linking s.role ≡ false → s.records ≡ []
   pub slot : s.slot ≤ 15
+
+-- a segment as the files have it: its records are those of its place, and it is sound
+pub record IsRead (order : Order) (host : List ℕ) (libs : List (List ℕ)) (s : SegmentView) : Type 0 where
+  pub placed : IsPlaced order host libs s
+  pub sound : IsSound order (segment_of s)

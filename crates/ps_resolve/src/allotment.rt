@@ -2,9 +2,9 @@ ghost use Rattle.std.specs.Prelude.{◌≡◌, ◌<◌, ◌+◌, ◌++◌, [], I
 ghost use Rattle.ps_resolve.specs.Linkable.{AscendFrom};
 ghost use Rattle.ps_resolve.specs.Offsets.{FollowOn, offset_listed};
 ghost use Rattle.ps_resolve.specs.declared.linkage.Stop.TheVariants.{Memory};
-ghost use Rattle.ps_resolve.specs.Privates.{words_in, allotted, private_words, private_fault, all_allotted, all_words, first_private_fault, owner_of, owner_of_linkage, allotment_of, unallotted_fault, Owner};
+ghost use Rattle.ps_resolve.specs.Privates.{words_in, allotted_privates, private_words, private_fault, all_allotted, all_words, first_private_fault, owner_of, owner_of_linkage, allotment_of, unallotted_fault, Owner};
 ghost use Rattle.ps_resolve.specs.Stops.{IsStop};
-ghost use Rattle.ps_resolve.specs.Builders.{HaveOwnNames, HaveRoom, StopsPrivates, asked_of, all_asked, AreByRecord, words_of_all};
+ghost use Rattle.ps_resolve.specs.Builders.{HaveDistinctPrivates, HaveRoom, StopsPrivates, asked_of, all_asked, AreByRecord, words_of_all};
 ghost use Rattle.ps_resolve.specs.Views.{segment_of};
 
 use crate::linkage::{Linkage, RecordPlace, Stop};
@@ -15,17 +15,17 @@ use ps_words::{Name, Reason};
 use std::alloc::{Allocator, Global};
 use std::marker::Model;
 
-/// The last offset that may be free behind a private, in words.
+/// The last offset that may be free after a private, in words.
 const MAX_NEXT_FREE: usize = 32767;
 
-/// A private variable of a segment, which its PRIVREF record asks for. A link may have millions, so
-/// its fields stand by their widths, and it takes twenty bytes.
+/// A private variable of a segment, which its PRIVREF record requests. A link may have millions, so
+/// its fields are by their widths, and it takes 24 bytes.
 ///
 /// Source: the published II.0 Linker source, the link record PRIVREF.
 #[derive(Clone, Copy, Debug, PartialEq, Eq)]
 pub struct Private {
     /// The index, from 0, of its record in the segment's link information.
-    pub rec: u32,
+    pub rec: usize,
     /// Its base offset in words, 0 to 32767.
     pub offset: u16,
     /// How many words it takes, 0 to 32767.
@@ -47,17 +47,6 @@ fn words_of_private(body: &Body) -> Option<u16>
     }
 }
 
-/// The index of a record in four bytes. Memory for more records than that is not to be had.
-fn narrow(rec: usize) -> Result<u32, Stop>
-    ensures value { IfOk result (λ n. n ≡ rec) }
-    ensures stop { IfErr result (λ stop. stop ≡ Memory) }
-{
-    match u32::try_from(rec) {
-        Err(_) => Err(Stop::Memory),
-        Ok(n) => Ok(n),
-    }
-}
-
 /// Allots the privates of a segment from `next` on, and returns the next free offset.
 fn allot<A: Allocator + Copy>(
     alloc: A,
@@ -68,10 +57,10 @@ fn allot<A: Allocator + Copy>(
     privates: &mut Vec<Private, A>,
 ) -> Result<u16, Stop>
     ensures privates { IfOk result (λ _. privates.new.items
-        ≡ privates.old.items ++ allotted slot 0 next records.now) }
+        ≡ privates.old.items ++ allotted_privates slot 0 next records.now) }
     ensures end { IfOk result (λ end. end ≡ next + private_words records.now) }
     ensures once { IfOk result (λ _. private_fault 0 next [] records.now ≡ None) }
-    ensures stop { IfErr result (IsStop (0 < length (allotted slot 0 next records.now))
+    ensures stop { IfErr result (IsStop (0 < length (allotted_privates slot 0 next records.now))
         (unallotted_fault file slot next records.now)) }
 {
     if records.privates() == 0 {
@@ -84,13 +73,13 @@ fn allot<A: Allocator + Copy>(
         if let Some(words) = words_of_private(&record.body) {
             let place = RecordPlace { file, slot, rec };
             if doubled == Some(rec) {
-                return Err(place.refused(Reason::DoubledPrivate));
+                return Err(place.stop_for(Reason::DoubledPrivate));
             }
             if free as usize + words as usize > MAX_NEXT_FREE {
-                return Err(place.refused(Reason::NoRoom));
+                return Err(place.stop_for(Reason::NoRoom));
             }
             privates.push(Private {
-                rec: narrow(rec)?,
+                rec,
                 offset: free,
                 words,
                 name: record.name,
@@ -102,8 +91,9 @@ fn allot<A: Allocator + Copy>(
     Ok(free)
 }
 
-/// The private variables of all linked segments, one behind another, in the order of the segments'
+/// The private variables of all linked segments, one after another, in the order of the segments'
 /// slots and then of the records.
+/// Source: this project's profile.
 #[derive(Drop)]
 pub struct Allotment<A: Allocator = Global> {
     privates: Vec<Private, A>,
@@ -168,7 +158,7 @@ impl<'a> AsksForPrivates for Segment<'a> {
     }
 
     fn records(&self) -> LinkInformation<'_> {
-        self.records.copied()
+        self.records.copy()
     }
 }
 
@@ -203,19 +193,22 @@ fn allot_all<A: Allocator + Copy, S: AsksForPrivates>(
 }
 
 impl<A: Allocator + Copy> Allotment<A> {
-    /// Allots the private variables that the PRIVREF records of the segments ask for, the first of
+    /// Allots the private variables that the PRIVREF records of the segments request, the first of
     /// them at the base offset `next`, in words. The slots of the segments rise strictly.
     ///
-    /// The link information has to read without a fault: up to the first fault its records are taken.
-    /// Refuses, at the first private where one of them stands, `DoubledPrivate` where an earlier one of
-    /// its segment has its name, and then `NoRoom` where the offset behind it is over 32767, with the
-    /// file and the slot of its segment. Returns `Memory` only where there is a private; so it does where
-    /// the index of a private's record takes more than four bytes, in link information of 64 GiB.
+    /// The link information has to read without a fault: up to the first fault its records are
+    /// taken.
+    /// Refuses, at the first private where one of them is, `DoubledPrivate` where an earlier one of
+    /// its segment has its name, and then `NoRoom` where the offset after it is over 32767, with
+    /// the
+    /// file and the slot of its segment. Returns `Memory` only where memory was refused, and there
+    /// is a
+    /// private.
     ///
     /// Source: this project's profile.
     pub fn build(alloc: A, next: u16, segments: &[Linkage]) -> Result<Self, Stop>
         requires { AscendFrom 0 (map (λ s. s.slot) (map owner_of_linkage segments.now)) }
-        ensures names { IfOk result (λ _. HaveOwnNames (map owner_of_linkage segments.now)) }
+        ensures names { IfOk result (λ _. HaveDistinctPrivates (map owner_of_linkage segments.now)) }
         ensures room { IfOk result (λ _. HaveRoom next (map owner_of_linkage segments.now)) }
         ensures refused { IfErr result (StopsPrivates next (map owner_of_linkage segments.now)) }
         ensures asked { IfOk result (λ a. map asked_of a.privates
@@ -257,23 +250,23 @@ impl<A: Allocator + Copy> Allotment<A> {
         })
     }
 
-    /// The base offset in words, 0 to 32767, of the private that a record asks for: the record of index
+    /// The base offset in words, 0 to 32767, of the private that a record requests: the record of
+    /// index
     /// `rec`, from 0, of the segment in slot `slot`. `None` where that is no PRIVREF record.
+    /// Source: this project's profile.
     pub fn offset(&self, slot: u8, rec: usize) -> Option<u16>
         ensures { result ≡ offset_listed slot rec self.now.privates }
     {
         let privates = self.privates.as_slice();
-        let first = privates.partition_point(|p| p.slot < slot
-            || p.slot == slot && (p.rec as usize) < rec);
+        let first = privates.partition_point(|p| p.slot < slot || p.slot == slot && p.rec < rec);
         match privates.get(first) {
-            Some(private) if private.slot == slot && private.rec as usize == rec => {
-                Some(private.offset)
-            }
+            Some(private) if private.slot == slot && private.rec == rec => { Some(private.offset) }
             _ => None,
         }
     }
 
     /// All of them, by slot and then by record.
+    /// Source: this project's profile.
     pub fn privates(&self) -> &[Private]
         ensures { result.now ≡ self.now.privates }
     {
@@ -281,13 +274,15 @@ impl<A: Allocator + Copy> Allotment<A> {
     }
 
     /// How many words all of them take, 0 to 32767.
+    /// Source: this project's profile.
     pub fn words(&self) -> u16
         ensures { result ≡ self.now.words }
     {
         self.words
     }
 
-    /// The base offset in words behind the last of them: the first where there is none.
+    /// The base offset in words after the last of them: the first where there is none.
+    /// Source: the published II.0 Linker source.
     pub fn next_free(&self) -> u16
         ensures range { self.now.next_free < 65536 }
         ensures value { result ≡ self.now.next_free }

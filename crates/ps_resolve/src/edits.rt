@@ -1,11 +1,13 @@
-ghost use Rattle.std.specs.Prelude.{◌≡◌, ◌<◌, ◌≤◌, ◌+◌, ◌-◌, ◌∷◌, ◌++◌, length, IfOk, OnOk, IfErr, IfSome, None, IsPermutation, ⊤};
+ghost use Rattle.std.specs.Prelude.{◌≡◌, ℕ, ◌≤◌, ◌+◌, ◌-◌, ◌∷◌, [], length, true, None, IfOk, OnOk, IfErr, ⊤};
 ghost use Rattle.std.specs.Option.{option_to_list};
-ghost use Rattle.ps_words.specs.Edits.{AreEdits};
 ghost use Rattle.ps_words.specs.declared.edit.Edit.TheVariants.{Byte};
-ghost use Rattle.ps_resolve.specs.References.{records_edits};
+ghost use Rattle.ps_codefile.specs.Roles.{is_host as is_host_spec};
 ghost use Rattle.ps_resolve.specs.Privates.{private_words};
-ghost use Rattle.ps_resolve.specs.Edits.{IsOfTable};
+ghost use Rattle.ps_resolve.specs.Edits.{data_size_edit};
 ghost use Rattle.ps_resolve.specs.Faults.{segment_fault};
+ghost use Rattle.ps_resolve.specs.Linkable.{IsNext};
+ghost use Rattle.ps_resolve.specs.Linking.{segment_edits as segment_edits_spec, data_edits};
+ghost use Rattle.ps_resolve.specs.Plans.{LinksSegment};
 ghost use Rattle.ps_resolve.specs.Stops.{IsStop};
 ghost use Rattle.ps_resolve.specs.Views.{segment_of};
 ghost use Rattle.ps_resolve.specs.declared.linkage.Stop.TheVariants.{Memory};
@@ -13,78 +15,81 @@ ghost use Rattle.ps_resolve.specs.declared.linkage.Stop.TheVariants.{Memory};
 pub(crate) mod data_size;
 pub(crate) mod sorting;
 
-use crate::edits::sorting::sorted;
+use crate::edits::sorting::sorted_edits;
 use crate::linkage::Stop;
 use crate::reading::segment::Segment;
-use crate::references::names::Names;
+use crate::references::names::Linking;
 use crate::references::records::add_records;
-use ps_codefile::Procs;
 use ps_words::Edit;
+use ps_words::word_laws::edits_patch_alike_in_any_order;
 use std::alloc::Allocator;
 
-/// How far from the end of a linked segment's code its number stands, in bytes.
+/// How far from the end of a linked segment's code its number is, in bytes.
 const NUMBER_FROM_END: usize = 2;
 
 /// How many edits of a linked segment are no reference's, at most.
-const MOST_OWN_EDITS: usize = 2;
+const MOST_EDITS_BESIDE_REFERENCES: usize = 2;
 
-/// The edits of a linked segment that are no reference's: its number, and `own`. There is room for
-/// as many more as `references`.
+/// The edits of a linked segment that are no reference's: its number, and in the host's segment
+/// `size`. There is room for those of its references.
 fn own_edits<A: Allocator + Copy>(
     alloc: A,
-    slot: u8,
-    code: &[u8],
-    own: Option<Edit>,
-    references: usize,
+    segment: &Segment,
+    size: Edit,
 ) -> Result<Vec<Edit, A>, Stop>
-    requires small { length code.now ≤ 32767 }
-    requires large { 4 ≤ length code.now }
+    requires { 4 ≤ length segment.now.code.now }
     ensures items { IfOk result (λ edits. edits.items
-        ≡ Byte (length code.now - 2) slot ∷ option_to_list own) }
+        ≡ Byte segment.now.slot (length segment.now.code.now - 2)
+        ∷ option_to_list (data_size_edit (is_host_spec segment.now.role) size)) }
     ensures stop { IfErr result (λ stop. stop ≡ Memory) }
 {
-    let mut edits = Vec::with_capacity(alloc, references.saturating_add(MOST_OWN_EDITS))?;
+    let references = segment.records.references();
+    let room = references.saturating_add(MOST_EDITS_BESIDE_REFERENCES);
+    let mut edits = Vec::with_capacity(alloc, room)?;
     edits.push(Edit::Byte {
-        place: (code.len() - NUMBER_FROM_END) as u16,
-        value: slot,
+        place: segment.code.len() - NUMBER_FROM_END,
+        value: segment.slot,
     })?;
-    match own {
-        None => Ok(edits),
-        Some(edit) => {
-            edits.push(edit)?;
-            Ok(edits)
-        }
+    if !segment.role.is_host() {
+        return Ok(edits);
     }
+    edits.push(size)?;
+    Ok(edits)
 }
 
-/// The edits of a linked segment in the order of their places: its number, `own`, and what its
-/// references become; and the offset behind its privates, the first of which has the offset `free`.
-pub(crate) fn edits_of<A: Allocator + Copy>(
+/// The edits of a segment after others whose references are resolved, in the order of their places,
+/// where the first of its privates has the offset `free`, and the offset after its last. A segment
+/// that is linked already has neither edits nor privates.
+pub(crate) fn segment_edits<'a, A: Allocator + Copy>(
     alloc: A,
-    names: &Names<A>,
-    procedures: &Procs,
-    segment: &Segment,
+    link: &Linking<A>,
+    earlier: &[Segment<'a>],
+    segment: &Segment<'a>,
     free: u16,
-    own: Option<Edit>,
 ) -> Result<(Vec<Edit, A>, u16), Stop>
-    requires small { length segment.now.code.now ≤ 32767 }
-    requires large { 4 ≤ length segment.now.code.now }
-    requires room { free + private_words segment.now.records < 65536 }
-    requires own_code { procedures.now.code ≡ segment.now.code.now }
-    requires table { IfSome own (IsOfTable procedures.now.order segment.now.code.now) }
-    ensures same { IfOk result (λ found. IsPermutation
-        (Byte (length segment.now.code.now - 2) segment.now.slot ∷ (option_to_list own
-        ++ records_edits names.now segment.now.code.now free segment.now.records)) found.0.items) }
-    ensures ready { IfOk result (λ found. AreEdits (length segment.now.code.now) found.0.items) }
+    requires { IsNext link.now.order link.now.names.now link.now.size
+        earlier.now segment.now free }
+    ensures links { (words : ℕ)
+        → (is_host_spec segment.now.role ≡ true
+        → data_edits link.now.order words segment.now.code.now ≡ link.now.size ∷ [])
+        → IfOk result (λ found. LinksSegment link.now.order
+        (record {
+          segment = segment_of segment.now;
+          edits = segment_edits_spec link.now.order link.now.names.now
+              words free (segment_of segment.now);
+        }) found.0.items) }
     ensures end { IfOk result (λ found. found.1 ≡ free + private_words segment.now.records) }
     ensures sound { OnOk result
-        (segment_fault procedures.now.order names.now free (segment_of segment.now) ≡ None) }
+        (segment_fault link.now.order link.now.names.now free (segment_of segment.now) ≡ None) }
     ensures stop { IfErr result (IsStop ⊤
-        (segment_fault procedures.now.order names.now free (segment_of segment.now))) }
+        (segment_fault link.now.order link.now.names.now free (segment_of segment.now))) }
 {
-    let code = segment.code;
-    let mut edits = own_edits(alloc, segment.slot, code, own, segment.records.references())?;
-    let end = add_records(names, procedures, segment, free, &mut edits)?;
-    let ordered = sorted(alloc, code.len(), edits)?;
+    if !segment.role.needs_linking() {
+        return Ok((Vec::new(alloc), free));
+    }
+    edits_patch_alike_in_any_order();
+    let mut edits = own_edits(alloc, segment, link.size)?;
+    let end = add_records(link, earlier, segment, free, &mut edits)?;
+    let ordered = sorted_edits(alloc, segment.code.len(), edits)?;
     Ok((ordered, end))
 }

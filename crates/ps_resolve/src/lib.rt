@@ -1,22 +1,23 @@
-//! What a link means: where each segment comes from, what its references become, which fault comes first, and the plan of edits that links it.
+//! What a link means: where each segment comes from, what its references become, which fault comes
+//! first, and the plan of edits that links it.
 #![tactic(auto)]
 
 mod allotment;
 mod definitions;
 mod edits;
-mod laws;
 mod linkage;
 mod linking;
+mod name_hasher;
 mod namesakes;
 mod plan;
 mod reading;
 mod references;
 mod resolving;
+mod slot_name_law;
 
 pub use allotment::{Allotment, Private};
 pub use definitions::{Def, DefKind, Definitions};
-pub use laws::slot_names_are_whole;
 pub use linkage::{Linkage, Stop};
 pub use plan::{Plan, Source};
-pub use reading::added::UnitReference;
 pub use resolving::resolve;
+pub use slot_name_law::slot_names_are_whole;

@@ -5,7 +5,8 @@ ghost use Rattle.ps_resolve.specs.declared.linkage.Stop.TheVariants.{Memory, Ref
 use ps_words::{Fault, Order, Reason};
 use std::alloc::{AllocError, AllocFailed};
 
-/// The link information of a segment, and where a fault of it stands.
+/// The link information of a segment, and where a fault of it is.
+/// Source: this project's profile.
 #[derive(Clone, Copy)]
 pub struct Linkage<'a> {
     /// The file that the segment comes from: 0 is the host file, k the k-th library, from 1.
@@ -14,11 +15,11 @@ pub struct Linkage<'a> {
     pub slot: u8,
     /// The byte order of the file's words.
     pub order: Order,
-    /// The file from the first record on. What stands behind the end mark is not read.
+    /// The file from the first record on. What is after the end mark is not read.
     pub bytes: &'a [u8],
 }
 
-/// Where a segment stands.
+/// Where a segment is.
 #[derive(Clone, Copy)]
 pub(crate) struct SegmentPlace {
     /// The file that it comes from: 0 is the host file, k the k-th library, from 1.
@@ -27,7 +28,7 @@ pub(crate) struct SegmentPlace {
     pub(crate) slot: u8,
 }
 
-/// Where a record stands.
+/// Where a record is.
 #[derive(Clone, Copy)]
 pub(crate) struct RecordPlace {
     /// The file that its segment comes from: 0 is the host file, k the k-th library, from 1.
@@ -40,7 +41,7 @@ pub(crate) struct RecordPlace {
 
 impl RecordPlace {
     /// The record has this fault.
-    pub(crate) fn refused(self, reason: Reason) -> Stop
+    pub(crate) fn stop_for(self, reason: Reason) -> Stop
         ensures { result ≡ Refused (in_record self.file self.slot self.rec reason) }
     {
         Stop::Refused(Fault::in_record(self.file, self.slot, self.rec, reason))
@@ -55,6 +56,7 @@ impl RecordPlace {
 }
 
 /// Why nothing was built.
+/// Source: this project's profile.
 #[derive(Drop)]
 pub enum Stop {
     /// The inputs have this fault.

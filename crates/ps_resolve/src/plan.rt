@@ -4,12 +4,14 @@ ghost use Rattle.ps_resolve.specs.Plans.{origin_of_source};
 
 use crate::allotment::Allotment;
 use crate::definitions::Definitions;
-use ps_codefile::layout::TAIL;
+use arrayvec::ArrayVec;
+use ps_codefile::dictionary_layout::TAIL;
 use ps_words::{BLOCK_SIZE, Edit, Name, Order};
 use std::alloc::{Allocator, Global};
 use std::marker::Model;
 
 /// Where the code of a segment comes from.
+/// Source: this project's profile.
 #[derive(Clone, Copy)]
 pub struct Source<'a> {
     /// Its slot in the host and in the linked file, 0 to 15.
@@ -18,7 +20,8 @@ pub struct Source<'a> {
     pub file: usize,
     /// The slot of its entry in that file, 0 to 15.
     pub index: u8,
-    /// Its references are resolved; the code of a segment that is linked already is copied as it is.
+    /// Its references are resolved; the code of a segment that is linked already is copied as it
+    /// is.
     pub linked: bool,
     /// It was added in an empty slot of the host, for a unit that only a UNITREF record names.
     pub added: bool,
@@ -26,15 +29,29 @@ pub struct Source<'a> {
     pub code: &'a [u8],
 }
 
+impl<'a> Default for Source<'a> {
+    fn default() -> Self {
+        Source {
+            slot: 0,
+            file: 0,
+            index: 0,
+            linked: false,
+            added: false,
+            code: &[],
+        }
+    }
+}
+
 /// A plan of a link: where the code of each segment comes from, and what is stored in it.
 ///
 /// It holds views of the inputs, and no copy of them.
+/// Source: this project's profile.
 #[derive(Drop)]
 pub struct Plan<'a, A: Allocator + Copy = Global> {
     pub(crate) order: Order,
     pub(crate) host: &'a [u8],
     pub(crate) names: [Name; 16],
-    pub(crate) sources: Vec<Source<'a>, A>,
+    pub(crate) sources: ArrayVec<Source<'a>, 16>,
     pub(crate) edits: Vec<Vec<Edit, A>, A>,
     pub(crate) definitions: Definitions<A>,
     pub(crate) allotment: Allotment<A>,
@@ -54,14 +71,17 @@ impl<'a, A: Allocator + Copy> Model for Plan<'a, A> {
 
 impl<'a, A: Allocator + Copy> Plan<'a, A> {
     /// The byte order of the host, which that of the linked file is.
+    /// Source: UCSD Pascal II.0 manual, code file format.
     pub fn order(&self) -> Order
         ensures { result ≡ self.now.order }
     {
         self.order
     }
 
-    /// The names of all slots of the linked file, of eight bytes each: the host's, and in the slot of
+    /// The names of all slots of the linked file, of eight bytes each: the host's, and in the slot
+    /// of
     /// an added unit that unit's.
+    /// Source: UCSD Pascal II.0 manual, code file format.
     pub fn names(&self) -> &[Name; 16]
         ensures { result.now ≡ self.now.names }
     {
@@ -69,6 +89,7 @@ impl<'a, A: Allocator + Copy> Plan<'a, A> {
     }
 
     /// The tail of the host's segment dictionary, its bytes 256 to 511.
+    /// Source: UCSD Pascal II.0 manual, code file format.
     pub fn tail(&self) -> &'a [u8]
         ensures { result.now ≡ tail_of self.now.host }
     {
@@ -76,6 +97,7 @@ impl<'a, A: Allocator + Copy> Plan<'a, A> {
     }
 
     /// Where the code of each segment comes from, by slot ascending.
+    /// Source: this project's profile.
     pub fn sources(&self) -> &[Source<'a>]
         ensures origins { map origin_of_source result.now ≡ self.now.origins }
         ensures count { length result.now ≡ length self.now.edits }
@@ -83,12 +105,15 @@ impl<'a, A: Allocator + Copy> Plan<'a, A> {
         self.sources.as_slice()
     }
 
-    /// What is stored in the code of the k-th source, from 0, which exists: by place ascending, apart
+    /// What is stored in the code of the k-th source, from 0, which exists: by place ascending,
+    /// apart
     /// from one another and inside the code, each BIG value below 32768.
     ///
-    /// A linked segment has the Byte edit of its number and one edit for each of its references, the
+    /// A linked segment has the Byte edit of its number and one edit for each of its references,
+    /// the
     /// host's segment the Word edit of its data size too, also where they change nothing. A segment
     /// that is linked already has none.
+    /// Source: this project's profile.
     pub fn edits(&self, k: usize) -> &[Edit]
         requires { k < length self.now.edits }
         ensures { slice_get self.now.edits k ≡ Some result.now }
@@ -97,6 +122,7 @@ impl<'a, A: Allocator + Copy> Plan<'a, A> {
     }
 
     /// The definitions of the host's segment.
+    /// Source: this project's profile.
     pub fn definitions(&self) -> &Definitions<A>
         ensures { result.now ≡ self.now.definitions }
     {
@@ -104,6 +130,7 @@ impl<'a, A: Allocator + Copy> Plan<'a, A> {
     }
 
     /// The private variables of all segments.
+    /// Source: this project's profile.
     pub fn allotment(&self) -> &Allotment<A>
         ensures privates { result.now.privates ≡ self.now.privates }
         ensures words { result.now.words ≡ self.now.private_words }
@@ -113,14 +140,16 @@ impl<'a, A: Allocator + Copy> Plan<'a, A> {
     }
 
     /// How many words all private variables take, 0 to 32767.
+    /// Source: this project's profile.
     pub fn private_words(&self) -> u16
         ensures { result ≡ self.now.private_words }
     {
         self.allotment.words()
     }
 
-    /// The base offset in words, 0 to 65535, behind the last private variable: the one that the end
+    /// The base offset in words, 0 to 65535, after the last private variable: the one that the end
     /// mark of the host's link information gives where there is none.
+    /// Source: the published II.0 Linker source.
     pub fn next_free(&self) -> u16
         ensures { result ≡ self.now.next_free }
     {
@@ -128,6 +157,7 @@ impl<'a, A: Allocator + Copy> Plan<'a, A> {
     }
 
     /// The data size of the host's outer block in the linked file, in bytes, 0 to 65535.
+    /// Source: UCSD Pascal II.0 manual, code file format.
     pub fn data_size(&self) -> u16
         ensures { result ≡ self.now.data_size }
     {

@@ -1,14 +1,13 @@
-ghost use Rattle.std.specs.Prelude.{◌≡◌, ◌<◌, ◌≤◌, List, ℕ, length, map, Some, None, IfOk, IfErr, IfSome, IsSome, All};
+ghost use Rattle.std.specs.Prelude.{◌≡◌, ◌<◌, List, ℕ, map, Some, None, IfOk, IfErr, IfSome, All};
 ghost use Rattle.ps_words.specs.declared.order.Order.{Order as ByteOrder};
 ghost use Rattle.std.specs.List.{find};
 ghost use Rattle.std.specs.Option.{option_map, option_or};
 ghost use Rattle.std.specs.Result.{result_err};
-ghost use Rattle.ps_resolve.specs.Sources.{order_of, host_of, contents};
+ghost use Rattle.ps_resolve.specs.Sources.{order_of, contents};
 ghost use Rattle.ps_resolve.specs.Added.{segments, slot_name as slot_name_spec, slot_names as slot_names_spec};
 ghost use Rattle.ps_resolve.specs.Faults.{slots_fault as slots_fault_spec, no_host_fault as no_host_fault_spec, libraries_fault as libraries_fault_spec};
 ghost use Rattle.ps_resolve.specs.AllFaults.{reading_fault, reading_rest};
-ghost use Rattle.ps_resolve.specs.Linkable.{AscendFrom, HasOneHost};
-ghost use Rattle.ps_resolve.specs.Views.{segment_of, IsSound, IsPlaced, is_in_slot, segment_in_slot, segments_in_slots};
+ghost use Rattle.ps_resolve.specs.Views.{segment_of, IsRead, is_in_slot, segment_in_slot, segments_in_slots};
 
 pub(crate) mod added;
 pub(crate) mod libraries;
@@ -17,25 +16,27 @@ pub(crate) mod slots;
 pub(crate) mod sources;
 pub(crate) mod units;
 
-use crate::reading::added::add_units;
+use crate::reading::added::{add_units, empty_slots};
 use crate::reading::libraries::libraries_fault;
 use crate::reading::segment::Segment;
-use crate::reading::slots::{HOST_FILE, SLOTS, is_empty, no_host_fault, slots_fault};
+use crate::reading::slots::{HOST_FILE, is_empty, no_host_fault, slots_fault};
 use crate::reading::sources::{add, read_slots};
 use arrayvec::ArrayVec;
 use ps_codefile::Dict;
+use ps_codefile::dictionary_layout::SLOTS;
 use ps_words::{Fault, Name, Order};
+use std::marker::Model;
 
-/// The segment that stands in a slot.
+/// The segment that is in a slot.
 fn segment_in<'a>(segments: &[Segment<'a>], slot: u8) -> Option<Segment<'a>>
     ensures found { option_map segment_of result
         ≡ find (is_in_slot slot) (map segment_of segments.now) }
-    ensures placed { (order : ByteOrder) (host : List ℕ) (libs : List (List ℕ))
-        → All (IsPlaced order host libs) segments.now → IfSome result (IsPlaced order host libs) }
+    ensures read { (order : ByteOrder) (host : List ℕ) (libs : List (List ℕ))
+        → All (IsRead order host libs) segments.now → IfSome result (IsRead order host libs) }
 {
     for segment in segments {
         if segment.slot == slot {
-            return Some(segment.copied());
+            return Some(segment.copy());
         }
     }
     None
@@ -52,10 +53,10 @@ fn segment_of_slot<'a>(
     ensures found { option_map segment_of result
         ≡ segment_in_slot host.now.order host.now.file (map segment_of own.now)
         (map segment_of added.now) slot }
-    ensures placed { (libs : List (List ℕ))
-        → All (IsPlaced host.now.order host.now.file libs) own.now
-        → All (IsPlaced host.now.order host.now.file libs) added.now
-        → IfSome result (IsPlaced host.now.order host.now.file libs) }
+    ensures read { (libs : List (List ℕ))
+        → All (IsRead host.now.order host.now.file libs) own.now
+        → All (IsRead host.now.order host.now.file libs) added.now
+        → IfSome result (IsRead host.now.order host.now.file libs) }
 {
     if let Some(segment) = segment_in(own, slot) {
         return Some(segment);
@@ -72,16 +73,13 @@ fn by_slot<'a>(
     own: &[Segment<'a>],
     added: &[Segment<'a>],
 ) -> ArrayVec<Segment<'a>, 16>
-    requires own { All (IsSound host.now.order) (map segment_of own.now) }
-    requires added { All (IsSound host.now.order) (map segment_of added.now) }
     ensures segments { map segment_of result.items
         ≡ segments_in_slots host.now.order host.now.file (map segment_of own.now)
         (map segment_of added.now) }
-    ensures placed { (libs : List (List ℕ))
-        → All (IsPlaced host.now.order host.now.file libs) own.now
-        → All (IsPlaced host.now.order host.now.file libs) added.now
-        → All (IsPlaced host.now.order host.now.file libs) result.items }
-    ensures sound { All (IsSound host.now.order) (map segment_of result.items) }
+    ensures read { (libs : List (List ℕ))
+        → All (IsRead host.now.order host.now.file libs) own.now
+        → All (IsRead host.now.order host.now.file libs) added.now
+        → All (IsRead host.now.order host.now.file libs) result.items }
 {
     let mut segments = ArrayVec::new();
     for slot in 0..SLOTS {
@@ -112,19 +110,20 @@ fn slot_names(host: &Dict, segments: &[Segment]) -> [Name; 16]
     names
 }
 
-/// The segments of a host whose slots and libraries have no fault of their own, or the first fault of their sources.
+/// The segments of a host whose slots and libraries have no fault of their own, or the first fault
+/// of their sources.
 fn read_all<'a>(host: &Dict<'a>, libs: &'a [&'a [u8]]) -> Result<ArrayVec<Segment<'a>, 16>, Fault>
     requires { libraries_fault_spec host.now.order (contents libs.now) ≡ None }
     ensures fault { result_err result ≡ reading_rest host.now.order host.now.file
         (contents libs.now) }
     ensures segments { IfOk result (λ s. map segment_of s.items
         ≡ segments host.now.order host.now.file (contents libs.now)) }
-    ensures placed { IfOk result (λ s. All
-        (IsPlaced host.now.order host.now.file (contents libs.now)) s.items) }
-    ensures sound { IfOk result (λ s. All (IsSound host.now.order) (map segment_of s.items)) }
+    ensures read { IfOk result (λ s. All
+        (IsRead host.now.order host.now.file (contents libs.now)) s.items) }
 {
     let own = read_slots(host, libs)?;
-    let added = add_units(host, libs, own.as_slice())?;
+    let slots = empty_slots(host);
+    let added = add_units(host.order(), libs, own.as_slice(), slots.as_slice())?;
     Ok(by_slot(host, own.as_slice(), added.as_slice()))
 }
 
@@ -143,7 +142,8 @@ fn files_fault(host: &Dict, libs: &[&[u8]]) -> Option<Fault>
     libraries_fault(host.order(), libs)
 }
 
-/// The segments of a host that is read in its own byte order, or the first fault behind that of its order.
+/// The segments of a host that is read in its own byte order, or the first fault after that of its
+/// order.
 fn read_sources<'a>(
     host: &Dict<'a>,
     libs: &'a [&'a [u8]],
@@ -154,9 +154,8 @@ fn read_sources<'a>(
         (reading_rest host.now.order host.now.file (contents libs.now)))) }
     ensures segments { IfOk result (λ s. map segment_of s.items
         ≡ segments host.now.order host.now.file (contents libs.now)) }
-    ensures placed { IfOk result (λ s. All
-        (IsPlaced host.now.order host.now.file (contents libs.now)) s.items) }
-    ensures sound { IfOk result (λ s. All (IsSound host.now.order) (map segment_of s.items)) }
+    ensures read { IfOk result (λ s. All
+        (IsRead host.now.order host.now.file (contents libs.now)) s.items) }
 {
     match files_fault(host, libs) {
         Some(fault) => Err(fault),
@@ -164,43 +163,47 @@ fn read_sources<'a>(
     }
 }
 
-/// What the files of a link have.
+/// The segments of a link, as its files have them, where reading found no fault.
 #[derive(Drop)]
-pub(crate) struct Reading<'a> {
+pub(crate) struct Segments<'a> {
     /// The byte order of the host.
     pub(crate) order: Order,
+    /// The host file.
+    pub(crate) host: &'a [u8],
     /// The names of all slots in the linked file.
     pub(crate) names: [Name; 16],
     /// The segments by slot ascending.
-    pub(crate) segments: ArrayVec<Segment<'a>, 16>,
+    pub(crate) items: ArrayVec<Segment<'a>, 16>,
 }
 
-/// The host's byte order, the names of its slots and the segments of a link, or the first fault of reading the files.
-pub(crate) fn read_segments<'a>(host: &'a [u8], libs: &'a [&'a [u8]]) -> Result<Reading<'a>, Fault>
-    ensures whole { IfOk result (λ _. 512 ≤ length host.now) }
+impl<'a> Model for Segments<'a> {
+    ghost use Rattle.ps_resolve.specs.Linkable.{AreSegments, ReadSegments};
+
+    ghost Value = { ReadSegments };
+
+    ghost view = { λ s. record { order = s.order; host = s.host.now; names = s.names; items = s.items.items } };
+
+    ghost invariant = { λ s. AreSegments s.order s.host.now s.names s.items.items };
+}
+
+/// The segments of a link, or the first fault of reading the files.
+pub(crate) fn read_segments<'a>(host: &'a [u8], libs: &'a [&'a [u8]]) -> Result<Segments<'a>, Fault>
     ensures order { IfOk result (λ r. r.order ≡ order_of host.now) }
-    ensures segments { IfOk result (λ r. map segment_of r.segments.items
+    ensures host { IfOk result (λ r. r.host ≡ host.now) }
+    ensures segments { IfOk result (λ r. map segment_of r.items
         ≡ segments (order_of host.now) host.now (contents libs.now)) }
-    ensures names { IfOk result (λ r. r.names
-        ≡ slot_names_spec host.now (map segment_of r.segments.items)) }
-    ensures placed { IfOk result (λ r. All (IsPlaced r.order host.now (contents libs.now))
-        r.segments.items) }
-    ensures sound { IfOk result (λ r. All (IsSound r.order) (map segment_of r.segments.items)) }
-    ensures ascending { IfOk result (λ r. AscendFrom 0
-        (map (λ s. s.slot) (map segment_of r.segments.items))) }
-    ensures host { IfOk result (λ r. IsSome (host_of (map segment_of r.segments.items))) }
-    ensures one_host { IfOk result (λ r. HasOneHost (map segment_of r.segments.items)) }
     ensures faultless { IfOk result (λ _. reading_fault host.now (contents libs.now) ≡ None) }
     ensures fault { IfErr result (λ f. reading_fault host.now (contents libs.now) ≡ Some f) }
 {
     match Dict::read(host) {
         Err(reason) => Err(Fault::in_file(HOST_FILE, reason)),
         Ok(dict) => {
-            let segments = read_sources(&dict, libs)?;
-            Ok(Reading {
+            let items = read_sources(&dict, libs)?;
+            Ok(Segments {
                 order: dict.order(),
-                names: slot_names(&dict, segments.as_slice()),
-                segments,
+                host,
+                names: slot_names(&dict, items.as_slice()),
+                items,
             })
         }
     }

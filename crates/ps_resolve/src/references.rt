@@ -6,7 +6,7 @@ ghost use Rattle.ps_codefile.specs.Places.{has};
 ghost use Rattle.ps_resolve.specs.Searches.{fault_if};
 ghost use Rattle.ps_codefile.specs.Procedures.{is_reserved};
 ghost use Rattle.ps_resolve.specs.Operands.{width_of as width_of_spec, edit_of, value_of, operands, is_in};
-ghost use Rattle.ps_resolve.specs.Marks.{AreTaken};
+ghost use Rattle.ps_resolve.specs.TakenPlaces.{AreTaken};
 ghost use Rattle.ps_resolve.specs.Edits.{reason_in, refs_fault_at};
 ghost use Rattle.ps_resolve.specs.Stops.{IsStop};
 
@@ -23,6 +23,7 @@ use std::alloc::Allocator;
 const MAX_OPERAND: usize = 32767;
 
 /// What a reference's operand becomes: the number of a slot, or its displacement and a base.
+/// Source: this project's profile.
 #[derive(Clone, Copy)]
 pub enum Target {
     /// A byte, which becomes the number of the slot.
@@ -44,7 +45,7 @@ fn width_of(target: Target) -> usize
 /// Whether one of the places of the operand is in the set.
 fn any_of(places: &Places, target: Target, x: usize) -> bool
     requires { x + width_of_spec target ≤ 32768 }
-    ensures { result ≡ list_any (has places.now.words) (range_with_len x (width_of_spec target)) }
+    ensures { result ≡ list_any (has places.now) (range_with_len x (width_of_spec target)) }
 {
     match target {
         Target::Slot(_) => places.contains(x),
@@ -64,17 +65,17 @@ fn is_any_reserved(procedures: &Procs, target: Target, x: usize) -> bool
     }
 }
 
-/// What is stored for the operand at x, which lies in the code; a BIG operand has to have room for it.
+/// What is stored for the operand at x, which lies in the code; a BIG operand has to have room for
+/// it.
 fn stored_at(code: &[u8], target: Target, x: usize) -> Result<Edit, Reason>
     requires inside { x + width_of_spec target ≤ length code.now }
-    requires word { x < 65536 }
     ensures edit { IfOk result (λ edit. edit ≡ edit_of code.now target x) }
     ensures reason { result_err result
         ≡ fault_if (nat_lt 32767 (value_of code.now target x)) OperandTooLarge }
 {
     match target {
         Target::Slot(slot) => Ok(Edit::Byte {
-            place: x as u16,
+            place: x,
             value: slot,
         }),
         Target::Base(base) => {
@@ -83,7 +84,7 @@ fn stored_at(code: &[u8], target: Target, x: usize) -> Result<Edit, Reason>
                 return Err(Reason::OperandTooLarge);
             }
             Ok(Edit::Big {
-                place: x as u16,
+                place: x,
                 value: value as u16,
             })
         }
@@ -96,7 +97,7 @@ fn edit_at(procedures: &Procs, taken: &Places, target: Target, x: usize) -> Resu
     requires word { x < 65536 }
     ensures inside { IfOk result (λ _. x + width_of_spec target ≤ length procedures.now.code) }
     ensures edit { IfOk result (λ edit. edit ≡ edit_of procedures.now.code target x) }
-    ensures reason { (os : List (ℕ × ℕ)) → AreTaken procedures.now taken.now.words os
+    ensures reason { (os : List (ℕ × ℕ)) → AreTaken procedures.now taken.now os
         → result_err result ≡ reason_in procedures.now os target x }
 {
     let code = procedures.code();
@@ -115,8 +116,8 @@ fn edit_at(procedures: &Procs, taken: &Places, target: Target, x: usize) -> Resu
 /// Adds the places of the operand.
 fn mark(taken: &mut Places, target: Target, x: usize)
     requires { x + width_of_spec target ≤ 32768 }
-    ensures { (p : ℕ) → has taken.new.words p
-        ≡ (has taken.old.words p || is_in p (x, width_of_spec target)) }
+    ensures { (p : ℕ) → has taken.new p
+        ≡ (has taken.old p || is_in p (x, width_of_spec target)) }
 {
     taken.insert(x);
     if let Target::Base(_) = target {
@@ -124,7 +125,7 @@ fn mark(taken: &mut Places, target: Target, x: usize)
     }
 }
 
-/// Adds the edits of the references of the record that stands there, or finds their first fault.
+/// Adds the edits of the references of the record that is there, or finds their first fault.
 pub(crate) fn add_references<A: Allocator>(
     procedures: &Procs,
     taken: &mut Places,
@@ -136,12 +137,12 @@ pub(crate) fn add_references<A: Allocator>(
     requires { length procedures.now.code ≤ 32767 }
     ensures edits { OnOk result (edits.new.items
         ≡ edits.old.items ++ map (edit_of procedures.now.code target) refs.now) }
-    ensures sound { (os : List (ℕ × ℕ)) → AreTaken procedures.now taken.old.words os
+    ensures sound { (os : List (ℕ × ℕ)) → AreTaken procedures.now taken.old os
         → OnOk result (refs_fault_at place procedures.now target os refs.now ≡ None) }
-    ensures stop { (os : List (ℕ × ℕ)) → AreTaken procedures.now taken.old.words os
+    ensures stop { (os : List (ℕ × ℕ)) → AreTaken procedures.now taken.old os
         → IfErr result (IsStop ⊤ (refs_fault_at place procedures.now target os refs.now)) }
-    ensures taken { (os : List (ℕ × ℕ)) → AreTaken procedures.now taken.old.words os
-        → OnOk result (AreTaken procedures.now taken.new.words
+    ensures taken { (os : List (ℕ × ℕ)) → AreTaken procedures.now taken.old os
+        → OnOk result (AreTaken procedures.now taken.new
         (os ++ operands target refs.now)) }
 {
     for i in 0..refs.len() {

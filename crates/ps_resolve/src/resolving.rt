@@ -12,7 +12,8 @@ use std::alloc::Allocator;
 /// Plans the link of a host file with the libraries that have the units it wants, in their order.
 ///
 /// Refuses the first fault of all: of the host, its slots, the libraries, the sources of the slots,
-/// the units that only UNITREF records name, the host's definitions, the private variables, the host's data size and the references, each of
+/// the units that only UNITREF records name, the host's definitions, the private variables, the
+/// host's data size and the references, each of
 /// which is looked at only where none before it has a fault. Returns `Memory` only where the files
 /// can be read without a fault.
 ///
@@ -29,12 +30,6 @@ pub fn resolve<'a, A: Allocator + Copy>(
 {
     match read_segments(host, libs) {
         Err(fault) => Err(Stop::Refused(fault)),
-        Ok(files) => link_segments(
-            alloc,
-            files.order,
-            host,
-            files.names,
-            files.segments.as_slice(),
-        ),
+        Ok(segments) => link_segments(alloc, &segments),
     }
 }

@@ -1,4 +1,5 @@
-//! A library whose unit uses another one, which the host has no slot for, and the files that a host is linked to with it.
+//! A library whose unit uses another one, which the host has no slot for, and the files that a host
+//! is linked to with it.
 use crate::base::{LIBRARY_RECORDS, base_library, linked_segments, util_code};
 use crate::code_file::Change::{Code, CodeWord, Entry, Records, Resized};
 use crate::code_file::CodeFile;
@@ -11,7 +12,8 @@ use std::alloc::{AllocError, Global};
 /// The link information of the first unit: its byte 2 is the segment number of the second.
 pub const USING_RECORDS: [Record<'static>; 2] = [UnitReference(AUX, &[2]), End(0)];
 
-/// The base library with a second unit, which the first one uses in place of the host's definition and of a private variable.
+/// The base library with a second unit, which the first one uses in place of the host's definition
+/// and of a private variable.
 pub fn library_of_a_used_unit(alloc: Global, order: Order) -> Result<CodeFile, AllocError> {
     let changes = [
         Resized(2560),

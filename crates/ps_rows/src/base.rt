@@ -1,4 +1,5 @@
-//! The base pair: a host that wants one unit, the library that has it, and the file that the two are linked to.
+//! The base pair: a host that wants one unit, the library that has it, and the file that the two
+//! are linked to.
 use crate::code_file::Change::{Bytes, Code, Entry, Records};
 use crate::code_file::{CodeFile, HOST_SEGMENT, LINKED, Slot, UNIT_SEGMENT};
 use crate::information::Record::{End, PrivateReference, PublicDefinition, PublicReference};
@@ -96,7 +97,8 @@ pub fn demo_code(order: Order) -> [u8; 18] {
     }
 }
 
-/// The unit's code: operands with displacements 0 and 2 at bytes 1 and 4, and this segment number at byte 22.
+/// The unit's code: operands with displacements 0 and 2 at bytes 1 and 4, and this segment number
+/// at byte 22.
 pub fn util_code(order: Order, number: u8) -> [u8; 24] {
     match order {
         Order::Little => [
@@ -132,7 +134,8 @@ pub fn base_library(alloc: Global, order: Order) -> Result<CodeFile, AllocError>
     CodeFile::new(alloc, order, BASE_LENGTH)?.with(alloc, &parts)
 }
 
-/// What a host with the base host's segments is linked to where no operand and no size changes: the two codes stand as they were, but for the unit's segment number.
+/// What a host with the base host's segments is linked to where no operand and no size changes: the
+/// two codes are as they were, but for the unit's segment number.
 pub fn linked_segments(alloc: Global, order: Order) -> Result<CodeFile, AllocError> {
     let parts = [
         Entry(DEMO_SLOT, LINKED_DEMO),

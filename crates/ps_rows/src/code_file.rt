@@ -47,15 +47,15 @@ pub enum Change<'a> {
     Length(u8, u16),
     /// A slot gets this kind.
     Kind(u8, u16),
-    /// From a place of the file on stand these bytes.
+    /// From a place of the file on are these bytes.
     Bytes(usize, &'a [u8]),
-    /// From a place of the code on that begins with a block stand these bytes.
+    /// From a place of the code on that begins with a block are these bytes.
     Code(u16, usize, &'a [u8]),
-    /// At a place of the code that begins with a block stands this word.
+    /// At a place of the code that begins with a block is this word.
     CodeWord(u16, usize, u16),
-    /// From a block's start on stands this link information.
+    /// From a block's start on is this link information.
     Records(u16, &'a [Record<'a>]),
-    /// The file is cut, or made longer by zeros, to so many bytes.
+    /// The file is truncated, or made longer by zeros, to so many bytes.
     Resized(usize),
 }
 
@@ -77,7 +77,8 @@ impl CodeFile {
         Ok(file)
     }
 
-    /// With these changes, one after the other; bytes that would lie past the file's end are left out.
+    /// With these changes, one after the other; bytes that would lie past the file's end are left
+    /// out.
     pub fn with(mut self, alloc: Global, changes: &[Change<'_>]) -> Result<CodeFile, AllocError> {
         for change in changes {
             self.change(alloc, change)?;
@@ -127,27 +128,27 @@ impl CodeFile {
     }
 }
 
-/// Where a slot's address stands.
+/// Where a slot's address is.
 fn pair_at(slot: u8) -> usize {
     PAIR_SIZE * usize::from(slot)
 }
 
-/// Where a slot's length stands.
+/// Where a slot's length is.
 fn length_at(slot: u8) -> usize {
     PAIR_SIZE * usize::from(slot) + WORD_SIZE
 }
 
-/// Where a slot's name stands.
+/// Where a slot's name is.
 fn name_at(slot: u8) -> usize {
     NAMES + NAME_SIZE * usize::from(slot)
 }
 
-/// Where a slot's kind stands.
+/// Where a slot's kind is.
 fn kind_at(slot: u8) -> usize {
     KINDS + WORD_SIZE * usize::from(slot)
 }
 
-/// Where a place of the code stands in the file that begins with a block.
+/// Where a place of the code is in the file that begins with a block.
 fn code_at(block: u16, place: usize) -> usize {
     (BLOCK * usize::from(block)).saturating_add(place)
 }

@@ -44,7 +44,7 @@ pub enum Record<'a> {
     ConstantDefinition(Name, u16),
     /// EOFMARK: the next free base offset.
     End(u16),
-    /// A name, any type word and any three words behind it, and no list.
+    /// A name, any type word and any three words after it, and no list.
     Other(Name, u16, [u16; 3]),
 }
 
@@ -96,7 +96,7 @@ pub struct Information {
 }
 
 impl Information {
-    /// The records one behind the other, each with its list.
+    /// The records one after the other, each with its list.
     pub fn new(
         alloc: Global,
         order: Order,
@@ -144,7 +144,7 @@ impl Information {
     }
 }
 
-/// A word as it stands in a file.
+/// A word as it is in a file.
 pub(crate) fn bytes_of(order: Order, word: u16) -> [u8; 2] {
     match order {
         Order::Little => word.to_le_bytes(),

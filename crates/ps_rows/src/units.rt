@@ -57,7 +57,8 @@ pub fn library_of_two_units(alloc: Global) -> Result<CodeFile, AllocError> {
     base_library(alloc, Order::Little)?.with(alloc, &changes)
 }
 
-/// What the host and the library of two units are linked to, but for the second unit's operands and the data size that its private variable takes.
+/// What the host and the library of two units are linked to, but for the second unit's operands and
+/// the data size that its private variable takes.
 pub fn linked_two_units(alloc: Global) -> Result<CodeFile, AllocError> {
     let changes = [
         Resized(2048),
@@ -70,7 +71,8 @@ pub fn linked_two_units(alloc: Global) -> Result<CodeFile, AllocError> {
 /// The length of the code of a unit with nine operands.
 pub const NINE_LENGTH: u16 = 44;
 
-/// The code of a unit with nine operands, whose first bytes are 128 and whose second bytes are this one, and with this segment number.
+/// The code of a unit with nine operands, whose first bytes are 128 and whose second bytes are this
+/// one, and with this segment number.
 pub fn nine_operands(second: u8, number: u8) -> [u8; 44] {
     let s = second;
     [
@@ -86,7 +88,8 @@ pub const NINE_REFERENCES: [Record<'static>; 2] = [
     End(0),
 ];
 
-/// A library whose unit has nine operands; the words that its list of references does not use are not 0.
+/// A library whose unit has nine operands; the words that its list of references does not use are
+/// not 0.
 pub fn library_of_nine_references(alloc: Global) -> Result<CodeFile, AllocError> {
     let unit = Slot {
         length: NINE_LENGTH,
@@ -108,7 +111,8 @@ pub const LONG_LENGTH: u16 = 530;
 /// Its first 510 bytes.
 pub const LONG_FILL: [u8; 510] = [0xD7; 510];
 
-/// Its last twenty bytes, from byte 510 on: an operand of these two bytes at 511 and 512, and this segment number.
+/// Its last twenty bytes, from byte 510 on: an operand of these two bytes at 511 and 512, and this
+/// segment number.
 pub fn long_end(operand: [u8; 2], number: u8) -> [u8; 20] {
     let [high, low] = operand;
     [

@@ -1,10 +1,11 @@
--- Edits that stand apart: at most one covers a place, so the order in which they are listed does not matter.
+-- Edits that are apart: at most one covers a place, so the order in which they are listed does not
+-- matter.
 use Rattle.std.proofs.Common.{◌≡◌, ℕ, zero, suc, ◌+◌, ◌-◌, ◌<◌, ◌≤◌, List, [], ◌∷◌, length, get_or, slice_index, Option, Some, None, Bool, true, false, cond, refl, sym, ◌∙◌, ap, subst, arith}
 use Rattle.std.specs.Prelude.{find, All, Contains, IsPermutation, IsTrue}
 use Rattle.std.proofs.lemmas.Bool.Decides.{nat_tests}
 use Rattle.std.proofs.lemmas.List.Elements.{All-contains}
 use Rattle.std.proofs.lemmas.List.Sorted.{Contains-permutation, IsPermutation-sym}
-use Rattle.ps_words.specs.Edits.{AreApart, covers, patched, place_of, stored, width}
+use Rattle.ps_words.specs.Edits.{AreApart, covers, patched_byte, place_of, stored_bytes, width}
 use Rattle.ps_words.specs.declared.order.Order.{Order}
 use Rattle.ps_words.specs.declared.edit.Edit.{Edit}
 
@@ -40,7 +41,7 @@ covers_from e p h = grind (arith, nat_tests)
 covers_to : (e : Edit) (p : ℕ) → covers p e ≡ true → p < place_of e + width e
 covers_to e p h = grind (arith, nat_tests)
 
--- edits that stand apart from a place on begin there or behind it
+-- edits that are apart from a place on begin there or after it
 behind : (es : List Edit) (from : ℕ) (e : Edit) → AreApart from es → Contains es e → from ≤ place_of e
 behind [] from e apart is = absurd (omega (arith, is.1))
 behind (x ∷ es) from e apart is = at (λ h. behind es (place_of x + width x) e apart.1 h) is.0 is.1 is.2
@@ -74,18 +75,19 @@ found_is es e p apart is on = at (find (covers p) es) refl
     at (Some x) some = let h = found (covers p) es x some in ap Some (only_one es 0 p apart x e h.0 is h.1 on)
 
 -- a place that one of the edits covers has the byte that this edit stores there
-pub stored_where_covered : (order : Order) (code : List ℕ) (es : List Edit) (e : Edit) (p : ℕ) → AreApart 0 es → Contains es e → IsTrue (covers p e) → patched order code es p ≡ slice_index (stored order e) (p - place_of e)
+pub stored_where_covered : (order : Order) (code : List ℕ) (es : List Edit) (e : Edit) (p : ℕ) → AreApart 0 es → Contains es e → IsTrue (covers p e) → patched_byte order code es p ≡ slice_index (stored_bytes order e) (p - place_of e)
 stored_where_covered order code es e p apart is on = rw (found_is es e p apart is on)
 
 -- a place that no edit covers keeps the code's own byte
-pub kept_where_not_covered : (order : Order) (code : List ℕ) (es : List Edit) (p : ℕ) → All (λ e. ¬ IsTrue (covers p e)) es → patched order code es p ≡ slice_index code p
+pub kept_where_not_covered : (order : Order) (code : List ℕ) (es : List Edit) (p : ℕ) → All (λ e. ¬ IsTrue (covers p e)) es → patched_byte order code es p ≡ slice_index code p
 kept_where_not_covered order code es p none = rw (at (find (covers p) es) refl)
   where
     at : (o : Option Edit) → find (covers p) es ≡ o → find (covers p) es ≡ None
     at None e = e
     at (Some x) e = let h = found (covers p) es x e in absurd (All-contains (λ (z : Edit). ¬ IsTrue (covers p z)) es x none h.0 h.1)
 
--- of edits that stand apart, the one that covers a place is the same in whatever order they are listed
+-- of edits that are apart, the one that covers a place is the same in whatever order they are
+-- listed
 same_find : (es fs : List Edit) (p : ℕ) → AreApart 0 es → IsPermutation es fs → find (covers p) es ≡ find (covers p) fs
 same_find es fs p apart perm = at (find (covers p) fs) refl
   where
@@ -101,5 +103,5 @@ same_find es fs p apart perm = at (find (covers p) fs) refl
     at (Some x) e = let h = found (covers p) fs x e in found_is es x p apart (Contains-permutation fs es x back h.0) h.1
 
 -- so the byte at a place after the edits is the same in whatever order they are listed
-pub patched_alike : (order : Order) (code : List ℕ) (es fs : List Edit) (p : ℕ) → AreApart 0 es → IsPermutation es fs → patched order code es p ≡ patched order code fs p
+pub patched_alike : (order : Order) (code : List ℕ) (es fs : List Edit) (p : ℕ) → AreApart 0 es → IsPermutation es fs → patched_byte order code es p ≡ patched_byte order code fs p
 patched_alike order code es fs p apart perm = rw (same_find es fs p apart perm)

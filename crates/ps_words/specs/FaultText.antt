@@ -91,7 +91,8 @@ abbrev pub part_text : List ℕ → Option ℕ → List ℕ
 part_text label None = []
 part_text label (Some n) = codes " " ++ (label ++ (codes " " ++ decimal n))
 
--- `refused 14 NotAUnit kind 5 file 1 slot 7`, or `refused 33 Overlap file 0 slot 7 record 1 reference 0`
+-- `refused 14 NotAUnit kind 5 file 1 slot 7`, or `refused 33 Overlap file 0 slot 7 record 1
+-- reference 0`
 abbrev pub fault_text : Fault → List ℕ
 fault_text f =
     codes "refused " ++ (decimal (number_of f.reason) ++ (codes " " ++ (name_of f.reason ++ (part_text (codes "kind") (kind_of f.reason)

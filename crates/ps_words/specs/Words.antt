@@ -18,7 +18,8 @@ abbrev pub word_bytes : Order → ℕ → List ℕ
 word_bytes Little v = (v % 256) ∷ (v / 256) ∷ []
 word_bytes Big v = (v / 256) ∷ (v % 256) ∷ []
 
--- the displacement of a BIG operand of two bytes, in either byte order; bit 7 of the first is not looked at
+-- the displacement of a BIG operand of two bytes, in either byte order; bit 7 of the first is not
+-- looked at
 abbrev pub displacement : ℕ → ℕ → ℕ
 displacement a b = (a % 128) * 256 + b
 
@@ -26,7 +27,8 @@ displacement a b = (a % 128) * 256 + b
 abbrev pub displacement_at : List ℕ → ℕ → ℕ
 displacement_at bytes place = displacement (slice_index bytes place) (slice_index bytes (place + 1))
 
--- the two bytes of a BIG operand whose displacement is v, which is below 32768, in either byte order
+-- the two bytes of a BIG operand whose displacement is v, which is below 32768, in either byte
+-- order
 abbrev pub operand_bytes : ℕ → List ℕ
 operand_bytes v = (128 + v / 256) ∷ (v % 256) ∷ []
 

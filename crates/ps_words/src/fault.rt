@@ -30,13 +30,13 @@ pub enum Reason {
     Intrinsic,
     /// 10: a segment of the host file has a kind above 7.
     UnknownKind,
-    /// 11: the code has more than 32767 bytes, or that of a linked segment fewer than 4 or an
+    /// 11: the code has more than 32767 bytes, or that of a segment to be linked fewer than 4 or an
     /// odd number.
     BadLength,
-    /// 12: the code's address is block 0, where the segment dictionary stands.
+    /// 12: the code's address is block 0, where the segment dictionary is.
     BadAddress,
     /// 13: no library has an entry, with code, of the name of a unit that a slot of the host wants
-    /// or a UNITREF record asks for, or the record's name is no name.
+    /// or a UNITREF record requests, or the record's name is no name.
     MissingUnit,
     /// 14: the library's entry of a wanted unit's name is no unit.
     NotAUnit {
@@ -74,7 +74,7 @@ pub enum Reason {
     MissingDefinition,
     /// 29: a public reference's definition is a constant.
     IllKind,
-    /// 30: no longer returned: a unit that no slot of the host has is sought in the libraries.
+    /// 30: no longer returned: a unit that no slot of the host has is looked up in the libraries.
     MissingUnitRef,
     /// 31: an operand does not lie inside the code.
     OutsideCode,
@@ -84,12 +84,13 @@ pub enum Reason {
     Overlap,
     /// 34: an operand's displacement plus the value is above 32767.
     OperandTooLarge,
-    /// 35: no empty slot from 7 to 15 is left for a unit that a UNITREF record asks for.
+    /// 35: no empty slot from 7 to 15 is left for a unit that a UNITREF record requests.
     NoSlot,
 }
 
 impl Reason {
     /// The reason's number, 1 to 35.
+    /// Source: this project's profile.
     pub fn number(self) -> u8
         ensures { result ≡ number_of self }
     {
@@ -133,6 +134,7 @@ impl Reason {
     }
 
     /// The reason's name, which is that of its variant.
+    /// Source: this project's profile.
     pub fn name(self) -> &'static str
         ensures { result.now ≡ name_of self }
     {
@@ -196,7 +198,7 @@ impl fmt::Display for Reason {
     }
 }
 
-/// A reason for which files are refused, and where it stands.
+/// A reason for which files are refused, and where it occurs.
 ///
 /// Its text is `refused N NAME`, then ` kind K` for an entry that is no unit, then ` file F`, and
 /// then ` slot S`, ` record R` and ` reference I`, each where the fault has it. All numbers are
@@ -219,6 +221,7 @@ pub struct Fault {
 
 impl Fault {
     /// A fault of a file as a whole: 0 is the host file, k the k-th library, from 1.
+    /// Source: this project's profile.
     pub fn in_file(file: usize, reason: Reason) -> Fault
         ensures { result ≡ in_file_spec file reason }
     {
@@ -232,6 +235,7 @@ impl Fault {
     }
 
     /// A fault of a segment of the file, by its slot in the host's segment dictionary, 0 to 15.
+    /// Source: this project's profile.
     pub fn in_slot(file: usize, slot: u8, reason: Reason) -> Fault
         ensures { result ≡ in_slot_spec file slot reason }
     {
@@ -242,6 +246,7 @@ impl Fault {
     }
 
     /// A fault of the record of this index, from 0, in the link information of the slot's segment.
+    /// Source: this project's profile.
     pub fn in_record(file: usize, slot: u8, rec: usize, reason: Reason) -> Fault
         ensures { result ≡ in_record_spec file slot rec reason }
     {
@@ -252,6 +257,7 @@ impl Fault {
     }
 
     /// A fault of the reference of this index, from 0, of a record.
+    /// Source: this project's profile.
     pub fn in_reference(
         file: usize,
         slot: u8,

@@ -1,4 +1,4 @@
-/// The order in which the two bytes of a word stand in a code file.
+/// The order in which the two bytes of a word are in a code file.
 ///
 /// One order holds for all words of a file. BIG operands have one form in either order.
 /// Source: UCSD Pascal II.0 manual, code file format.

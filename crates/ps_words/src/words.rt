@@ -9,13 +9,25 @@ use byteorder::{BigEndian, ByteOrder, LittleEndian};
 /// Source: UCSD Pascal II.0 manual, code file format.
 pub const BLOCK_SIZE: usize = 512;
 
-/// A name in a code file: eight bytes, of which blanks fill the last.
-pub type Name = [u8; 8];
+/// The length in bytes of a word.
+///
+/// Source: UCSD Pascal II.0 manual, code file format.
+pub const WORD_LEN: usize = 2;
+
+/// The length in bytes of a name.
+///
+/// Source: UCSD Pascal II.0 manual, code file format.
+pub const NAME_LEN: usize = 8;
+
+/// A name in a code file: eight bytes, padded with blanks.
+///
+/// Source: UCSD Pascal II.0 manual, code file format.
+pub type Name = [u8; NAME_LEN];
 
 /// The high bit of a BIG operand's first byte, which says that the operand has two bytes.
 const BIG_MARK: u16 = 0x8000;
 
-/// The word, 0 to 65535, whose two bytes stand at `place` and behind it, in the given order.
+/// The word, 0 to 65535, whose two bytes are at `place` and after it, in the given order.
 ///
 /// `place` counts bytes from 0; both bytes have to be there.
 /// Source: UCSD Pascal II.0 manual, code file format.
@@ -29,7 +41,7 @@ pub fn get(order: Order, bytes: &[u8], place: usize) -> u16
     }
 }
 
-/// Stores the word `v`, 0 to 65535, in the bytes at `place` and behind it, in the given order.
+/// Stores the word `v`, 0 to 65535, in the bytes at `place` and after it, in the given order.
 ///
 /// `place` counts bytes from 0; both bytes have to be there. Every other byte stays as it was.
 /// Source: UCSD Pascal II.0 manual, code file format.
@@ -47,7 +59,7 @@ pub fn put(order: Order, bytes: &mut [u8], place: usize, v: u16)
     }
 }
 
-/// The displacement, 0 to 32767, of the BIG operand whose two bytes stand at `place` and behind
+/// The displacement, 0 to 32767, of the BIG operand whose two bytes are at `place` and after
 /// it.
 ///
 /// A BIG operand has its high byte first in files of either order. Bit 7 of that byte is not
@@ -60,7 +72,7 @@ pub fn get_big(bytes: &[u8], place: usize) -> u16
     get(Order::Big, bytes, place) % BIG_MARK
 }
 
-/// Stores a BIG operand of the displacement `v`, 0 to 32767, in the bytes at `place` and behind
+/// Stores a BIG operand of the displacement `v`, 0 to 32767, in the bytes at `place` and after
 /// it.
 ///
 /// The high byte comes first in files of either order, and its bit 7 is set. `place` counts bytes

@@ -1,14 +1,20 @@
-//! An allocator for tests of running out of memory: it counts allocations and refuses those of chosen numbers.
+//! An allocator for tests of running out of memory: it counts allocations and the bytes that they
+//! request, and refuses those of chosen numbers.
 //!
-//! [`Refusing`] stands over another allocator, as the runtime's, and is handed out as `&heap`. A test makes one for each number in turn and calls what it tests, until a call is made in which nothing was refused.
+//! [`Refusing`] is over another allocator, as the runtime's, and is handed out as `&heap`. A test
+//! makes one for each number in turn and calls what it tests, until a call is made in which nothing
+//! was refused.
 #![tactic(auto)]
 
 use std::alloc::{AllocError, Allocator};
 use std::cell::Cell;
 
-/// An allocator that counts its allocations and refuses some of them; the others, and every freeing, go to the allocator that it is made over.
+/// An allocator that counts its allocations and their bytes, and refuses some of them; the others,
+/// and every freeing, go to the allocator that it is made over.
 ///
-/// Each call of `allocate`, `grow` and `shrink` is an allocation, and they are numbered from 1. It is handed out as `&refusing`, which is `Copy`.
+/// Each call of `allocate`, `grow` and `shrink` is an allocation, and they are numbered from 1. It
+/// is handed out as `&refusing`, which is `Copy`.
+/// Source: this project's profile.
 #[derive(Drop)]
 pub struct Refusing<B: Allocator> {
     inner: B,
@@ -17,6 +23,7 @@ pub struct Refusing<B: Allocator> {
 
 impl<B: Allocator> Refusing<B> {
     /// Refuses the allocation of that number alone; none where it is 0.
+    /// Source: this project's profile.
     pub fn once(inner: B, allocation: u64) -> Refusing<B> {
         Refusing {
             inner,
@@ -25,6 +32,7 @@ impl<B: Allocator> Refusing<B> {
     }
 
     /// Refuses the allocation of that number and each later one.
+    /// Source: this project's profile.
     pub fn from(inner: B, allocation: u64) -> Refusing<B> {
         Refusing {
             inner,
@@ -32,12 +40,22 @@ impl<B: Allocator> Refusing<B> {
         }
     }
 
-    /// How many allocations were asked for, those that were refused among them.
+    /// How many allocations were requested, those that were refused among them.
+    /// Source: this project's profile.
     pub fn allocations(&self) -> u64 {
         self.gate.allocations.get()
     }
 
+    /// How many bytes the allocations requested in all, those that were refused among them. One
+    /// that makes a block longer requests
+    /// all bytes of the longer one.
+    /// Source: this project's profile.
+    pub fn bytes(&self) -> u64 {
+        self.gate.bytes.get()
+    }
+
     /// Whether an allocation was refused.
+    /// Source: this project's profile.
     pub fn has_refused(&self) -> bool {
         self.gate.refused.get()
     }
@@ -47,6 +65,7 @@ impl<B: Allocator> Refusing<B> {
 #[derive(Drop)]
 struct Gate {
     allocations: Cell<u64>,
+    bytes: Cell<u64>,
     refused: Cell<bool>,
     first: u64,
     last: u64,
@@ -56,16 +75,18 @@ impl Gate {
     fn new(first: u64, last: u64) -> Gate {
         Gate {
             allocations: Cell::new(0),
+            bytes: Cell::new(0),
             refused: Cell::new(false),
             first,
             last,
         }
     }
 
-    /// Counts an allocation, and returns whether it is refused.
-    fn refuses(&self) -> bool {
+    /// Counts an allocation of so many bytes, and returns whether it is refused.
+    fn refuses(&self, size: usize) -> bool {
         let allocation = self.allocations.get().saturating_add(1);
         self.allocations.set(allocation);
+        self.bytes.set(self.bytes.get().saturating_add(size as u64));
         let refused = self.first <= allocation && allocation <= self.last;
         if refused {
             self.refused.set(true);
@@ -78,7 +99,7 @@ unsafe impl<B: Allocator> Allocator for Refusing<B> {
     ghost dealloc_token = { λ heap ty ptr. B.dealloc_token heap.inner ty ptr };
 
     fn allocate(&self, size: usize, align: usize) -> Result<*mut u8, AllocError> {
-        if self.gate.refuses() {
+        if self.gate.refuses(size) {
             return Err(AllocError);
         }
         self.inner.allocate(size, align)
@@ -88,6 +109,3 @@ unsafe impl<B: Allocator> Allocator for Refusing<B> {
         self.inner.deallocate(ptr, size, align);
     }
 }
-
-#[cfg(test)]
-mod tests;

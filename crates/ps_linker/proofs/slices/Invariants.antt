@@ -1,4 +1,4 @@
--- The args so far.
+-- The arguments so far.
 use Rattle.std.proofs.Common.{◌≡◌, map, take}
 use Rattle.std.specs.Prelude.{string_bytes}
 use Rattle.ps_linker.proofs.slices.Given as goal

@@ -1,4 +1,4 @@
-//! The args of the command line: help, version and wrong usage.
+//! The arguments of the command line: help, version and wrong usage.
 use super::outcome::done;
 
 pub const VERSION: &str = "pslink 0.1.0\n";
@@ -8,10 +8,11 @@ pub const HELP: &str = "The Linker of UCSD Pascal II.0 for Pascal hosts and unit
 Usage: pslink <COMMAND>
 
 Commands:
-  link  Links a host with the units that it names, and writes the linked file
-  map   Prints where a link would put each segment and private, and writes no file
-  show  Prints the segments of one code file and the link information of each
-  help  Print this message or the help of the given subcommand(s)
+  link   Links a host with the units that it names, and writes the linked file
+  map    Prints where a link would put each segment and private, and writes no file
+  show   Prints the segments of one code file and the link information of each
+  check  Says in words what is wrong with the files and what only looks right
+  help   Print this message or the help of the given subcommand(s)
 
 Options:
   -h, --help     Print help
@@ -37,7 +38,7 @@ Usage: pslink link <HOST> <OUT> [LIB]...
 Arguments:
   <HOST>    The code file that holds the host program
   <OUT>     The code file to write; it may be HOST
-  [LIB]...  A library in which units are sought, in the order given
+  [LIB]...  A library to search for units, in the order given
 
 Options:
   -h, --help  Print help
@@ -45,13 +46,14 @@ Options:
 Example:
   pslink link host.code linked.code library.code
 
-OUT is opened once all is read and checked, and is written in place. A write that
-fails leaves its first part; where OUT is HOST, the host is then lost. To be safe:
-  pslink link host.code host.new library.code &&
-      mv host.new host.code
-The second file is always OUT: where it is forgotten, the first LIB is taken for it,
-and is overwritten if the link succeeds. With /dev/stdout as OUT the summary and the
-file are mixed: use /dev/fd/3 and 3>&1. A file is read from a pipe as /dev/stdin.
+OUT is opened once everything was checked, and is written in place. If a write fails,
+OUT has the first part of the linked file. A linked file is no host any more, so keep
+the host:
+  pslink link host.code linked.new library.code &&
+      mv linked.new linked.code
+The second file is always OUT. If it is forgotten, the first LIB is taken as OUT, and
+is overwritten if the link succeeds. With /dev/stdout as OUT the summary and the file
+are mixed: use /dev/fd/3 and 3>&1. A file is read from a pipe as /dev/stdin.
 
 Exit status:
   0  the command was done
@@ -69,7 +71,7 @@ Usage: pslink map <HOST> [LIB]...
 
 Arguments:
   <HOST>    The code file that holds the host program
-  [LIB]...  A library in which units are sought, in the order given
+  [LIB]...  A library to search for units, in the order given
 
 Options:
   -h, --help  Print help
@@ -110,8 +112,37 @@ Exit status:
 A name that begins with a dash is given as ./-name, or after --. See pslink(1).
 ";
 
+const CHECK_HELP: &str = "Says in words what is wrong with the files and what only looks right
+
+Usage: pslink check [OPTIONS] <HOST> [LIB]...
+
+Arguments:
+  <HOST>    The code file that holds the host program
+  [LIB]...  A library to search for units, in the order given
+
+Options:
+      --strict  Ends with status 1 on a warning too
+  -h, --help    Print help
+
+Example:
+  pslink check host.code library.code
+
+The report is for a person: the files, where each segment comes from, whether they
+are linked, and if not what is wrong and what to do. A line that begins with
+'warning: ' reports what looks wrong and is no fault. No file is written.
+
+Exit status:
+  0  the files are linked
+  1  the files are refused; with --strict, or there is a warning
+  2  wrong usage
+  3  a file could not be read, or standard output failed
+  4  out of memory
+
+A name that begins with a dash is given as ./-name, or after --. See pslink(1).
+";
+
 const NO_ARGS: &str = "error: 'pslink' requires a subcommand but one was not provided
-  [subcommands: link, map, show, help]
+  [subcommands: link, map, show, check, help]
 
 Usage: pslink <COMMAND>
 
@@ -141,6 +172,14 @@ Usage: pslink map <HOST> [LIB]...
 For more information, try '--help'.
 ";
 
+const NO_CHECKED_HOST: &str = "error: the following required arguments were not provided:
+  <HOST>
+
+Usage: pslink check --strict <HOST> [LIB]...
+
+For more information, try '--help'.
+";
+
 const NO_FILE: &str = "error: the following required arguments were not provided:
   <FILE>
 
@@ -165,18 +204,21 @@ For more information, try '--help'.
 
 const NOT_THERE: &str = "pslink: cannot read not-there\n";
 
-/// Args, and the status and the two texts that they give. HOST may be OUT or a library, and no file of these is there.
-static ROWS: [(&[&str], u8, &str, &str); 24] = [
+/// Args, and the status and the two texts that they give. HOST may be OUT or a library, and no file
+/// of these is there.
+static ROWS: [(&[&str], u8, &str, &str); 28] = [
     (&["pslink", "--help"], 0, HELP, ""),
     (&["pslink", "-h"], 0, HELP, ""),
     (&["pslink", "link", "--help"], 0, LINK_HELP, ""),
     (&["pslink", "map", "--help"], 0, MAP_HELP, ""),
     (&["pslink", "show", "--help"], 0, SHOW_HELP, ""),
+    (&["pslink", "check", "--help"], 0, CHECK_HELP, ""),
     (&["pslink", "--version"], 0, VERSION, ""),
     (&["pslink", "help"], 0, HELP, ""),
     (&["pslink", "help", "link"], 0, LINK_HELP, ""),
     (&["pslink", "help", "map"], 0, MAP_HELP, ""),
     (&["pslink", "help", "show"], 0, SHOW_HELP, ""),
+    (&["pslink", "help", "check"], 0, CHECK_HELP, ""),
     (&["pslink", "help", "frob"], 2, "", NO_COMMAND),
     (&["pslink"], 2, "", NO_ARGS),
     (&[], 2, "", NO_ARGS),
@@ -184,6 +226,13 @@ static ROWS: [(&[&str], u8, &str, &str); 24] = [
     (&["pslink", "link", "host"], 2, "", NO_OUT),
     (&["pslink", "map"], 2, "", NO_HOST),
     (&["pslink", "show"], 2, "", NO_FILE),
+    (&["pslink", "check", "--strict"], 2, "", NO_CHECKED_HOST),
+    (
+        &["pslink", "check", "not-there", "--strict"],
+        3,
+        "",
+        NOT_THERE,
+    ),
     (&["pslink", "show", "a", "b"], 2, "", TWO_FILES),
     (&["pslink", "link", "a", "b", "b"], 2, "", OUT_IS_LIBRARY),
     (

@@ -4,44 +4,53 @@ use super::inputs::{
     HOST, HOST_IN_PLACE, LIBRARY, LINKED_HOST_IN_PLACE, LINKED_PAIR, MAP_OF_PAIR, SHOWN_LIBRARY,
     SUMMARY_IN_PLACE, SUMMARY_OF_PAIR, save_all,
 };
-use super::outcome::{clean, done};
+use super::outcome::{clean, done, holds, is_missing};
 use std::fs;
 use std::process::Abort;
 use std::rt::Files;
-use std::test::Fail;
+
+/// Runs these args: what is said is that a file cannot be opened, and OUT is not made.
+fn complains<R: Files + AllocGlobal + Abort>(rt: &R, args: &[&str], complaint: &str) {
+    done(rt, args).is(rt, args, 3, "", complaint);
+    is_missing(rt, "opened-out", args);
+}
 
 #[test]
-fn files_that_cannot_be_opened(rt: HostRuntime) -> Result<(), Fail> {
-    let _ = fs::remove_file(&rt, "opened-missing");
-    let _ = fs::remove_file(&rt, "opened-out");
+fn files_that_cannot_be_opened(rt: HostRuntime) {
+    clean(&rt, &["opened-missing", "opened-out"]);
     let _ = fs::create_dir(&rt, "opened-folder");
-    HOST_IN_PLACE.save(&rt, "opened-host")?;
+    save_all(&rt, &[("opened-host", HOST_IN_PLACE)]);
     let missing = "pslink: cannot read opened-missing\n";
     let not_read = "pslink: cannot read opened-folder\n";
     let not_written = "pslink: cannot write opened-folder\n";
-    let rows = [
-        (["link", "opened-missing", "opened-out"].as_slice(), missing),
-        (
-            ["link", "opened-host", "opened-out", "opened-missing"].as_slice(),
-            missing,
-        ),
-        (["map", "opened-host", "opened-missing"].as_slice(), missing),
-        (["show", "opened-missing"].as_slice(), missing),
-        (
-            ["link", "opened-host", "opened-folder"].as_slice(),
-            not_written,
-        ),
-        (["link", "opened-folder", "opened-out"].as_slice(), not_read),
+    let no_host = ["pslink", "link", "opened-missing", "opened-out"];
+    complains(&rt, &no_host, missing);
+    let no_library = [
+        "pslink",
+        "link",
+        "opened-host",
+        "opened-out",
+        "opened-missing",
     ];
-    for (command, complained) in rows {
-        let mut args = Vec::from_slice(rt.alloc(), ["pslink"].as_slice())?;
-        args.extend_from_slice(command)?;
-        done(&rt, args.as_slice()).is(&rt, command, 3, "", complained);
-        assert!(rt; !fs::exists(&rt, "opened-out")?, "{command:?}");
-    }
-    clean(&rt, ["opened-host"].as_slice());
+    complains(&rt, &no_library, missing);
+    complains(
+        &rt,
+        &["pslink", "map", "opened-host", "opened-missing"],
+        missing,
+    );
+    complains(&rt, &["pslink", "show", "opened-missing"], missing);
+    complains(
+        &rt,
+        &["pslink", "link", "opened-host", "opened-folder"],
+        not_written,
+    );
+    complains(
+        &rt,
+        &["pslink", "link", "opened-folder", "opened-out"],
+        not_read,
+    );
+    clean(&rt, &["opened-host"]);
     let _ = fs::remove_dir(&rt, "opened-folder");
-    Ok(())
 }
 
 /// Has each read of the file that is opened as the `nth` fail in turn, until none fails: how many failed. Until then nothing
@@ -67,11 +76,8 @@ fn failing_reads<R: Files + AllocGlobal + Abort>(
 }
 
 #[test]
-fn each_read_fails(rt: HostRuntime) -> Result<(), Fail> {
-    save_all(
-        &rt,
-        [("reads-host", HOST), ("reads-library", LIBRARY)].as_slice(),
-    )?;
+fn each_read_fails(rt: HostRuntime) {
+    save_all(&rt, &[("reads-host", HOST), ("reads-library", LIBRARY)]);
     let link = ["pslink", "link", "reads-host", "reads-out", "reads-library"];
     let map = ["pslink", "map", "reads-host", "reads-library"];
     let show = ["pslink", "show", "reads-library"];
@@ -90,27 +96,70 @@ fn each_read_fails(rt: HostRuntime) -> Result<(), Fail> {
         let failed = failing_reads(&rt, args, nth, complained, wanted);
         assert!(rt; failed == 5, "{args:?} {nth}");
     }
-    clean(&rt, ["reads-host", "reads-out", "reads-library"].as_slice());
-    Ok(())
+    clean(&rt, &["reads-host", "reads-out", "reads-library"]);
 }
 
-/// How long the start of a file is that so many writes have written, of which each takes at most so many bytes of a block.
-fn length_after(writes: u64, most: u64) -> u64 {
-    let to_a_block = 512u64.div_ceil(most.clamp(1, 512));
-    let begun = (writes % to_a_block).saturating_mul(most).min(512);
-    (writes / to_a_block)
-        .saturating_mul(512)
-        .saturating_add(begun)
+/// How long a file's whole blocks are that are written, and how much of the next block, with one write more, which takes at most so
+/// many bytes of a block.
+fn lengthened((whole, begun): (u64, u64), most: u64) -> (u64, u64) {
+    let begun = begun.saturating_add(most).min(512);
+    if begun == 512 {
+        (whole.saturating_add(512), 0)
+    } else {
+        (whole, begun)
+    }
+}
+
+/// Checks that OUT is the start of the linked file, of this length, once a write of it failed.
+fn is_started<R: Files + AllocGlobal + Abort>(
+    rt: &R,
+    linked: &[u8],
+    (whole, begun): (u64, u64),
+    row: (u64, u64),
+) {
+    match fs::read(rt, "writes-out") {
+        Ok(made) => {
+            assert!(rt; linked.starts_with(made.as_slice()), "{row:?}");
+            assert!(rt; made.len() as u64 == whole.saturating_add(begun), "{row:?}");
+        }
+        Err(_) => assert!(rt; false, "{row:?}"),
+    }
+}
+
+/// Has each write of OUT fail in turn, which is the `nth` file that is opened, until none fails after so many as are needed. A
+/// write takes so many bytes at most.
+fn failing_writes<R: Files + AllocGlobal + Abort>(
+    rt: &R,
+    args: &[&str],
+    (nth, most, needed): (u64, usize, u64),
+    printed: &str,
+    linked: &[u8],
+) {
+    let mut length = (0, 0);
+    for writes in 0..=needed {
+        let row = (writes, needed);
+        let files = (Faulty::taking(rt, nth, writes, most), rt.alloc());
+        let run = done(&files, args);
+        assert!(rt; files.0.created() == 1, "{row:?}");
+        if writes == needed {
+            run.is(rt, row, 0, printed, "");
+            holds(rt, "writes-out", linked, args);
+        } else {
+            run.is(rt, row, 3, "", "pslink: cannot write writes-out\n");
+            is_started(rt, linked, length, row);
+        }
+        length = lengthened(length, most as u64);
+    }
 }
 
 #[test]
-fn each_write_of_a_link_fails(rt: HostRuntime) -> Result<(), Fail> {
+fn each_write_of_a_link_fails(rt: HostRuntime) {
     let files = [
         ("writes-in-place", HOST_IN_PLACE),
         ("writes-host", HOST),
         ("writes-library", LIBRARY),
     ];
-    save_all(&rt, files.as_slice())?;
+    save_all(&rt, files.as_slice());
     let link_in_place = ["pslink", "link", "writes-in-place", "writes-out"];
     let link = [
         "pslink",
@@ -119,52 +168,29 @@ fn each_write_of_a_link_fails(rt: HostRuntime) -> Result<(), Fail> {
         "writes-out",
         "writes-library",
     ];
-    let (link_in_place, link) = (link_in_place.as_slice(), link.as_slice());
-    // The args, as which file OUT is opened, how much a write takes, what is printed, the linked file, and in how many writes.
+    // The args, as which file OUT is opened, how much a write takes, in how many writes, what is printed, and the linked file.
     let rows = [
         (
-            link_in_place,
-            2,
-            3,
+            link_in_place.as_slice(),
+            (2, 3, 513),
             SUMMARY_IN_PLACE,
             LINKED_HOST_IN_PLACE,
-            513,
         ),
-        (link, 3, usize::MAX, SUMMARY_OF_PAIR, LINKED_PAIR, 3),
+        (
+            link.as_slice(),
+            (3, usize::MAX, 3),
+            SUMMARY_OF_PAIR,
+            LINKED_PAIR,
+        ),
     ];
-    for (args, nth, most, printed, image, needed) in rows {
-        let linked = image.bytes(rt.alloc())?;
-        for writes in 0..=needed {
-            let files = (Faulty::taking(&rt, nth, writes, most), rt.alloc());
-            let run = done(&files, args);
-            assert!(rt; files.0.created() == 1, "at {writes} of {needed}");
-            let made = fs::read(&rt, "writes-out")?;
-            if writes == needed {
-                run.is(&rt, (writes, needed), 0, printed, "");
-                assert!(rt; made.as_slice() == linked.as_slice(), "{args:?}");
-            } else {
-                run.is(
-                    &rt,
-                    (writes, needed),
-                    3,
-                    "",
-                    "pslink: cannot write writes-out\n",
-                );
-                assert!(rt;
-                    linked.starts_with(made.as_slice()),
-                    "at {writes} of {needed}"
-                );
-                let length = length_after(writes, most as u64);
-                assert!(rt; made.len() as u64 == length, "at {writes} of {needed}");
-            }
+    for (args, faults, printed, image) in rows {
+        match image.bytes(rt.alloc()) {
+            Ok(linked) => failing_writes(&rt, args, faults, printed, linked.as_slice()),
+            Err(_) => assert!(rt; false, "{args:?}"),
         }
     }
-    let files = [
-        "writes-in-place",
-        "writes-host",
-        "writes-library",
-        "writes-out",
-    ];
-    clean(&rt, files.as_slice());
-    Ok(())
+    for (path, _) in files {
+        clean(&rt, &[path]);
+    }
+    clean(&rt, &["writes-out"]);
 }

@@ -1,8 +1,8 @@
 //! The code files that the tests run on, and the texts that are wanted of them.
 use std::alloc::{AllocError, Global};
 use std::fs;
+use std::process::Abort;
 use std::rt::Files;
-use std::test::Fail;
 
 /// What lies at a place of a code file.
 pub type Part = (usize, &'static [u8]);
@@ -19,7 +19,7 @@ const HOST_PROGRAM: [Part; 5] = [
     ),
 ];
 
-/// The kinds and the host's link information, where the unit is sought in libraries.
+/// The kinds and the host's link information, where the unit is looked up in libraries.
 const UNIT_WANTED: [Part; 4] = [
     (194, b"\x01\x00"),
     (206, b"\x03\x00"),
@@ -137,7 +137,8 @@ const NAMES_A_UNIT: [Part; 2] = [
     (1040, b"        \x00\x00\x00\x00\x00\x00\x00\x00"),
 ];
 
-/// The first, and the second unit, which has a reference to the host's definition and a private variable of four words.
+/// The first, and the second unit, which has a reference to the host's definition and a private
+/// variable of four words.
 const BOTH_UNITS: [Part; 12] = [
     (1024, b"AUX     \x01\x00\x01\x00\x01\x00\x00\x00"),
     (1040, b"\x02\x00"),
@@ -156,7 +157,8 @@ const BOTH_UNITS: [Part; 12] = [
     (2112, b"        \x00\x00\x00\x00\x00\x00\x00\x00"),
 ];
 
-/// A code file of so many bytes, with blank names and the parts of two tables; what of them lies past its end is cut.
+/// A code file of so many bytes, with blank names and the parts of two tables; what of them lies
+/// past its end is truncated.
 #[derive(Clone, Copy)]
 pub struct Image(usize, &'static [Part], &'static [Part]);
 
@@ -176,19 +178,25 @@ impl Image {
         Ok(file)
     }
 
-    /// Writes the file.
-    pub fn save<R: Files + AllocGlobal>(&self, rt: &R, path: &str) -> Result<(), Fail> {
-        fs::write(rt, path, self.bytes(rt.alloc())?.as_slice())?;
-        Ok(())
+    /// Writes the file. Returns whether it is written.
+    fn save<R: Files + AllocGlobal>(&self, rt: &R, path: &str) -> bool {
+        match self.bytes(rt.alloc()) {
+            Ok(bytes) => fs::write(rt, path, bytes.as_slice()).is_ok(),
+            Err(_) => false,
+        }
     }
 }
 
 /// Writes files.
-pub fn save_all<R: Files + AllocGlobal>(rt: &R, files: &[(&str, Image)]) -> Result<(), Fail> {
+pub fn save_all<R: Files + AllocGlobal + Abort>(rt: &R, files: &[(&str, Image)]) {
     for (path, image) in files {
-        image.save(rt, *path)?;
+        assert!(rt; image.save(rt, *path), "{path}");
     }
-    Ok(())
+}
+
+/// Writes a file that is no code file.
+pub fn save_text<R: Files + AllocGlobal + Abort>(rt: &R, path: &str, text: &str) {
+    assert!(rt; fs::write(rt, path, text).is_ok(), "{path}");
 }
 
 /// A host with its unit in place, and what it is linked to.
@@ -203,7 +211,8 @@ pub static LIBRARY: Image = Image(1536, &LIBRARY_UNIT, &[]);
 
 pub static LINKED_PAIR: Image = Image(1536, &HOST_PROGRAM, &LINKED_FROM_LIBRARY);
 
-/// The host and the library cut behind their end marks, and the library cut before its last byte and in its unit's code.
+/// The host and the library truncated after their end marks, and the library truncated before its
+/// last byte and in its unit's code.
 pub static ENDING_HOST: Image = Image(1056, &HOST_PROGRAM, &UNIT_WANTED);
 
 pub static ENDING_LIBRARY: Image = Image(1104, &LIBRARY_UNIT, &[]);
@@ -212,7 +221,8 @@ pub static CUT_LIBRARY: Image = Image(1103, &LIBRARY_UNIT, &[]);
 
 pub static LIBRARY_CUT_IN_CODE: Image = Image(535, &LIBRARY_UNIT, &[]);
 
-/// The library where two bytes of its unit's code are other ones, and what the host is linked to with it.
+/// The library where two bytes of its unit's code are other ones, and what the host is linked to
+/// with it.
 pub static OTHER_LIBRARY: Image = Image(1536, &LIBRARY_UNIT, &[(518, b"\0\0")]);
 
 pub static LINKED_WITH_OTHER: Image = Image(1536, &HOST_PROGRAM, &LINKED_FROM_OTHER);
@@ -225,7 +235,8 @@ pub static BIG_ENDIAN_LIBRARY: Image = Image(1536, &BIG_ENDIAN_UNIT, &[]);
 /// The host with a constant more.
 pub static HOST_WITH_CONSTANT: Image = Image(1536, &HOST_PROGRAM, &CONSTANT_DEFINED);
 
-/// Libraries with a unit that names a second one: at a place in its code, at none, and where the second is there too.
+/// Libraries with a unit that names a second one: at a place in its code, at none, and where the
+/// second is there too.
 pub static USING_LIBRARY: Image = Image(1536, &USING_UNIT, &USES_A_UNIT);
 
 pub static NAMING_LIBRARY: Image = Image(1536, &USING_UNIT, &NAMES_A_UNIT);

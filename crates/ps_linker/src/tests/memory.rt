@@ -1,31 +1,42 @@
 //! Memory that is refused.
 use super::inputs::{
     HOST, HOST_IN_PLACE, Image, LIBRARY, LINKED_HOST_IN_PLACE, LINKED_PAIR, MAP_OF_PAIR,
-    SHOWN_LIBRARY, SUMMARY_IN_PLACE, SUMMARY_OF_PAIR, save_all,
+    SHOWN_LIBRARY, SUMMARY_IN_PLACE, SUMMARY_OF_PAIR, save_all, save_text,
 };
-use super::outcome::{clean, done_with, holds};
+use super::outcome::{clean, done_with, holds, holds_image, is_missing};
 use refusing::Refusing;
-use std::fs;
 use std::process::Abort;
 use std::rt::Files;
-use std::test::Fail;
 
 static NO_MEMORY: &str = "pslink: out of memory\n";
 
-/// Where a link writes in these tests. `map` and `show` write nothing there.
+/// The report of a check of the pair.
+static REPORT: &str = "file 0 memory-host: 1536 bytes, little-endian
+file 1 memory-library: 1536 bytes, little-endian
+slot 01 DEMO: the host program, from memory-host entry 01, 18 bytes
+slot 07 UTIL: a unit that the host wants, from memory-library entry 02, 24 bytes
+slots without a segment: 00 02 03 04 05 06 08 09 10 11 12 13 14 15
+links: segments 2 private words 4 blocks 3
+";
+
+/// Where a link writes in these tests. The other commands write nothing there.
 static OUT: &str = "memory-out";
 
 /// Checks that OUT is as it was before the args were run.
-fn is_as_before<R: Files + AllocGlobal + Abort>(
-    rt: &R,
-    args: &[&str],
-    was_there: bool,
-) -> Result<(), Fail> {
+fn is_as_before<R: Files + AllocGlobal + Abort>(rt: &R, args: &[&str], was_there: bool) {
     if was_there {
-        return holds(rt, OUT, b"as before", args);
+        holds(rt, OUT, b"as before", args);
+    } else {
+        is_missing(rt, OUT, args);
     }
-    assert!(rt; !fs::exists(rt, OUT)?, "{args:?}");
-    Ok(())
+}
+
+/// Has OUT as it is before a run.
+fn put_out<R: Files + AllocGlobal + Abort>(rt: &R, is_there: bool) {
+    clean(rt, &[OUT]);
+    if is_there {
+        save_text(rt, OUT, "as before");
+    }
 }
 
 /// Has each allocation of the args' run refused in turn, until none is: how many were. Until then nothing is printed, and OUT
@@ -36,41 +47,38 @@ fn refused_allocations<R: Files + AllocGlobal + Abort>(
     was_there: bool,
     printed: &str,
     linked: Option<Image>,
-) -> Result<u64, Fail> {
+) -> u64 {
     for number in 1..1000 {
-        let _ = fs::remove_file(rt, OUT);
-        if was_there {
-            fs::write(rt, OUT, "as before")?;
-        }
+        put_out(rt, was_there);
         let heap = Refusing::once(rt.alloc(), number);
         let run = done_with(rt, &heap, args);
-        if heap.has_refused() {
-            run.is(rt, (args, number), 4, "", NO_MEMORY);
-            is_as_before(rt, args, was_there)?;
-            continue;
+        if !heap.has_refused() {
+            run.is(rt, (args, number), 0, printed, "");
+            match linked {
+                Some(image) => holds_image(rt, OUT, &image, args),
+                None => is_as_before(rt, args, was_there),
+            }
+            return number - 1;
         }
-        run.is(rt, (args, number), 0, printed, "");
-        match linked {
-            Some(image) => holds(rt, OUT, image.bytes(rt.alloc())?.as_slice(), args)?,
-            None => is_as_before(rt, args, was_there)?,
-        }
-        return Ok(number - 1);
+        run.is(rt, (args, number), 4, "", NO_MEMORY);
+        is_as_before(rt, args, was_there);
     }
-    Ok(1000)
+    1000
 }
 
 #[test]
-fn each_allocation_is_refused(rt: HostRuntime) -> Result<(), Fail> {
+fn each_allocation_is_refused(rt: HostRuntime) {
     let files = [
         ("memory-in-place", HOST_IN_PLACE),
         ("memory-host", HOST),
         ("memory-library", LIBRARY),
     ];
-    save_all(&rt, files.as_slice())?;
+    save_all(&rt, files.as_slice());
     let link_in_place = ["pslink", "link", "memory-in-place", OUT];
     let link = ["pslink", "link", "memory-host", OUT, "memory-library"];
     let map = ["pslink", "map", "memory-host", "memory-library"];
     let show = ["pslink", "show", "memory-library"];
+    let check = ["pslink", "check", "memory-host", "memory-library"];
     // The args, whether OUT is there before, what is printed, what OUT then has, and how many allocations are refused at least.
     let rows = [
         (
@@ -83,9 +91,10 @@ fn each_allocation_is_refused(rt: HostRuntime) -> Result<(), Fail> {
         (link.as_slice(), true, SUMMARY_OF_PAIR, Some(LINKED_PAIR), 5),
         (map.as_slice(), false, MAP_OF_PAIR, None, 5),
         (show.as_slice(), false, SHOWN_LIBRARY, None, 1),
+        (check.as_slice(), false, REPORT, None, 8),
     ];
     for (args, was_there, printed, linked, least) in rows {
-        let refused = refused_allocations(&rt, args, was_there, printed, linked)?;
+        let refused = refused_allocations(&rt, args, was_there, printed, linked);
         assert!(rt; (least..1000).contains(&refused), "{args:?} {refused}");
     }
     // An allocator that counts and refuses nothing.
@@ -93,11 +102,7 @@ fn each_allocation_is_refused(rt: HostRuntime) -> Result<(), Fail> {
     let made = done_with(&rt, &heap, link_in_place.as_slice());
     made.is(&rt, "none", 0, SUMMARY_IN_PLACE, "");
     assert!(rt; !heap.has_refused());
-    let linked = LINKED_HOST_IN_PLACE.bytes(rt.alloc())?;
-    holds(&rt, OUT, linked.as_slice(), link_in_place.as_slice())?;
-    clean(
-        &rt,
-        ["memory-in-place", "memory-host", "memory-library", OUT].as_slice(),
-    );
-    Ok(())
+    holds_image(&rt, OUT, &LINKED_HOST_IN_PLACE, link_in_place.as_slice());
+    let files = ["memory-in-place", "memory-host", "memory-library", OUT];
+    clean(&rt, files.as_slice());
 }

@@ -1,11 +1,11 @@
 //! What a run returns and writes.
+use super::inputs::Image;
 use crate::running::run;
 use std::alloc::{Allocator, Global};
 use std::fmt::Debug;
 use std::fs;
 use std::process::Abort;
 use std::rt::Files;
-use std::test::Fail;
 
 /// What a run returns and writes.
 #[derive(Drop)]
@@ -15,12 +15,12 @@ pub struct Outcome {
     pub err: Vec<u8>,
 }
 
-/// Runs the args with ample memory.
+/// Runs the arguments with ample memory.
 pub fn done<R: Files + AllocGlobal>(rt: &R, args: &[&str]) -> Outcome {
     done_with(rt, rt.alloc(), args)
 }
 
-/// Runs the args with memory from `alloc`.
+/// Runs the arguments with memory from `alloc`.
 pub fn done_with<R: Files + AllocGlobal, A: Allocator + Copy>(
     rt: &R,
     alloc: A,
@@ -34,6 +34,14 @@ pub fn done_with<R: Files + AllocGlobal, A: Allocator + Copy>(
 }
 
 impl Outcome {
+    /// The run of this row succeeded, and printed these two texts, one behind the other.
+    pub fn prints<D: Debug + Copy>(self, rt: &impl Abort, row: D, first: &str, second: &str) {
+        let Outcome { status, out, err } = self;
+        assert!(rt; (status, err.is_empty()) == (0, true), "{row:?}");
+        let printed = text(out.as_slice());
+        assert!(rt; printed.strip_prefix(first) == Some(second), "{row:?}");
+    }
+
     /// The run of this row returned this status and wrote these texts.
     pub fn is<D: Debug + Copy>(self, rt: &impl Abort, row: D, status: u8, out: &str, err: &str) {
         let Outcome {
@@ -52,15 +60,32 @@ pub fn text(bytes: &[u8]) -> &str {
 }
 
 /// Checks that a file is there with these bytes.
-pub fn holds<R: Files + AllocGlobal + Abort>(
+pub fn holds<R: Files + AllocGlobal + Abort>(rt: &R, path: &str, bytes: &[u8], row: &[&str]) {
+    match fs::read(rt, path) {
+        Ok(file) => assert!(rt; file.as_slice() == bytes, "{path}: {row:?}"),
+        Err(_) => assert!(rt; false, "no {path}: {row:?}"),
+    }
+}
+
+/// Checks that a file is there with the bytes of this image.
+pub fn holds_image<R: Files + AllocGlobal + Abort>(
     rt: &R,
     path: &str,
-    bytes: &[u8],
+    image: &Image,
     row: &[&str],
-) -> Result<(), Fail> {
-    let file = fs::read(rt, path)?;
-    assert!(rt; file.as_slice() == bytes, "{row:?}");
-    Ok(())
+) {
+    match image.bytes(rt.alloc()) {
+        Ok(bytes) => holds(rt, path, bytes.as_slice(), row),
+        Err(_) => assert!(rt; false, "no memory for {path}"),
+    }
+}
+
+/// Checks that there is no such file.
+pub fn is_missing<R: Files + Abort>(rt: &R, path: &str, row: &[&str]) {
+    match fs::exists(rt, path) {
+        Ok(is_there) => assert!(rt; !is_there, "{path}: {row:?}"),
+        Err(_) => assert!(rt; false, "{path}: {row:?}"),
+    }
 }
 
 /// Removes files of a test.

@@ -4,32 +4,41 @@ use super::inputs::{
     HOST, HOST_IN_PLACE, LIBRARY, LINKED_HOST_IN_PLACE, MAP_OF_PAIR, SHOWN_LIBRARY,
     SUMMARY_IN_PLACE, save_all,
 };
-use super::outcome::{clean, holds, text};
+use super::outcome::{clean, holds_image, text};
 use super::writers::{Limited, Stuck};
 use crate::running::run;
 use std::fs;
 use std::process::Abort;
 use std::rt::Files;
-use std::test::Fail;
 
 static NO_OUTPUT: &str = "pslink: cannot write standard output\n";
 
+/// The report of a check of a host that has its unit.
+static REPORT: &str = "file 0 prints-in-place: 2560 bytes, little-endian
+slot 01 DEMO: the host program, from prints-in-place entry 01, 18 bytes
+slot 07 UTIL: a unit in the host file, from prints-in-place entry 07, 24 bytes
+slots without a segment: 00 02 03 04 05 06 08 09 10 11 12 13 14 15
+links: segments 2 private words 0 blocks 3
+";
+
 #[test]
-fn standard_output_that_fails(rt: HostRuntime) -> Result<(), Fail> {
+fn standard_output_that_fails(rt: HostRuntime) {
     let files = [
         ("stuck-in-place", HOST_IN_PLACE),
         ("stuck-host", HOST),
         ("stuck-library", LIBRARY),
     ];
-    save_all(&rt, files.as_slice())?;
+    save_all(&rt, files.as_slice());
     let link = ["pslink", "link", "stuck-in-place", "stuck-out"];
     let map = ["pslink", "map", "stuck-host", "stuck-library"];
     let show = ["pslink", "show", "stuck-library"];
+    let check = ["pslink", "check", "stuck-host"];
     let help = ["pslink", "--help"];
     let commands = [
         link.as_slice(),
         map.as_slice(),
         show.as_slice(),
+        check.as_slice(),
         help.as_slice(),
     ];
     for args in commands {
@@ -42,11 +51,9 @@ fn standard_output_that_fails(rt: HostRuntime) -> Result<(), Fail> {
         }
     }
     // The linked file was written before the line that tells of it.
-    let linked = LINKED_HOST_IN_PLACE.bytes(rt.alloc())?;
-    holds(&rt, "stuck-out", linked.as_slice(), link.as_slice())?;
+    holds_image(&rt, "stuck-out", &LINKED_HOST_IN_PLACE, link.as_slice());
     let files = ["stuck-in-place", "stuck-host", "stuck-library", "stuck-out"];
     clean(&rt, files.as_slice());
-    Ok(())
 }
 
 /// Has each write of the args' text fail in turn, until none fails: how many failed. A write takes `most` bytes. What was
@@ -78,22 +85,24 @@ fn failing_prints<R: Files + AllocGlobal + Abort>(
 }
 
 #[test]
-fn each_write_of_a_text_fails(rt: HostRuntime) -> Result<(), Fail> {
+fn each_write_of_a_text_fails(rt: HostRuntime) {
     let files = [
         ("prints-in-place", HOST_IN_PLACE),
         ("prints-host", HOST),
         ("prints-library", LIBRARY),
     ];
-    save_all(&rt, files.as_slice())?;
+    save_all(&rt, files.as_slice());
     let link = ["pslink", "link", "prints-in-place", "prints-out"];
     let map = ["pslink", "map", "prints-host", "prints-library"];
     let show = ["pslink", "show", "prints-library"];
+    let check = ["pslink", "check", "prints-in-place"];
     let help = ["pslink", "--help"];
     let version = ["pslink", "--version"];
     let texts = [
         (link.as_slice(), SUMMARY_IN_PLACE),
         (map.as_slice(), MAP_OF_PAIR),
         (show.as_slice(), SHOWN_LIBRARY),
+        (check.as_slice(), REPORT),
         (help.as_slice(), HELP),
         (version.as_slice(), VERSION),
     ];
@@ -113,7 +122,6 @@ fn each_write_of_a_text_fails(rt: HostRuntime) -> Result<(), Fail> {
         "prints-out",
     ];
     clean(&rt, files.as_slice());
-    Ok(())
 }
 
 #[test]

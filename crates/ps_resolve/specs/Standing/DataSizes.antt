@@ -11,7 +11,8 @@ use Rattle.ps_words.specs.declared.fault.Fault.{Fault}
 use Rattle.ps_words.specs.declared.fault.Reason.TheVariants as reason
 use Rattle.ps_resolve.specs.Standing.Segments.{OfHostSegment}
 
--- the data size of the host's outer block, with two bytes more for each private word, does not fit in a word
+-- the data size of the host's outer block, with two bytes more for each private word, does not fit
+-- in a word
 abbrev pub InDataSize : Order → List ℕ → List (List ℕ) → Fault → Type 0
 InDataSize order host libs f =
     OfHostSegment order host libs (λ s. (t : ℕ) × (table_of order s.code 1 ≡ Some t)

@@ -9,7 +9,7 @@ use Rattle.ps_words.specs.declared.fault.Fault.{Fault}
 use Rattle.ps_words.specs.declared.fault.Reason.TheVariants as reason
 use Rattle.ps_resolve.specs.Standing.Phrases.{SomeBelow, SomeItem}
 use Rattle.ps_resolve.specs.Standing.Segments.{OfHostSegment}
-use Rattle.ps_linkinfo.specs.Counts.{is_definition}
+use Rattle.ps_linkinfo.specs.RecordCounts.{is_definition}
 
 -- the record passes the test, and so does an earlier one that has its name
 abbrev pub HasEarlierNamesake : (Body → Bool) → List Record → ℕ → Record → Type 0

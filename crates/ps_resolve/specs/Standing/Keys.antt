@@ -1,4 +1,5 @@
--- The steps of a link, each of which asks for the faults of one kind of place, and the key of a fault by which the first is known.
+-- The steps of a link, each of which requests the faults of one kind of place, and the key of a
+-- fault by which the first is known.
 -- Source: this project's profile.
 use Rattle.std.specs.Prelude.{ℕ, ◌+◌, List, [], ◌∷◌, Bool, true, false, Option, Some, None, unwrap_or}
 use Rattle.ps_resolve.specs.First.{Before}
@@ -6,7 +7,8 @@ use Rattle.ps_words.specs.declared.fault.Reason.{Reason}
 use Rattle.ps_words.specs.declared.fault.Fault.{Fault}
 use Rattle.ps_words.specs.declared.fault.Reason.TheVariants as reason
 
--- the steps, each of which asks for the faults of one kind of place; each unit that is added has a step of its own, its round
+-- the steps, each of which requests the faults of one kind of place; each unit that is added has a
+-- step of its own, its round
 pub data Step : Type 0 where
   OfHost : Step
   OfSlots : Step
@@ -45,7 +47,8 @@ is_of_reading OfPrivates = false
 is_of_reading OfDataSize = false
 is_of_reading OfReferences = false
 
--- the place of a reason among those of one place: where two stand at the same place of the same step, the lesser comes first
+-- the place of a reason among those of one place: where two are at the same place of the same step,
+-- the smaller comes first
 abbrev pub rank : Reason → ℕ
 rank reason.ShortFile = 1
 rank reason.NoOrder = 2
@@ -88,7 +91,8 @@ abbrev pub part : Option ℕ → ℕ
 part None = 0
 part (Some n) = n + 1
 
--- the record that was read; a unit that is missing or has no slot is told with the record that asked for it
+-- the record that was read; a unit that is missing or has no slot is reported with the record that
+-- requested it
 abbrev pub record_read : Reason → Option ℕ → ℕ
 record_read reason.MissingUnit rec = 0
 record_read reason.NoSlot rec = 0
@@ -99,6 +103,6 @@ abbrev pub key : Step → Fault → List ℕ
 key (OfAdded k) f = turn (OfAdded k) ∷ k ∷ record_read f.reason f.rec ∷ part f.reference ∷ rank f.reason ∷ []
 key step f = turn step ∷ unwrap_or f.slot f.file ∷ part f.rec ∷ part f.reference ∷ rank f.reason ∷ []
 
--- of two faults of the same step, the first has the lesser key
+-- of two faults of the same step, the first has the smaller key
 abbrev pub Precedes : Step → Fault → Fault → Type 0
 Precedes step f g = Before (key step f) (key step g)

@@ -4,7 +4,7 @@ use Rattle.std.specs.Prelude.{nat_lt, ◌==◌, ◌≡◌, ℕ, ◌+◌, ◌<◌
 use Rattle.ps_linkinfo.specs.declared.record.LinkRecord.{LinkRecord as Record}
 use Rattle.ps_resolve.specs.Sources.{Segment, host_records}
 use Rattle.ps_resolve.specs.Added.{segments}
-use Rattle.ps_linkinfo.specs.Counts.{next_of, is_private_reference}
+use Rattle.ps_linkinfo.specs.RecordCounts.{next_of, is_private_reference}
 use Rattle.ps_resolve.specs.References.{words_taken, words_taken_by}
 use Rattle.ps_words.specs.FaultPlaces.{in_record}
 use Rattle.ps_words.specs.declared.order.Order.{Order}
@@ -16,7 +16,8 @@ use Rattle.ps_resolve.specs.Standing.Phrases.{Because, SomeItem}
 use Rattle.ps_resolve.specs.Standing.Segments.{SomeSegment}
 use Rattle.ps_resolve.specs.Standing.Definitions.{HasEarlierNamesake}
 
--- the records of a segment that stand before record `rec` of slot `slot`: all of a lesser slot, and the first `rec` of the slot itself
+-- the records of a segment that are before record `rec` of slot `slot`: all of a smaller slot, and
+-- the first `rec` of the slot itself
 abbrev pub records_before : ℕ → ℕ → Segment → List Record
 records_before slot rec s = if nat_lt s.slot slot then s.records else (if s.slot == slot then take rec s.records else [])
 
@@ -24,17 +25,18 @@ records_before slot rec s = if nat_lt s.slot slot then s.records else (if s.slot
 abbrev pub words_before : List Segment → ℕ → ℕ → ℕ
 words_before segs slot rec = words_taken_by (flat_map (records_before slot rec) segs)
 
--- the offset of the private of record `rec` in slot `slot`: the base offset of the host's end mark, and the words of all privates before it
+-- the offset of the private of record `rec` in slot `slot`: the base offset of the host's end mark,
+-- and the words of all privates before it
 abbrev pub private_offset : List Segment → ℕ → ℕ → ℕ
 private_offset segs slot rec = next_of (host_records segs) + words_before segs slot rec
 
--- A PRIVREF has the name of an earlier one of its segment, or its private ends behind offset 32767.
+-- A PRIVREF has the name of an earlier one of its segment, or its private ends after offset 32767.
 abbrev pub PrivateHas : List Segment → Segment → ℕ → Record → Reason → Type 0
 PrivateHas segs s rec r reason.DoubledPrivate = HasEarlierNamesake is_private_reference s.records rec r
 PrivateHas segs s rec r reason.NoRoom = (is_private_reference r.body ≡ true) × (32767 < private_offset segs s.slot rec + words_taken r.body)
 PrivateHas segs s rec r other = ⊥
 
--- a fault of a private variable, told with its record
+-- a fault of a private variable, reported with its record
 abbrev pub InPrivates : Order → List ℕ → List (List ℕ) → Fault → Type 0
 InPrivates order host libs f =
     SomeSegment order host libs (λ s. SomeItem s.records (λ rec r.

@@ -28,7 +28,8 @@ abbrev pub Defines : List (List ℕ × Def) → List ℕ → Def → Type 0
 Defines ds name d =
     SomeItem ds (λ k e. ((e.0 ≡ name) × (e.1 ≡ d)) × ((lesser : ℕ) (other : List ℕ × Def) → lesser < k → slice_get ds lesser ≡ Some other → other.0 ≢ name))
 
--- A PUBLREF names nothing that the host defines, or a constant; a UNITREF always finds its unit, which was added where it was missing.
+-- A PUBLREF names nothing that the host defines, or a constant; a UNITREF always finds its unit,
+-- which was added where it was missing.
 abbrev pub RecordHas : List Segment → List ℕ → Body → Reason → Type 0
 RecordHas segs name (PublRef refs) reason.MissingDefinition = SomeItem (definitions (host_records segs)) (λ k d. d.0 ≡ name) → ⊥
 RecordHas segs name (PublRef refs) reason.IllKind = (d : Def) × Defines (definitions (host_records segs)) name d × (d.kind ≡ Constant)
@@ -47,7 +48,8 @@ operand_width (Eof next) = 0
 abbrev pub definition_value : List Segment → List ℕ → ℕ
 definition_value segs name = option_map_or (λ d. d.value) (definition_of name (definitions (host_records segs))) 0
 
--- what a BIG operand becomes: its displacement and its definition's value; there is nothing to check for a byte
+-- what a BIG operand becomes: its displacement and its definition's value; there is nothing to
+-- check for a byte
 abbrev pub operand_value : List Segment → Segment → ℕ → List ℕ → Body → ℕ → ℕ
 operand_value segs s rec name (UnitRef refs) x = 0
 operand_value segs s rec name (PublRef refs) x = displacement_at s.code x + definition_value segs name
@@ -64,7 +66,9 @@ Covers body x p = (x ≤ p) × (p < x + operand_width body)
 abbrev pub Meet : Body → ℕ → Body → ℕ → Type 0
 Meet body x other y = (p : ℕ) × Covers body x p × Covers other y p
 
--- The operand at x reaches behind the code, or into the procedure dictionary or an attribute table, or meets the operand of an earlier reference of the segment, or becomes more than a BIG operand can hold.
+-- The operand at x reaches after the code, or into the procedure dictionary or an attribute table,
+-- or meets the operand of an earlier reference of the segment, or becomes more than a BIG operand
+-- can hold.
 abbrev pub ReferenceHas : Order → List Segment → Segment → ℕ → Record → ℕ → ℕ → Reason → Type 0
 ReferenceHas order segs s rec r i x reason.OutsideCode = (p : ℕ) × Covers r.body x p × (length s.code ≤ p)
 ReferenceHas order segs s rec r i x reason.ReservedPlace = (p : ℕ) × Covers r.body x p × (is_reserved order s.code p ≡ true)
@@ -73,7 +77,8 @@ ReferenceHas order segs s rec r i x reason.Overlap =
 ReferenceHas order segs s rec r i x reason.OperandTooLarge = 32767 < operand_value segs s rec r.name r.body x
 ReferenceHas order segs s rec r i x other = ⊥
 
--- a fault of a record of a segment of the link, told with the record; or of one of its references, told with both
+-- a fault of a record of a segment of the link, reported with the record; or of one of its
+-- references, reported with both
 abbrev pub InReferences : Order → List ℕ → List (List ℕ) → Fault → Type 0
 InReferences order host libs f =
     SomeSegment order host libs (λ s. SomeItem s.records (λ rec r.

@@ -3,7 +3,7 @@
 use Rattle.std.specs.Prelude.{◌≡◌, ◌⊎◌, ℕ, ◌≤◌, List, length, slice_get, take, true, Some, None}
 use Rattle.ps_codefile.specs.Dictionary.{entry_at, is_nameless}
 use Rattle.ps_resolve.specs.Sources.{unit_source, file_at}
-use Rattle.ps_resolve.specs.Added.{added, sought, empty_slots}
+use Rattle.ps_resolve.specs.Added.{added_segments, requested_units, empty_slots}
 use Rattle.ps_resolve.specs.declared.reading.added.UnitReference.{UnitReference}
 use Rattle.ps_words.specs.FaultPlaces.{in_record}
 use Rattle.ps_words.specs.declared.order.Order.{Order}
@@ -13,9 +13,10 @@ use Rattle.ps_words.specs.declared.fault.Reason.TheVariants as reason
 use Rattle.ps_resolve.specs.Standing.Sources.{NoneHas, EntryFault, CodeFault}
 
 -- 6. a unit that only a unit names
--- the name that is sought in round k, where the rounds before it had no fault: each of them added its segment
-abbrev pub IsSought : Order → List ℕ → List (List ℕ) → ℕ → UnitReference → Type 0
-IsSought order host libs k g = (k ≤ length (added order host libs)) × (slice_get (sought order host libs (take k (added order host libs))) k ≡ Some g)
+-- the name that is looked up in round k, where the rounds before it had no fault: each of them
+-- added its segment
+abbrev pub IsRequested : Order → List ℕ → List (List ℕ) → ℕ → UnitReference → Type 0
+IsRequested order host libs k g = (k ≤ length (added_segments order host libs)) × (slice_get (requested_units order host libs (take k (added_segments order host libs))) k ≡ Some g)
 
 -- nothing has this name, or no library has an entry of it
 abbrev pub IsMissing : Order → List (List ℕ) → List ℕ → Type 0
@@ -31,7 +32,7 @@ PlacedFault order host libs name slot f =
 -- the unit is missing, or no slot is left for it, or the slot's unit has a fault
 abbrev pub InRound : Order → List ℕ → List (List ℕ) → ℕ → Fault → Type 0
 InRound order host libs k f =
-    (g : UnitReference) × IsSought order host libs k g
+    (g : UnitReference) × IsRequested order host libs k g
     × (((f ≡ in_record g.file g.slot g.rec reason.MissingUnit) × IsMissing order libs g.name)
     ⊎ (((f ≡ in_record g.file g.slot g.rec reason.NoSlot) × (slice_get (empty_slots order host) k ≡ None))
     ⊎ ((slot : ℕ) × (slice_get (empty_slots order host) k ≡ Some slot) × PlacedFault order host libs g.name slot f)))

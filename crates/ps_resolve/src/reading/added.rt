@@ -6,31 +6,31 @@ ghost use Rattle.arrayvec.specs.ArrayVec.{array_vec_len};
 ghost use Rattle.ps_codefile.specs.Dictionary.{slots};
 ghost use Rattle.ps_codefile.specs.Roles.{is_empty as is_empty_role};
 ghost use Rattle.ps_resolve.specs.Sources.{is_named, chosen_library as chosen_library_spec, contents};
-ghost use Rattle.ps_resolve.specs.Added.{AreHad, unit_references, all_unit_references, is_had as is_had_spec, is_missing, sought_from, empty_slots as empty_slots_spec, unplaced_fault, placed_fault, added_segment, rounds_in, rounds_of};
+ghost use Rattle.ps_resolve.specs.Added.{AreAlreadyKnown, unit_references, all_unit_references, is_already_known as is_already_known_spec, is_missing, requested_from, empty_slots as empty_slots_spec, unplaced_fault, placed_fault, added_segment, rounds_in};
 ghost use Rattle.ps_resolve.specs.Faults.{is_role, libraries_fault};
-ghost use Rattle.ps_resolve.specs.Views.{segment_of, IsSound, IsPlaced, IsLike, AreAlike};
+ghost use Rattle.ps_resolve.specs.Linkable.{MayBeAddedTo};
+ghost use Rattle.ps_resolve.specs.Views.{segment_of, IsRead, IsLike, AreAlike};
 
 use crate::linkage::SegmentPlace;
 use crate::reading::segment::Segment;
-use crate::reading::slots::{SLOTS, is_empty};
+use crate::reading::slots::is_empty;
 use crate::reading::sources::{known_records, read_segment};
 use crate::reading::units::{UnitSource, chosen_library, entries_reason};
 use crate::references::names::UnitSlots;
 use arrayvec::ArrayVec;
+use ps_codefile::dictionary_layout::{FIRST_ADDED, SLOTS};
 use ps_codefile::{Dict, Role, is_nameless};
 use ps_linkinfo::{Body, LinkRecord};
 use ps_words::{Fault, Name, Order, Reason};
-
-/// The first slot that a unit may be added in.
-const FIRST_ADDED: u8 = 7;
 
 /// How many units may be added: one in each slot from the first on.
 const MAX_ADDED: usize = 9;
 
 /// How many names are kept: those that may have a slot, and the first that has none.
-const MAX_SOUGHT: usize = 10;
+const MAX_REQUESTED: usize = 10;
 
-/// A UNITREF record: the name that it asks for, and where it stands.
+/// A UNITREF record: the name that it requests, and where it is.
+/// Source: this project's profile.
 #[derive(Clone, Copy)]
 pub struct UnitReference {
     /// The name of a unit.
@@ -54,7 +54,7 @@ impl Default for UnitReference {
     }
 }
 
-/// Adds the slot behind the others, where it is empty.
+/// Adds the slot after the others, where it is empty.
 fn add_empty(host: &Dict, slots: &mut ArrayVec<u8, 9>, slot: u8)
     requires in_range { slot < 16 }
     requires room { array_vec_len slots.old < 9 }
@@ -67,7 +67,7 @@ fn add_empty(host: &Dict, slots: &mut ArrayVec<u8, 9>, slot: u8)
 }
 
 /// The empty slots that a unit may be added in, ascending.
-fn empty_slots(host: &Dict) -> ArrayVec<u8, 9>
+pub(crate) fn empty_slots(host: &Dict) -> ArrayVec<u8, 9>
     ensures slots { result.items ≡ empty_slots_spec host.now.order host.now.file }
     ensures in_range { All (λ slot. slot < 16) result.items }
     ensures few { length result.items ≤ 9 }
@@ -87,8 +87,8 @@ fn is_in_row(row: &ArrayVec<UnitReference, 10>, name: Name) -> bool
 }
 
 /// One of the units has the name, or it is in the row.
-fn is_had(units: &UnitSlots, row: &ArrayVec<UnitReference, 10>, name: Name) -> bool
-    ensures { result ≡ is_had_spec units.now row.now.items name }
+fn is_already_known(units: &UnitSlots, row: &ArrayVec<UnitReference, 10>, name: Name) -> bool
+    ensures { result ≡ is_already_known_spec units.now row.now.items name }
 {
     match units.slot_of(name) {
         Some(_) => true,
@@ -96,13 +96,13 @@ fn is_had(units: &UnitSlots, row: &ArrayVec<UnitReference, 10>, name: Name) -> b
     }
 }
 
-/// Adds the reference behind the row, where its name is not had; a full row stays as it is.
+/// Adds the reference after the row, where its name is not had; a full row stays as it is.
 fn seek(units: &UnitSlots, row: &mut ArrayVec<UnitReference, 10>, reference: UnitReference)
     requires { length row.old.items ≤ 10 }
-    ensures { row.new.items ≡ take 10 (sought_from units.now row.old.items
+    ensures { row.new.items ≡ take 10 (requested_from units.now row.old.items
         (reference ∷ [])) }
 {
-    if is_had(units, row, reference.name) {
+    if is_already_known(units, row, reference.name) {
         return;
     }
     if !row.is_full() {
@@ -110,7 +110,7 @@ fn seek(units: &UnitSlots, row: &mut ArrayVec<UnitReference, 10>, reference: Uni
     }
 }
 
-/// Adds the record of a segment behind the row, where it seeks a name that is not had.
+/// Adds the record of a segment after the row, where it seeks a name that is not had.
 fn seek_record(
     units: &UnitSlots,
     row: &mut ArrayVec<UnitReference, 10>,
@@ -119,7 +119,7 @@ fn seek_record(
     entry: &LinkRecord,
 )
     requires { length row.old.items ≤ 10 }
-    ensures { row.new.items ≡ take 10 (sought_from units.now row.old.items
+    ensures { row.new.items ≡ take 10 (requested_from units.now row.old.items
         (unit_references segment.now.file segment.now.slot rec (entry.now ∷ []))) }
 {
     match &entry.body {
@@ -141,10 +141,10 @@ fn seek_record(
     }
 }
 
-/// Adds the names that the records of a segment seek behind the row.
+/// Adds the names that the records of a segment seek after the row.
 fn seek_records(units: &UnitSlots, row: &mut ArrayVec<UnitReference, 10>, segment: &Segment)
     requires { length row.old.items ≤ 10 }
-    ensures { row.new.items ≡ take 10 (sought_from units.now row.old.items
+    ensures { row.new.items ≡ take 10 (requested_from units.now row.old.items
         (unit_references segment.now.file segment.now.slot 0 segment.now.records)) }
 {
     if segment.records.units() == 0 {
@@ -155,7 +155,8 @@ fn seek_records(units: &UnitSlots, row: &mut ArrayVec<UnitReference, 10>, segmen
     }
 }
 
-/// Adds the names that the records of a segment seek behind the row. Those of records that an earlier
+/// Adds the names that the records of a segment seek after the row. Those of records that an
+/// earlier
 /// segment has too are had.
 fn seek_unseen<'a>(
     units: &UnitSlots,
@@ -165,8 +166,8 @@ fn seek_unseen<'a>(
 )
     requires few { length row.old.items ≤ 10 }
     requires alike { All (IsLike segment.now) earlier.now }
-    requires had { All (λ s. AreHad units.now row.old.items s.records) earlier.now }
-    ensures { row.new.items ≡ take 10 (sought_from units.now row.old.items
+    requires had { All (λ s. AreAlreadyKnown units.now row.old.items s.records) earlier.now }
+    ensures { row.new.items ≡ take 10 (requested_from units.now row.old.items
         (unit_references segment.now.file segment.now.slot 0 segment.now.records)) }
 {
     if segment.shares_with(earlier) {
@@ -178,10 +179,10 @@ fn seek_unseen<'a>(
 /// The names that the host's own segments seek.
 fn sought_by<'a>(units: &UnitSlots, own: &[Segment<'a>]) -> ArrayVec<UnitReference, 10>
     requires { AreAlike own.now }
-    ensures { result.items ≡ take 10 (sought_from units.now []
+    ensures { result.items ≡ take 10 (requested_from units.now []
         (all_unit_references (map segment_of own.now))) }
 {
-    let mut row: ArrayVec<UnitReference, MAX_SOUGHT> = ArrayVec::new();
+    let mut row: ArrayVec<UnitReference, MAX_REQUESTED> = ArrayVec::new();
     for (index, segment) in own.iter().enumerate() {
         seek_unseen(units, &mut row, &own[..index], segment);
     }
@@ -229,14 +230,13 @@ fn read_added<'a>(
 ) -> Result<Segment<'a>, Fault>
     requires slots { slot < 16 }
     requires libraries { libraries_fault order (contents libs.now) ≡ None }
-    requires placed { (host : List ℕ) → All (IsPlaced order host (contents libs.now)) known.now }
+    requires read { (host : List ℕ) → All (IsRead order host (contents libs.now)) known.now }
     ensures fault { (host : List ℕ)
         → result_err result ≡ placed_fault order host (contents libs.now) sought.now slot }
     ensures segment { (host : List ℕ)
         → IfOk result (λ s. added_segment order host (contents libs.now) sought.now slot
         ≡ Some (segment_of s)) }
-    ensures placed { (host : List ℕ) → IfOk result (IsPlaced order host (contents libs.now)) }
-    ensures sound { IfOk result (λ s. IsSound order (segment_of s)) }
+    ensures read { (host : List ℕ) → IfOk result (IsRead order host (contents libs.now)) }
 {
     match unit_named(order, sought.name, libs) {
         None => Err(Fault::in_record(sought.file, sought.slot, sought.rec, Reason::MissingUnit)),
@@ -268,27 +268,29 @@ fn sought_at(row: &ArrayVec<UnitReference, 10>, k: usize) -> Option<UnitReferenc
     row.get(k).copied()
 }
 
-/// The segments that are added in these slots, in their order, or the first fault of them.
-fn add_in<'a>(
+/// The segments that are added to a host's own in these slots, in their order, or the first fault
+/// of them.
+///
+/// The names that UNITREF records of linked segments seek, and that no unit of the host has, take
+/// the
+/// empty slots from 7 to 15 in turn, each with the first library's unit of that name; the names
+/// that
+/// such a unit seeks are after.
+pub(crate) fn add_units<'a>(
     order: Order,
     libs: &'a [&'a [u8]],
     own: &[Segment<'a>],
     slots: &[u8],
 ) -> Result<ArrayVec<Segment<'a>, 9>, Fault>
-    requires libraries { libraries_fault order (contents libs.now) ≡ None }
-    requires alike { AreAlike own.now }
-    requires most { length own.now ≤ 16 }
-    requires few { length slots.now ≤ 9 }
-    requires in_range { All (λ slot. slot < 16) slots.now }
+    requires { MayBeAddedTo order (contents libs.now) own.now slots.now }
     ensures fault { (host : List ℕ)
         → result_err result ≡ (rounds_in order host (contents libs.now) (map segment_of own.now)
         slots.now).fault }
     ensures added { (host : List ℕ)
         → IfOk result (λ added. map segment_of added.items
         ≡ (rounds_in order host (contents libs.now) (map segment_of own.now) slots.now).added) }
-    ensures placed { (host : List ℕ)
-        → IfOk result (λ added. All (IsPlaced order host (contents libs.now)) added.items) }
-    ensures sound { IfOk result (λ added. All (IsSound order) (map segment_of added.items)) }
+    ensures read { (host : List ℕ)
+        → IfOk result (λ added. All (IsRead order host (contents libs.now)) added.items) }
 {
     let units = UnitSlots::of(own);
     let mut row = sought_by(&units, own);
@@ -308,32 +310,4 @@ fn add_in<'a>(
         None => Ok(added),
         Some(sought) => Err(no_slot(order, libs, &sought)),
     }
-}
-
-/// The segments that are added to a host's own, in the order of their slots, or the first fault of them.
-///
-/// The names that UNITREF records of linked segments seek, and that no unit of the host has, take the
-/// empty slots from 7 to 15 in turn, each with the first library's unit of that name; the names that
-/// such a unit seeks stand behind.
-pub(crate) fn add_units<'a>(
-    host: &Dict<'a>,
-    libs: &'a [&'a [u8]],
-    own: &[Segment<'a>],
-) -> Result<ArrayVec<Segment<'a>, 9>, Fault>
-    requires libraries { libraries_fault host.now.order (contents libs.now) ≡ None }
-    requires alike { AreAlike own.now }
-    requires most { length own.now ≤ 16 }
-    ensures fault { result_err result ≡
-        (rounds_of host.now.order host.now.file (contents libs.now)
-        (map segment_of own.now)).fault }
-    ensures added { IfOk result (λ added. map segment_of added.items
-        ≡ (rounds_of host.now.order host.now.file (contents libs.now)
-        (map segment_of own.now)).added) }
-    ensures placed { IfOk result (λ added. All
-        (IsPlaced host.now.order host.now.file (contents libs.now)) added.items) }
-    ensures sound { IfOk result (λ added. All (IsSound host.now.order)
-        (map segment_of added.items)) }
-{
-    let slots = empty_slots(host);
-    add_in(host.order(), libs, own, slots.as_slice())
 }

@@ -1,11 +1,11 @@
-ghost use Rattle.std.specs.Prelude.{◌≡◌, [], List, true, IfSome};
+ghost use Rattle.std.specs.Prelude.{◌≡◌, List, true, IfSome, ◌&&◌, None, false};
 ghost use Rattle.ps_linkinfo.specs.declared.record.LinkRecord.{LinkRecord as Record};
-ghost use Rattle.ps_codefile.specs.Roles.{is_linked as is_linked_spec};
-ghost use Rattle.ps_resolve.specs.Views.{HasRow};
+ghost use Rattle.ps_codefile.specs.Roles.{needs_linking as needs_linking_spec};
+ghost use Rattle.ps_resolve.specs.Views.{segment_of, has_row, HasRow, IsSound};
 
 use ps_codefile::{Procs, Role};
 use ps_linkinfo::LinkInformation;
-use ps_words::Name;
+use ps_words::{Name, Order};
 
 /// A segment of the linked file, as the files have it.
 #[derive(Drop)]
@@ -23,27 +23,15 @@ pub(crate) struct Segment<'a> {
     /// The slot of its entry in that file, 0 to 15.
     pub(crate) index: u8,
     pub(crate) code: &'a [u8],
-    /// Its procedure tables; None where the segment is linked already, since nothing looks there.
-    pub(crate) procedures: Option<Procs<'a>>,
     /// The block of that file, from 0, in which its link information begins.
     pub(crate) block: usize,
     /// Its link information, read whole; no records where the segment is linked already.
     pub(crate) records: LinkInformation<'a>,
 }
 
-/// The same procedure tables once more, where there are any.
-fn copied_tables<'a>(procedures: &Option<Procs<'a>>) -> Option<Procs<'a>>
-    ensures { result ≡ procedures.now }
-{
-    match procedures {
-        None => None,
-        Some(procedures) => Some(procedures.copied()),
-    }
-}
-
 impl<'a> Segment<'a> {
-    /// The same segment once more, which borrows the same bytes.
-    pub(crate) fn copied(&self) -> Segment<'a>
+    /// A copy of the segment, which borrows the same bytes.
+    pub(crate) fn copy(&self) -> Segment<'a>
         ensures { result ≡ self.now }
     {
         Segment {
@@ -54,30 +42,34 @@ impl<'a> Segment<'a> {
             file: self.file,
             index: self.index,
             code: self.code,
-            procedures: copied_tables(&self.procedures),
             block: self.block,
-            records: self.records.copied(),
+            records: self.records.copy(),
         }
     }
 
-    /// The same segment without its records.
-    pub(crate) fn without_records(&self) -> Segment<'a>
-        ensures { result ≡ record self.now { records = [] } }
+    /// The procedure tables of its code, in which reading found no fault.
+    pub(crate) fn procedures(&self, order: Order) -> Procs<'a>
+        requires linked { needs_linking_spec self.now.role ≡ true }
+        requires sound { IsSound order (segment_of self.now) }
+        ensures { result ≡ record { order = order; code = self.now.code.now } }
     {
-        Segment {
-            records: LinkInformation::none(),
-            ..self.copied()
+        match Procs::read(order, self.code, self.role.is_host()) {
+            Err(_) => unreachable!(),
+            Ok(procedures) => procedures,
         }
     }
 
-    /// One of these segments is linked, and its link information begins in the same block of the same
+    /// One of these segments is linked, and its link information begins in the same block of the
+    /// same
     /// file as that of this linked segment.
     pub(crate) fn shares_with(&self, segments: &[Segment<'a>]) -> bool
-        ensures linked { result ≡ true → is_linked_spec self.now.role ≡ true }
+        ensures linked { result ≡ true → needs_linking_spec self.now.role ≡ true }
         ensures row { result ≡ true
             → (records : List Record) × HasRow segments.now self.now.file self.now.block records }
+        ensures own { result ≡ false → (needs_linking_spec self.now.role
+            && has_row self.now.file self.now.block segments.now) ≡ false }
     {
-        self.role.is_linked() && row_of(segments, self.file, self.block).is_some()
+        self.role.needs_linking() && row_of(segments, self.file, self.block).is_some()
     }
 }
 
@@ -88,11 +80,12 @@ pub(crate) fn row_of<'a>(
     file: usize,
     block: usize,
 ) -> Option<LinkInformation<'a>>
-    ensures { IfSome result (HasRow segments.now file block) }
+    ensures row { IfSome result (HasRow segments.now file block) }
+    ensures none { result ≡ None → has_row file block segments.now ≡ false }
 {
     for segment in segments {
-        if segment.role.is_linked() && segment.file == file && segment.block == block {
-            return Some(segment.records.copied());
+        if segment.role.needs_linking() && segment.file == file && segment.block == block {
+            return Some(segment.records.copy());
         }
     }
     None

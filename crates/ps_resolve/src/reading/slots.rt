@@ -5,11 +5,9 @@ ghost use Rattle.ps_codefile.specs.Dictionary.{entry_at};
 ghost use Rattle.ps_codefile.specs.Roles.{is_host as is_host_role, is_unit as is_unit_role, is_empty as is_empty_role};
 ghost use Rattle.ps_resolve.specs.Faults.{is_role, slot_reason as slot_reason_spec, slots_fault as slots_fault_spec, no_host_fault as no_host_fault_spec};
 
+use ps_codefile::dictionary_layout::SLOTS;
 use ps_codefile::{Dict, Role};
 use ps_words::{Fault, Name, Reason};
-
-/// How many slots a segment dictionary has.
-pub(crate) const SLOTS: u8 = 16;
 
 /// The number of the host among the files of a link.
 pub(crate) const HOST_FILE: usize = 0;
@@ -38,15 +36,6 @@ fn is_unit(host: &Dict, slot: u8) -> bool
     matches!(host.role(slot), Ok(Role::Unit | Role::Wanted))
 }
 
-/// The slot has a unit of this name.
-fn is_unit_of(host: &Dict, name: Name, slot: u8) -> bool
-    requires { slot < 16 }
-    ensures { result ≡ (is_role is_unit_role host.now.order host.now.file slot
-        && bytes_eq (entry_at host.now.order host.now.file slot).name name) }
-{
-    is_unit(host, slot) && host.entry(slot).name == name
-}
-
 /// One of the slots below `end` has the host's own segment.
 fn has_host_below(host: &Dict, end: u8) -> bool
     requires { end ≤ 16 }
@@ -62,10 +51,11 @@ fn has_unit_below(host: &Dict, name: Name, end: u8) -> bool
     ensures { result ≡ list_any (λ s. is_role is_unit_role host.now.order host.now.file s
         && bytes_eq (entry_at host.now.order host.now.file s).name name) (range_with_len 0 end) }
 {
-    (0..end).any(|slot| is_unit_of(host, name, slot))
+    (0..end).any(|slot| is_unit(host, slot) && host.entry(slot).name == name)
 }
 
-/// What is wrong with a slot of the host: its kind, a second host segment, or a second unit of a name.
+/// What is wrong with a slot of the host: its kind, a second host segment, or a second unit of a
+/// name.
 fn slot_reason(host: &Dict, slot: u8) -> Option<Reason>
     requires { slot < 16 }
     ensures { result ≡ slot_reason_spec host.now.order host.now.file slot }

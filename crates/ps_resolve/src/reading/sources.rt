@@ -3,19 +3,20 @@ ghost use Rattle.std.specs.Option.{option_map, option_or, option_to_list};
 ghost use Rattle.arrayvec.specs.ArrayVec.{array_vec_len};
 ghost use Rattle.std.specs.Result.{result_err};
 ghost use Rattle.ps_words.specs.FaultPlaces.{in_record, in_slot as in_slot_spec};
-ghost use Rattle.ps_codefile.specs.Dictionary.{entry_at, role_of, is_linked_kind, information_of};
+ghost use Rattle.ps_codefile.specs.Dictionary.{entry_at, kind_needs_linking, information_of};
 ghost use Rattle.ps_codefile.specs.Procedures.{tables_fault as tables_fault_spec};
 ghost use Rattle.ps_linkinfo.specs.Records.{reading};
-ghost use Rattle.ps_codefile.specs.Roles.{is_linked as is_linked_spec, is_host as is_host_spec};
+ghost use Rattle.ps_codefile.specs.Roles.{needs_linking as needs_linking_spec, is_host as is_host_spec};
 ghost use Rattle.ps_resolve.specs.Sources.{own_segment, own_segments, file_at, segment_from, contents};
 ghost use Rattle.ps_resolve.specs.Faults.{code_fault, libraries_fault as libraries_fault_spec, source_fault, sources_fault};
-ghost use Rattle.ps_resolve.specs.Views.{segment_of, IsSound, IsPlaced, IsRowOf};
+ghost use Rattle.ps_resolve.specs.Views.{segment_of, IsPlaced, IsRead, IsRowOf, IsSound};
 
 use crate::linkage::SegmentPlace;
 use crate::reading::segment::{Segment, row_of};
-use crate::reading::slots::{HOST_FILE, SLOTS};
+use crate::reading::slots::HOST_FILE;
 use crate::reading::units::unit_source;
 use arrayvec::ArrayVec;
+use ps_codefile::dictionary_layout::SLOTS;
 use ps_codefile::{Dict, Procs, Role};
 use ps_linkinfo::LinkInformation;
 use ps_words::{Fault, Name, Order, blocks_of};
@@ -30,7 +31,6 @@ impl<'a> Default for Segment<'a> {
             file: 0,
             index: 0,
             code: &[],
-            procedures: None,
             block: 0,
             records: LinkInformation::none(),
         }
@@ -41,41 +41,20 @@ impl<'a> Default for Segment<'a> {
 fn read_information<'a>(
     order: Order,
     information: &'a [u8],
-    file: usize,
-    slot: u8,
+    place: SegmentPlace,
 ) -> Result<LinkInformation<'a>, Fault>
     ensures fault { result_err result ≡ option_map
-        (in_record file slot (length (reading order information.now).0))
+        (in_record place.file place.slot (length (reading order information.now).0))
         (reading order information.now).1 }
     ensures records { IfOk result (λ records. records ≡ (reading order information.now).0) }
 {
     match LinkInformation::read(order, information) {
-        Err(fault) => Err(Fault::in_record(file, slot, fault.rec, fault.reason)),
+        Err(fault) => Err(Fault::in_record(place.file, place.slot, fault.rec, fault.reason)),
         Ok(records) => Ok(records),
     }
 }
 
-/// The link information of a linked segment, or its first fault; it is not read again where it is known.
-fn records_or_known<'a>(
-    order: Order,
-    information: &'a [u8],
-    file: usize,
-    slot: u8,
-    known: Option<LinkInformation<'a>>,
-) -> Result<LinkInformation<'a>, Fault>
-    requires { IfSome known (λ records. reading order information.now ≡ (records, None)) }
-    ensures fault { result_err result ≡ option_map
-        (in_record file slot (length (reading order information.now).0))
-        (reading order information.now).1 }
-    ensures records { IfOk result (λ records. records ≡ (reading order information.now).0) }
-{
-    match known {
-        Some(records) => Ok(records),
-        None => read_information(order, information, file, slot),
-    }
-}
-
-/// The block behind the code of an entry, in which its link information begins.
+/// The block after the code of an entry, in which its link information begins.
 fn block_behind(from: &Dict, index: u8) -> usize
     requires { index < 16 }
     ensures { information_of from.now.file (entry_at from.now.order from.now.file index)
@@ -94,23 +73,16 @@ pub(crate) fn known_records<'a>(
 ) -> Option<LinkInformation<'a>>
     requires { index < 16 }
     ensures { (host : List ℕ) (libs : List (List ℕ)) → file_at host libs file ≡ from.now.file
-        → All (IsPlaced from.now.order host libs) known.now
+        → All (IsRead from.now.order host libs) known.now
         → IfSome result (IsRowOf from.now.order from.now.file
         (entry_at from.now.order from.now.file index)) }
 {
     row_of(known, file, block_behind(from, index))
 }
 
-/// What is read of the code and the link information of a segment.
-#[derive(Drop)]
-struct Contents<'a> {
-    procedures: Option<Procs<'a>>,
-    records: LinkInformation<'a>,
-}
-
-/// The procedure tables and the link information of a segment, or their first fault. Neither is
-/// looked at where the segment is linked already, and link information that is known is not read
-/// again.
+/// The link information of a segment whose procedure tables are read first, or the first fault of
+/// either. Neither is looked at where the segment is linked already, and link information that is
+/// known is not read again.
 fn read_contents<'a>(
     order: Order,
     code: &'a [u8],
@@ -118,39 +90,32 @@ fn read_contents<'a>(
     role: Role,
     place: SegmentPlace,
     known: Option<LinkInformation<'a>>,
-) -> Result<Contents<'a>, Fault>
-    requires large { is_linked_spec role ≡ true → 2 ≤ length code.now }
+) -> Result<LinkInformation<'a>, Fault>
+    requires large { needs_linking_spec role ≡ true → 2 ≤ length code.now }
     requires known { IfSome known (λ records. reading order information.now ≡ (records, None)) }
-    ensures fault { result_err result ≡ (if is_linked_spec role
+    ensures fault { result_err result ≡ (if needs_linking_spec role
         then option_or (option_map (in_slot_spec place.file place.slot)
         (tables_fault_spec order code.now (is_host_spec role)))
         (option_map (in_record place.file place.slot (length (reading order information.now).0))
         (reading order information.now).1)
         else None) }
-    ensures records { IfOk result (λ read. read.records
-        ≡ (if is_linked_spec role then (reading order information.now).0 else [])) }
-    ensures tables { IfOk result (λ read. read.procedures ≡ (if is_linked_spec role
-        then Some (record { order = order; code = code.now }) else None)) }
+    ensures records { IfOk result (λ records. records
+        ≡ (if needs_linking_spec role then (reading order information.now).0 else [])) }
 {
-    if !role.is_linked() {
-        return Ok(Contents {
-            procedures: None,
-            records: LinkInformation::none(),
-        });
+    if !role.needs_linking() {
+        return Ok(LinkInformation::none());
     }
     match Procs::read(order, code, role.is_host()) {
         Err(reason) => Err(Fault::in_slot(place.file, place.slot, reason)),
-        Ok(tables) => {
-            let records = records_or_known(order, information, place.file, place.slot, known)?;
-            Ok(Contents {
-                procedures: Some(tables),
-                records,
-            })
-        }
+        Ok(_) => match known {
+            Some(records) => Ok(records),
+            None => read_information(order, information, place),
+        },
     }
 }
 
-/// The segment of a slot, whose code and link information are those of an entry of a file; `known` is
+/// The segment of a slot, whose code and link information are those of an entry of a file; `known`
+/// is
 /// that link information, where it was read already.
 pub(crate) fn read_segment<'a>(
     place: SegmentPlace,
@@ -164,8 +129,8 @@ pub(crate) fn read_segment<'a>(
     requires in_range { index < 16 }
     requires known { IfSome known (IsRowOf from.now.order from.now.file
         (entry_at from.now.order from.now.file index)) }
-    requires kind { is_linked_spec role ≡ true
-        → is_linked_kind (entry_at from.now.order from.now.file index).kind ≡ true }
+    requires kind { needs_linking_spec role ≡ true
+        → kind_needs_linking (entry_at from.now.order from.now.file index).kind ≡ true }
     ensures fault { (host : List ℕ) (libs : List (List ℕ))
         → file_at host libs place.file ≡ from.now.file
         → result_err result ≡ code_fault from.now.order host libs place.slot role
@@ -182,7 +147,8 @@ pub(crate) fn read_segment<'a>(
     match from.code(index) {
         Err(reason) => Err(Fault::in_slot(place.file, place.slot, reason)),
         Ok(code) => {
-            let read = read_contents(from.order(), code, from.after(index), role, place, known)?;
+            let after = from.after(index);
+            let records = read_contents(from.order(), code, after, role, place, known)?;
             Ok(Segment {
                 slot: place.slot,
                 name,
@@ -191,59 +157,15 @@ pub(crate) fn read_segment<'a>(
                 file: place.file,
                 index,
                 code,
-                procedures: read.procedures,
                 block: block_behind(from, index),
-                records: read.records,
+                records,
             })
         }
     }
 }
 
-/// The segment of a slot of this role, or None where the slot is empty. `known` are segments that were
-/// read before.
-fn read_role<'a>(
-    host: &Dict<'a>,
-    libs: &'a [&'a [u8]],
-    slot: u8,
-    role: Role,
-    known: &[Segment<'a>],
-) -> Result<Option<Segment<'a>>, Fault>
-    requires slots { slot < 16 }
-    requires role { role_of (entry_at host.now.order host.now.file slot) ≡ Ok role }
-    requires libraries { libraries_fault_spec host.now.order (contents libs.now) ≡ None }
-    requires placed { All (IsPlaced host.now.order host.now.file (contents libs.now)) known.now }
-    ensures fault { result_err result ≡ source_fault host.now.order host.now.file
-        (contents libs.now) slot }
-    ensures segment { IfOk result (λ s. option_map segment_of s
-        ≡ own_segment host.now.order host.now.file (contents libs.now) slot) }
-    ensures placed { IfOk result (λ s. IfSome s
-        (IsPlaced host.now.order host.now.file (contents libs.now))) }
-    ensures sound { IfOk result (λ s. IfSome s (λ s. IsSound host.now.order (segment_of s))) }
-{
-    let name = host.entry(slot).name;
-    match role {
-        Role::Empty => Ok(None),
-        Role::Plain | Role::Host | Role::Unit => {
-            let place = SegmentPlace {
-                file: HOST_FILE,
-                slot,
-            };
-            let records = known_records(known, host, HOST_FILE, slot);
-            let own = read_segment(place, name, role, host, slot, records)?;
-            Ok(Some(own))
-        }
-        Role::Wanted => {
-            let unit = unit_source(host.order(), name, libs, slot)?;
-            let file = unit.library + 1;
-            let place = SegmentPlace { file, slot };
-            let records = known_records(known, &unit.dict, file, unit.index);
-            let wanted = read_segment(place, name, role, &unit.dict, unit.index, records)?;
-            Ok(Some(wanted))
-        }
-    }
-}
-
-/// The segment of a slot, or None where the slot is empty or has a kind that was refused. `known` are
+/// The segment of a slot, or None where the slot is empty or has a kind that was refused. `known`
+/// are
 /// segments that were read before.
 fn read_slot<'a>(
     host: &Dict<'a>,
@@ -253,18 +175,37 @@ fn read_slot<'a>(
 ) -> Result<Option<Segment<'a>>, Fault>
     requires slots { slot < 16 }
     requires libraries { libraries_fault_spec host.now.order (contents libs.now) ≡ None }
-    requires placed { All (IsPlaced host.now.order host.now.file (contents libs.now)) known.now }
+    requires read { All (IsRead host.now.order host.now.file (contents libs.now)) known.now }
     ensures fault { result_err result ≡ source_fault host.now.order host.now.file
         (contents libs.now) slot }
     ensures segment { IfOk result (λ s. option_map segment_of s
         ≡ own_segment host.now.order host.now.file (contents libs.now) slot) }
-    ensures placed { IfOk result (λ s. IfSome s
-        (IsPlaced host.now.order host.now.file (contents libs.now))) }
-    ensures sound { IfOk result (λ s. IfSome s (λ s. IsSound host.now.order (segment_of s))) }
+    ensures read { IfOk result (λ s. IfSome s
+        (IsRead host.now.order host.now.file (contents libs.now))) }
 {
+    let name = host.entry(slot).name;
     match host.role(slot) {
         Err(_) => Ok(None),
-        Ok(role) => read_role(host, libs, slot, role, known),
+        Ok(role) => match role {
+            Role::Empty => Ok(None),
+            Role::Plain | Role::Host | Role::Unit => {
+                let place = SegmentPlace {
+                    file: HOST_FILE,
+                    slot,
+                };
+                let records = known_records(known, host, HOST_FILE, slot);
+                let own = read_segment(place, name, role, host, slot, records)?;
+                Ok(Some(own))
+            }
+            Role::Wanted => {
+                let unit = unit_source(host.order(), name, libs, slot)?;
+                let file = unit.library + 1;
+                let place = SegmentPlace { file, slot };
+                let records = known_records(known, &unit.dict, file, unit.index);
+                let wanted = read_segment(place, name, role, &unit.dict, unit.index, records)?;
+                Ok(Some(wanted))
+            }
+        },
     }
 }
 
@@ -288,9 +229,8 @@ pub(crate) fn read_slots<'a>(
         (contents libs.now) }
     ensures segments { IfOk result (λ s. map segment_of s.items
         ≡ own_segments host.now.order host.now.file (contents libs.now)) }
-    ensures placed { IfOk result (λ s. All
-        (IsPlaced host.now.order host.now.file (contents libs.now)) s.items) }
-    ensures sound { IfOk result (λ s. All (IsSound host.now.order) (map segment_of s.items)) }
+    ensures read { IfOk result (λ s. All
+        (IsRead host.now.order host.now.file (contents libs.now)) s.items) }
 {
     let mut segments = ArrayVec::new();
     for slot in 0..SLOTS {

@@ -6,12 +6,11 @@ ghost use Rattle.ps_codefile.specs.Dictionary.{slots, entry_at};
 ghost use Rattle.ps_resolve.specs.Sources.{is_named as is_named_spec, chosen_library as chosen_library_spec, unit_source as unit_source_spec, file_at, contents};
 ghost use Rattle.ps_resolve.specs.Faults.{library_reason, libraries_fault, entries_reason as entries_reason_spec, unit_fault};
 
-use crate::reading::slots::{HOST_FILE, SLOTS};
+use crate::reading::slots::HOST_FILE;
 use ps_codefile::Dict;
+use ps_codefile::dictionary_layout::SLOTS;
+use ps_codefile::kinds::UNITSEG;
 use ps_words::{Fault, Name, Order, Reason};
-
-/// The kind of a unit's segment.
-const UNITSEG: u16 = 3;
 
 /// The entry of a library that a wanted unit comes from.
 #[derive(Drop)]
@@ -40,23 +39,14 @@ fn has_name_below(dict: &Dict, name: Name, end: u8) -> bool
     (0..end).any(|index| is_named(dict, name, index))
 }
 
-/// The entry has this name, and so has one below it.
-fn is_named_again(dict: &Dict, name: Name, index: u8) -> bool
-    requires { index < 16 }
-    ensures { result ≡ (is_named_spec dict.now.order name dict.now.file index
-        && list_any (is_named_spec dict.now.order name dict.now.file) (range_with_len 0 index)) }
-{
-    is_named(dict, name, index) && has_name_below(dict, name, index)
-}
-
 /// One of the entries below `end` has this name, and so has one below it.
-fn has_doubled_below(dict: &Dict, name: Name, end: u8) -> bool
+fn has_duplicate_below(dict: &Dict, name: Name, end: u8) -> bool
     requires { end ≤ 16 }
     ensures { result ≡ list_any (λ i. is_named_spec dict.now.order name dict.now.file i
         && list_any (is_named_spec dict.now.order name dict.now.file) (range_with_len 0 i))
         (range_with_len 0 end) }
 {
-    (0..end).any(|index| is_named_again(dict, name, index))
+    (0..end).any(|index| is_named(dict, name, index) && has_name_below(dict, name, index))
 }
 
 /// The first entry of this name.
@@ -115,13 +105,14 @@ pub(crate) fn chosen_library<'a>(
     None
 }
 
-/// Why the library's first entry of this name is not taken: another has the name too, or its kind is not that of a unit.
+/// Why the library's first entry of this name is not taken: another has the name too, or its kind
+/// is not that of a unit.
 pub(crate) fn entries_reason(dict: &Dict, name: Name, index: u8) -> Option<Reason>
     requires entry { find (is_named_spec dict.now.order name dict.now.file) slots ≡ Some index }
     requires in_range { index < 16 }
     ensures { result ≡ entries_reason_spec dict.now.order name dict.now.file }
 {
-    if has_doubled_below(dict, name, SLOTS) {
+    if has_duplicate_below(dict, name, SLOTS) {
         return Some(Reason::DoubledUnit);
     }
     let kind = dict.entry(index).kind;

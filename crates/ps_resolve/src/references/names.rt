@@ -1,13 +1,15 @@
-ghost use Rattle.std.specs.Prelude.{◌≡◌, ◌≤◌, length};
+ghost use Rattle.std.specs.Prelude.{◌≡◌, ◌≤◌, length, map};
 ghost use Rattle.std.specs.Map.{lookup};
 ghost use Rattle.std.specs.Str.{bytes_eq};
-ghost use Rattle.ps_resolve.specs.Names.{units_by_name};
+ghost use Rattle.ps_resolve.specs.Sources.{units_of};
 ghost use Rattle.ps_resolve.specs.Symbols.{definition_of};
+ghost use Rattle.ps_resolve.specs.Views.{segment_of};
 
 use crate::definitions::{Def, Definitions};
 use crate::reading::segment::Segment;
 use arrayvec::ArrayVec;
-use ps_words::Name;
+use ps_codefile::dictionary_layout::SLOT_COUNT;
+use ps_words::{Edit, Name, Order};
 use std::alloc::{Allocator, Global};
 use std::marker::Model;
 
@@ -19,14 +21,11 @@ fn is_same_name(name: Name, other: Name) -> bool
     u64::from_le_bytes(name) == u64::from_le_bytes(other)
 }
 
-/// As many units as a link can have, one in each slot.
-const MAX_UNITS: usize = 16;
-
-/// The slots of units by the units' names. They stand close together, since each UNITREF record of a
+/// The slots of units by the units' names. They are close together, since each UNITREF record of a
 /// link is looked up in them.
 #[derive(Drop)]
 pub(crate) struct UnitSlots {
-    by_name: ArrayVec<(Name, u8), MAX_UNITS>,
+    by_name: ArrayVec<(Name, u8), SLOT_COUNT>,
 }
 
 impl Model for UnitSlots {
@@ -41,7 +40,7 @@ impl UnitSlots {
     /// Those of the units among these segments, of which there are sixteen at most.
     pub(crate) fn of(segments: &[Segment]) -> UnitSlots
         requires { length segments.now ≤ 16 }
-        ensures { result ≡ units_by_name segments.now }
+        ensures { result ≡ units_of (map segment_of segments.now) }
     {
         let mut by_name = ArrayVec::new();
         for segment in segments {
@@ -94,4 +93,15 @@ impl<'k, A: Allocator + Copy> Names<'k, A> {
     {
         self.definitions.look(name)
     }
+}
+
+/// What every segment of a link is linked by.
+#[derive(Drop)]
+pub(crate) struct Linking<'k, A: Allocator + Copy> {
+    /// The byte order of the files.
+    pub(crate) order: Order,
+    /// What the references' names stand for.
+    pub(crate) names: &'k Names<'k, A>,
+    /// What stores the host's data size.
+    pub(crate) size: Edit,
 }

@@ -1,19 +1,22 @@
-ghost use Rattle.std.specs.Prelude.{◌≡◌, ℕ, ◌<◌, ◌≤◌, ◌+◌, ◌++◌, List, length, map, OnOk, IfOk, IfErr, None, true, ⊤};
-ghost use Rattle.ps_linkinfo.specs.Counts.{privates_in, publics_in, units_in};
+ghost use Rattle.std.specs.Prelude.{◌≡◌, ℕ, ◌≤◌, ◌+◌, ◌++◌, List, length, map, OnOk, IfOk, IfErr, None, true, ⊤, ◌==◌, ◌&&◌, ◌<◌, false};
+ghost use Rattle.ps_linkinfo.specs.RecordCounts.{privates_in, publics_in, references_in, units_in};
 ghost use Rattle.ps_linkinfo.specs.Records.{refs_of};
+ghost use Rattle.ps_linkinfo.specs.declared.record.LinkRecord.{LinkRecord as Record};
+ghost use Rattle.ps_codefile.specs.Roles.{needs_linking};
+ghost use Rattle.ps_resolve.specs.Linkable.{IsNext};
 ghost use Rattle.ps_resolve.specs.Operands.{edit_of, operands};
-ghost use Rattle.ps_resolve.specs.Marks.{AreTaken};
+ghost use Rattle.ps_resolve.specs.TakenPlaces.{AreTaken};
 ghost use Rattle.ps_resolve.specs.References.{target_of as target_of_spec, words_taken as words_taken_spec, records_edits};
 ghost use Rattle.ps_resolve.specs.Edits.{refs_fault_at};
 ghost use Rattle.ps_resolve.specs.Faults.{segment_fault};
 ghost use Rattle.ps_resolve.specs.Privates.{private_words};
 ghost use Rattle.ps_resolve.specs.Stops.{IsStop};
-ghost use Rattle.ps_resolve.specs.Views.{segment_of};
+ghost use Rattle.ps_resolve.specs.Views.{segment_of, has_row, HasRow};
 
 use crate::definitions::DefKind;
 use crate::linkage::{RecordPlace, Stop};
 use crate::reading::segment::Segment;
-use crate::references::names::Names;
+use crate::references::names::{Linking, Names};
 use crate::references::{Target, add_references};
 use ps_codefile::{Places, Procs};
 use ps_linkinfo::{Body, LinkInformation, LinkRecord};
@@ -56,7 +59,7 @@ fn words_taken(body: &Body) -> u16
     }
 }
 
-/// Adds the edits of the record that stands there, or finds the first fault of its references.
+/// Adds the edits of the record that is there, or finds the first fault of its references.
 fn add_body<A: Allocator>(
     procedures: &Procs,
     taken: &mut Places,
@@ -68,13 +71,13 @@ fn add_body<A: Allocator>(
     requires { length procedures.now.code ≤ 32767 }
     ensures edits { OnOk result (edits.new.items
         ≡ edits.old.items ++ map (edit_of procedures.now.code target) (refs_of body.now)) }
-    ensures sound { (os : List (ℕ × ℕ)) → AreTaken procedures.now taken.old.words os
+    ensures sound { (os : List (ℕ × ℕ)) → AreTaken procedures.now taken.old os
         → OnOk result (refs_fault_at place procedures.now target os (refs_of body.now) ≡ None) }
-    ensures stop { (os : List (ℕ × ℕ)) → AreTaken procedures.now taken.old.words os
+    ensures stop { (os : List (ℕ × ℕ)) → AreTaken procedures.now taken.old os
         → IfErr result
         (IsStop ⊤ (refs_fault_at place procedures.now target os (refs_of body.now))) }
-    ensures taken { (os : List (ℕ × ℕ)) → AreTaken procedures.now taken.old.words os
-        → OnOk result (AreTaken procedures.now taken.new.words
+    ensures taken { (os : List (ℕ × ℕ)) → AreTaken procedures.now taken.old os
+        → OnOk result (AreTaken procedures.now taken.new
         (os ++ operands target (refs_of body.now))) }
 {
     match body {
@@ -87,40 +90,64 @@ fn add_body<A: Allocator>(
     }
 }
 
-/// No record of a segment asks for a unit, a public or a private variable, so none has a reference.
+/// No record of a segment requests a unit, a public or a private variable, so none has a reference.
 fn asks_for_nothing(records: &LinkInformation) -> bool
     ensures units { result ≡ true → units_in records.now ≡ 0 }
     ensures publics { result ≡ true → publics_in records.now ≡ 0 }
     ensures privates { result ≡ true → privates_in records.now ≡ 0 }
+    ensures some { result ≡ false
+        → 0 < units_in records.now + publics_in records.now + privates_in records.now }
 {
     records.units() == 0 && records.publics() == 0 && records.privates() == 0
 }
 
-/// Adds the edits of all records of a segment, the first of whose privates has the offset `free`,
-/// or finds their first fault. Returns the offset behind its last private.
-pub(crate) fn add_records<A: Allocator + Copy>(
-    names: &Names<A>,
-    procedures: &Procs,
-    segment: &Segment,
+/// The segment has the records of an earlier one, so what they name is found, and none of them has
+/// a
+/// reference or requests a private.
+fn is_resolved<'a>(earlier: &[Segment<'a>], segment: &Segment<'a>) -> bool
+    ensures row { result ≡ true
+        → (records : List Record) × HasRow earlier.now segment.now.file segment.now.block records }
+    ensures references { result ≡ true → references_in segment.now.records ≡ 0 }
+    ensures privates { result ≡ true → privates_in segment.now.records ≡ 0 }
+    ensures open { result ≡ false → (references_in segment.now.records == 0
+        && privates_in segment.now.records == 0 && needs_linking segment.now.role
+        && has_row segment.now.file segment.now.block earlier.now) ≡ false }
+{
+    segment.records.references() == 0
+        && segment.records.privates() == 0
+        && segment.shares_with(earlier)
+}
+
+/// Adds the edits of all records of a linked segment after others, the first of whose privates has
+/// the offset `free`, or finds their first fault. Returns the offset after its last private.
+/// Records that an earlier segment has too are not looked at again, where they change nothing.
+pub(crate) fn add_records<'a, A: Allocator + Copy>(
+    link: &Linking<A>,
+    earlier: &[Segment<'a>],
+    segment: &Segment<'a>,
     free: u16,
     edits: &mut Vec<Edit, A>,
 ) -> Result<u16, Stop>
-    requires small { length segment.now.code.now ≤ 32767 }
-    requires own_code { procedures.now.code ≡ segment.now.code.now }
-    requires room { free + private_words segment.now.records < 65536 }
+    requires linked { needs_linking segment.now.role ≡ true }
+    requires next { IsNext link.now.order link.now.names.now link.now.size
+        earlier.now segment.now free }
     ensures edits { OnOk result (edits.new.items ≡ edits.old.items
-        ++ records_edits names.now segment.now.code.now free segment.now.records) }
+        ++ records_edits link.now.names.now segment.now.code.now free segment.now.records) }
     ensures end { IfOk result (λ end. end ≡ free + private_words segment.now.records) }
     ensures sound { OnOk result
-        (segment_fault procedures.now.order names.now free (segment_of segment.now) ≡ None) }
+        (segment_fault link.now.order link.now.names.now free (segment_of segment.now) ≡ None) }
     ensures stop { IfErr result (IsStop ⊤
-        (segment_fault procedures.now.order names.now free (segment_of segment.now))) }
+        (segment_fault link.now.order link.now.names.now free (segment_of segment.now))) }
 {
     let records = &segment.records;
     if asks_for_nothing(records) {
         return Ok(free);
     }
-    let mut taken = procedures.reserved();
+    if is_resolved(earlier, segment) {
+        return Ok(free);
+    }
+    let procedures = segment.procedures(link.order);
+    let mut taken = procedures.reserved_places();
     let mut next = free;
     for (rec, record) in records.records() {
         let place = RecordPlace {
@@ -128,10 +155,10 @@ pub(crate) fn add_records<A: Allocator + Copy>(
             slot: segment.slot,
             rec,
         };
-        match target_of(names, next, &record) {
-            Err(reason) => return Err(place.refused(reason)),
+        match target_of(link.names, next, &record) {
+            Err(reason) => return Err(place.stop_for(reason)),
             Ok(target) => {
-                add_body(procedures, &mut taken, place, target, &record.body, edits)?;
+                add_body(&procedures, &mut taken, place, target, &record.body, edits)?;
                 next += words_taken(&record.body);
             }
         }

@@ -1,4 +1,5 @@
-//! Units that only a unit names: they are sought in the libraries and added in empty slots of the host.
+//! Units that only a unit names: they are looked up in the libraries and added in empty slots of
+//! the host.
 use super::allocations::Allocating;
 use super::answers::{LITTLE, links, refuses};
 use super::link_allocations::Link;
@@ -227,7 +228,7 @@ const FAULTS: [Refusal<'static>; 5] = [
     ),
 ];
 
-/// A unit with no name that its own record names: it is had, so it is not sought.
+/// A unit with no name that its own record names: it is known already, so it is not requested.
 const NAMELESS_UNIT: [Row<'static>; 1] = [Row {
     what: "a unit with no name",
     host: &[
@@ -341,7 +342,8 @@ const NAMES: [Name; 11] = [
     *b"K       ",
 ];
 
-/// A host that has its own segment alone, whose records name the first nine, ten or eleven of these units behind a definition,
+/// A host that has its own segment alone, whose records name the first nine, ten or eleven of these
+/// units after a definition,
 /// without any reference: the records of the others are zeros, as an end mark is.
 fn host_naming(alloc: Global, count: usize) -> Result<CodeFile, AllocError> {
     let [a, b, c, d, e, f, g, h, i, j, k] = NAMES;
@@ -369,7 +371,8 @@ fn host_naming(alloc: Global, count: usize) -> Result<CodeFile, AllocError> {
     }
 }
 
-/// A library of the first so many of these units, which share one code and have no records but an end mark.
+/// A library of the first so many of these units, which share one code and have no records but an
+/// end mark.
 fn library_of_letters(alloc: Global, count: u8) -> Result<CodeFile, AllocError> {
     let changes = [Records(2, &[End(0)]), Code(1, 0, &util_code(LITTLE, 2))];
     let mut library = CodeFile::new(alloc, LITTLE, 1536)?.with(alloc, &changes)?;
@@ -384,7 +387,8 @@ fn library_of_letters(alloc: Global, count: u8) -> Result<CodeFile, AllocError> 
     Ok(library)
 }
 
-/// What the host is linked to where it names nine of them: each slot from 7 on has one, in a block of its own.
+/// What the host is linked to where it names nine of them: each slot from 7 on has one, in a block
+/// of its own.
 fn linked_nine(alloc: Global) -> Result<CodeFile, AllocError> {
     let changes = [
         Bytes(300, &[0x2A]),
@@ -455,7 +459,8 @@ private 11 STATE    offset 8 words 4
 next 12 data 18 blocks 9
 ";
 
-/// A host whose first slot has a unit in place, which names B and C; its own segment names C and A, and in slot 2 it wants a unit.
+/// A host whose first slot has a unit in place, which names B and C; its own segment names C and A,
+/// and in slot 2 it wants a unit.
 fn host_of_first_names(alloc: Global) -> Result<CodeFile, AllocError> {
     let [a, b, c, ..] = NAMES;
     let in_place = Slot {
@@ -512,7 +517,7 @@ fn describe(alloc: Global, plan: &Plan<'_>) -> Result<String, AllocError> {
 const SOURCES: &str =
     "slot 1 added false linked true; slot 7 added false linked true; slot 8 added true linked true; ";
 
-/// Checks the sources of that plan, and the names of its two units and of the slot behind them.
+/// Checks the sources of that plan, and the names of its two units and of the slot after them.
 fn is_plan_of_a_used_unit(rt: &(impl Abort + AllocGlobal), plan: &Plan<'_>) -> Result<(), Fail> {
     let text = describe(rt.alloc(), plan)?;
     assert!(rt; text.as_str() == SOURCES, "{text}");

@@ -16,7 +16,9 @@ pub(crate) trait Allocating {
     fn answer<A: Allocator + Copy>(&self, alloc: Global, heap: A) -> Result<String, AllocError>;
 }
 
-/// Makes a call with this allocation refused: the answer is out of memory, and a second call has the memory that it wants. Returns whether there was such an allocation; where there was none the first call has the memory.
+/// Makes a call with this allocation refused: the answer is out of memory, and a second call has
+/// the memory that it wants. Returns whether there was such an allocation; where there was none the
+/// first call has the memory.
 fn refuses_allocation(
     rt: &(impl Abort + AllocGlobal),
     what: &str,
@@ -43,7 +45,8 @@ fn refuses_allocation(
     Ok(true)
 }
 
-/// Makes a call with each allocation refused in turn, until none was refused. Returns how many were refused.
+/// Makes a call with each allocation refused in turn, until none was refused. Returns how many were
+/// refused.
 pub(crate) fn refused_allocations(
     rt: &(impl Abort + AllocGlobal),
     what: &str,
@@ -71,7 +74,7 @@ pub(crate) fn refuses_each_allocation(
     Ok(())
 }
 
-/// Checks the answer of a call that has no memory and asks for none.
+/// Checks the answer of a call that has no memory and requests none.
 pub(crate) fn makes_no_allocation(
     rt: &(impl Abort + AllocGlobal),
     what: &str,

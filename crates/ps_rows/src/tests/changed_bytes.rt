@@ -70,7 +70,8 @@ const HOST_ALONE: [Change<'static>; 4] = [
     Resized(1024),
 ];
 
-/// The file that is written where the byte at a place of the host's dictionary is this one, empty where nothing is.
+/// The file that is written where the byte at a place of the host's dictionary is this one, empty
+/// where nothing is.
 fn written(alloc: Global, place: usize, byte: u8) -> Result<CodeFile, AllocError> {
     match expected(place, byte) {
         Pair => linked(alloc, &[]),

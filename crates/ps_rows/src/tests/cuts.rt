@@ -1,11 +1,11 @@
-//! Files cut to every length.
+//! Files truncated to every length.
 use super::answers::links;
 use crate::base::{BASE_LENGTH, base_host, base_library, linked_base_pair};
 use ps_words::Order;
 use std::process::Abort;
 use std::test::Fail;
 
-/// What is answered for the base host cut to a length, or None where it is long enough.
+/// What is answered for the base host truncated to a length, or None where it is long enough.
 fn host_fault(length: usize) -> Option<&'static str> {
     match length {
         ..512 => Some("refused 1 ShortFile file 0"),

@@ -1,7 +1,10 @@
 //! What `Dict` answers of the base files, in either byte order.
-use crate::base::{base_host, base_library, linked_base_pair};
+use crate::base::{
+    HOST_RECORDS, UTIL, UTIL_ENTRY, base_host, base_library, demo_code, linked_base_pair, util_code,
+};
 use crate::in_place::unit_in_place;
-use ps_codefile::{Dict, Role};
+use crate::information::Information;
+use ps_codefile::{Dict, Entry, Role};
 use ps_words::{Order, Reason};
 use std::alloc::{AllocError, Global};
 use std::process::Abort;
@@ -33,7 +36,8 @@ fn describe(alloc: Global, dictionary: &Dict<'_>) -> Result<String, AllocError> 
     Ok(text)
 }
 
-/// Checks a dictionary's byte order and its slots that are not empty, or why there is no dictionary.
+/// Checks a dictionary's byte order and its slots that are not empty, or why there is no
+/// dictionary.
 fn is(
     rt: &(impl Abort + AllocGlobal),
     answer: Result<Dict<'_>, Reason>,
@@ -49,7 +53,8 @@ fn is(
     Ok(())
 }
 
-/// The slots of the base host, of the host with its unit in place, of the base library and of the linked base pair.
+/// The slots of the base host, of the host with its unit in place, of the base library and of the
+/// linked base pair.
 const HOST: &str = "slot 1 DEMO     Ok(Host) kind 1 address 1 length 18 code Ok(18) after 512; \
      slot 7 UTIL     Ok(Wanted) kind 3 address 0 length 0";
 
@@ -62,9 +67,33 @@ const LIBRARY: &str = "slot 2 UTIL     Ok(Unit) kind 3 address 1 length 24 code 
 const LINKED: &str = "slot 1 DEMO     Ok(Plain) kind 0 address 1 length 18 code Ok(18) after 512; \
      slot 7 UTIL     Ok(Plain) kind 0 address 2 length 24 code Ok(24) after 0; ";
 
+/// The entry of a slot without a segment.
+const EMPTY: Entry = Entry {
+    address: 0,
+    length: 0,
+    name: [b' '; 8],
+    kind: 0,
+    text: 0,
+};
+
+/// Checks what the base host's dictionary gives of its slots and of the tail, the host segment's code and its link information.
+fn gives_the_host_s_parts(rt: &impl Abort, dictionary: &Dict<'_>, information: &[u8]) {
+    assert!(rt; dictionary.names()[7] == UTIL);
+    assert!(rt; dictionary.entry(15) == EMPTY);
+    assert!(rt; dictionary.tail().len() == 256);
+    assert!(rt; dictionary.tail().get(44).copied() == Some(0x2A));
+    assert!(rt; dictionary.code(1) == Ok(demo_code(dictionary.order()).as_slice()));
+    assert!(rt; dictionary.after(1).starts_with(information));
+}
+
 fn hosts(rt: &(impl Abort + AllocGlobal), order: Order) -> Result<(), Fail> {
     let host = base_host(rt.alloc(), order)?;
     is(rt, Dict::read(host.as_slice()), Ok((order, HOST)))?;
+    let information = Information::new(rt.alloc(), order, &HOST_RECORDS)?;
+    match Dict::read(host.as_slice()) {
+        Ok(dictionary) => gives_the_host_s_parts(rt, &dictionary, information.as_slice()),
+        Err(_) => assert!(rt; false, "no dictionary"),
+    }
     let host = unit_in_place(rt.alloc(), order)?;
     is(rt, Dict::read(host.as_slice()), Ok((order, IN_PLACE)))
 }
@@ -73,9 +102,12 @@ fn libraries(rt: &(impl Abort + AllocGlobal), order: Order, other: Order) -> Res
     let library = base_library(rt.alloc(), order)?;
     let library = library.as_slice();
     is(rt, Dict::read_beside(library, order), Ok((order, LIBRARY)))?;
+    let code = Dict::read_beside(library, order).and_then(|dictionary| dictionary.code(2));
+    assert!(rt; code == Ok(util_code(order, UTIL_ENTRY).as_slice()));
     let answer = Dict::read_beside(library, other);
     is(rt, answer, Err(Reason::OrderMismatch))?;
     let short = library.get(..511).unwrap_or(&[]);
+    is(rt, Dict::read_beside(short, other), Err(Reason::ShortFile))?;
     is(rt, Dict::read_beside(short, order), Err(Reason::ShortFile))
 }
 

@@ -266,7 +266,8 @@ pub(crate) const DEFINITIONS: [Refusal<'static>; 3] = [
     ),
 ];
 
-/// Checks the refusals that are found before anything grows: with the unit in place, in a library and nowhere.
+/// Checks the refusals that are found before anything grows: with the unit in place, in a library
+/// and nowhere.
 #[test]
 fn faults_of_hosts(rt: HostRuntime) -> Result<(), Fail> {
     for base in [Base::InPlace, Base::Pair, Base::HostAlone] {

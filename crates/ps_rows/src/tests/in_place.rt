@@ -186,7 +186,7 @@ const TOOLS: Slot = Slot {
     length: 5,
 };
 
-const SLOTS: [Row<'static>; 2] = [
+const SLOT_ROWS: [Row<'static>; 2] = [
     Row {
         what: "a segment that is linked already is copied",
         host: &[Resized(2565), Entry(8, TOOLS), Code(5, 0, &[1, 2, 3, 4, 5])],
@@ -237,7 +237,8 @@ const PROCEDURES: [Row<'static>; 3] = [
     },
 ];
 
-/// One public reference, and a unit that is like the base library's: nothing is changed, in either byte order.
+/// One public reference, and a unit that is like the base library's: nothing is changed, in either
+/// byte order.
 const ONE_REFERENCE: [Row<'static>; 1] = [Row {
     what: "one reference",
     host: &[],
@@ -261,7 +262,7 @@ const LINKS: [Table<'static, Row<'static>>; 8] = [
     (Base::BigLikeLibrary, AMPLE, &LIKE_LIBRARY),
     (Base::InPlace, AMPLE_OR_REFUSED, &OPERANDS),
     (Base::InPlace, AMPLE_OR_REFUSED, &REFERENCES),
-    (Base::InPlace, AMPLE, &SLOTS),
+    (Base::InPlace, AMPLE, &SLOT_ROWS),
     (Base::InPlace, AMPLE, &PROCEDURES),
 ];
 

@@ -370,7 +370,8 @@ const PLACES: [Refusal<'static>; 15] = [
     ),
 ];
 
-/// The refusals of a host with its unit in place, with ample memory and with none, or with each allocation refused where memory is taken before them.
+/// The refusals of a host with its unit in place, with ample memory and with none, or with each
+/// allocation refused where memory is taken before them.
 const FAULTS: [Table<'static, Refusal<'static>>; 8] = [
     (Base::InPlace, AMPLE_OR_NONE, &CODES),
     (Base::InPlace, AMPLE_OR_NONE, &PROCEDURES),

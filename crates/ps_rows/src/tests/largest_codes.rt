@@ -1,16 +1,25 @@
-//! Sixteen segments of the largest codes, all operands, and ten libraries. It takes under a second as compiled, and minutes under `rt try`, which wants `--seconds 600`.
+//! Sixteen segments of the largest codes, all operands, and libraries by the hundred and by the ten
+//! thousand. It takes under a second as compiled, and minutes under `rt try`, which wants
+//! `--seconds 600`.
 use super::answers::{LITTLE, links, refuses};
 use super::link_allocations::{Link, answers_each_call};
 use super::most_records::references;
-use crate::base::{BASE_LENGTH, COUNT, DEMO, base_host, base_library, linked_base_pair};
-use crate::code_file::Change::{Code, Entry, Records, Resized};
+use super::tables::Changes;
+use super::text_writing::writes_long_text;
+use super::texts::Map;
+use crate::base::{
+    BASE_LENGTH, COUNT, CUONT, DEMO, NOBODY, base_host, base_library, linked_base_pair,
+};
+use crate::code_file::Change::{Bytes, Code, Entry, Kind, Length, Records, Resized};
 use crate::code_file::{CodeFile, HOST_SEGMENT, LINKED, Slot, UNIT_SEGMENT};
 use crate::information::Name;
 use crate::information::Record::{End, PublicDefinition, PublicReference, UnitReference};
 use std::alloc::{AllocError, Global};
+use std::process::Abort;
 use std::test::Fail;
 
-/// The length of the largest code of a linked segment, and how many of its bytes stand before its attribute table.
+/// The length of the largest code of a linked segment, and how many of its bytes are before its
+/// attribute table.
 const LENGTH: u16 = 32_766;
 
 const OPERAND_BYTES: u16 = 32_752;
@@ -18,7 +27,7 @@ const OPERAND_BYTES: u16 = 32_752;
 /// How many BIG operands those bytes are.
 const OPERANDS: u16 = 16_376;
 
-/// How many blocks a code takes, and the block behind it in a file whose block 1 it begins with.
+/// How many blocks a code takes, and the block after it in a file whose block 1 it begins with.
 const BLOCKS: u16 = 64;
 
 const INFORMATION: u16 = 65;
@@ -33,7 +42,8 @@ fn name_of(slot: u8) -> Name {
     name
 }
 
-/// The end of a code: the attribute table of its one procedure, with a data size of 10, and the procedure dictionary, with this segment number.
+/// The end of a code: the attribute table of its one procedure, with a data size of 10, and the
+/// procedure dictionary, with this segment number.
 fn end_of_code(number: u8) -> [u8; 14] {
     [10, 0, 4, 0, 6, 0, 10, 0, 1, 0, 2, 0, number, 1]
 }
@@ -136,49 +146,117 @@ fn linked(alloc: Global) -> Result<CodeFile, AllocError> {
     Ok(linked)
 }
 
-/// The edits of the plan: beside its operands each segment has its number stored, and the host's its data size.
+/// The edits of the plan: beside its operands each segment has its number stored, and the host's
+/// its data size.
 static PLANNED: &str =
     "edits 16378 32753 32753 32753 32753 32753 32753 32753 32753 32753 32753 32753 32753 32753 32753 32753 private words 0";
 
 static MAP: &str = "segment 00 DEMO     file 0 entry 00 block 1 length 32766
-segment 01 UNITB    file 10 entry 01 block 65 length 32766
-segment 02 UNITC    file 10 entry 02 block 129 length 32766
-segment 03 UNITD    file 10 entry 03 block 193 length 32766
-segment 04 UNITE    file 10 entry 04 block 257 length 32766
-segment 05 UNITF    file 10 entry 05 block 321 length 32766
-segment 06 UNITG    file 10 entry 06 block 385 length 32766
-segment 07 UNITH    file 10 entry 07 block 449 length 32766
-segment 08 UNITI    file 10 entry 08 block 513 length 32766
-segment 09 UNITJ    file 10 entry 09 block 577 length 32766
-segment 10 UNITK    file 10 entry 10 block 641 length 32766
-segment 11 UNITL    file 10 entry 11 block 705 length 32766
-segment 12 UNITM    file 10 entry 12 block 769 length 32766
-segment 13 UNITN    file 10 entry 13 block 833 length 32766
-segment 14 UNITO    file 10 entry 14 block 897 length 32766
-segment 15 UNITP    file 10 entry 15 block 961 length 32766
+segment 01 UNITB    file 200 entry 01 block 65 length 32766
+segment 02 UNITC    file 200 entry 02 block 129 length 32766
+segment 03 UNITD    file 200 entry 03 block 193 length 32766
+segment 04 UNITE    file 200 entry 04 block 257 length 32766
+segment 05 UNITF    file 200 entry 05 block 321 length 32766
+segment 06 UNITG    file 200 entry 06 block 385 length 32766
+segment 07 UNITH    file 200 entry 07 block 449 length 32766
+segment 08 UNITI    file 200 entry 08 block 513 length 32766
+segment 09 UNITJ    file 200 entry 09 block 577 length 32766
+segment 10 UNITK    file 200 entry 10 block 641 length 32766
+segment 11 UNITL    file 200 entry 11 block 705 length 32766
+segment 12 UNITM    file 200 entry 12 block 769 length 32766
+segment 13 UNITN    file 200 entry 13 block 833 length 32766
+segment 14 UNITO    file 200 entry 14 block 897 length 32766
+segment 15 UNITP    file 200 entry 15 block 961 length 32766
 public COUNT    value 3
 next 8 data 10 blocks 1025
 ";
 
 #[test]
-fn sixteen_segments_of_ten_libraries(rt: HostRuntime) -> Result<(), Fail> {
+fn sixteen_segments_of_two_hundred_libraries(rt: HostRuntime) -> Result<(), Fail> {
     let alloc = rt.alloc();
     let host = host(alloc)?;
     let library = library(alloc)?;
     let linked = linked(alloc)?;
     let without = base_library(alloc, LITTLE)?;
-    let other = without.as_slice();
-    let units = library.as_slice();
-    let libraries = [
-        other, other, other, other, other, other, other, other, other, units,
-    ];
+    let mut libraries = Vec::from_elem(alloc, without.as_slice(), 199)?;
+    libraries.push(library.as_slice())?;
     let link = Link {
         host: host.as_slice(),
         libraries: libraries.as_slice(),
         linked: linked.as_slice(),
     };
     let summary = "segments 16 private words 0 blocks 1025";
-    answers_each_call(&rt, link, PLANNED, summary, MAP)
+    answers_each_call(&rt, link, PLANNED, summary, MAP)?;
+    let call = Map {
+        host: host.as_slice(),
+        libraries: libraries.as_slice(),
+    };
+    writes_long_text(&rt, &call, MAP)
+}
+
+/// Changes of the base library where it comes after many that have not its unit, and the fault: its
+/// number and name, and what is
+/// reported after the file and the slot.
+const LATE: [(Changes<'static>, &str, &str); 4] = [
+    (&[Kind(2, 5)], "14 NotAUnit kind 5", ""),
+    (&[Length(2, 2)], "11 BadLength", ""),
+    (&[Bytes(1024, &CUONT)], "28 MissingDefinition", " record 0"),
+    (
+        &[Bytes(1040, &[23])],
+        "31 OutsideCode",
+        " record 0 reference 0",
+    ),
+];
+
+/// So many libraries, the last of them another one.
+fn libraries_with_a_last<'a>(
+    alloc: Global,
+    before: usize,
+    other: &'a [u8],
+    last: &'a [u8],
+) -> Result<Vec<&'a [u8]>, AllocError> {
+    let mut libraries = Vec::from_elem(alloc, other, before)?;
+    libraries.push(last)?;
+    Ok(libraries)
+}
+
+/// Links the base host with so many libraries that have not its unit, and after them with one that
+/// has it, changed or not.
+fn links_late(
+    rt: &(impl Abort + AllocGlobal),
+    before: usize,
+    changes: Changes<'_>,
+    answer: &str,
+    linked: &[u8],
+) -> Result<(), Fail> {
+    let alloc = rt.alloc();
+    let host = base_host(alloc, LITTLE)?;
+    let other = base_library(alloc, LITTLE)?.with(alloc, &[Bytes(80, &NOBODY)])?;
+    let library = base_library(alloc, LITTLE)?.with(alloc, changes)?;
+    let libraries = libraries_with_a_last(alloc, before, other.as_slice(), library.as_slice())?;
+    links(
+        rt,
+        "a late library",
+        host.as_slice(),
+        libraries.as_slice(),
+        answer,
+        linked,
+    )
+}
+
+#[test]
+fn units_of_late_libraries(rt: HostRuntime) -> Result<(), Fail> {
+    let alloc = rt.alloc();
+    let linked = linked_base_pair(alloc, LITTLE)?;
+    let summary = "segments 2 private words 4 blocks 3";
+    for (before, file) in [(256, 257), (65_536, 65_537)] {
+        links_late(&rt, before, &[], summary, linked.as_slice())?;
+        for (changes, fault, parts) in LATE {
+            let fault = format!(in alloc; "refused {fault} file {file} slot 7{parts}")?;
+            links_late(&rt, before, changes, fault.as_str(), &[])?;
+        }
+    }
+    Ok(())
 }
 
 #[test]

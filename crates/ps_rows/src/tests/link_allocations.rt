@@ -1,10 +1,10 @@
-//! `link` and its parts where memory is wanting, and how often it is asked for.
+//! `link` and its parts where memory is wanting, and how often it is requested.
 use super::allocations::{Allocating, OUT_OF_MEMORY, refused_allocations};
 use super::answers::text_of;
 use super::tables::Base;
 use super::texts::Map;
 use super::writers::{Full, Room};
-use ps_linkfile::{Counting, LinkError, Linked, Summary, link, prepare};
+use ps_linkfile::{Counting, LinkError, Linked, Summary, link, map_text, prepare};
 use ps_resolve::{Plan, Stop, resolve};
 use refusing::Refusing;
 use std::alloc::{AllocError, Allocator, Global};
@@ -103,7 +103,8 @@ fn answers(
     Ok(())
 }
 
-/// Checks the answers of each call that plans a link, with ample memory: its edits and private words, its summary and linked file, and its map.
+/// Checks the answers of each call that plans a link, with ample memory: its edits and private
+/// words, its summary and linked file, and its map.
 pub(crate) fn answers_each_call(
     rt: &(impl Abort + AllocGlobal),
     link: Link<'_>,
@@ -124,7 +125,8 @@ pub(crate) fn answers_each_call(
     Ok(())
 }
 
-/// Writes a prepared link to a writer with room for the linked file, and checks what is said and written.
+/// Writes a prepared link to a writer with room for the linked file, and checks what is said and
+/// written.
 fn writes_to_a_room<A: Allocator + Copy>(
     rt: &(impl Abort + AllocGlobal),
     linked: &Linked<'_, A>,
@@ -188,59 +190,102 @@ fn writes_each_way<A: Allocator + Copy>(
     writes_and_tells(rt, linked, summary, file)
 }
 
-/// Checks that preparing a link grows so often, and that writing it, however often, does not grow at all.
+/// Checks that preparing a link makes so many allocations, of so many bytes in all, and that
+/// writing it, however often, makes none.
 fn writing_grows_nothing(
     rt: &(impl Abort + AllocGlobal),
     heap: &Refusing<Global>,
     link: &Link<'_>,
-    planning: u64,
+    asked: (u64, u64),
     summary: &str,
 ) -> Result<(), Fail> {
     let linked = prepare(heap, link.host, link.libraries)?;
-    assert!(rt; heap.allocations() == planning);
+    let (allocations, bytes) = (heap.allocations(), heap.bytes());
+    assert!(rt; (allocations, bytes) == asked, "{allocations} {bytes}");
     writes_each_way(rt, &linked, summary, link.linked)?;
-    assert!(rt; heap.allocations() == planning);
+    assert!(rt; heap.allocations() == allocations);
     Ok(())
 }
 
-/// Checks the answers of `resolve` and of `prepare` with each allocation refused in turn, that both are refused as many, and that a linked file is written without any.
+/// Checks that the map of a link takes memory for its plan and for its text alone. The text has 128
+/// to 255 bytes; its room grows to
+/// twice as much at least, so seven times at most, and requests four times as many bytes at most.
+fn a_map_grows_by_its_text(
+    rt: &(impl Abort + AllocGlobal),
+    heap: &Refusing<Global>,
+    link: &Link<'_>,
+    (allocations, bytes): (u64, u64),
+) -> Result<(), Fail> {
+    let text = map_text(heap, link.host, link.libraries)?;
+    let length = text.len() as u64;
+    assert!(rt; (128..256).contains(&length), "{length}");
+    let grown = heap.allocations().saturating_sub(allocations);
+    assert!(rt; (1..8).contains(&grown), "{grown}");
+    let asked = heap.bytes().saturating_sub(bytes);
+    assert!(rt;
+        length <= asked && asked <= length.saturating_mul(4),
+        "{asked}"
+    );
+    Ok(())
+}
+
+/// Checks the answers of `resolve` and of `prepare` with each allocation refused in turn, that both
+/// make so many, and that a linked
+/// file is written without any.
 fn only_the_plan_grows(
     rt: &(impl Abort + AllocGlobal),
     link: Link<'_>,
     planned: &str,
     summary: &str,
+    asked: (u64, u64),
 ) -> Result<(), Fail> {
     let planning = refused_allocations(rt, "resolve", &Resolve { link }, planned)?;
     let preparing = refused_allocations(rt, "prepare", &Prepare { link }, summary)?;
-    assert!(rt; planning > 0);
-    assert!(rt; preparing == planning);
+    assert!(rt;
+        (planning, preparing) == (asked.0, asked.0),
+        "{planning} {preparing}"
+    );
     let heap = Refusing::once(rt.alloc(), 0);
-    writing_grows_nothing(rt, &heap, &link, planning, summary)
+    writing_grows_nothing(rt, &heap, &link, asked, summary)?;
+    let heap = Refusing::once(rt.alloc(), 0);
+    a_map_grows_by_its_text(rt, &heap, &link, asked)
 }
 
-/// Links of unchanged files: how many edits each segment's plan has and how many private words there are, and the program's line.
-const PLANS: [(Base, &str, &str); 3] = [
+/// Links of unchanged files: how many edits each segment's plan has and how many private words
+/// there are, the program's line, and how
+/// many allocations there are and of how many bytes.
+///
+/// The table of definitions takes four allocations of 244 bytes, since the kit's has nine places at
+/// least: of 8 bytes for a hash and its
+/// place, 8 for a name and 4 for a definition, and a group of 64. The list of lists of edits takes
+/// 64, and each list 16 for each edit that
+/// there is room for: one for each reference and two more. A private variable takes 24 bytes, and
+/// its name 8 while names are compared.
+const PLANS: [(Base, &str, &str, (u64, u64)); 3] = [
     (
         Base::Pair,
         "edits 2 3 private words 4",
         "segments 2 private words 4 blocks 3",
+        (9, 436),
     ),
     (
         Base::LongUnit,
         "edits 2 2 private words 0",
         "segments 2 private words 0 blocks 4",
+        (7, 388),
     ),
     (
         Base::InPlace,
         "edits 2 2 private words 0",
         "segments 2 private words 0 blocks 3",
+        (7, 388),
     ),
 ];
 
 #[test]
 fn writing_takes_no_memory(rt: HostRuntime) -> Result<(), Fail> {
     let alloc = rt.alloc();
-    for (base, planned, summary) in PLANS {
+    for (base, planned, summary, asked) in PLANS {
         let host = base.host(alloc)?;
         let library = base.library(alloc)?;
         let linked = base.linked(alloc)?;
@@ -250,7 +295,7 @@ fn writing_takes_no_memory(rt: HostRuntime) -> Result<(), Fail> {
             libraries: base.libraries(&library),
             linked: linked.as_slice(),
         };
-        only_the_plan_grows(&rt, link, planned, summary)?;
+        only_the_plan_grows(&rt, link, planned, summary, asked)?;
     }
     Ok(())
 }

@@ -200,7 +200,8 @@ const RECORDS: [Shown<'static>; 9] = [
     ),
 ];
 
-/// Checks that the show of a file ends with these lines, behind the first line of its link information.
+/// Checks that the show of a file ends with these lines, after the first line of its link
+/// information.
 fn shows_last(
     rt: &(impl Abort + AllocGlobal),
     what: &str,

@@ -1,12 +1,17 @@
-//! A hundred thousand definitions, private variables and records, a record of as many references as one can have, and texts of megabytes. It takes under a second as compiled, and minutes under `rt try`, which wants `--seconds 600`.
-use super::answers::LITTLE;
+//! A hundred thousand definitions, private variables and records, a record of as many references as
+//! one can have, and texts of megabytes. It takes under a second as compiled, and minutes under `rt
+//! try`, which wants `--seconds 600`.
+use super::answers::{LITTLE, refuses};
 use super::link_allocations::{Link, answers_each_call};
 use super::plan::builds_definitions;
 use super::text_writing::writes_long_text;
 use super::texts::{Map, SLOTS_OF_THE_LIBRARY, Show};
-use crate::base::{COUNT, STATE, base_host, base_library, linked_base_pair};
+use crate::base::{COUNT, CUONT, NOBODY, STATE, base_host, base_library, linked_base_pair};
 use crate::code_file::Change::{Records, Resized};
-use crate::information::Record::{End, PrivateReference, PublicDefinition, PublicReference};
+use crate::code_file::CodeFile;
+use crate::information::Record::{
+    End, PrivateReference, PublicDefinition, PublicReference, UnitReference,
+};
 use crate::information::{Information, Name, Record};
 use ps_linkfile::show_text;
 use ps_linkinfo::{Body, LinkRecord, read_records};
@@ -51,27 +56,35 @@ pub(crate) fn references(alloc: Global) -> Result<Vec<u16>, AllocError> {
     Ok(references)
 }
 
-/// These records, definitions of numbers, and behind them that of the base host.
-fn definitions<'a>(alloc: Global, before: &[Record<'a>]) -> Result<Vec<Record<'a>>, AllocError> {
+/// These records, definitions of numbers, that of the base host, and then those after it.
+fn definitions<'a>(
+    alloc: Global,
+    before: &[Record<'a>],
+    behind: &[Record<'a>],
+) -> Result<Vec<Record<'a>>, AllocError> {
     let mut records = Vec::from_slice(alloc, before)?;
     for number in 0..NUMBERED {
         records.push(PublicDefinition(numbered(number), value_of(number)))?;
     }
     records.push(PublicDefinition(COUNT, 3))?;
+    records.extend_from_slice(behind)?;
     records.push(End(8))?;
     Ok(records)
 }
 
-/// These records, private variables of no words named by numbers, and behind them that of the base library.
+/// These records, private variables of no words named by numbers, that of the base library, and
+/// then those after it.
 fn private_variables<'a>(
     alloc: Global,
     before: &[Record<'a>],
+    behind: &[Record<'a>],
 ) -> Result<Vec<Record<'a>>, AllocError> {
     let mut records = Vec::from_slice(alloc, before)?;
     for number in 0..NUMBERED {
         records.push(PrivateReference(numbered(number), 0, &[]))?;
     }
     records.push(PrivateReference(STATE, 4, &[4]))?;
+    records.extend_from_slice(behind)?;
     records.push(End(0))?;
     Ok(records)
 }
@@ -93,7 +106,7 @@ fn definitions_by_name_and_by_index(rt: HostRuntime) -> Result<(), Fail> {
     let alloc = rt.alloc();
     let references = references(alloc)?;
     let before = [PublicReference(STATE, references.as_slice())];
-    let records = definitions(alloc, &before)?;
+    let records = definitions(alloc, &before, &[])?;
     let information = Information::new(alloc, LITTLE, records.as_slice())?;
     let host = Linkage {
         file: 0,
@@ -106,7 +119,8 @@ fn definitions_by_name_and_by_index(rt: HostRuntime) -> Result<(), Fail> {
     builds_definitions(&rt, &host, wanted.as_slice(), &numbered(NUMBERED))
 }
 
-/// Checks the private variables of a unit in slot 7 whose first record asks for two words from offset 8 on, and its next ones for
+/// Checks the private variables of a unit in slot 7 whose first record requests two words from
+/// offset 8 on, and its next ones for
 /// those above.
 fn has_private_variables(rt: &impl Abort, allotment: &Allotment) {
     assert!(rt; allotment.privates().len() == NAMES + 1);
@@ -124,7 +138,7 @@ fn private_variables_by_record(rt: HostRuntime) -> Result<(), Fail> {
     let alloc = rt.alloc();
     let references = references(alloc)?;
     let before = [PrivateReference(COUNT, 2, references.as_slice())];
-    let records = private_variables(alloc, &before)?;
+    let records = private_variables(alloc, &before, &[])?;
     let information = Information::new(alloc, LITTLE, records.as_slice())?;
     let segment = Linkage {
         file: 1,
@@ -159,7 +173,7 @@ fn are_definitions(rt: &impl Abort, records: &[LinkRecord<'_>]) {
 #[test]
 fn records_read_into_a_list(rt: HostRuntime) -> Result<(), Fail> {
     let alloc = rt.alloc();
-    let records = definitions(alloc, &[])?;
+    let records = definitions(alloc, &[], &[])?;
     let information = Information::new(alloc, LITTLE, records.as_slice())?;
     match read_records(alloc, LITTLE, information.as_slice()) {
         Ok(read) => are_definitions(&rt, read.as_slice()),
@@ -188,15 +202,26 @@ segment 07 UTIL     file 1 entry 02 block 2 length 24
     Ok(text)
 }
 
+/// A base file with these records.
+fn long_file(
+    alloc: Global,
+    file: CodeFile,
+    records: &[Record<'_>],
+) -> Result<CodeFile, AllocError> {
+    file.with(alloc, &[Resized(LENGTH), Records(2, records)])
+}
+
 #[test]
 fn a_link_and_its_map(rt: HostRuntime) -> Result<(), Fail> {
     let alloc = rt.alloc();
-    let definitions = definitions(alloc, &[])?;
-    let changes = [Resized(LENGTH), Records(2, definitions.as_slice())];
-    let host = base_host(alloc, LITTLE)?.with(alloc, &changes)?;
-    let private_variables = private_variables(alloc, &[PublicReference(COUNT, &[1])])?;
-    let changes = [Resized(LENGTH), Records(2, private_variables.as_slice())];
-    let library = base_library(alloc, LITTLE)?.with(alloc, &changes)?;
+    let definitions = definitions(alloc, &[], &[])?;
+    let host = long_file(alloc, base_host(alloc, LITTLE)?, definitions.as_slice())?;
+    let private_variables = private_variables(alloc, &[PublicReference(COUNT, &[1])], &[])?;
+    let library = long_file(
+        alloc,
+        base_library(alloc, LITTLE)?,
+        private_variables.as_slice(),
+    )?;
     let linked = linked_base_pair(alloc, LITTLE)?;
     let map = map(alloc)?;
     let libraries = [library.as_slice()];
@@ -213,6 +238,51 @@ fn a_link_and_its_map(rt: HostRuntime) -> Result<(), Fail> {
         libraries: libraries.as_slice(),
     };
     writes_long_text(&rt, &call, map.as_str())
+}
+
+/// A definition after a hundred thousand of the host's records, and the fault of it.
+const LATE_IN_THE_HOST: (Record<'static>, &str) = (
+    PublicDefinition(COUNT, 4),
+    "refused 24 DoubledDefinition file 0 slot 1 record 100000",
+);
+
+/// Records after a hundred thousand of the library's, and the fault of each.
+const LATE_IN_THE_LIBRARY: [(Record<'static>, &str); 4] = [
+    (
+        PrivateReference(STATE, 4, &[]),
+        "refused 25 DoubledPrivate file 1 slot 7 record 100000",
+    ),
+    (
+        PublicReference(CUONT, &[1]),
+        "refused 28 MissingDefinition file 1 slot 7 record 100000",
+    ),
+    (
+        PublicReference(COUNT, &[23]),
+        "refused 31 OutsideCode file 1 slot 7 record 100000 reference 0",
+    ),
+    (
+        UnitReference(NOBODY, &[]),
+        "refused 13 MissingUnit file 1 slot 7 record 100000",
+    ),
+];
+
+#[test]
+fn faults_behind_a_hundred_thousand_records(rt: HostRuntime) -> Result<(), Fail> {
+    let alloc = rt.alloc();
+    let (record, fault) = LATE_IN_THE_HOST;
+    let records = definitions(alloc, &[], &[record])?;
+    let host = long_file(alloc, base_host(alloc, LITTLE)?, records.as_slice())?;
+    let library = base_library(alloc, LITTLE)?;
+    let libraries = [library.as_slice()];
+    refuses(&rt, "the host", host.as_slice(), &libraries, fault)?;
+    let host = base_host(alloc, LITTLE)?;
+    for (record, fault) in LATE_IN_THE_LIBRARY {
+        let records = private_variables(alloc, &[], &[record])?;
+        let library = long_file(alloc, base_library(alloc, LITTLE)?, records.as_slice())?;
+        let libraries = [library.as_slice()];
+        refuses(&rt, "the library", host.as_slice(), &libraries, fault)?;
+    }
+    Ok(())
 }
 
 /// The show of the base library with all of these.
@@ -237,7 +307,7 @@ fn a_show_of_megabytes(rt: HostRuntime) -> Result<(), Fail> {
     let alloc = rt.alloc();
     let references = references(alloc)?;
     let before = [PublicReference(STATE, references.as_slice())];
-    let records = definitions(alloc, &before)?;
+    let records = definitions(alloc, &before, &[])?;
     let changes = [Resized(LENGTH), Records(2, records.as_slice())];
     let library = base_library(alloc, LITTLE)?.with(alloc, &changes)?;
     let wanted = show(alloc)?;

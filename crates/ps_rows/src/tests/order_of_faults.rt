@@ -13,7 +13,7 @@ use std::alloc::{AllocError, Global};
 use std::process::Abort;
 use std::test::Fail;
 
-/// Faults of dictionaries, and others behind them.
+/// Faults of dictionaries, and others after them.
 const DICTIONARIES: [Refusal<'static>; 9] = [
     (
         "a kind in slot 8 and a second host segment in slot 9",
@@ -71,7 +71,7 @@ const DICTIONARIES: [Refusal<'static>; 9] = [
     ),
 ];
 
-/// Faults of entries, of codes and of procedures, and others behind them.
+/// Faults of entries, of codes and of procedures, and others after them.
 const ENTRIES_AND_CODES: [Refusal<'static>; 6] = [
     (
         "two entries of the name, one of kind 5",
@@ -118,7 +118,7 @@ const ENTRIES_AND_CODES: [Refusal<'static>; 6] = [
     ),
 ];
 
-/// Faults of names and of sizes, and others behind them.
+/// Faults of names and of sizes, and others after them.
 const NAMES_AND_SIZES: [Refusal<'static>; 7] = [
     (
         "a missing definition of the library and a doubled one",
@@ -196,7 +196,7 @@ const NAMES_AND_SIZES: [Refusal<'static>; 7] = [
     ),
 ];
 
-/// Faults of references, and others behind them.
+/// Faults of references, and others after them.
 const REFERENCES: [Refusal<'static>; 10] = [
     (
         "an operand that is too large and the same again",
@@ -327,7 +327,8 @@ fn the_first_of_several_faults(rt: HostRuntime) -> Result<(), Fail> {
 #[derive(Clone, Copy)]
 enum Library {
     Base,
-    /// The base library in the other byte order, of less than a block, of another kind and with no code.
+    /// The base library in the other byte order, of less than a block, of another kind and with no
+    /// code.
     Big,
     Short,
     OtherKind,
@@ -365,7 +366,7 @@ fn refuses_libraries(
     refuses(rt, what, host.as_slice(), &libraries, fault)
 }
 
-/// Libraries with faults, of which the first is told.
+/// Libraries with faults, of which the first is reported.
 const LIBRARIES: [(&str, [Library; 3], &str); 4] = [
     (
         "an order and a length",

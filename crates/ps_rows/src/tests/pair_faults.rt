@@ -319,7 +319,7 @@ const TYPES: [Refusal<'static>; 10] = [
     ),
 ];
 
-/// A library whose words stand in the other byte order.
+/// A library whose words are in the other byte order.
 const OTHER_ORDER: [Refusal<'static>; 1] = [(
     "the other byte order",
     &[],
@@ -327,7 +327,8 @@ const OTHER_ORDER: [Refusal<'static>; 1] = [(
     "refused 3 OrderMismatch file 1",
 )];
 
-/// The refusals of a host that wants its unit from a library, with ample memory and with none, or with each allocation refused where memory is taken before them.
+/// The refusals of a host that wants its unit from a library, with ample memory and with none, or
+/// with each allocation refused where memory is taken before them.
 const FAULTS: [Table<'static, Refusal<'static>>; 12] = [
     (Base::Pair, AMPLE_OR_NONE, &LIBRARIES),
     (Base::HostAlone, AMPLE_OR_NONE, &HOST_ALONE),

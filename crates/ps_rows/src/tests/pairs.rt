@@ -129,7 +129,7 @@ const NOT_WANTED: Row<'static> = Row {
 };
 
 /// Slots of the host.
-const SLOTS: [Row<'static>; 9] = [
+const SLOT_ROWS: [Row<'static>; 9] = [
     Row {
         what: "a wanted unit with a length and no address",
         host: &[Length(7, 24)],
@@ -244,7 +244,7 @@ const LINKS: [Table<'static, Row<'static>>; 8] = [
     (Base::Pair, AMPLE, &BASE_PAIR),
     (Base::BigPair, AMPLE, &BASE_PAIR),
     (Base::Pair, AMPLE_OR_REFUSED, &RECORDS),
-    (Base::Pair, AMPLE, &SLOTS),
+    (Base::Pair, AMPLE, &SLOT_ROWS),
     (Base::HostAlone, AMPLE, &[NOT_WANTED]),
     (Base::Pair, AMPLE, &ENTRIES),
     (Base::NineReferences, AMPLE_OR_REFUSED, &NINE_REFERENCES),

@@ -179,7 +179,8 @@ fn definitions_by_index_and_by_name(rt: HostRuntime) -> Result<(), Fail> {
     builds_definitions(&rt, &host, &[COUNT_IS_3, LIMIT_IS_9], &STATE)
 }
 
-/// Slots, records and the offset of a private variable, where the unit's second record asks for one.
+/// Slots, records and the offset of a private variable, where the unit's second record requests
+/// one.
 const OFFSETS: [(u8, usize, Option<u16>); 5] = [
     (7, 1, Some(8)),
     (7, 0, None),
@@ -268,6 +269,15 @@ fn faults_of_single_calls(rt: HostRuntime) -> Result<(), Fail> {
     refuses_allotment(&rt, "a private twice", 8, &records, fault)
 }
 
+/// Adds an edit: its kind, its place and its value.
+fn describe_edit(text: &mut String, edit: Edit) -> Result<(), AllocError> {
+    match edit {
+        Edit::Big { place, value } => write!(text, " big at {place}: {value}"),
+        Edit::Byte { place, value } => write!(text, " byte at {place}: {value}"),
+        Edit::Word { place, value } => write!(text, " word at {place}: {value}"),
+    }
+}
+
 /// Adds a segment of a plan with its edits.
 fn describe_segment(
     text: &mut String,
@@ -277,7 +287,7 @@ fn describe_segment(
     write!(text, "slot {} file {} ", source.slot, source.file)?;
     write!(text, "entry {} length {}:", source.index, source.code.len())?;
     for edit in edits {
-        write!(text, " {edit:?}")?;
+        describe_edit(text, *edit)?;
     }
     text.push_str("; ")
 }
@@ -298,9 +308,8 @@ fn describe(alloc: Global, plan: &Plan<'_>) -> Result<String, AllocError> {
 }
 
 /// The plan of the base pair.
-const BASE_PLAN: &str =
-    "slot 1 file 0 entry 1 length 18: Word { place: 4, value: 18 } Byte { place: 16, value: 1 }; \
-slot 7 file 1 entry 2 length 24: Big { place: 1, value: 3 } Big { place: 4, value: 10 } Byte { place: 22, value: 7 }; \
+const BASE_PLAN: &str = "slot 1 file 0 entry 1 length 18: word at 4: 18 byte at 16: 1; \
+slot 7 file 1 entry 2 length 24: big at 1: 3 big at 4: 10 byte at 22: 7; \
 definitions 1 privates 1 words 4 next 12 data 18";
 
 /// Checks the plan of the base pair, and that it has the host's names and its tail.

@@ -5,7 +5,8 @@ use crate::information::Record::{End, Other};
 use std::process::Abort;
 use std::test::Fail;
 
-/// What a record of a type and with these words is read as, an EOFMARK after it, or how it is refused.
+/// What a record of a type and with these words is read as, an EOFMARK after it, or how it is
+/// refused.
 const RECORDS: [(u16, [u16; 3], &str); 29] = [
     (0, [2, 0, 5], "EOFMARK next 2; "),
     (1, [2, 0, 5], "BadFormat at record 0"),
@@ -46,7 +47,8 @@ const RECORDS: [(u16, [u16; 3], &str); 29] = [
     (4, [3, 0, 0], "BadFormat at record 0"),
 ];
 
-/// Checks what a record of this type and these words is read as, an EOFMARK after it, in either byte order.
+/// Checks what a record of this type and these words is read as, an EOFMARK after it, in either
+/// byte order.
 fn reads(
     rt: &(impl Abort + AllocGlobal),
     kind: u16,
@@ -58,7 +60,8 @@ fn reads(
     reads_records(rt, what.as_str(), &records, 32, wanted)
 }
 
-/// Checks how a PUBLREF record of this format is refused whose list has one reference and is cut.
+/// Checks how a PUBLREF record of this format is refused whose list has one reference and is
+/// truncated.
 fn reads_cut_list(rt: &(impl Abort + AllocGlobal), format: u16, wanted: &str) -> Result<(), Fail> {
     let what = format!(in rt.alloc(); "format {format}")?;
     let records = [Other(COUNT, 3, [format, 1, 0])];

@@ -1,77 +1,115 @@
 //! Link information as `Records` walks it.
 use super::records::describe;
-use crate::base::LIBRARY_RECORDS;
-use crate::information::Information;
+use crate::base::{COUNT, LIBRARY_RECORDS};
+use crate::information::Record::{End, PublicReference};
+use crate::information::{Information, Record};
 use ps_linkinfo::Records;
 use ps_words::Order;
 use std::alloc::{AllocError, Global};
 use std::process::Abort;
 use std::test::Fail;
 
-/// The next item as text.
-fn next(alloc: Global, records: &mut Records<'_>) -> Result<String, AllocError> {
+/// The next item as text, and a record's size.
+fn next(alloc: Global, records: &mut Records<'_>) -> Result<(String, usize), AllocError> {
+    let mut text = String::new(alloc);
+    let mut size = 0;
     match records.next() {
         Some(Ok(record)) => {
-            let mut text = String::new(alloc);
             describe(&mut text, &record)?;
-            Ok(text)
+            size = record.size();
         }
-        Some(Err(reason)) => format!(in alloc; "{reason:?}"),
-        None => String::from_str(alloc, "none"),
+        Some(Err(reason)) => write!(text, "{reason:?}")?,
+        None => text.push_str("none")?,
     }
+    Ok((text, size))
 }
 
-/// How many bytes of the base library's link information are walked, the items, and how many bytes the records among them took; a fault is given once.
-const WALKS: [(usize, &[&str], usize); 3] = [
+/// Records, how many of their bytes are walked, and the items, each with how many bytes the records
+/// up to it take; a fault takes none, and is given once.
+type Walk<'a> = (&'a [Record<'a>], usize, &'a [(&'a str, usize)]);
+
+const WALKS: [Walk<'static>; 6] = [
     (
+        &LIBRARY_RECORDS,
         80,
         &[
-            "PUBLREF COUNT    at 1",
-            "PRIVREF STATE    words 4 at 4",
-            "EOFMARK next 0",
-            "none",
-            "none",
+            ("PUBLREF COUNT    at 1", 32),
+            ("PRIVREF STATE    words 4 at 4", 64),
+            ("EOFMARK next 0", 80),
+            ("none", 80),
+            ("none", 80),
         ],
-        80,
     ),
     (
+        &LIBRARY_RECORDS,
         79,
         &[
-            "PUBLREF COUNT    at 1",
-            "PRIVREF STATE    words 4 at 4",
-            "RecordsTruncated",
-            "none",
-            "none",
+            ("PUBLREF COUNT    at 1", 32),
+            ("PRIVREF STATE    words 4 at 4", 64),
+            ("RecordsTruncated", 64),
+            ("none", 64),
+            ("none", 64),
         ],
-        64,
     ),
-    (0, &["RecordsTruncated", "none", "none"], 0),
+    (
+        &LIBRARY_RECORDS,
+        0,
+        &[("RecordsTruncated", 0), ("none", 0), ("none", 0)],
+    ),
+    (
+        &[PublicReference(COUNT, &[]), End(0)],
+        32,
+        &[("PUBLREF COUNT    at", 16), ("EOFMARK next 0", 32)],
+    ),
+    (
+        &[PublicReference(COUNT, &[1, 2, 3, 4, 5, 6, 7, 8]), End(0)],
+        48,
+        &[
+            ("PUBLREF COUNT    at 1 2 3 4 5 6 7 8", 32),
+            ("EOFMARK next 0", 48),
+        ],
+    ),
+    (
+        &[PublicReference(COUNT, &[1, 2, 3, 4, 5, 6, 7, 8, 9]), End(0)],
+        64,
+        &[
+            ("PUBLREF COUNT    at 1 2 3 4 5 6 7 8 9", 48),
+            ("EOFMARK next 0", 64),
+        ],
+    ),
 ];
 
-/// Checks the items in turn, and how many bytes the records among them took.
+/// Checks the items in turn, and how many bytes each record takes.
 fn walks(
     rt: &(impl Abort + AllocGlobal),
+    order: Order,
     bytes: &[u8],
-    wanted: &[&str],
-    used: usize,
+    wanted: &[(&str, usize)],
 ) -> Result<(), Fail> {
     let length = bytes.len();
-    let mut records = Records::new(Order::Little, bytes);
-    for item in wanted {
-        let text = next(rt.alloc(), &mut records)?;
+    let mut records = Records::new(order, bytes);
+    assert!(rt; records.used() == 0);
+    for (item, used) in wanted {
+        let before = records.used();
+        let (text, size) = next(rt.alloc(), &mut records)?;
         assert!(rt; text.as_str() == *item, "of {length} bytes: {text}");
+        assert!(rt; records.used() == *used, "of {length} bytes: {text}");
+        assert!(rt;
+            Some(size) == used.checked_sub(before),
+            "of {length} bytes: {text}"
+        );
     }
-    assert!(rt; records.used() == used, "of {length} bytes");
     Ok(())
 }
 
 #[test]
-fn the_base_library_and_its_cuts(rt: HostRuntime) -> Result<(), Fail> {
-    let information = Information::new(rt.alloc(), Order::Little, &LIBRARY_RECORDS)?;
-    let bytes = information.as_slice();
-    assert!(rt; bytes.len() == 80);
-    for (length, items, used) in WALKS {
-        walks(&rt, bytes.get(..length).unwrap_or(bytes), items, used)?;
+fn records_one_by_one(rt: HostRuntime) -> Result<(), Fail> {
+    for order in [Order::Little, Order::Big] {
+        for (records, length, items) in WALKS {
+            let information = Information::new(rt.alloc(), order, records)?;
+            let bytes = information.as_slice();
+            walks(&rt, order, bytes.get(..length).unwrap_or(&[]), items)?;
+        }
     }
     Ok(())
 }

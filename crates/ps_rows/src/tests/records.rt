@@ -103,7 +103,7 @@ pub(crate) fn reads_records(
     Ok(())
 }
 
-/// Lengths to which the base library's link information is cut, and what it is then read as.
+/// Lengths to which the base library's link information is truncated, and what it is then read as.
 const CUTS: [(&str, usize, &str); 5] = [
     ("whole", 80, BASE_RECORDS),
     ("cut to 79", 79, "RecordsTruncated at record 2"),
@@ -182,6 +182,7 @@ fn records_in_either_byte_order(rt: HostRuntime) -> Result<(), Fail> {
 /// Checks a record of references 0, 1, 2 and so on, as many as one can have, and an end mark.
 fn have_every_reference(rt: &impl Abort, records: &[LinkRecord<'_>]) {
     assert!(rt; records.len() == 2);
+    assert!(rt; records.first().map(|record| record.size()) == Some(131088));
     match records.first().map(|record| &record.body) {
         Some(Body::PublRef(read)) => {
             assert!(rt; read.len() == 65535);

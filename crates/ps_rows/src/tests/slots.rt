@@ -1,4 +1,4 @@
-//! Which slots of a host have a segment, and what stands in them.
+//! Which slots of a host have a segment, and what is in them.
 use super::answers::links;
 use super::tables::{AMPLE, Base, Row, Table, link_tables};
 use crate::base::{
@@ -57,7 +57,8 @@ const NAMELESS_LINKED: Slot = Slot {
     ..LINKED_UTIL
 };
 
-/// The code of a unit in slot 7 whose private variable is at 8, and that of a host segment in slot 9 whose own is at 12.
+/// The code of a unit in slot 7 whose private variable is at 8, and that of a host segment in slot
+/// 9 whose own is at 12.
 const UNIT_BELOW: [u8; 24] = [
     0xA5, 0x80, 3, 0xAB, 0x80, 10, 0xD7, 0xD7, 0xAD, 0, 0, 0, 0, 0, 6, 0, 16, 0, 1, 0, 2, 0, 7, 1,
 ];
@@ -139,7 +140,8 @@ fn units_in_any_slot(rt: HostRuntime) -> Result<(), Fail> {
     link_tables(&rt, &tables)
 }
 
-/// A host of sixteen segments: its own in this slot, the unit in slot 7, and in the others segments that are linked already.
+/// A host of sixteen segments: its own in this slot, the unit in slot 7, and in the others segments
+/// that are linked already.
 fn full_host(alloc: Global, order: Order, host_slot: u8) -> Result<CodeFile, AllocError> {
     let changes = [Resized(2565), Code(5, 0, &TOOLS_CODE)];
     let mut host = unit_in_place(alloc, order)?.with(alloc, &changes)?;

@@ -40,22 +40,24 @@ pub(crate) type Refusal<'a> = (&'a str, Changes<'a>, Changes<'a>, &'a str);
 /// The memory that a link is given.
 #[derive(Clone, Copy)]
 pub(crate) enum Memory {
-    /// As much as it asks for.
+    /// As much as it requests.
     Ample,
-    /// None, and it asks for none.
+    /// None, and it requests none.
     NoAllocation,
     /// Each allocation is refused in turn, and the link is made again with ample memory.
     EachAllocationRefused,
 }
 
-/// The memories that the links of a table are made with: ample memory, and where the second word says so, the other one too.
+/// The memories that the links of a table are made with: ample memory, and where the second word
+/// says so, the other one too.
 pub(crate) const AMPLE: &[Memory] = &[Memory::Ample];
 
 pub(crate) const AMPLE_OR_NONE: &[Memory] = &[Memory::Ample, Memory::NoAllocation];
 
 pub(crate) const AMPLE_OR_REFUSED: &[Memory] = &[Memory::Ample, Memory::EachAllocationRefused];
 
-/// A table of links or of refusals, the files that its entries change, and the memories that each is tried with.
+/// A table of links or of refusals, the files that its entries change, and the memories that each
+/// is tried with.
 pub(crate) type Table<'a, Entry> = (Base, &'a [Memory], &'a [Entry]);
 
 impl Memory {
@@ -75,7 +77,8 @@ impl Memory {
     }
 }
 
-/// The files that a table's entries change; their words are little-endian where nothing else is said.
+/// The files that a table's entries change; their words are little-endian where nothing else is
+/// said.
 #[derive(Clone, Copy, PartialEq, Eq)]
 pub(crate) enum Base {
     /// The host with its unit in place, and no library.

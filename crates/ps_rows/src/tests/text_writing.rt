@@ -27,8 +27,11 @@ impl<'a> Writing for Map<'a> {
     }
 }
 
-/// Writes a text into a writer with room for so many bytes, of which a write takes at most so many. Checks the answer,
-/// that the prefix of the text was taken for which there is room, and how many writes there were and how many of them failed.
+/// Writes a text into a writer with room for so many bytes, of which a write takes at most so many.
+/// Checks the answer,
+/// that the prefix of the text was taken for which there is room, how many writes there were and
+/// how many of them failed, and that
+/// there was no flush.
 pub(crate) fn writes<T: Writing>(
     rt: &(impl Abort + AllocGlobal),
     (call, text): (&T, &str),
@@ -49,13 +52,14 @@ pub(crate) fn writes<T: Writing>(
     let prefix = text.as_bytes().get(..room).unwrap_or(text.as_bytes());
     assert!(rt; out.written() == prefix, "{room} {per_write}");
     assert!(rt;
-        (out.writes(), out.failures()) == counts,
+        (out.writes(), out.failures(), out.flushes()) == (counts.0, counts.1, 0),
         "{room} {per_write}"
     );
     Ok(())
 }
 
-/// Writes this short text into writers that take all or little, stall or fail. No write is made after one that failed.
+/// Writes this short text into writers that take all or little, stall or fail. No write is made
+/// after one that failed.
 pub(crate) fn writes_text<T: Writing>(
     rt: &(impl Abort + AllocGlobal),
     call: &T,

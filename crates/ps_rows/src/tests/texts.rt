@@ -164,7 +164,8 @@ pub(crate) fn shows(
     writes_text(rt, &call, text)
 }
 
-/// Lengths to which the base library is cut, and the lines of its show behind those of the slots.
+/// Lengths to which the base library is truncated, and the lines of its show after those of the
+/// slots.
 const SHOWS: [(&str, usize, &str); 3] = [
     (
         "a library",

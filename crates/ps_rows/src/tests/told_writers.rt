@@ -39,7 +39,8 @@ const SUMMARY: &str = "segments 2 private words 4 blocks 3";
 /// A writer's room, how much a write takes at most, and what it does where it has no room.
 type Writer = (usize, usize, Full);
 
-/// Writes the linked file to a counting writer: the answer as text, what was counted, and the writer that it was written to.
+/// Writes the linked file to a counting writer: the answer as text, what was counted, and the
+/// writer that it was written to.
 fn told(
     alloc: Global,
     linked: &Linked<'_>,
@@ -51,8 +52,9 @@ fn told(
     Ok((text, tally_of(&out), out.into_inner()))
 }
 
-/// Writes the linked file to a counting writer, and checks the answer, the counts, that each write that was counted was made once,
-/// and that the prefix of the linked file was taken for which it has room.
+/// Writes the linked file to a counting writer, and checks the answer, the counts, that each write
+/// that was counted was made once,
+/// that there was no flush, and that the prefix of the linked file was taken for which it has room.
 fn tells(
     rt: &(impl Abort + AllocGlobal),
     linked: &Linked<'_>,
@@ -65,9 +67,9 @@ fn tells(
     let (text, counted, inner) = told(rt.alloc(), linked, writer)?;
     assert!(rt; text.as_str() == answer, "{room} {per_write}: {text}");
     assert!(rt; counted == wanted, "{room} {per_write}");
-    let made = (inner.writes(), inner.failures());
+    let made = (inner.writes(), inner.failures(), inner.flushes());
     assert!(rt;
-        made == (wanted.writes, wanted.errors),
+        made == (wanted.writes, wanted.errors, 0),
         "{room} {per_write}"
     );
     let prefix = file.get(..room).unwrap_or(&[]);
@@ -75,7 +77,8 @@ fn tells(
     Ok(())
 }
 
-/// How much a write takes at most, how many writes there are of the three blocks, and how many of them are short.
+/// How much a write takes at most, how many writes there are of the three blocks, and how many of
+/// them are short.
 const WHOLE: [(usize, u64, u64); 6] = [
     (512, 3, 0),
     (513, 3, 0),
@@ -85,7 +88,7 @@ const WHOLE: [(usize, u64, u64); 6] = [
     (1, 1536, 1533),
 ];
 
-/// Checks what is told of a writer with room for the whole file.
+/// Checks what is reported of a writer with room for the whole file.
 fn tells_the_whole_file(
     rt: &(impl Abort + AllocGlobal),
     linked: &Linked<'_>,
@@ -103,7 +106,8 @@ fn tells_the_whole_file(
     Ok(())
 }
 
-/// How much room a writer has, how many writes there are until one has no room, and how many of them are short where that one
+/// How much room a writer has, how many writes there are until one has no room, and how many of
+/// them are short where that one
 /// fails, and where it stalls.
 const ROOMS: [(usize, u64, u64, u64); 9] = [
     (0, 1, 0, 1),
@@ -117,7 +121,7 @@ const ROOMS: [(usize, u64, u64, u64); 9] = [
     (1535, 4, 1, 2),
 ];
 
-/// Checks what is told of a writer that has too little room, and then fails or takes nothing.
+/// Checks what is reported of a writer that has too little room, and then fails or takes nothing.
 fn tells_what_has_no_room(
     rt: &(impl Abort + AllocGlobal),
     linked: &Linked<'_>,
@@ -154,14 +158,28 @@ fn counts_no_plain_write(
     linked.write(&mut out)?;
     assert!(rt; tally_of(&out) == NOTHING);
     assert!(rt; out.write(b"more")? == 0);
-    out.flush()?;
+    assert!(rt; out.flush().is_err());
     assert!(rt; tally_of(&out) == NOTHING);
     let inner = out.into_inner();
+    assert!(rt; inner.flushes() == 1);
     assert!(rt; inner.written() == file);
     Ok(())
 }
 
-/// Checks what is told of each writer.
+/// Checks that a plain write is handed on whole, in one write.
+fn hands_on_a_long_write(rt: &(impl Abort + AllocGlobal)) -> Result<(), Fail> {
+    let alloc = rt.alloc();
+    let bytes = Vec::from_elem(alloc, 0xD7, 100_000)?;
+    let mut out = Counting::new(Room::new(alloc, 100_000, usize::MAX, Full::Fails)?);
+    assert!(rt; out.write(bytes.as_slice())? == 100_000);
+    assert!(rt; tally_of(&out) == NOTHING);
+    let inner = out.into_inner();
+    assert!(rt; inner.writes() == 1);
+    assert!(rt; inner.written() == bytes.as_slice());
+    Ok(())
+}
+
+/// Checks what is reported of each writer.
 fn tells_each_writer(
     rt: &(impl Abort + AllocGlobal),
     linked: &Linked<'_>,
@@ -169,7 +187,8 @@ fn tells_each_writer(
 ) -> Result<(), Fail> {
     tells_the_whole_file(rt, linked, file)?;
     tells_what_has_no_room(rt, linked, file)?;
-    counts_no_plain_write(rt, linked, file)
+    counts_no_plain_write(rt, linked, file)?;
+    hands_on_a_long_write(rt)
 }
 
 #[test]
@@ -183,7 +202,7 @@ fn the_base_pair(rt: HostRuntime) -> Result<(), Fail> {
     tells_each_writer(&rt, &linked, file.as_slice())
 }
 
-/// Makes one told write, and checks its answer and what is counted of it.
+/// Calls `told_write` once, and checks its answer and what is counted of it.
 fn tells_once(
     rt: &(impl Abort + AllocGlobal),
     (room, per_write, full): (usize, usize, Full),
@@ -280,9 +299,14 @@ fn the_error_of_the_write_comes_back(rt: HostRuntime) -> Result<(), Fail> {
     let host = base_host(alloc, LITTLE)?;
     let library = base_library(alloc, LITTLE)?;
     let libraries = [library.as_slice()];
+    let linked = prepare(alloc, host.as_slice(), &libraries)?;
     for mut way in WAYS {
         let answer = link(alloc, host.as_slice(), &libraries, &mut way);
         is_error(&rt, answer, &way.error())?;
+        let answer = linked.write(&mut way).map_err(LinkError::Write);
+        is_error(&rt, answer, &way.error())?;
+        let answer = linked.write_told(&mut Counting::new(way));
+        is_error(&rt, answer.map_err(LinkError::Write), &way.error())?;
     }
     Ok(())
 }

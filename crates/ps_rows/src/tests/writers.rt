@@ -10,7 +10,8 @@ pub(crate) enum Full {
     Fails,
 }
 
-/// A writer with room for so many bytes, of which each write takes at most so many.
+/// A writer with room for so many bytes, of which each write takes at most so many. Each flush
+/// fails.
 #[derive(Drop)]
 pub(crate) struct Room {
     bytes: Vec<u8>,
@@ -19,6 +20,7 @@ pub(crate) struct Room {
     full: Full,
     writes: u64,
     failures: u64,
+    flushes: u64,
 }
 
 impl Room {
@@ -36,6 +38,7 @@ impl Room {
             full,
             writes: 0,
             failures: 0,
+            flushes: 0,
         })
     }
 
@@ -52,6 +55,11 @@ impl Room {
     /// How many writes failed.
     pub(crate) fn failures(&self) -> u64 {
         self.failures
+    }
+
+    /// How many flushes there were, each of which failed.
+    pub(crate) fn flushes(&self) -> u64 {
+        self.flushes
     }
 }
 
@@ -77,6 +85,7 @@ impl Write for Room {
     }
 
     fn flush(&mut self) -> io::Result<()> {
-        Ok(())
+        self.flushes = self.flushes.saturating_add(1);
+        Err(io::Error::from(io::ErrorKind::BrokenPipe))
     }
 }

@@ -4,11 +4,35 @@ use super::link_allocations::Link;
 use super::writers::{Full, Room};
 use crate::base::{base_host, base_library, linked_base_pair};
 use crate::in_place::{linked_unit_in_place, unit_in_place};
+use ps_linkfile::{LinkError, Summary, prepare};
+use std::alloc::Global;
 use std::process::Abort;
 use std::test::Fail;
 
-/// Links into a writer with room for so many bytes, of which a write takes at most so many. Checks the answer, that the prefix of
-/// the linked file was taken for which there is room, and how many writes there were and how many of them failed.
+/// The two calls that write a linked file.
+#[derive(Clone, Copy, Debug, PartialEq, Eq)]
+enum Call {
+    Link,
+    Write,
+}
+
+impl Call {
+    fn write(self, alloc: Global, link: &Link<'_>, out: &mut Room) -> Result<Summary, LinkError> {
+        match self {
+            Call::Link => ps_linkfile::link(alloc, link.host, link.libraries, out),
+            Call::Write => {
+                let linked = prepare(alloc, link.host, link.libraries)?;
+                Ok(linked.write(out)?)
+            }
+        }
+    }
+}
+
+/// Writes a linked file by each call into a writer with room for so many bytes, of which a write
+/// takes at most so many. Checks the
+/// answer, that the prefix of the file was taken for which there is room, and how many writes there
+/// were, how many of them failed,
+/// and that there was no flush.
 fn writes(
     rt: &(impl Abort + AllocGlobal),
     link: &Link<'_>,
@@ -17,23 +41,29 @@ fn writes(
     counts: (u64, u64),
 ) -> Result<(), Fail> {
     let alloc = rt.alloc();
-    let mut out = Room::new(alloc, room, per_write, full)?;
-    let answered = ps_linkfile::link(alloc, link.host, link.libraries, &mut out);
-    let text = text_of(alloc, answered)?;
-    assert!(rt; text.as_str() == answer, "{room} {per_write}: {text}");
-    let prefix = link.linked.get(..room).unwrap_or(&[]);
-    assert!(rt; out.written() == prefix, "{room} {per_write}");
-    assert!(rt;
-        (out.writes(), out.failures()) == counts,
-        "{room} {per_write}"
-    );
+    for call in [Call::Link, Call::Write] {
+        let mut out = Room::new(alloc, room, per_write, full)?;
+        let answered = call.write(alloc, link, &mut out);
+        let text = text_of(alloc, answered)?;
+        assert!(rt;
+            text.as_str() == answer,
+            "{call:?} {room} {per_write}: {text}"
+        );
+        let prefix = link.linked.get(..room).unwrap_or(&[]);
+        assert!(rt; out.written() == prefix, "{call:?} {room} {per_write}");
+        assert!(rt;
+            (out.writes(), out.failures(), out.flushes()) == (counts.0, counts.1, 0),
+            "{call:?} {room} {per_write}"
+        );
+    }
     Ok(())
 }
 
 /// How many bytes a write takes, and how many writes there are then of the three blocks.
 const WHOLE: [(usize, u64); 4] = [(1, 1536), (511, 6), (513, 3), (usize::MAX, 3)];
 
-/// Links into writers of few bytes a write, into one that stalls and into one that fails; a write that failed is not repeated.
+/// Writes into writers of few bytes a write, into one that stalls and into one that fails; a write
+/// that failed is not repeated.
 fn writes_little(
     rt: &(impl Abort + AllocGlobal),
     link: &Link<'_>,
@@ -53,7 +83,8 @@ fn writes_little(
     writes(rt, link, (512, usize::MAX, Full::Fails), answer, (2, 1))
 }
 
-/// Links into a writer of each room that is too little, which stalls and which fails: there is a write for each block that it takes
+/// Writes into a writer of each room that is too little, which stalls and which fails: there is a
+/// write for each block that it takes
 /// any of, and one for which it has no room.
 fn writes_to_any_room(rt: &(impl Abort + AllocGlobal), link: &Link<'_>) -> Result<(), Fail> {
     for room in 0..1536 {

@@ -1,22 +1,19 @@
-use Rattle.std.proofs.Common.{◌≡◌, ◌<◌, ◌+◌, get_or, ◌==◌, ◌∙◌, true, false, ap, sym, arith, ℕ}
-use Rattle.ps_codefile.specs.Procedures.{procedures, table_of}
+use Rattle.std.proofs.Common.{◌==◌, ◌||◌, ◌+◌, ◌∙◌, ℕ, Bool, None, drop, get_or, ap, sym}
+use Rattle.std.specs.List.{list_any}
 use Rattle.ps_codefile.specs.Places.{passes}
-use Rattle.ps_codefile.proofs.Tables.{any_at, none_more}
+use Rattle.ps_codefile.proofs.Tables.{any_from}
 use Rattle.ps_codefile.proofs.procedures.has_native.Goals as goal
 
 pub returns-then-is_native : goal.returns-then-is_native
 returns-then-is_native c =
-    let code = c.args.code.now in
-    let tables = table_of c.args.order code in
-    let within : c.loop-i.i < procedures code = omega arith in
-    let here : passes (λ (t : ℕ). get_or code t 0 == 0) (tables (c.loop-i.i + 1)) ≡ true =
-    ap (passes (λ (t : ℕ). get_or code t 0 == 0)) (sym c.table_of.ensures.table) ∙ (sym c.is_native.ensures ∙ c.if-is_native.true) in
-    sym (any_at (λ (t : ℕ). get_or code t 0 == 0) tables (procedures code) c.loop-i.i within here)
+    let test = (passes (λ (t : ℕ). get_or c.args.code.now t 0 == 0)) in
+    let step = any_from test c.args.tables.now c.loop-table.table-index None c.loop-table-test.true in
+    let here = sym c.is_native.ensures ∙ c.if-is_native.true in
+    sym (sym c.loop-table.invariant ∙ step ∙ ap (λ (b : Bool). b || list_any test (drop (c.loop-table.table-index + 1) c.args.tables.now)) here)
 
-pub loop-i-preserved : goal.loop-i-preserved
-loop-i-preserved c =
-    let code = c.args.code.now in
-    let tables = table_of c.args.order code in
-    let here : passes (λ (t : ℕ). get_or code t 0 == 0) (tables (c.loop-i.i + 1)) ≡ false =
-    ap (passes (λ (t : ℕ). get_or code t 0 == 0)) (sym c.table_of.ensures.table) ∙ (sym c.is_native.ensures ∙ c.if-is_native.false) in
-    none_more (λ (t : ℕ). get_or code t 0 == 0) tables c.loop-i.i c.loop-i.invariant here
+pub loop-table-preserved : goal.loop-table-preserved
+loop-table-preserved c =
+    let test = (passes (λ (t : ℕ). get_or c.args.code.now t 0 == 0)) in
+    let step = any_from test c.args.tables.now c.loop-table.table-index None c.loop-table-test.true in
+    let here = sym c.is_native.ensures ∙ c.if-is_native.false in
+    sym (ap (λ (b : Bool). b || list_any test (drop (c.loop-table.table-index + 1) c.args.tables.now)) here) ∙ (sym step ∙ c.loop-table.invariant)

@@ -1,19 +1,20 @@
-use Rattle.std.proofs.Common.{◌+◌, ◌||◌, ◌∙◌, Bool, ℕ, Option, ap, sym}
-use Rattle.std.specs.List.{list_any, filter_map, range_with_len}
+use Rattle.std.proofs.Common.{◌+◌, ◌||◌, ◌∙◌, Bool, None, drop, get_or, ap, sym}
+use Rattle.std.specs.List.{list_any}
 use Rattle.std.proofs.Math.Bool.{or_assoc}
-use Rattle.ps_codefile.specs.Procedures.{table_of, is_in_table}
+use Rattle.ps_codefile.specs.Procedures.{is_in_table}
 use Rattle.ps_codefile.specs.Places.{has, passes}
-use Rattle.ps_codefile.proofs.Tables.{any_more}
+use Rattle.ps_codefile.proofs.Tables.{any_from}
 use Rattle.ps_codefile.proofs.procedures.reserve_tables.Goals as goal
 
-pub loop-i-preserved : goal.loop-i-preserved
-loop-i-preserved c = λ q.
-    let tables = table_of c.args.order c.args.code.now in
-    let i = c.loop-i.i in
-    let before = has c.args.places.now.words q in
-    let so_far = list_any (is_in_table q) (filter_map tables (range_with_len 1 i)) in
-    c.reserve.ensures q
-    ∙ (ap (λ (b : Bool). b || passes (is_in_table q) c.table_of.result) (c.loop-i.invariant q)
-    ∙ (ap (λ (t : Option ℕ). (before || so_far) || passes (is_in_table q) t) c.table_of.ensures.table
-    ∙ (or_assoc before so_far (passes (is_in_table q) (tables (i + 1)))
-    ∙ ap (λ (b : Bool). before || b) (sym (any_more (is_in_table q) tables i)))))
+pub loop-table-preserved : goal.loop-table-preserved
+loop-table-preserved c = λ q.
+    let test = passes (is_in_table q) in
+    let tables = c.args.tables.now in
+    let i = c.loop-table.table-index in
+    let before = has c.loop-table.places q in
+    let here = test (get_or tables i None) in
+    let rest = list_any test (drop (i + 1) tables) in
+    ap (λ (b : Bool). b || rest) (c.reserve.ensures q)
+    ∙ (or_assoc before here rest
+    ∙ (ap (λ (b : Bool). before || b) (sym (any_from test tables i None c.loop-table-test.true))
+    ∙ c.loop-table.invariant q))

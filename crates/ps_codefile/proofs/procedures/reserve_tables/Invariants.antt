@@ -1,9 +1,9 @@
-use Rattle.std.proofs.Common.{◌≡◌, ◌||◌, ℕ}
-use Rattle.std.specs.List.{list_any, filter_map, range_with_len}
-use Rattle.ps_codefile.specs.Procedures.{table_of, is_in_table}
-use Rattle.ps_codefile.specs.Places.{has}
+use Rattle.std.proofs.Common.{◌≡◌, ◌||◌, ℕ, drop}
+use Rattle.std.specs.List.{list_any}
+use Rattle.ps_codefile.specs.Procedures.{is_in_table}
+use Rattle.ps_codefile.specs.Places.{has, passes}
 use Rattle.ps_codefile.proofs.procedures.reserve_tables.Given as goal
 
--- the ten bytes of the tables so far were added
-abbrev pub invariant-loop-i : goal.invariant-loop-i
-invariant-loop-i l = (q : ℕ) → has l.places.words q ≡ (has l.initial.places.words q || list_any (is_in_table q) (filter_map (table_of l.order l.code) (range_with_len 1 l.i)))
+-- the places so far and those of the tables that are left are all
+abbrev pub invariant-loop-table : goal.invariant-loop-table
+invariant-loop-table l = (q : ℕ) → (has l.places q || list_any (passes (is_in_table q)) (drop l.table-index l.tables)) ≡ (has l.initial.places q || list_any (passes (is_in_table q)) l.tables)

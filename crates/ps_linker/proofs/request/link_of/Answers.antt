@@ -5,7 +5,8 @@ use Rattle.clap.specs.Words.{Text, found_of, rows_of}
 use Rattle.ps_linker.specs.Requests.{is_library}
 use Rattle.ps_linker.proofs.request.link_of.Goals as goal
 
--- a path is among the paths that were read from the args just where it is among those args
+-- a path is among the paths that were read from the arguments just where it is among those
+-- arguments
 among : (out : Text) (paths : List (Bor Text)) → list_any (λ path. bytes_eq path.now out) paths ≡ is_library out (map (λ path. path.now) paths)
 among out [] = refl
 among out (path ∷ paths) = ap (λ t. bytes_eq path.now out || t) (among out paths)

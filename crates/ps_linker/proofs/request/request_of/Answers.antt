@@ -47,3 +47,17 @@ returns-in-Some-show-default-clause-refused g c =
     let named : Some (codes "show") ≡ _ = ap Some (sym met.is-show) ∙ met.ensures.name in
     let is : subcommand_rows_of c.args.matches.now ≡ Some (codes "show", rows_of (found_of met.found.now)) = both _ _ _ _ _ named met.ensures.rows in
     IfErr-weaker c.show_of.result _ _ (λ e leaves other. inl (subst LeavesOut (sym is) (leaves other))) c.show_of.ensures.refused
+
+pub returns-in-Some-check-default-clause-named : goal.returns-in-Some-check-default-clause-named
+returns-in-Some-check-default-clause-named g c =
+    let met = c.in-Some-check-default in
+    let named : Some (codes "check") ≡ _ = ap Some (sym met.is-check) ∙ met.ensures.name in
+    let is : subcommand_rows_of c.args.matches.now ≡ Some (codes "check", rows_of (found_of met.found.now)) = both _ _ _ _ _ named met.ensures.rows in
+    IfOk-weaker c.check_of.result _ _ (λ r names. subst (IsNamedCommand r) (sym is) names) c.check_of.ensures.named
+
+pub returns-in-Some-check-default-clause-refused : goal.returns-in-Some-check-default-clause-refused
+returns-in-Some-check-default-clause-refused g c =
+    let met = c.in-Some-check-default in
+    let named : Some (codes "check") ≡ _ = ap Some (sym met.is-check) ∙ met.ensures.name in
+    let is : subcommand_rows_of c.args.matches.now ≡ Some (codes "check", rows_of (found_of met.found.now)) = both _ _ _ _ _ named met.ensures.rows in
+    IfErr-weaker c.check_of.result _ _ (λ e leaves other. inl (subst LeavesOut (sym is) (leaves other))) c.check_of.ensures.refused

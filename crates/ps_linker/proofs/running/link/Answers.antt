@@ -2,8 +2,8 @@ use Rattle.std.proofs.Common.{◌≡◌, ◌∙◌, List, ℕ, ap, map, rules, s
 use Rattle.std.proofs.lemmas.Result.{on_ok_weaker}
 use Rattle.std.specs.Io.KnownBytes.{Appends}
 use Rattle.ps_linkfile.specs.LinkedFile.{summary_of}
-use Rattle.ps_linkfile.specs.Writing.{file_of}
-use Rattle.ps_linker.specs.Lines.{summary_line}
+use Rattle.ps_linkfile.specs.Writing.{file_in}
+use Rattle.ps_linker.specs.SummaryLine.{summary_line}
 use Rattle.std.specs.List.{AllZip}
 use Rattle.ps_linker.specs.Reading.{Reads}
 use Rattle.ps_linker.proofs.running.link.Goals as goal
@@ -24,7 +24,7 @@ returns-clause-ok g c =
     on_ok_weaker c.print.result (λ printed. (
       host,
       libs,
-      file_of c.in_ok-linked.linked,
+      file_in c.in_ok-linked.linked,
       host_read,
       libs_read,
       stands.file,

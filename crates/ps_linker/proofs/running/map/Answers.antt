@@ -1,6 +1,6 @@
 use Rattle.std.proofs.Common.{◌≡◌, ◌∙◌, List, ℕ, ap, map, subst, sym}
 use Rattle.std.specs.Io.KnownBytes.{Appends}
-use Rattle.ps_linkfile.specs.Writing.{file_of}
+use Rattle.ps_linkfile.specs.Writing.{file_in}
 use Rattle.std.specs.List.{AllZip}
 use Rattle.ps_linker.specs.Reading.{Reads}
 use Rattle.ps_linker.proofs.running.map.Goals as goal
@@ -17,7 +17,7 @@ returns-clause-ok g c =
     let host_read : Read path host = subst (λ (bytes : List ℕ). Read path bytes) (sym c.as_slice-2.ensures.value) c.in_ok-host.ensures.host in (
       host,
       libs,
-      file_of c.in_ok-linked.linked,
+      file_in c.in_ok-linked.linked,
       host_read,
       libs_read,
       c.in_ok-linked.ensures.linked.file,

@@ -1,33 +1,14 @@
-use Rattle.std.proofs.Common.{◌≤◌, ◌+◌, ◌∙◌, List, ℕ, length, map, sym, subst, ap}
-use Rattle.ps_linkfile.specs.LinkedFile.{Extent, LinkedFile, all_blocks}
-use Rattle.ps_linkfile.specs.Writing.{starts_of}
+use Rattle.std.proofs.Common.{◌≤◌, List, ℕ, length, map, sym, subst}
+use Rattle.ps_linkfile.specs.LinkedFile.{LinkedFile}
 use Rattle.ps_linkfile.proofs.Plans.{plan_ready, plan_file, plan_summary}
 use Rattle.ps_linkfile.proofs.Maps.{plan_map}
-use Rattle.ps_linkfile.proofs.Views.{seen, seen_ascend, seen_small}
 use Rattle.ps_linkfile.proofs.Whole.{there, long_host}
 use Rattle.ps_linkfile.proofs.linked.prepare.Goals as goal
-
-pub lay_out-layout-requires-clause-slots : goal.lay_out-layout-requires-clause-slots
-lay_out-layout-requires-clause-slots g c =
-    let plan = c.in_ok-plan.ensures.plan in
-    let ready = plan_ready _ _ c.in_ok-plan.plan plan (subst (λ (bytes : List ℕ). 512 ≤ length bytes) (sym plan.of_host) (long_host _ _ c.in_ok-plan.ensures.sound)) in
-    seen_ascend c.sources.result.now _ c.sources.ensures.origins ready.slots
-
-pub lay_out-layout-requires-clause-sizes : goal.lay_out-layout-requires-clause-sizes
-lay_out-layout-requires-clause-sizes g c =
-    let plan = c.in_ok-plan.ensures.plan in
-    let ready = plan_ready _ _ c.in_ok-plan.plan plan (subst (λ (bytes : List ℕ). 512 ≤ length bytes) (sym plan.of_host) (long_host _ _ c.in_ok-plan.ensures.sound)) in
-    seen_small c.sources.result.now _ c.sources.ensures.origins ready.sizes
 
 pub invariant_of-result : goal.invariant_of-result
 invariant_of-result g c =
     let plan = c.in_ok-plan.ensures.plan in
-    let same = sym (seen c.sources.result.now _ c.sources.ensures.origins) in
-    record {
-      ready = plan_ready _ _ c.in_ok-plan.plan plan (subst (λ (bytes : List ℕ). 512 ≤ length bytes) (sym plan.of_host) (long_host _ _ c.in_ok-plan.ensures.sound));
-      begins = c.lay_out-layout.ensures.starts ∙ ap starts_of same;
-      count = c.lay_out-layout.ensures.blocks ∙ ap (λ (cs : List Extent). 1 + all_blocks cs) same;
-    }
+    plan_ready _ _ c.in_ok-plan.plan plan (subst (λ (bytes : List ℕ). 512 ≤ length bytes) (sym plan.of_host) (long_host _ _ c.in_ok-plan.ensures.sound))
 
 pub returns-clause-linked : goal.returns-clause-linked
 returns-clause-linked g c =

@@ -1,9 +1,9 @@
-use Rattle.std.proofs.Common.{◌*◌, drop}
+use Rattle.std.proofs.Common.{drop}
 use Rattle.std.specs.List.{flat_map}
 use Rattle.ps_linkfile.specs.MapText.{definition_line}
 use Rattle.ps_linkfile.proofs.Written.{Written}
 use Rattle.ps_linkfile.proofs.map.add_definitions.Given as goal
 
 -- the lines of the definitions that are left are still to be written
-abbrev pub invariant-loop-index : goal.invariant-loop-index
-invariant-loop-index g l = Written g.W.Write.write_str_gives l.fn.text (flat_map definition_line l.definitions) (flat_map definition_line (drop (64 * l.index) l.definitions)) l.text
+abbrev pub invariant-loop-i : goal.invariant-loop-i
+invariant-loop-i g l = Written g.W.Write.write_str_gives l.fn.text (flat_map definition_line l.definitions) (flat_map definition_line (drop l.i l.definitions)) l.text

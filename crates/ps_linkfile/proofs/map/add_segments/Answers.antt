@@ -3,7 +3,7 @@ use Rattle.std.specs.List.{flat_map}
 use Rattle.std.proofs.lemmas.List.{length-map}
 use Rattle.ps_resolve.specs.Plans.{Origin, origin_of_source}
 use Rattle.ps_linkfile.specs.MapText.{code_line, source_line}
-use Rattle.ps_linkfile.specs.Writing.{extents_of, starts_of}
+use Rattle.ps_linkfile.specs.Writing.{extents_in, starts_of}
 use Rattle.ps_linkfile.proofs.Maps.{line_at}
 use Rattle.ps_linkfile.proofs.Views.{many_starts, no_source, seen, seen_ascend, slot_at, source_at}
 use Rattle.ps_linkfile.proofs.Written.{all_written, items_left, items_over, none_yet, some_more}
@@ -32,7 +32,7 @@ loop-k-preserved g c =
     let ss = c.sources-source-items.result.now in
     let k = c.loop-k.k in
     let o = origin_of_source (get_or ss k no_source) in
-    let line_of = source_line plan.names (extents_of plan) in
+    let line_of = source_line plan.names (extents_in plan) in
     let origins = c.sources-source-items.ensures.origins in
     let rest = flat_map line_of (drop (k + 1) plan.origins) in
     let written : List (List ℕ) → List ℕ = λ names. code_line o.slot (get_or names o.slot []) o.file o.index (get_or c.args.starts.now k 0) (length o.code) o.added in
@@ -45,4 +45,4 @@ returns g c plain ok =
     let plan = c.args.plan.now in
     let ss = c.sources-source-items.result.now in
     let long : length plan.origins ≡ length ss = ap (λ (ps : List Origin). length ps) (sym c.sources-source-items.ensures.origins) ∙ length-map ss origin_of_source in
-    all_written _ _ _ c.loop-k.text _ (items_over (source_line plan.names (extents_of plan)) plan.origins c.loop-k.k (omega (arith, long, c.loop-k-test.false))) c.loop-k.invariant plain
+    all_written _ _ _ c.loop-k.text _ (items_over (source_line plan.names (extents_in plan)) plan.origins c.loop-k.k (omega (arith, long, c.loop-k-test.false))) c.loop-k.invariant plain

@@ -1,11 +1,11 @@
 use Rattle.std.proofs.Common.{drop}
 use Rattle.std.specs.List.{flat_map}
 use Rattle.ps_linkfile.specs.MapText.{source_line}
-use Rattle.ps_linkfile.specs.Writing.{extents_of}
+use Rattle.ps_linkfile.specs.Writing.{extents_in}
 use Rattle.ps_linkfile.proofs.Written.{Written}
 use Rattle.ps_linkfile.proofs.map.add_segments.Given as goal
 
 -- the lines of the sources that are left are still to be written
 abbrev pub invariant-loop-k : goal.invariant-loop-k
 invariant-loop-k g l =
-    Written g.W.Write.write_str_gives l.fn.text (flat_map (source_line l.plan.names (extents_of l.plan)) l.plan.origins) (flat_map (source_line l.plan.names (extents_of l.plan)) (drop l.k l.plan.origins)) l.text
+    Written g.W.Write.write_str_gives l.fn.text (flat_map (source_line l.plan.names (extents_in l.plan)) l.plan.origins) (flat_map (source_line l.plan.names (extents_in l.plan)) (drop l.k l.plan.origins)) l.text

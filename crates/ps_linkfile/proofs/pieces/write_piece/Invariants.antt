@@ -4,7 +4,7 @@ use Rattle.std.specs.Str.{IsAscii}
 use Rattle.ps_linkfile.specs.ShowText.{reference}
 use Rattle.ps_linkfile.proofs.pieces.write_piece.Given as goal
 
--- the text of the last references stands at the end of the piece, of six bytes each at most
+-- the text of the last references is at the end of the piece, of six bytes each at most
 abbrev pub invariant-loop-step : goal.invariant-loop-step
 invariant-loop-step l = record {
   begins : 384 ≤ l.start + 6 * l.step;

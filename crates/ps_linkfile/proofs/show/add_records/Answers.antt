@@ -1,7 +1,7 @@
 use Rattle.std.proofs.Common.{◌∙◌, length, ap, arith, rules}
 use Rattle.ps_linkinfo.specs.Records.{reading}
 use Rattle.ps_linkinfo.specs.Walk.{whole_walk}
-use Rattle.ps_linkinfo.specs.Left.{left}
+use Rattle.ps_linkinfo.specs.Left.{items_left}
 use Rattle.ps_linkfile.proofs.Shows.{item_lines, lines_of_reading, record_next, fault_next}
 use Rattle.ps_linkfile.proofs.Written.{none_yet, some_more, all_written}
 use Rattle.ps_linkfile.proofs.show.add_records.Goals as goal
@@ -26,7 +26,7 @@ loop-item-preserved-in-Ok g c =
     record {
       can = tt;
       finite = tt;
-      lines = some_more _ _ _ c.loop-item.text _ _ _ _ (record_next c.args.units.now c.loop-item.rec _ _ (left c.next.new.self) c.in-Ok.entry more c.in-Ok.is) inv.lines (λ plain. c.in_ok-add_record-in-Ok.ensures plain (search rules));
+      lines = some_more _ _ _ c.loop-item.text _ _ _ _ (record_next c.args.units.now c.loop-item.rec _ _ (items_left c.next.new.self) c.in-Ok.entry more c.in-Ok.is) inv.lines (λ plain. c.in_ok-add_record-in-Ok.ensures plain (search rules));
       few = omega (arith, inv.few, ap length more);
     }
 
@@ -37,7 +37,7 @@ loop-item-preserved g c =
     record {
       can = tt;
       finite = tt;
-      lines = some_more _ _ _ c.loop-item.text _ _ _ _ (fault_next c.args.units.now c.loop-item.rec _ _ (left c.next.new.self) c.in-Err.reason more c.in-Err.is) inv.lines (λ plain. c.in_ok-add_record_fault-in-Err.ensures plain (search rules));
+      lines = some_more _ _ _ c.loop-item.text _ _ _ _ (fault_next c.args.units.now c.loop-item.rec _ _ (items_left c.next.new.self) c.in-Err.reason more c.in-Err.is) inv.lines (λ plain. c.in_ok-add_record_fault-in-Err.ensures plain (search rules));
       few = omega (arith, inv.few, ap length more);
     }
 

@@ -1,6 +1,6 @@
 use Rattle.std.proofs.Common.{◌≤◌, ◌+◌, ◌/◌, length}
 use Rattle.ps_linkinfo.specs.Records.{reading}
-use Rattle.ps_linkinfo.specs.Left.{left}
+use Rattle.ps_linkinfo.specs.Left.{items_left}
 use Rattle.ps_linkfile.specs.ShowText.{record_lines}
 use Rattle.ps_linkfile.proofs.Shows.{item_lines}
 use Rattle.ps_linkfile.proofs.Written.{Written}
@@ -11,6 +11,6 @@ abbrev pub invariant-loop-item : goal.invariant-loop-item
 invariant-loop-item g l = record {
   can : (goal.iterator-loop-item g).can_next l.item-iterator;
   finite : (goal.iterator-loop-item g).is_finite l.item-iterator;
-  lines : Written g.W.Write.write_str_gives l.fn.text (record_lines l.units (reading l.fn.order l.information)) (item_lines l.units l.rec (left l.item-iterator)) l.text;
-  few : l.rec + length (left l.item-iterator) ≤ length l.information / 16 + 1;
+  lines : Written g.W.Write.write_str_gives l.fn.text (record_lines l.units (reading l.fn.order l.information)) (item_lines l.units l.rec (items_left l.item-iterator)) l.text;
+  few : l.rec + length (items_left l.item-iterator) ≤ length l.information / 16 + 1;
 }

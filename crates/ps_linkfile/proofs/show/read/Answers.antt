@@ -22,4 +22,4 @@ pub returns-in-Err-read_beside-clause-fault : goal.returns-in-Err-read_beside-cl
 returns-in-Err-read_beside-clause-fault c =
     let file = c.args.file.now in
     beside_fault (ltb (length file) 512) (file_order file) file _ c.in-Err-read_beside.reason (sym c.read.ensures ∙ c.in-Err.is) (sym c.read_beside.ensures ∙ c.in-Err-read_beside.is)
-    ∙ ap (λ (f : Fault). Some f) (sym c.refused.ensures)
+    ∙ ap (λ (f : Fault). Some f) (sym c.file_fault.ensures)

@@ -12,6 +12,6 @@ loop-at-preserved g c =
     record {
       within = omega (arith, c.in-Ok.ensures.bound, left);
       written = appends_more _ _ _ at c.in-Ok.taken bytes c.loop-at.invariant.written c.in-Ok.ensures.bytes;
-      counts = subst (λ (new : Counts). Progress (g.T.Tally.counts c.args.tally.now c.args.out.now) new (length bytes) (at + c.in-Ok.taken)) (sym c.in-Ok.ensures.counts)
+      counts = subst (λ (new : Counts). Progress (g.T.WriteCounter.counts c.args.counter.now c.args.out.now) new (length bytes) (at + c.in-Ok.taken)) (sym c.in-Ok.ensures.counts)
           (progress _ _ (length bytes) at c.in-Ok.taken _ c.loop-at.invariant.counts c.loop-at-test.true left c.in-Ok.ensures.bound c.in-Ok.taken-test.1);
     }

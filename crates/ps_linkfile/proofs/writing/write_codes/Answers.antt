@@ -5,18 +5,18 @@ use Rattle.std.specs.Io.KnownBytes.{Appends}
 use Rattle.ps_words.specs.Words.{blocks}
 use Rattle.ps_words.specs.declared.order.Order.{Order}
 use Rattle.ps_resolve.specs.Plans.{Origin, origin_of_source}
-use Rattle.ps_linkfile.specs.LinkedFile.{padded}
+use Rattle.ps_linkfile.specs.LinkedFile.{padded_code}
 use Rattle.ps_linkfile.specs.Outcomes.{AppendsPrefix}
 use Rattle.ps_linkfile.proofs.Prefixes.{appends_none, on_err_always}
 use Rattle.ps_linkfile.proofs.Codes.{edits_here, codes_more, codes_prefix}
-use Rattle.ps_linkfile.proofs.Views.{no_source, is_at, seen_small, size_at}
+use Rattle.ps_linkfile.proofs.Views.{no_source, is_at}
 use Rattle.ps_linkfile.proofs.Rising.{blocks_done, blocks_more, blocks_none, blocks_room, blocks_stop, one_after}
 use Rattle.ps_linkfile.proofs.writing.write_codes.Goals as goal
 
 pub loop-k-init : goal.loop-k-init
 loop-k-init g c = record {
   codes = ([], record { left = c.requires.edits; joined = refl; written = appends_none (g.W.Write.contents c.args.out.now) });
-  counts = (0, blocks_none c.args.plan.now.origins (g.T.Tally.counts c.args.tally.now c.args.out.now));
+  counts = (0, blocks_none c.args.plan.now.origins (g.T.WriteCounter.counts c.args.counter.now c.args.out.now));
 }
 
 pub write_code-requires-clause-edits : goal.write_code-requires-clause-edits
@@ -27,11 +27,6 @@ write_code-requires-clause-edits g c =
     let at = is_at ss c.args.plan.now.origins c.args.plan.now.edits k c.edits.result.now c.sources-source-items.ensures.origins c.loop-k-test.true c.edits.ensures in
     (edits_here c.args.plan.now.origins c.args.plan.now.edits k o c.edits.result.now at c.loop-k.invariant.codes.1.left).0
 
-pub write_code-requires-clause-small : goal.write_code-requires-clause-small
-write_code-requires-clause-small g c =
-    let ss = c.sources-source-items.result.now in
-    size_at ss c.loop-k.k (seen_small ss c.args.plan.now.origins c.sources-source-items.ensures.origins c.requires.sizes) c.loop-k-test.true
-
 pub returns-in_err-write_code-clause-prefix : goal.returns-in_err-write_code-clause-prefix
 returns-in_err-write_code-clause-prefix g c =
     let ss = c.sources-source-items.result.now in
@@ -40,7 +35,7 @@ returns-in_err-write_code-clause-prefix g c =
     let at = is_at ss c.args.plan.now.origins c.args.plan.now.edits k c.edits.result.now c.sources-source-items.ensures.origins c.loop-k-test.true c.edits.ensures in
     on_err_always c.from_residual.result
     (codes_prefix c.args.plan.now.order c.args.plan.now.origins c.args.plan.now.edits k _ _ _ c.loop-k.invariant.codes.0 o c.edits.result.now at c.loop-k.invariant.codes.1
-    (subst (λ (order : Order). AppendsPrefix (g.W.Write.contents c.loop-k.out) (g.W.Write.contents c.write_code.new.out) (padded order o.code c.edits.result.now)) c.order.ensures c.in_err-write_code.ensures.prefix))
+    (subst (λ (order : Order). AppendsPrefix (g.W.Write.contents c.loop-k.out) (g.W.Write.contents c.write_code.new.out) (padded_code order o.code c.edits.result.now)) c.order.ensures c.in_err-write_code.ensures.prefix))
 
 pub write_code-requires-clause-room : goal.write_code-requires-clause-room
 write_code-requires-clause-room g c =
@@ -78,8 +73,8 @@ loop-k-preserved g c =
     let (prefix, codes) = c.loop-k.invariant.codes in
     let (n, counts) = c.loop-k.invariant.counts in
     let at = is_at ss os c.args.plan.now.edits k c.edits.result.now c.sources-source-items.ensures.origins c.loop-k-test.true c.edits.ensures in
-    let appended = subst (λ (order : Order). Appends (g.W.Write.contents c.loop-k.out) (g.W.Write.contents c.write_code.new.out) (padded order o.code c.edits.result.now)) c.order.ensures c.in_ok-write_code.ensures.all in
+    let appended = subst (λ (order : Order). Appends (g.W.Write.contents c.loop-k.out) (g.W.Write.contents c.write_code.new.out) (padded_code order o.code c.edits.result.now)) c.order.ensures c.in_ok-write_code.ensures.all in
     record {
-      codes = (prefix ++ padded order o.code c.edits.result.now, codes_more order os c.args.plan.now.edits k _ _ _ prefix o c.edits.result.now at codes appended);
+      codes = (prefix ++ padded_code order o.code c.edits.result.now, codes_more order os c.args.plan.now.edits k _ _ _ prefix o c.edits.result.now at codes appended);
       counts = (n + blocks (length o.code), blocks_more os k n o _ _ _ at.origin counts c.write_code.ensures.writes c.in_ok-write_code.ensures.ok);
     }

@@ -12,7 +12,7 @@ part_at code copied zeros from count n k same part long below =
     ∙ (ap (λ (xs : List ℕ). get_or xs k 0) part
     ∙ (get_or-take n (drop from code) k 0 (omega (arith, below, same)) ∙ get_or-drop from code k 0))
 
--- a place behind it
+-- a place after it
 zero_at : (code copied zeros : List ℕ) (from count k : ℕ) → length copied ≡ count → count ≤ k → get_or zeros k 0 ≡ 0 → length code ≤ from + k → get_or (copied ++ drop count zeros) k 0 ≡ get_or code (from + k) 0
 zero_at code copied zeros from count k long behind zero past =
     let here : count + (k - count) ≡ k = omega arith in

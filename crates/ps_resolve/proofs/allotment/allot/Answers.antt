@@ -1,30 +1,25 @@
-use Rattle.std.proofs.Common.{◌≡◌, ◌≤◌, ◌<◌, ◌+◌, ◌++◌, ◌∙◌, [], ◌∷◌, ℕ, List, ap, sym, arith, subst, append-nil}
+use Rattle.std.proofs.Common.{◌≤◌, ◌<◌, ◌+◌, ◌++◌, ◌∙◌, ℕ, List, ap, sym, arith, subst, append-nil}
 use Rattle.std.proofs.lemmas.Result.{err_from_is_err_and}
-use Rattle.ps_linkinfo.specs.Counts.{privates_in}
+use Rattle.ps_linkinfo.specs.RecordCounts.{privates_in}
 use Rattle.std.specs.Option.{option_map}
 use Rattle.ps_words.specs.FaultPlaces.{in_record}
 use Rattle.ps_words.specs.declared.fault.Reason.{Reason}
 use Rattle.ps_resolve.specs.declared.allotment.Private.{Private}
-use Rattle.ps_resolve.proofs.Allots.{Allots, allot_more, allot_on, allots, doubled_fault, is_doubled, no_privates, not_doubled, privates_counted, room_fault}
+use Rattle.ps_resolve.proofs.Allots.{Allots, allot_more, allot_on, allots, duplicate_fault, is_doubled, no_privates, not_doubled, privates_counted, room_fault}
 use Rattle.ps_resolve.proofs.Doubles.{positive}
 use Rattle.ps_resolve.proofs.Numbers.{one, none}
 use Rattle.ps_resolve.proofs.allotment.allot.Goals as goal
 
-pub returns-then-privates-eq0-clause-privates : goal.returns-then-privates-eq0-clause-privates
-returns-then-privates-eq0-clause-privates g c =
-    let ps = c.args.privates.now.items in
+pub returns-then-privates-eq0 : goal.returns-then-privates-eq0
+returns-then-privates-eq0 g c =
+    let before = c.args.privates.now.items in
     let no = no_privates c.args.slot c.args.next c.args.records.now (sym c.privates.ensures ∙ c.if-privates-eq0.true) in
-    sym (append-nil ps) ∙ ap (λ (qs : List Private). ps ++ qs) (sym no.privates)
-
-pub returns-then-privates-eq0-clause-end : goal.returns-then-privates-eq0-clause-end
-returns-then-privates-eq0-clause-end g c =
-    let no = no_privates c.args.slot c.args.next c.args.records.now (sym c.privates.ensures ∙ c.if-privates-eq0.true) in
-    omega (arith, no.words)
-
-pub returns-then-privates-eq0-clause-once : goal.returns-then-privates-eq0-clause-once
-returns-then-privates-eq0-clause-once g c =
-    let no = no_privates c.args.slot c.args.next c.args.records.now (sym c.privates.ensures ∙ c.if-privates-eq0.true) in
-    no.first
+    record {
+      privates = sym (append-nil before) ∙ ap (λ (ps : List Private). before ++ ps) (sym no.privates);
+      end = omega (arith, no.words);
+      once = no.first;
+      stop = tt;
+    }
 
 pub returns-in_err-doubled-clause-stop : goal.returns-in_err-doubled-clause-stop
 returns-in_err-doubled-clause-stop g c =
@@ -60,7 +55,7 @@ returns-then-eq-clause-stop g c =
     let step = one (Allots c.args.slot c.args.next d before rs ps l.free) l.rec-iterator c.next.new.self rec r l.invariant c.in-Some.ensures.steps in
     let n = c.in-Some-words_of_private.words in
     let some = sym c.words_of_private.ensures ∙ c.in-Some-words_of_private.is in
-    rw c.refused.ensures (ap (option_map (λ (f : ℕ × Reason). in_record c.args.file c.args.slot f.0 f.1)) (doubled_fault c.args.slot c.args.next d before rs ps l.free rec r step.0 found step.2 n some (is_doubled d rec (sym c.eq.ensures ∙ c.if-eq.true))))
+    rw c.stop_for.ensures (ap (option_map (λ (f : ℕ × Reason). in_record c.args.file c.args.slot f.0 f.1)) (duplicate_fault c.args.slot c.args.next d before rs ps l.free rec r step.0 found step.2 n some (is_doubled d rec (sym c.eq.ensures ∙ c.if-eq.true))))
 
 pub returns-then-free-words-gt-MAX_NEXT_FREE-clause-stop : goal.returns-then-free-words-gt-MAX_NEXT_FREE-clause-stop
 returns-then-free-words-gt-MAX_NEXT_FREE-clause-stop g c =
@@ -76,14 +71,7 @@ returns-then-free-words-gt-MAX_NEXT_FREE-clause-stop g c =
     let n = c.in-Some-words_of_private.words in
     let some = sym c.words_of_private.ensures ∙ c.in-Some-words_of_private.is in
     let far = room_fault c.args.slot c.args.next d before rs ps l.free rec r step.0 found step.2 n some (not_doubled d rec (sym c.eq.ensures ∙ c.if-eq.false)) (omega (arith, c.if-free-words-gt-MAX_NEXT_FREE.true)) in
-    rw c.refused-then-free-words-gt-MAX_NEXT_FREE.ensures (ap (option_map (λ (f : ℕ × Reason). in_record c.args.file c.args.slot f.0 f.1)) far)
-
-pub returns-in_err-narrow-clause-stop : goal.returns-in_err-narrow-clause-stop
-returns-in_err-narrow-clause-stop g c =
-    let p = err_from_is_err_and c.from_residual-in_err-narrow.result c.from_residual-in_err-narrow.ensures.1 in
-    let rs = c.args.records.now in
-    let some = positive (privates_in rs) (λ e. c.if-privates-eq0.false (c.privates.ensures ∙ e)) in
-    rw (p.1, p.2) (rw c.in_err-narrow.ensures.stop (subst (λ (n : ℕ). 0 < n) (sym (privates_counted c.args.slot 0 c.args.next rs)) some))
+    rw c.stop_for-then-free-words-gt-MAX_NEXT_FREE.ensures (ap (option_map (λ (f : ℕ × Reason). in_record c.args.file c.args.slot f.0 f.1)) far)
 
 pub returns-in_err-push-clause-stop : goal.returns-in_err-push-clause-stop
 returns-in_err-push-clause-stop g c =
@@ -106,11 +94,9 @@ loop-rec-preserved-in-Some-words_of_private g c =
     let n = c.in-Some-words_of_private.words in
     let some = sym c.words_of_private.ensures ∙ c.in-Some-words_of_private.is in
     let rest = step.0 in
-    let made : ℕ → Private = λ k. record { rec = k; offset = l.free; words = n; name = r.name; slot = c.args.slot } in
-    let pushed : c.push.new.self.items ≡ ps ++ made rec ∷ [] = c.in_ok-push.ensures.items ∙ ap (λ (k : ℕ). ps ++ made k ∷ []) c.in_ok-narrow.ensures.value in
     let fits : l.free + n ≤ 32767 = omega (arith, c.if-free-words-gt-MAX_NEXT_FREE.false) in
     let more = allot_more c.args.slot c.args.next d before rs ps l.free rec r step.0 found step.2 n some (not_doubled d rec (sym c.eq.ensures ∙ c.if-eq.false)) fits in
-    (rec + 1, rest, step.1, subst (λ (qs : List Private). Allots c.args.slot c.args.next d before rs qs (l.free + n) (rec + 1) rest) (sym pushed) more)
+    (rec + 1, rest, step.1, subst (λ (qs : List Private). Allots c.args.slot c.args.next d before rs qs (l.free + n) (rec + 1) rest) (sym c.in_ok-push.ensures.items) more)
 
 pub loop-rec-preserved : goal.loop-rec-preserved
 loop-rec-preserved g c =
@@ -125,20 +111,13 @@ loop-rec-preserved g c =
     let step = one (Allots c.args.slot c.args.next d before rs ps l.free) l.rec-iterator c.next.new.self rec r l.invariant c.in-Some.ensures.steps in
     (rec + 1, step.0, step.1, allot_on c.args.slot c.args.next d before rs ps l.free rec r step.0 found step.2 (sym c.words_of_private.ensures ∙ c.in_default.is))
 
-pub returns-clause-privates : goal.returns-clause-privates
-returns-clause-privates g c =
+pub returns : goal.returns
+returns g c =
     let l = c.loop-rec in
     let end = none (Allots c.args.slot c.args.next c.in_ok-doubled.doubled c.args.privates.now.items c.args.records.now l.privates.items l.free) l.rec-iterator l.invariant c.in-None.ensures.steps.0 in
-    sym (append-nil l.privates.items) ∙ end.1.privates
-
-pub returns-clause-end : goal.returns-clause-end
-returns-clause-end g c =
-    let l = c.loop-rec in
-    let end = none (Allots c.args.slot c.args.next c.in_ok-doubled.doubled c.args.privates.now.items c.args.records.now l.privates.items l.free) l.rec-iterator l.invariant c.in-None.ensures.steps.0 in
-    omega (arith, end.1.words)
-
-pub returns-clause-once : goal.returns-clause-once
-returns-clause-once g c =
-    let l = c.loop-rec in
-    let end = none (Allots c.args.slot c.args.next c.in_ok-doubled.doubled c.args.privates.now.items c.args.records.now l.privates.items l.free) l.rec-iterator l.invariant c.in-None.ensures.steps.0 in
-    sym end.1.first
+    record {
+      privates = sym (append-nil l.privates.items) ∙ end.1.privates;
+      end = omega (arith, end.1.words);
+      once = sym end.1.first;
+      stop = tt;
+    }

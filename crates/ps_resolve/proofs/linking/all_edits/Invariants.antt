@@ -10,16 +10,17 @@ use Rattle.ps_resolve.specs.Views.{segment_of}
 use Rattle.ps_codefile.specs.Roles.{is_host}
 use Rattle.ps_resolve.proofs.linking.all_edits.Given as goal
 
--- the edits so far and those of the segments that are left link all; so it is with words, and with the first fault
+-- the edits so far and those of the segments that are left link all; so it is with words, and with
+-- the first fault
 abbrev pub invariant-loop-index : goal.invariant-loop-index
 invariant-loop-index g l =
     let all = map segment_of l.segments in
     let rest = map segment_of (drop l.index l.segments) in
     record {
       words : l.free + all_words (map owner_of rest) ≡ l.base + all_words (map owner_of all);
-      first : references_fault_from l.fn.order l.fn.names l.free rest ≡ references_fault_from l.fn.order l.fn.names l.base all;
-      links : (words : ℕ) → All (λ s. is_host s.role ≡ true → data_edits l.fn.order words s.code ≡ l.size ∷ []) all
-          → (behind : List (List Edit)) → LinkSegments l.fn.order (edited_from l.fn.order l.fn.names words l.free rest) behind
-          → LinkSegments l.fn.order (edited_from l.fn.order l.fn.names words l.base all) (map (λ e. e.items) l.edits.items ++ behind);
-      named : All (λ s. HaveTargets l.fn.names s.records) (take l.index l.segments);
+      first : references_fault_from l.link.order l.link.names.now l.free rest ≡ references_fault_from l.link.order l.link.names.now l.base all;
+      links : (words : ℕ) → All (λ s. is_host s.role ≡ true → data_edits l.link.order words s.code ≡ l.link.size ∷ []) all
+          → (behind : List (List Edit)) → LinkSegments l.link.order (edited_from l.link.order l.link.names.now words l.free rest) behind
+          → LinkSegments l.link.order (edited_from l.link.order l.link.names.now words l.base all) (map (λ e. e.items) l.edits.items ++ behind);
+      named : All (λ s. HaveTargets l.link.names.now s.records) (take l.index l.segments);
     }

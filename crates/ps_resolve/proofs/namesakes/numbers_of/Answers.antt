@@ -14,7 +14,7 @@ loop-record-preserved-in-Continue-branch-2 g c =
     let n = c.in-Some.field-0-0 in
     let r = c.in-Some.record in
     let step = one (AreNumbers c.args.records.now xs) l.record-iterator c.next.new.self n r l.invariant c.in-Some.ensures.steps in
-    let is = sym c.has.ensures ∙ c.if-has.true in
+    let is = sym c.is_private.ensures ∙ c.if-is_private.true in
     (n + 1, step.0, step.1, rw (c.in_ok-push.ensures.items, c.from_be_bytes.ensures) (sym (more_numbers xs r step.0 is) ∙ step.2))
 
 pub loop-record-preserved : goal.loop-record-preserved
@@ -24,7 +24,7 @@ loop-record-preserved g c =
     let n = c.in-Some.field-0-0 in
     let r = c.in-Some.record in
     let step = one (AreNumbers c.args.records.now xs) l.record-iterator c.next.new.self n r l.invariant c.in-Some.ensures.steps in
-    let no = sym c.has.ensures ∙ c.if-has.false in
+    let no = sym c.is_private.ensures ∙ c.if-is_private.false in
     (n + 1, step.0, step.1, sym (ap (λ (ys : List ℕ). xs ++ ys) (passed r step.0 no)) ∙ step.2)
 
 pub returns-clause-numbers : goal.returns-clause-numbers

@@ -8,7 +8,7 @@ use Rattle.ps_words.specs.declared.fault.Reason.{Reason}
 use Rattle.ps_resolve.specs.Edits.{reason_in, refs_fault_at}
 use Rattle.ps_resolve.specs.Stops.{IsStop}
 use Rattle.ps_resolve.specs.Operands.{edit_of, operands, width_of}
-use Rattle.ps_resolve.specs.Marks.{AreTaken}
+use Rattle.ps_resolve.specs.TakenPlaces.{AreTaken}
 use Rattle.ps_codefile.specs.Procedures.{is_reserved}
 use Rattle.ps_resolve.proofs.Takes.{map_one, operands_one, fault_one, fault_here, taken_more}
 use Rattle.ps_resolve.proofs.references.add_references.Goals as goal
@@ -31,7 +31,7 @@ pub returns-clause-taken : goal.returns-clause-taken
 returns-clause-taken g c = λ os m.
     let refs = c.args.refs.now in
     let past : length refs ≤ c.loop-i.i = omega arith in
-    subst (λ (xs : List ℕ). AreTaken c.args.procedures.now c.loop-i.taken.words (os ++ operands c.args.target xs)) (take_all c.loop-i.i refs past)
+    subst (λ (xs : List ℕ). AreTaken c.args.procedures.now c.loop-i.taken (os ++ operands c.args.target xs)) (take_all c.loop-i.i refs past)
     (c.loop-i.invariant.taken os m)
 
 pub loop-i-preserved : goal.loop-i-preserved
@@ -53,7 +53,7 @@ loop-i-preserved g c =
           ∙ ap (λ (ys : List Edit). old ++ ys) (sym (map_one (edit_of code t) refs i within));
       fault = λ os taken. sym (fault_one (is_reserved tables.order code) code t os refs i within
           (ap (reason_in tables (os ++ operands t (take i refs)) t) (sym x) ∙ sym (c.in-Ok.ensures.reason (os ++ operands t (take i refs)) (inv.taken os taken)))) ∙ inv.fault os taken;
-      taken = λ os taken. subst (AreTaken tables c.mark.new.taken.words) (sym (operands_one t os refs i within))
-          (subst (λ (y : ℕ). AreTaken tables c.mark.new.taken.words ((os ++ operands t (take i refs)) ++ (y, width_of t) ∷ [])) x
-          (taken_more tables c.loop-i.taken.words c.mark.new.taken.words (os ++ operands t (take i refs)) (c.get-x.result, width_of t) (inv.taken os taken) c.mark.ensures));
+      taken = λ os taken. subst (AreTaken tables c.mark.new.taken) (sym (operands_one t os refs i within))
+          (subst (λ (y : ℕ). AreTaken tables c.mark.new.taken ((os ++ operands t (take i refs)) ++ (y, width_of t) ∷ [])) x
+          (taken_more tables c.loop-i.taken c.mark.new.taken (os ++ operands t (take i refs)) (c.get-x.result, width_of t) (inv.taken os taken) c.mark.ensures));
     }

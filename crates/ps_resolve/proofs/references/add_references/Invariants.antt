@@ -1,17 +1,18 @@
 use Rattle.std.proofs.Common.{◌≡◌, ℕ, ◌++◌, List, map, take, drop}
 use Rattle.ps_resolve.specs.Operands.{edit_of, refs_fault, operands}
-use Rattle.ps_resolve.specs.Marks.{AreTaken}
+use Rattle.ps_resolve.specs.TakenPlaces.{AreTaken}
 use Rattle.ps_codefile.specs.Procedures.{is_reserved}
 use Rattle.ps_resolve.proofs.references.add_references.Given as goal
 
--- the edits so far are those of the references so far, whose operands are marked; the first fault of what is left is that of all
+-- the edits so far are those of the references so far, whose operands are marked; the first fault
+-- of what is left is that of all
 abbrev pub invariant-loop-i : goal.invariant-loop-i
 invariant-loop-i g l =
     let code = l.procedures.code in
     let fault_from = refs_fault (is_reserved l.procedures.order code) code l.target in
     record {
       edits : l.edits.items ≡ l.fn.edits.items ++ map (edit_of code l.target) (take l.i l.refs);
-      fault : (os : List (ℕ × ℕ)) → AreTaken l.procedures l.fn.taken.words os
+      fault : (os : List (ℕ × ℕ)) → AreTaken l.procedures l.fn.taken os
           → fault_from l.i (os ++ operands l.target (take l.i l.refs)) (drop l.i l.refs) ≡ fault_from 0 os l.refs;
-      taken : (os : List (ℕ × ℕ)) → AreTaken l.procedures l.fn.taken.words os → AreTaken l.procedures l.taken.words (os ++ operands l.target (take l.i l.refs));
+      taken : (os : List (ℕ × ℕ)) → AreTaken l.procedures l.fn.taken os → AreTaken l.procedures l.taken (os ++ operands l.target (take l.i l.refs));
     }

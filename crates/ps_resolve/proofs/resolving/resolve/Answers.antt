@@ -2,15 +2,13 @@ use Rattle.std.proofs.Common.{◌≡◌, ℕ, List, map, None, sym, ◌∙◌, a
 use Rattle.std.specs.Prelude.{IfOk}
 use Rattle.ps_words.specs.declared.order.Order.{Order}
 use Rattle.ps_resolve.specs.Sources.{Segment, order_of}
-use Rattle.ps_resolve.specs.Added.{segments, slot_names}
+use Rattle.ps_resolve.specs.Added.{segments}
 use Rattle.ps_resolve.specs.Views.{segment_of}
-use Rattle.ps_resolve.specs.declared.reading.segment.Segment.{Segment as SegmentView}
 use Rattle.ps_resolve.specs.Faults.{linking_fault}
 use Rattle.ps_resolve.specs.AllFaults.{first_fault}
 use Rattle.ps_resolve.specs.Plans.{AreStopped, IsPlanOf, IsStopped}
 use Rattle.ps_resolve.proofs.FirstFaults.{if_ok, if_err, first_read, first_linked, stopped}
-use Rattle.ps_resolve.proofs.ReadingLibraries.{files}
-use Rattle.ps_resolve.proofs.Sharing.{placed_alike, placed_tables}
+use Rattle.ps_resolve.specs.Linkable.{AreSegments}
 use Rattle.ps_resolve.proofs.resolving.resolve.Goals as goal
 
 pub returns-in-Err-clause-stop : goal.returns-in-Err-clause-stop
@@ -20,29 +18,18 @@ pub returns-in-Ok : goal.returns-in-Ok
 returns-in-Ok g c =
     let host : List ℕ = c.args.host.now in
     let libs : List (List ℕ) = map (λ lib. lib.now) c.args.libs.now in
-    let order : Order = c.in-Ok.files.order in
-    let given : List Segment = map segment_of c.as_slice.result.now in
+    let order : Order = c.in-Ok.segments.order in
+    let given : List Segment = map segment_of c.in-Ok.segments.items in
     let all : List Segment = segments (order_of host) host libs in
     let order_is : order ≡ order_of host = c.in-Ok.ensures.order in
-    let given_is : given ≡ all = ap (map segment_of) c.as_slice.ensures.value ∙ c.in-Ok.ensures.segments in
+    let given_is : given ≡ all = c.in-Ok.ensures.segments in
     let none = c.in-Ok.ensures.faultless in
     let same : linking_fault order given ≡ linking_fault (order_of host) all = ap (linking_fault order) given_is ∙ ap (λ (o : Order). linking_fault o all) order_is in
     record {
       plan = subst (λ (o : Order). IfOk c.link_segments.result (IsPlanOf o host all)) order_is
-          (subst (λ (segs : List Segment). IfOk c.link_segments.result (IsPlanOf order host segs)) given_is c.link_segments.ensures.plan);
+          (subst (λ (file : List ℕ). IfOk c.link_segments.result (IsPlanOf order file all)) c.in-Ok.ensures.host
+          (subst (λ (segs : List Segment). IfOk c.link_segments.result (IsPlanOf order c.in-Ok.segments.host segs)) given_is c.link_segments.ensures.plan));
       sound = if_ok c.link_segments.result (linking_fault order given ≡ None) (first_fault host libs ≡ None) (λ h. first_linked host libs none ∙ sym same ∙ h) c.link_segments.ensures.sound;
       stop = if_err c.link_segments.result (AreStopped order given) (IsStopped host libs)
           (λ stop d. stopped host libs none stop (subst (λ (o : Order). AreStopped o all stop) order_is (subst (λ (segs : List Segment). AreStopped order segs stop) given_is d))) c.link_segments.ensures.stop;
     }
-
-pub link_segments-requires-clause-names : goal.link_segments-requires-clause-names
-link_segments-requires-clause-names g c =
-    c.in-Ok.ensures.names ∙ ap (λ (ss : List SegmentView). slot_names c.args.host.now (map segment_of ss)) (sym c.as_slice.ensures.value)
-
-pub link_segments-requires-clause-alike : goal.link_segments-requires-clause-alike
-link_segments-requires-clause-alike g c =
-    rw c.as_slice.ensures.value (placed_alike c.in-Ok.files.order c.args.host.now (files c.args.libs.now) c.in-Ok.files.segments.items c.in-Ok.ensures.placed)
-
-pub link_segments-requires-clause-tables : goal.link_segments-requires-clause-tables
-link_segments-requires-clause-tables g c =
-    rw c.as_slice.ensures.value (placed_tables c.in-Ok.files.order c.args.host.now (files c.args.libs.now) c.in-Ok.files.segments.items c.in-Ok.ensures.placed)

@@ -11,18 +11,18 @@ loop-record-init c =
     ∙ all_left c.args.self.now 0 d
     ∙ rw c.new-digest.ensures refl
 
-pub loop-record-preserved-then-names_its_own : goal.loop-record-preserved-then-names_its_own
-loop-record-preserved-then-names_its_own c =
+pub loop-record-preserved-then-declares_name : goal.loop-record-preserved-then-declares_name
+loop-record-preserved-then-declares_name c =
     let s = c.loop-record.digest in
     let r = c.in-Some.record in
-    let here = taken s r (sym c.names_its_own.ensures ∙ c.if-names_its_own.true) in
+    let here = taken s r (sym c.declares_name.ensures ∙ c.if-declares_name.true) in
     rw (c.write.ensures, sym here) (sym (ap (λ (xs : List (ℕ × Record)). with_left s xs) c.in-Some.ensures.steps) ∙ c.loop-record.invariant)
 
 pub loop-record-preserved : goal.loop-record-preserved
 loop-record-preserved c =
     let s = c.loop-record.digest in
     let r = c.in-Some.record in
-    let here = passed s r (sym c.names_its_own.ensures ∙ c.if-names_its_own.false) in
+    let here = passed s r (sym c.declares_name.ensures ∙ c.if-declares_name.false) in
     ap (λ (t : DefaultHasher). with_left t c.next.new.self) (sym here)
     ∙ sym (ap (λ (xs : List (ℕ × Record)). with_left s xs) c.in-Some.ensures.steps) ∙ c.loop-record.invariant
 

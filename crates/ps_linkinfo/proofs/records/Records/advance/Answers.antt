@@ -1,12 +1,17 @@
-use Rattle.std.proofs.Common.{◌∙◌, sym, ap, refl}
-use Rattle.ps_linkinfo.specs.Left.{left}
+use Rattle.std.proofs.Common.{◌∙◌, List, ℕ, drop, sym, ap, refl, subst}
+use Rattle.ps_linkinfo.specs.Records.{BeginsWith, bad}
+use Rattle.ps_linkinfo.specs.Left.{items_left}
 use Rattle.ps_linkinfo.proofs.Steps.{left_end, left_next}
 use Rattle.ps_linkinfo.proofs.records.Records.advance.Goals as goal
 
 pub returns-in-Err-clause-first : goal.returns-in-Err-clause-first
 returns-in-Err-clause-first c =
-    ap left (sym c.self.view_is) ∙ left_end (record { order = c.self.inside.order; bytes = c.self.inside.bytes.now; used = c.self.inside.used; ended = c.self.inside.ended }) c.in-Err.reason c.if-self.false c.in-Err.ensures.bad
+    let w = c.self.inside in
+    let bad_there = ap (bad w.order) (sym c.split_at.ensures.back) ∙ c.in-Err.ensures.bad in
+    ap items_left (sym c.self.view_is) ∙ left_end (record { order = w.order; bytes = w.bytes.now; used = w.used; ended = w.ended }) c.in-Err.reason c.if-self.false bad_there
 
 pub returns-in-Ok-clause-first : goal.returns-in-Ok-clause-first
 returns-in-Ok-clause-first c =
-    ap left (sym c.self.view_is) ∙ left_next (record { order = c.self.inside.order; bytes = c.self.inside.bytes.now; used = c.self.inside.used; ended = c.self.inside.ended }) c.in-Ok.record _ c.if-self.false c.in-Ok.ensures.good c.in-Ok.ensures.ok (rw (c.size.ensures.size, c.is_eof-self-inside.ensures) refl)
+    let w = c.self.inside in
+    let begins : BeginsWith w.order (drop w.used w.bytes.now) c.in-Ok.record = subst (λ (x : List ℕ). BeginsWith w.order x c.in-Ok.record) c.split_at.ensures.back c.in-Ok.ensures.ok in
+    ap items_left (sym c.self.view_is) ∙ left_next (record { order = w.order; bytes = w.bytes.now; used = w.used; ended = w.ended }) c.in-Ok.record _ c.if-self.false begins (rw (c.in-Ok.ensures.size, c.is_eof-self-inside.ensures) refl)

@@ -1,6 +1,6 @@
 use Rattle.std.proofs.Common.{◌∙◌, ◌+◌, ◌∷◌, [], List, take, refl, sym, ap}
 use Rattle.std.proofs.lemmas.List.{take_all}
-use Rattle.ps_resolve.specs.Added.{sought_from, unit_references}
+use Rattle.ps_resolve.specs.Added.{requested_from, unit_references}
 use Rattle.ps_resolve.specs.declared.reading.added.UnitReference.{UnitReference}
 use Rattle.ps_resolve.proofs.Adding.{Seeks, kept_more, few_kept, no_references}
 use Rattle.ps_resolve.proofs.Numbers.{one, none}
@@ -12,7 +12,7 @@ returns-then-units-eq0 c =
     let units = c.args.units.now in
     let row = c.args.row.now.items in
     let seeks = no_references s.file s.slot 0 s.records (sym c.units.ensures ∙ c.if-units-eq0.true) in
-    sym (ap (λ (gs : List UnitReference). take 10 (sought_from units row gs)) seeks ∙ take_all 10 row c.requires)
+    sym (ap (λ (gs : List UnitReference). take 10 (requested_from units row gs)) seeks ∙ take_all 10 row c.requires)
 
 pub loop-rec-init : goal.loop-rec-init
 loop-rec-init c = record {
@@ -30,7 +30,7 @@ loop-rec-preserved c =
     let step = one (Seeks units s.file s.slot s.records c.args.row.now.items old) c.loop-rec.rec-iterator c.next.new.self rec r c.loop-rec.invariant.left c.in-Some.ensures.steps in
     record {
       left = (rec + 1, step.0, step.1, kept_more units old c.seek_record.new.row.items s.file s.slot rec r step.0 c.seek_record.ensures ∙ step.2);
-      few = rw c.seek_record.ensures (few_kept (sought_from units old (unit_references s.file s.slot rec (r ∷ []))));
+      few = rw c.seek_record.ensures (few_kept (requested_from units old (unit_references s.file s.slot rec (r ∷ []))));
     }
 
 pub seek_record-requires : goal.seek_record-requires

@@ -1,6 +1,6 @@
 use Rattle.ps_linkinfo.specs.declared.record.LinkRecord.{LinkRecord as Record}
 use Rattle.std.proofs.Common.{List}
-use Rattle.ps_resolve.specs.Added.{AreHad}
+use Rattle.ps_resolve.specs.Added.{AreAlreadyKnown}
 use Rattle.ps_resolve.proofs.Seeking.{nothing_new}
 use Rattle.ps_resolve.proofs.Sharing.{of_row}
 use Rattle.ps_resolve.proofs.reading.added.seek_unseen.Goals as goal
@@ -12,4 +12,4 @@ returns-then-shares_with c =
     let row = c.args.row.now.items in
     let has = c.shares_with.ensures.row c.if-shares_with.true in
     nothing_new units s.file s.slot row s.records c.requires.few
-    (of_row (λ (rs : List Record). AreHad units row rs) c.args.earlier.now s has.0 (c.shares_with.ensures.linked c.if-shares_with.true) c.requires.alike c.requires.had has.1)
+    (of_row (λ (rs : List Record). AreAlreadyKnown units row rs) c.args.earlier.now s has.0 (c.shares_with.ensures.linked c.if-shares_with.true) c.requires.alike c.requires.had has.1)

@@ -2,7 +2,7 @@ use Rattle.std.proofs.Common.{◌≡◌, ◌∙◌, ◌+◌, ◌++◌, ◌<◌, 
 use Rattle.std.specs.Prelude.{All}
 use Rattle.std.proofs.lemmas.List.Elements.{All-take, All-weaker}
 use Rattle.ps_resolve.specs.Sources.{Segment}
-use Rattle.ps_resolve.specs.Added.{AreHad, sought_from, unit_references, all_unit_references}
+use Rattle.ps_resolve.specs.Added.{AreAlreadyKnown, requested_from, unit_references, all_unit_references}
 use Rattle.ps_resolve.specs.Views.{segment_of, IsLike}
 use Rattle.ps_resolve.specs.declared.reading.added.UnitReference.{UnitReference}
 use Rattle.ps_resolve.specs.declared.reading.segment.Segment.{Segment as SegmentView}
@@ -34,9 +34,9 @@ loop-index-preserved c =
     let split : all ≡ one ++ rest = ap (λ (xs : List SegmentView). all_unit_references (map segment_of xs)) (drop_at own i v lt c.index-own-index.is) in
     record {
       row = kept_segment units c.loop-index.row.items c.seek_unseen.new.row.items one rest all split c.seek_unseen.ensures ∙ c.loop-index.invariant.row;
-      few = rw c.seek_unseen.ensures (few_kept (sought_from units c.loop-index.row.items one));
-      had = all_taken (λ (q : SegmentView). AreHad units c.seek_unseen.new.row.items q.records) i own v lt c.index-own-index.is
-          (All-weaker (λ (q : SegmentView). AreHad units c.loop-index.row.items q.records) (λ (q : SegmentView). AreHad units c.seek_unseen.new.row.items q.records)
+      few = rw c.seek_unseen.ensures (few_kept (requested_from units c.loop-index.row.items one));
+      had = all_taken (λ (q : SegmentView). AreAlreadyKnown units c.seek_unseen.new.row.items q.records) i own v lt c.index-own-index.is
+          (All-weaker (λ (q : SegmentView). AreAlreadyKnown units c.loop-index.row.items q.records) (λ (q : SegmentView). AreAlreadyKnown units c.seek_unseen.new.row.items q.records)
           (λ q h. had_still units c.loop-index.row.items one c.seek_unseen.new.row.items q.records c.seek_unseen.ensures h) (take i own) c.loop-index.invariant.had)
           (had_here units s.file s.slot s.records c.loop-index.row.items c.seek_unseen.new.row.items c.seek_unseen.ensures);
     }

@@ -3,7 +3,7 @@ use Rattle.std.specs.Prelude.{Result, Err}
 use Rattle.ps_words.specs.declared.fault.Fault.{Fault}
 use Rattle.ps_words.specs.declared.fault.Reason.{Reason}
 use Rattle.ps_codefile.specs.Procedures.{ProcedureTables, tables_fault, read_tables, unless}
-use Rattle.ps_codefile.specs.Roles.{is_linked, is_host}
+use Rattle.ps_codefile.specs.Roles.{needs_linking, is_host}
 use Rattle.ps_resolve.proofs.reading.sources.read_contents.Goals as goal
 
 why_of : (fault : Option Reason) (tables : ProcedureTables) (why : Reason) → ◌≡◌ {A = Result ProcedureTables Reason} (Err why) (unless fault tables) → fault ≡ Some why
@@ -14,7 +14,7 @@ pub returns-in-Err-clause-fault : goal.returns-in-Err-clause-fault
 returns-in-Err-clause-fault c =
     let order = c.args.order in
     let code = c.args.code.now in
-    let linked : is_linked c.args.role ≡ true = sym c.is_linked.ensures ∙ c.if-not-is_linked.false in
+    let linked : needs_linking c.args.role ≡ true = sym c.needs_linking.ensures ∙ c.if-not-needs_linking.false in
     let why : tables_fault order code (is_host c.args.role) ≡ Some c.in-Err.reason =
     why_of (tables_fault order code (is_host c.args.role)) (record { order = order; code = code }) c.in-Err.reason (c.in-Err.ensures ∙ ap (λ (b : Bool). read_tables order code b) c.is_host.ensures) in
     rw (linked, why) (ap (λ (f : Fault). Some f) c.in_slot.ensures)

@@ -3,18 +3,18 @@ use Rattle.std.proofs.lemmas.List.Elements.{All-nil}
 use Rattle.std.proofs.lemmas.Result.{err_from_is_err_and}
 use Rattle.ps_resolve.specs.Sources.{own_segment, own_segments}
 use Rattle.ps_resolve.specs.Faults.{source_fault, sources_fault}
-use Rattle.ps_resolve.specs.Views.{segment_of, IsSound, IsPlaced}
+use Rattle.ps_resolve.specs.Views.{segment_of, IsRead}
 use Rattle.ps_resolve.proofs.ReadingLibraries.{files}
 use Rattle.ps_resolve.proofs.ReadingRows.{first_here, first_later}
-use Rattle.ps_resolve.proofs.ReadingSources.{all_more, all_with, kept_on, few_more}
+use Rattle.ps_resolve.proofs.ReadingSources.{all_with, kept_on, few_more}
 use Rattle.ps_resolve.proofs.reading.sources.read_slots.Goals as goal
 
 pub loop-slot-init : goal.loop-slot-init
 unfolding own_segments sources_fault
-loop-slot-init c = rw c.new-segments.ensures (record { first = refl; all = refl; placed = All-nil _; sound = All-nil _; few = omega arith })
+loop-slot-init c = rw c.new-segments.ensures (record { first = refl; all = refl; read = All-nil _; few = omega arith })
 
-pub read_slot-requires-clause-placed : goal.read_slot-requires-clause-placed
-read_slot-requires-clause-placed c = rw c.as_slice.ensures.value c.loop-slot.invariant.placed
+pub read_slot-requires-clause-read : goal.read_slot-requires-clause-read
+read_slot-requires-clause-read c = rw c.as_slice.ensures.value c.loop-slot.invariant.read
 
 pub returns-in_err-segment-clause-fault : goal.returns-in_err-segment-clause-fault
 returns-in_err-segment-clause-fault c =
@@ -33,7 +33,6 @@ loop-slot-preserved c =
     rw c.add.ensures (record {
       first = inv.first ∙ first_later (source_fault host.order host.file libs) i 16 c.loop-slot-test.true (sym c.in_ok-segment.ensures.fault);
       all = inv.all ∙ kept_on segment_of (own_segment host.order host.file libs) old o i 16 c.loop-slot-test.true c.in_ok-segment.ensures.segment;
-      placed = all_with (IsPlaced host.order host.file libs) old o inv.placed c.in_ok-segment.ensures.placed;
-      sound = all_more (IsSound host.order) segment_of old o inv.sound c.in_ok-segment.ensures.sound;
+      read = all_with (IsRead host.order host.file libs) old o inv.read c.in_ok-segment.ensures.read;
       few = few_more old o i inv.few;
     })

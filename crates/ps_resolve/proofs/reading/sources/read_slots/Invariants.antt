@@ -4,7 +4,7 @@ use Rattle.std.specs.List.{filter_map, range_with_len}
 use Rattle.ps_resolve.specs.Searches.{first_of}
 use Rattle.ps_resolve.specs.Sources.{own_segment, own_segments}
 use Rattle.ps_resolve.specs.Faults.{source_fault, sources_fault}
-use Rattle.ps_resolve.specs.Views.{segment_of, IsSound, IsPlaced}
+use Rattle.ps_resolve.specs.Views.{segment_of, IsRead}
 use Rattle.ps_resolve.proofs.ReadingLibraries.{files}
 use Rattle.ps_resolve.proofs.reading.sources.read_slots.Given as goal
 
@@ -16,7 +16,6 @@ invariant-loop-slot l =
     record {
       first : sources_fault order host (files l.libs) ≡ first_of (source_fault order host (files l.libs)) (range_with_len l.slot (16 - l.slot));
       all : own_segments order host (files l.libs) ≡ map segment_of l.segments.items ++ filter_map (own_segment order host (files l.libs)) (range_with_len l.slot (16 - l.slot));
-      placed : All (IsPlaced order host (files l.libs)) l.segments.items;
-      sound : All (IsSound order) (map segment_of l.segments.items);
+      read : All (IsRead order host (files l.libs)) l.segments.items;
       few : length l.segments.items ≤ l.slot;
     }

@@ -25,24 +25,18 @@ returns-in-Some-entries_reason-clause-fault c =
     ∙ sym (ap (λ (o : Option (ℕ × List ℕ)). option_map_or (λ (lib : ℕ × List ℕ). option_map (in_slot (lib.0 + 1) c.args.slot) (entries_reason c.args.order c.args.name lib.1)) o (Some (in_slot 0 c.args.slot reason.MissingUnit))) (sym c.in-Some.ensures.library)
     ∙ ap (λ (o : Option Reason). option_map (in_slot (source.library + 1) c.args.slot) o) why)
 
-pub returns-in-None-entries_reason-clause-fault : goal.returns-in-None-entries_reason-clause-fault
-returns-in-None-entries_reason-clause-fault c =
+pub returns-in-None-entries_reason : goal.returns-in-None-entries_reason
+returns-in-None-entries_reason c =
     let source = c.in-Some.source in
     let why = ap (λ (o : Order). entries_reason o c.args.name source.dict.file) (sym c.in-Some.ensures.order) ∙ (sym c.entries_reason.ensures ∙ c.in-None-entries_reason.is) in
-    sym (ap (λ (o : Option (ℕ × List ℕ)). option_map_or (λ (lib : ℕ × List ℕ). option_map (in_slot (lib.0 + 1) c.args.slot) (entries_reason c.args.order c.args.name lib.1)) o (Some (in_slot 0 c.args.slot reason.MissingUnit))) (sym c.in-Some.ensures.library)
-    ∙ ap (λ (o : Option Reason). option_map (in_slot (source.library + 1) c.args.slot) o) why)
-
-pub returns-in-None-entries_reason-clause-source : goal.returns-in-None-entries_reason-clause-source
-returns-in-None-entries_reason-clause-source c =
-    let source = c.in-Some.source in
-    ap (λ (o : Option (ℕ × List ℕ)). option_and_then (λ (lib : ℕ × List ℕ). option_map (λ (i : ℕ). (lib.0 + 1, i)) (find (is_named c.args.order c.args.name lib.1) slots)) o) (sym c.in-Some.ensures.library)
-    ∙ ap (λ (o : Option ℕ). option_map (λ (i : ℕ). (source.library + 1, i)) o) c.in-Some.ensures.entry
-
-pub returns-in-None-entries_reason-clause-file : goal.returns-in-None-entries_reason-clause-file
-returns-in-None-entries_reason-clause-file c = λ host.
-    chosen_file c.args.order c.args.name (files c.args.libs.now) c.in-Some.source.library c.in-Some.source.dict.file host (sym c.in-Some.ensures.library)
-
-pub returns-in-None-entries_reason-clause-unit : goal.returns-in-None-entries_reason-clause-unit
-returns-in-None-entries_reason-clause-unit c =
-    let why = ap (λ (o : Order). entries_reason o c.args.name c.in-Some.source.dict.file) (sym c.in-Some.ensures.order) ∙ (sym c.entries_reason.ensures ∙ c.in-None-entries_reason.is) in
-    kind_is c.args.order c.args.name c.in-Some.source.dict.file c.in-Some.source.index why c.in-Some.ensures.entry
+    record {
+      fault = sym (ap (λ (o : Option (ℕ × List ℕ)). option_map_or (λ (lib : ℕ × List ℕ). option_map (in_slot (lib.0 + 1) c.args.slot) (entries_reason c.args.order c.args.name lib.1)) o (Some (in_slot 0 c.args.slot reason.MissingUnit))) (sym c.in-Some.ensures.library)
+          ∙ ap (λ (o : Option Reason). option_map (in_slot (source.library + 1) c.args.slot) o) why);
+      source = ap (λ (o : Option (ℕ × List ℕ)). option_and_then (λ (lib : ℕ × List ℕ). option_map (λ (i : ℕ). (lib.0 + 1, i)) (find (is_named c.args.order c.args.name lib.1) slots)) o) (sym c.in-Some.ensures.library)
+          ∙ ap (λ (o : Option ℕ). option_map (λ (i : ℕ). (source.library + 1, i)) o) c.in-Some.ensures.entry;
+      file = λ host. chosen_file c.args.order c.args.name (files c.args.libs.now) source.library source.dict.file host (sym c.in-Some.ensures.library);
+      order = c.in-Some.ensures.order;
+      unit = kind_is c.args.order c.args.name source.dict.file source.index why c.in-Some.ensures.entry;
+      in_range = c.in-Some.ensures.in_range;
+      number = c.in-Some.ensures.number;
+    }

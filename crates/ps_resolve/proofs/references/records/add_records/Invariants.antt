@@ -5,4 +5,4 @@ use Rattle.ps_resolve.proofs.references.records.add_records.Given as goal
 -- the edits so far and those of what is left are all; so is the first fault of what is left
 abbrev pub invariant-loop-rec : goal.invariant-loop-rec
 invariant-loop-rec g l =
-    IsLeft (Links l.names l.procedures l.free l.segment.records l.fn.edits.items l.next l.edits.items l.taken.words) l.rec-iterator
+    IsLeft (Links l.link.names.now l.procedures l.free l.segment.records l.fn.edits.items l.next l.edits.items l.taken) l.rec-iterator

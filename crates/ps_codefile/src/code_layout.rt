@@ -1,0 +1,15 @@
+//! The layout of the procedure dictionary and of the attribute tables in a code, in bytes.
+//!
+//! Source: UCSD Pascal II.0 manual, code file format.
+
+/// How many bytes follow the procedure words: the segment number and the number of procedures.
+pub const NUMBERS: usize = 2;
+/// How many bytes of an attribute table precede its offset: four words.
+pub const TABLE_WORDS: usize = 8;
+/// How many bytes an attribute table has from its offset on: the procedure number and the lex
+/// level.
+pub const TABLE_NUMBERS: usize = 2;
+/// How far the data size precedes the offset of its attribute table.
+pub const DATA_SIZE_BEFORE_TABLE: usize = 8;
+/// The number of the procedure that is a segment's outer block.
+pub const OUTER_BLOCK: usize = 1;

@@ -1,0 +1,144 @@
+//! A refusal in words: the file, the segment, the record and the reference by their names, what the
+//! number says of them,
+//! and what to do.
+pub(crate) mod code;
+pub(crate) mod definitions;
+mod dictionary;
+mod places;
+pub(crate) mod privates;
+pub(crate) mod records;
+mod references;
+
+use crate::inputs::{Inputs, Shown};
+use crate::segments::{Segment, in_slot};
+use crate::sentences::{remedy_of, wrong_of};
+use ps_codefile::Dict;
+use ps_codefile::dictionary_layout::SLOTS;
+use ps_linkinfo::{Body, LinkRecord};
+use ps_words::{Fault, Reason};
+use std::alloc::{AllocError, Allocator};
+use std::fmt::Write as _;
+
+/// A fault, and what of the files it is about.
+#[derive(Clone, Copy)]
+pub(crate) struct Case<'c, 'a> {
+    pub(crate) inputs: &'c Inputs<'a>,
+    pub(crate) list: &'c [Segment<'a>],
+    pub(crate) fault: Fault,
+    /// The segment of its slot.
+    pub(crate) segment: Option<Segment<'a>>,
+}
+
+impl<'c, 'a> Case<'c, 'a> {
+    pub(crate) fn new(inputs: &'c Inputs<'a>, list: &'c [Segment<'a>], fault: Fault) -> Self {
+        let segment = match fault.slot {
+            Some(slot) => in_slot(list, slot),
+            None => None,
+        };
+        Case {
+            inputs,
+            list,
+            fault,
+            segment,
+        }
+    }
+
+    /// The record that the fault is reported with, where it can be read.
+    pub(crate) fn record(&self) -> Option<LinkRecord<'a>> {
+        let (Some(segment), Some(wanted)) = (self.segment, self.fault.rec) else {
+            return None;
+        };
+        for (rec, record) in segment.records().records() {
+            if rec == wanted {
+                return Some(record);
+            }
+        }
+        None
+    }
+}
+
+/// Adds the refusal in words.
+pub(crate) fn add_explanation<A: Allocator>(
+    text: &mut String<A>,
+    inputs: &Inputs<'_>,
+    list: &[Segment<'_>],
+    fault: Fault,
+) -> Result<(), AllocError> {
+    let case = Case::new(inputs, list, fault);
+    let path = inputs.path(fault.file);
+    writeln!(text, "  file {path}")?;
+    add_slot(text, &case)?;
+    add_record(text, &case)?;
+    references::add_reference(text, &case)?;
+    add_details(text, &case)?;
+    let wrong = wrong_of(fault.reason);
+    let remedy = remedy_of(fault.reason);
+    writeln!(text, "  {wrong}")?;
+    writeln!(text, "  {remedy}")
+}
+
+/// Adds the slot with the name of its segment.
+fn add_slot<A: Allocator>(text: &mut String<A>, case: &Case<'_, '_>) -> Result<(), AllocError> {
+    let Some(slot) = case.fault.slot else {
+        return Ok(());
+    };
+    if let Some(segment) = case.segment {
+        let name = Shown(segment.name);
+        return writeln!(text, "  segment {name}, of slot {slot:02} of the host");
+    }
+    if let Ok(dict) = Dict::read(case.inputs.host) {
+        if slot < SLOTS {
+            let name = Shown(dict.entry(slot).name);
+            return writeln!(text, "  segment {name}, of slot {slot:02} of the host");
+        }
+    }
+    writeln!(text, "  slot {slot:02} of the host")
+}
+
+/// How the report calls a kind of record.
+pub(crate) fn word_of(body: &Body<'_>) -> &'static str {
+    match body {
+        Body::UnitRef(_) => "UNITREF",
+        Body::PublRef(_) => "PUBLREF",
+        Body::PrivRef { .. } => "PRIVREF",
+        Body::PublDef(_) => "PUBLDEF",
+        Body::ConstDef(_) => "CONSTDEF",
+        Body::Eof(_) => "EOFMARK",
+    }
+}
+
+/// Adds the record with its kind and its name, or what is there where it cannot be read.
+fn add_record<A: Allocator>(text: &mut String<A>, case: &Case<'_, '_>) -> Result<(), AllocError> {
+    let Some(rec) = case.fault.rec else {
+        return Ok(());
+    };
+    match case.record() {
+        Some(record) => {
+            let kind = word_of(&record.body);
+            let name = Shown(record.name);
+            writeln!(text, "  record {rec}: {kind} {name}")
+        }
+        None => records::add_unread(text, case, rec),
+    }
+}
+
+/// Adds what the number says of this place.
+fn add_details<A: Allocator>(text: &mut String<A>, case: &Case<'_, '_>) -> Result<(), AllocError> {
+    match case.fault.reason {
+        Reason::ShortFile => dictionary::add_length(text, case),
+        Reason::NoOrder | Reason::OrderMismatch => dictionary::add_orders(text, case),
+        Reason::TwoHosts | Reason::DoubledSegment => dictionary::add_earlier(text, case),
+        Reason::UnknownKind | Reason::Intrinsic => dictionary::add_kind(text, case),
+        Reason::MissingUnit => dictionary::add_near(text, case),
+        Reason::NotAUnit { .. } | Reason::DoubledUnit => dictionary::add_entries(text, case),
+        Reason::BadLength | Reason::BadAddress | Reason::Truncated => code::add_extent(text, case),
+        Reason::BadProcDict | Reason::NativeProcedure => code::add_procedure(text, case),
+        Reason::DoubledDefinition | Reason::DoubledPrivate => records::add_earlier(text, case),
+        Reason::NoRoom | Reason::DataTooLarge => privates::add_words(text, case),
+        Reason::MissingDefinition | Reason::IllKind => definitions::add_defined(text, case),
+        Reason::OutsideCode | Reason::ReservedPlace => places::add_place(text, case),
+        Reason::Overlap => places::add_covered(text, case),
+        Reason::OperandTooLarge => references::add_sum(text, case),
+        _ => Ok(()),
+    }
+}

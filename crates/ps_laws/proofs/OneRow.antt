@@ -1,0 +1,224 @@
+-- Just one row of names and one list of segments have what is said of the units that are added.
+use Rattle.std.proofs.Common.{◌≡◌, ℕ, zero, suc, ◌+◌, ◌<◌, List, [], ◌∷◌, ◌++◌, length, take, Option, Some, None, Ok, Result, Bool, refl, sym, ap, subst, ◌∙◌, inl, inr, arith}
+use Rattle.std.specs.List.{slice_get}
+use Rattle.std.proofs.lemmas.Bool.{cases_lt}
+use Rattle.std.proofs.lemmas.Option.{same_Some}
+use Rattle.ps_codefile.specs.Dictionary.{entry_at, code_of, information_of}
+use Rattle.ps_codefile.specs.declared.entry.Role.{Role}
+use Rattle.ps_linkinfo.specs.Records.{reading}
+use Rattle.ps_linkinfo.specs.declared.record.LinkRecord.{LinkRecord as Record}
+use Rattle.ps_resolve.specs.Standing.Sources.{IsNamed, HasEntry}
+use Rattle.ps_resolve.specs.First.{Before}
+use Rattle.ps_resolve.specs.Sources.{Segment, own_segments}
+use Rattle.ps_resolve.specs.RequestedUnits.{Asks, IsGiver, IsOfFirstLibrary, AddedUnits}
+use Rattle.ps_resolve.specs.declared.reading.added.UnitReference.{UnitReference}
+use Rattle.ps_laws.proofs.Items.{some_before}
+use Rattle.ps_words.specs.declared.order.Order.{Order}
+use Rattle.ps_words.specs.declared.fault.Reason.{Reason}
+
+-- 1. lists that are the same up to a place
+abbrev pub Agree : {A : Type 0} → ℕ → List A → List A → Type 0
+Agree k xs ys = (j : ℕ) → j < k → slice_get xs j ≡ slice_get ys j
+
+agree_behind : {A : Type 0} (own xs ys : List A) (k : ℕ) → Agree k xs ys → (i : ℕ) → i < length own + k → slice_get (own ++ xs) i ≡ slice_get (own ++ ys) i
+agree_behind {A} [] xs ys k h i l = h i (omega (arith, l))
+agree_behind (s ∷ own) xs ys k h zero l = refl
+agree_behind (s ∷ own) xs ys k h (suc i) l = agree_behind own xs ys k h i (omega (arith, l))
+
+-- a list and its front
+front_agrees : {A : Type 0} (k : ℕ) (xs : List A) → Agree k (take k xs) xs
+front_agrees zero xs j l = absurd (omega (arith, l))
+front_agrees (suc k) [] j l = refl
+front_agrees (suc k) (x ∷ xs) zero l = refl
+front_agrees (suc k) (x ∷ xs) (suc j) l = front_agrees k xs j (omega (arith, l))
+
+-- 2. givers in lists that are the same up to a place
+asks_moves : (xs ys : List Segment) (i rec : ℕ) (name : List ℕ) → slice_get xs i ≡ slice_get ys i → Asks xs i rec name → Asks ys i rec name
+asks_moves xs ys i rec name same t = (t.0, sym same ∙ t.1, t.2, t.3, t.4, t.5)
+
+pub giver_moves : (xs ys : List Segment) (n i : ℕ) (g : UnitReference) → Agree n xs ys → i < n → IsGiver xs i g → IsGiver ys i g
+giver_moves xs ys n i g same l t =
+    ((t.0.0, sym (same i l) ∙ t.0.1, t.0.2, t.0.3), asks_moves xs ys i g.rec g.name (same i l) t.1, λ j rec b asks. t.2 j rec b (asks_moves ys xs j rec g.name (sym (same j (below j rec b))) asks))
+  where
+    below : (j rec : ℕ) → Before (j ∷ rec ∷ []) (i ∷ g.rec ∷ []) → j < n
+    below j rec (inl h) = omega (arith, h, l)
+    below j rec (inr h) = let e = h.0 in omega (arith, e, l)
+
+-- a giver among the own segments and the front of the others is one among all
+pub giver_of_front : (own others : List Segment) (k i : ℕ) (g : UnitReference) → i < length own + k → IsGiver (own ++ take k others) i g → IsGiver (own ++ others) i g
+giver_of_front own others k i g l t = giver_moves (own ++ take k others) (own ++ others) (length own + k) i g (agree_behind own (take k others) others k (front_agrees k others)) l t
+
+-- two givers of a name are at one place
+same_place : (segs : List Segment) (i j : ℕ) (g h : UnitReference) → IsGiver segs i g → IsGiver segs j h → g.name ≡ h.name → (i ≡ j) × (g.rec ≡ h.rec)
+same_place segs i j g h a b same = elim (cases_lt i j) [
+  | inl l ↦ absurd (b.2 i g.rec (inl l) (subst (λ (n : List ℕ). Asks segs i g.rec n) same a.1))
+  | inr l ↦ elim (cases_lt j i) [
+    | inl m ↦ absurd (a.2 j h.rec (inl m) (subst (λ (n : List ℕ). Asks segs j h.rec n) (sym same) b.1))
+    | inr m ↦ records (omega (arith, l, m))
+  ]
+]
+  where
+    records : i ≡ j → (i ≡ j) × (g.rec ≡ h.rec)
+    records e = elim (cases_lt g.rec h.rec) [
+      | inl x ↦ absurd (b.2 i g.rec (inr (e, inl x)) (subst (λ (n : List ℕ). Asks segs i g.rec n) same a.1))
+      | inr x ↦ elim (cases_lt h.rec g.rec) [
+        | inl y ↦ absurd (a.2 j h.rec (inr (sym e, inl y)) (subst (λ (n : List ℕ). Asks segs j h.rec n) (sym same) b.1))
+        | inr y ↦ (e, omega (arith, x, y))
+      ]
+    ]
+
+reference : List ℕ → ℕ → ℕ → ℕ → UnitReference
+reference name file slot rec = record { name = name; file = file; slot = slot; rec = rec }
+
+-- and are one reference
+same_reference : (segs : List Segment) (i j : ℕ) (g h : UnitReference) → IsGiver segs i g → IsGiver segs j h → g.name ≡ h.name → g ≡ h
+unfolding reference
+same_reference segs i j g h a b same =
+    ap (λ (n : List ℕ). reference n g.file g.slot g.rec) same
+    ∙ (ap (λ (f : ℕ). reference h.name f g.slot g.rec) (a.0.2 ∙ ap (λ (s : Segment). s.file) segment ∙ sym b.0.2)
+    ∙ (ap (λ (n : ℕ). reference h.name h.file n g.rec) (a.0.3 ∙ ap (λ (s : Segment). s.slot) segment ∙ sym b.0.3)
+    ∙ ap (λ (n : ℕ). reference h.name h.file h.slot n) place.1))
+  where
+    place : (i ≡ j) × (g.rec ≡ h.rec)
+    place = same_place segs i j g h a b same
+
+    segment : a.0.0 ≡ b.0.0
+    segment = same_Some a.0.0 b.0.0 (sym a.0.1 ∙ ap (λ (n : ℕ). slice_get segs n) place.0 ∙ b.0.1)
+
+-- 3. the row
+before_at : {a b c d p q r s : ℕ} → a ≡ p → b ≡ q → c ≡ r → d ≡ s → Before (a ∷ b ∷ []) (c ∷ d ∷ []) → Before (p ∷ q ∷ []) (r ∷ s ∷ [])
+before_at {a} {b} {c} {d} {p} {q} {r} {s} e f g h t =
+    subst (λ (n : ℕ). Before (n ∷ q ∷ []) (r ∷ s ∷ [])) e (subst (λ (n : ℕ). Before (a ∷ n ∷ []) (r ∷ s ∷ [])) f (subst (λ (n : ℕ). Before (a ∷ b ∷ []) (n ∷ s ∷ [])) g (subst (λ (n : ℕ). Before (a ∷ b ∷ []) (c ∷ n ∷ [])) h t)))
+
+not_both : (a b c d : ℕ) → Before (a ∷ b ∷ []) (c ∷ d ∷ []) → Before (c ∷ d ∷ []) (a ∷ b ∷ []) → ⊥
+not_both a b c d (inl h) (inl k) = omega (arith, h, k)
+not_both a b c d (inl h) (inr k) = let e = k.0 in omega (arith, h, e)
+not_both a b c d (inr h) (inl k) = let e = h.0 in omega (arith, e, k)
+not_both a b c d (inr h) (inr k) = records h.1 k.1
+  where
+    records : Before (b ∷ []) (d ∷ []) → Before (d ∷ []) (b ∷ []) → ⊥
+    records (inl x) (inl y) = omega (arith, x, y)
+    records (inl x) (inr y) = y.1
+    records (inr x) y = x.1
+
+module _ (order : Order) (host : List ℕ) (libs : List (List ℕ)) (row other : List UnitReference) (segs others : List Segment) (A : AddedUnits order host libs row segs) (B : AddedUnits order host libs other others) where
+  abbrev Own : List Segment
+  Own = own_segments order host libs
+
+  -- where both are the same up to a place, the name that one has there is that of the other
+  module _ (k : ℕ) (same_segs : Agree k segs others) (same_row : Agree k row other) (g : UnitReference) (at : slice_get row k ≡ Some g) where
+    abbrev i : ℕ
+    i = (A.requested k g at).0.0
+
+    below : i < length Own + k
+    below = (A.requested k g at).0.1
+
+    here : IsGiver (Own ++ segs) i g
+    here = (A.requested k g at).0.2
+
+    there : IsGiver (Own ++ others) i g
+    there = giver_moves (Own ++ segs) (Own ++ others) (length Own + k) i g (agree_behind Own segs others k same_segs) below here
+
+    -- the other has a name there too, which is not another one
+    no_other : (x : ℕ) (h : UnitReference) → k < x → slice_get other x ≡ Some h → h.name ≡ g.name → (y : UnitReference) → slice_get other k ≡ Some y → ⊥
+    no_other x h later is name y first = elim (A.complete j y.rec y.name back.1) [ inl has ↦ (B.requested k y first).1 has | inr t ↦ at_place t.0 t.1 t.2 t.3 ]
+      where
+        j : ℕ
+        j = (B.requested k y first).0.0
+
+        giver : IsGiver (Own ++ others) j y
+        giver = (B.requested k y first).0.2
+
+        back : IsGiver (Own ++ segs) j y
+        back = giver_moves (Own ++ others) (Own ++ segs) (length Own + k) j y (λ n l. sym (agree_behind Own segs others k same_segs n l)) (B.requested k y first).0.1 giver
+
+        crossed : (m : ℕ) (z : UnitReference) → k < m → slice_get row m ≡ Some z → z.name ≡ y.name → ⊥
+        crossed m z l e n =
+            let p = A.ordered k m g z l at e in
+            let q = B.ordered k x y h later first is in
+            let a = same_place (Own ++ segs) p.0 i g g p.2 here refl in
+            let b = same_place (Own ++ segs) p.1 j z y p.3 back n in
+            let c = same_place (Own ++ others) q.0 j y y q.2 giver refl in
+            let d = same_place (Own ++ others) q.1 i h g q.3 there name in
+            not_both i g.rec j y.rec (before_at a.0 a.1 b.0 b.1 p.4) (before_at c.0 c.1 d.0 d.1 q.4)
+
+        at_place : (m : ℕ) (z : UnitReference) → slice_get row m ≡ Some z → z.name ≡ y.name → ⊥
+        at_place m z e n = elim (cases_lt m k) [
+          | inl l ↦ (let a = B.once m k z y (sym (same_row m l) ∙ e) first n in omega (arith, a, l))
+          | inr l ↦ elim (cases_lt k m) [
+            | inl u ↦ crossed m z u e n
+            | inr u ↦
+                let one : z ≡ g = same_Some z g (sym e ∙ ap (λ (o : ℕ). slice_get row o) (omega (arith, l, u)) ∙ at) in
+                let a = B.once k x y h first is (sym n ∙ ap (λ (r : UnitReference). r.name) one ∙ sym name) in
+                omega (arith, a, later)
+          ]
+        ]
+
+    found : (x : ℕ) (h : UnitReference) → slice_get other x ≡ Some h → h.name ≡ g.name → slice_get other k ≡ Some g
+    found x h is name = elim (cases_lt x k) [
+      | inl l ↦ (let a = A.once x k h g (same_row x l ∙ is) at name in absurd (omega (arith, a, l)))
+      | inr l ↦ elim (cases_lt k x) [
+        | inl u ↦ absurd (behind u (slice_get other k) refl)
+        | inr u ↦
+            let first : slice_get other k ≡ Some h = ap (λ (o : ℕ). slice_get other o) (omega (arith, l, u)) ∙ is in
+            first ∙ ap (λ (r : UnitReference). Some r) (same_reference (Own ++ others) (B.requested k h first).0.0 i h g (B.requested k h first).0.2 there name)
+      ]
+    ]
+      where
+        behind : k < x → (o : Option UnitReference) → slice_get other k ≡ o → ⊥
+        behind u None e = some_before other k x h (omega (arith, u)) is e
+        behind u (Some y) e = no_other x h u is name y e
+
+    pub same_name : slice_get other k ≡ Some g
+    same_name = elim (B.complete i g.rec g.name there.1) [ inl has ↦ absurd ((A.requested k g at).1 has) | inr t ↦ found t.0 t.1 t.2 t.3 ]
+
+-- 4. the segments
+-- the first library that has an entry of the name has no second one
+abbrev pub HasOneEntry : Order → List (List ℕ) → List ℕ → Type 0
+HasOneEntry order libs name =
+    (k : ℕ) (lib : List ℕ) → slice_get libs k ≡ Some lib → ((lesser : ℕ) (other : List ℕ) → lesser < k → slice_get libs lesser ≡ Some other → HasEntry order name other → ⊥)
+    → (i j : ℕ) → i < 16 → j < 16 → IsNamed order name lib i → IsNamed order name lib j → i ≡ j
+
+segment : ℕ → List ℕ → Role → Bool → ℕ → ℕ → List ℕ → List Record → Segment
+segment slot name role added file index code records = record { slot = slot; name = name; role = role; added = added; file = file; index = index; code = code; records = records }
+
+same_Ok : (x y : List ℕ) → ◌≡◌ {A = Result (List ℕ) Reason} (Ok x) (Ok y) → x ≡ y
+same_Ok x y e = cc
+
+-- of one name and slot there is one segment from the first library that has the name
+pub same_segment : (order : Order) (libs : List (List ℕ)) (s t : Segment) → s.slot ≡ t.slot → s.name ≡ t.name → s.role ≡ t.role → s.added ≡ t.added
+    → IsOfFirstLibrary order libs s → IsOfFirstLibrary order libs t → HasOneEntry order libs s.name → s ≡ t
+unfolding segment
+same_segment order libs s t slot name role added f u only =
+    ap (λ (x : ℕ). segment x s.name s.role s.added s.file s.index s.code s.records) slot
+    ∙ (ap (λ (x : List ℕ). segment t.slot x s.role s.added s.file s.index s.code s.records) name
+    ∙ (ap (λ (x : Role). segment t.slot t.name x s.added s.file s.index s.code s.records) role
+    ∙ (ap (λ (x : Bool). segment t.slot t.name t.role x s.file s.index s.code s.records) added
+    ∙ (ap (λ (x : ℕ). segment t.slot t.name t.role t.added x s.index s.code s.records) file
+    ∙ (ap (λ (x : ℕ). segment t.slot t.name t.role t.added t.file x s.code s.records) index
+    ∙ (ap (λ (x : List ℕ). segment t.slot t.name t.role t.added t.file t.index x s.records) code
+    ∙ ap (λ (x : List Record). segment t.slot t.name t.role t.added t.file t.index t.code x) records))))))
+  where
+    number : f.0 ≡ u.0
+    number = elim (cases_lt f.0 u.0) [
+      | inl l ↦ absurd (u.3.0 f.0 f.1 l f.2 (s.index, f.3.2, subst (λ (n : List ℕ). IsNamed order n f.1 s.index) name f.3.3))
+      | inr l ↦ elim (cases_lt u.0 f.0) [
+        | inl m ↦ absurd (f.3.0 u.0 u.1 m u.2 (t.index, u.3.2, subst (λ (n : List ℕ). IsNamed order n u.1 t.index) (sym name) u.3.3))
+        | inr m ↦ omega (arith, l, m)
+      ]
+    ]
+
+    library : f.1 ≡ u.1
+    library = same_Some f.1 u.1 (sym f.2 ∙ ap (λ (n : ℕ). slice_get libs n) number ∙ u.2)
+
+    file : s.file ≡ t.file
+    file = f.3.1 ∙ ap (λ (n : ℕ). n + 1) number ∙ sym u.3.1
+
+    index : s.index ≡ t.index
+    index = only f.0 f.1 f.2 f.3.0 s.index t.index f.3.2 u.3.2 f.3.3 (subst (λ (l : List ℕ). IsNamed order s.name l t.index) (sym library) (subst (λ (n : List ℕ). IsNamed order n u.1 t.index) (sym name) u.3.3))
+
+    code : s.code ≡ t.code
+    code = same_Ok s.code t.code (sym f.3.4 ∙ ap (λ (l : List ℕ). code_of l (entry_at order l s.index)) library ∙ ap (λ (n : ℕ). code_of u.1 (entry_at order u.1 n)) index ∙ u.3.4)
+
+    records : s.records ≡ t.records
+    records = f.3.5 ∙ ap (λ (l : List ℕ). (reading order (information_of l (entry_at order l s.index))).0) library ∙ ap (λ (n : ℕ). (reading order (information_of u.1 (entry_at order u.1 n))).0) index ∙ sym u.3.5

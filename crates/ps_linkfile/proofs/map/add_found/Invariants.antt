@@ -1,9 +1,0 @@
-use Rattle.std.proofs.Common.{drop}
-use Rattle.std.specs.List.{flat_map}
-use Rattle.ps_linkfile.specs.MapText.{definition_line}
-use Rattle.ps_linkfile.proofs.Written.{Written}
-use Rattle.ps_linkfile.proofs.map.add_found.Given as goal
-
--- the lines of the definitions that are left are still to be written
-abbrev pub invariant-loop-name : goal.invariant-loop-name
-invariant-loop-name g l = Written g.W.Write.write_str_gives l.fn.text (flat_map definition_line l.found) (flat_map definition_line (drop l.name-index l.found)) l.text

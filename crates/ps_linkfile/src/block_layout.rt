@@ -1,0 +1,51 @@
+//! Where the code of each segment is in the linked file.
+ghost use Rattle.std.specs.Prelude.{◌≡◌, ◌≤◌, ◌+◌, map, All};
+ghost use Rattle.ps_codefile.specs.Dictionary.{max_code_len};
+ghost use Rattle.ps_resolve.specs.Plans.{origin_of_source};
+ghost use Rattle.ps_linkfile.specs.LinkedFile.{all_blocks};
+ghost use Rattle.ps_linkfile.specs.Writing.{extent_of_origin, extents_in, starts_of, Ascend, IsReady};
+
+use arrayvec::ArrayVec;
+use ps_resolve::{Plan, Source};
+use ps_words::blocks_of;
+use std::alloc::Allocator;
+
+/// How many segments a linked file has at most: one in each slot.
+const MAX_SEGMENTS: usize = 16;
+
+/// The blocks of a linked file.
+#[derive(Drop)]
+pub(crate) struct Layout {
+    /// The first block of each code, by slot.
+    pub(crate) starts: ArrayVec<u16, MAX_SEGMENTS>,
+    /// How many blocks there are, the segment dictionary's counted.
+    pub(crate) blocks: usize,
+}
+
+/// Lays the codes of these sources out, by slot, one after another from block 1 on.
+fn layout_of(sources: &[Source]) -> Layout
+    requires slots { Ascend 0 (map (λ s. extent_of_origin (origin_of_source s)) sources.now) }
+    requires sizes { All (λ c. c.size ≤ max_code_len)
+        (map (λ s. extent_of_origin (origin_of_source s)) sources.now) }
+    ensures starts { result.starts.items
+        ≡ starts_of (map (λ s. extent_of_origin (origin_of_source s)) sources.now) }
+    ensures blocks { result.blocks
+        ≡ 1 + all_blocks (map (λ s. extent_of_origin (origin_of_source s)) sources.now) }
+{
+    let mut starts: ArrayVec<u16, MAX_SEGMENTS> = ArrayVec::new();
+    let mut blocks = 1;
+    for source in sources {
+        starts.push(blocks as u16);
+        blocks += blocks_of(source.code.len());
+    }
+    Layout { starts, blocks }
+}
+
+/// Lays the codes of a plan that can be written out, by slot, one after another from block 1 on.
+pub(crate) fn lay_out<A: Allocator + Copy>(plan: &Plan<'_, A>) -> Layout
+    requires { IsReady plan.now }
+    ensures starts { result.starts.items ≡ starts_of (extents_in plan.now) }
+    ensures blocks { result.blocks ≡ 1 + all_blocks (extents_in plan.now) }
+{
+    layout_of(plan.sources())
+}

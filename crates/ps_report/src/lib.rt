@@ -1,0 +1,9 @@
+//! The report of a check: whether a host and its libraries are linked, and what is said of them in
+//! words.
+#![tactic(auto)]
+
+mod report;
+mod verdict;
+
+pub use report::{Report, check};
+pub use verdict::Verdict;

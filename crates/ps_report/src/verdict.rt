@@ -1,0 +1,77 @@
+//! The verdict: whether the files are linked.
+ghost use Rattle.std.specs.Prelude.{◌≡◌, IfOk, Some};
+ghost use Rattle.ps_resolve.specs.Sources.{contents};
+ghost use Rattle.ps_report.specs.Verdicts.{IsVerdict, fault_of, verdict_line};
+
+use ps_linkfile::{LinkError, Summary, prepare};
+use ps_words::Fault;
+use std::alloc::{AllocError, Allocator};
+use std::fmt::{self, Formatter};
+use std::io::Write;
+
+/// Whether a link of the files is done.
+///
+/// Its text is one line: `links: ` and the summary, or the line of the refusal.
+/// Source: this project's profile.
+#[derive(Clone, Copy, Debug, PartialEq, Eq)]
+pub enum Verdict {
+    /// The files are linked, and their linked file has so much.
+    Links(Summary),
+    /// The files are refused for this fault, the first of all.
+    Refused(Fault),
+}
+
+impl Verdict {
+    /// The fault for which the files are refused.
+    /// Source: this project's profile.
+    pub fn fault(&self) -> Option<Fault>
+        ensures { result ≡ fault_of self.now }
+    {
+        match *self {
+            Verdict::Links(_) => None,
+            Verdict::Refused(fault) => Some(fault),
+        }
+    }
+}
+
+impl fmt::Display for Verdict {
+    ghost output = { λ verdict. Some (verdict_line verdict) };
+
+    fn fmt<W: fmt::Write>(&self, f: &mut Formatter<W>) -> fmt::Result {
+        match *self {
+            Verdict::Links(summary) => {
+                let Summary {
+                    segments,
+                    private_words,
+                    blocks,
+                } = summary;
+                writeln!(
+                    f,
+                    "links: segments {segments} private words {private_words} blocks {blocks}"
+                )
+            }
+            Verdict::Refused(fault) => writeln!(f, "pslink: {fault}"),
+        }
+    }
+}
+
+/// The verdict on a host and its libraries: they are linked in memory.
+pub(crate) fn verdict_of<A: Allocator + Copy>(
+    alloc: A,
+    host: &[u8],
+    libs: &[&[u8]],
+) -> Result<Verdict, AllocError>
+    ensures { IfOk result (IsVerdict host.now (contents libs.now)) }
+{
+    match prepare(alloc, host, libs) {
+        Ok(linked) => {
+            let mut file = Vec::new(alloc);
+            match linked.write(&mut file) {
+                Ok(summary) => Ok(Verdict::Links(summary)),
+                Err(_) => Err(AllocError),
+            }
+        }
+        Err(LinkError::Refused(fault)) => Ok(Verdict::Refused(fault)),
+        Err(_) => Err(AllocError),
+    }
+}

@@ -1,0 +1,13 @@
+use Rattle.std.proofs.Common.{◌≡◌}
+use Rattle.indexmap.specs.IndexMap.{hasher_of}
+use Rattle.ps_linkinfo.specs.RecordCounts.{digest_of}
+use Rattle.ps_resolve.proofs.Doubles.{Defines}
+use Rattle.ps_resolve.proofs.Numbers.{IsLeft}
+use Rattle.ps_resolve.proofs.definitions.table_of.Given as goal
+
+-- what the map has and what is left are all; so is the first of what is left
+abbrev pub invariant-loop-rec : goal.invariant-loop-rec
+invariant-loop-rec g l = record {
+  left : IsLeft (Defines l.records l.by_name.entries) l.rec-iterator;
+  keyed : hasher_of l.by_name ≡ digest_of l.records;
+}

@@ -1,5 +1,0 @@
-use Rattle.ps_resolve.proofs.EightBytes.{names_whole}
-use Rattle.ps_resolve.proofs.laws.slot_names_are_whole.Goals as goal
-
-pub returns : goal.returns
-returns c = names_whole c.names_are_whole.ensures

@@ -1,0 +1,186 @@
+//! What a slot's entry says: its role, whether it has a code, how long the code is, and what follows it.
+use crate::base::UTIL;
+use crate::information::Name;
+use ps_codefile::dictionary_layout::{KINDS, NAME, NAMES, PAIR, TEXTS, WORD};
+use ps_codefile::{Dict, Entry, Role};
+use ps_words::{Order, Reason, put};
+use std::process::Abort;
+
+/// The slot of the entry.
+const SLOT: usize = 8;
+
+/// The longest code that there can be, behind a dictionary.
+const LONGEST: usize = 512 + 32767;
+
+const BLANK: Name = [b' '; 8];
+
+/// The entry of a unit's name.
+fn entry(kind: u16, address: u16, length: u16) -> Entry {
+    Entry {
+        address,
+        length,
+        name: UTIL,
+        kind,
+        text: 6,
+    }
+}
+
+/// A big-endian file as long as can be, with this entry, and with a byte of code and one of link information behind it.
+fn file_of(entry: &Entry) -> [u8; LONGEST] {
+    let mut file = [0; LONGEST];
+    file[512] = 0xD7;
+    file[1024] = b'C';
+    let order = Order::Big;
+    put(order, &mut file, PAIR * SLOT, entry.address);
+    put(order, &mut file, PAIR * SLOT + WORD, entry.length);
+    put(order, &mut file, KINDS + WORD * SLOT, entry.kind);
+    put(order, &mut file, TEXTS + WORD * SLOT, entry.text);
+    file[NAMES + NAME * SLOT..NAMES + NAME * SLOT + NAME].copy_from_slice(&entry.name);
+    file
+}
+
+/// Checks an entry's role, and whether its slot has a code.
+fn has_role(rt: &impl Abort, entry: &Entry, role: Result<Role, Reason>, is_filled: bool) {
+    let file = file_of(entry);
+    match Dict::read_beside(&file, Order::Big) {
+        Ok(dictionary) => {
+            assert!(rt; dictionary.entry(8) == *entry, "{entry:?}");
+            assert!(rt; dictionary.role(8) == role, "{entry:?}");
+            assert!(rt; dictionary.filled(8) == is_filled, "{entry:?}");
+        }
+        Err(reason) => assert!(rt; false, "{entry:?}: {reason:?}"),
+    }
+}
+
+/// Kinds, the role of a slot with address and length, and that of one without.
+const KINDS_AND_ROLES: [(u16, Result<Role, Reason>, Role); 10] = [
+    (0, Ok(Role::Plain), Role::Empty),
+    (1, Ok(Role::Host), Role::Empty),
+    (2, Err(Reason::SegmentProcedure), Role::Empty),
+    (3, Ok(Role::Unit), Role::Wanted),
+    (4, Err(Reason::NativeSegment), Role::Empty),
+    (5, Err(Reason::Intrinsic), Role::Empty),
+    (6, Err(Reason::Intrinsic), Role::Empty),
+    (7, Err(Reason::Intrinsic), Role::Empty),
+    (8, Err(Reason::UnknownKind), Role::Empty),
+    (255, Err(Reason::UnknownKind), Role::Empty),
+];
+
+/// Names, and whether a slot of that name wants a unit.
+const WANTING: [(Name, bool); 4] = [
+    (UTIL, true),
+    (BLANK, false),
+    ([0; 8], false),
+    (*b"\0       ", true),
+];
+
+#[test]
+fn roles_of_each_kind(rt: HostRuntime) {
+    for (kind, filled, without_length) in KINDS_AND_ROLES {
+        for (name, wants) in WANTING {
+            let wanted = if wants { without_length } else { Role::Empty };
+            let without_address = if kind == 3 { Ok(wanted) } else { filled };
+            for (address, length, role, is_filled) in [
+                (1, 18, filled, true),
+                (0, 18, without_address, kind != 3),
+                (1, 0, Ok(wanted), false),
+                (0, 0, Ok(wanted), false),
+            ] {
+                let entry = Entry {
+                    name,
+                    ..entry(kind, address, length)
+                };
+                has_role(&rt, &entry, role, is_filled);
+            }
+        }
+    }
+    let file = file_of(&entry(65535, 1, 18));
+    assert!(rt; Dict::read(&file).err() == Some(Reason::NoOrder));
+    assert!(rt; Dict::read_beside(&file, Order::Big).err() == Some(Reason::NoOrder));
+}
+
+/// How many bytes there are, and the first of them.
+type Bytes = (usize, Option<u8>);
+
+fn measured(bytes: &[u8]) -> Bytes {
+    (bytes.len(), bytes.first().copied())
+}
+
+/// Checks an entry's code, and what follows it, in a file of this length.
+fn has_code(
+    rt: &impl Abort,
+    entry: &Entry,
+    file_len: usize,
+    code: Result<Bytes, Reason>,
+    after: Bytes,
+) {
+    let file = file_of(entry);
+    let cut = file.get(..file_len).unwrap_or(&[]);
+    match Dict::read_beside(cut, Order::Big) {
+        Ok(dictionary) => {
+            let found = dictionary.code(8).map(measured);
+            assert!(rt; found == code, "{entry:?} of {file_len} bytes");
+            let follows = measured(dictionary.after(8));
+            assert!(rt; follows == after, "{entry:?} of {file_len} bytes");
+        }
+        Err(reason) => assert!(rt; false, "{entry:?}: {reason:?}"),
+    }
+}
+
+/// Lengths, whether a segment that is linked has such a code, whether a host segment or a unit has, and what follows it.
+const LENGTHS: [(u16, bool, bool, Bytes); 10] = [
+    (1, true, false, (32255, Some(b'C'))),
+    (2, true, false, (32255, Some(b'C'))),
+    (3, true, false, (32255, Some(b'C'))),
+    (4, true, true, (32255, Some(b'C'))),
+    (5, true, false, (32255, Some(b'C'))),
+    (6, true, true, (32255, Some(b'C'))),
+    (32766, true, true, (0, None)),
+    (32767, true, false, (0, None)),
+    (32768, false, false, (0, None)),
+    (65535, false, false, (0, None)),
+];
+
+/// An address, a length, the file's length, the code or what is wrong with it, and what follows it.
+type Place = (u16, u16, usize, Result<Bytes, Reason>, Bytes);
+
+const PLACES: [Place; 17] = [
+    // a code is whole, or it is cut
+    (1, 18, 530, Ok((18, Some(0xD7))), (0, None)),
+    (1, 18, 529, Err(Reason::Truncated), (0, None)),
+    (1, 18, 512, Err(Reason::Truncated), (0, None)),
+    (3, 18, 1536, Err(Reason::Truncated), (0, None)),
+    (65535, 32766, 1536, Err(Reason::Truncated), (0, None)),
+    // a length is looked at before an address, and both before the file's end
+    (0, 17, 1536, Err(Reason::BadLength), (1024, Some(0xD7))),
+    (0, 18, 1536, Err(Reason::BadAddress), (1024, Some(0xD7))),
+    (9, 17, 1536, Err(Reason::BadLength), (0, None)),
+    (65535, 65535, 1536, Err(Reason::BadLength), (0, None)),
+    // what follows begins with the next block
+    (1, 18, 1536, Ok((18, Some(0xD7))), (512, Some(b'C'))),
+    (1, 512, 1536, Ok((512, Some(0xD7))), (512, Some(b'C'))),
+    (1, 514, 1536, Ok((514, Some(0xD7))), (0, None)),
+    (2, 18, 1536, Ok((18, Some(b'C'))), (0, None)),
+    (2, 600, 1536, Err(Reason::Truncated), (0, None)),
+    (1, 18, 1025, Ok((18, Some(0xD7))), (1, Some(b'C'))),
+    (1, 18, 1024, Ok((18, Some(0xD7))), (0, None)),
+    (1, 18, 1023, Ok((18, Some(0xD7))), (0, None)),
+];
+
+#[test]
+fn codes_and_what_follows_them(rt: HostRuntime) {
+    for kind in [0, 1, 3] {
+        for (length, plain, linked, after) in LENGTHS {
+            let is_right = if kind == 0 { plain } else { linked };
+            let code = if is_right {
+                Ok((length as usize, Some(0xD7)))
+            } else {
+                Err(Reason::BadLength)
+            };
+            has_code(&rt, &entry(kind, 1, length), LONGEST, code, after);
+        }
+    }
+    for (address, length, file_len, code, after) in PLACES {
+        has_code(&rt, &entry(1, address, length), file_len, code, after);
+    }
+}

@@ -1,0 +1,184 @@
+//! Words of either byte order, blocks and edits, and faults as text.
+use ps_words::{BLOCK_SIZE, Edit, Fault, Order, Reason, blocks_of, get, get_big, put, put_big};
+use std::fmt;
+use std::fmt::Write;
+use std::process::Abort;
+use std::test::Fail;
+
+#[test]
+fn words_blocks_and_edits(rt: HostRuntime) {
+    let mut bytes = [0x0A, 0x02, 0x77];
+    assert!(rt; get(Order::Little, &bytes, 0) == 522);
+    assert!(rt; get(Order::Big, &bytes, 0) == 2562);
+    put(Order::Little, &mut bytes, 1, 522);
+    assert!(rt; bytes == [0x0A, 0x0A, 0x02]);
+    put(Order::Big, &mut bytes, 1, 522);
+    assert!(rt; bytes == [0x0A, 0x02, 0x0A]);
+
+    assert!(rt; get_big(&[0x81, 0x02], 0) == 258);
+    assert!(rt; get_big(&[0x01, 0x02], 0) == 258, "bit 7 is not looked at");
+    let mut bytes = [0xAB, 0, 0, 0xAB];
+    put_big(&mut bytes, 1, 258);
+    assert!(rt; bytes == [0xAB, 0x81, 0x02, 0xAB]);
+
+    for (len, wanted) in [
+        (0, 0),
+        (1, 1),
+        (BLOCK_SIZE, 1),
+        (513, 2),
+        (usize::MAX, 1 << 55),
+    ] {
+        assert!(rt; blocks_of(len) == wanted, "at {len}");
+    }
+
+    let (place, value) = (4, 18);
+    assert!(rt;
+        Edit::Word { place, value }
+            == Edit::Word {
+                place: 4,
+                value: 18
+            }
+    );
+    assert!(rt; Edit::Word { place, value } != Edit::Big { place, value });
+}
+
+/// A fault with every part, the last reference of the last record of a file as long as one can be.
+const WHOLE: Fault = Fault {
+    reason: Reason::NotAUnit { kind: 65535 },
+    file: 13,
+    slot: Some(15),
+    rec: Some(4_194_303),
+    reference: Some(65_534),
+};
+
+/// Faults, their numbers and names, and their texts.
+const FAULTS: [(Fault, u8, &str, &str); 6] = [
+    (
+        WHOLE,
+        14,
+        "NotAUnit",
+        "refused 14 NotAUnit kind 65535 file 13 slot 15 record 4194303 reference 65534",
+    ),
+    (
+        Fault {
+            reason: Reason::NotAUnit { kind: 5 },
+            file: 1,
+            slot: Some(7),
+            rec: None,
+            reference: None,
+        },
+        14,
+        "NotAUnit",
+        "refused 14 NotAUnit kind 5 file 1 slot 7",
+    ),
+    (
+        Fault {
+            reason: Reason::NoSlot,
+            file: 2,
+            slot: Some(8),
+            rec: Some(3),
+            reference: None,
+        },
+        35,
+        "NoSlot",
+        "refused 35 NoSlot file 2 slot 8 record 3",
+    ),
+    (
+        Fault {
+            reason: Reason::ShortFile,
+            file: 12,
+            slot: None,
+            rec: None,
+            reference: None,
+        },
+        1,
+        "ShortFile",
+        "refused 1 ShortFile file 12",
+    ),
+    (
+        Fault {
+            reason: Reason::Overlap,
+            file: 0,
+            slot: Some(15),
+            rec: Some(0),
+            reference: Some(65534),
+        },
+        33,
+        "Overlap",
+        "refused 33 Overlap file 0 slot 15 record 0 reference 65534",
+    ),
+    (
+        Fault {
+            reason: Reason::DoubledPrivate,
+            file: usize::MAX,
+            slot: Some(0),
+            rec: Some(usize::MAX),
+            reference: None,
+        },
+        25,
+        "DoubledPrivate",
+        "refused 25 DoubledPrivate file 18446744073709551615 slot 0 record 18446744073709551615",
+    ),
+];
+
+#[test]
+fn faults_as_text(rt: HostRuntime) -> Result<(), Fail> {
+    for (fault, number, name, wanted) in FAULTS {
+        let text = fault.to_string(rt.alloc())?;
+        assert!(rt; text.as_str() == wanted, "{text}");
+        assert!(rt;
+            (fault.reason.number(), fault.reason.name()) == (number, name),
+            "{text}"
+        );
+        let reason = fault.reason.to_string(rt.alloc())?;
+        assert!(rt; reason.as_str() == name, "{reason}");
+        // a width changes no text
+        let text = format!(in rt.alloc(); "{fault:>100}{fault:<100}{fault:.3}")?;
+        assert!(rt; text.len() == 3 * wanted.len(), "{text}");
+        let rest = text.strip_prefix(wanted).unwrap_or("");
+        assert!(rt; rest.strip_prefix(wanted) == Some(wanted), "{text}");
+    }
+    Ok(())
+}
+
+/// A writer of which one call fails, behind so many that do not; it counts those behind the one.
+#[derive(Drop)]
+struct FailsOnce {
+    before: u32,
+    has_failed: bool,
+    after: u32,
+}
+
+impl fmt::Write for FailsOnce {
+    fn write_str(&mut self, _text: &str) -> fmt::Result {
+        if self.has_failed {
+            self.after = self.after.saturating_add(1);
+            return Ok(());
+        }
+        if self.before == 0 {
+            self.has_failed = true;
+            return Err(fmt::Error);
+        }
+        self.before -= 1;
+        Ok(())
+    }
+}
+
+#[test]
+fn nothing_is_written_behind_a_call_that_failed(rt: HostRuntime) {
+    for before in 0..100 {
+        let mut writer = FailsOnce {
+            before,
+            has_failed: false,
+            after: 0,
+        };
+        let result = write!(writer, "{WHOLE}");
+        if !writer.has_failed {
+            assert!(rt; before > 0 && result.is_ok());
+            return;
+        }
+        assert!(rt; result.is_err(), "{before}");
+        assert!(rt; writer.after == 0, "{before}");
+    }
+    assert!(rt; false, "each call failed");
+}

@@ -1,5 +1,0 @@
-use Rattle.ps_words.proofs.Orders.{patched_alike}
-use Rattle.ps_words.proofs.laws.edits_patch_alike_in_any_order.Goals as goal
-
-pub returns : goal.returns
-returns c = patched_alike

@@ -1,0 +1,163 @@
+//! What the library exports. C hands a slice over as a pointer and then a length, and a `Global` as
+//! nothing.
+ghost use Rattle.std.specs.Prelude.{◌≡◌, ◌≢◌, ◌≤◌, ◌<◌, length, sum, None, IfNone, IfSome};
+ghost use Rattle.ps_resolve.specs.Standing.{NoneStandsInReading};
+ghost use Rattle.ps_linkfile.specs.ShowText.{show_fault};
+ghost use Rattle.pslink.specs.Libraries.{split};
+ghost use Rattle.pslink.specs.Answers.{bare, closed_text, refusal_fault, IsStatus};
+ghost use Rattle.pslink.specs.Rooms.{RoomBeginsWith};
+ghost use Rattle.pslink.specs.Calls.{Links, LinkNeeds, Maps, MapNeeds, Refuses, RefusesToShow, Shows, ShowNeeds};
+
+use crate::answer::{Answer, DONE, NO_MEMORY, REFUSED, TOO_SMALL, WRONG_LENGTHS};
+use crate::fault_text::put_fault;
+use crate::libraries::LIBRARIES_IN_PLACE;
+use crate::linking::{LINKED_MAX, link};
+use crate::texts::{map, show};
+use std::alloc::Global;
+
+/// Links a host with the units that it uses into `out`, and answers how it went.
+///
+/// `host` is a whole code file. `libs` has whole code files, one after another, and `lengths` the
+/// length of each; of the libraries that have a unit, the first is used. Answers `DONE`, and `out`
+/// then begins with the linked file; `REFUSED` with the first fault of all; `WRONG_LENGTHS` where
+/// `lengths` do not add up to the length of `libs`; `NO_MEMORY` where memory was refused, which is
+/// requested only once the files were read and have no fault, unless there are more than
+/// `LIBRARIES_IN_PLACE` libraries; and `TOO_SMALL` where `out` is shorter than the linked file.
+/// Source: UCSD Pascal II.0 manual, code file format; the published II.0 Linker source; the layout
+/// and the interface are this project's profile.
+#[unsafe(no_mangle)]
+pub extern "C" fn pslink_link_nonnull(
+    alloc: Global,
+    host: &[u8],
+    libs: &[u8],
+    lengths: &[usize],
+    out: &mut [u8],
+    answer: &mut Answer,
+) -> u32
+    ensures status { answer.new.status ≡ result }
+    ensures known { IsStatus result }
+
+    // What is done, and what is refused.
+    ensures linked { result ≡ DONE
+        → Links host.now (split libs.now lengths.now) out.old out.new answer.new }
+    ensures refused { result ≡ REFUSED
+        → Refuses host.now (split libs.now lengths.now) answer.new }
+
+    // Why else nothing is done.
+    ensures wrong { result ≡ WRONG_LENGTHS → sum lengths.now ≢ length libs.now }
+    ensures right { result ≢ WRONG_LENGTHS → sum lengths.now ≡ length libs.now }
+    ensures memory { result ≡ NO_MEMORY → length lengths.now ≤ LIBRARIES_IN_PLACE
+        → NoneStandsInReading host.now (split libs.now lengths.now) }
+    ensures small { result ≡ TOO_SMALL
+        → LinkNeeds host.now (split libs.now lengths.now) out.old answer.new }
+    ensures enough { LINKED_MAX ≤ length out.old → result ≢ TOO_SMALL }
+
+    // What stays as it was, and what is not said.
+    ensures untouched { result ≢ DONE → out.new ≡ out.old }
+    ensures bare_wrong { result ≡ WRONG_LENGTHS → answer.new ≡ bare WRONG_LENGTHS }
+    ensures bare_memory { result ≡ NO_MEMORY → answer.new ≡ bare NO_MEMORY }
+{
+    *answer = Answer::of(link(alloc, host, libs, lengths, out));
+    answer.status
+}
+
+/// Puts the map of a link in `out`, and answers how it went.
+///
+/// The inputs are those of `pslink_link_nonnull`, and so are the answers, each said of the map in
+/// place of the linked file. A map of any length can be `TOO_SMALL` for `out`.
+/// Source: this project's profile.
+#[unsafe(no_mangle)]
+pub extern "C" fn pslink_map_nonnull(
+    alloc: Global,
+    host: &[u8],
+    libs: &[u8],
+    lengths: &[usize],
+    out: &mut [u8],
+    answer: &mut Answer,
+) -> u32
+    ensures status { answer.new.status ≡ result }
+    ensures known { IsStatus result }
+
+    // What is done, and what is refused.
+    ensures mapped { result ≡ DONE
+        → Maps host.now (split libs.now lengths.now) out.old out.new answer.new }
+    ensures refused { result ≡ REFUSED
+        → Refuses host.now (split libs.now lengths.now) answer.new }
+
+    // Why else nothing is done.
+    ensures wrong { result ≡ WRONG_LENGTHS → sum lengths.now ≢ length libs.now }
+    ensures right { result ≢ WRONG_LENGTHS → sum lengths.now ≡ length libs.now }
+    ensures memory { result ≡ NO_MEMORY → length lengths.now ≤ LIBRARIES_IN_PLACE
+        → NoneStandsInReading host.now (split libs.now lengths.now) }
+    ensures small { result ≡ TOO_SMALL
+        → MapNeeds host.now (split libs.now lengths.now) out.old answer.new }
+
+    // What stays as it was, and what is not said.
+    ensures untouched { result ≢ DONE → out.new ≡ out.old }
+    ensures bare_wrong { result ≡ WRONG_LENGTHS → answer.new ≡ bare WRONG_LENGTHS }
+    ensures bare_memory { result ≡ NO_MEMORY → answer.new ≡ bare NO_MEMORY }
+{
+    *answer = Answer::of(map(alloc, host, libs, lengths, out));
+    answer.status
+}
+
+/// Puts what a code file has in `out`, as text, and answers how it went.
+///
+/// `file` is a whole code file, of any contents. Answers `DONE`; `REFUSED` with `ShortFile` or
+/// `NoOrder`, of file 0, also where there is no memory; `NO_MEMORY`; and `TOO_SMALL` where `out` is
+/// shorter than the text. Never answers `WRONG_LENGTHS`.
+/// Source: UCSD Pascal II.0 manual, code file format; the text is this project's profile.
+#[unsafe(no_mangle)]
+pub extern "C" fn pslink_show_nonnull(
+    alloc: Global,
+    file: &[u8],
+    out: &mut [u8],
+    answer: &mut Answer,
+) -> u32
+    ensures status { answer.new.status ≡ result }
+    ensures known { IsStatus result }
+    ensures shown { result ≡ DONE → Shows file.now out.old out.new answer.new }
+    ensures refused { result ≡ REFUSED → RefusesToShow file.now answer.new }
+    ensures right { result ≢ WRONG_LENGTHS }
+    ensures memory { result ≡ NO_MEMORY → show_fault file.now ≡ None }
+    ensures small { result ≡ TOO_SMALL → ShowNeeds file.now out.old answer.new }
+    ensures untouched { result ≢ DONE → out.new ≡ out.old }
+    ensures bare_memory { result ≡ NO_MEMORY → answer.new ≡ bare NO_MEMORY }
+{
+    *answer = Answer::of(show(alloc, file, out));
+    answer.status
+}
+
+/// Puts the text of the fault that a refusal reports in `out`, with a closing 0, and returns how
+/// many
+/// bytes it has.
+///
+/// Where `out` is shorter, nothing is written. Returns 0, and writes nothing, where the answer is
+/// of
+/// no refusal. It would also where the text could not be made: no contract of a text says that it
+/// can.
+/// Source: this project's profile.
+#[unsafe(no_mangle)]
+pub extern "C" fn pslink_fault_text_nonnull(answer: &Answer, out: &mut [u8]) -> usize
+    ensures size { IfSome (refusal_fault answer.now) (λ fault. result ≢ 0
+        → result ≡ length (closed_text fault)) }
+    ensures text { IfSome (refusal_fault answer.now) (λ fault. result ≢ 0 → result ≤ length out.old
+        → RoomBeginsWith (closed_text fault) out.old out.new) }
+    ensures short { length out.old < result → out.new ≡ out.old }
+    ensures untold { IfNone (refusal_fault answer.now) (result ≡ 0) }
+    ensures nothing { result ≡ 0 → out.new ≡ out.old }
+{
+    match answer.refusal_fault() {
+        Some(fault) => put_fault(fault, out),
+        None => 0,
+    }
+}
+
+/// The version of the interface.
+/// Source: this project's profile.
+#[unsafe(no_mangle)]
+pub extern "C" fn pslink_version() -> u32
+    ensures { result ≡ 1 }
+{
+    1
+}

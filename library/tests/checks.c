@@ -1,0 +1,265 @@
+/* What a C caller may rely on, of a host that its library completes: prints what is otherwise, and is then not 0. malloc and
+ * realloc are those below (-Wl,--wrap=malloc,--wrap=realloc). Usage: checks HOST LIBRARY LINKED MAP SHOW */
+#include <pslink.h>
+#include <pthread.h>
+#include <stdio.h>
+#include <stdlib.h>
+#include <string.h>
+
+#include "read_file.h"
+
+#define ROOM 70000
+#define FILLER 0x5A
+
+void *__real_malloc(size_t size);
+void *__real_realloc(void *block, size_t size);
+
+/* Which allocation from now on is refused: 0 for the first, -1 for none; and how many were requested. */
+static long refused_at = -1;
+static long asked;
+
+static int is_refused(void)
+{
+    return refused_at >= 0 && asked++ == refused_at;
+}
+
+void *__wrap_malloc(size_t size)
+{
+    return is_refused() ? NULL : __real_malloc(size);
+}
+
+void *__wrap_realloc(void *block, size_t size)
+{
+    return is_refused() ? NULL : __real_realloc(block, size);
+}
+
+static int failures;
+
+static void check(int is_well, const char *what, size_t number)
+{
+    if (!is_well) {
+        failures++;
+        printf("library: %s, at %zu\n", what, number);
+    }
+}
+
+static pslink_file host, library, linked, map, show;
+
+enum call { LINK, LINK_FILES, MAP, MAP_FILES, SHOW, CALLS };
+
+static uint32_t make(enum call call, void *out, size_t size, pslink_answer *answer)
+{
+    switch (call) {
+    case LINK:
+        return pslink_link(host.bytes, host.length, library.bytes, library.length, &library.length, 1, out, size, answer);
+    case LINK_FILES:
+        return pslink_link_files(host, &library, 1, out, size, answer);
+    case MAP:
+        return pslink_map(host.bytes, host.length, library.bytes, library.length, &library.length, 1, out, size, answer);
+    case MAP_FILES:
+        return pslink_map_files(host, &library, 1, out, size, answer);
+    default:
+        return pslink_show(library.bytes, library.length, out, size, answer);
+    }
+}
+
+static const pslink_file *result_of(enum call call)
+{
+    return call == LINK || call == LINK_FILES ? &linked : call == SHOW ? &show : &map;
+}
+
+/* Each byte from one on is as it was before. */
+static int is_untouched(const unsigned char *room, size_t from, size_t size)
+{
+    for (; from < size; from++)
+        if (room[from] != FILLER)
+            return 0;
+    return 1;
+}
+
+static int is_bare(const pslink_answer *answer, uint32_t status)
+{
+    pslink_answer bare;
+
+    memset(&bare, 0, sizeof bare);
+    bare.status = status;
+    return memcmp(&bare, answer, sizeof bare) == 0;
+}
+
+/* Room of each length up to that of the result and one more. */
+static void check_rooms(enum call call)
+{
+    const pslink_file *result = result_of(call);
+    size_t size;
+
+    for (size = 0; size <= result->length + 1; size++) {
+        unsigned char *room = (unsigned char *)malloc(size + 1);
+        pslink_answer answer;
+        uint32_t status;
+
+        if (room == NULL)
+            exit(4);
+        memset(room, FILLER, size + 1);
+        memset(&answer, 0xFF, sizeof answer);
+        status = make(call, size == 0 ? NULL : room, size, &answer);
+        check(status == answer.status, "the status is not the answer's", size);
+        check(answer.needed == result->length, "another length is needed", size);
+        if (size < result->length) {
+            check(status == PSLINK_TOO_SMALL, "a room that is too small is taken", size);
+            check(is_untouched(room, 0, size + 1), "a room that is too small is written to", size);
+        } else {
+            check(status == PSLINK_DONE && answer.written == result->length, "room enough is not taken", size);
+            check(memcmp(room, result->bytes, result->length) == 0, "the result is another", size);
+            check(is_untouched(room, result->length, size + 1), "what is behind the result is written to", size);
+        }
+        free(room);
+    }
+}
+
+/* Each allocation refused in turn. */
+static void check_memory(enum call call)
+{
+    const pslink_file *result = result_of(call);
+    static unsigned char room[ROOM];
+    pslink_answer answer;
+    long turn;
+
+    for (turn = 0; turn < 1000; turn++) {
+        uint32_t status;
+
+        memset(room, FILLER, sizeof room);
+        asked = 0;
+        refused_at = turn;
+        status = make(call, room, sizeof room, &answer);
+        refused_at = -1;
+        if (asked <= turn) {
+            check(status == PSLINK_DONE && memcmp(room, result->bytes, result->length) == 0,
+                  "with all memory it is not done", (size_t)turn);
+            check(turn > 0, "no memory was asked for", (size_t)call);
+            return;
+        }
+        check(status == PSLINK_NO_MEMORY && is_bare(&answer, status), "memory is refused, and the answer is another",
+              (size_t)turn);
+        check(is_untouched(room, 0, sizeof room), "memory is refused, and the room is written to", (size_t)turn);
+    }
+    check(0, "there is no end of memory that is asked for", (size_t)call);
+}
+
+/* A refusal of up to 256 libraries requests no memory; of more it may. */
+static void check_refusals(void)
+{
+    static unsigned char room[100];
+    static char libs[300 * 512];
+    static size_t lengths[300];
+    char text[PSLINK_FAULT_TEXT_MAX];
+    pslink_answer answer;
+    size_t count, size;
+
+    for (count = 0; count < 300; count++)
+        lengths[count] = 512;
+    for (count = 0; count <= 300; count++) {
+        uint32_t status;
+
+        memset(room, FILLER, sizeof room);
+        asked = 0;
+        refused_at = 0;
+        status = pslink_link(host.bytes, host.length, libs, 512 * count, lengths, count, room, sizeof room, &answer);
+        refused_at = -1;
+        check(status == (count <= 256 ? PSLINK_REFUSED : PSLINK_NO_MEMORY), "without memory a refusal is another", count);
+        check(count > 256 || (asked == 0 && answer.fault == 13), "a refusal asks for memory", count);
+        check(is_untouched(room, 0, sizeof room), "a refusal writes to the room", count);
+    }
+    check(pslink_link(host.bytes, host.length, libs, 512 * 300, lengths, 300, NULL, 0, &answer) == PSLINK_REFUSED,
+          "three hundred libraries are not read", 300);
+    check(answer.fault == 13 && answer.file == 0 && answer.has_slot == 1 && answer.slot == 7, "the fault is another", 300);
+    size = pslink_fault_text(&answer, NULL, 0);
+    check(size == sizeof "refused 13 MissingUnit file 0 slot 7", "the text has another length", size);
+    memset(text, FILLER, sizeof text);
+    check(pslink_fault_text(&answer, text, size - 1) == size && is_untouched((unsigned char *)text, 0, sizeof text),
+          "a text is written where it does not fit", size);
+    check(pslink_fault_text(&answer, text, size) == size && strcmp(text, "refused 13 MissingUnit file 0 slot 7") == 0,
+          "the text is another", size);
+    check(is_untouched((unsigned char *)text, size, sizeof text), "what is behind the text is written to", size);
+}
+
+static void check_lengths(void)
+{
+    static const size_t wrong[][2] = {{1536, 1}, {1535, 0}, {SIZE_MAX, 1537}, {0, 0}, {1, 1536}};
+    char text[PSLINK_FAULT_TEXT_MAX];
+    pslink_answer answer;
+    size_t k;
+
+    for (k = 0; k < sizeof wrong / sizeof *wrong; k++) {
+        check(pslink_link(host.bytes, host.length, library.bytes, library.length, wrong[k], 2, NULL, 0, &answer) ==
+                  PSLINK_WRONG_LENGTHS && is_bare(&answer, PSLINK_WRONG_LENGTHS),
+              "lengths that do not add up are taken", k);
+        check(pslink_map(host.bytes, host.length, library.bytes, library.length, wrong[k], 2, NULL, 0, &answer) ==
+                  PSLINK_WRONG_LENGTHS,
+              "lengths that do not add up are taken for a map", k);
+    }
+    check(pslink_fault_text(&answer, text, sizeof text) == 0, "wrong lengths are told as a fault", 0);
+    check(pslink_link(NULL, 0, NULL, 0, NULL, 0, NULL, 0, &answer) == PSLINK_REFUSED && answer.fault == 1,
+          "nothing is not refused as a short file", 0);
+    check(pslink_show(NULL, 0, NULL, 0, &answer) == PSLINK_REFUSED && answer.fault == 1,
+          "nothing is shown", 0);
+    memset(&answer, 0xFF, sizeof answer);
+    answer.status = PSLINK_REFUSED;
+    check(pslink_fault_text(&answer, text, sizeof text) == 0, "a fault of no number has a text", 255);
+    check(pslink_version() == PSLINK_VERSION, "the version is another", pslink_version());
+}
+
+static void *link_often(void *is_well)
+{
+    static const int turns = 200;
+    unsigned char *room = (unsigned char *)malloc(PSLINK_LINKED_MAX);
+    int turn;
+
+    for (turn = 0; turn < turns; turn++) {
+        enum call call = (enum call)(turn % CALLS);
+        const pslink_file *result = result_of(call);
+        pslink_answer answer;
+
+        if (room == NULL || make(call, room, PSLINK_LINKED_MAX, &answer) != PSLINK_DONE ||
+            memcmp(room, result->bytes, result->length) != 0)
+            *(int *)is_well = 0;
+    }
+    free(room);
+    return NULL;
+}
+
+static void check_threads(void)
+{
+    pthread_t threads[8];
+    int are_well[8];
+    size_t k;
+
+    for (k = 0; k < 8; k++) {
+        are_well[k] = 1;
+        check(pthread_create(&threads[k], NULL, link_often, &are_well[k]) == 0, "no thread is started", k);
+    }
+    for (k = 0; k < 8; k++) {
+        pthread_join(threads[k], NULL);
+        check(are_well[k], "a thread has another result", k);
+    }
+}
+
+int main(int argc, char **argv)
+{
+    int call;
+
+    if (argc != 6)
+        return 2;
+    host = read_file(argv[1]);
+    library = read_file(argv[2]);
+    linked = read_file(argv[3]);
+    map = read_file(argv[4]);
+    show = read_file(argv[5]);
+    for (call = 0; call < CALLS; call++) {
+        check_rooms((enum call)call);
+        check_memory((enum call)call);
+    }
+    check_refusals();
+    check_lengths();
+    check_threads();
+    return failures != 0;
+}

@@ -1,0 +1,205 @@
+#!/usr/bin/env python3
+"""Writes man/pslink.5 from docs/FORMAT.md, and the parts of man/pslink.1 that lie between a line '.\\" made from ..' and a
+line '.\\" end' from docs/LINKING.md and docs/USING.md, so that each fact has one home.
+Usage: make_pages.py [FOLDER], which is man/ if none is given."""
+import pathlib
+import re
+import sys
+import textwrap
+
+HERE = pathlib.Path(__file__).resolve().parent
+DOCS = HERE.parent / "docs"
+WIDTH = 76
+SHORT = 22  # a column whose cells are all as short is not wrapped
+
+HEAD = r"""'\" t
+.\" written by make_pages.py from docs/FORMAT.md: change that page, and not this one
+.TH PSLINK 5 "2026-11-23" "pslink 0.1.0" "File Formats"
+.SH NAME
+pslink \- code files and link information of UCSD Pascal II.0
+.SH DESCRIPTION
+"""
+
+FOOT = r""".SH SEE ALSO
+.BR pslink (1)
+.PP
+LINKING.md, and the samples and the script that writes them, in the sources of
+.BR pslink (1).
+Its section FILES says where the documents are.
+"""
+
+
+def code(match):
+    return r"\fB" + match[1].replace("-", r"\-") + r"\fR"
+
+
+def inline(text):
+    """The text with the fonts of a manual page in place of marks."""
+    text = text.replace("\\", r"\e")
+    text = re.sub(r"\[([^]]*)\]\([^)]*\)", r"\1", text)
+    text = re.sub(r"\*\*([^*]+)\*\*", r"\\fB\1\\fR", text)
+    text = re.sub(r"`([^`]+)`", code, text)
+    return re.sub(r"(?<!\w)\*(\([a-z]+\)|[A-Za-z][A-Za-z -]*)\*(?!\w)", r"\\fI\1\\fR", text)
+
+
+def lines_of(text):
+    wrapped = textwrap.wrap(inline(text), WIDTH, break_long_words=False, break_on_hyphens=False)
+    return [r"\&" + line if line[:1] in (".", "'") else line for line in wrapped]
+
+
+def heading(line):
+    marks, text = line.split(" ", 1)
+    text = text.replace("*", "").replace("`", "")
+    return f".SH {text.upper()}" if marks == "##" else f".SS {text}"
+
+
+def cells_of(row):
+    return [cell.strip() for cell in row.strip().strip("|").split("|")]
+
+
+def table(rows):
+    """A table with these cells, of which a long one is wrapped."""
+    wide = [max(len(row[column]) for row in rows) > SHORT for column in range(len(rows[0]))]
+    yield ".TS"
+    yield "tab(|);"
+    yield " ".join("lx" if is_wide else "l" for is_wide in wide) + "."
+    for row in rows:
+        line = ""
+        for column, cell in enumerate(row):
+            line += "|" if column else ""
+            if wide[column]:
+                yield line + "T{"
+                yield from lines_of(cell)
+                line = "T}"
+            else:
+                line += inline(cell)
+        yield line
+    yield ".TE"
+
+
+def page(source):
+    """The lines of a manual page for the lines of a document."""
+    first = True
+    lines = source.splitlines()[1:]
+    while lines:
+        line = lines.pop(0)
+        if not line:
+            continue
+        if line.startswith("#"):
+            yield heading(line)
+            first = True
+        elif line.startswith("|"):
+            rows = [line]
+            while lines and lines[0].startswith("|"):
+                rows.append(lines.pop(0))
+            if not first:
+                yield ".PP"
+            cells = [cells_of(row) for row in rows]
+            yield from table([cells[0], *cells[2:]])
+            first = False
+        elif line.startswith("- "):
+            yield r".IP \(bu 2"
+            yield from lines_of(line[2:])
+            first = False
+        else:
+            if not first:
+                yield ".PP"
+            yield from lines_of(line)
+            first = False
+
+
+class Document:
+    """A document by its headings."""
+
+    def __init__(self, name):
+        self.text = (DOCS / name).read_text()
+
+    def section(self, title):
+        """The lines below the heading with this title, up to the next heading."""
+        parts = re.split(r"^#+ (.*)\n", self.text, flags=re.M)
+        return dict(zip(parts[1::2], parts[2::2]))[title].splitlines()
+
+    def tables(self, title):
+        """The tables of a section, each as the cells of its rows below the head."""
+        found, inside = [], False
+        for line in self.section(title):
+            if line.startswith("|"):
+                found += [] if inside else [[]]
+                found[-1].append(cells_of(line))
+            inside = line.startswith("|")
+        return [rows[2:] for rows in found]
+
+
+LINKING, USING = Document("LINKING.md"), Document("USING.md")
+NAMES = {row[0]: row[1] for row in LINKING.tables("When each fault occurs")[0] if row[0]}
+
+
+def texts(title):
+    """The lines of a text and the parts of a line."""
+    lines, parts = LINKING.tables(title)
+    for line, meaning in lines:
+        yield ".TP"
+        yield inline(line)
+        yield from lines_of(f"For {meaning}.")
+    yield ".PP"
+    yield from table([["Part", "Meaning", "Range"], *parts])
+
+
+def faults():
+    """A row for each fault: its number, its name, what is wrong, and what to do."""
+    yield ".TS"
+    yield "tab(|);"
+    yield "r lx"
+    yield "r lx."
+    yield "No.|Name, what is wrong, and what to do"
+    for number, wrong, remedy in LINKING.tables("What to do about each fault")[0]:
+        yield f"{number}|T{{"
+        yield from lines_of(f"**{NAMES[number]}**: {wrong}")
+        yield from lines_of(remedy)
+        yield "T}"
+    yield ".TE"
+
+
+def order():
+    for line in LINKING.section("The order of faults"):
+        if match := re.match(r"(\d+)\. (.*)", line):
+            yield f".IP {match[1]}. 4"
+            yield from lines_of(match[2])
+
+
+def damage():
+    """What may have happened, by what is reported."""
+    causes = {}
+    for happened, reported, _ in USING.tables("Damaged files")[0]:
+        for report in dict.fromkeys(re.findall(r"refused (\d+)|(nothing)", reported)):
+            causes.setdefault("".join(report), []).append(happened)
+    ordered = sorted(causes.items(), key=lambda item: int(item[0]) if item[0].isdigit() else 99)
+    yield from table([["Fault", "What may have happened"], *([fault, "; ".join(all_)] for fault, all_ in ordered)])
+
+
+PARTS = {
+    "the lines of map": lambda: texts("Map"),
+    "the lines of show": lambda: texts("Show"),
+    "the faults": faults,
+    "the order of faults": order,
+    "damaged files": damage,
+    "the limits": lambda: table(LINKING.tables("Limits")[0]),
+}
+
+
+def with_parts(manual):
+    """The manual page with each part as the documents have it."""
+
+    def part(match):
+        return match[1] + "".join(line + "\n" for line in PARTS[match[2]]()) + match[3]
+
+    return re.sub(r'(^\.\\" made from docs/\w+\.md: ([a-z ]+)\n).*?(^\.\\" end\n)', part, manual, flags=re.M | re.S)
+
+
+def main():
+    folder = pathlib.Path(sys.argv[1]) if len(sys.argv) > 1 else HERE
+    (folder / "pslink.5").write_text(HEAD + "\n".join(page((DOCS / "FORMAT.md").read_text())) + "\n" + FOOT)
+    (folder / "pslink.1").write_text(with_parts((HERE / "pslink.1").read_text()))
+
+
+main()
