@@ -1,9 +1,9 @@
 //! What a slot's entry says: its role, whether it has a code, how long the code is, and what follows it.
 use crate::base::UTIL;
 use crate::information::Name;
-use ps_codefile::dictionary_layout::{KINDS, NAME, NAMES, PAIR, TEXTS, WORD};
+use ps_codefile::dictionary_layout::{KINDS, NAMES, PAIR, TEXTS};
 use ps_codefile::{Dict, Entry, Role};
-use ps_words::{Order, Reason, put};
+use ps_words::{NAME_LEN, Order, Reason, WORD_LEN, put};
 use std::process::Abort;
 
 /// The slot of the entry.
@@ -32,10 +32,10 @@ fn file_of(entry: &Entry) -> [u8; LONGEST] {
     file[1024] = b'C';
     let order = Order::Big;
     put(order, &mut file, PAIR * SLOT, entry.address);
-    put(order, &mut file, PAIR * SLOT + WORD, entry.length);
-    put(order, &mut file, KINDS + WORD * SLOT, entry.kind);
-    put(order, &mut file, TEXTS + WORD * SLOT, entry.text);
-    file[NAMES + NAME * SLOT..NAMES + NAME * SLOT + NAME].copy_from_slice(&entry.name);
+    put(order, &mut file, PAIR * SLOT + WORD_LEN, entry.length);
+    put(order, &mut file, KINDS + WORD_LEN * SLOT, entry.kind);
+    put(order, &mut file, TEXTS + WORD_LEN * SLOT, entry.text);
+    file[NAMES + NAME_LEN * SLOT..NAMES + NAME_LEN * SLOT + NAME_LEN].copy_from_slice(&entry.name);
     file
 }
 
