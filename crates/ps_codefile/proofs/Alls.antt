@@ -1,15 +1,15 @@
--- Tests of a row of numbers.
+-- Tests of a list of numbers.
 use Rattle.std.proofs.Common.{◌≡◌, ℕ, zero, suc, ◌+◌, ◌<◌, ◌≤◌, ◌-◌, Bool, true, false, true≢false, ◌&&◌, refl, sym, ◌∙◌, subst, arith, add-zero}
 use Rattle.std.specs.List.{list_all, range_with_len}
 
--- where each number of a row passes a test, all pass
+-- where each number of a list passes a test, all pass
 pub all_from : (p : ℕ → Bool) (a n : ℕ) → ((k : ℕ) → k < n → p (a + k) ≡ true) → list_all p (range_with_len a n) ≡ true
 all_from p a zero h = refl
 all_from p a (suc n) h =
     let first : p a ≡ true = subst (λ (m : ℕ). p m ≡ true) (add-zero a) (h 0 (omega arith)) in
     rw first (all_from p (a + 1) n (λ k lt. subst (λ (m : ℕ). p m ≡ true) (let e : a + (k + 1) ≡ (a + 1) + k = omega arith in e) (h (k + 1) (omega arith))))
 
--- where one number of a row does not pass a test, not all pass
+-- where one number of a list does not pass a test, not all pass
 pub not_all : (p : ℕ → Bool) (a n i j : ℕ) → i < n → j ≡ a + i → p j ≡ false → list_all p (range_with_len a n) ≡ false
 not_all p a zero i j lt e h = absurd (omega arith)
 not_all p a (suc n) zero j lt e h = let x : j ≡ a = omega arith in let g = subst (λ (m : ℕ). p m ≡ false) x h in rw g
@@ -19,7 +19,7 @@ not_all p a (suc n) (suc i) j lt e h = rw (not_all p (a + 1) n i j (omega arith)
     and_false true = refl
     and_false false = refl
 
--- each number of the row passes
+-- each number of the list passes
 pub all_at : (p : ℕ → Bool) (n : ℕ) → list_all p (range_with_len 1 n) ≡ true → (j : ℕ) → 1 ≤ j → j ≤ n → p j ≡ true
 all_at p n all j low high = at (p j) refl
   where

@@ -1,6 +1,5 @@
 //! Code files of UCSD Pascal II.0: the segment dictionary in block 0, the code of each slot, and
-//! the
-//! procedure tables at the end of a code.
+//! the procedure tables at the end of a code.
 #![tactic(auto)]
 
 pub mod code_layout;

@@ -1,7 +1,7 @@
 -- The facts of the builders of definitions and of allotments, computed.
 use Rattle.std.proofs.Common.{◌≡◌, zero, suc, [], ◌∷◌, refl, arith}
 use Rattle.ps_examples.specs.Files.{state}
-use Rattle.ps_examples.specs.Owners.{defined_once, defined_again, util_owner, aux_owner, doubling_owner, plain_owner, first_private, second_private, third_private}
+use Rattle.ps_examples.specs.Owners.{defined_once, defined_again, util_owner, aux_owner, duplicate_owner, plain_owner, first_private, second_private, third_private}
 use Rattle.ps_linkinfo.specs.RecordCounts.{is_definition}
 use Rattle.ps_resolve.proofs.Builders as builders
 use Rattle.ps_resolve.specs.Builders.{HaveNoNamesakes, StopsDefinitions, offset_at, HaveDistinctPrivates, HaveRoom, StopsPrivates, all_asked, asked_of, AreByRecord, words_of_all}
@@ -40,8 +40,8 @@ room_for_no_private = builders.room 32768 (plain_owner ∷ []) refl
 pub a_private_past_the_last_word : StopsPrivates 32764 (util_owner ∷ aux_owner ∷ []) (Refused (in_record 1 7 1 reason.NoRoom))
 a_private_past_the_last_word = builders.not_allotted 32764 (util_owner ∷ aux_owner ∷ []) (Refused (in_record 1 7 1 reason.NoRoom)) refl
 
-pub a_second_private_of_a_name : StopsPrivates 32763 (doubling_owner ∷ []) (Refused (in_record 1 7 2 reason.DoubledPrivate))
-a_second_private_of_a_name = builders.not_allotted 32763 (doubling_owner ∷ []) (Refused (in_record 1 7 2 reason.DoubledPrivate)) refl
+pub a_second_private_of_a_name : StopsPrivates 32763 (duplicate_owner ∷ []) (Refused (in_record 1 7 2 reason.DoubledPrivate))
+a_second_private_of_a_name = builders.not_allotted 32763 (duplicate_owner ∷ []) (Refused (in_record 1 7 2 reason.DoubledPrivate)) refl
 
 pub no_memory_for_a_private : StopsPrivates 8 (util_owner ∷ []) Memory
 no_memory_for_a_private = (0, util_owner, refl, (1, _, refl, refl))

@@ -41,8 +41,8 @@ no_slot : HasSlot Little host aux → ⊥
 no_slot t = false≢true (sym (fails 16 (λ k. bytes_eq (entry_at Little host k).name aux) refl t.0 t.1) ∙ (bytes_eq-Decides (entry_at Little host t.0).name aux).1 t.2.1)
 
 -- the queue is not empty where UTIL requests AUX
-pub no_name_is_sought : AddedUnits Little host (library_of_used (util_information Little) ∷ []) [] [] → ⊥
-no_name_is_sought h = elim (h.complete 1 0 aux asks) [ inl has ↦ no_slot has | inr t ↦ (let e = t.2 in cc) ]
+pub no_name_is_requested : AddedUnits Little host (library_of_used (util_information Little) ∷ []) [] [] → ⊥
+no_name_is_requested h = elim (h.complete 1 0 aux asks) [ inl has ↦ no_slot has | inr t ↦ (let e = t.2 in cc) ]
   where
     asks : Asks (own_segments Little host (library_of_used (util_information Little) ∷ []) ++ []) 1 0 aux
     asks = subst (λ (own : List Segment). Asks (own ++ []) 1 0 aux) (sym own_of_used) (using_segment, refl, aux_reference, refl, refl, refl)

@@ -4,7 +4,7 @@ use Rattle.std.specs.Prelude.{slice_get}
 use Rattle.std.proofs.lemmas.Bool.{false≢true}
 use Rattle.ps_examples.specs.Files.{count, state}
 use Rattle.ps_examples.specs.Segments.{count_reference, state_reference, end_mark}
-use Rattle.ps_examples.specs.Owners.{defined_again, util_owner, aux_owner, doubling_owner, plain_owner, first_private, second_private, third_private}
+use Rattle.ps_examples.specs.Owners.{defined_again, util_owner, aux_owner, duplicate_owner, plain_owner, first_private, second_private, third_private}
 use Rattle.ps_examples.proofs.ByteFacts.{same}
 use Rattle.ps_examples.proofs.NotLinked.{count_state}
 use Rattle.ps_examples.proofs.NotOrigins.{none_passes}
@@ -55,11 +55,11 @@ pub no_memory_without_a_definition : StopsDefinitions 0 1 (count_reference ∷ [
 no_memory_without_a_definition t = none_passes (λ (r : Record). is_definition r.body ≡ true) (count_reference ∷ []) (λ e. false≢true e, tt) t.0 t.1 t.2 t.3
 
 -- names and room
-doubled : HasEarlierNamesake is_private_reference doubling_owner.records 2 state_reference
-doubled = (refl, (1, omega arith, (state_reference, refl, (refl, refl))))
+duplicate : HasEarlierNamesake is_private_reference duplicate_owner.records 2 state_reference
+duplicate = (refl, (1, omega arith, (state_reference, refl, (refl, refl))))
 
-pub a_name_twice_in_a_segment : HaveDistinctPrivates (util_owner ∷ doubling_owner ∷ []) → ⊥
-a_name_twice_in_a_segment h = h 1 doubling_owner refl 2 state_reference refl doubled
+pub a_name_twice_in_a_segment : HaveDistinctPrivates (util_owner ∷ duplicate_owner ∷ []) → ⊥
+a_name_twice_in_a_segment h = h 1 duplicate_owner refl 2 state_reference refl duplicate
 
 pub no_room_for_the_last_word : HaveRoom 32764 (util_owner ∷ []) → ⊥
 no_room_for_the_last_word h = let le : 32768 ≤ 32767 = h 0 1 util_owner state_reference refl refl refl in omega (arith, le)
@@ -108,19 +108,19 @@ not_a_record_without_a_private t = go t.segment t.owner t.of t.rec t.item (rec_o
     go (suc k) s e rec r h f p = cc
 
 -- a private whose name an earlier one of its segment has is not refused for room
-pub not_for_room_where_its_name_is_doubled : StopsPrivates 32763 (doubling_owner ∷ []) (Refused (in_record 1 7 2 reason.NoRoom)) → ⊥
-not_for_room_where_its_name_is_doubled t = go t.segment t.owner t.of t.rec t.item (rec_of_fault 2 t.rec 1 t.owner.file 7 t.owner.slot reason.NoRoom t.why t.told) t.there
-    (subst (λ (w : Reason). IsUnfit 32763 (doubling_owner ∷ []) t.segment t.owner t.rec t.item w) (sym (why_of_fault reason.NoRoom t.why 1 t.owner.file 7 t.owner.slot 2 t.rec t.told)) t.unfit)
+pub not_for_room_where_its_name_is_duplicate : StopsPrivates 32763 (duplicate_owner ∷ []) (Refused (in_record 1 7 2 reason.NoRoom)) → ⊥
+not_for_room_where_its_name_is_duplicate t = go t.segment t.owner t.of t.rec t.item (rec_of_fault 2 t.rec 1 t.owner.file 7 t.owner.slot reason.NoRoom t.why t.told) t.there
+    (subst (λ (w : Reason). IsUnfit 32763 (duplicate_owner ∷ []) t.segment t.owner t.rec t.item w) (sym (why_of_fault reason.NoRoom t.why 1 t.owner.file 7 t.owner.slot 2 t.rec t.told)) t.unfit)
   where
-    third : (rec : ℕ) (r : Record) → 2 ≡ rec → slice_get doubling_owner.records rec ≡ Some r → (HasEarlierNamesake is_private_reference doubling_owner.records rec r → ⊥) → ⊥
+    third : (rec : ℕ) (r : Record) → 2 ≡ rec → slice_get duplicate_owner.records rec ≡ Some r → (HasEarlierNamesake is_private_reference duplicate_owner.records rec r → ⊥) → ⊥
     third zero r h e f = omega (arith, h)
     third (suc zero) r h e f = omega (arith, h)
-    third (suc (suc zero)) r h e f = f (subst (λ (x : Record). HasEarlierNamesake is_private_reference doubling_owner.records 2 x) (same state_reference r e) doubled)
+    third (suc (suc zero)) r h e f = f (subst (λ (x : Record). HasEarlierNamesake is_private_reference duplicate_owner.records 2 x) (same state_reference r e) duplicate)
     third (suc (suc (suc rec))) r h e f = omega (arith, h)
 
-    go : (k : ℕ) (s : Owner) → slice_get (doubling_owner ∷ []) k ≡ Some s → (rec : ℕ) (r : Record) → 2 ≡ rec → slice_get s.records rec ≡ Some r → IsUnfit 32763 (doubling_owner ∷ []) k s rec r reason.NoRoom → ⊥
+    go : (k : ℕ) (s : Owner) → slice_get (duplicate_owner ∷ []) k ≡ Some s → (rec : ℕ) (r : Record) → 2 ≡ rec → slice_get s.records rec ≡ Some r → IsUnfit 32763 (duplicate_owner ∷ []) k s rec r reason.NoRoom → ⊥
     go zero s e rec r h f u =
-        let is = same doubling_owner s e in
+        let is = same duplicate_owner s e in
         third rec r h (subst (λ (o : Owner). slice_get o.records rec ≡ Some r) (sym is) f) (subst (λ (o : Owner). HasEarlierNamesake is_private_reference o.records rec r → ⊥) (sym is) u.0)
     go (suc k) s e rec r h f u = cc
 

@@ -28,8 +28,8 @@ abbrev pub aux_owner : Owner
 aux_owner = owner_of aux_segment
 
 -- UTIL with two privates of one name
-abbrev pub doubling_owner : Owner
-doubling_owner = record util_owner { records = count_reference ∷ state_reference ∷ state_reference ∷ [] }
+abbrev pub duplicate_owner : Owner
+duplicate_owner = record util_owner { records = count_reference ∷ state_reference ∷ state_reference ∷ [] }
 
 -- UTIL without a private
 abbrev pub plain_owner : Owner

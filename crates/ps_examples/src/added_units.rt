@@ -13,7 +13,7 @@ ghost use Rattle.ps_words.specs.declared.order.Order.TheVariants.{Little};
 pub fn units_that_are_added()
     ensures a_unit_that_only_a_unit_names { first_fault host
         (library_of_used (util_information Little) ∷ []) ≡ None }
-    ensures each_name_of_its_records_is_sought { first_fault host
+    ensures each_name_of_its_records_is_requested { first_fault host
         (with_aux aux_code (util_information Little)
         (library_with Little (unit_ref Little aux (2 ∷ []) ++ unit_ref Little nobody []
         ++ eof_mark Little 0)) ∷ []) ≡ Some (in_record 1 7 1 reason.MissingUnit) }
@@ -61,10 +61,10 @@ pub fn order_of_added_units()
     ensures a_missing_unit_before_no_slot { first_fault (filled_host 8)
         (library_with Little (unit_ref Little aux (2 ∷ []) ++ eof_mark Little 0) ∷ [])
         ≡ Some (in_record 1 7 0 reason.MissingUnit) }
-    ensures no_slot_before_a_doubled_unit { first_fault (filled_host 8)
+    ensures no_slot_before_a_duplicate_unit { first_fault (filled_host 8)
         (with_slot Little 4 aux 5 3 24 (library_of_used (util_information Little)) ∷ [])
         ≡ Some (in_record 1 7 0 reason.NoSlot) }
-    ensures a_doubled_unit_before_its_kind { first_fault host
+    ensures a_duplicate_unit_before_its_kind { first_fault host
         (with_slot Little 4 aux 5 3 24 (put_at 198 (5 ∷ [])
         (library_of_used (util_information Little))) ∷ [])
         ≡ Some (in_slot 1 8 reason.DoubledUnit) }
@@ -78,7 +78,7 @@ pub fn order_of_added_units()
         (put_at 2056 (15 ∷ []) (with_aux aux_code (util_information Little)
         (library_with Little (unit_ref Little aux (2 ∷ []) ++ unit_ref Little nobody []
         ++ eof_mark Little 0))) ∷ []) ≡ Some (in_record 1 8 0 reason.UnknownRecord) }
-    ensures a_missing_unit_before_a_doubled_definition { first_fault
+    ensures a_missing_unit_before_a_duplicate_definition { first_fault
         (host_with Little (publ_def Little count 3 ++ publ_def Little count 4
         ++ eof_mark Little 8)) (library_with Little
         (unit_ref Little nobody (2 ∷ []) ++ eof_mark Little 0) ∷ [])
@@ -95,7 +95,7 @@ pub fn rows_of_no_link()
     // AUX, which its own record alone requests
     ensures its_own_record_alone { (g : UnitReference) (s : Segment) → g.name ≡ aux
         → AddedUnits Little host (library_naming_itself ∷ []) (g ∷ []) (s ∷ []) → ⊥ }
-    ensures no_name_is_sought { AddedUnits Little host
+    ensures no_name_is_requested { AddedUnits Little host
         (library_of_used (util_information Little) ∷ []) [] [] → ⊥ }
     ensures in_a_later_slot { (g : UnitReference) → AddedUnits Little host
         (library_of_used (util_information Little) ∷ []) (g ∷ []) (past_segment ∷ []) → ⊥ }

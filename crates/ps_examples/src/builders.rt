@@ -1,7 +1,7 @@
 ghost use Rattle.std.specs.Prelude.{◌≡◌, [], ◌∷◌};
 ghost use Rattle.ps_examples.specs.Files.{state};
 ghost use Rattle.ps_examples.specs.Owners.{defined_once, defined_again};
-ghost use Rattle.ps_examples.specs.Owners.{util_owner, aux_owner, doubling_owner, plain_owner};
+ghost use Rattle.ps_examples.specs.Owners.{util_owner, aux_owner, duplicate_owner, plain_owner};
 ghost use Rattle.ps_examples.specs.Owners.{first_private, second_private, third_private};
 ghost use Rattle.ps_examples.specs.Segments.{count_reference};
 ghost use Rattle.ps_linkinfo.specs.RecordCounts.{is_definition};
@@ -27,7 +27,7 @@ pub fn facts_of_builders()
     ensures room_for_no_private { HaveRoom 32768 (plain_owner ∷ []) }
     ensures a_private_past_the_last_word { StopsPrivates 32764 (util_owner ∷ aux_owner ∷ [])
         (Refused (in_record 1 7 1 reason.NoRoom)) }
-    ensures a_second_private_of_a_name { StopsPrivates 32763 (doubling_owner ∷ [])
+    ensures a_second_private_of_a_name { StopsPrivates 32763 (duplicate_owner ∷ [])
         (Refused (in_record 1 7 2 reason.DoubledPrivate)) }
     ensures no_memory_for_a_private { StopsPrivates 8 (util_owner ∷ []) Memory }
     ensures what_a_private_asked_for { asked_of third_private
@@ -52,13 +52,13 @@ pub fn what_no_builder_does()
         (Refused (in_record 0 1 1 reason.DoubledDefinition)) → ⊥ }
     ensures no_memory_without_a_definition { StopsDefinitions 0 1 (count_reference ∷ [])
         Memory → ⊥ }
-    ensures a_name_twice_in_a_segment { HaveDistinctPrivates (util_owner ∷ doubling_owner ∷ []) → ⊥ }
+    ensures a_name_twice_in_a_segment { HaveDistinctPrivates (util_owner ∷ duplicate_owner ∷ []) → ⊥ }
     ensures no_room_for_the_last_word { HaveRoom 32764 (util_owner ∷ []) → ⊥ }
     ensures not_the_later_private { StopsPrivates 32764 (util_owner ∷ aux_owner ∷ [])
         (Refused (in_record 1 8 1 reason.NoRoom)) → ⊥ }
     ensures not_a_record_without_a_private { StopsPrivates 32768 (util_owner ∷ [])
         (Refused (in_record 1 7 0 reason.NoRoom)) → ⊥ }
-    ensures not_for_room_where_its_name_is_doubled { StopsPrivates 32763 (doubling_owner ∷ [])
+    ensures not_for_room_where_its_name_is_duplicate { StopsPrivates 32763 (duplicate_owner ∷ [])
         (Refused (in_record 1 7 2 reason.NoRoom)) → ⊥ }
     ensures no_memory_without_a_private { StopsPrivates 8 (plain_owner ∷ []) Memory → ⊥ }
     ensures not_turned_round { AreByRecord (second_private ∷ first_private ∷ []) → ⊥ }

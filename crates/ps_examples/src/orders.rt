@@ -14,7 +14,7 @@ pub fn one_order()
         (take 511 library ∷ []) ≡ Some (in_file 1 reason.ShortFile) }
     ensures cut_information_before_a_missing_unit_above { first_fault (take 1023 host) []
         ≡ Some (in_record 0 1 0 reason.RecordsTruncated) }
-    ensures a_doubled_unit_before_its_kind { first_fault host
+    ensures a_duplicate_unit_before_its_kind { first_fault host
         (with_slot Little 3 util 3 1 24 (put_at 196 (5 ∷ []) library) ∷ [])
         ≡ Some (in_slot 1 7 reason.DoubledUnit) }
     ensures a_bad_table_before_a_native_procedure { first_fault host
@@ -34,7 +34,7 @@ pub fn one_order()
         (put_at 514 (1 ∷ []) (library_with Little
         (publ_ref Little count (1 ∷ 1 ∷ []) ++ eof_mark Little 0)) ∷ [])
         ≡ Some (in_reference 1 7 0 0 reason.OperandTooLarge) }
-    ensures a_doubled_definition_before_a_missing_one { first_fault
+    ensures a_duplicate_definition_before_a_missing_one { first_fault
         (host_with Little (publ_def Little count 3 ++ publ_ref Little cuont []
         ++ publ_def Little count 4 ++ eof_mark Little 8)) (library ∷ [])
         ≡ Some (in_record 0 1 2 reason.DoubledDefinition) }
@@ -42,17 +42,17 @@ pub fn one_order()
         (library_with Little (publ_ref Little count (1 ∷ 4 ∷ 10 ∷ [])
         ++ publ_ref Little count (2 ∷ []) ++ eof_mark Little 0) ∷ [])
         ≡ Some (in_reference 1 7 0 2 reason.ReservedPlace) }
-    ensures a_doubled_definition_before_a_missing_definition_of_a_unit { first_fault
+    ensures a_duplicate_definition_before_a_missing_definition_of_a_unit { first_fault
         (host_with Little (publ_def Little count 3 ++ publ_def Little count 4
         ++ eof_mark Little 8)) (library_with Little
         (publ_ref Little cuont (1 ∷ []) ++ eof_mark Little 0) ∷ [])
         ≡ Some (in_record 0 1 1 reason.DoubledDefinition) }
-    ensures a_doubled_private_before_its_room { first_fault host
+    ensures a_duplicate_private_before_its_room { first_fault host
         (library_with Little (priv_ref Little state 4 [] ++ priv_ref Little state 32767 []
         ++ eof_mark Little 0) ∷ []) ≡ Some (in_record 1 7 1 reason.DoubledPrivate) }
     ensures an_earlier_library_before_a_later_one { first_fault host
         (library_in Big ∷ take 511 library ∷ []) ≡ Some (in_file 1 reason.OrderMismatch) }
-    ensures a_doubled_segment_before_a_kind_above { first_fault
+    ensures a_duplicate_segment_before_a_kind_above { first_fault
         (with_slot Little 8 util 3 0 0 (with_slot Little 9 blank_name 8 1 18 host)) (library ∷ [])
         ≡ Some (in_slot 0 8 reason.DoubledSegment) }
     ensures outside_before_reserved_and_overlap { first_fault host

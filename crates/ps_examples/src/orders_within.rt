@@ -15,7 +15,7 @@ pub fn order_within_a_step()
     ensures a_native_procedure_before_a_record { first_fault host
         (put_at 530 (0 ∷ []) (put_at 1032 (15 ∷ []) library) ∷ [])
         ≡ Some (in_slot 1 7 reason.NativeProcedure) }
-    ensures a_doubled_definition_before_a_doubled_private { first_fault
+    ensures a_duplicate_definition_before_a_duplicate_private { first_fault
         (host_with Little (publ_def Little count 3 ++ publ_def Little count 4
         ++ eof_mark Little 8)) (library_with Little
         (priv_ref Little state 4 [] ++ priv_ref Little state 4 [] ++ eof_mark Little 0) ∷ [])

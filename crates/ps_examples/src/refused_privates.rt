@@ -24,11 +24,11 @@ pub fn faults_of_privates()
     ensures without_privates_the_end_mark_may_be_large { first_fault
         (host_with Little (publ_def Little count 3 ++ eof_mark Little 40000))
         (library_with Little (publ_ref Little count (1 ∷ []) ++ eof_mark Little 0) ∷ []) ≡ None }
-    ensures a_private_is_doubled_after_another { first_fault host
+    ensures a_private_is_duplicate_after_another { first_fault host
         (library_with Little (priv_ref Little state 4 [] ++ priv_ref Little nobody 4 []
         ++ priv_ref Little state 4 [] ++ eof_mark Little 0) ∷ [])
         ≡ Some (in_record 1 7 2 reason.DoubledPrivate) }
-    ensures a_definition_is_doubled_after_another { first_fault
+    ensures a_definition_is_duplicate_after_another { first_fault
         (host_with Little (publ_def Little count 3 ++ const_def Little limit 9
         ++ publ_def Little count 4 ++ eof_mark Little 8)) (library ∷ [])
         ≡ Some (in_record 0 1 2 reason.DoubledDefinition) }

@@ -7,13 +7,13 @@ ghost use Rattle.ps_words.specs.declared.order.Order.TheVariants.{Little};
 
 /// What is wrong with the definitions, the private variables and the host's data size.
 pub fn faults_of_symbols()
-    ensures a_definition_is_doubled { first_fault
+    ensures a_definition_is_duplicate { first_fault
         (host_with Little (publ_def Little count 3 ++ publ_def Little count 4
         ++ eof_mark Little 8)) (library ∷ []) ≡ Some (in_record 0 1 1 reason.DoubledDefinition) }
-    ensures a_constant_doubles_a_public_one { first_fault
+    ensures a_constant_duplicates_a_public_one { first_fault
         (host_with Little (publ_def Little count 3 ++ const_def Little count 4
         ++ eof_mark Little 8)) (library ∷ []) ≡ Some (in_record 0 1 1 reason.DoubledDefinition) }
-    ensures a_private_is_doubled { first_fault host
+    ensures a_private_is_duplicate { first_fault host
         (library_with Little (publ_ref Little count (1 ∷ []) ++ priv_ref Little state 4 (4 ∷ [])
         ++ priv_ref Little state 4 [] ++ eof_mark Little 0) ∷ [])
         ≡ Some (in_record 1 7 2 reason.DoubledPrivate) }

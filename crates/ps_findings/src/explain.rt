@@ -1,6 +1,5 @@
 //! A refusal in words: the file, the segment, the record and the reference by their names, what the
-//! number says of them,
-//! and what to do.
+//! number says of them, and what to do.
 pub(crate) mod code;
 pub(crate) mod definitions;
 mod dictionary;

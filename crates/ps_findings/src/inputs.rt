@@ -89,8 +89,7 @@ impl fmt::Display for FileOrder {
 }
 
 /// A name as the report shows it: without the blanks that fill it up, and a byte that ASCII does
-/// not print as a question
-/// mark.
+/// not print as a question mark.
 #[derive(Clone, Copy)]
 pub(crate) struct Shown(pub(crate) Name);
 

@@ -1,6 +1,6 @@
 //! What is found in a host and its libraries, in words for a person: the files, the segments with
-//! where each comes from,
-//! what a fault means in these files, and what looks wrong and is no fault. Nothing is linked here.
+//! where each comes from, what a fault means in these files, and what looks wrong and is no fault.
+//! Nothing is linked here.
 #![tactic(auto)]
 
 mod explain;

@@ -175,8 +175,7 @@ fn next_slot(dict: &Dict<'_>, list: &[Segment<'_>]) -> Option<u8> {
 }
 
 /// Adds the units that the records of this segment of the list request and that it does not have.
-/// The answer is false where no
-/// slot was left for one.
+/// The answer is false where no slot was left for one.
 fn add_asked<'a, A: Allocator + Copy>(
     inputs: &Inputs<'a>,
     dict: &Dict<'a>,
@@ -204,8 +203,7 @@ fn add_asked<'a, A: Allocator + Copy>(
 }
 
 /// The segments of a link: those of the host's slots, ascending, then those that are added, each
-/// after the one that requests
-/// for it. None where the host cannot be read.
+/// after the one that requests for it. None where the host cannot be read.
 pub(crate) fn segments_of<'a, A: Allocator + Copy>(
     alloc: A,
     inputs: &Inputs<'a>,

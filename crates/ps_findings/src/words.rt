@@ -24,8 +24,8 @@ pub struct Words<A: Allocator> {
 /// What is said of a host and its libraries, which are refused for this fault, if for any.
 ///
 /// `host_path` and `paths` name the files in the text; `host` and each of `libs` are whole code
-/// files, the libraries in
-/// the order in which units are looked up in them. Returns an error where memory was refused.
+/// files, the libraries in the order in which units are looked up in them. Returns an error where
+/// memory was refused.
 /// Source: this project's profile.
 pub fn words_of<'a, A: Allocator + Copy>(
     alloc: A,

@@ -32,8 +32,8 @@ use Rattle.ps_laws.proofs.Items.{In, at_left, at_seam, in_range, of_range, find_
 use Rattle.ps_laws.proofs.Segments.{from_slot}
 use Rattle.ps_laws.proofs.Sources.{named, chosen, ok_is}
 use Rattle.ps_laws.proofs.Rounds.{own_units, references_of}
-use Rattle.ps_laws.proofs.OneRow.{giver_of_front}
-use Rattle.ps_laws.proofs.Asked.{source_made, unit_found, added_is, sought_grows, all_had, had_more, had_last, or_cases, row_of, name_placed, segment_named, in_empty, own_in, own_at, units_named}
+use Rattle.ps_laws.proofs.OneQueue.{giver_of_front}
+use Rattle.ps_laws.proofs.Asked.{source_made, unit_found, added_is, queue_grows, all_known, known_more, known_last, or_cases, queue_of, name_placed, segment_named, in_empty, own_in, own_at, units_named}
 use Rattle.ps_words.specs.declared.order.Order.{Order}
 use Rattle.ps_words.specs.declared.fault.Reason.{Reason}
 
@@ -232,89 +232,89 @@ numbered_ascend i (s ∷ ss) p q m n g h l e u = go (λ a b x y z. numbered_asce
 
 -- 2. the queue: each name at the first of its references that is not known already
 abbrev IsEarliest : List (List ℕ × ℕ) → List UnitReference → List UnitReference → ℕ → UnitReference → Type 0
-IsEarliest units row gs p g =
-    (slice_get gs p ≡ Some g) × (is_already_known units row g.name ≡ false) × ((q : ℕ) (h : UnitReference) → q < p → slice_get gs q ≡ Some h → h.name ≢ g.name)
+IsEarliest units queue gs p g =
+    (slice_get gs p ≡ Some g) × (is_already_known units queue g.name ≡ false) × ((q : ℕ) (h : UnitReference) → q < p → slice_get gs q ≡ Some h → h.name ≢ g.name)
 
--- a name that is not had with one more reference is not had without it, and is not its name
-had_by : (units : List (List ℕ × ℕ)) (row : List UnitReference) (h : UnitReference) (name : List ℕ) → is_already_known units (row ++ h ∷ []) name ≡ false → (is_already_known units row name ≡ false) × (h.name ≢ name)
-had_by units row h name e = (fewer (is_already_known units row name) refl, other)
+-- a name that is not known with one more reference is not known without it, and is not its name
+known_by : (units : List (List ℕ × ℕ)) (queue : List UnitReference) (h : UnitReference) (name : List ℕ) → is_already_known units (queue ++ h ∷ []) name ≡ false → (is_already_known units queue name ≡ false) × (h.name ≢ name)
+known_by units queue h name e = (fewer (is_already_known units queue name) refl, other)
   where
-    fewer : (b : Bool) → is_already_known units row name ≡ b → is_already_known units row name ≡ false
-    fewer true is = absurd (false≢true (sym e ∙ had_more units row (h ∷ []) name is))
+    fewer : (b : Bool) → is_already_known units queue name ≡ b → is_already_known units queue name ≡ false
+    fewer true is = absurd (false≢true (sym e ∙ known_more units queue (h ∷ []) name is))
     fewer false is = is
 
     other : h.name ≢ name
-    other same = false≢true (sym e ∙ ap (λ (n : List ℕ). is_already_known units (row ++ h ∷ []) n) (sym same) ∙ had_last units row h)
+    other same = false≢true (sym e ∙ ap (λ (n : List ℕ). is_already_known units (queue ++ h ∷ []) n) (sym same) ∙ known_last units queue h)
 
 -- after one more reference
-past_had : (units : List (List ℕ × ℕ)) (row gs : List UnitReference) (x : UnitReference) (p : ℕ) (g : UnitReference) → is_already_known units row x.name ≡ true → IsEarliest units row gs p g → IsEarliest units row (x ∷ gs) (suc p) g
-past_had units row gs x p g had t = (t.0, t.1, first)
+past_known : (units : List (List ℕ × ℕ)) (queue gs : List UnitReference) (x : UnitReference) (p : ℕ) (g : UnitReference) → is_already_known units queue x.name ≡ true → IsEarliest units queue gs p g → IsEarliest units queue (x ∷ gs) (suc p) g
+past_known units queue gs x p g known t = (t.0, t.1, first)
   where
     first : (q : ℕ) (h : UnitReference) → q < suc p → slice_get (x ∷ gs) q ≡ Some h → h.name ≢ g.name
-    first zero h l e same = let it : x ≡ h = cc in false≢true (sym t.1 ∙ ap (λ (n : List ℕ). is_already_known units row n) (sym same ∙ sym (ap (λ (y : UnitReference). y.name) it)) ∙ had)
+    first zero h l e same = let it : x ≡ h = cc in false≢true (sym t.1 ∙ ap (λ (n : List ℕ). is_already_known units queue n) (sym same ∙ sym (ap (λ (y : UnitReference). y.name) it)) ∙ known)
     first (suc q) h l e same = t.2 q h (omega (arith, l)) e same
 
 -- and after one that came into the queue
-past_new : (units : List (List ℕ × ℕ)) (row gs : List UnitReference) (x : UnitReference) (p : ℕ) (g : UnitReference) → IsEarliest units (row ++ x ∷ []) gs p g → IsEarliest units row (x ∷ gs) (suc p) g
-past_new units row gs x p g t = (t.0, by.0, first)
+past_new : (units : List (List ℕ × ℕ)) (queue gs : List UnitReference) (x : UnitReference) (p : ℕ) (g : UnitReference) → IsEarliest units (queue ++ x ∷ []) gs p g → IsEarliest units queue (x ∷ gs) (suc p) g
+past_new units queue gs x p g t = (t.0, by.0, first)
   where
-    by : (is_already_known units row g.name ≡ false) × (x.name ≢ g.name)
-    by = had_by units row x g.name t.1
+    by : (is_already_known units queue g.name ≡ false) × (x.name ≢ g.name)
+    by = known_by units queue x g.name t.1
 
     first : (q : ℕ) (h : UnitReference) → q < suc p → slice_get (x ∷ gs) q ≡ Some h → h.name ≢ g.name
     first zero h l e same = let it : x ≡ h = cc in by.1 (ap (λ (y : UnitReference). y.name) it ∙ same)
     first (suc q) h l e same = t.2 q h (omega (arith, l)) e same
 
-new_here : (units : List (List ℕ × ℕ)) (row gs : List UnitReference) (x : UnitReference) → is_already_known units row x.name ≡ false → IsEarliest units row (x ∷ gs) zero x
-new_here units row gs x none = (refl, none, λ q h l e same. omega (arith, l))
+new_here : (units : List (List ℕ × ℕ)) (queue gs : List UnitReference) (x : UnitReference) → is_already_known units queue x.name ≡ false → IsEarliest units queue (x ∷ gs) zero x
+new_here units queue gs x none = (refl, none, λ q h l e same. omega (arith, l))
 
--- the name that a new one of the row is
-new_name : (units : List (List ℕ × ℕ)) (row gs : List UnitReference) (x : UnitReference) (k : ℕ) (g : UnitReference) → k ≡ length row → slice_get (requested_from units (row ++ x ∷ []) gs) k ≡ Some g → x ≡ g
-new_name units row gs x k g at e =
-    let grown = sought_grows units (row ++ x ∷ []) gs in
-    let there : slice_get (requested_from units (row ++ x ∷ []) gs) k ≡ Some x = ap (λ (r : List UnitReference). slice_get r k) grown.1 ∙ at_left (row ++ x ∷ []) grown.0 k x (at_seam row x [] k at) in
+-- the name that a new one of the queue is
+new_name : (units : List (List ℕ × ℕ)) (queue gs : List UnitReference) (x : UnitReference) (k : ℕ) (g : UnitReference) → k ≡ length queue → slice_get (requested_from units (queue ++ x ∷ []) gs) k ≡ Some g → x ≡ g
+new_name units queue gs x k g at e =
+    let grown = queue_grows units (queue ++ x ∷ []) gs in
+    let there : slice_get (requested_from units (queue ++ x ∷ []) gs) k ≡ Some x = ap (λ (r : List UnitReference). slice_get r k) grown.1 ∙ at_left (queue ++ x ∷ []) grown.0 k x (at_seam queue x [] k at) in
     cc
 
 -- each name that is after those in the queue is that of an earliest reference
-sought_at : (units : List (List ℕ × ℕ)) (row gs : List UnitReference) (k : ℕ) (g : UnitReference) → length row ≤ k → slice_get (requested_from units row gs) k ≡ Some g → (p : ℕ) × IsEarliest units row gs p g
-sought_at units row [] k g low e = let h = slice_get_within row k g e in absurd (omega (arith, h, low))
-sought_at units row (x ∷ gs) k g low e = go (is_already_known units row x.name) refl e (λ r h u. sought_at units r gs k g h u)
+requested_at : (units : List (List ℕ × ℕ)) (queue gs : List UnitReference) (k : ℕ) (g : UnitReference) → length queue ≤ k → slice_get (requested_from units queue gs) k ≡ Some g → (p : ℕ) × IsEarliest units queue gs p g
+requested_at units queue [] k g low e = let h = slice_get_within queue k g e in absurd (omega (arith, h, low))
+requested_at units queue (x ∷ gs) k g low e = go (is_already_known units queue x.name) refl e (λ r h u. requested_at units r gs k g h u)
   where
-    go : (b : Bool) → is_already_known units row x.name ≡ b → slice_get (requested_from units (if b then row else row ++ x ∷ []) gs) k ≡ Some g
-        → ((r : List UnitReference) → length r ≤ k → slice_get (requested_from units r gs) k ≡ Some g → (p : ℕ) × IsEarliest units r gs p g) → (p : ℕ) × IsEarliest units row (x ∷ gs) p g
-    go true had e later = let t = later row low e in (suc t.0, past_had units row gs x t.0 g had t.1)
-    go false none e later = elim (cases_lt (length row) k) [
+    go : (b : Bool) → is_already_known units queue x.name ≡ b → slice_get (requested_from units (if b then queue else queue ++ x ∷ []) gs) k ≡ Some g
+        → ((r : List UnitReference) → length r ≤ k → slice_get (requested_from units r gs) k ≡ Some g → (p : ℕ) × IsEarliest units r gs p g) → (p : ℕ) × IsEarliest units queue (x ∷ gs) p g
+    go true known e later = let t = later queue low e in (suc t.0, past_known units queue gs x t.0 g known t.1)
+    go false none e later = elim (cases_lt (length queue) k) [
       | inl h ↦
-          let l = length-append row (x ∷ []) in
-          let t = later (row ++ x ∷ []) (omega (arith, h, l)) e in
-          (suc t.0, past_new units row gs x t.0 g t.1)
+          let l = length-append queue (x ∷ []) in
+          let t = later (queue ++ x ∷ []) (omega (arith, h, l)) e in
+          (suc t.0, past_new units queue gs x t.0 g t.1)
       | inr h ↦
-          let same = new_name units row gs x k g (omega (arith, h, low)) e in
-          (zero, subst (λ (y : UnitReference). IsEarliest units row (x ∷ gs) zero y) same (new_here units row gs x none))
+          let same = new_name units queue gs x k g (omega (arith, h, low)) e in
+          (zero, subst (λ (y : UnitReference). IsEarliest units queue (x ∷ gs) zero y) same (new_here units queue gs x none))
     ]
 
 -- two of them, in order
 abbrev InOrder : List (List ℕ × ℕ) → List UnitReference → List UnitReference → UnitReference → UnitReference → Type 0
-InOrder units row gs g h = (p : ℕ) × (q : ℕ) × (p < q) × IsEarliest units row gs p g × IsEarliest units row gs q h
+InOrder units queue gs g h = (p : ℕ) × (q : ℕ) × (p < q) × IsEarliest units queue gs p g × IsEarliest units queue gs q h
 
 -- of two names that are after those in the queue, the earlier is that of the earlier reference
-sought_pair : (units : List (List ℕ × ℕ)) (row gs : List UnitReference) (j k : ℕ) (g h : UnitReference) → length row ≤ j → j < k → slice_get (requested_from units row gs) j ≡ Some g → slice_get (requested_from units row gs) k ≡ Some h → InOrder units row gs g h
-sought_pair units row [] j k g h low l e u = let w = slice_get_within row j g e in absurd (omega (arith, w, low))
-sought_pair units row (x ∷ gs) j k g h low l e u = go (is_already_known units row x.name) refl e u (λ r m a b. sought_pair units r gs j k g h m l a b)
+requested_pair : (units : List (List ℕ × ℕ)) (queue gs : List UnitReference) (j k : ℕ) (g h : UnitReference) → length queue ≤ j → j < k → slice_get (requested_from units queue gs) j ≡ Some g → slice_get (requested_from units queue gs) k ≡ Some h → InOrder units queue gs g h
+requested_pair units queue [] j k g h low l e u = let w = slice_get_within queue j g e in absurd (omega (arith, w, low))
+requested_pair units queue (x ∷ gs) j k g h low l e u = go (is_already_known units queue x.name) refl e u (λ r m a b. requested_pair units r gs j k g h m l a b)
   where
-    go : (b : Bool) → is_already_known units row x.name ≡ b → slice_get (requested_from units (if b then row else row ++ x ∷ []) gs) j ≡ Some g → slice_get (requested_from units (if b then row else row ++ x ∷ []) gs) k ≡ Some h
-        → ((r : List UnitReference) → length r ≤ j → slice_get (requested_from units r gs) j ≡ Some g → slice_get (requested_from units r gs) k ≡ Some h → InOrder units r gs g h) → InOrder units row (x ∷ gs) g h
-    go true had e u later = let t = later row low e u in (suc t.0, suc t.1, (let a = t.2 in omega (arith, a)), past_had units row gs x t.0 g had t.3, past_had units row gs x t.1 h had t.4)
-    go false none e u later = elim (cases_lt (length row) j) [
+    go : (b : Bool) → is_already_known units queue x.name ≡ b → slice_get (requested_from units (if b then queue else queue ++ x ∷ []) gs) j ≡ Some g → slice_get (requested_from units (if b then queue else queue ++ x ∷ []) gs) k ≡ Some h
+        → ((r : List UnitReference) → length r ≤ j → slice_get (requested_from units r gs) j ≡ Some g → slice_get (requested_from units r gs) k ≡ Some h → InOrder units r gs g h) → InOrder units queue (x ∷ gs) g h
+    go true known e u later = let t = later queue low e u in (suc t.0, suc t.1, (let a = t.2 in omega (arith, a)), past_known units queue gs x t.0 g known t.3, past_known units queue gs x t.1 h known t.4)
+    go false none e u later = elim (cases_lt (length queue) j) [
       | inl m ↦
-          let n = length-append row (x ∷ []) in
-          let t = later (row ++ x ∷ []) (omega (arith, m, n)) e u in
-          (suc t.0, suc t.1, (let a = t.2 in omega (arith, a)), past_new units row gs x t.0 g t.3, past_new units row gs x t.1 h t.4)
+          let n = length-append queue (x ∷ []) in
+          let t = later (queue ++ x ∷ []) (omega (arith, m, n)) e u in
+          (suc t.0, suc t.1, (let a = t.2 in omega (arith, a)), past_new units queue gs x t.0 g t.3, past_new units queue gs x t.1 h t.4)
       | inr m ↦
-          let same = new_name units row gs x j g (omega (arith, m, low)) e in
-          let n = length-append row (x ∷ []) in
-          let t = sought_at units (row ++ x ∷ []) gs k h (omega (arith, m, l, n)) u in
-          (zero, suc t.0, omega arith, subst (λ (y : UnitReference). IsEarliest units row (x ∷ gs) zero y) same (new_here units row gs x none), past_new units row gs x t.0 h t.1)
+          let same = new_name units queue gs x j g (omega (arith, m, low)) e in
+          let n = length-append queue (x ∷ []) in
+          let t = requested_at units (queue ++ x ∷ []) gs k h (omega (arith, m, l, n)) u in
+          (zero, suc t.0, omega arith, subst (λ (y : UnitReference). IsEarliest units queue (x ∷ gs) zero y) same (new_here units queue gs x none), past_new units queue gs x t.0 h t.1)
     ]
 
 -- 3. givers
@@ -385,13 +385,13 @@ giver units segs p m g t at = ((s, there, of.5, of.6), (s, there, of.0, subst (�
         itself : (a b : ℕ) → Before (a ∷ b ∷ []) (a ∷ b ∷ []) → ⊥
         itself a b h = not_both (a ∷ b ∷ []) (a ∷ b ∷ []) h h
 
--- a name of the row that these segments come to has its giver among the host's own segments and
+-- a name of the queue that these segments come to has its giver among the host's own segments and
 -- these
 pub given : (order : Order) (host : List ℕ) (libs : List (List ℕ)) (segs : List Segment) (k : ℕ) (g : UnitReference) → slice_get (requested_units order host libs segs) k ≡ Some g → (i : ℕ) × IsGiver (own_segments order host libs ++ segs) i g
 unfolding requested_units
 given order host libs segs k g e =
     let all = own_segments order host libs ++ segs in
-    let t = sought_at (own_units order host libs) [] (all_unit_references all) k g (omega arith) e in
+    let t = requested_at (own_units order host libs) [] (all_unit_references all) k g (omega arith) e in
     let p = place_of all t.0 g t.1.0 in
     (p.0, giver (own_units order host libs) all t.0 p.0 g t.1 p.1)
 
@@ -420,7 +420,7 @@ slot_of_unit order host libs name e =
       | inr u ↦ (o.0, o.1, (inr (subst (λ (x : Role). HasRole order host o.0 x) u r.1), same))
     ]
 
--- where the first of what a row of items gives is none, each of them gives none
+-- where the first of what a queue of items gives is none, each of them gives none
 pub first_none : {A X : Type 0} (f : A → Option X) (xs : List A) (i : ℕ) (x : A) → first_of f xs ≡ None → slice_get xs i ≡ Some x → f x ≡ None
 first_none f [] i x e u = absurd (cc)
 first_none {A} {X} f (y ∷ xs) i x e u = go (λ n k h. first_none f xs k x n h) (f y) refl e i u
@@ -606,12 +606,12 @@ some_of None P f g = g refl
 some_of (Some a) P f g = f a refl
 
 module _ (order : Order) (host : List ℕ) (libs : List (List ℕ)) (fine : sources_fault order host libs ≡ None) (ended : added_fault order host libs ≡ None) where
-  row_is : row_of order host libs ≡ requested_from (own_units order host libs) [] (all_unit_references (own_segments order host libs ++ added_segments order host libs))
+  queue_is : queue_of order host libs ≡ requested_from (own_units order host libs) [] (all_unit_references (own_segments order host libs ++ added_segments order host libs))
   unfolding requested_units
-  row_is = refl
+  queue_is = refl
 
-  at_row : (k : ℕ) (g : UnitReference) → slice_get (row_of order host libs) k ≡ Some g → slice_get (requested_from (own_units order host libs) [] (all_unit_references (own_segments order host libs ++ added_segments order host libs))) k ≡ Some g
-  at_row k g e = sym (ap (λ (r : List UnitReference). slice_get r k) row_is) ∙ e
+  at_queue : (k : ℕ) (g : UnitReference) → slice_get (queue_of order host libs) k ≡ Some g → slice_get (requested_from (own_units order host libs) [] (all_unit_references (own_segments order host libs ++ added_segments order host libs))) k ≡ Some g
+  at_queue k g e = sym (ap (λ (r : List UnitReference). slice_get r k) queue_is) ∙ e
 
   not_slot : (name : List ℕ) → is_already_known (own_units order host libs) [] name ≡ false → HasSlot order host name → ⊥
   not_slot name none has = go (is_some (lookup (bytes_eq name) (own_units order host libs))) (unit_of_slot order host libs fine name has) none
@@ -620,12 +620,12 @@ module _ (order : Order) (host : List ℕ) (libs : List (List ℕ)) (fine : sour
       go true e n = absurd (cc)
       go false e n = false≢true e
 
-  is_sought : (k : ℕ) (g : UnitReference) → slice_get (row_of order host libs) k ≡ Some g
+  is_requested : (k : ℕ) (g : UnitReference) → slice_get (queue_of order host libs) k ≡ Some g
       → ((i : ℕ) × (i < length (own_segments order host libs) + k) × IsGiver (own_segments order host libs ++ added_segments order host libs) i g) × (HasSlot order host g.name → ⊥)
-  is_sought k g e =
+  is_requested k g e =
       let own = own_segments order host libs in
       let segs = added_segments order host libs in
-      let t = sought_at (own_units order host libs) [] (all_unit_references (own ++ segs)) k g (omega arith) (at_row k g e) in
+      let t = requested_at (own_units order host libs) [] (all_unit_references (own ++ segs)) k g (omega arith) (at_queue k g e) in
       let p = given order host libs (take k segs) k g (name_placed order host libs ended k g e).6 in
       let within = slice_get_within (own ++ take k segs) p.0 p.1.0.0 p.1.0.1 in
       let joined = length-append own (take k segs) in
@@ -633,50 +633,50 @@ module _ (order : Order) (host : List ℕ) (libs : List (List ℕ)) (fine : sour
       let below : p.0 < length own + k = omega (arith, within, joined, front) in
       ((p.0, below, giver_of_front own segs k p.0 g below p.1), not_slot g.name t.1.1)
 
-  is_complete : (i rec : ℕ) (name : List ℕ) → Asks (own_segments order host libs ++ added_segments order host libs) i rec name → HasSlot order host name ⊎ SomeItem (row_of order host libs) (λ k g. g.name ≡ name)
+  is_complete : (i rec : ℕ) (name : List ℕ) → Asks (own_segments order host libs ++ added_segments order host libs) i rec name → HasSlot order host name ⊎ SomeItem (queue_of order host libs) (λ k g. g.name ≡ name)
   is_complete i rec name asks =
       let segs = own_segments order host libs ++ added_segments order host libs in
       let a = asks_at segs i rec name asks in
-      let had : is_already_known (own_units order host libs) (row_of order host libs) name ≡ true =
-      ap (λ (r : List UnitReference). is_already_known (own_units order host libs) r name) row_is
-      ∙ (ap (λ (n : List ℕ). is_already_known (own_units order host libs) (requested_from (own_units order host libs) [] (all_unit_references segs)) n) (sym a.4) ∙ all_had (own_units order host libs) [] (all_unit_references segs) a.1 a.0 a.3) in
-      elim (or_cases (is_some (lookup (bytes_eq name) (own_units order host libs))) (list_any (λ (g : UnitReference). bytes_eq g.name name) (row_of order host libs)) had) [
+      let known : is_already_known (own_units order host libs) (queue_of order host libs) name ≡ true =
+      ap (λ (r : List UnitReference). is_already_known (own_units order host libs) r name) queue_is
+      ∙ (ap (λ (n : List ℕ). is_already_known (own_units order host libs) (requested_from (own_units order host libs) [] (all_unit_references segs)) n) (sym a.4) ∙ all_known (own_units order host libs) [] (all_unit_references segs) a.1 a.0 a.3) in
+      elim (or_cases (is_some (lookup (bytes_eq name) (own_units order host libs))) (list_any (λ (g : UnitReference). bytes_eq g.name name) (queue_of order host libs)) known) [
         | inl e ↦ inl (slot_of_unit order host libs name e)
-        | inr e ↦ inr ((any_of_items (λ (g : UnitReference). bytes_eq g.name name) (λ (g : UnitReference). g.name ≡ name) (λ g. bytes_eq-Decides g.name name) (row_of order host libs)).0 e)
+        | inr e ↦ inr ((any_of_items (λ (g : UnitReference). bytes_eq g.name name) (λ (g : UnitReference). g.name ≡ name) (λ g. bytes_eq-Decides g.name name) (queue_of order host libs)).0 e)
       ]
 
-  are_given : (j k : ℕ) (g h : UnitReference) → j < k → slice_get (row_of order host libs) j ≡ Some g → slice_get (row_of order host libs) k ≡ Some h → AreGiven (own_segments order host libs ++ added_segments order host libs) g h
+  are_given : (j k : ℕ) (g h : UnitReference) → j < k → slice_get (queue_of order host libs) j ≡ Some g → slice_get (queue_of order host libs) k ≡ Some h → AreGiven (own_segments order host libs ++ added_segments order host libs) g h
   are_given j k g h l e u =
       let segs = own_segments order host libs ++ added_segments order host libs in
-      let t = sought_pair (own_units order host libs) [] (all_unit_references segs) j k g h (omega arith) l (at_row j g e) (at_row k h u) in
+      let t = requested_pair (own_units order host libs) [] (all_unit_references segs) j k g h (omega arith) l (at_queue j g e) (at_queue k h u) in
       let p = place_of segs t.0 g t.3.0 in
       let q = place_of segs t.1 h t.4.0 in
       (p.0, q.0, giver (own_units order host libs) segs t.0 p.0 g t.3 p.1, giver (own_units order host libs) segs t.1 q.0 h t.4 q.1, numbered_ascend 0 segs t.0 t.1 p.0 q.0 g h t.2 p.1 q.1)
 
-  apart : (j k : ℕ) (g h : UnitReference) → j < k → slice_get (row_of order host libs) j ≡ Some g → slice_get (row_of order host libs) k ≡ Some h → g.name ≡ h.name → ⊥
+  apart : (j k : ℕ) (g h : UnitReference) → j < k → slice_get (queue_of order host libs) j ≡ Some g → slice_get (queue_of order host libs) k ≡ Some h → g.name ≡ h.name → ⊥
   apart j k g h l e u same =
       let t = are_given j k g h l e u in
       t.3.2 t.0 g.rec t.4 (subst (λ (n : List ℕ). Asks (own_segments order host libs ++ added_segments order host libs) t.0 g.rec n) same t.2.1)
 
-  is_once : (j k : ℕ) (g h : UnitReference) → slice_get (row_of order host libs) j ≡ Some g → slice_get (row_of order host libs) k ≡ Some h → g.name ≡ h.name → j ≡ k
+  is_once : (j k : ℕ) (g h : UnitReference) → slice_get (queue_of order host libs) j ≡ Some g → slice_get (queue_of order host libs) k ≡ Some h → g.name ≡ h.name → j ≡ k
   is_once j k g h e u same = elim (cases_lt j k) [
     | inl l ↦ absurd (apart j k g h l e u same)
     | inr l ↦ elim (cases_lt k j) [ inl m ↦ absurd (apart k j h g m u e (sym same)) | inr m ↦ omega (arith, l, m) ]
   ]
 
-  same_names : map (λ (s : Segment). s.name) (added_segments order host libs) ≡ map (λ (g : UnitReference). g.name) (row_of order host libs)
+  same_names : map (λ (s : Segment). s.name) (added_segments order host libs) ≡ map (λ (g : UnitReference). g.name) (queue_of order host libs)
   same_names = same_items _ _ each
     where
-      each : (k : ℕ) → slice_get (map (λ (s : Segment). s.name) (added_segments order host libs)) k ≡ slice_get (map (λ (g : UnitReference). g.name) (row_of order host libs)) k
+      each : (k : ℕ) → slice_get (map (λ (s : Segment). s.name) (added_segments order host libs)) k ≡ slice_get (map (λ (g : UnitReference). g.name) (queue_of order host libs)) k
       each k =
           slice_get-map (λ (s : Segment). s.name) (added_segments order host libs) k
-          ∙ (some_of (slice_get (row_of order host libs) k) (option_map (λ (s : Segment). s.name) (slice_get (added_segments order host libs) k) ≡ option_map (λ (g : UnitReference). g.name) (slice_get (row_of order host libs) k))
+          ∙ (some_of (slice_get (queue_of order host libs) k) (option_map (λ (s : Segment). s.name) (slice_get (added_segments order host libs) k) ≡ option_map (λ (g : UnitReference). g.name) (slice_get (queue_of order host libs) k))
           (λ g e. let p = name_placed order host libs ended k g e in
           ap (option_map (λ (s : Segment). s.name)) p.3 ∙ (ap (λ (n : List ℕ). Some n) (added_is order host libs g p.0 p.1 p.4).1 ∙ sym (ap (option_map (λ (x : UnitReference). x.name)) e)))
-          (λ e. some_of (slice_get (added_segments order host libs) k) (option_map (λ (s : Segment). s.name) (slice_get (added_segments order host libs) k) ≡ option_map (λ (g : UnitReference). g.name) (slice_get (row_of order host libs) k))
+          (λ e. some_of (slice_get (added_segments order host libs) k) (option_map (λ (s : Segment). s.name) (slice_get (added_segments order host libs) k) ≡ option_map (λ (g : UnitReference). g.name) (slice_get (queue_of order host libs) k))
           (λ s u. let t = (segment_named order host libs ended k s u).1 in absurd (cc))
           (λ u. ap (option_map (λ (s : Segment). s.name)) u ∙ sym (ap (option_map (λ (x : UnitReference). x.name)) e)))
-          ∙ sym (slice_get-map (λ (g : UnitReference). g.name) (row_of order host libs) k))
+          ∙ sym (slice_get-map (λ (g : UnitReference). g.name) (queue_of order host libs) k))
 
   is_found : (k : ℕ) (s : Segment) → slice_get (added_segments order host libs) k ≡ Some s → IsOfFirstLibrary order libs s
   is_found k s e =
@@ -692,9 +692,9 @@ module _ (order : Order) (host : List ℕ) (libs : List (List ℕ)) (fine : sour
       let same : p.1 ≡ s = (let a = p.3 in cc) in
       subst (λ (x : Segment). (x.role ≡ role.Wanted) × (x.added ≡ true)) same ((added_is order host libs g.0 p.0 p.1 p.4).2, marked order host libs g.0 p.0 p.1 p.4)
 
-  pub units_are : AddedUnits order host libs (row_of order host libs) (added_segments order host libs)
+  pub units_are : AddedUnits order host libs (queue_of order host libs) (added_segments order host libs)
   units_are = record {
-    requested = is_sought;
+    requested = is_requested;
     complete = is_complete;
     once = is_once;
     ordered = are_given;

@@ -29,7 +29,7 @@ use Rattle.ps_laws.proofs.Looking.{of_test, any_of_items, none_of_items, find_no
 use Rattle.ps_laws.proofs.Items.{In, at_left, at_seam, in_left, in_right, some_before, in_flat, in_filter_map, of_filter_map, in_range, of_range, of_filter, filter_ascends, find_passes}
 use Rattle.ps_laws.proofs.Definitions.{take_prefix, longer}
 use Rattle.ps_laws.proofs.Segments.{from_slot, found_in_slot}
-use Rattle.ps_laws.proofs.Rounds.{own_units, references_of, sought_rest, rest_of, of_segment, of_fault, of_name, next_slot, first_round}
+use Rattle.ps_laws.proofs.Rounds.{own_units, references_of, requested_rest, rest_of, of_segment, of_fault, of_name, next_slot, first_round}
 use Rattle.ps_words.specs.declared.order.Order.{Order}
 use Rattle.ps_words.specs.declared.fault.Reason.{Reason}
 use Rattle.ps_words.specs.declared.fault.Fault.{Fault}
@@ -96,17 +96,17 @@ added_is order host libs g slot s e = go (option_and_then (segment_from order ho
         (sym (ap (λ (y : Segment). y.slot) x) ∙ t.0, sym (ap (λ (y : Segment). y.name) x) ∙ t.1, sym (ap (λ (y : Segment). y.role) x) ∙ t.2))
 
 -- 2. the queue of names grows, and has each name that is requested
-pub sought_grows : (units : List (List ℕ × ℕ)) (row gs : List UnitReference) → (more : List UnitReference) × (requested_from units row gs ≡ row ++ more)
-sought_grows units row [] = ([], sym (append-nil row))
-sought_grows units row (g ∷ gs) = go (is_already_known units row g.name) (λ xs. sought_grows units xs gs)
+pub queue_grows : (units : List (List ℕ × ℕ)) (queue gs : List UnitReference) → (more : List UnitReference) × (requested_from units queue gs ≡ queue ++ more)
+queue_grows units queue [] = ([], sym (append-nil queue))
+queue_grows units queue (g ∷ gs) = go (is_already_known units queue g.name) (λ xs. queue_grows units xs gs)
   where
-    go : (b : Bool) → ((xs : List UnitReference) → (more : List UnitReference) × (requested_from units xs gs ≡ xs ++ more)) → (more : List UnitReference) × (requested_from units (if b then row else row ++ g ∷ []) gs ≡ row ++ more)
-    go true later = later row
-    go false later = let r = later (row ++ g ∷ []) in (g ∷ r.0, r.1 ∙ append_assoc row (g ∷ []) r.0)
+    go : (b : Bool) → ((xs : List UnitReference) → (more : List UnitReference) × (requested_from units xs gs ≡ xs ++ more)) → (more : List UnitReference) × (requested_from units (if b then queue else queue ++ g ∷ []) gs ≡ queue ++ more)
+    go true later = later queue
+    go false later = let r = later (queue ++ g ∷ []) in (g ∷ r.0, r.1 ∙ append_assoc queue (g ∷ []) r.0)
 
--- a name that is had is had in a longer row
-pub had_more : (units : List (List ℕ × ℕ)) (row more : List UnitReference) (name : List ℕ) → is_already_known units row name ≡ true → is_already_known units (row ++ more) name ≡ true
-had_more units row more name = go (is_some (lookup (bytes_eq name) units))
+-- a name that is known is known in a longer queue
+pub known_more : (units : List (List ℕ × ℕ)) (queue more : List UnitReference) (name : List ℕ) → is_already_known units queue name ≡ true → is_already_known units (queue ++ more) name ≡ true
+known_more units queue more name = go (is_some (lookup (bytes_eq name) units))
   where
     test : UnitReference → Bool
     test g = bytes_eq g.name name
@@ -115,13 +115,13 @@ had_more units row more name = go (is_some (lookup (bytes_eq name) units))
     or_true true b e = refl
     or_true false b e = absurd (cc)
 
-    go : (b : Bool) → (b || list_any (λ (g : UnitReference). bytes_eq g.name name) row) ≡ true → (b || list_any (λ (g : UnitReference). bytes_eq g.name name) (row ++ more)) ≡ true
+    go : (b : Bool) → (b || list_any (λ (g : UnitReference). bytes_eq g.name name) queue) ≡ true → (b || list_any (λ (g : UnitReference). bytes_eq g.name name) (queue ++ more)) ≡ true
     go true e = refl
-    go false e = list_any-append test row more ∙ or_true (list_any test row) (list_any test more) e
+    go false e = list_any-append test queue more ∙ or_true (list_any test queue) (list_any test more) e
 
--- the name of the last reference of a row is had
-pub had_last : (units : List (List ℕ × ℕ)) (row : List UnitReference) (g : UnitReference) → is_already_known units (row ++ g ∷ []) g.name ≡ true
-had_last units row g = go (is_some (lookup (bytes_eq g.name) units))
+-- the name of the last reference of a queue is known
+pub known_last : (units : List (List ℕ × ℕ)) (queue : List UnitReference) (g : UnitReference) → is_already_known units (queue ++ g ∷ []) g.name ≡ true
+known_last units queue g = go (is_some (lookup (bytes_eq g.name) units))
   where
     test : UnitReference → Bool
     test h = bytes_eq h.name g.name
@@ -134,23 +134,23 @@ had_last units row g = go (is_some (lookup (bytes_eq g.name) units))
     or_last false true e = refl
     or_last false false e = absurd (cc)
 
-    go : (b : Bool) → (b || list_any (λ (h : UnitReference). bytes_eq h.name g.name) (row ++ g ∷ [])) ≡ true
+    go : (b : Bool) → (b || list_any (λ (h : UnitReference). bytes_eq h.name g.name) (queue ++ g ∷ [])) ≡ true
     go true = refl
-    go false = list_any-append test row (g ∷ []) ∙ or_last (list_any test row) (test g) itself
+    go false = list_any-append test queue (g ∷ []) ∙ or_last (list_any test queue) (test g) itself
 
--- the name of each reference is had in the row that they come to
-pub all_had : (units : List (List ℕ × ℕ)) (row gs : List UnitReference) (g : UnitReference) (i : ℕ) → slice_get gs i ≡ Some g → is_already_known units (requested_from units row gs) g.name ≡ true
-all_had units row [] g i e = absurd (cc)
-all_had units row (h ∷ gs) g zero e =
+-- the name of each reference is known in the queue that they come to
+pub all_known : (units : List (List ℕ × ℕ)) (queue gs : List UnitReference) (g : UnitReference) (i : ℕ) → slice_get gs i ≡ Some g → is_already_known units (requested_from units queue gs) g.name ≡ true
+all_known units queue [] g i e = absurd (cc)
+all_known units queue (h ∷ gs) g zero e =
     let same : h ≡ g = cc in
-    let grown = sought_grows units (if is_already_known units row h.name then row else row ++ h ∷ []) gs in
-    subst (λ (x : UnitReference). is_already_known units (requested_from units (if is_already_known units row h.name then row else row ++ h ∷ []) gs) x.name ≡ true) same
-    (subst (λ (r : List UnitReference). is_already_known units r h.name ≡ true) (sym grown.1) (had_more units (if is_already_known units row h.name then row else row ++ h ∷ []) grown.0 h.name (first (is_already_known units row h.name) refl)))
+    let grown = queue_grows units (if is_already_known units queue h.name then queue else queue ++ h ∷ []) gs in
+    subst (λ (x : UnitReference). is_already_known units (requested_from units (if is_already_known units queue h.name then queue else queue ++ h ∷ []) gs) x.name ≡ true) same
+    (subst (λ (r : List UnitReference). is_already_known units r h.name ≡ true) (sym grown.1) (known_more units (if is_already_known units queue h.name then queue else queue ++ h ∷ []) grown.0 h.name (first (is_already_known units queue h.name) refl)))
   where
-    first : (b : Bool) → is_already_known units row h.name ≡ b → is_already_known units (if b then row else row ++ h ∷ []) h.name ≡ true
+    first : (b : Bool) → is_already_known units queue h.name ≡ b → is_already_known units (if b then queue else queue ++ h ∷ []) h.name ≡ true
     first true is = is
-    first false is = had_last units row h
-all_had units row (h ∷ gs) g (suc i) e = all_had units (if is_already_known units row h.name then row else row ++ h ∷ []) gs g i e
+    first false is = known_last units queue h
+all_known units queue (h ∷ gs) g (suc i) e = all_known units (if is_already_known units queue h.name then queue else queue ++ h ∷ []) gs g i e
 
 -- 3. where the rounds end without a fault, each name in the queue has its slot and its segment, and
 --    is requested by the host's own segments and those that were added before it
@@ -158,81 +158,81 @@ abbrev pub IsPlaced : Order → List ℕ → List (List ℕ) → ℕ → UnitRef
 IsPlaced order host libs j g =
     (slot : ℕ) × (s : Segment) × (slice_get (empty_slots order host) j ≡ Some slot) × (slice_get (added_segments order host libs) j ≡ Some s) × (added_segment order host libs g slot ≡ Some s) × (placed_fault order host libs g slot ≡ None) × (slice_get (requested_units order host libs (take j (added_segments order host libs))) j ≡ Some g)
 
-abbrev pub row_of : Order → List ℕ → List (List ℕ) → List UnitReference
-row_of order host libs = requested_units order host libs (added_segments order host libs)
+abbrev pub queue_of : Order → List ℕ → List (List ℕ) → List UnitReference
+queue_of order host libs = requested_units order host libs (added_segments order host libs)
 
 -- from round k on, where no fault ends the rounds, each name in the queue is placed, and each added
 -- segment has a name
 abbrev RoundsPlace : Order → List ℕ → List (List ℕ) → List ℕ → Type 0
 RoundsPlace order host libs left =
-    (prefix : List Segment) (used : List ℕ) (k : ℕ) (row : List UnitReference)
-    → added_segments order host libs ≡ prefix ++ (rest_of order host libs left k row).added → k ≡ length prefix → empty_slots order host ≡ used ++ left → k ≡ length used → requested_units order host libs prefix ≡ row
-    → (rest_of order host libs left k row).fault ≡ None
-    → ((j : ℕ) (g : UnitReference) → k ≤ j → slice_get (row_of order host libs) j ≡ Some g → IsPlaced order host libs j g)
-    × ((j : ℕ) (s : Segment) → k ≤ j → slice_get (added_segments order host libs) j ≡ Some s → (g : UnitReference) × (slice_get (row_of order host libs) j ≡ Some g))
+    (prefix : List Segment) (used : List ℕ) (k : ℕ) (queue : List UnitReference)
+    → added_segments order host libs ≡ prefix ++ (rest_of order host libs left k queue).added → k ≡ length prefix → empty_slots order host ≡ used ++ left → k ≡ length used → requested_units order host libs prefix ≡ queue
+    → (rest_of order host libs left k queue).fault ≡ None
+    → ((j : ℕ) (g : UnitReference) → k ≤ j → slice_get (queue_of order host libs) j ≡ Some g → IsPlaced order host libs j g)
+    × ((j : ℕ) (s : Segment) → k ≤ j → slice_get (added_segments order host libs) j ≡ Some s → (g : UnitReference) × (slice_get (queue_of order host libs) j ≡ Some g))
 
 -- the rounds ended: no name is left, and no segment
-ended : (order : Order) (host : List ℕ) (libs : List (List ℕ)) (prefix : List Segment) (k : ℕ) (row : List UnitReference) → added_segments order host libs ≡ prefix → k ≡ length prefix → requested_units order host libs prefix ≡ row → slice_get row k ≡ None
-    → ((j : ℕ) (g : UnitReference) → k ≤ j → slice_get (row_of order host libs) j ≡ Some g → IsPlaced order host libs j g)
-    × ((j : ℕ) (s : Segment) → k ≤ j → slice_get (added_segments order host libs) j ≡ Some s → (g : UnitReference) × (slice_get (row_of order host libs) j ≡ Some g))
-ended order host libs prefix k row is at row_is none = (names, segs)
+ended : (order : Order) (host : List ℕ) (libs : List (List ℕ)) (prefix : List Segment) (k : ℕ) (queue : List UnitReference) → added_segments order host libs ≡ prefix → k ≡ length prefix → requested_units order host libs prefix ≡ queue → slice_get queue k ≡ None
+    → ((j : ℕ) (g : UnitReference) → k ≤ j → slice_get (queue_of order host libs) j ≡ Some g → IsPlaced order host libs j g)
+    × ((j : ℕ) (s : Segment) → k ≤ j → slice_get (added_segments order host libs) j ≡ Some s → (g : UnitReference) × (slice_get (queue_of order host libs) j ≡ Some g))
+ended order host libs prefix k queue is at queue_is none = (names, segs)
   where
-    same : row_of order host libs ≡ row
-    same = ap (λ (ss : List Segment). requested_units order host libs ss) is ∙ row_is
+    same : queue_of order host libs ≡ queue
+    same = ap (λ (ss : List Segment). requested_units order host libs ss) is ∙ queue_is
 
-    names : (j : ℕ) (g : UnitReference) → k ≤ j → slice_get (row_of order host libs) j ≡ Some g → IsPlaced order host libs j g
-    names j g h e = absurd (some_before row k j g h (sym (ap (λ (r : List UnitReference). slice_get r j) same) ∙ e) none)
+    names : (j : ℕ) (g : UnitReference) → k ≤ j → slice_get (queue_of order host libs) j ≡ Some g → IsPlaced order host libs j g
+    names j g h e = absurd (some_before queue k j g h (sym (ap (λ (r : List UnitReference). slice_get r j) same) ∙ e) none)
 
-    segs : (j : ℕ) (s : Segment) → k ≤ j → slice_get (added_segments order host libs) j ≡ Some s → (g : UnitReference) × (slice_get (row_of order host libs) j ≡ Some g)
+    segs : (j : ℕ) (s : Segment) → k ≤ j → slice_get (added_segments order host libs) j ≡ Some s → (g : UnitReference) × (slice_get (queue_of order host libs) j ≡ Some g)
     segs j s h e = let m = slice_get_within prefix j s (sym (ap (λ (ss : List Segment). slice_get ss j) is) ∙ e) in absurd (omega (arith, m, h, at))
 
 -- from each round on the names are placed and the segments have names, whichever slots are left
 rounds_place : (order : Order) (host : List ℕ) (libs : List (List ℕ)) (left : List ℕ) → RoundsPlace order host libs left
-rounds_place order host libs [] prefix used k row is at slots_are used_at row_is fine = go (slice_get row k) refl fine
+rounds_place order host libs [] prefix used k queue is at slots_are used_at queue_is fine = go (slice_get queue k) refl fine
   where
-    go : (x : Option UnitReference) → slice_get row k ≡ x → option_map (unplaced_fault order libs) x ≡ None
-        → ((j : ℕ) (g : UnitReference) → k ≤ j → slice_get (row_of order host libs) j ≡ Some g → IsPlaced order host libs j g)
-        × ((j : ℕ) (s : Segment) → k ≤ j → slice_get (added_segments order host libs) j ≡ Some s → (g : UnitReference) × (slice_get (row_of order host libs) j ≡ Some g))
-    go None e fine = ended order host libs prefix k row (is ∙ append-nil prefix) at row_is e
+    go : (x : Option UnitReference) → slice_get queue k ≡ x → option_map (unplaced_fault order libs) x ≡ None
+        → ((j : ℕ) (g : UnitReference) → k ≤ j → slice_get (queue_of order host libs) j ≡ Some g → IsPlaced order host libs j g)
+        × ((j : ℕ) (s : Segment) → k ≤ j → slice_get (added_segments order host libs) j ≡ Some s → (g : UnitReference) × (slice_get (queue_of order host libs) j ≡ Some g))
+    go None e fine = ended order host libs prefix k queue (is ∙ append-nil prefix) at queue_is e
     go (Some g) e fine = absurd (cc)
-rounds_place order host libs (slot ∷ left) prefix used k row is at slots_are used_at row_is fine = go (rounds_place order host libs left) (slice_get row k) refl is fine
+rounds_place order host libs (slot ∷ left) prefix used k queue is at slots_are used_at queue_is fine = go (rounds_place order host libs left) (slice_get queue k) refl is fine
   where
     Have : Type 0
-    Have = ((j : ℕ) (g : UnitReference) → k ≤ j → slice_get (row_of order host libs) j ≡ Some g → IsPlaced order host libs j g)
-        × ((j : ℕ) (s : Segment) → k ≤ j → slice_get (added_segments order host libs) j ≡ Some s → (g : UnitReference) × (slice_get (row_of order host libs) j ≡ Some g))
+    Have = ((j : ℕ) (g : UnitReference) → k ≤ j → slice_get (queue_of order host libs) j ≡ Some g → IsPlaced order host libs j g)
+        × ((j : ℕ) (s : Segment) → k ≤ j → slice_get (added_segments order host libs) j ≡ Some s → (g : UnitReference) × (slice_get (queue_of order host libs) j ≡ Some g))
 
     slot_at : slice_get (empty_slots order host) k ≡ Some slot
     slot_at = ap (λ (xs : List ℕ). slice_get xs k) slots_are ∙ next_slot used (slot ∷ left) k used_at
 
-    -- the row's name at k stays there
-    stays : (g : UnitReference) (rest : List Segment) → slice_get row k ≡ Some g → added_segments order host libs ≡ prefix ++ rest → slice_get (row_of order host libs) k ≡ Some g
+    -- the queue's name at k stays there
+    stays : (g : UnitReference) (rest : List Segment) → slice_get queue k ≡ Some g → added_segments order host libs ≡ prefix ++ rest → slice_get (queue_of order host libs) k ≡ Some g
     stays g rest e is =
-        let grown = sought_grows (own_units order host libs) row (all_unit_references rest) in
-        let whole : row_of order host libs ≡ row ++ grown.0 =
-        ap (λ (ss : List Segment). requested_units order host libs ss) is ∙ (sought_rest order host libs prefix rest ∙ (ap (λ (r : List UnitReference). requested_from (own_units order host libs) r (all_unit_references rest)) row_is ∙ grown.1)) in
-        ap (λ (r : List UnitReference). slice_get r k) whole ∙ at_left row grown.0 k g e
+        let grown = queue_grows (own_units order host libs) queue (all_unit_references rest) in
+        let whole : queue_of order host libs ≡ queue ++ grown.0 =
+        ap (λ (ss : List Segment). requested_units order host libs ss) is ∙ (requested_rest order host libs prefix rest ∙ (ap (λ (r : List UnitReference). requested_from (own_units order host libs) r (all_unit_references rest)) queue_is ∙ grown.1)) in
+        ap (λ (r : List UnitReference). slice_get r k) whole ∙ at_left queue grown.0 k g e
 
-    segment : RoundsPlace order host libs left → (g : UnitReference) → slice_get row k ≡ Some g → placed_fault order host libs g slot ≡ None → (o : Option Segment) → added_segment order host libs g slot ≡ o → added_segments order host libs ≡ prefix ++ (of_segment order host libs left k row o).added → (of_segment order host libs left k row o).fault ≡ None → Have
+    segment : RoundsPlace order host libs left → (g : UnitReference) → slice_get queue k ≡ Some g → placed_fault order host libs g slot ≡ None → (o : Option Segment) → added_segment order host libs g slot ≡ o → added_segments order host libs ≡ prefix ++ (of_segment order host libs left k queue o).added → (of_segment order host libs left k queue o).fault ≡ None → Have
     segment later g e p None q is fine = absurd (brought order host libs g slot p q)
     segment later g e p (Some s) q is fine = (names, segs)
       where
-        row' : List UnitReference
-        row' = requested_from (own_units order host libs) row (references_of s)
+        queue' : List UnitReference
+        queue' = requested_from (own_units order host libs) queue (references_of s)
 
         rest : List Segment
-        rest = (rest_of order host libs left (k + 1) row').added
+        rest = (rest_of order host libs left (k + 1) queue').added
 
-        more : ((j : ℕ) (g : UnitReference) → k + 1 ≤ j → slice_get (row_of order host libs) j ≡ Some g → IsPlaced order host libs j g)
-            × ((j : ℕ) (s : Segment) → k + 1 ≤ j → slice_get (added_segments order host libs) j ≡ Some s → (g : UnitReference) × (slice_get (row_of order host libs) j ≡ Some g))
+        more : ((j : ℕ) (g : UnitReference) → k + 1 ≤ j → slice_get (queue_of order host libs) j ≡ Some g → IsPlaced order host libs j g)
+            × ((j : ℕ) (s : Segment) → k + 1 ≤ j → slice_get (added_segments order host libs) j ≡ Some s → (g : UnitReference) × (slice_get (queue_of order host libs) j ≡ Some g))
         more =
-            later (prefix ++ s ∷ []) (used ++ slot ∷ []) (k + 1) row'
+            later (prefix ++ s ∷ []) (used ++ slot ∷ []) (k + 1) queue'
             (is ∙ sym (append_assoc prefix (s ∷ []) rest))
             (let l = longer prefix s in omega (arith, l, at))
             (slots_are ∙ sym (append_assoc used (slot ∷ []) left))
             (let l = longer used slot in omega (arith, l, used_at))
-            (sought_rest order host libs prefix (s ∷ [])
+            (requested_rest order host libs prefix (s ∷ [])
             ∙ (ap (λ (gs : List UnitReference). requested_from (own_units order host libs) (requested_units order host libs prefix) gs) (append-nil (references_of s))
-            ∙ ap (λ (xs : List UnitReference). requested_from (own_units order host libs) xs (references_of s)) row_is))
+            ∙ ap (λ (xs : List UnitReference). requested_from (own_units order host libs) xs (references_of s)) queue_is))
             fine
 
         here : slice_get (added_segments order host libs) k ≡ Some s
@@ -241,46 +241,46 @@ rounds_place order host libs (slot ∷ left) prefix used k row is at slots_are u
         prefix_is : take k (added_segments order host libs) ≡ prefix
         prefix_is = ap (λ (ss : List Segment). take k ss) is ∙ (ap (λ (n : ℕ). take n (prefix ++ s ∷ rest)) at ∙ take_prefix prefix (s ∷ rest))
 
-        sought_there : slice_get (requested_units order host libs (take k (added_segments order host libs))) k ≡ Some g
-        sought_there = ap (λ (ss : List Segment). slice_get (requested_units order host libs ss) k) prefix_is ∙ (ap (λ (r : List UnitReference). slice_get r k) row_is ∙ e)
+        requested_there : slice_get (requested_units order host libs (take k (added_segments order host libs))) k ≡ Some g
+        requested_there = ap (λ (ss : List Segment). slice_get (requested_units order host libs ss) k) prefix_is ∙ (ap (λ (r : List UnitReference). slice_get r k) queue_is ∙ e)
 
-        names : (j : ℕ) (h : UnitReference) → k ≤ j → slice_get (row_of order host libs) j ≡ Some h → IsPlaced order host libs j h
+        names : (j : ℕ) (h : UnitReference) → k ≤ j → slice_get (queue_of order host libs) j ≡ Some h → IsPlaced order host libs j h
         names j h low u = elim (cases_lt k j) [
           | inl x ↦ more.0 j h (omega (arith, x)) u
           | inr x ↦
               let same : k ≡ j = omega (arith, x, low) in
-              let named : slice_get (row_of order host libs) j ≡ Some g = subst (λ (n : ℕ). slice_get (row_of order host libs) n ≡ Some g) same (stays g (s ∷ rest) e is) in
+              let named : slice_get (queue_of order host libs) j ≡ Some g = subst (λ (n : ℕ). slice_get (queue_of order host libs) n ≡ Some g) same (stays g (s ∷ rest) e is) in
               let it : g ≡ h = cc in
-              subst (λ (n : ℕ). IsPlaced order host libs n h) same (slot, s, slot_at, here, subst (λ (y : UnitReference). added_segment order host libs y slot ≡ Some s) it q, subst (λ (y : UnitReference). placed_fault order host libs y slot ≡ None) it p, sought_there ∙ ap (λ (y : UnitReference). Some y) it)
+              subst (λ (n : ℕ). IsPlaced order host libs n h) same (slot, s, slot_at, here, subst (λ (y : UnitReference). added_segment order host libs y slot ≡ Some s) it q, subst (λ (y : UnitReference). placed_fault order host libs y slot ≡ None) it p, requested_there ∙ ap (λ (y : UnitReference). Some y) it)
         ]
 
-        segs : (j : ℕ) (t : Segment) → k ≤ j → slice_get (added_segments order host libs) j ≡ Some t → (h : UnitReference) × (slice_get (row_of order host libs) j ≡ Some h)
+        segs : (j : ℕ) (t : Segment) → k ≤ j → slice_get (added_segments order host libs) j ≡ Some t → (h : UnitReference) × (slice_get (queue_of order host libs) j ≡ Some h)
         segs j t low u = elim (cases_lt k j) [
           | inl x ↦ more.1 j t (omega (arith, x)) u
-          | inr x ↦ (g, subst (λ (n : ℕ). slice_get (row_of order host libs) n ≡ Some g) (omega (arith, x, low)) (stays g (s ∷ rest) e is))
+          | inr x ↦ (g, subst (λ (n : ℕ). slice_get (queue_of order host libs) n ≡ Some g) (omega (arith, x, low)) (stays g (s ∷ rest) e is))
         ]
 
-    fault : RoundsPlace order host libs left → (g : UnitReference) → slice_get row k ≡ Some g → (o : Option Fault) → placed_fault order host libs g slot ≡ o
-        → added_segments order host libs ≡ prefix ++ (of_fault order host libs left k row (added_segment order host libs g slot) o).added → (of_fault order host libs left k row (added_segment order host libs g slot) o).fault ≡ None → Have
+    fault : RoundsPlace order host libs left → (g : UnitReference) → slice_get queue k ≡ Some g → (o : Option Fault) → placed_fault order host libs g slot ≡ o
+        → added_segments order host libs ≡ prefix ++ (of_fault order host libs left k queue (added_segment order host libs g slot) o).added → (of_fault order host libs left k queue (added_segment order host libs g slot) o).fault ≡ None → Have
     fault later g e (Some f) p is fine = absurd (cc)
     fault later g e None p is fine = segment later g e p (added_segment order host libs g slot) refl is fine
 
-    go : RoundsPlace order host libs left → (x : Option UnitReference) → slice_get row k ≡ x → added_segments order host libs ≡ prefix ++ (of_name order host libs slot left k row x).added → (of_name order host libs slot left k row x).fault ≡ None → Have
-    go later None e is fine = ended order host libs prefix k row (is ∙ append-nil prefix) at row_is e
+    go : RoundsPlace order host libs left → (x : Option UnitReference) → slice_get queue k ≡ x → added_segments order host libs ≡ prefix ++ (of_name order host libs slot left k queue x).added → (of_name order host libs slot left k queue x).fault ≡ None → Have
+    go later None e is fine = ended order host libs prefix k queue (is ∙ append-nil prefix) at queue_is e
     go later (Some g) e is fine = fault later g e (placed_fault order host libs g slot) refl is fine
 
 -- from the first round on
 all_placed : (order : Order) (host : List ℕ) (libs : List (List ℕ)) → added_fault order host libs ≡ None
-    → ((j : ℕ) (g : UnitReference) → 0 ≤ j → slice_get (row_of order host libs) j ≡ Some g → IsPlaced order host libs j g)
-    × ((j : ℕ) (s : Segment) → 0 ≤ j → slice_get (added_segments order host libs) j ≡ Some s → (g : UnitReference) × (slice_get (row_of order host libs) j ≡ Some g))
+    → ((j : ℕ) (g : UnitReference) → 0 ≤ j → slice_get (queue_of order host libs) j ≡ Some g → IsPlaced order host libs j g)
+    × ((j : ℕ) (s : Segment) → 0 ≤ j → slice_get (added_segments order host libs) j ≡ Some s → (g : UnitReference) × (slice_get (queue_of order host libs) j ≡ Some g))
 all_placed order host libs fine =
     let same = first_round order host libs in
     rounds_place order host libs (empty_slots order host) [] [] 0 (requested_units order host libs []) (ap (λ (x : Rounds). x.added) same) refl refl refl refl (sym (ap (λ (x : Rounds). x.fault) same) ∙ fine)
 
-pub name_placed : (order : Order) (host : List ℕ) (libs : List (List ℕ)) → added_fault order host libs ≡ None → (j : ℕ) (g : UnitReference) → slice_get (row_of order host libs) j ≡ Some g → IsPlaced order host libs j g
+pub name_placed : (order : Order) (host : List ℕ) (libs : List (List ℕ)) → added_fault order host libs ≡ None → (j : ℕ) (g : UnitReference) → slice_get (queue_of order host libs) j ≡ Some g → IsPlaced order host libs j g
 name_placed order host libs fine j g e = (all_placed order host libs fine).0 j g (omega arith) e
 
-pub segment_named : (order : Order) (host : List ℕ) (libs : List (List ℕ)) → added_fault order host libs ≡ None → (j : ℕ) (s : Segment) → slice_get (added_segments order host libs) j ≡ Some s → (g : UnitReference) × (slice_get (row_of order host libs) j ≡ Some g)
+pub segment_named : (order : Order) (host : List ℕ) (libs : List (List ℕ)) → added_fault order host libs ≡ None → (j : ℕ) (s : Segment) → slice_get (added_segments order host libs) j ≡ Some s → (g : UnitReference) × (slice_get (queue_of order host libs) j ≡ Some g)
 segment_named order host libs fine j s e = (all_placed order host libs fine).1 j s (omega arith) e
 
 -- an added segment is in its empty slot
@@ -409,7 +409,7 @@ units_named name segs =
     (any_of_items (unit_named name) (λ q. (is_unit q.role ≡ true) × (q.name ≡ name))
     (λ q. Decides-and (is_unit q.role) (bytes_eq name q.name) (of_test (is_unit q.role)) (Decides-like (bytes_eq name q.name) (λ e. sym e) (λ e. sym e) (bytes_eq-Decides name q.name))) segs)
 
--- what is had has its segment
+-- what is known has its segment
 abbrev pub HasUnit : List Segment → List ℕ → Type 0
 HasUnit segs name = SomeItem segs (λ k q. (is_unit q.role ≡ true) × (q.name ≡ name))
 
@@ -417,16 +417,16 @@ pub or_cases : (a b : Bool) → (a || b) ≡ true → (a ≡ true) ⊎ (b ≡ tr
 or_cases true b e = inl refl
 or_cases false b e = inr e
 
--- where the rounds end without a fault, a name that is had is that of a unit of the link
-pub had_has_unit : (order : Order) (host : List ℕ) (libs : List (List ℕ)) → added_fault order host libs ≡ None → (name : List ℕ) → is_already_known (own_units order host libs) (row_of order host libs) name ≡ true → HasUnit (segments order host libs) name
-had_has_unit order host libs fine name had = elim (or_cases (is_some (lookup (bytes_eq name) (own_units order host libs))) (list_any (λ (g : UnitReference). bytes_eq g.name name) (row_of order host libs)) had) [
+-- where the rounds end without a fault, a name that is known is that of a unit of the link
+pub known_has_unit : (order : Order) (host : List ℕ) (libs : List (List ℕ)) → added_fault order host libs ≡ None → (name : List ℕ) → is_already_known (own_units order host libs) (queue_of order host libs) name ≡ true → HasUnit (segments order host libs) name
+known_has_unit order host libs fine name known = elim (or_cases (is_some (lookup (bytes_eq name) (own_units order host libs))) (list_any (λ (g : UnitReference). bytes_eq g.name name) (queue_of order host libs)) known) [
   | inl e ↦
       let t = (units_named name (own_segments order host libs)).0 e in
       let o = own_at order host libs t.1 (t.0, t.2) in
       let i = in_segments order host libs o.0 t.1 o.1 (ap (λ (x : Option Segment). option_or x (added_at order host libs o.0)) o.2) in
       (i.0, t.1, i.1, t.3)
   | inr e ↦
-      let t = (any_of_items (λ (g : UnitReference). bytes_eq g.name name) (λ (g : UnitReference). g.name ≡ name) (λ g. bytes_eq-Decides g.name name) (row_of order host libs)).0 e in
+      let t = (any_of_items (λ (g : UnitReference). bytes_eq g.name name) (λ (g : UnitReference). g.name ≡ name) (λ g. bytes_eq-Decides g.name name) (queue_of order host libs)).0 e in
       let p = name_placed order host libs fine t.0 t.1 t.2 in
       let a = added_is order host libs t.1 p.0 p.1 p.4 in
       let at = (empty_slot order host t.0 p.0 p.2).1 in
@@ -435,9 +435,9 @@ had_has_unit order host libs fine name had = elim (or_cases (is_some (lookup (by
       (i.0, p.1, i.1, (ap is_unit a.2, a.1 ∙ t.3))
 ]
 
-pub is_had_there : (order : Order) (host : List ℕ) (libs : List (List ℕ)) (g : UnitReference) → In g (all_unit_references (own_segments order host libs ++ added_segments order host libs)) → is_already_known (own_units order host libs) (row_of order host libs) g.name ≡ true
+pub is_had_there : (order : Order) (host : List ℕ) (libs : List (List ℕ)) (g : UnitReference) → In g (all_unit_references (own_segments order host libs ++ added_segments order host libs)) → is_already_known (own_units order host libs) (queue_of order host libs) g.name ≡ true
 unfolding requested_units
-is_had_there order host libs g i = all_had (own_units order host libs) [] (all_unit_references (own_segments order host libs ++ added_segments order host libs)) g i.0 i.1
+is_had_there order host libs g i = all_known (own_units order host libs) [] (all_unit_references (own_segments order host libs ++ added_segments order host libs)) g i.0 i.1
 
 -- where the rounds end without a fault, each unit that a record of the link requests is a segment
 -- of it
@@ -445,4 +445,4 @@ pub asked_is_there : (order : Order) (host : List ℕ) (libs : List (List ℕ)) 
 asked_is_there order host libs fine s is rec r e u =
     let g = in_references s.file s.slot 0 s.records rec r e u in
     let i = in_flat references_of (own_segments order host libs ++ added_segments order host libs) s g.0 (own_or_added order host libs s is) g.1 in
-    subst (λ (name : List ℕ). HasUnit (segments order host libs) name) g.2 (had_has_unit order host libs fine g.0.name (is_had_there order host libs g.0 i))
+    subst (λ (name : List ℕ). HasUnit (segments order host libs) name) g.2 (known_has_unit order host libs fine g.0.name (is_had_there order host libs g.0 i))

@@ -13,7 +13,7 @@ pub mod PrivateOffsets
 pub mod Privates
 pub mod References
 pub mod Whole
-pub mod OneRow
+pub mod OneQueue
 pub mod AddedUnits
 pub mod SummedOffsets
 pub mod SoundCodes

@@ -28,24 +28,24 @@ use Rattle.ps_words.specs.declared.order.Order.{Order}
 use Rattle.ps_words.specs.declared.fault.Fault.{Fault}
 
 -- 1. an added segment is in an empty slot, also where a later round has a fault
-in_left_slot : (order : Order) (host : List ℕ) (libs : List (List ℕ)) (left : List ℕ) (k : ℕ) (row : List UnitReference) (j : ℕ) (s : Segment)
-    → slice_get (rest_of order host libs left k row).added j ≡ Some s → slice_get left j ≡ Some s.slot
-in_left_slot order host libs [] k row j s e = absurd (cc)
-in_left_slot order host libs (slot ∷ left) k row j s e = name (λ m r i h. in_left_slot order host libs left m r i s h) (slice_get row k) e
+in_left_slot : (order : Order) (host : List ℕ) (libs : List (List ℕ)) (left : List ℕ) (k : ℕ) (queue : List UnitReference) (j : ℕ) (s : Segment)
+    → slice_get (rest_of order host libs left k queue).added j ≡ Some s → slice_get left j ≡ Some s.slot
+in_left_slot order host libs [] k queue j s e = absurd (cc)
+in_left_slot order host libs (slot ∷ left) k queue j s e = name (λ m r i h. in_left_slot order host libs left m r i s h) (slice_get queue k) e
   where
     Later : Type 0
     Later = (m : ℕ) (r : List UnitReference) (i : ℕ) → slice_get (rest_of order host libs left m r).added i ≡ Some s → slice_get left i ≡ Some s.slot
 
-    segment : Later → (g : UnitReference) (o : Option Segment) → added_segment order host libs g slot ≡ o → (i : ℕ) → slice_get (of_segment order host libs left k row o).added i ≡ Some s → slice_get (slot ∷ left) i ≡ Some s.slot
+    segment : Later → (g : UnitReference) (o : Option Segment) → added_segment order host libs g slot ≡ o → (i : ℕ) → slice_get (of_segment order host libs left k queue o).added i ≡ Some s → slice_get (slot ∷ left) i ≡ Some s.slot
     segment later g None is i h = absurd (cc)
     segment later g (Some q) is zero h = let same : q ≡ s = same_Some q s h in ap (λ (n : ℕ). Some n) (sym (added_is order host libs g slot q is).0 ∙ ap (λ (x : Segment). x.slot) same)
-    segment later g (Some q) is (suc i) h = later (k + 1) (requested_from (own_units order host libs) row (references_of q)) i h
+    segment later g (Some q) is (suc i) h = later (k + 1) (requested_from (own_units order host libs) queue (references_of q)) i h
 
-    fault : Later → (g : UnitReference) (o : Option Fault) → slice_get (of_fault order host libs left k row (added_segment order host libs g slot) o).added j ≡ Some s → slice_get (slot ∷ left) j ≡ Some s.slot
+    fault : Later → (g : UnitReference) (o : Option Fault) → slice_get (of_fault order host libs left k queue (added_segment order host libs g slot) o).added j ≡ Some s → slice_get (slot ∷ left) j ≡ Some s.slot
     fault later g (Some f) h = absurd (cc)
     fault later g None h = segment later g (added_segment order host libs g slot) refl j h
 
-    name : Later → (o : Option UnitReference) → slice_get (of_name order host libs slot left k row o).added j ≡ Some s → slice_get (slot ∷ left) j ≡ Some s.slot
+    name : Later → (o : Option UnitReference) → slice_get (of_name order host libs slot left k queue o).added j ≡ Some s → slice_get (slot ∷ left) j ≡ Some s.slot
     name later None h = absurd (cc)
     name later (Some g) h = fault later g (placed_fault order host libs g slot) h
 

@@ -18,7 +18,7 @@ use Rattle.ps_resolve.specs.Faults.{is_role, sources_fault}
 use Rattle.ps_resolve.specs.declared.reading.added.UnitReference.{UnitReference}
 use Rattle.ps_laws.proofs.Items.{of_filter_map, of_range}
 use Rattle.ps_laws.proofs.Segments.{found_in_slot, slot_is}
-use Rattle.ps_laws.proofs.Asked.{row_of, segment_named, name_placed, added_is}
+use Rattle.ps_laws.proofs.Asked.{queue_of, segment_named, name_placed, added_is}
 use Rattle.ps_laws.proofs.AddedUnits.{unit_role, own_is, units_are}
 use Rattle.ps_words.specs.FaultPlaces.{in_slot}
 use Rattle.ps_words.specs.declared.order.Order.{Order}
@@ -34,7 +34,7 @@ of_segments order host libs k s e =
     (omega (arith, lt, at), subst (λ (n : ℕ). segment_at order host libs n ≡ Some s) (sym at) r.2)
 
 module _ (host : List ℕ) (libs : List (List ℕ)) (none : NoneStands host libs) (fine : sources_fault (order_of host) host libs ≡ None) (ended : added_fault (order_of host) host libs ≡ None) where
-  -- a unit that is the host's own has its slot there; one that was added has its name in the row
+  -- a unit that is the host's own has its slot there; one that was added has its name in the queue
   abbrev IsOwn : Segment → Type 0
   IsOwn s = (s.slot < 16) × IsUnitSlot (order_of host) host s.slot × ((entry_at (order_of host) host s.slot).name ≡ s.name)
 
@@ -61,8 +61,8 @@ module _ (host : List ℕ) (libs : List (List ℕ)) (none : NoneStands host libs
   before_own : (s q : Segment) → IsOwn s → IsOwn q → s.name ≡ q.name → s.slot < q.slot → ⊥
   before_own s q a b same lt = none OfSlots (in_slot 0 q.slot reason.DoubledSegment) (record { stands = (q.slot, b.0, (reason.DoubledSegment, refl, (b.1, (s.slot, lt, (a.1, a.2 ∙ (same ∙ sym b.2)))))) })
 
-  -- an added one has the name of the row
-  name_of : (s : Segment) (a : IsAdded s) (g : UnitReference) → slice_get (row_of (order_of host) host libs) a.0 ≡ Some g → s.name ≡ g.name
+  -- an added one has the name of the queue
+  name_of : (s : Segment) (a : IsAdded s) (g : UnitReference) → slice_get (queue_of (order_of host) host libs) a.0 ≡ Some g → s.name ≡ g.name
   name_of s a g e =
       let p = name_placed (order_of host) host libs ended a.0 g e in
       let it : p.1 ≡ s = one p.1 s (sym p.3 ∙ a.1) in

@@ -156,10 +156,10 @@ round_least law order host libs k g (Some slot) = go (is_missing order libs g.na
         from f (inr (inl t)) = absurd (let e = t.1 in cc)
         from f (inr (inr t)) = let same : t.0 ≡ slot = (let e = t.1 in cc) in subst (λ (n : ℕ). PlacedFault order host libs g.name n f) same t.2
 
--- 2. the row of names
-pub sought_append : (units : List (List ℕ × ℕ)) (row xs ys : List UnitReference) → requested_from units row (xs ++ ys) ≡ requested_from units (requested_from units row xs) ys
-sought_append units row [] ys = refl
-sought_append units row (g ∷ xs) ys = sought_append units (if is_already_known units row g.name then row else row ++ g ∷ []) xs ys
+-- 2. the queue of names
+pub requested_append : (units : List (List ℕ × ℕ)) (queue xs ys : List UnitReference) → requested_from units queue (xs ++ ys) ≡ requested_from units (requested_from units queue xs) ys
+requested_append units queue [] ys = refl
+requested_append units queue (g ∷ xs) ys = requested_append units (if is_already_known units queue g.name then queue else queue ++ g ∷ []) xs ys
 
 abbrev pub own_units : Order → List ℕ → List (List ℕ) → List (List ℕ × ℕ)
 own_units order host libs = units_of (own_segments order host libs)
@@ -168,16 +168,16 @@ abbrev pub references_of : Segment → List UnitReference
 references_of s = unit_references s.file s.slot 0 s.records
 
 -- the names that further segments request come after those that are requested by the ones before
-pub sought_rest : (order : Order) (host : List ℕ) (libs : List (List ℕ)) (prefix rest : List Segment) → requested_units order host libs (prefix ++ rest) ≡ requested_from (own_units order host libs) (requested_units order host libs prefix) (all_unit_references rest)
+pub requested_rest : (order : Order) (host : List ℕ) (libs : List (List ℕ)) (prefix rest : List Segment) → requested_units order host libs (prefix ++ rest) ≡ requested_from (own_units order host libs) (requested_units order host libs prefix) (all_unit_references rest)
 unfolding requested_units
-sought_rest order host libs prefix rest =
+requested_rest order host libs prefix rest =
     ap (λ (segs : List Segment). requested_from (own_units order host libs) [] (all_unit_references segs)) (sym (append_assoc (own_segments order host libs) prefix rest))
     ∙ (ap (λ (gs : List UnitReference). requested_from (own_units order host libs) [] gs) (flat_map-append references_of (own_segments order host libs ++ prefix) rest)
-    ∙ sought_append (own_units order host libs) [] (all_unit_references (own_segments order host libs ++ prefix)) (all_unit_references rest))
+    ∙ requested_append (own_units order host libs) [] (all_unit_references (own_segments order host libs ++ prefix)) (all_unit_references rest))
 
-sought_more : (order : Order) (host : List ℕ) (libs : List (List ℕ)) (prefix : List Segment) (s : Segment) → requested_units order host libs (prefix ++ s ∷ []) ≡ requested_from (own_units order host libs) (requested_units order host libs prefix) (references_of s)
-sought_more order host libs prefix s =
-    sought_rest order host libs prefix (s ∷ []) ∙ ap (λ (gs : List UnitReference). requested_from (own_units order host libs) (requested_units order host libs prefix) gs) (append-nil (references_of s))
+requested_more : (order : Order) (host : List ℕ) (libs : List (List ℕ)) (prefix : List Segment) (s : Segment) → requested_units order host libs (prefix ++ s ∷ []) ≡ requested_from (own_units order host libs) (requested_units order host libs prefix) (references_of s)
+requested_more order host libs prefix s =
+    requested_rest order host libs prefix (s ∷ []) ∙ ap (λ (gs : List UnitReference). requested_from (own_units order host libs) (requested_units order host libs prefix) gs) (append-nil (references_of s))
 
 -- 3. all rounds
 abbrev pub Place : Type 0
@@ -195,7 +195,7 @@ abbrev FromRound : Order → List ℕ → List (List ℕ) → ℕ → Place → 
 FromRound order host libs k p = (j : ℕ) × (f : Fault) × (k ≤ j) × (p ≡ (OfAdded j, f)) × InRound order host libs j f
 
 abbrev pub rest_of : Order → List ℕ → List (List ℕ) → List ℕ → ℕ → List UnitReference → Rounds
-rest_of order host libs left k row = rounds_from order host libs (own_units order host libs) left k row
+rest_of order host libs left k queue = rounds_from order host libs (own_units order host libs) left k queue
 
 -- the round that has this name, and this slot or none
 the_round : OneStop → (order : Order) (host : List ℕ) (libs : List (List ℕ)) (prefix rest : List Segment) (k : ℕ) (g : UnitReference) (left : Option ℕ)
@@ -247,9 +247,9 @@ no_name order host libs prefix k is at none p t =
 -- the rounds from one on, with the faults' steps
 abbrev RoundsHave : Order → List ℕ → List (List ℕ) → List ℕ → Type 0
 RoundsHave order host libs left =
-    (prefix : List Segment) (used : List ℕ) (k : ℕ) (row : List UnitReference)
-    → added_segments order host libs ≡ prefix ++ (rest_of order host libs left k row).added → k ≡ length prefix → empty_slots order host ≡ used ++ left → k ≡ length used → requested_units order host libs prefix ≡ row
-    → (o : Option Place) × Least Earlier (FromRound order host libs k) o × (option_map (λ (x : Place). x.1) o ≡ (rest_of order host libs left k row).fault)
+    (prefix : List Segment) (used : List ℕ) (k : ℕ) (queue : List UnitReference)
+    → added_segments order host libs ≡ prefix ++ (rest_of order host libs left k queue).added → k ≡ length prefix → empty_slots order host ≡ used ++ left → k ≡ length used → requested_units order host libs prefix ≡ queue
+    → (o : Option Place) × Least Earlier (FromRound order host libs k) o × (option_map (λ (x : Place). x.1) o ≡ (rest_of order host libs left k queue).fault)
 
 -- the slot that is used next
 pub next_slot : (xs ys : List ℕ) (k : ℕ) → k ≡ length xs → slice_get (xs ++ ys) k ≡ slice_get ys 0
@@ -263,33 +263,33 @@ quiet : {S : Fault → Type 0} {B : Fault → Fault → Type 0} → Least B S No
 quiet (nothing n) f s = n f s
 
 abbrev pub of_segment : Order → List ℕ → List (List ℕ) → List ℕ → ℕ → List UnitReference → Option Segment → Rounds
-of_segment order host libs left k row None = record { added = []; fault = None }
-of_segment order host libs left k row (Some s) = after s (rest_of order host libs left (k + 1) (requested_from (own_units order host libs) row (references_of s)))
+of_segment order host libs left k queue None = record { added = []; fault = None }
+of_segment order host libs left k queue (Some s) = after s (rest_of order host libs left (k + 1) (requested_from (own_units order host libs) queue (references_of s)))
 
 abbrev pub of_fault : Order → List ℕ → List (List ℕ) → List ℕ → ℕ → List UnitReference → Option Segment → Option Fault → Rounds
-of_fault order host libs left k row segment (Some fault) = record { added = []; fault = Some fault }
-of_fault order host libs left k row segment None = of_segment order host libs left k row segment
+of_fault order host libs left k queue segment (Some fault) = record { added = []; fault = Some fault }
+of_fault order host libs left k queue segment None = of_segment order host libs left k queue segment
 
 abbrev pub of_name : Order → List ℕ → List (List ℕ) → ℕ → List ℕ → ℕ → List UnitReference → Option UnitReference → Rounds
-of_name order host libs slot left k row None = record { added = []; fault = None }
-of_name order host libs slot left k row (Some g) = of_fault order host libs left k row (added_segment order host libs g slot) (placed_fault order host libs g slot)
+of_name order host libs slot left k queue None = record { added = []; fault = None }
+of_name order host libs slot left k queue (Some g) = of_fault order host libs left k queue (added_segment order host libs g slot) (placed_fault order host libs g slot)
 
 -- the fault that ends the rounds, with these slots left, is the smallest that applies from this
 -- round on
 rounds_have : OneStop → (order : Order) (host : List ℕ) (libs : List (List ℕ)) (left : List ℕ) → RoundsHave order host libs left
-rounds_have law order host libs [] prefix used k row is at slots_are used_at row_is = go (slice_get row k) refl
+rounds_have law order host libs [] prefix used k queue is at slots_are used_at queue_is = go (slice_get queue k) refl
   where
     ends : added_segments order host libs ≡ prefix
     ends = is ∙ append-nil prefix
 
-    go : (x : Option UnitReference) → slice_get row k ≡ x → (o : Option Place) × Least Earlier (FromRound order host libs k) o × (option_map (λ (p : Place). p.1) o ≡ option_map (unplaced_fault order libs) x)
-    go None e = (None, nothing (no_name order host libs prefix k ends at (ap (λ (r : List UnitReference). slice_get r k) row_is ∙ e)), refl)
+    go : (x : Option UnitReference) → slice_get queue k ≡ x → (o : Option Place) × Least Earlier (FromRound order host libs k) o × (option_map (λ (p : Place). p.1) o ≡ option_map (unplaced_fault order libs) x)
+    go None e = (None, nothing (no_name order host libs prefix k ends at (ap (λ (r : List UnitReference). slice_get r k) queue_is ∙ e)), refl)
     go (Some g) e = (
       Some (OfAdded k, unplaced_fault order libs g),
-      last_round order host libs prefix k (Some (unplaced_fault order libs g)) ends at (the_round law order host libs prefix [] k g None is at (ap (λ (r : List UnitReference). slice_get r k) row_is ∙ e) (ap (λ (xs : List ℕ). slice_get xs k) slots_are ∙ next_slot used [] k used_at)),
+      last_round order host libs prefix k (Some (unplaced_fault order libs g)) ends at (the_round law order host libs prefix [] k g None is at (ap (λ (r : List UnitReference). slice_get r k) queue_is ∙ e) (ap (λ (xs : List ℕ). slice_get xs k) slots_are ∙ next_slot used [] k used_at)),
       refl,
     )
-rounds_have law order host libs (slot ∷ left) prefix used k row is at slots_are used_at row_is = go (rounds_have law order host libs left) (slice_get row k) refl is
+rounds_have law order host libs (slot ∷ left) prefix used k queue is at slots_are used_at queue_is = go (rounds_have law order host libs left) (slice_get queue k) refl is
   where
     Have : Rounds → Type 0
     Have r = (o : Option Place) × Least Earlier (FromRound order host libs k) o × (option_map (λ (x : Place). x.1) o ≡ r.fault)
@@ -297,21 +297,21 @@ rounds_have law order host libs (slot ∷ left) prefix used k row is at slots_ar
     slot_at : slice_get (empty_slots order host) k ≡ Some slot
     slot_at = ap (λ (xs : List ℕ). slice_get xs k) slots_are ∙ next_slot used (slot ∷ left) k used_at
 
-    named : (g : UnitReference) → slice_get row k ≡ Some g → slice_get (requested_units order host libs prefix) k ≡ Some g
-    named g e = ap (λ (r : List UnitReference). slice_get r k) row_is ∙ e
+    named : (g : UnitReference) → slice_get queue k ≡ Some g → slice_get (requested_units order host libs prefix) k ≡ Some g
+    named g e = ap (λ (r : List UnitReference). slice_get r k) queue_is ∙ e
 
-    segment : RoundsHave order host libs left → (g : UnitReference) → slice_get row k ≡ Some g → (o : Option Segment) → added_segments order host libs ≡ prefix ++ (of_segment order host libs left k row o).added → ((f : Fault) → InRound order host libs k f → ⊥) → Have (of_segment order host libs left k row o)
+    segment : RoundsHave order host libs left → (g : UnitReference) → slice_get queue k ≡ Some g → (o : Option Segment) → added_segments order host libs ≡ prefix ++ (of_segment order host libs left k queue o).added → ((f : Fault) → InRound order host libs k f → ⊥) → Have (of_segment order host libs left k queue o)
     segment later g e None is none = (None, nothing (λ p t. none t.1 (subst (λ (n : ℕ). InRound order host libs n t.1) (last_is order host libs prefix k t.0 t.1 (is ∙ append-nil prefix) at t.2 t.4) t.4)), refl)
     segment later g e (Some s) is none = (r.0, least_same to from r.1, r.2)
       where
-        r : (o : Option Place) × Least Earlier (FromRound order host libs (k + 1)) o × (option_map (λ (x : Place). x.1) o ≡ (rest_of order host libs left (k + 1) (requested_from (own_units order host libs) row (references_of s))).fault)
+        r : (o : Option Place) × Least Earlier (FromRound order host libs (k + 1)) o × (option_map (λ (x : Place). x.1) o ≡ (rest_of order host libs left (k + 1) (requested_from (own_units order host libs) queue (references_of s))).fault)
         r =
-            later (prefix ++ s ∷ []) (used ++ slot ∷ []) (k + 1) (requested_from (own_units order host libs) row (references_of s))
-            (is ∙ sym (append_assoc prefix (s ∷ []) (rest_of order host libs left (k + 1) (requested_from (own_units order host libs) row (references_of s))).added))
+            later (prefix ++ s ∷ []) (used ++ slot ∷ []) (k + 1) (requested_from (own_units order host libs) queue (references_of s))
+            (is ∙ sym (append_assoc prefix (s ∷ []) (rest_of order host libs left (k + 1) (requested_from (own_units order host libs) queue (references_of s))).added))
             (let l = longer prefix s in omega (arith, l, at))
             (slots_are ∙ sym (append_assoc used (slot ∷ []) left))
             (let l = longer used slot in omega (arith, l, used_at))
-            (sought_more order host libs prefix s ∙ ap (λ (xs : List UnitReference). requested_from (own_units order host libs) xs (references_of s)) row_is)
+            (requested_more order host libs prefix s ∙ ap (λ (xs : List UnitReference). requested_from (own_units order host libs) xs (references_of s)) queue_is)
 
         to : (p : Place) → FromRound order host libs (k + 1) p → FromRound order host libs k p
         to p t = (t.0, t.1, (let a = t.2 in omega (arith, a)), t.3, t.4)
@@ -322,8 +322,8 @@ rounds_have law order host libs (slot ∷ left) prefix used k row is at slots_ar
           | inr h ↦ absurd (none t.1 (subst (λ (n : ℕ). InRound order host libs n t.1) (let a = t.2 in omega (arith, a, h)) t.4))
         ]
 
-    fault : RoundsHave order host libs left → (g : UnitReference) → slice_get row k ≡ Some g → (o : Option Fault) → placed_fault order host libs g slot ≡ o
-        → added_segments order host libs ≡ prefix ++ (of_fault order host libs left k row (added_segment order host libs g slot) o).added → Have (of_fault order host libs left k row (added_segment order host libs g slot) o)
+    fault : RoundsHave order host libs left → (g : UnitReference) → slice_get queue k ≡ Some g → (o : Option Fault) → placed_fault order host libs g slot ≡ o
+        → added_segments order host libs ≡ prefix ++ (of_fault order host libs left k queue (added_segment order host libs g slot) o).added → Have (of_fault order host libs left k queue (added_segment order host libs g slot) o)
     fault later g e (Some f) p is = (
       Some (OfAdded k, f),
       last_round order host libs prefix k (Some f) (is ∙ append-nil prefix) at
@@ -334,11 +334,11 @@ rounds_have law order host libs (slot ∷ left) prefix used k row is at slots_ar
         segment later g e (added_segment order host libs g slot) is
         (quiet (subst (λ (o : Option Fault). Least (Precedes (OfAdded k)) (InRound order host libs k) o) p (the_round law order host libs prefix _ k g (Some slot) is at (named g e) slot_at)))
 
-    go : RoundsHave order host libs left → (x : Option UnitReference) → slice_get row k ≡ x → added_segments order host libs ≡ prefix ++ (of_name order host libs slot left k row x).added → Have (of_name order host libs slot left k row x)
-    go later None e is = (None, nothing (no_name order host libs prefix k (is ∙ append-nil prefix) at (ap (λ (r : List UnitReference). slice_get r k) row_is ∙ e)), refl)
+    go : RoundsHave order host libs left → (x : Option UnitReference) → slice_get queue k ≡ x → added_segments order host libs ≡ prefix ++ (of_name order host libs slot left k queue x).added → Have (of_name order host libs slot left k queue x)
+    go later None e is = (None, nothing (no_name order host libs prefix k (is ∙ append-nil prefix) at (ap (λ (r : List UnitReference). slice_get r k) queue_is ∙ e)), refl)
     go later (Some g) e is = fault later g e (placed_fault order host libs g slot) refl is
 
--- the rounds begin with the names that the host's own segments seek
+-- the rounds begin with the names that the host's own segments request
 pub first_round : (order : Order) (host : List ℕ) (libs : List (List ℕ)) → rounds order host libs ≡ rest_of order host libs (empty_slots order host) 0 (requested_units order host libs [])
 unfolding rounds requested_units
 first_round order host libs =

@@ -34,7 +34,7 @@ use Rattle.ps_laws.proofs.Items.{In, in_range, in_filter, of_take, some_before}
 use Rattle.ps_laws.proofs.Steps.{not_below, step_2}
 use Rattle.ps_laws.proofs.Sources.{OneStop, ok_is}
 use Rattle.ps_laws.proofs.Segments.{from_slot, own_in_slot, found_in_slot, Ascends, ascend}
-use Rattle.ps_laws.proofs.Asked.{row_of, segment_named, name_placed, added_is, in_empty, empty_slot, empty_ascend, found_added, in_segments, own_at}
+use Rattle.ps_laws.proofs.Asked.{queue_of, segment_named, name_placed, added_is, in_empty, empty_slot, empty_ascend, found_added, in_segments, own_at}
 use Rattle.ps_laws.proofs.AddedUnits.{both_none, first_none, source_none, of_role, own_made, wanted_source, given, units_are, split_at}
 use Rattle.ps_laws.proofs.Whole.{unread, none_read}
 use Rattle.ps_laws.proofs.OneName.{of_segments}
@@ -311,7 +311,7 @@ module _ (law : OneStop) (spells : OneSpelling) (host : List ℕ) (libs : List (
         asking = (g.rec, asks.2, asks.3, (asks.4, asks.5 ∙ sym name))
 
     -- the name that is looked up in that round
-    module _ (g : UnitReference) (in_row : slice_get (row_of order host libs) j ≡ Some g) (fits : placed_fault order host libs g s.slot ≡ None) (name : s.name ≡ g.name) (from : added_segment order host libs g s.slot ≡ Some s) (earlier : slice_get (requested_units order host libs (take j (added_segments order host libs))) j ≡ Some g) where
+    module _ (g : UnitReference) (in_queue : slice_get (queue_of order host libs) j ≡ Some g) (fits : placed_fault order host libs g s.slot ≡ None) (name : s.name ≡ g.name) (from : added_segment order host libs g s.slot ≡ Some s) (earlier : slice_get (requested_units order host libs (take j (added_segments order host libs))) j ≡ Some g) where
       parts : UnitIsFine order host libs g s.slot (is_missing order libs g.name)
       parts = placed_parts order host libs g s.slot (is_missing order libs g.name) fits
 
@@ -332,7 +332,7 @@ module _ (law : OneStop) (spells : OneSpelling) (host : List ℕ) (libs : List (
             role = (units.roles j s in_round).0;
             asked = asked_before g earlier name;
             named = ap is_nameless name ∙ not_nameless (is_nameless g.name) _ parts.0;
-            free = λ h. (units.requested j g in_row).1 (subst (λ (n : List ℕ). HasSlot order host n) name h);
+            free = λ h. (units.requested j g in_queue).1 (subst (λ (n : List ℕ). HasSlot order host n) name h);
           }
 
       of_source : (at : ℕ × ℕ) (q : Segment) → unit_source order g.name libs ≡ Some at → segment_from order host libs s.slot g.name role.Wanted at ≡ Some q → as_added q ≡ s → IsOfRound order host libs s
@@ -347,8 +347,8 @@ module _ (law : OneStop) (spells : OneSpelling) (host : List ℕ) (libs : List (
             added_unit = unit_added;
           }
 
-      of_row : IsOfRound order host libs s
-      of_row = go (option_and_then (segment_from order host libs s.slot g.name role.Wanted) (unit_source order g.name libs)) refl from
+      of_queue : IsOfRound order host libs s
+      of_queue = go (option_and_then (segment_from order host libs s.slot g.name role.Wanted) (unit_source order g.name libs)) refl from
         where
           go : (o : Option Segment) → option_and_then (segment_from order host libs s.slot g.name role.Wanted) (unit_source order g.name libs) ≡ o → option_map as_added o ≡ Some s → IsOfRound order host libs s
           go None is e = absurd (cc)
@@ -363,7 +363,7 @@ module _ (law : OneStop) (spells : OneSpelling) (host : List ℕ) (libs : List (
         let same : p.1 ≡ s = one p.1 s (sym p.3 ∙ in_round) in
         let t = added_is order host libs g.0 p.0 p.1 p.4 in
         let slot : p.0 ≡ s.slot = sym t.0 ∙ ap (λ (x : Segment). x.slot) same in
-        of_row g.0 g.1 (subst (λ (n : ℕ). placed_fault order host libs g.0 n ≡ None) slot p.5) (sym (ap (λ (x : Segment). x.name) same) ∙ t.1)
+        of_queue g.0 g.1 (subst (λ (n : ℕ). placed_fault order host libs g.0 n ≡ None) slot p.5) (sym (ap (λ (x : Segment). x.name) same) ∙ t.1)
         (subst (λ (n : ℕ). added_segment order host libs g.0 n ≡ Some s) slot (p.4 ∙ ap (λ (x : Segment). Some x) same)) p.6
       where
         one : (x y : Segment) → ◌≡◌ {A = Option Segment} (Some x) (Some y) → x ≡ y

@@ -97,12 +97,12 @@ named order name file i = Decides-and (is_filled (entry_at order file i)) (bytes
 pub has : (order : Order) (name file : List ℕ) → Decides (has_entry order name file) (HasEntry order name file)
 has order name file = any_lesser (is_named order name file) (λ i. IsNamed order name file i) (named order name file) 16
 
-abbrev Doubled : Order → List ℕ → List ℕ → Type 0
-Doubled order name lib = SomeBelow 16 (λ i. IsNamed order name lib i × SomeBelow i (λ j. IsNamed order name lib j))
+abbrev Duplicate : Order → List ℕ → List ℕ → Type 0
+Duplicate order name lib = SomeBelow 16 (λ i. IsNamed order name lib i × SomeBelow i (λ j. IsNamed order name lib j))
 
 -- the test of a library's entries says whether two have the name
-doubled : (order : Order) (name lib : List ℕ) → Decides (list_any (λ i. is_named order name lib i && list_any (is_named order name lib) (range_with_len 0 i)) slots) (Doubled order name lib)
-doubled order name lib =
+duplicate : (order : Order) (name lib : List ℕ) → Decides (list_any (λ i. is_named order name lib i && list_any (is_named order name lib) (range_with_len 0 i)) slots) (Duplicate order name lib)
+duplicate order name lib =
     any_lesser (λ i. is_named order name lib i && list_any (is_named order name lib) (range_with_len 0 i)) (λ i. IsNamed order name lib i × SomeBelow i (λ j. IsNamed order name lib j))
     (λ i. Decides-and (is_named order name lib i) (list_any (is_named order name lib) (range_with_len 0 i)) (named order name lib i) (any_lesser (is_named order name lib) (λ j. IsNamed order name lib j) (named order name lib) i)) 16
 
@@ -117,7 +117,7 @@ first_entry order name lib =
 -- the reason that is given for a library's entries of a name is the one of smallest rank that
 -- applies
 entries_rows : (order : Order) (name lib : List ℕ) → Least Ranked (EntriesHave order name lib) (entries_reason order name lib)
-entries_rows order name lib = go (list_any (λ i. is_named order name lib i && list_any (is_named order name lib) (range_with_len 0 i)) slots) (find (is_named order name lib) slots) (doubled order name lib) (first_entry order name lib)
+entries_rows order name lib = go (list_any (λ i. is_named order name lib i && list_any (is_named order name lib) (range_with_len 0 i)) slots) (find (is_named order name lib) slots) (duplicate order name lib) (first_entry order name lib)
   where
     Has : Reason → Type 0
     Has = EntriesHave order name lib
@@ -125,13 +125,13 @@ entries_rows order name lib = go (list_any (λ i. is_named order name lib i && l
     First : ℕ → Type 0
     First y = (i : ℕ) × (0 ≤ i) × (i < 0 + 16) × (IsNamed order name lib i × (y ≡ i))
 
-    single : Decides false (Doubled order name lib) → (i j : ℕ) → i < 16 → j < 16 → IsNamed order name lib i → IsNamed order name lib j → i ≡ j
+    single : Decides false (Duplicate order name lib) → (i j : ℕ) → i < 16 → j < 16 → IsNamed order name lib i → IsNamed order name lib j → i ≡ j
     single d i j a b m n = elim (cases_lt i j) [
       | inl h ↦ absurd (false≢true (d.1 (j, b, (n, (i, h, m)))))
       | inr h ↦ elim (cases_lt j i) [ inl k ↦ absurd (false≢true (d.1 (i, a, (m, (j, k, n))))) | inr k ↦ omega (arith, h, k) ]
     ]
 
-    go : (b : Bool) (o : Option ℕ) → Decides b (Doubled order name lib) → Least (λ i j. i < j) First o → Least Ranked Has (if b then Some reason.DoubledUnit else option_and_then (λ i. fault_if (not ((entry_at order lib i).kind == 3)) (reason.NotAUnit (entry_at order lib i).kind)) o)
+    go : (b : Bool) (o : Option ℕ) → Decides b (Duplicate order name lib) → Least (λ i j. i < j) First o → Least Ranked Has (if b then Some reason.DoubledUnit else option_and_then (λ i. fault_if (not ((entry_at order lib i).kind == 3)) (reason.NotAUnit (entry_at order lib i).kind)) o)
     go true o d l = this reason.DoubledUnit (d.0 refl) least
       where
         least : (y : Reason) → Has y → (y ≡ reason.DoubledUnit) ⊎ Ranked reason.DoubledUnit y

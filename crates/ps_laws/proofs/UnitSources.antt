@@ -18,7 +18,7 @@ use Rattle.ps_resolve.specs.Origins.{IsFile, IsUnitOf}
 use Rattle.ps_resolve.specs.Sources.{is_named, chosen_library, unit_source, file_at}
 use Rattle.ps_laws.proofs.Items.{of_range, find_passes}
 use Rattle.ps_resolve.specs.declared.reading.added.UnitReference.{UnitReference}
-use Rattle.ps_laws.proofs.OneRow.{HasOneEntry}
+use Rattle.ps_laws.proofs.OneQueue.{HasOneEntry}
 use Rattle.ps_laws.proofs.Sources.{named, entry_least}
 use Rattle.ps_laws.proofs.AddedUnits.{both_none, find_in, first_library, library_at}
 use Rattle.ps_words.specs.FaultPlaces.{in_slot, in_record}

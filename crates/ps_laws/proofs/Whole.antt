@@ -138,7 +138,7 @@ untag : (step : Step) (o : Option Fault) (p : Option Place) (q : Option Fault) �
 untag step None p q e = e
 untag step (Some f) p q e = refl
 
--- the faults of a row of turns, with their steps, and that they are these
+-- the faults of a queue of turns, with their steps, and that they are these
 abbrev Turns : List ℕ → List (List ℕ) → ℕ → ℕ → Option Fault → Type 0
 Turns host libs n m fault = (o : Option Place) × Least Earlier (Between (order_of host) host libs n m) o × (option_map (λ (x : Place). x.1) o ≡ fault)
 

@@ -65,8 +65,7 @@ impl FileFault {
 }
 
 /// Opens the files of a command. What runs a command is generic over it, so that contracts say of
-/// bytes at which path they
-/// were read: no contract says what a file of the system holds.
+/// bytes at which path they were read: no contract says what a file of the system holds.
 /// Source: this project's profile.
 pub trait CodeFiles {
     /// A file that is read.
@@ -175,9 +174,8 @@ pub fn read<'a, R: CodeFiles, A: Allocator + Copy>(
 }
 
 /// Reads what is left, in at most `LONGEST + 1` reads. No read is repeated after an error. There is
-/// room for `hint` bytes from
-/// the start, so that no more memory is taken where so many are left: a read that finds the end
-/// takes none.
+/// room for `hint` bytes from the start, so that no more memory is taken where so many are left: a
+/// read that finds the end takes none.
 fn read_to_end<F: Read, A: Allocator + Copy>(
     file: &mut F,
     alloc: A,

@@ -1,7 +1,6 @@
 //! `pslink`, the Linker of UCSD Pascal II.0 for Pascal hosts and units, as a program: `run` does
-//! one command over any
-//! runtime, allocator and writers, and `main` calls it with the arguments and the standard streams
-//! of the process.
+//! one command over any runtime, allocator and writers, and `main` calls it with the arguments and
+//! the standard streams of the process.
 #![tactic(auto)]
 
 ghost use Rattle.std.specs.Prelude.{◌≡◌, ◌≢◌, ◌≤◌, ◌⊎◌, IfErr, IfOk, map, string_bytes};

@@ -22,21 +22,16 @@ const SUMMARY_LENGTH: usize = 128;
 /// status of the process.
 ///
 /// `link` writes the linked file to OUT, which is opened only once all is read and checked, and
-/// prints its summary to
-/// `out`; `map` prints the map of the link, `show` what one code file has, and `check` a report on
-/// the files for a person.
-/// Each file is opened at the path that is named and read to its end, the libraries in the order in
-/// which they are named.
+/// prints its summary to `out`; `map` prints the map of the link, `show` what one code file has,
+/// and `check` a report on the files for a person. Each file is opened at the path that is named
+/// and read to its end, the libraries in the order in which they are named.
 ///
 /// The status is 0 where the command was done, or where the help or the version was requested; 1
-/// where the files are
-/// refused; 2 where the program does not accept the arguments; 3 where a file could not be read or
-/// written or is too
-/// long, or standard output failed; 4 where memory was refused. From 1 on, one text that ends with
-/// a line end is
-/// written to `err`, and whether that succeeds changes no status. But a report names the refusal
-/// itself: then the
-/// status is 1, as it is on a warning where `check` is strict, and `err` is as it was.
+/// where the files are refused; 2 where the program does not accept the arguments; 3 where a file
+/// could not be read or written or is too long, or standard output failed; 4 where memory was
+/// refused. From 1 on, one text that ends with a line end is written to `err`, and whether that
+/// succeeds changes no status. But a report names the refusal itself: then the status is 1, as it
+/// is on a warning where `check` is strict, and `err` is as it was.
 ///
 /// Memory for the arguments is taken from `rt`, all other from `alloc`. Source: this project's
 /// profile.
@@ -155,8 +150,7 @@ fn link<'a, R: CodeFiles, A: Allocator + Copy, O: Write>(
 }
 
 /// Prints the map of a link. All is read and checked before anything is printed; the text is
-/// written in pieces, and takes
-/// no memory.
+/// written in pieces, and takes no memory.
 fn map<'a, R: CodeFiles, A: Allocator + Copy, O: Write>(
     rt: &R,
     alloc: A,

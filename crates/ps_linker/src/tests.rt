@@ -1,6 +1,5 @@
 //! The command through `run`: statuses, texts, and what becomes of the files. Each test has its own
-//! file names, since all run in
-//! one folder.
+//! file names, since all run in one folder.
 mod args;
 mod faulty;
 mod files;

@@ -23,11 +23,11 @@ use Rattle.ps_linkfile.proofs.Slots.{extent_at, segments_ascend}
 use Rattle.ps_linkfile.proofs.Plans.{plan_extents}
 use Rattle.ps_linkfile.proofs.Views.{no_source, seen, start_at}
 
--- each segment of a row that rises by slot is found there by its slot
+-- each segment of a list that rises by slot is found there by its slot
 other_slot : (slot : ℕ) (s : Segment) → s.slot ≢ slot → (s.slot == slot) ≡ false
 other_slot slot s differs = ne_eqb s.slot slot differs
 
--- of a row that rises from a number on, each segment has a slot not below it and below 16, and is
+-- of a list that rises from a number on, each segment has a slot not below it and below 16, and is
 -- found by this slot
 found_in : (ss : List Segment) (from : ℕ) → Ascend from (map extent_at ss) → (i : ℕ) (s : Segment) → slice_get ss i ≡ Some s → (from ≤ s.slot) × (s.slot < 16) × (find (λ (t : Segment). t.slot == s.slot) ss ≡ Some s)
 found_in [] from a i s h = cc

@@ -79,7 +79,7 @@ tested : (b : Bool) (x y : ℕ) → (b ≡ true → x ≡ y) → cond b x 0 ≡ 
 tested true x y h = h refl
 tested false x y h = refl
 
--- where two rows of edits leave the same byte at each place of a code, they leave the same whole
+-- where two lists of edits leave the same byte at each place of a code, they leave the same whole
 -- blocks
 padded_alike : (order : Order) (code : List ℕ) (d e : List Edit) → ((p : ℕ) → p < length code → patched_byte order code d p ≡ patched_byte order code e p) → padded_code order code d ≡ padded_code order code e
 padded_alike order code d e h =

@@ -1,4 +1,4 @@
--- The order of a file that is shown, and its lines: those of a row of slots, and those of a walk
+-- The order of a file that is shown, and its lines: those of a list of slots, and those of a walk
 -- over records.
 use Rattle.std.proofs.Common.{◌≡◌, ℕ, suc, ◌+◌, ◌-◌, ◌<◌, ◌≤◌, List, [], ◌∷◌, ◌++◌, length, length-append, map, append_assoc, append-nil, Bool, true, false, if◌then◌else◌, Option, Some, None, Result, Ok, Err, refl, sym, ◌∙◌, ap, arith}
 use Rattle.std.specs.List.{flat_map, filter, enumerate_from, range_with_len}

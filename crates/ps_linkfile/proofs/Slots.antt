@@ -86,19 +86,19 @@ added_is order host libs g slot s h =
     subst IsSmall read.1.1 (read_is order host libs slot g.name Wanted at_source.0 read.0 at_source.1.1).1
 
 -- so have the codes of all segments that the rounds add, from one of them on
-rounds_small : (order : Order) (host : List ℕ) (libs : List (List ℕ)) (units : List (List ℕ × ℕ)) (left : List ℕ) (k : ℕ) (row : List UnitReference) → All IsSmall (rounds_from order host libs units left k row).added
-rounds_small order host libs units [] k row = All-nil IsSmall
-rounds_small order host libs units (slot ∷ left) k row = by (λ next. rounds_small order host libs units left (k + 1) next) (slice_get row k) refl
+rounds_small : (order : Order) (host : List ℕ) (libs : List (List ℕ)) (units : List (List ℕ × ℕ)) (left : List ℕ) (k : ℕ) (queue : List UnitReference) → All IsSmall (rounds_from order host libs units left k queue).added
+rounds_small order host libs units [] k queue = All-nil IsSmall
+rounds_small order host libs units (slot ∷ left) k queue = by (λ next. rounds_small order host libs units left (k + 1) next) (slice_get queue k) refl
   where
-    at : ((next : List UnitReference) → All IsSmall (rounds_from order host libs units left (k + 1) next).added) → (g : UnitReference) (p : Option Fault) → placed_fault order host libs g slot ≡ p → (o : Option Segment) → added_segment order host libs g slot ≡ o → slice_get row k ≡ Some g
-        → All IsSmall (rounds_from order host libs units (slot ∷ left) k row).added
+    at : ((next : List UnitReference) → All IsSmall (rounds_from order host libs units left (k + 1) next).added) → (g : UnitReference) (p : Option Fault) → placed_fault order host libs g slot ≡ p → (o : Option Segment) → added_segment order host libs g slot ≡ o → slice_get queue k ≡ Some g
+        → All IsSmall (rounds_from order host libs units (slot ∷ left) k queue).added
     at rest g (Some fault) e o f h = rw (h, rounds_from) (rw (e, rounds_from) (All-nil IsSmall))
     at rest g None e None f h = rw (h, rounds_from) (rw (e, rounds_from) (rw (f, rounds_from) (All-nil IsSmall)))
     at rest g None e (Some s) f h =
-        let next = requested_from units row (unit_references s.file s.slot 0 s.records) in
+        let next = requested_from units queue (unit_references s.file s.slot 0 s.records) in
         rw (h, rounds_from) (rw (e, rounds_from) (rw (f, rounds_from) (All-cons IsSmall s (rounds_from order host libs units left (k + 1) next).added (added_is order host libs g slot s f) (rest next))))
 
-    by : ((next : List UnitReference) → All IsSmall (rounds_from order host libs units left (k + 1) next).added) → (o : Option UnitReference) → slice_get row k ≡ o → All IsSmall (rounds_from order host libs units (slot ∷ left) k row).added
+    by : ((next : List UnitReference) → All IsSmall (rounds_from order host libs units left (k + 1) next).added) → (o : Option UnitReference) → slice_get queue k ≡ o → All IsSmall (rounds_from order host libs units (slot ∷ left) k queue).added
     by rest None h = rw (h, rounds_from) (All-nil IsSmall)
     by rest (Some g) h = at rest g (placed_fault order host libs g slot) refl (added_segment order host libs g slot) refl h
 
@@ -132,7 +132,7 @@ segment_is order host libs slot s h = by (own_segment order host libs slot) refl
 abbrev pub extent_at : Segment → Extent
 extent_at s = record { slot = s.slot; size = length s.code }
 
--- what a row of slots gives
+-- what a list of slots gives
 row_ascends : (f : ℕ → Option Segment) → ((x : ℕ) (s : Segment) → f x ≡ Some s → (s.slot ≡ x) × (length s.code ≤ max_code_len)) → (n a from : ℕ) → a + n ≤ 16 → from ≤ a → Ascend from (map extent_at (filter_map f (range_with_len a n)))
 row_ascends f h zero a from k l = tt
 row_ascends f h (suc n) a from k l = at (f a) refl (λ (next : ℕ) (le : next ≤ a + 1). row_ascends f h n (a + 1) next (omega arith) le)
@@ -141,7 +141,7 @@ row_ascends f h (suc n) a from k l = at (f a) refl (λ (next : ℕ) (le : next �
     at None is rest = rest from (omega arith)
     at (Some s) is rest = let slot : s.slot ≡ a = (h a s is).0 in (omega arith, omega arith, rest (s.slot + 1) (omega arith))
 
--- where no slot gives a code of more than 32767 bytes, a row of slots gives none either
+-- where no slot gives a code of more than 32767 bytes, a list of slots gives none either
 row_small : (f : ℕ → Option Segment) → ((x : ℕ) (s : Segment) → f x ≡ Some s → (s.slot ≡ x) × (length s.code ≤ max_code_len)) → (xs : List ℕ) → All (λ c. c.size ≤ max_code_len) (map extent_at (filter_map f xs))
 row_small f h [] = All-nil (λ (c : Extent). c.size ≤ max_code_len)
 row_small f h (x ∷ xs) = at (f x) refl (row_small f h xs)

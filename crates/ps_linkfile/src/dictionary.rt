@@ -11,8 +11,7 @@ use ps_words::{BLOCK_SIZE, Order, WORD_LEN, put};
 use std::alloc::Allocator;
 
 /// The sixteen pairs of the dictionary: for the slot of each source the block that its code begins
-/// in
-/// and the code's length, and zeros for any other.
+/// in and the code's length, and zeros for any other.
 fn pairs_of(order: Order, sources: &[Source], starts: &[u16]) -> [u8; NAMES]
     requires slots { Ascend 0 (map (λ s. extent_of_origin (origin_of_source s)) sources.now) }
     requires sizes { All (λ c. c.size ≤ max_code_len)

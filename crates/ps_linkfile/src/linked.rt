@@ -46,9 +46,8 @@ impl<'a, A: Allocator + Copy> Model for Linked<'a, A> {
 
 impl<'a, A: Allocator + Copy> Linked<'a, A> {
     /// What the linked file has, in numbers, before it is written: its segments, the words of all
-    /// its
-    /// private variables, and its blocks of 512 bytes, the segment dictionary's counted, of which
-    /// there are at most 1025. So many bytes `write` writes.
+    /// its private variables, and its blocks of 512 bytes, the segment dictionary's counted, of
+    /// which there are at most 1025. So many bytes `write` writes.
     /// Source: this project's profile.
     pub fn summary(&self) -> Summary
         ensures value { result ≡ summary_in self.now }
@@ -64,8 +63,7 @@ impl<'a, A: Allocator + Copy> Linked<'a, A> {
     /// Writes the linked file, and returns what it has. It takes no memory.
     ///
     /// Refuses `Device` where a write returned an error, which is not repeated, and `Stalled` where
-    /// a
-    /// write of at least one byte took none. The writer then has a prefix of the linked file.
+    /// a write of at least one byte took none. The writer then has a prefix of the linked file.
     /// Source: this project's profile.
     pub fn write<W: Write>(&self, out: &mut W) -> Result<Summary, WriteFault>
         ensures file { OnOk result (Appends (W.contents out.old) (W.contents out.new)
@@ -81,12 +79,11 @@ impl<'a, A: Allocator + Copy> Linked<'a, A> {
     /// Writes the linked file as `write` does, by calls of `told_write` alone.
     ///
     /// Each count of `out` is at most 4294967296 before. `writes` rises by no more than the bytes
-    /// of
-    /// the linked file, and by no more than its blocks and the rise of `shorts` together. After Ok
-    /// neither `errors` nor `stalls` has risen. Refuses `Device` where a write returned an error,
-    /// which is not repeated: `errors` has then risen by one, and `stalls` not. Refuses `Stalled`
-    /// where a write of at least one byte took none: `stalls` has then risen by one, and `errors`
-    /// not. The writer then has a prefix of the linked file.
+    /// of the linked file, and by no more than its blocks and the rise of `shorts` together. After
+    /// Ok neither `errors` nor `stalls` has risen. Refuses `Device` where a write returned an
+    /// error, which is not repeated: `errors` has then risen by one, and `stalls` not. Refuses
+    /// `Stalled` where a write of at least one byte took none: `stalls` has then risen by one, and
+    /// `errors` not. The writer then has a prefix of the linked file.
     /// Source: this project's profile.
     pub fn write_told<W: ToldWriter>(&self, out: &mut W) -> Result<Summary, WriteFault>
         requires { AreAtMost (W.counts out.old) 4294967296 }
@@ -119,8 +116,7 @@ impl<'a, A: Allocator + Copy> Linked<'a, A> {
     /// Writes the map of the link, the text that `map_text` returns, in pieces. It takes no memory.
     ///
     /// Refuses `Device` where a write returned an error, which is not repeated, and `Stalled` where
-    /// a
-    /// write of at least one byte took none. The writer then has a prefix of the map.
+    /// a write of at least one byte took none. The writer then has a prefix of the map.
     /// Source: this project's profile.
     pub fn write_map<W: Write>(&self, out: &mut W) -> Result<(), WriteFault>
         ensures { OnOk result (Appends (W.contents out.old) (W.contents out.new)
@@ -135,8 +131,7 @@ impl<'a, A: Allocator + Copy> Linked<'a, A> {
 ///
 /// `host` and each of `libs` are whole code files; of the libraries that have a unit, the first is
 /// used. Refuses `Refused` with the first fault of all, and `Memory` where memory was refused,
-/// which
-/// is requested only once the files were read and have no fault.
+/// which is requested only once the files were read and have no fault.
 /// Source: this project's profile.
 pub fn prepare<'a, A: Allocator + Copy>(
     alloc: A,
@@ -160,16 +155,13 @@ pub fn prepare<'a, A: Allocator + Copy>(
 ///
 /// Where `link` answers Ok, the bytes written are exactly one code file: every segment is its
 /// input's code, byte for byte, except that each reference holds its definition's value added to
-/// its
-/// displacement, each linked segment its slot's number, and the host's outer block a data size
-/// grown
-/// by the private words; every kind is LINKED and no link information is left.
+/// its displacement, each linked segment its slot's number, and the host's outer block a data size
+/// grown by the private words; every kind is LINKED and no link information is left.
 ///
 /// `host` and each of `libs` are whole code files; of the libraries that have a unit, the first is
 /// used. Refuses `Refused` with the first fault of all, and `Memory` where memory was refused,
-/// which
-/// is requested only once the files were read and have no fault; nothing was written then. Refuses
-/// `Write` where the writer failed, which then has a prefix of the linked file.
+/// which is requested only once the files were read and have no fault; nothing was written then.
+/// Refuses `Write` where the writer failed, which then has a prefix of the linked file.
 /// Source: UCSD Pascal II.0 manual, code file format; the published II.0 Linker source; the layout
 /// is this project's profile.
 pub fn link<'a, A: Allocator + Copy, W: Write>(

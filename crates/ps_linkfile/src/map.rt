@@ -169,24 +169,20 @@ impl<A: Allocator + Copy> fmt::Display for LinkMap<'_, '_, A> {
 }
 
 /// The map of a link, as lines of ASCII text, each ended by a byte 10: for each segment of the
-/// linked
-/// file, by slot, its slot and its name, the file and the entry that its code comes from, its first
-/// block and its length in bytes, and after them `added` where it was added in an empty slot of the
-/// host, for a unit that only a UNITREF record names; for each definition of the host's segment, in
-/// record order, its name and its value; for each private variable, by slot and then by record, its
-/// slot and its name, its base offset and its size in words; and at last the next free base offset
-/// in
-/// words, the data size of the host's outer block in bytes, and how many blocks the linked file
-/// has.
+/// linked file, by slot, its slot and its name, the file and the entry that its code comes from,
+/// its first block and its length in bytes, and after them `added` where it was added in an empty
+/// slot of the host, for a unit that only a UNITREF record names; for each definition of the host's
+/// segment, in record order, its name and its value; for each private variable, by slot and then by
+/// record, its slot and its name, its base offset and its size in words; and at last the next free
+/// base offset in words, the data size of the host's outer block in bytes, and how many blocks the
+/// linked file has.
 ///
 /// Numbers are decimal; slots and entries have two digits. A byte of a name that ASCII does not
-/// print
-/// is shown as `?`.
+/// print is shown as `?`.
 ///
 /// `host` and each of `libs` are whole code files; of the libraries that have a unit, the first is
 /// used. Refuses what `link` refuses: `Refused` with the first fault of all, and `Memory` where
-/// memory
-/// was refused, which is requested only once the files were read and have no fault.
+/// memory was refused, which is requested only once the files were read and have no fault.
 /// Source: this project's profile.
 pub fn map_text<'a, A: Allocator + Copy>(
     alloc: A,

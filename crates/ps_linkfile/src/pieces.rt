@@ -31,8 +31,7 @@ fn write_reference(place: u16, piece: &mut [u8; PIECE_TEXT_LEN], end: usize) -> 
 }
 
 /// Writes the text of the references from the index `from` on, up to `end`, so that it ends where
-/// the
-/// piece does. Returns where it begins.
+/// the piece does. Returns where it begins.
 fn write_piece(refs: &Refs, from: usize, end: usize, piece: &mut [u8; PIECE_TEXT_LEN]) -> usize
     requires ordered { from ≤ end }
     requires within { end ≤ length refs.now }

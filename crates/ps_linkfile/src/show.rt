@@ -199,8 +199,7 @@ fn add_head<W: fmt::Write>(
 }
 
 /// Adds the line of a record, which has the index `rec` in its segment's link information, in a
-/// file
-/// with these units.
+/// file with these units.
 fn add_record<W: fmt::Write>(
     text: &mut Formatter<W>,
     units: &[Name],
@@ -325,24 +324,20 @@ fn add_all_links<W: fmt::Write>(text: &mut Formatter<W>, dict: &Dict) -> fmt::Re
 }
 
 /// What a code file has, as ASCII lines: its byte order; its sixteen slots; and for each slot with
-/// a
-/// host segment or a unit, whose code is in the file, the records of its link information. The line
-/// of a UNITREF record ends with `unlisted` where no slot of the file has a unit of its name, in
-/// place
-/// or wanted.
+/// a host segment or a unit, whose code is in the file, the records of its link information. The
+/// line of a UNITREF record ends with `unlisted` where no slot of the file has a unit of its name,
+/// in place or wanted.
 ///
 /// `file` is a whole code file, of any contents. Its words are read in the byte order that its kind
 /// words show, and as little-endian where all of these are 0, which the first line then calls
 /// `unknown`. Where a code is refused (`BadLength`, `BadAddress` or `Truncated`), a line of that
-/// fault
-/// is in place of its records; where a record cannot be read (`RecordsTruncated`,
+/// fault is in place of its records; where a record cannot be read (`RecordsTruncated`,
 /// `UnknownRecord`, `NativeRecord`, `SeparateRecord` or `BadFormat`), a line of that fault is the
 /// last of the segment. Nothing else is checked.
 ///
 /// Refuses `Refused` with `ShortFile` for a file of fewer than 512 bytes, and with `NoOrder` where
-/// the
-/// kind words fit neither byte order, each of file 0, also where there is no memory; and `Memory`
-/// where memory was refused. Never returns `Write`.
+/// the kind words fit neither byte order, each of file 0, also where there is no memory; and
+/// `Memory` where memory was refused. Never returns `Write`.
 /// Source: UCSD Pascal II.0 manual, code file format; the text is this project's profile.
 pub fn show_text<A: Allocator + Copy>(alloc: A, file: &[u8]) -> Result<Vec<u8, A>, LinkError>
     ensures text { IfOk result (λ text. text.items ≡ show_of file.now) }
@@ -355,9 +350,8 @@ pub fn show_text<A: Allocator + Copy>(alloc: A, file: &[u8]) -> Result<Vec<u8, A
 /// Writes the text that `show_text` returns, in pieces. It takes no memory.
 ///
 /// Refuses `Refused` as `show_text` does, of the same files; nothing was written then. Refuses
-/// `Write`
-/// where the writer failed, which is not called again, and then has a prefix of the text. Never
-/// returns `Memory`.
+/// `Write` where the writer failed, which is not called again, and then has a prefix of the text.
+/// Never returns `Memory`.
 /// Source: UCSD Pascal II.0 manual, code file format; the text is this project's profile.
 pub fn write_show<W: Write>(file: &[u8], out: &mut W) -> Result<(), LinkError>
     ensures written { OnOk result (Appends (W.contents out.old) (W.contents out.new)

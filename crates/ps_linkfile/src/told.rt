@@ -36,8 +36,7 @@ pub trait ToldWriter: Write {
     /// Writes `bytes` as `write` does, and counts the write by what it returns.
     ///
     /// Each count is below `u64::MAX` before. Returns how many of the bytes, from the first on,
-    /// were
-    /// taken, or the error of the write.
+    /// were taken, or the error of the write.
     fn told_write(&mut self, bytes: &[u8]) -> io::Result<usize>
         requires { CanCount (counts self.old) 1 }
         ensures bound { WritesAtMost result bytes.now }

@@ -13,8 +13,7 @@ use crate::refs::Refs;
 use ps_words::{NAME_LEN, Name, Order, Reason, WORD_LEN, get};
 
 /// The references of the first record, and how many bytes it takes, or why it is no reference
-/// record
-/// of this format.
+/// record of this format.
 #[inline(always)]
 fn refs_at(order: Order, rest: &[u8], format: u16) -> Result<(Refs<'_>, usize), Reason>
     requires { 16 ≤ length rest.now }

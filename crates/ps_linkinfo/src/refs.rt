@@ -12,8 +12,7 @@ use std::marker::Model;
 #[derive(Clone, Debug, Drop)]
 pub struct Refs<'a> {
     /// Which byte of a word is its low byte: 0 in little-endian order, 1 in big-endian order. It is
-    /// as
-    /// wide as the other fields, so that records are copied without padding.
+    /// as wide as the other fields, so that records are copied without padding.
     low: usize,
     bytes: &'a [u8],
 }

@@ -25,8 +25,7 @@ pub struct Report<A: Allocator> {
 
 impl<A: Allocator> Report<A> {
     /// What a process that prints the report ends with: 0 where the files are linked, 1 where they
-    /// are refused, and, if
-    /// it is to be `strict`, 1 on a warning too.
+    /// are refused, and, if it is to be `strict`, 1 on a warning too.
     /// Source: this project's profile.
     pub fn status(&self, strict: bool) -> u8
         ensures { result ≡ check_status strict self.now.warnings self.now.verdict }
@@ -42,11 +41,9 @@ impl<A: Allocator> Report<A> {
 /// it would not.
 ///
 /// `host_path` and `paths` name the files in the text; `host` and each of `libs` are whole code
-/// files, the libraries in
-/// the order in which units are looked up in them. The verdict is that of `ps_linkfile::link`: of a
-/// refusal it has the
-/// first fault of all, and its text has the line of that fault. Returns an error where memory was
-/// refused.
+/// files, the libraries in the order in which units are looked up in them. The verdict is that of
+/// `ps_linkfile::link`: of a refusal it has the first fault of all, and its text has the line of
+/// that fault. Returns an error where memory was refused.
 /// Source: this project's profile.
 pub fn check<'a, A: Allocator + Copy>(
     alloc: A,

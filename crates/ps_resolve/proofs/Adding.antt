@@ -1,11 +1,11 @@
--- The row of names that are requested, of which only the first ten are kept, and the rounds that it
--- gives.
+-- The queue of names that are requested, of which only the first ten are kept, and the rounds that
+-- it gives.
 use Rattle.std.proofs.Common.{◌≡◌, ℕ, zero, suc, ◌+◌, ◌<◌, ◌≤◌, List, [], ◌∷◌, ◌++◌, ◌-◌, length, length-append, append_assoc, append-nil, take, Bool, true, false, cond, Option, Some, None, inl, inr, refl, sym, ◌∙◌, ap, arith}
 use Rattle.std.specs.Prelude.{◌⊎◌, All, if◌then◌else◌}
 use Rattle.std.proofs.lemmas.Bool.{cases_lt}
 use Rattle.std.proofs.lemmas.List.{take-append-le, take_all, length-take, length-take-le}
 use Rattle.std.proofs.lemmas.List.Elements.{All-nil, All-cons, All-append}
-use Rattle.ps_resolve.proofs.ReadingRows.{range_more}
+use Rattle.ps_resolve.proofs.FirstSlots.{range_more}
 use Rattle.std.specs.List.{slice_get, find, filter, range_with_len}
 use Rattle.std.specs.Option.{option_map}
 use Rattle.ps_words.specs.FaultPlaces.{in_slot, in_record}
@@ -25,10 +25,10 @@ use Rattle.ps_resolve.specs.Sources.{Segment, segment_from, chosen_library, is_n
 use Rattle.ps_resolve.specs.Faults.{code_fault, entries_reason}
 use Rattle.ps_resolve.specs.declared.reading.added.UnitReference.{UnitReference}
 
--- with this row, the names that the records from this index on seek make the whole row: that of all
--- records, after `old`
-abbrev pub Seeks : List (List ℕ × ℕ) → ℕ → ℕ → List Record → List UnitReference → List UnitReference → ℕ → List Record → Type 0
-Seeks units file slot all old row n rs = take 10 (requested_from units row (unit_references file slot n rs)) ≡ take 10 (requested_from units old (unit_references file slot 0 all))
+-- with this queue, the names that the records from this index on request make the whole queue:
+-- that of all records, after `old`
+abbrev pub Enqueues : List (List ℕ × ℕ) → ℕ → ℕ → List Record → List UnitReference → List UnitReference → ℕ → List Record → Type 0
+Enqueues units file slot all old queue n rs = take 10 (requested_from units queue (unit_references file slot n rs)) ≡ take 10 (requested_from units old (unit_references file slot 0 all))
 
 -- what requests a unit is counted
 asks_is : (b : Body) → is_unit_reference b ≡ is_unit_reference b
@@ -52,38 +52,38 @@ no_references file slot n (r ∷ rs) h = at (λ e. no_references file slot (n + 
     at rest true e = let a = one true (asks_is r.body ∙ e) in absurd (omega arith)
 
 -- names that are requested after others
-pub sought-append : (units : List (List ℕ × ℕ)) (row xs ys : List UnitReference) → requested_from units row (xs ++ ys) ≡ requested_from units (requested_from units row xs) ys
-sought-append units row [] ys = refl
-sought-append units row (x ∷ xs) ys = sought-append units (if is_already_known units row x.name then row else row ++ x ∷ []) xs ys
+pub requested-append : (units : List (List ℕ × ℕ)) (queue xs ys : List UnitReference) → requested_from units queue (xs ++ ys) ≡ requested_from units (requested_from units queue xs) ys
+requested-append units queue [] ys = refl
+requested-append units queue (x ∷ xs) ys = requested-append units (if is_already_known units queue x.name then queue else queue ++ x ∷ []) xs ys
 
--- the prefix of a row stays
-pub row_prefix : (units : List (List ℕ × ℕ)) (n : ℕ) (row gs : List UnitReference) → n ≤ length row → take n (requested_from units row gs) ≡ take n row
-row_prefix units n row [] h = refl
-row_prefix units n row (g ∷ gs) h = by (λ r l. row_prefix units n r gs l) (is_already_known units row g.name) refl
+-- the prefix of a queue stays
+pub queue_prefix : (units : List (List ℕ × ℕ)) (n : ℕ) (queue gs : List UnitReference) → n ≤ length queue → take n (requested_from units queue gs) ≡ take n queue
+queue_prefix units n queue [] h = refl
+queue_prefix units n queue (g ∷ gs) h = by (λ r l. queue_prefix units n r gs l) (is_already_known units queue g.name) refl
   where
-    by : ((r : List UnitReference) → n ≤ length r → take n (requested_from units r gs) ≡ take n r) → (b : Bool) → is_already_known units row g.name ≡ b → take n (requested_from units row (g ∷ gs)) ≡ take n row
-    by rest true e = rw e (rest row h)
-    by rest false e = rw e (rest (row ++ g ∷ []) (omega (arith, length-append row (g ∷ []))) ∙ take-append-le n row (g ∷ []) h)
+    by : ((r : List UnitReference) → n ≤ length r → take n (requested_from units r gs) ≡ take n r) → (b : Bool) → is_already_known units queue g.name ≡ b → take n (requested_from units queue (g ∷ gs)) ≡ take n queue
+    by rest true e = rw e (rest queue h)
+    by rest false e = rw e (rest (queue ++ g ∷ []) (omega (arith, length-append queue (g ∷ []))) ∙ take-append-le n queue (g ∷ []) h)
 
--- what is kept of a row decides what is kept of the row after it
-pub kept : (units : List (List ℕ × ℕ)) (row gs : List UnitReference) → take 10 (requested_from units (take 10 row) gs) ≡ take 10 (requested_from units row gs)
-kept units row gs = by (cases_lt (length row) 10)
+-- what is kept of a queue decides what is kept of the queue after it
+pub kept : (units : List (List ℕ × ℕ)) (queue gs : List UnitReference) → take 10 (requested_from units (take 10 queue) gs) ≡ take 10 (requested_from units queue gs)
+kept units queue gs = by (cases_lt (length queue) 10)
   where
-    by : (length row < 10) ⊎ (10 ≤ length row) → take 10 (requested_from units (take 10 row) gs) ≡ take 10 (requested_from units row gs)
-    by (inl h) = ap (λ (r : List UnitReference). take 10 (requested_from units r gs)) (take_all 10 row (omega arith))
+    by : (length queue < 10) ⊎ (10 ≤ length queue) → take 10 (requested_from units (take 10 queue) gs) ≡ take 10 (requested_from units queue gs)
+    by (inl h) = ap (λ (r : List UnitReference). take 10 (requested_from units r gs)) (take_all 10 queue (omega arith))
     by (inr h) =
-        let long : length (take 10 row) ≡ 10 = length-take-le 10 row h in
-        row_prefix units 10 (take 10 row) gs (omega (arith, long)) ∙ (take_all 10 (take 10 row) (omega (arith, long)) ∙ sym (row_prefix units 10 row gs h))
+        let long : length (take 10 queue) ≡ 10 = length-take-le 10 queue h in
+        queue_prefix units 10 (take 10 queue) gs (omega (arith, long)) ∙ (take_all 10 (take 10 queue) (omega (arith, long)) ∙ sym (queue_prefix units 10 queue gs h))
 
--- one name more, which is had, or for which there is no place, or which is kept
-pub kept_had : (units : List (List ℕ × ℕ)) (row : List UnitReference) (g : UnitReference) → length row ≤ 10 → is_already_known units row g.name ≡ true → row ≡ take 10 (requested_from units row (g ∷ []))
-kept_had units row g h e = rw e (sym (take_all 10 row h))
+-- one name more, which is known, or for which there is no place, or which is kept
+pub kept_known : (units : List (List ℕ × ℕ)) (queue : List UnitReference) (g : UnitReference) → length queue ≤ 10 → is_already_known units queue g.name ≡ true → queue ≡ take 10 (requested_from units queue (g ∷ []))
+kept_known units queue g h e = rw e (sym (take_all 10 queue h))
 
-pub kept_full : (units : List (List ℕ × ℕ)) (row : List UnitReference) (g : UnitReference) → length row ≡ 10 → is_already_known units row g.name ≡ false → row ≡ take 10 (requested_from units row (g ∷ []))
-kept_full units row g h e = rw e (sym (take-append-le 10 row (g ∷ []) (omega arith) ∙ take_all 10 row (omega arith)))
+pub kept_full : (units : List (List ℕ × ℕ)) (queue : List UnitReference) (g : UnitReference) → length queue ≡ 10 → is_already_known units queue g.name ≡ false → queue ≡ take 10 (requested_from units queue (g ∷ []))
+kept_full units queue g h e = rw e (sym (take-append-le 10 queue (g ∷ []) (omega arith) ∙ take_all 10 queue (omega arith)))
 
-pub kept_new : (units : List (List ℕ × ℕ)) (row : List UnitReference) (g : UnitReference) → length row < 10 → is_already_known units row g.name ≡ false → row ++ g ∷ [] ≡ take 10 (requested_from units row (g ∷ []))
-kept_new units row g h e = rw e (sym (take_all 10 (row ++ g ∷ []) (omega (arith, length-append row (g ∷ [])))))
+pub kept_new : (units : List (List ℕ × ℕ)) (queue : List UnitReference) (g : UnitReference) → length queue < 10 → is_already_known units queue g.name ≡ false → queue ++ g ∷ [] ≡ take 10 (requested_from units queue (g ∷ []))
+kept_new units queue g h e = rw e (sym (take_all 10 (queue ++ g ∷ []) (omega (arith, length-append queue (g ∷ [])))))
 
 -- one record more
 pub references-cons : (file slot rec : ℕ) (r : Record) (rs : List Record) → unit_references file slot rec (r ∷ rs) ≡ unit_references file slot rec (r ∷ []) ++ unit_references file slot (rec + 1) rs
@@ -93,46 +93,46 @@ references-cons file slot rec r rs = by (is_unit_reference r.body) refl
     by true e = rw e refl
     by false e = rw e refl
 
--- the names that a record seeks, and then those of the records after it
-pub kept_more : (units : List (List ℕ × ℕ)) (row now : List UnitReference) (file slot rec : ℕ) (r : Record) (rs : List Record)
-    → now ≡ take 10 (requested_from units row (unit_references file slot rec (r ∷ [])))
-    → take 10 (requested_from units now (unit_references file slot (rec + 1) rs)) ≡ take 10 (requested_from units row (unit_references file slot rec (r ∷ rs)))
-kept_more units row now file slot rec r rs is =
+-- the names that a record requests, and then those of the records after it
+pub kept_more : (units : List (List ℕ × ℕ)) (queue now : List UnitReference) (file slot rec : ℕ) (r : Record) (rs : List Record)
+    → now ≡ take 10 (requested_from units queue (unit_references file slot rec (r ∷ [])))
+    → take 10 (requested_from units now (unit_references file slot (rec + 1) rs)) ≡ take 10 (requested_from units queue (unit_references file slot rec (r ∷ rs)))
+kept_more units queue now file slot rec r rs is =
     let one = unit_references file slot rec (r ∷ []) in
     let rest = unit_references file slot (rec + 1) rs in
     ap (λ (q : List UnitReference). take 10 (requested_from units q rest)) is
-    ∙ (kept units (requested_from units row one) rest
-    ∙ sym (ap (λ (gs : List UnitReference). take 10 (requested_from units row gs)) (references-cons file slot rec r rs) ∙ ap (λ (q : List UnitReference). take 10 q) (sought-append units row one rest)))
+    ∙ (kept units (requested_from units queue one) rest
+    ∙ sym (ap (λ (gs : List UnitReference). take 10 (requested_from units queue gs)) (references-cons file slot rec r rs) ∙ ap (λ (q : List UnitReference). take 10 q) (requested-append units queue one rest)))
 
--- the names that a segment seeks, and then those of the segments after it
-pub kept_segment : (units : List (List ℕ × ℕ)) (row now one rest all : List UnitReference) → all ≡ one ++ rest → now ≡ take 10 (requested_from units row one) → take 10 (requested_from units now rest) ≡ take 10 (requested_from units row all)
-kept_segment units row now one rest all split is =
+-- the names that a segment requests, and then those of the segments after it
+pub kept_segment : (units : List (List ℕ × ℕ)) (queue now one rest all : List UnitReference) → all ≡ one ++ rest → now ≡ take 10 (requested_from units queue one) → take 10 (requested_from units now rest) ≡ take 10 (requested_from units queue all)
+kept_segment units queue now one rest all split is =
     ap (λ (q : List UnitReference). take 10 (requested_from units q rest)) is
-    ∙ (kept units (requested_from units row one) rest
-    ∙ sym (ap (λ (gs : List UnitReference). take 10 (requested_from units row gs)) split ∙ ap (λ (q : List UnitReference). take 10 q) (sought-append units row one rest)))
+    ∙ (kept units (requested_from units queue one) rest
+    ∙ sym (ap (λ (gs : List UnitReference). take 10 (requested_from units queue gs)) split ∙ ap (λ (q : List UnitReference). take 10 q) (requested-append units queue one rest)))
 
 -- the k-th name of what is kept
-pub kept_at : (n k : ℕ) (row : List UnitReference) → k < n → slice_get (take n row) k ≡ slice_get row k
-kept_at zero k row h = absurd (omega arith)
+pub kept_at : (n k : ℕ) (queue : List UnitReference) → k < n → slice_get (take n queue) k ≡ slice_get queue k
+kept_at zero k queue h = absurd (omega arith)
 kept_at (suc n) k [] h = refl
-kept_at (suc n) zero (g ∷ row) h = refl
-kept_at (suc n) (suc k) (g ∷ row) h = kept_at n k row (omega arith)
+kept_at (suc n) zero (g ∷ queue) h = refl
+kept_at (suc n) (suc k) (g ∷ queue) h = kept_at n k queue (omega arith)
 
 -- the rounds, one by one
-module _ (order : Order) (host : List ℕ) (libs : List (List ℕ)) (units : List (List ℕ × ℕ)) (k : ℕ) (row : List UnitReference) where
-  pub no_name_left : (left : List ℕ) → slice_get row k ≡ None → rounds_from order host libs units left k row ≡ record { added = []; fault = None }
+module _ (order : Order) (host : List ℕ) (libs : List (List ℕ)) (units : List (List ℕ × ℕ)) (k : ℕ) (queue : List UnitReference) where
+  pub no_name_left : (left : List ℕ) → slice_get queue k ≡ None → rounds_from order host libs units left k queue ≡ record { added = []; fault = None }
   no_name_left [] h = rw h refl
   no_name_left (slot ∷ left) h = rw (h, rounds_from) refl
 
-  pub no_slot_left : (g : UnitReference) → slice_get row k ≡ Some g → rounds_from order host libs units [] k row ≡ record { added = []; fault = Some (unplaced_fault order libs g) }
+  pub no_slot_left : (g : UnitReference) → slice_get queue k ≡ Some g → rounds_from order host libs units [] k queue ≡ record { added = []; fault = Some (unplaced_fault order libs g) }
   no_slot_left g h = rw h refl
 
-  pub round_refused : (slot : ℕ) (left : List ℕ) (g : UnitReference) (f : Fault) → slice_get row k ≡ Some g → placed_fault order host libs g slot ≡ Some f
-      → rounds_from order host libs units (slot ∷ left) k row ≡ record { added = []; fault = Some f }
+  pub round_refused : (slot : ℕ) (left : List ℕ) (g : UnitReference) (f : Fault) → slice_get queue k ≡ Some g → placed_fault order host libs g slot ≡ Some f
+      → rounds_from order host libs units (slot ∷ left) k queue ≡ record { added = []; fault = Some f }
   round_refused slot left g f h e = rw (h, rounds_from) (rw (e, rounds_from) refl)
 
-  pub round_adds : (slot : ℕ) (left : List ℕ) (g : UnitReference) (s : Segment) → slice_get row k ≡ Some g → placed_fault order host libs g slot ≡ None → added_segment order host libs g slot ≡ Some s
-      → rounds_from order host libs units (slot ∷ left) k row ≡ after s (rounds_from order host libs units left (k + 1) (requested_from units row (unit_references s.file s.slot 0 s.records)))
+  pub round_adds : (slot : ℕ) (left : List ℕ) (g : UnitReference) (s : Segment) → slice_get queue k ≡ Some g → placed_fault order host libs g slot ≡ None → added_segment order host libs g slot ≡ Some s
+      → rounds_from order host libs units (slot ∷ left) k queue ≡ after s (rounds_from order host libs units left (k + 1) (requested_from units queue (unit_references s.file s.slot 0 s.records)))
   round_adds slot left g s h e f = rw (h, rounds_from) (rw (e, rounds_from) (rw (f, rounds_from) refl))
 
 -- the fault and the segment of a name in its slot, by the library's entry
@@ -158,14 +158,14 @@ joined xs r = record { added = xs ++ r.added; fault = r.fault }
 pub joined_more : (xs : List Segment) (s : Segment) (r : Rounds) → joined xs (after s r) ≡ joined (xs ++ s ∷ []) r
 joined_more xs s r = ap (λ (ys : List Segment). record { added = ys; fault = r.fault }) (sym (append_assoc xs (s ∷ []) r.added))
 
--- the k-th name, as the row that is kept has it
-pub at_round : (row items : List UnitReference) (i n : ℕ) (o : Option UnitReference) → items ≡ take 10 row → i < 10 → n ≡ i → o ≡ slice_get items n → slice_get row i ≡ o
-at_round row items i n o is lt same at =
-    sym (kept_at 10 i row lt) ∙ (ap (λ (q : List UnitReference). slice_get q i) (sym is) ∙ (ap (λ (j : ℕ). slice_get items j) (sym same) ∙ sym at))
+-- the k-th name, as the queue that is kept has it
+pub at_round : (queue items : List UnitReference) (i n : ℕ) (o : Option UnitReference) → items ≡ take 10 queue → i < 10 → n ≡ i → o ≡ slice_get items n → slice_get queue i ≡ o
+at_round queue items i n o is lt same at =
+    sym (kept_at 10 i queue lt) ∙ (ap (λ (q : List UnitReference). slice_get q i) (sym is) ∙ (ap (λ (j : ℕ). slice_get items j) (sym same) ∙ sym at))
 
--- what is kept of a row has ten names at most
-pub few_kept : (row : List UnitReference) → length (take 10 row) ≤ 10
-few_kept row = omega (arith, length-take 10 row)
+-- what is kept of a queue has ten names at most
+pub few_kept : (queue : List UnitReference) → length (take 10 queue) ≤ 10
+few_kept queue = omega (arith, length-take 10 queue)
 
 -- one number more, where it passes
 pub filter_more : (test : ℕ → Bool) (xs : List ℕ) (i n : ℕ) → i < n → xs ++ filter test (range_with_len i (n - i)) ≡ (xs ++ (if test i then i ∷ [] else [])) ++ filter test (range_with_len (i + 1) (n - (i + 1)))

@@ -101,24 +101,24 @@ module _ (n next : ℕ) (seen : List (List ℕ)) (r : Record) (rs : List Record)
 
 -- With the privates so far, those of the records from this index on are all, and so with words and
 -- faults. The first that is a duplicate, if there is one, is none of those before.
-pub record Allots (slot next : ℕ) (doubled : Option ℕ) (before : List Private) (all : List Record) (ps : List Private) (free n : ℕ) (rs : List Record) : Type 0 where
+pub record Allots (slot next : ℕ) (duplicate : Option ℕ) (before : List Private) (all : List Record) (ps : List Private) (free n : ℕ) (rs : List Record) : Type 0 where
   pub stands : Stands all n rs
-  pub later : (m : ℕ) → doubled ≡ Some m → n ≤ m
+  pub later : (m : ℕ) → duplicate ≡ Some m → n ≤ m
   pub privates : ps ++ allotted_privates slot n free rs ≡ before ++ allotted_privates slot 0 next all
   pub words : free + private_words rs ≡ next + private_words all
   pub first : private_fault n free (names stands.prefix) rs ≡ private_fault 0 next [] all
 
-pub allots : (slot next : ℕ) (doubled : Option ℕ) (before : List Private) (all : List Record) → Allots slot next doubled before all before next 0 all
-allots slot next doubled before all = record { stands = record { prefix = []; whole = refl; count = refl }; later = λ m e. omega arith; privates = refl; words = refl; first = refl }
+pub allots : (slot next : ℕ) (duplicate : Option ℕ) (before : List Private) (all : List Record) → Allots slot next duplicate before all before next 0 all
+allots slot next duplicate before all = record { stands = record { prefix = []; whole = refl; count = refl }; later = λ m e. omega arith; privates = refl; words = refl; first = refl }
 
 -- what the test of the first that is a duplicate says
-pub is_doubled : (d : Option ℕ) (n : ℕ) → option_eq nat_eq d (Some n) ≡ true → d ≡ Some n
-is_doubled None n h = absurd (false≢true h)
-is_doubled (Some m) n h = ap (λ (k : ℕ). Some k) ((Decides-eqb m n).0 h)
+pub is_duplicate : (d : Option ℕ) (n : ℕ) → option_eq nat_eq d (Some n) ≡ true → d ≡ Some n
+is_duplicate None n h = absurd (false≢true h)
+is_duplicate (Some m) n h = ap (λ (k : ℕ). Some k) ((Decides-eqb m n).0 h)
 
-pub not_doubled : (d : Option ℕ) (n : ℕ) → option_eq nat_eq d (Some n) ≡ false → d ≡ Some n → ⊥
-not_doubled None n h e = cc
-not_doubled (Some m) n h e = false≢true (sym h ∙ (Decides-eqb m n).1 (same_Some m n e))
+pub not_duplicate : (d : Option ℕ) (n : ℕ) → option_eq nat_eq d (Some n) ≡ false → d ≡ Some n → ⊥
+not_duplicate None n h e = cc
+not_duplicate (Some m) n h e = false≢true (sym h ∙ (Decides-eqb m n).1 (same_Some m n e))
 
 -- a number that is not below n, and not n itself, is above it
 over : (n m : ℕ) → n ≤ m → (m ≡ n → ⊥) → n + 1 ≤ m
@@ -134,36 +134,36 @@ over n m le other = at (nat_lt n m) refl
     at true h = below n m h
     at false h = absurd (other (same n m le h))
 
-module _ (slot next : ℕ) (doubled : Option ℕ) (before : List Private) (all : List Record) (ps : List Private) (free n : ℕ) (r : Record) (rs : List Record) (found : FindsNamesake is_private_reference all doubled) (a : Allots slot next doubled before all ps free n (r ∷ rs)) where
+module _ (slot next : ℕ) (duplicate : Option ℕ) (before : List Private) (all : List Record) (ps : List Private) (free n : ℕ) (r : Record) (rs : List Record) (found : FindsNamesake is_private_reference all duplicate) (a : Allots slot next duplicate before all ps free n (r ∷ rs)) where
   here : slice_get all n ≡ Some r
   here = there all n r rs a.stands
 
   -- the record of the first that is a duplicate has an earlier namesake, and no other so far has
-  doubled_here : doubled ≡ Some n → HasEarlierNamesake is_private_reference all n r
-  doubled_here e =
+  duplicate_here : duplicate ≡ Some n → HasEarlierNamesake is_private_reference all n r
+  duplicate_here e =
       let first : IsFirstNamesake is_private_reference all n = subst (λ (d : Option ℕ). FindsNamesake is_private_reference all d) e found in
       let same : first.item ≡ r = same_Some _ _ (sym first.there ∙ here) in
       subst (λ (q : Record). HasEarlierNamesake is_private_reference all n q) same first.again
 
-  not_here : (doubled ≡ Some n → ⊥) → HasEarlierNamesake is_private_reference all n r → ⊥
-  not_here other h = at doubled refl
+  not_here : (duplicate ≡ Some n → ⊥) → HasEarlierNamesake is_private_reference all n r → ⊥
+  not_here other h = at duplicate refl
     where
-      at : (d : Option ℕ) → doubled ≡ d → ⊥
+      at : (d : Option ℕ) → duplicate ≡ d → ⊥
       at None e = (subst (λ (o : Option ℕ). FindsNamesake is_private_reference all o) e found) n r here h
       at (Some m) e =
           let first : IsFirstNamesake is_private_reference all m = subst (λ (o : Option ℕ). FindsNamesake is_private_reference all o) e found in
           first.first n r (omega (arith, over n m (a.later m e) (λ same. other (e ∙ ap (λ (k : ℕ). Some k) same)))) here h
 
-  on : (doubled ≡ Some n → ⊥) → (m : ℕ) → doubled ≡ Some m → n + 1 ≤ m
+  on : (duplicate ≡ Some n → ⊥) → (m : ℕ) → duplicate ≡ Some m → n + 1 ≤ m
   on other m e = over n m (a.later m e) (λ same. other (e ∙ ap (λ (k : ℕ). Some k) same))
 
   asks : (w : Option ℕ) → words_in r.body ≡ w → is_private_reference r.body ≡ is_some w
   asks w h = asks_is r.body ∙ ap is_some h
 
-  pub allot_on : words_in r.body ≡ None → Allots slot next doubled before all ps free (n + 1) rs
+  pub allot_on : words_in r.body ≡ None → Allots slot next duplicate before all ps free (n + 1) rs
   allot_on passed = record {
     stands = further all n r rs a.stands;
-    later = on (λ e. false≢true (sym (asks None passed) ∙ (doubled_here e).0));
+    later = on (λ e. false≢true (sym (asks None passed) ∙ (duplicate_here e).0));
     privates = sym (skip_privates slot n free [] ps r rs passed) ∙ a.privates;
     words = ap (λ (k : ℕ). free + k) (sym (skip_words slot n free [] ps r rs passed)) ∙ a.words;
     first =
@@ -176,15 +176,15 @@ module _ (slot next : ℕ) (doubled : Option ℕ) (before : List Private) (all :
     is_seen : Decides (list_any (bytes_eq r.name) (names a.stands.prefix)) (HasEarlierNamesake is_private_reference all n r)
     is_seen = looked is_private_reference all n r rs a.stands (asks (Some w) some)
 
-    fresh : (doubled ≡ Some n → ⊥) → list_any (bytes_eq r.name) (names a.stands.prefix) ≡ false
+    fresh : (duplicate ≡ Some n → ⊥) → list_any (bytes_eq r.name) (names a.stands.prefix) ≡ false
     fresh other = not_seen (list_any (bytes_eq r.name) (names a.stands.prefix)) (λ e. not_here other (is_seen.0 e))
       where
         not_seen : (b : Bool) → (b ≡ true → ⊥) → b ≡ false
         not_seen true h = absurd (h refl)
         not_seen false h = refl
 
-    pub allot_more : (doubled ≡ Some n → ⊥) → free + w ≤ 32767
-        → Allots slot next doubled before all (ps ++ record { slot = slot; rec = n; name = r.name; offset = free; words = w } ∷ []) (free + w) (n + 1) rs
+    pub allot_more : (duplicate ≡ Some n → ⊥) → free + w ≤ 32767
+        → Allots slot next duplicate before all (ps ++ record { slot = slot; rec = n; name = r.name; offset = free; words = w } ∷ []) (free + w) (n + 1) rs
     allot_more other fits = record {
       stands = further all n r rs a.stands;
       later = on other;
@@ -196,10 +196,10 @@ module _ (slot next : ℕ) (doubled : Option ℕ) (before : List Private) (all :
           ∙ a.first;
     }
 
-    pub duplicate_fault : doubled ≡ Some n → private_fault 0 next [] all ≡ Some (n, reason.DoubledPrivate)
-    duplicate_fault e = sym a.first ∙ again_fault n free (names a.stands.prefix) r rs w some (is_seen.1 (doubled_here e))
+    pub duplicate_fault : duplicate ≡ Some n → private_fault 0 next [] all ≡ Some (n, reason.DoubledPrivate)
+    duplicate_fault e = sym a.first ∙ again_fault n free (names a.stands.prefix) r rs w some (is_seen.1 (duplicate_here e))
 
-    pub room_fault : (doubled ≡ Some n → ⊥) → 32767 < free + w → private_fault 0 next [] all ≡ Some (n, reason.NoRoom)
+    pub room_fault : (duplicate ≡ Some n → ⊥) → 32767 < free + w → private_fault 0 next [] all ≡ Some (n, reason.NoRoom)
     room_fault other lt = sym a.first ∙ far_fault n free (names a.stands.prefix) r rs w some (fresh other) lt
 
 -- a stop at the first segment that is left is one at all

@@ -33,7 +33,7 @@ use Rattle.ps_resolve.specs.declared.linkage.Stop.{Stop}
 use Rattle.ps_resolve.specs.declared.linkage.Stop.TheVariants.{Refused, Memory}
 use Rattle.ps_resolve.proofs.LookingBack.{is_again, again, take_prefix, longer, of_test, defines_is, asks_is, definitions_carried, reason_at, record_fault, privates_carried}
 use Rattle.ps_resolve.proofs.Allots.{skip_privates}
-use Rattle.ps_resolve.proofs.Doubles.{none_entries}
+use Rattle.ps_resolve.proofs.Duplicates.{none_entries}
 use Rattle.ps_resolve.proofs.Rises.{behind}
 
 -- the first that f gives of a list's items and their numbers
@@ -156,8 +156,8 @@ same_first test rs m n f g = elim (cases_lt m n) [
 ]
 
 -- the first record of this kind that has an earlier namesake is the first that defines a name again
-pub doubled_is : (rs : List Record) (found : Option ℕ) → FindsNamesake is_definition rs found → found ≡ first_duplicate rs
-doubled_is rs found f = at (first_duplicate rs) refl found f
+pub duplicate_is : (rs : List Record) (found : Option ℕ) → FindsNamesake is_definition rs found → found ≡ first_duplicate rs
+duplicate_is rs found f = at (first_duplicate rs) refl found f
   where
     first_at : (m : ℕ) → first_duplicate rs ≡ Some m → IsFirstNamesake is_definition rs m
     first_at m e =

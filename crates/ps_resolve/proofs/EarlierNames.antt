@@ -156,13 +156,13 @@ looked test all n r rs s is = subst (λ (b : Bool). Decides b (HasEarlierNamesak
         ∙ sym (seen_is test r.name s.prefix)
 
 -- the names of the records of the kind so far, none of which an earlier one has
-pub record Seeks (test : Body → Bool) (all : List Record) (seen : List (List ℕ)) (n : ℕ) (rs : List Record) : Type 0 where
+pub record Scans (test : Body → Bool) (all : List Record) (seen : List (List ℕ)) (n : ℕ) (rs : List Record) : Type 0 where
   pub stands : Stands all n rs
   pub same : seen ≡ names_of test stands.prefix
   pub none : (lesser : ℕ) (q : Record) → lesser < n → slice_get all lesser ≡ Some q → HasEarlierNamesake test all lesser q → ⊥
 
-pub seeks : (test : Body → Bool) (all : List Record) → Seeks test all [] 0 all
-seeks test all = record { stands = record { prefix = []; whole = refl; count = refl }; same = refl; none = λ lesser q lt. absurd (omega (arith, lt)) }
+pub scans : (test : Body → Bool) (all : List Record) → Scans test all [] 0 all
+scans test all = record { stands = record { prefix = []; whole = refl; count = refl }; same = refl; none = λ lesser q lt. absurd (omega (arith, lt)) }
 
 -- whether a name was new
 pub not_new : (b x : Bool) → b ≡ false → b ≡ not x → x ≡ true
@@ -173,7 +173,7 @@ pub newly : (b x : Bool) → b ≡ true → b ≡ not x → x ≡ false
 newly b false h e = refl
 newly b true h e = absurd (false≢true (sym (sym h ∙ e)))
 
-module _ (test : Body → Bool) (all : List Record) (seen : List (List ℕ)) (n : ℕ) (r : Record) (rs : List Record) (s : Seeks test all seen n (r ∷ rs)) where
+module _ (test : Body → Bool) (all : List Record) (seen : List (List ℕ)) (n : ℕ) (r : Record) (rs : List Record) (s : Scans test all seen n (r ∷ rs)) where
   this_is : (q : Record) → slice_get all n ≡ Some q → r ≡ q
   this_is q e = same_Some _ _ (sym (there all n r rs s.stands) ∙ e)
 
@@ -193,22 +193,22 @@ module _ (test : Body → Bool) (all : List Record) (seen : List (List ℕ)) (n 
           let is : slice_get all n ≡ Some q = subst (λ (k : ℕ). slice_get all k ≡ Some q) here e in
           fresh (subst (λ (x : Record). HasEarlierNamesake test all n x) (sym (this_is q is)) (subst (λ (k : ℕ). HasEarlierNamesake test all k q) here h))
 
-  pub seek_on : test r.body ≡ false → Seeks test all seen (n + 1) rs
-  seek_on other = record {
+  pub scan_on : test r.body ≡ false → Scans test all seen (n + 1) rs
+  scan_on other = record {
     stands = further all n r rs s.stands;
     same = s.same ∙ sym (same_names test s.stands.prefix r other);
     none = none_more (λ h. false≢true (sym other ∙ h.0));
   }
 
-  pub seek_more : test r.body ≡ true → list_any (bytes_eq r.name) seen ≡ false → Seeks test all (seen ++ r.name ∷ []) (n + 1) rs
-  seek_more is new = record {
+  pub scan_more : test r.body ≡ true → list_any (bytes_eq r.name) seen ≡ false → Scans test all (seen ++ r.name ∷ []) (n + 1) rs
+  scan_more is new = record {
     stands = further all n r rs s.stands;
     same = ap (λ (xs : List (List ℕ)). xs ++ r.name ∷ []) s.same ∙ sym (one_name test s.stands.prefix r is);
     none = none_more (λ h. false≢true (sym (ap (λ (xs : List (List ℕ)). list_any (bytes_eq r.name) xs) (sym s.same) ∙ new) ∙ (looked test all n r rs s.stands is).1 h));
   }
 
-  pub seek_found : test r.body ≡ true → list_any (bytes_eq r.name) seen ≡ true → IsFirstNamesake test all n
-  seek_found is old = record {
+  pub scan_found : test r.body ≡ true → list_any (bytes_eq r.name) seen ≡ true → IsFirstNamesake test all n
+  scan_found is old = record {
     item = r;
     there = there all n r rs s.stands;
     again = (looked test all n r rs s.stands is).0 (ap (λ (xs : List (List ℕ)). list_any (bytes_eq r.name) xs) (sym s.same) ∙ old);
@@ -216,7 +216,7 @@ module _ (test : Body → Bool) (all : List Record) (seen : List (List ℕ)) (n 
   }
 
 -- where no record is left to look at, none of the kind has the name of an earlier one
-pub seek_end : (test : Body → Bool) (all : List Record) (seen : List (List ℕ)) (n : ℕ) → Seeks test all seen n [] → HaveNoNamesakes test all
-seek_end test all seen n s rec r e h =
+pub scan_end : (test : Body → Bool) (all : List Record) (seen : List (List ℕ)) (n : ℕ) → Scans test all seen n [] → HaveNoNamesakes test all
+scan_end test all seen n s rec r e h =
     let long = ap length (s.stands.whole ∙ append-nil s.stands.prefix) in
     s.none rec r (omega (arith, long, s.stands.count, slice_get_within all rec r e)) e h

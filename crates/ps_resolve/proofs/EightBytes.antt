@@ -61,16 +61,16 @@ all_references_named [] all = All-nil IsNamed
 all_references_named (s ∷ ss) all =
     All-append IsNamed (unit_references s.file s.slot 0 s.records) (all_unit_references ss) (references_named s.file s.slot 0 s.records (all 0 s (omega arith)).records) (all_references_named ss (All-tail HasNames s ss all))
 
-one_more : (b : Bool) (row : List UnitReference) (g : UnitReference) → All IsNamed row → IsNamed g → All IsNamed (if b then row else row ++ g ∷ [])
-one_more true row g all h = all
-one_more false row g all h = All-append IsNamed row (g ∷ []) all (All-cons IsNamed g [] h (All-nil IsNamed))
+one_more : (b : Bool) (queue : List UnitReference) (g : UnitReference) → All IsNamed queue → IsNamed g → All IsNamed (if b then queue else queue ++ g ∷ [])
+one_more true queue g all h = all
+one_more false queue g all h = All-append IsNamed queue (g ∷ []) all (All-cons IsNamed g [] h (All-nil IsNamed))
 
 -- a sequence of names of eight bytes stays one, where the names that are then requested have eight
 -- bytes
-row_named : (units : List (List ℕ × ℕ)) (row gs : List UnitReference) → All IsNamed row → All IsNamed gs → All IsNamed (requested_from units row gs)
-row_named units row [] all rest = all
-row_named units row (g ∷ gs) all rest =
-    row_named units (if is_already_known units row g.name then row else row ++ g ∷ []) gs (one_more (is_already_known units row g.name) row g all (rest 0 g (omega arith))) (All-tail IsNamed g gs rest)
+queue_named : (units : List (List ℕ × ℕ)) (queue gs : List UnitReference) → All IsNamed queue → All IsNamed gs → All IsNamed (requested_from units queue gs)
+queue_named units queue [] all rest = all
+queue_named units queue (g ∷ gs) all rest =
+    queue_named units (if is_already_known units queue g.name then queue else queue ++ g ∷ []) gs (one_more (is_already_known units queue g.name) queue g all (rest 0 g (omega arith))) (All-tail IsNamed g gs rest)
 
 records_whole : ReadWhole → (order : Order) (file : List ℕ) (e : Entry) (b : Bool) → All IsWhole (records_of order file e b)
 records_whole law order file e true = law order (information_of file e)
@@ -119,31 +119,31 @@ added_named law order host libs g slot s long h = by (option_and_then (segment_f
         option_and_then_some (segment_from order host libs slot g.name Wanted) (unit_source order g.name libs) t e (λ place there from. read_named law order host libs slot g.name Wanted place t long from) in
         subst HasNames same (record { own = named.own; records = named.records })
 
--- where each name of the row has eight bytes, so have those of the added segments and of their
+-- where each name of the queue has eight bytes, so have those of the added segments and of their
 -- records
-rounds_named : ReadWhole → (order : Order) (host : List ℕ) (libs : List (List ℕ)) (units : List (List ℕ × ℕ)) (left : List ℕ) (k : ℕ) (row : List UnitReference) → All IsNamed row → All HasNames (rounds_from order host libs units left k row).added
-rounds_named law order host libs units [] k row all = All-nil HasNames
-rounds_named law order host libs units (slot ∷ left) k row all = by (λ next named. rounds_named law order host libs units left (k + 1) next named) (slice_get row k) refl
+rounds_named : ReadWhole → (order : Order) (host : List ℕ) (libs : List (List ℕ)) (units : List (List ℕ × ℕ)) (left : List ℕ) (k : ℕ) (queue : List UnitReference) → All IsNamed queue → All HasNames (rounds_from order host libs units left k queue).added
+rounds_named law order host libs units [] k queue all = All-nil HasNames
+rounds_named law order host libs units (slot ∷ left) k queue all = by (λ next named. rounds_named law order host libs units left (k + 1) next named) (slice_get queue k) refl
   where
-    at : ((next : List UnitReference) → All IsNamed next → All HasNames (rounds_from order host libs units left (k + 1) next).added) → (g : UnitReference) (p : Option Fault) → placed_fault order host libs g slot ≡ p → (o : Option Segment) → added_segment order host libs g slot ≡ o → slice_get row k ≡ Some g
-        → All HasNames (rounds_from order host libs units (slot ∷ left) k row).added
+    at : ((next : List UnitReference) → All IsNamed next → All HasNames (rounds_from order host libs units left (k + 1) next).added) → (g : UnitReference) (p : Option Fault) → placed_fault order host libs g slot ≡ p → (o : Option Segment) → added_segment order host libs g slot ≡ o → slice_get queue k ≡ Some g
+        → All HasNames (rounds_from order host libs units (slot ∷ left) k queue).added
     at rest g (Some fault) e o f h = rw (h, rounds_from) (rw (e, rounds_from) (All-nil HasNames))
     at rest g None e None f h = rw (h, rounds_from) (rw (e, rounds_from) (rw (f, rounds_from) (All-nil HasNames)))
     at rest g None e (Some s) f h =
-        let named = added_named law order host libs g slot s (got IsNamed row k g h all) f in
+        let named = added_named law order host libs g slot s (got IsNamed queue k g h all) f in
         let gs = unit_references s.file s.slot 0 s.records in
-        let next = requested_from units row gs in
-        let later = rest next (row_named units row gs all (references_named s.file s.slot 0 s.records named.records)) in
+        let next = requested_from units queue gs in
+        let later = rest next (queue_named units queue gs all (references_named s.file s.slot 0 s.records named.records)) in
         rw (h, rounds_from) (rw (e, rounds_from) (rw (f, rounds_from) (All-cons HasNames s (rounds_from order host libs units left (k + 1) next).added named later)))
 
-    by : ((next : List UnitReference) → All IsNamed next → All HasNames (rounds_from order host libs units left (k + 1) next).added) → (o : Option UnitReference) → slice_get row k ≡ o → All HasNames (rounds_from order host libs units (slot ∷ left) k row).added
+    by : ((next : List UnitReference) → All IsNamed next → All HasNames (rounds_from order host libs units left (k + 1) next).added) → (o : Option UnitReference) → slice_get queue k ≡ o → All HasNames (rounds_from order host libs units (slot ∷ left) k queue).added
     by rest None h = rw (h, rounds_from) (All-nil HasNames)
     by rest (Some g) h = at rest g (placed_fault order host libs g slot) refl (added_segment order host libs g slot) refl h
 
--- what each of a row of slots gives
-row_has : (P : Segment → Type 0) (f : ℕ → Option Segment) → ((x : ℕ) (s : Segment) → x < 16 → f x ≡ Some s → P s) → (xs : List ℕ) → All (λ (x : ℕ). x < 16) xs → All P (filter_map f xs)
-row_has P f h [] all = All-nil P
-row_has P f h (x ∷ xs) all = by (f x) refl (row_has P f h xs (All-tail (λ (y : ℕ). y < 16) x xs all))
+-- what each of a queue of slots gives
+each_has : (P : Segment → Type 0) (f : ℕ → Option Segment) → ((x : ℕ) (s : Segment) → x < 16 → f x ≡ Some s → P s) → (xs : List ℕ) → All (λ (x : ℕ). x < 16) xs → All P (filter_map f xs)
+each_has P f h [] all = All-nil P
+each_has P f h (x ∷ xs) all = by (f x) refl (each_has P f h xs (All-tail (λ (y : ℕ). y < 16) x xs all))
   where
     by : (o : Option Segment) → f x ≡ o → All P (filter_map f xs) → All P (cons_option o (filter_map f xs))
     by None e rest = rest
@@ -159,7 +159,7 @@ all_slots = rising 0 16 (omega arith)
 
 all_own : ReadWhole → (order : Order) (host : List ℕ) (libs : List (List ℕ)) → 512 ≤ length host → All HasNames (own_segments order host libs)
 unfolding own_segments
-all_own law order host libs long = row_has HasNames (own_segment order host libs) (λ x s lt e. own_named law order host libs x s long lt e) slots all_slots
+all_own law order host libs long = each_has HasNames (own_segment order host libs) (λ x s lt e. own_named law order host libs x s long lt e) slots all_slots
 
 -- where the host has its whole dictionary, all added segments and their records have names of eight
 -- bytes
@@ -167,8 +167,8 @@ all_added : ReadWhole → (order : Order) (host : List ℕ) (libs : List (List �
 unfolding rounds
 all_added law order host libs long =
     let own = own_segments order host libs in
-    let row = requested_from (units_of own) [] (all_unit_references own) in
-    rounds_named law order host libs (units_of own) (empty_slots order host) 0 row (row_named (units_of own) [] (all_unit_references own) (All-nil IsNamed) (all_references_named own (all_own law order host libs long)))
+    let queue = requested_from (units_of own) [] (all_unit_references own) in
+    rounds_named law order host libs (units_of own) (empty_slots order host) 0 queue (queue_named (units_of own) [] (all_unit_references own) (All-nil IsNamed) (all_references_named own (all_own law order host libs long)))
 
 -- so it is with the segment of a slot, whether its own or an added one
 slot_named : ReadWhole → (order : Order) (host : List ℕ) (libs : List (List ℕ)) → 512 ≤ length host → (slot : ℕ) (s : Segment) → slot < 16 → segment_at order host libs slot ≡ Some s → HasNames s
@@ -181,7 +181,7 @@ slot_named law order host libs long slot s lt h = by (own_segment order host lib
 
 all_named : ReadWhole → (order : Order) (host : List ℕ) (libs : List (List ℕ)) → 512 ≤ length host → All HasNames (segments order host libs)
 unfolding segments
-all_named law order host libs long = row_has HasNames (segment_at order host libs) (λ x s lt e. slot_named law order host libs long x s lt e) slots all_slots
+all_named law order host libs long = each_has HasNames (segment_at order host libs) (λ x s lt e. slot_named law order host libs long x s lt e) slots all_slots
 
 -- where the host has its whole dictionary, each slot of the linked file has a name of eight bytes
 eight : (host : List ℕ) (ss : List Segment) → 512 ≤ length host → All HasNames ss → (slot : ℕ) → slot < 16 → length (slot_name host ss slot) ≡ 8

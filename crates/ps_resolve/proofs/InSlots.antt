@@ -45,8 +45,8 @@ found_there f place j (suc n) a le lt = by (λ h. found_there f place j n (a + 1
     by rest (inl h) = later (rest h) h (f a) refl
     by rest (inr h) = let same : a ≡ j = omega arith in here (f a) refl same ∙ ap f same
 
--- f and g keep the same segments of a row of numbers, where they give the same of each number below
--- its end
+-- f and g keep the same segments of a list of numbers, where they give the same of each number
+-- below its end
 same_kept : (f g : ℕ → Option Segment) (n a : ℕ) → ((i : ℕ) → i < a + n → f i ≡ g i) → filter_map f (range_with_len a n) ≡ filter_map g (range_with_len a n)
 same_kept f g zero a same = refl
 same_kept f g (suc n) a same = by (g a) refl (same_kept f g n (a + 1) (λ i h. same i (omega arith)))

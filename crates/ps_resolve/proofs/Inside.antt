@@ -15,7 +15,7 @@ use Rattle.ps_resolve.specs.References.{Known, words_taken, target_of, records_f
 use Rattle.ps_resolve.specs.declared.references.Target.{Target}
 use Rattle.ps_resolve.specs.declared.references.Target.TheVariants.{Slot, Base}
 use Rattle.ps_resolve.proofs.Once.{or_none, map_none, reasons_none}
-use Rattle.ps_resolve.proofs.Rows.{record_refused, record_by}
+use Rattle.ps_resolve.proofs.NextRecords.{record_refused, record_by}
 
 not_below : (a b : ℕ) → nat_lt a b ≡ false → b ≤ a
 not_below a b h = grind (arith, nat_tests)

@@ -15,7 +15,7 @@ use Rattle.ps_resolve.specs.References.{Known, words_taken, target_of, records_f
 use Rattle.ps_resolve.specs.declared.references.Target.{Target}
 use Rattle.ps_resolve.specs.declared.references.Target.TheVariants.{Slot, Base}
 use Rattle.ps_resolve.proofs.Apart.{one_more}
-use Rattle.ps_resolve.proofs.Rows.{record_refused, record_by}
+use Rattle.ps_resolve.proofs.NextRecords.{record_refused, record_by}
 use Rattle.ps_words.specs.declared.fault.Reason.TheVariants as reason
 use Rattle.std.specs.Prelude.{nat_lt}
 

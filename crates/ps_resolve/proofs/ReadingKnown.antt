@@ -24,7 +24,7 @@ use Rattle.ps_resolve.specs.Sources.{Segment, own_segment, segment_from, source_
 use Rattle.ps_resolve.specs.declared.reading.added.UnitReference.{UnitReference}
 use Rattle.ps_resolve.specs.Faults.{is_role, slot_reason, slots_fault, no_host_fault, sources_fault, source_fault, information_fault}
 use Rattle.ps_resolve.specs.Linkable.{AscendFrom, HasOneHost}
-use Rattle.ps_resolve.proofs.ReadingRows.{neither_first, neither_second, none_mapped}
+use Rattle.ps_resolve.proofs.FirstSlots.{neither_first, neither_second, none_mapped}
 use Rattle.ps_resolve.proofs.ReadingSources.{own_fault, read_from_host, is_own_host}
 
 -- a segment that is read has the slot and the role that it was read for
@@ -67,18 +67,18 @@ abbrev pub IsWanted : Segment → Type 0
 IsWanted s = s.role ≡ role.Wanted
 
 -- each segment that the rounds add has the role of a wanted unit
-rounds_wanted : (order : Order) (host : List ℕ) (libs : List (List ℕ)) (units : List (List ℕ × ℕ)) (left : List ℕ) (k : ℕ) (row : List UnitReference) → All IsWanted (rounds_from order host libs units left k row).added
-rounds_wanted order host libs units [] k row = All-nil IsWanted
-rounds_wanted order host libs units (slot ∷ left) k row = by (λ next. rounds_wanted order host libs units left (k + 1) next) (slice_get row k) refl
+rounds_wanted : (order : Order) (host : List ℕ) (libs : List (List ℕ)) (units : List (List ℕ × ℕ)) (left : List ℕ) (k : ℕ) (queue : List UnitReference) → All IsWanted (rounds_from order host libs units left k queue).added
+rounds_wanted order host libs units [] k queue = All-nil IsWanted
+rounds_wanted order host libs units (slot ∷ left) k queue = by (λ next. rounds_wanted order host libs units left (k + 1) next) (slice_get queue k) refl
   where
-    at : ((next : List UnitReference) → All IsWanted (rounds_from order host libs units left (k + 1) next).added) → (g : UnitReference) (p : Option Fault) → placed_fault order host libs g slot ≡ p → (o : Option Segment) → added_segment order host libs g slot ≡ o → slice_get row k ≡ Some g → All IsWanted (rounds_from order host libs units (slot ∷ left) k row).added
+    at : ((next : List UnitReference) → All IsWanted (rounds_from order host libs units left (k + 1) next).added) → (g : UnitReference) (p : Option Fault) → placed_fault order host libs g slot ≡ p → (o : Option Segment) → added_segment order host libs g slot ≡ o → slice_get queue k ≡ Some g → All IsWanted (rounds_from order host libs units (slot ∷ left) k queue).added
     at rest g (Some fault) e o f h = rw (h, rounds_from) (rw (e, rounds_from) (All-nil IsWanted))
     at rest g None e None f h = rw (h, rounds_from) (rw (e, rounds_from) (rw (f, rounds_from) (All-nil IsWanted)))
     at rest g None e (Some s) f h =
-        let next = requested_from units row (unit_references s.file s.slot 0 s.records) in
+        let next = requested_from units queue (unit_references s.file s.slot 0 s.records) in
         rw (h, rounds_from) (rw (e, rounds_from) (rw (f, rounds_from) (All-cons IsWanted s (rounds_from order host libs units left (k + 1) next).added (of_added order host libs g slot s f).1 (rest next))))
 
-    by : ((next : List UnitReference) → All IsWanted (rounds_from order host libs units left (k + 1) next).added) → (o : Option UnitReference) → slice_get row k ≡ o → All IsWanted (rounds_from order host libs units (slot ∷ left) k row).added
+    by : ((next : List UnitReference) → All IsWanted (rounds_from order host libs units left (k + 1) next).added) → (o : Option UnitReference) → slice_get queue k ≡ o → All IsWanted (rounds_from order host libs units (slot ∷ left) k queue).added
     by rest None h = rw (h, rounds_from) (All-nil IsWanted)
     by rest (Some g) h = at rest g (placed_fault order host libs g slot) refl (added_segment order host libs g slot) refl h
 

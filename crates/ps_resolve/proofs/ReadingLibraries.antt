@@ -16,7 +16,7 @@ use Rattle.ps_codefile.specs.Dictionary.{FileOrder, Zero, Ordered, Mixed, file_o
 use Rattle.ps_resolve.specs.Searches.{first_of}
 use Rattle.ps_resolve.specs.Sources.{has_entry, chosen_library, file_at}
 use Rattle.ps_resolve.specs.Faults.{library_fault, library_reason}
-use Rattle.ps_resolve.proofs.ReadingRows.{neither_first, neither_second, none_mapped}
+use Rattle.ps_resolve.proofs.FirstSlots.{neither_first, neither_second, none_mapped}
 
 -- a library that is not refused is read as it is
 read_as : (short : Bool) (of : FileOrder) (order : Order) (file : List ℕ) → result_err (if short then Err reason.ShortFile else opened_beside_as order file of) ≡ None

@@ -14,7 +14,7 @@ use Rattle.ps_codefile.specs.declared.entry.Role.TheVariants as role
 use Rattle.ps_codefile.specs.Dictionary.{entry_at, role_of}
 use Rattle.ps_resolve.specs.Sources.{Segment, own_segment, segment_from, source_of}
 use Rattle.ps_resolve.specs.Faults.{source_fault, wanted_fault, code_fault}
-use Rattle.ps_resolve.proofs.ReadingRows.{range_more}
+use Rattle.ps_resolve.proofs.FirstSlots.{range_more}
 
 -- a segment that is in the host file
 abbrev pub IsOwn : Role → Type 0

@@ -14,15 +14,15 @@ use Rattle.ps_linkinfo.specs.declared.record.Body.TheVariants.{UnitRef, PublRef,
 use Rattle.ps_linkinfo.specs.declared.record.LinkRecord.{LinkRecord as Record}
 use Rattle.ps_codefile.specs.Roles.{needs_linking}
 use Rattle.ps_resolve.specs.Sources.{file_at}
-use Rattle.ps_resolve.specs.Views.{segment_of, IsPlaced, IsRead, IsSound, IsLike, AreAlike, HasRow}
+use Rattle.ps_resolve.specs.Views.{segment_of, IsPlaced, IsRead, IsSound, IsLike, AreAlike, HasRecordsAt}
 use Rattle.ps_resolve.specs.Operands.{edit_of, operands, refs_fault}
 use Rattle.ps_resolve.specs.References.{Known, HasTarget, HaveTargets, target_in, target_of, words_taken, records_fault, records_edits}
 use Rattle.ps_resolve.specs.declared.references.Target.{Target}
 use Rattle.ps_resolve.specs.declared.references.Target.TheVariants.{Base}
 use Rattle.ps_resolve.specs.declared.reading.segment.Segment.{Segment as SegmentView}
 use Rattle.ps_resolve.proofs.Apart.{one_more}
-use Rattle.ps_resolve.proofs.ReadingRows.{neither_second}
-use Rattle.ps_resolve.proofs.Rows.{NoLinks, record_refused, record_by, record_stands, edits_more, words_are}
+use Rattle.ps_resolve.proofs.FirstSlots.{neither_second}
+use Rattle.ps_resolve.proofs.NextRecords.{NoLinks, record_refused, record_by, record_stands, edits_more, words_are}
 
 -- two segments whose records are those of their places have the same ones, where the places are the
 -- same
@@ -42,8 +42,8 @@ all_sound order host libs (s ∷ ss) all =
     All-cons (IsSound order) (segment_of s) (map segment_of ss) (All-head (IsRead order host libs) s ss all).sound (all_sound order host libs ss (All-tail (IsRead order host libs) s ss all))
 
 -- what holds of the records of each segment holds of those of one that is like them
-pub of_row : (P : List Record → Type 0) (segs : List SegmentView) (s : SegmentView) (rs : List Record) → needs_linking s.role ≡ true → All (IsLike s) segs → All (λ q. P q.records) segs → HasRow segs s.file s.block rs → P s.records
-of_row P segs s rs linked alike all (q, has, of, file, block, is) =
+pub of_shared : (P : List Record → Type 0) (segs : List SegmentView) (s : SegmentView) (rs : List Record) → needs_linking s.role ≡ true → All (IsLike s) segs → All (λ q. P q.records) segs → HasRecordsAt segs s.file s.block rs → P s.records
+of_shared P segs s rs linked alike all (q, has, of, file, block, is) =
     subst P (sym (All-contains (IsLike s) segs q alike has linked of (sym file) (sym block))) (All-contains (λ (q : SegmentView). P q.records) segs q all has)
 
 -- what holds of an item that may be there, where it is there

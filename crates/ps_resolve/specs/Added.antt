@@ -32,24 +32,24 @@ unit_references file slot rec (r ∷ rs) =
 abbrev pub all_unit_references : List Segment → List UnitReference
 all_unit_references segs = flat_map (λ s. unit_references s.file s.slot 0 s.records) segs
 
--- a unit in a slot of the host has the name, or it is in the row of those that are requested
+-- a unit in a slot of the host has the name, or it is in the queue of those that are requested
 abbrev pub is_already_known : List (List ℕ × ℕ) → List UnitReference → List ℕ → Bool
-is_already_known units row name = is_some (lookup (bytes_eq name) units) || list_any (λ g. bytes_eq g.name name) row
+is_already_known units queue name = is_some (lookup (bytes_eq name) units) || list_any (λ g. bytes_eq g.name name) queue
 
--- The row of the names that are requested, each with the record that first gave it: after those of
--- `row`, each name of the references that no unit has and that is not in the row yet.
+-- The queue of the names that are requested, each with the record that first gave it: after those
+-- of `queue`, each name of the references that no unit has and that is not in the queue yet.
 abbrev pub requested_from : List (List ℕ × ℕ) → List UnitReference → List UnitReference → List UnitReference
-requested_from units row [] = row
-requested_from units row (g ∷ gs) = requested_from units (if is_already_known units row g.name then row else row ++ g ∷ []) gs
+requested_from units queue [] = queue
+requested_from units queue (g ∷ gs) = requested_from units (if is_already_known units queue g.name then queue else queue ++ g ∷ []) gs
 
--- a unit in a slot of the host has the name that the record requests, or it is in the row, where
+-- a unit in a slot of the host has the name that the record requests, or it is in the queue, where
 -- the record is a UNITREF
 abbrev pub IsAlreadyKnown : List (List ℕ × ℕ) → List UnitReference → Record → Type 0
-IsAlreadyKnown units row r = is_unit_reference r.body ≡ true → is_already_known units row r.name ≡ true
+IsAlreadyKnown units queue r = is_unit_reference r.body ≡ true → is_already_known units queue r.name ≡ true
 
--- so it is with all of the records, or the row has ten names, of which no more are kept
+-- so it is with all of the records, or the queue has ten names, of which no more are kept
 abbrev pub AreAlreadyKnown : List (List ℕ × ℕ) → List UnitReference → List Record → Type 0
-AreAlreadyKnown units row rs = (10 ≤ length row) ⊎ All (IsAlreadyKnown units row) rs
+AreAlreadyKnown units queue rs = (10 ≤ length queue) ⊎ All (IsAlreadyKnown units queue) rs
 
 -- the slots that units may be added in, ascending
 unfoldable pub empty_slots : Order → List ℕ → List ℕ
@@ -87,19 +87,19 @@ pub record Rounds : Type 0 where
 abbrev pub after : Segment → Rounds → Rounds
 after s rounds = record { added = s ∷ rounds.added; fault = rounds.fault }
 
--- The rounds from round k on, with the slots that are left: the k-th name of the row takes the next
--- slot, and the names that its unit seeks are after the row.
--- They end where no name is left, or with the first fault.
+-- The rounds from round k on, with the slots that are left: the k-th name of the queue takes the
+-- next slot, and the names that its unit requests are appended to the queue. They end where no name
+-- is left, or with the first fault.
 abbrev pub rounds_from : Order → List ℕ → List (List ℕ) → List (List ℕ × ℕ) → List ℕ → ℕ → List UnitReference → Rounds
-rounds_from order host libs units [] k row = record { added = []; fault = option_map (unplaced_fault order libs) (slice_get row k) }
-rounds_from order host libs units (slot ∷ left) k row =
-    elim (slice_get row k) [
+rounds_from order host libs units [] k queue = record { added = []; fault = option_map (unplaced_fault order libs) (slice_get queue k) }
+rounds_from order host libs units (slot ∷ left) k queue =
+    elim (slice_get queue k) [
       | None ↦ record { added = []; fault = None }
       | Some g ↦ elim (placed_fault order host libs g slot) [
         | Some fault ↦ record { added = []; fault = Some fault }
         | None ↦ elim (added_segment order host libs g slot) [
           | None ↦ record { added = []; fault = None }
-          | Some s ↦ after s (rounds_from order host libs units left (k + 1) (requested_from units row (unit_references s.file s.slot 0 s.records)))
+          | Some s ↦ after s (rounds_from order host libs units left (k + 1) (requested_from units queue (unit_references s.file s.slot 0 s.records)))
         ]
       ]
     ]

@@ -48,41 +48,40 @@ IsOfFirstLibrary order libs s =
     × (code_of lib (entry_at order lib s.index) ≡ Ok s.code)
     × (s.records ≡ (reading order (information_of lib (entry_at order lib s.index))).0))
 
--- The names of `row` are those that are requested, each with its giver, and `segs` are the segments
--- that are added for them.
--- The givers are records of the host's own segments, by slot, and then of the added ones, in their
--- order.
-pub record AddedUnits (order : Order) (host : List ℕ) (libs : List (List ℕ)) (row : List UnitReference) (segs : List Segment) : Type 0 where
-  -- each name of the row is requested by one of the host's own segments or by one that was added
+-- The names of `queue` are those that are requested, each with its giver, and `segs` are the
+-- segments that are added for them. The givers are records of the host's own segments, by slot, and
+-- then of the added ones, in their order.
+pub record AddedUnits (order : Order) (host : List ℕ) (libs : List (List ℕ)) (queue : List UnitReference) (segs : List Segment) : Type 0 where
+  -- each name of the queue is requested by one of the host's own segments or by one that was added
   -- for a name before it, and no slot of the host has it
-  pub requested : (k : ℕ) (g : UnitReference) → slice_get row k ≡ Some g
+  pub requested : (k : ℕ) (g : UnitReference) → slice_get queue k ≡ Some g
       → ((i : ℕ) × (i < length (own_segments order host libs) + k) × IsGiver (own_segments order host libs ++ segs) i g) × (HasSlot order host g.name → ⊥)
-  -- each name that is requested is in the row, unless a slot of the host has it
-  pub complete : (i rec : ℕ) (name : List ℕ) → Asks (own_segments order host libs ++ segs) i rec name → HasSlot order host name ⊎ SomeItem row (λ k g. g.name ≡ name)
+  -- each name that is requested is in the queue, unless a slot of the host has it
+  pub complete : (i rec : ℕ) (name : List ℕ) → Asks (own_segments order host libs ++ segs) i rec name → HasSlot order host name ⊎ SomeItem queue (λ k g. g.name ≡ name)
   -- none is there twice
-  pub once : (j k : ℕ) (g h : UnitReference) → slice_get row j ≡ Some g → slice_get row k ≡ Some h → g.name ≡ h.name → j ≡ k
+  pub once : (j k : ℕ) (g h : UnitReference) → slice_get queue j ≡ Some g → slice_get queue k ≡ Some h → g.name ≡ h.name → j ≡ k
   -- they are in the order of their givers
-  pub ordered : (j k : ℕ) (g h : UnitReference) → j < k → slice_get row j ≡ Some g → slice_get row k ≡ Some h → AreGiven (own_segments order host libs ++ segs) g h
+  pub ordered : (j k : ℕ) (g h : UnitReference) → j < k → slice_get queue j ≡ Some g → slice_get queue k ≡ Some h → AreGiven (own_segments order host libs ++ segs) g h
   -- the k-th name has the k-th segment, which takes the k-th empty slot
-  pub names : map (λ s. s.name) segs ≡ map (λ g. g.name) row
+  pub names : map (λ s. s.name) segs ≡ map (λ g. g.name) queue
   pub slots : (k : ℕ) (s : Segment) → slice_get segs k ≡ Some s → slice_get (empty_slots order host) k ≡ Some s.slot
   -- it has the role of a wanted unit, and is marked as added
   pub roles : (k : ℕ) (s : Segment) → slice_get segs k ≡ Some s → (s.role ≡ Wanted) × (s.added ≡ true)
   -- each is the segment of a unit, from the first library that has it
   pub found : (k : ℕ) (s : Segment) → slice_get segs k ≡ Some s → IsOfFirstLibrary order libs s
 
--- the row and the segments that the rounds come to
+-- the queue and the segments that the rounds come to
 abbrev pub AreAddedUnits : List ℕ → List (List ℕ) → Type 0
 AreAddedUnits host libs =
     let order = order_of host in
     let segs = added_segments order host libs in AddedUnits order host libs (requested_units order host libs segs) segs
 
--- whatever row and segments all of that is said of are those that the rounds come to
+-- whatever queue and segments all of that is said of are those that the rounds come to
 abbrev pub AreOnlyUnits : List ℕ → List (List ℕ) → Type 0
 AreOnlyUnits host libs =
     let order = order_of host in
     let segs = added_segments order host libs in
-    (row : List UnitReference) (others : List Segment) → AddedUnits order host libs row others → (row ≡ requested_units order host libs segs) × (others ≡ segs)
+    (queue : List UnitReference) (others : List Segment) → AddedUnits order host libs queue others → (queue ≡ requested_units order host libs segs) × (others ≡ segs)
 
 -- each unit that a record of a segment of the link requests is a segment of the link
 abbrev pub HasAllAsked : List ℕ → List (List ℕ) → Type 0

@@ -29,8 +29,8 @@ segment_of s = record {
 }
 
 -- the records of an entry's link information, which has no fault
-abbrev pub IsRowOf : Order → List ℕ → Entry → List Record → Type 0
-IsRowOf order file e rs = reading order (information_of file e) ≡ (rs, None)
+abbrev pub AreRecordsOf : Order → List ℕ → Entry → List Record → Type 0
+AreRecordsOf order file e rs = reading order (information_of file e) ≡ (rs, None)
 
 -- the link information of the segment, where its references are resolved, begins in its block of
 -- its file, and its records are all that apply there
@@ -48,13 +48,13 @@ AreAlike segs = All (λ s. All (IsLike s) segs) segs
 
 -- one of the segments has these records, which are resolved, and its link information begins in
 -- this block of this file
-abbrev pub HasRow : List SegmentView → ℕ → ℕ → List Record → Type 0
-HasRow segs file block rs =
+abbrev pub HasRecordsAt : List SegmentView → ℕ → ℕ → List Record → Type 0
+HasRecordsAt segs file block rs =
     (s : SegmentView) × Contains segs s × (needs_linking s.role ≡ true) × (s.file ≡ file) × (s.block ≡ block) × (s.records ≡ rs)
 
 -- one of these segments is linked, and its link information begins in this block of this file
-abbrev pub has_row : ℕ → ℕ → List SegmentView → Bool
-has_row file block = list_any (λ s. needs_linking s.role && s.file == file && s.block == block)
+abbrev pub has_records_at : ℕ → ℕ → List SegmentView → Bool
+has_records_at file block = list_any (λ s. needs_linking s.role && s.file == file && s.block == block)
 
 -- the segment is in this slot
 abbrev pub is_in_slot : ℕ → Segment → Bool

@@ -8,7 +8,7 @@ ghost use Rattle.ps_resolve.specs.Builders.{HaveDistinctPrivates, HaveRoom, Stop
 ghost use Rattle.ps_resolve.specs.Views.{segment_of};
 
 use crate::linkage::{Linkage, RecordPlace, Stop};
-use crate::namesakes::first_doubled;
+use crate::namesakes::first_duplicate_private;
 use crate::reading::segment::Segment;
 use ps_linkinfo::{Body, LinkInformation};
 use ps_words::{Name, Reason};
@@ -66,13 +66,13 @@ fn allot<A: Allocator + Copy>(
     if records.privates() == 0 {
         return Ok(next);
     }
-    let doubled = first_doubled(alloc, records)?;
+    let duplicate = first_duplicate_private(alloc, records)?;
     privates.reserve_exact(records.privates())?;
     let mut free = next;
     for (rec, record) in records.records() {
         if let Some(words) = words_of_private(&record.body) {
             let place = RecordPlace { file, slot, rec };
-            if doubled == Some(rec) {
+            if duplicate == Some(rec) {
                 return Err(place.stop_for(Reason::DoubledPrivate));
             }
             if free as usize + words as usize > MAX_NEXT_FREE {
@@ -197,13 +197,10 @@ impl<A: Allocator + Copy> Allotment<A> {
     /// them at the base offset `next`, in words. The slots of the segments rise strictly.
     ///
     /// The link information has to read without a fault: up to the first fault its records are
-    /// taken.
-    /// Refuses, at the first private where one of them is, `DoubledPrivate` where an earlier one of
-    /// its segment has its name, and then `NoRoom` where the offset after it is over 32767, with
-    /// the
-    /// file and the slot of its segment. Returns `Memory` only where memory was refused, and there
-    /// is a
-    /// private.
+    /// taken. Refuses, at the first private where one of them is, `DoubledPrivate` where an earlier
+    /// one of its segment has its name, and then `NoRoom` where the offset after it is over 32767,
+    /// with the file and the slot of its segment. Returns `Memory` only where memory was refused,
+    /// and there is a private.
     ///
     /// Source: this project's profile.
     pub fn build(alloc: A, next: u16, segments: &[Linkage]) -> Result<Self, Stop>
@@ -251,8 +248,7 @@ impl<A: Allocator + Copy> Allotment<A> {
     }
 
     /// The base offset in words, 0 to 32767, of the private that a record requests: the record of
-    /// index
-    /// `rec`, from 0, of the segment in slot `slot`. `None` where that is no PRIVREF record.
+    /// index `rec`, from 0, of the segment in slot `slot`. `None` where that is no PRIVREF record.
     /// Source: this project's profile.
     pub fn offset(&self, slot: u8, rec: usize) -> Option<u16>
         ensures { result ≡ offset_listed slot rec self.now.privates }

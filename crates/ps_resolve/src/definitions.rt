@@ -38,8 +38,7 @@ pub struct Def {
 /// The definitions of the host's segment by their names, in the order of their records.
 ///
 /// Names are looked up by hashes that are keyed by the names of the segment's own records, so no
-/// list
-/// of names can be prepared for which it takes longer.
+/// list of names can be prepared for which it takes longer.
 /// Source: the published II.0 Linker source.
 #[derive(Drop)]
 pub struct Definitions<A: Allocator + Copy = Global> {

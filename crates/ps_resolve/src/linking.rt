@@ -88,8 +88,7 @@ fn sources_of<'a>(segments: &[Segment<'a>]) -> ArrayVec<Source<'a>, 16>
 }
 
 /// Plans the link of segments that were read without a fault, or names the first fault of their
-/// definitions,
-/// their privates, the host's data size and their references.
+/// definitions, their privates, the host's data size and their references.
 pub(crate) fn link_segments<'a, A: Allocator + Copy>(
     alloc: A,
     segments: &Segments<'a>,

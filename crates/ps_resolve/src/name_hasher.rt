@@ -9,8 +9,7 @@ use std::marker::Model;
 /// a segment.
 ///
 /// So names that collide cannot be prepared: each change of a name changes the hashes of all. And
-/// the
-/// hashes stay a function of the input.
+/// the hashes stay a function of the input.
 #[derive(Clone, Copy)]
 pub(crate) struct NameHasher {
     from: DefaultHasher,

@@ -60,8 +60,7 @@ fn have_distinct_names<A: Allocator + Copy>(
 }
 
 /// A set for the names of the privates of these records, by hashes that are keyed by the records:
-/// so
-/// no list of names can be prepared for it.
+/// so no list of names can be prepared for it.
 fn empty_names<A: Allocator + Copy>(
     alloc: A,
     records: &LinkInformation,
@@ -96,9 +95,8 @@ fn first_namesake<A: Allocator + Copy>(
 /// The index, from 0, of the first PRIVREF record that has the name of an earlier one.
 ///
 /// Sorted numbers report whether any two names are equal far sooner than a table of the names, most
-/// of
-/// whose places are in no cache. Only where two are, a table finds which of them comes first.
-pub(crate) fn first_doubled<A: Allocator + Copy>(
+/// of whose places are in no cache. Only where two are, a table finds which of them comes first.
+pub(crate) fn first_duplicate_private<A: Allocator + Copy>(
     alloc: A,
     records: &LinkInformation,
 ) -> Result<Option<usize>, Stop>

@@ -79,8 +79,7 @@ impl<'a, A: Allocator + Copy> Plan<'a, A> {
     }
 
     /// The names of all slots of the linked file, of eight bytes each: the host's, and in the slot
-    /// of
-    /// an added unit that unit's.
+    /// of an added unit that unit's.
     /// Source: UCSD Pascal II.0 manual, code file format.
     pub fn names(&self) -> &[Name; 16]
         ensures { result.now ≡ self.now.names }
@@ -106,13 +105,11 @@ impl<'a, A: Allocator + Copy> Plan<'a, A> {
     }
 
     /// What is stored in the code of the k-th source, from 0, which exists: by place ascending,
-    /// apart
-    /// from one another and inside the code, each BIG value below 32768.
+    /// apart from one another and inside the code, each BIG value below 32768.
     ///
     /// A linked segment has the Byte edit of its number and one edit for each of its references,
-    /// the
-    /// host's segment the Word edit of its data size too, also where they change nothing. A segment
-    /// that is linked already has none.
+    /// the host's segment the Word edit of its data size too, also where they change nothing. A
+    /// segment that is linked already has none.
     /// Source: this project's profile.
     pub fn edits(&self, k: usize) -> &[Edit]
         requires { k < length self.now.edits }

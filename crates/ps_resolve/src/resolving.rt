@@ -13,9 +13,8 @@ use std::alloc::Allocator;
 ///
 /// Refuses the first fault of all: of the host, its slots, the libraries, the sources of the slots,
 /// the units that only UNITREF records name, the host's definitions, the private variables, the
-/// host's data size and the references, each of
-/// which is looked at only where none before it has a fault. Returns `Memory` only where the files
-/// can be read without a fault.
+/// host's data size and the references, each of which is looked at only where none before it has a
+/// fault. Returns `Memory` only where the files can be read without a fault.
 ///
 /// Source: what a link is, the published II.0 Linker source; the faults and their order, this
 /// project's profile.

@@ -129,13 +129,11 @@ pub extern "C" fn pslink_show_nonnull(
 }
 
 /// Puts the text of the fault that a refusal reports in `out`, with a closing 0, and returns how
-/// many
-/// bytes it has.
+/// many bytes it has.
 ///
 /// Where `out` is shorter, nothing is written. Returns 0, and writes nothing, where the answer is
-/// of
-/// no refusal. It would also where the text could not be made: no contract of a text says that it
-/// can.
+/// of no refusal. It would also where the text could not be made: no contract of a text says that
+/// it can.
 /// Source: this project's profile.
 #[unsafe(no_mangle)]
 pub extern "C" fn pslink_fault_text_nonnull(answer: &Answer, out: &mut [u8]) -> usize

@@ -6,8 +6,7 @@ use crate::exports::{
 };
 
 /// NOP, NOP, RBP 0, and the attribute table and the procedure dictionary of its one procedure,
-/// which
-/// has ten bytes of data, in segment 1.
+/// which has ten bytes of data, in segment 1.
 const CODE: [u8; 18] = [
     0xD7, 0xD7, 0xC1, 0, 0x0A, 0, 4, 0, 6, 0, 0x0A, 0, 1, 0, 2, 0, 1, 1,
 ];

@@ -47,8 +47,7 @@ impl<B: Allocator> Refusing<B> {
     }
 
     /// How many bytes the allocations requested in all, those that were refused among them. One
-    /// that makes a block longer requests
-    /// all bytes of the longer one.
+    /// that makes a block longer requests all bytes of the longer one.
     /// Source: this project's profile.
     pub fn bytes(&self) -> u64 {
         self.gate.bytes.get()

@@ -77,10 +77,10 @@ pub(super) fn add_earlier<A: Allocator>(
     text: &mut String<A>,
     case: &Case<'_, '_>,
 ) -> Result<(), AllocError> {
-    let (Some(segment), Some(doubled)) = (case.segment, case.record()) else {
+    let (Some(segment), Some(duplicate)) = (case.segment, case.record()) else {
         return Ok(());
     };
-    let name: Name = doubled.name;
+    let name: Name = duplicate.name;
     for (rec, record) in segment.records().records() {
         if record.name == name && is_rival(case.fault.reason, &record.body) {
             let kind = word_of(&record.body);

@@ -7,8 +7,7 @@ use std::io::{Read, Seek, SeekFrom, Write};
 use std::rt::Files;
 
 /// The files of `inner`, of which the one that is opened as the `nth`, from 1, fails after so many
-/// reads and writes. A read
-/// gives 500 bytes at most, and a write takes so many.
+/// reads and writes. A read gives 500 bytes at most, and a write takes so many.
 pub struct Faulty<R: Files> {
     inner: R,
     nth: u64,

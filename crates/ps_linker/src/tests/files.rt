@@ -53,8 +53,8 @@ fn files_that_cannot_be_opened(rt: HostRuntime) {
     let _ = fs::remove_dir(&rt, "opened-folder");
 }
 
-/// Has each read of the file that is opened as the `nth` fail in turn, until none fails: how many failed. Until then nothing
-/// is printed, and no file is opened to be written.
+/// Has each read of the file that is opened as the `nth` fail in turn, until none fails: how many
+/// failed. Until then nothing is printed, and no file is opened to be written.
 fn failing_reads<R: Files + AllocGlobal + Abort>(
     rt: &R,
     args: &[&str],
@@ -84,7 +84,8 @@ fn each_read_fails(rt: HostRuntime) {
     let (link, map, show) = (link.as_slice(), map.as_slice(), show.as_slice());
     let no_host = "pslink: cannot read reads-host\n";
     let no_library = "pslink: cannot read reads-library\n";
-    // The args, which of the files that are opened fails, what is then said, and what is printed where no read fails.
+    // The args, which of the files that are opened fails, what is then said, and what is printed
+    // where no read fails.
     let rows = [
         (link, 1, no_host, SUMMARY_OF_PAIR),
         (link, 2, no_library, SUMMARY_OF_PAIR),
@@ -99,8 +100,8 @@ fn each_read_fails(rt: HostRuntime) {
     clean(&rt, &["reads-host", "reads-out", "reads-library"]);
 }
 
-/// How long a file's whole blocks are that are written, and how much of the next block, with one write more, which takes at most so
-/// many bytes of a block.
+/// How long a file's whole blocks are that are written, and how much of the next block, with one
+/// write more, which takes at most so many bytes of a block.
 fn lengthened((whole, begun): (u64, u64), most: u64) -> (u64, u64) {
     let begun = begun.saturating_add(most).min(512);
     if begun == 512 {
@@ -126,8 +127,8 @@ fn is_started<R: Files + AllocGlobal + Abort>(
     }
 }
 
-/// Has each write of OUT fail in turn, which is the `nth` file that is opened, until none fails after so many as are needed. A
-/// write takes so many bytes at most.
+/// Has each write of OUT fail in turn, which is the `nth` file that is opened, until none fails
+/// after so many as are needed. A write takes so many bytes at most.
 fn failing_writes<R: Files + AllocGlobal + Abort>(
     rt: &R,
     args: &[&str],
@@ -168,7 +169,8 @@ fn each_write_of_a_link_fails(rt: HostRuntime) {
         "writes-out",
         "writes-library",
     ];
-    // The args, as which file OUT is opened, how much a write takes, in how many writes, what is printed, and the linked file.
+    // The args, as which file OUT is opened, how much a write takes, in how many writes, what is
+    // printed, and the linked file.
     let rows = [
         (
             link_in_place.as_slice(),

@@ -39,8 +39,9 @@ fn put_out<R: Files + AllocGlobal + Abort>(rt: &R, is_there: bool) {
     }
 }
 
-/// Has each allocation of the args' run refused in turn, until none is: how many were. Until then nothing is printed, and OUT
-/// stays as it was; then it is the linked file, where the command links.
+/// Has each allocation of the args' run refused in turn, until none is: how many were. Until then
+/// nothing is printed, and OUT stays as it was; then it is the linked file, where the command
+/// links.
 fn refused_allocations<R: Files + AllocGlobal + Abort>(
     rt: &R,
     args: &[&str],
@@ -79,7 +80,8 @@ fn each_allocation_is_refused(rt: HostRuntime) {
     let map = ["pslink", "map", "memory-host", "memory-library"];
     let show = ["pslink", "show", "memory-library"];
     let check = ["pslink", "check", "memory-host", "memory-library"];
-    // The args, whether OUT is there before, what is printed, what OUT then has, and how many allocations are refused at least.
+    // The args, whether OUT is there before, what is printed, what OUT then has, and how many
+    // allocations are refused at least.
     let rows = [
         (
             link_in_place.as_slice(),

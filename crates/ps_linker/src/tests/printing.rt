@@ -56,8 +56,8 @@ fn standard_output_that_fails(rt: HostRuntime) {
     clean(&rt, files.as_slice());
 }
 
-/// Has each write of the args' text fail in turn, until none fails: how many failed. A write takes `most` bytes. What was
-/// taken is a prefix of the text, and all of it only where the status is 0.
+/// Has each write of the args' text fail in turn, until none fails: how many failed. A write takes
+/// `most` bytes. What was taken is a prefix of the text, and all of it only where the status is 0.
 fn failing_prints<R: Files + AllocGlobal + Abort>(
     rt: &R,
     args: &[&str],

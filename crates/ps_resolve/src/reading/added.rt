@@ -54,7 +54,7 @@ impl Default for UnitReference {
     }
 }
 
-/// Adds the slot after the others, where it is empty.
+/// Appends the slot if it is empty.
 fn add_empty(host: &Dict, slots: &mut ArrayVec<u8, 9>, slot: u8)
     requires in_range { slot < 16 }
     requires room { array_vec_len slots.old < 9 }
@@ -79,53 +79,53 @@ pub(crate) fn empty_slots(host: &Dict) -> ArrayVec<u8, 9>
     slots
 }
 
-/// The name is in the row.
-fn is_in_row(row: &ArrayVec<UnitReference, 10>, name: Name) -> bool
-    ensures { result ≡ list_any (λ sought. bytes_eq sought.name name) row.now.items }
+/// The queue has the name.
+fn is_in_queue(queue: &ArrayVec<UnitReference, 10>, name: Name) -> bool
+    ensures { result ≡ list_any (λ requested. bytes_eq requested.name name) queue.now.items }
 {
-    row.iter().any(|sought| sought.name == name)
+    queue.iter().any(|requested| requested.name == name)
 }
 
-/// One of the units has the name, or it is in the row.
-fn is_already_known(units: &UnitSlots, row: &ArrayVec<UnitReference, 10>, name: Name) -> bool
-    ensures { result ≡ is_already_known_spec units.now row.now.items name }
+/// A unit of the host has the name, or the queue has it.
+fn is_already_known(units: &UnitSlots, queue: &ArrayVec<UnitReference, 10>, name: Name) -> bool
+    ensures { result ≡ is_already_known_spec units.now queue.now.items name }
 {
     match units.slot_of(name) {
         Some(_) => true,
-        None => is_in_row(row, name),
+        None => is_in_queue(queue, name),
     }
 }
 
-/// Adds the reference after the row, where its name is not had; a full row stays as it is.
-fn seek(units: &UnitSlots, row: &mut ArrayVec<UnitReference, 10>, reference: UnitReference)
-    requires { length row.old.items ≤ 10 }
-    ensures { row.new.items ≡ take 10 (requested_from units.now row.old.items
+/// Appends the reference to the queue, unless its name is already known or the queue is full.
+fn enqueue(units: &UnitSlots, queue: &mut ArrayVec<UnitReference, 10>, reference: UnitReference)
+    requires { length queue.old.items ≤ 10 }
+    ensures { queue.new.items ≡ take 10 (requested_from units.now queue.old.items
         (reference ∷ [])) }
 {
-    if is_already_known(units, row, reference.name) {
+    if is_already_known(units, queue, reference.name) {
         return;
     }
-    if !row.is_full() {
-        row.push(reference);
+    if !queue.is_full() {
+        queue.push(reference);
     }
 }
 
-/// Adds the record of a segment after the row, where it seeks a name that is not had.
-fn seek_record(
+/// Appends a record of a segment to the queue, if it requests a unit whose name is not known yet.
+fn enqueue_record(
     units: &UnitSlots,
-    row: &mut ArrayVec<UnitReference, 10>,
+    queue: &mut ArrayVec<UnitReference, 10>,
     segment: &Segment,
     rec: usize,
     entry: &LinkRecord,
 )
-    requires { length row.old.items ≤ 10 }
-    ensures { row.new.items ≡ take 10 (requested_from units.now row.old.items
+    requires { length queue.old.items ≤ 10 }
+    ensures { queue.new.items ≡ take 10 (requested_from units.now queue.old.items
         (unit_references segment.now.file segment.now.slot rec (entry.now ∷ []))) }
 {
     match &entry.body {
-        Body::UnitRef(_) => seek(
+        Body::UnitRef(_) => enqueue(
             units,
-            row,
+            queue,
             UnitReference {
                 name: entry.name,
                 file: segment.file,
@@ -141,55 +141,54 @@ fn seek_record(
     }
 }
 
-/// Adds the names that the records of a segment seek after the row.
-fn seek_records(units: &UnitSlots, row: &mut ArrayVec<UnitReference, 10>, segment: &Segment)
-    requires { length row.old.items ≤ 10 }
-    ensures { row.new.items ≡ take 10 (requested_from units.now row.old.items
+/// Appends the unit names that the records of a segment request to the queue.
+fn enqueue_records(units: &UnitSlots, queue: &mut ArrayVec<UnitReference, 10>, segment: &Segment)
+    requires { length queue.old.items ≤ 10 }
+    ensures { queue.new.items ≡ take 10 (requested_from units.now queue.old.items
         (unit_references segment.now.file segment.now.slot 0 segment.now.records)) }
 {
     if segment.records.units() == 0 {
         return;
     }
     for (rec, record) in segment.records.records() {
-        seek_record(units, row, segment, rec, &record);
+        enqueue_record(units, queue, segment, rec, &record);
     }
 }
 
-/// Adds the names that the records of a segment seek after the row. Those of records that an
-/// earlier
-/// segment has too are had.
-fn seek_unseen<'a>(
+/// Appends the unit names that the records of a segment request to the queue. Records that an
+/// earlier segment has too are not read again: their names are known already.
+fn enqueue_unshared<'a>(
     units: &UnitSlots,
-    row: &mut ArrayVec<UnitReference, 10>,
+    queue: &mut ArrayVec<UnitReference, 10>,
     earlier: &[Segment<'a>],
     segment: &Segment<'a>,
 )
-    requires few { length row.old.items ≤ 10 }
+    requires few { length queue.old.items ≤ 10 }
     requires alike { All (IsLike segment.now) earlier.now }
-    requires had { All (λ s. AreAlreadyKnown units.now row.old.items s.records) earlier.now }
-    ensures { row.new.items ≡ take 10 (requested_from units.now row.old.items
+    requires known { All (λ s. AreAlreadyKnown units.now queue.old.items s.records) earlier.now }
+    ensures { queue.new.items ≡ take 10 (requested_from units.now queue.old.items
         (unit_references segment.now.file segment.now.slot 0 segment.now.records)) }
 {
     if segment.shares_with(earlier) {
         return;
     }
-    seek_records(units, row, segment);
+    enqueue_records(units, queue, segment);
 }
 
-/// The names that the host's own segments seek.
-fn sought_by<'a>(units: &UnitSlots, own: &[Segment<'a>]) -> ArrayVec<UnitReference, 10>
+/// The queue of the unit names that the host's own segments request.
+fn requested_by<'a>(units: &UnitSlots, own: &[Segment<'a>]) -> ArrayVec<UnitReference, 10>
     requires { AreAlike own.now }
     ensures { result.items ≡ take 10 (requested_from units.now []
         (all_unit_references (map segment_of own.now))) }
 {
-    let mut row: ArrayVec<UnitReference, MAX_REQUESTED> = ArrayVec::new();
+    let mut queue: ArrayVec<UnitReference, MAX_REQUESTED> = ArrayVec::new();
     for (index, segment) in own.iter().enumerate() {
-        seek_unseen(units, &mut row, &own[..index], segment);
+        enqueue_unshared(units, &mut queue, &own[..index], segment);
     }
-    row
+    queue
 }
 
-/// The first library with a filled entry of this name, and the first such entry there.
+/// The first library that has a filled entry of this name, and the first such entry in it.
 fn unit_named<'a>(order: Order, name: Name, libs: &'a [&'a [u8]]) -> Option<UnitSource<'a>>
     requires { libraries_fault order (contents libs.now) ≡ None }
     ensures missing { is_none result ≡ is_missing order (contents libs.now) name }
@@ -207,24 +206,24 @@ fn unit_named<'a>(order: Order, name: Name, libs: &'a [&'a [u8]]) -> Option<Unit
     chosen_library(order, name, libs)
 }
 
-/// The fault of a name for which no slot is left.
-fn no_slot(order: Order, libs: &[&[u8]], sought: &UnitReference) -> Fault
+/// The fault of a requested name for which no slot is left.
+fn no_slot(order: Order, libs: &[&[u8]], requested: &UnitReference) -> Fault
     requires { libraries_fault order (contents libs.now) ≡ None }
-    ensures { result ≡ unplaced_fault order (contents libs.now) sought.now }
+    ensures { result ≡ unplaced_fault order (contents libs.now) requested.now }
 {
-    let reason = match unit_named(order, sought.name, libs) {
+    let reason = match unit_named(order, requested.name, libs) {
         None => Reason::MissingUnit,
         Some(_) => Reason::NoSlot,
     };
-    Fault::in_record(sought.file, sought.slot, sought.rec, reason)
+    Fault::in_record(requested.file, requested.slot, requested.rec, reason)
 }
 
-/// The segment that a name brings into a slot, or the first fault of its unit. `known` are segments
-/// that were added before.
+/// The segment of a requested unit, which is added in this slot, or the first fault of the unit.
+/// `known` are the segments that were added before.
 fn read_added<'a>(
     order: Order,
     libs: &'a [&'a [u8]],
-    sought: &UnitReference,
+    requested: &UnitReference,
     slot: u8,
     known: &[Segment<'a>],
 ) -> Result<Segment<'a>, Fault>
@@ -232,21 +231,26 @@ fn read_added<'a>(
     requires libraries { libraries_fault order (contents libs.now) ≡ None }
     requires read { (host : List ℕ) → All (IsRead order host (contents libs.now)) known.now }
     ensures fault { (host : List ℕ)
-        → result_err result ≡ placed_fault order host (contents libs.now) sought.now slot }
+        → result_err result ≡ placed_fault order host (contents libs.now) requested.now slot }
     ensures segment { (host : List ℕ)
-        → IfOk result (λ s. added_segment order host (contents libs.now) sought.now slot
+        → IfOk result (λ s. added_segment order host (contents libs.now) requested.now slot
         ≡ Some (segment_of s)) }
     ensures read { (host : List ℕ) → IfOk result (IsRead order host (contents libs.now)) }
 {
-    match unit_named(order, sought.name, libs) {
-        None => Err(Fault::in_record(sought.file, sought.slot, sought.rec, Reason::MissingUnit)),
-        Some(unit) => match entries_reason(&unit.dict, sought.name, unit.index) {
+    match unit_named(order, requested.name, libs) {
+        None => Err(Fault::in_record(
+            requested.file,
+            requested.slot,
+            requested.rec,
+            Reason::MissingUnit,
+        )),
+        Some(unit) => match entries_reason(&unit.dict, requested.name, unit.index) {
             Some(reason) => Err(Fault::in_slot(unit.library + 1, slot, reason)),
             None => {
                 let file = unit.library + 1;
                 let segment = read_segment(
                     SegmentPlace { file, slot },
-                    sought.name,
+                    requested.name,
                     Role::Wanted,
                     &unit.dict,
                     unit.index,
@@ -261,21 +265,18 @@ fn read_added<'a>(
     }
 }
 
-/// The k-th name of the row, from 0, where there is one.
-fn sought_at(row: &ArrayVec<UnitReference, 10>, k: usize) -> Option<UnitReference>
-    ensures { result ≡ slice_get row.now.items k }
+/// The k-th request of the queue, from 0; `None` if the queue is shorter.
+fn requested_at(queue: &ArrayVec<UnitReference, 10>, k: usize) -> Option<UnitReference>
+    ensures { result ≡ slice_get queue.now.items k }
 {
-    row.get(k).copied()
+    queue.get(k).copied()
 }
 
-/// The segments that are added to a host's own in these slots, in their order, or the first fault
-/// of them.
+/// The segments that are added to the host's own in these slots, in order, or their first fault.
 ///
-/// The names that UNITREF records of linked segments seek, and that no unit of the host has, take
-/// the
-/// empty slots from 7 to 15 in turn, each with the first library's unit of that name; the names
-/// that
-/// such a unit seeks are after.
+/// Each name that a UNITREF record requests and that no unit of the host has gets the next empty
+/// slot from 7 to 15, and in it the unit of that name of the first library that has one. The names
+/// that an added unit requests are appended to the queue.
 pub(crate) fn add_units<'a>(
     order: Order,
     libs: &'a [&'a [u8]],
@@ -293,21 +294,21 @@ pub(crate) fn add_units<'a>(
         → IfOk result (λ added. All (IsRead order host (contents libs.now)) added.items) }
 {
     let units = UnitSlots::of(own);
-    let mut row = sought_by(&units, own);
+    let mut queue = requested_by(&units, own);
     let mut added: ArrayVec<Segment<'a>, MAX_ADDED> = ArrayVec::new();
     for slot in slots {
-        match sought_at(&row, added.len()) {
+        match requested_at(&queue, added.len()) {
             None => return Ok(added),
-            Some(sought) => {
-                let segment = read_added(order, libs, &sought, *slot, added.as_slice())?;
-                seek_records(&units, &mut row, &segment);
+            Some(requested) => {
+                let segment = read_added(order, libs, &requested, *slot, added.as_slice())?;
+                enqueue_records(&units, &mut queue, &segment);
                 added.push(segment);
             }
         }
     }
     let placed = added.len();
-    match sought_at(&row, placed) {
+    match requested_at(&queue, placed) {
         None => Ok(added),
-        Some(sought) => Err(no_slot(order, libs, &sought)),
+        Some(requested) => Err(no_slot(order, libs, &requested)),
     }
 }

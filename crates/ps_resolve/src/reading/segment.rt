@@ -1,7 +1,7 @@
 ghost use Rattle.std.specs.Prelude.{◌≡◌, List, true, IfSome, ◌&&◌, None, false};
 ghost use Rattle.ps_linkinfo.specs.declared.record.LinkRecord.{LinkRecord as Record};
 ghost use Rattle.ps_codefile.specs.Roles.{needs_linking as needs_linking_spec};
-ghost use Rattle.ps_resolve.specs.Views.{segment_of, has_row, HasRow, IsSound};
+ghost use Rattle.ps_resolve.specs.Views.{segment_of, has_records_at, HasRecordsAt, IsSound};
 
 use ps_codefile::{Procs, Role};
 use ps_linkinfo::LinkInformation;
@@ -60,28 +60,27 @@ impl<'a> Segment<'a> {
     }
 
     /// One of these segments is linked, and its link information begins in the same block of the
-    /// same
-    /// file as that of this linked segment.
+    /// same file as that of this linked segment.
     pub(crate) fn shares_with(&self, segments: &[Segment<'a>]) -> bool
         ensures linked { result ≡ true → needs_linking_spec self.now.role ≡ true }
-        ensures row { result ≡ true
-            → (records : List Record) × HasRow segments.now self.now.file self.now.block records }
+        ensures records { result ≡ true
+            → (records : List Record) × HasRecordsAt segments.now self.now.file self.now.block records }
         ensures own { result ≡ false → (needs_linking_spec self.now.role
-            && has_row self.now.file self.now.block segments.now) ≡ false }
+            && has_records_at self.now.file self.now.block segments.now) ≡ false }
     {
-        self.role.needs_linking() && row_of(segments, self.file, self.block).is_some()
+        self.role.needs_linking() && records_at(segments, self.file, self.block).is_some()
     }
 }
 
 /// The link information that begins in this block of this file, where a linked one of the segments
 /// has it.
-pub(crate) fn row_of<'a>(
+pub(crate) fn records_at<'a>(
     segments: &[Segment<'a>],
     file: usize,
     block: usize,
 ) -> Option<LinkInformation<'a>>
-    ensures row { IfSome result (HasRow segments.now file block) }
-    ensures none { result ≡ None → has_row file block segments.now ≡ false }
+    ensures records { IfSome result (HasRecordsAt segments.now file block) }
+    ensures none { result ≡ None → has_records_at file block segments.now ≡ false }
 {
     for segment in segments {
         if segment.role.needs_linking() && segment.file == file && segment.block == block {

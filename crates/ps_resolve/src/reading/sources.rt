@@ -9,10 +9,10 @@ ghost use Rattle.ps_linkinfo.specs.Records.{reading};
 ghost use Rattle.ps_codefile.specs.Roles.{needs_linking as needs_linking_spec, is_host as is_host_spec};
 ghost use Rattle.ps_resolve.specs.Sources.{own_segment, own_segments, file_at, segment_from, contents};
 ghost use Rattle.ps_resolve.specs.Faults.{code_fault, libraries_fault as libraries_fault_spec, source_fault, sources_fault};
-ghost use Rattle.ps_resolve.specs.Views.{segment_of, IsPlaced, IsRead, IsRowOf, IsSound};
+ghost use Rattle.ps_resolve.specs.Views.{segment_of, IsPlaced, IsRead, AreRecordsOf, IsSound};
 
 use crate::linkage::SegmentPlace;
-use crate::reading::segment::{Segment, row_of};
+use crate::reading::segment::{Segment, records_at};
 use crate::reading::slots::HOST_FILE;
 use crate::reading::units::unit_source;
 use arrayvec::ArrayVec;
@@ -74,10 +74,10 @@ pub(crate) fn known_records<'a>(
     requires { index < 16 }
     ensures { (host : List ℕ) (libs : List (List ℕ)) → file_at host libs file ≡ from.now.file
         → All (IsRead from.now.order host libs) known.now
-        → IfSome result (IsRowOf from.now.order from.now.file
+        → IfSome result (AreRecordsOf from.now.order from.now.file
         (entry_at from.now.order from.now.file index)) }
 {
-    row_of(known, file, block_behind(from, index))
+    records_at(known, file, block_behind(from, index))
 }
 
 /// The link information of a segment whose procedure tables are read first, or the first fault of
@@ -115,8 +115,7 @@ fn read_contents<'a>(
 }
 
 /// The segment of a slot, whose code and link information are those of an entry of a file; `known`
-/// is
-/// that link information, where it was read already.
+/// is that link information, where it was read already.
 pub(crate) fn read_segment<'a>(
     place: SegmentPlace,
     name: Name,
@@ -127,7 +126,7 @@ pub(crate) fn read_segment<'a>(
 ) -> Result<Segment<'a>, Fault>
     requires slots { place.slot < 16 }
     requires in_range { index < 16 }
-    requires known { IfSome known (IsRowOf from.now.order from.now.file
+    requires known { IfSome known (AreRecordsOf from.now.order from.now.file
         (entry_at from.now.order from.now.file index)) }
     requires kind { needs_linking_spec role ≡ true
         → kind_needs_linking (entry_at from.now.order from.now.file index).kind ≡ true }
@@ -165,8 +164,7 @@ pub(crate) fn read_segment<'a>(
 }
 
 /// The segment of a slot, or None where the slot is empty or has a kind that was refused. `known`
-/// are
-/// segments that were read before.
+/// are segments that were read before.
 fn read_slot<'a>(
     host: &Dict<'a>,
     libs: &'a [&'a [u8]],

@@ -11,7 +11,7 @@ ghost use Rattle.ps_resolve.specs.Edits.{refs_fault_at};
 ghost use Rattle.ps_resolve.specs.Faults.{segment_fault};
 ghost use Rattle.ps_resolve.specs.Privates.{private_words};
 ghost use Rattle.ps_resolve.specs.Stops.{IsStop};
-ghost use Rattle.ps_resolve.specs.Views.{segment_of, has_row, HasRow};
+ghost use Rattle.ps_resolve.specs.Views.{segment_of, has_records_at, HasRecordsAt};
 
 use crate::definitions::DefKind;
 use crate::linkage::{RecordPlace, Stop};
@@ -102,16 +102,15 @@ fn asks_for_nothing(records: &LinkInformation) -> bool
 }
 
 /// The segment has the records of an earlier one, so what they name is found, and none of them has
-/// a
-/// reference or requests a private.
+/// a reference or requests a private.
 fn is_resolved<'a>(earlier: &[Segment<'a>], segment: &Segment<'a>) -> bool
-    ensures row { result ≡ true
-        → (records : List Record) × HasRow earlier.now segment.now.file segment.now.block records }
+    ensures records { result ≡ true
+        → (records : List Record) × HasRecordsAt earlier.now segment.now.file segment.now.block records }
     ensures references { result ≡ true → references_in segment.now.records ≡ 0 }
     ensures privates { result ≡ true → privates_in segment.now.records ≡ 0 }
     ensures open { result ≡ false → (references_in segment.now.records == 0
         && privates_in segment.now.records == 0 && needs_linking segment.now.role
-        && has_row segment.now.file segment.now.block earlier.now) ≡ false }
+        && has_records_at segment.now.file segment.now.block earlier.now) ≡ false }
 {
     segment.records.references() == 0
         && segment.records.privates() == 0

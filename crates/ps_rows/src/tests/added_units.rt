@@ -343,8 +343,8 @@ const NAMES: [Name; 11] = [
 ];
 
 /// A host that has its own segment alone, whose records name the first nine, ten or eleven of these
-/// units after a definition,
-/// without any reference: the records of the others are zeros, as an end mark is.
+/// units after a definition, without any reference: the records of the others are zeros, as an end
+/// mark is.
 fn host_naming(alloc: Global, count: usize) -> Result<CodeFile, AllocError> {
     let [a, b, c, d, e, f, g, h, i, j, k] = NAMES;
     let records = [

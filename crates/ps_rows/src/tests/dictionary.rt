@@ -76,7 +76,8 @@ const EMPTY: Entry = Entry {
     text: 0,
 };
 
-/// Checks what the base host's dictionary gives of its slots and of the tail, the host segment's code and its link information.
+/// Checks what the base host's dictionary gives of its slots and of the tail, the host segment's
+/// code and its link information.
 fn gives_the_host_s_parts(rt: &impl Abort, dictionary: &Dict<'_>, information: &[u8]) {
     assert!(rt; dictionary.names()[7] == UTIL);
     assert!(rt; dictionary.entry(15) == EMPTY);

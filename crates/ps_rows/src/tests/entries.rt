@@ -1,4 +1,5 @@
-//! What a slot's entry says: its role, whether it has a code, how long the code is, and what follows it.
+//! What a slot's entry says: its role, whether it has a code, how long the code is, and what
+//! follows it.
 use crate::base::UTIL;
 use crate::information::Name;
 use ps_codefile::dictionary_layout::{KINDS, NAMES, PAIR, TEXTS};
@@ -25,7 +26,8 @@ fn entry(kind: u16, address: u16, length: u16) -> Entry {
     }
 }
 
-/// A big-endian file as long as can be, with this entry, and with a byte of code and one of link information behind it.
+/// A big-endian file as long as can be, with this entry, and with a byte of code and one of link
+/// information behind it.
 fn file_of(entry: &Entry) -> [u8; LONGEST] {
     let mut file = [0; LONGEST];
     file[512] = 0xD7;
@@ -127,7 +129,8 @@ fn has_code(
     }
 }
 
-/// Lengths, whether a segment that is linked has such a code, whether a host segment or a unit has, and what follows it.
+/// Lengths, whether a segment that is linked has such a code, whether a host segment or a unit has,
+/// and what follows it.
 const LENGTHS: [(u16, bool, bool, Bytes); 10] = [
     (1, true, false, (32255, Some(b'C'))),
     (2, true, false, (32255, Some(b'C'))),

@@ -195,8 +195,7 @@ fn sixteen_segments_of_two_hundred_libraries(rt: HostRuntime) -> Result<(), Fail
 }
 
 /// Changes of the base library where it comes after many that have not its unit, and the fault: its
-/// number and name, and what is
-/// reported after the file and the slot.
+/// number and name, and what is reported after the file and the slot.
 const LATE: [(Changes<'static>, &str, &str); 4] = [
     (&[Kind(2, 5)], "14 NotAUnit kind 5", ""),
     (&[Length(2, 2)], "11 BadLength", ""),

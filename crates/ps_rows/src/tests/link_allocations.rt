@@ -208,8 +208,8 @@ fn writing_grows_nothing(
 }
 
 /// Checks that the map of a link takes memory for its plan and for its text alone. The text has 128
-/// to 255 bytes; its room grows to
-/// twice as much at least, so seven times at most, and requests four times as many bytes at most.
+/// to 255 bytes; its room grows to twice as much at least, so seven times at most, and requests
+/// four times as many bytes at most.
 fn a_map_grows_by_its_text(
     rt: &(impl Abort + AllocGlobal),
     heap: &Refusing<Global>,
@@ -230,8 +230,7 @@ fn a_map_grows_by_its_text(
 }
 
 /// Checks the answers of `resolve` and of `prepare` with each allocation refused in turn, that both
-/// make so many, and that a linked
-/// file is written without any.
+/// make so many, and that a linked file is written without any.
 fn only_the_plan_grows(
     rt: &(impl Abort + AllocGlobal),
     link: Link<'_>,
@@ -252,15 +251,13 @@ fn only_the_plan_grows(
 }
 
 /// Links of unchanged files: how many edits each segment's plan has and how many private words
-/// there are, the program's line, and how
-/// many allocations there are and of how many bytes.
+/// there are, the program's line, and how many allocations there are and of how many bytes.
 ///
 /// The table of definitions takes four allocations of 244 bytes, since the kit's has nine places at
-/// least: of 8 bytes for a hash and its
-/// place, 8 for a name and 4 for a definition, and a group of 64. The list of lists of edits takes
-/// 64, and each list 16 for each edit that
-/// there is room for: one for each reference and two more. A private variable takes 24 bytes, and
-/// its name 8 while names are compared.
+/// least: of 8 bytes for a hash and its place, 8 for a name and 4 for a definition, and a group of
+/// 64. The list of lists of edits takes 64, and each list 16 for each edit that there is room for:
+/// one for each reference and two more. A private variable takes 24 bytes, and its name 8 while
+/// names are compared.
 const PLANS: [(Base, &str, &str, (u64, u64)); 3] = [
     (
         Base::Pair,

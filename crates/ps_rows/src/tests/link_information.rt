@@ -1,4 +1,5 @@
-//! Link information as `LinkInformation` reads it: its records by index, what they come to, and which names are hashed.
+//! Link information as `LinkInformation` reads it: its records by index, what they come to, and
+//! which names are hashed.
 use super::records::describe;
 use crate::base::{COUNT, LIBRARY_RECORDS, STATE};
 use crate::information::Record::Other;
@@ -10,7 +11,8 @@ use std::hash::{DefaultHasher, Hasher};
 use std::process::Abort;
 use std::test::Fail;
 
-/// What link information comes to: its records, definitions, privates, publics, units and references, and its end mark's value.
+/// What link information comes to: its records, definitions, privates, publics, units and
+/// references, and its end mark's value.
 fn counts(information: &LinkInformation<'_>) -> [usize; 7] {
     [
         information.len(),

@@ -120,8 +120,7 @@ fn definitions_by_name_and_by_index(rt: HostRuntime) -> Result<(), Fail> {
 }
 
 /// Checks the private variables of a unit in slot 7 whose first record requests two words from
-/// offset 8 on, and its next ones for
-/// those above.
+/// offset 8 on, and its next ones for those above.
 fn has_private_variables(rt: &impl Abort, allotment: &Allotment) {
     assert!(rt; allotment.privates().len() == NAMES + 1);
     assert!(rt; allotment.words() == 6);

@@ -22,7 +22,7 @@ const DICTIONARIES: [Refusal<'static>; 9] = [
         "refused 10 UnknownKind file 0 slot 8",
     ),
     (
-        "a doubled name in slot 8 and a kind in slot 9",
+        "a duplicate name in slot 8 and a kind in slot 9",
         &[Entry(8, WANTED_UTIL), Entry(9, LIKE_DEMO), Kind(9, 2)],
         &[],
         "refused 6 DoubledSegment file 0 slot 8",
@@ -104,7 +104,7 @@ const ENTRIES_AND_CODES: [Refusal<'static>; 6] = [
         "refused 18 NativeProcedure file 1 slot 7",
     ),
     (
-        "a record of the library and a doubled definition",
+        "a record of the library and a duplicate definition",
         &[Records(
             2,
             &[
@@ -121,7 +121,7 @@ const ENTRIES_AND_CODES: [Refusal<'static>; 6] = [
 /// Faults of names and of sizes, and others after them.
 const NAMES_AND_SIZES: [Refusal<'static>; 7] = [
     (
-        "a missing definition of the library and a doubled one",
+        "a missing definition of the library and a duplicate one",
         &[Records(
             2,
             &[
@@ -134,7 +134,7 @@ const NAMES_AND_SIZES: [Refusal<'static>; 7] = [
         "refused 24 DoubledDefinition file 0 slot 1 record 1",
     ),
     (
-        "a missing definition and a doubled one",
+        "a missing definition and a duplicate one",
         &[Records(
             2,
             &[
@@ -148,7 +148,7 @@ const NAMES_AND_SIZES: [Refusal<'static>; 7] = [
         "refused 24 DoubledDefinition file 0 slot 1 record 2",
     ),
     (
-        "a doubled definition and no room",
+        "a duplicate definition and no room",
         &[Records(
             2,
             &[
@@ -161,7 +161,7 @@ const NAMES_AND_SIZES: [Refusal<'static>; 7] = [
         "refused 24 DoubledDefinition file 0 slot 1 record 1",
     ),
     (
-        "a doubled private variable with no room",
+        "a duplicate private variable with no room",
         &[],
         &[Records(
             2,

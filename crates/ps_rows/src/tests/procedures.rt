@@ -9,8 +9,8 @@ const LITTLE: Order = Order::Little;
 
 const BIG: Order = Order::Big;
 
-/// The tables of the procedures, from procedure 1 on, where the procedure dictionary begins, and the first and the last of the
-/// places that are reserved, where they stand in a row.
+/// The tables of the procedures, from procedure 1 on, where the procedure dictionary begins, and
+/// the first and the last of the places that are reserved, where they stand in a row.
 type Tables = (&'static [Option<usize>], usize, &'static [(usize, usize)]);
 
 /// Checks a code's procedures, of the host segment or of another one, or why they are refused.
@@ -58,8 +58,9 @@ fn procedures_of_the_base_codes(rt: HostRuntime) {
     }
 }
 
-/// A little-endian code: an instruction, a table of procedure 1, the words of procedures 2 and 1, of which the second has this high
-/// byte, and the numbers of segment 7. The words stand at 11 and 13, so that the tables stand at these minus their values.
+/// A little-endian code: an instruction, a table of procedure 1, the words of procedures 2 and 1,
+/// of which the second has this high byte, and the numbers of segment 7. The words stand at 11 and
+/// 13, so that the tables stand at these minus their values.
 fn code_of(second: u8, first: u8, high: u8) -> [u8; 17] {
     [
         0xD7, 10, 0, 6, 0, 4, 0, 2, 0, 1, 0, second, 0, first, high, 7, 2,
@@ -70,7 +71,8 @@ const BAD: Result<Tables, Reason> = Err(Reason::BadProcDict);
 
 const NATIVE: Result<Tables, Reason> = Err(Reason::NativeProcedure);
 
-/// The words of procedures 2 and 1, the second's high byte, and whether the code is the host segment's.
+/// The words of procedures 2 and 1, the second's high byte, and whether the code is the host
+/// segment's.
 const WORDS: [(u8, u8, u8, bool, Result<Tables, Reason>); 16] = [
     (2, 4, 0, true, Ok((&[Some(9), Some(9)], 11, &[(1, 16)]))),
     (0, 4, 0, true, Ok((&[Some(9), None], 11, &[(1, 16)]))),

@@ -28,10 +28,8 @@ impl<'a> Writing for Map<'a> {
 }
 
 /// Writes a text into a writer with room for so many bytes, of which a write takes at most so many.
-/// Checks the answer,
-/// that the prefix of the text was taken for which there is room, how many writes there were and
-/// how many of them failed, and that
-/// there was no flush.
+/// Checks the answer, that the prefix of the text was taken for which there is room, how many
+/// writes there were and how many of them failed, and that there was no flush.
 pub(crate) fn writes<T: Writing>(
     rt: &(impl Abort + AllocGlobal),
     (call, text): (&T, &str),

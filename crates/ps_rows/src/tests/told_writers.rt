@@ -53,8 +53,8 @@ fn told(
 }
 
 /// Writes the linked file to a counting writer, and checks the answer, the counts, that each write
-/// that was counted was made once,
-/// that there was no flush, and that the prefix of the linked file was taken for which it has room.
+/// that was counted was made once, that there was no flush, and that the prefix of the linked file
+/// was taken for which it has room.
 fn tells(
     rt: &(impl Abort + AllocGlobal),
     linked: &Linked<'_>,
@@ -107,8 +107,7 @@ fn tells_the_whole_file(
 }
 
 /// How much room a writer has, how many writes there are until one has no room, and how many of
-/// them are short where that one
-/// fails, and where it stalls.
+/// them are short where that one fails, and where it stalls.
 const ROOMS: [(usize, u64, u64, u64); 9] = [
     (0, 1, 0, 1),
     (1, 2, 1, 2),

@@ -29,10 +29,8 @@ impl Call {
 }
 
 /// Writes a linked file by each call into a writer with room for so many bytes, of which a write
-/// takes at most so many. Checks the
-/// answer, that the prefix of the file was taken for which there is room, and how many writes there
-/// were, how many of them failed,
-/// and that there was no flush.
+/// takes at most so many. Checks the answer, that the prefix of the file was taken for which there
+/// is room, and how many writes there were, how many of them failed, and that there was no flush.
 fn writes(
     rt: &(impl Abort + AllocGlobal),
     link: &Link<'_>,
@@ -84,8 +82,7 @@ fn writes_little(
 }
 
 /// Writes into a writer of each room that is too little, which stalls and which fails: there is a
-/// write for each block that it takes
-/// any of, and one for which it has no room.
+/// write for each block that it takes any of, and one for which it has no room.
 fn writes_to_any_room(rt: &(impl Abort + AllocGlobal), link: &Link<'_>) -> Result<(), Fail> {
     for room in 0..1536 {
         let count = (room as u64 + 511) / 512 + 1;

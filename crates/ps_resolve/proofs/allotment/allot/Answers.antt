@@ -5,8 +5,8 @@ use Rattle.std.specs.Option.{option_map}
 use Rattle.ps_words.specs.FaultPlaces.{in_record}
 use Rattle.ps_words.specs.declared.fault.Reason.{Reason}
 use Rattle.ps_resolve.specs.declared.allotment.Private.{Private}
-use Rattle.ps_resolve.proofs.Allots.{Allots, allot_more, allot_on, allots, duplicate_fault, is_doubled, no_privates, not_doubled, privates_counted, room_fault}
-use Rattle.ps_resolve.proofs.Doubles.{positive}
+use Rattle.ps_resolve.proofs.Allots.{Allots, allot_more, allot_on, allots, duplicate_fault, is_duplicate, no_privates, not_duplicate, privates_counted, room_fault}
+use Rattle.ps_resolve.proofs.Duplicates.{positive}
 use Rattle.ps_resolve.proofs.Numbers.{one, none}
 use Rattle.ps_resolve.proofs.allotment.allot.Goals as goal
 
@@ -21,12 +21,12 @@ returns-then-privates-eq0 g c =
       stop = tt;
     }
 
-pub returns-in_err-doubled-clause-stop : goal.returns-in_err-doubled-clause-stop
-returns-in_err-doubled-clause-stop g c =
+pub returns-in_err-duplicate-clause-stop : goal.returns-in_err-duplicate-clause-stop
+returns-in_err-duplicate-clause-stop g c =
     let p = err_from_is_err_and c.from_residual.result c.from_residual.ensures.1 in
     let rs = c.args.records.now in
     let some = positive (privates_in rs) (λ e. c.if-privates-eq0.false (c.privates.ensures ∙ e)) in
-    rw (p.1, p.2) (rw c.in_err-doubled.ensures.stop (subst (λ (n : ℕ). 0 < n) (sym (privates_counted c.args.slot 0 c.args.next rs)) some))
+    rw (p.1, p.2) (rw c.in_err-duplicate.ensures.stop (subst (λ (n : ℕ). 0 < n) (sym (privates_counted c.args.slot 0 c.args.next rs)) some))
 
 pub returns-in_err-reserve_exact-clause-stop : goal.returns-in_err-reserve_exact-clause-stop
 returns-in_err-reserve_exact-clause-stop g c =
@@ -38,7 +38,7 @@ returns-in_err-reserve_exact-clause-stop g c =
 pub loop-rec-init : goal.loop-rec-init
 loop-rec-init g c =
     let rs = c.args.records.now in
-    let d = c.in_ok-doubled.doubled in
+    let d = c.in_ok-duplicate.duplicate in
     let before = c.args.privates.now.items in
     (0, rs, c.into_iter-rec-iterator.ensures.into_iter_gives ∙ c.records-rec-items.ensures, rw c.in_ok-reserve_exact.ensures.items (allots c.args.slot c.args.next d before rs))
 
@@ -46,8 +46,8 @@ pub returns-then-eq-clause-stop : goal.returns-then-eq-clause-stop
 returns-then-eq-clause-stop g c =
     let l = c.loop-rec in
     let rs = c.args.records.now in
-    let d = c.in_ok-doubled.doubled in
-    let found = c.in_ok-doubled.ensures.found in
+    let d = c.in_ok-duplicate.duplicate in
+    let found = c.in_ok-duplicate.ensures.found in
     let before = c.args.privates.now.items in
     let ps = l.privates.items in
     let rec = c.in-Some.rec in
@@ -55,14 +55,14 @@ returns-then-eq-clause-stop g c =
     let step = one (Allots c.args.slot c.args.next d before rs ps l.free) l.rec-iterator c.next.new.self rec r l.invariant c.in-Some.ensures.steps in
     let n = c.in-Some-words_of_private.words in
     let some = sym c.words_of_private.ensures ∙ c.in-Some-words_of_private.is in
-    rw c.stop_for.ensures (ap (option_map (λ (f : ℕ × Reason). in_record c.args.file c.args.slot f.0 f.1)) (duplicate_fault c.args.slot c.args.next d before rs ps l.free rec r step.0 found step.2 n some (is_doubled d rec (sym c.eq.ensures ∙ c.if-eq.true))))
+    rw c.stop_for.ensures (ap (option_map (λ (f : ℕ × Reason). in_record c.args.file c.args.slot f.0 f.1)) (duplicate_fault c.args.slot c.args.next d before rs ps l.free rec r step.0 found step.2 n some (is_duplicate d rec (sym c.eq.ensures ∙ c.if-eq.true))))
 
 pub returns-then-free-words-gt-MAX_NEXT_FREE-clause-stop : goal.returns-then-free-words-gt-MAX_NEXT_FREE-clause-stop
 returns-then-free-words-gt-MAX_NEXT_FREE-clause-stop g c =
     let l = c.loop-rec in
     let rs = c.args.records.now in
-    let d = c.in_ok-doubled.doubled in
-    let found = c.in_ok-doubled.ensures.found in
+    let d = c.in_ok-duplicate.duplicate in
+    let found = c.in_ok-duplicate.ensures.found in
     let before = c.args.privates.now.items in
     let ps = l.privates.items in
     let rec = c.in-Some.rec in
@@ -70,7 +70,7 @@ returns-then-free-words-gt-MAX_NEXT_FREE-clause-stop g c =
     let step = one (Allots c.args.slot c.args.next d before rs ps l.free) l.rec-iterator c.next.new.self rec r l.invariant c.in-Some.ensures.steps in
     let n = c.in-Some-words_of_private.words in
     let some = sym c.words_of_private.ensures ∙ c.in-Some-words_of_private.is in
-    let far = room_fault c.args.slot c.args.next d before rs ps l.free rec r step.0 found step.2 n some (not_doubled d rec (sym c.eq.ensures ∙ c.if-eq.false)) (omega (arith, c.if-free-words-gt-MAX_NEXT_FREE.true)) in
+    let far = room_fault c.args.slot c.args.next d before rs ps l.free rec r step.0 found step.2 n some (not_duplicate d rec (sym c.eq.ensures ∙ c.if-eq.false)) (omega (arith, c.if-free-words-gt-MAX_NEXT_FREE.true)) in
     rw c.stop_for-then-free-words-gt-MAX_NEXT_FREE.ensures (ap (option_map (λ (f : ℕ × Reason). in_record c.args.file c.args.slot f.0 f.1)) far)
 
 pub returns-in_err-push-clause-stop : goal.returns-in_err-push-clause-stop
@@ -84,8 +84,8 @@ pub loop-rec-preserved-in-Some-words_of_private : goal.loop-rec-preserved-in-Som
 loop-rec-preserved-in-Some-words_of_private g c =
     let l = c.loop-rec in
     let rs = c.args.records.now in
-    let d = c.in_ok-doubled.doubled in
-    let found = c.in_ok-doubled.ensures.found in
+    let d = c.in_ok-duplicate.duplicate in
+    let found = c.in_ok-duplicate.ensures.found in
     let before = c.args.privates.now.items in
     let ps = l.privates.items in
     let rec = c.in-Some.rec in
@@ -95,15 +95,15 @@ loop-rec-preserved-in-Some-words_of_private g c =
     let some = sym c.words_of_private.ensures ∙ c.in-Some-words_of_private.is in
     let rest = step.0 in
     let fits : l.free + n ≤ 32767 = omega (arith, c.if-free-words-gt-MAX_NEXT_FREE.false) in
-    let more = allot_more c.args.slot c.args.next d before rs ps l.free rec r step.0 found step.2 n some (not_doubled d rec (sym c.eq.ensures ∙ c.if-eq.false)) fits in
+    let more = allot_more c.args.slot c.args.next d before rs ps l.free rec r step.0 found step.2 n some (not_duplicate d rec (sym c.eq.ensures ∙ c.if-eq.false)) fits in
     (rec + 1, rest, step.1, subst (λ (qs : List Private). Allots c.args.slot c.args.next d before rs qs (l.free + n) (rec + 1) rest) (sym c.in_ok-push.ensures.items) more)
 
 pub loop-rec-preserved : goal.loop-rec-preserved
 loop-rec-preserved g c =
     let l = c.loop-rec in
     let rs = c.args.records.now in
-    let d = c.in_ok-doubled.doubled in
-    let found = c.in_ok-doubled.ensures.found in
+    let d = c.in_ok-duplicate.duplicate in
+    let found = c.in_ok-duplicate.ensures.found in
     let before = c.args.privates.now.items in
     let ps = l.privates.items in
     let rec = c.in-Some.rec in
@@ -114,7 +114,7 @@ loop-rec-preserved g c =
 pub returns : goal.returns
 returns g c =
     let l = c.loop-rec in
-    let end = none (Allots c.args.slot c.args.next c.in_ok-doubled.doubled c.args.privates.now.items c.args.records.now l.privates.items l.free) l.rec-iterator l.invariant c.in-None.ensures.steps.0 in
+    let end = none (Allots c.args.slot c.args.next c.in_ok-duplicate.duplicate c.args.privates.now.items c.args.records.now l.privates.items l.free) l.rec-iterator l.invariant c.in-None.ensures.steps.0 in
     record {
       privates = sym (append-nil l.privates.items) ∙ end.1.privates;
       end = omega (arith, end.1.words);

@@ -4,7 +4,7 @@ use Rattle.std.specs.Str.{bytes_eq}
 use Rattle.indexmap.proofs.CallerLemmas.{insert_entry-new}
 use Rattle.ps_linkinfo.specs.RecordCounts.{definitions_in}
 use Rattle.ps_resolve.specs.declared.definitions.Def.{Def}
-use Rattle.ps_resolve.proofs.Doubles.{Defines, again_first, definitions_counted, new_entries, new_first, no_definitions, none_entries, none_first, none_is, positive, some_there}
+use Rattle.ps_resolve.proofs.Duplicates.{Defines, again_first, definitions_counted, new_entries, new_first, no_definitions, none_entries, none_first, none_is, positive, some_there}
 use Rattle.std.specs.Option.{option_map}
 use Rattle.ps_words.specs.FaultPlaces.{in_record}
 use Rattle.ps_words.specs.declared.fault.Reason.TheVariants as reason

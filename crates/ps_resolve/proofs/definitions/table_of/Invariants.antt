@@ -1,7 +1,7 @@
 use Rattle.std.proofs.Common.{◌≡◌}
 use Rattle.indexmap.specs.IndexMap.{hasher_of}
 use Rattle.ps_linkinfo.specs.RecordCounts.{digest_of}
-use Rattle.ps_resolve.proofs.Doubles.{Defines}
+use Rattle.ps_resolve.proofs.Duplicates.{Defines}
 use Rattle.ps_resolve.proofs.Numbers.{IsLeft}
 use Rattle.ps_resolve.proofs.definitions.table_of.Given as goal
 

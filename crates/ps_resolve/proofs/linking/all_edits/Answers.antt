@@ -14,7 +14,7 @@ use Rattle.ps_resolve.specs.Sources.{Segment}
 use Rattle.ps_resolve.specs.Views.{segment_of, IsSound, IsLike}
 use Rattle.ps_resolve.specs.declared.reading.segment.Segment.{Segment as SegmentView}
 use Rattle.ps_resolve.proofs.AllSegments.{room_at, words_on, first_on, links_on, none_left}
-use Rattle.ps_resolve.proofs.ReadingRows.{none_mapped}
+use Rattle.ps_resolve.proofs.FirstSlots.{none_mapped}
 use Rattle.ps_resolve.proofs.Segs.{at_map, map_push}
 use Rattle.ps_resolve.proofs.Sharing.{all_taken, have_targets}
 use Rattle.ps_resolve.proofs.linking.all_edits.Goals as goal

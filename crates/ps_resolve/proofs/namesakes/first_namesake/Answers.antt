@@ -3,7 +3,7 @@ use Rattle.std.specs.Prelude.{if◌then◌else◌}
 use Rattle.std.specs.List.{list_any}
 use Rattle.std.specs.Str.{bytes_eq}
 use Rattle.ps_linkinfo.specs.RecordCounts.{is_private_reference}
-use Rattle.ps_resolve.proofs.EarlierNames.{Seeks, newly, not_new, seek_end, seek_found, seek_more, seek_on, seeks}
+use Rattle.ps_resolve.proofs.EarlierNames.{Scans, newly, not_new, scan_end, scan_found, scan_more, scan_on, scans}
 use Rattle.ps_resolve.proofs.Numbers.{one, none}
 use Rattle.ps_resolve.proofs.namesakes.first_namesake.Goals as goal
 use Rattle.ps_resolve.proofs.namesakes.first_namesake.Goals.{else-is_private-via-then-is_private+in_ok-insert+else-not-branch, else-is_private-via-else-is_private}
@@ -12,7 +12,7 @@ pub loop-rec-init : goal.loop-rec-init
 loop-rec-init g c =
     let test = is_private_reference in
     let all = c.args.records.now in
-    (0, all, c.into_iter-rec-iterator.ensures.into_iter_gives ∙ c.records-rec-items.ensures, rw c.in_ok-names.ensures.empty (seeks test all))
+    (0, all, c.into_iter-rec-iterator.ensures.into_iter_gives ∙ c.records-rec-items.ensures, rw c.in_ok-names.ensures.empty (scans test all))
 
 pub returns-then-not-branch-clause-found : goal.returns-then-not-branch-clause-found
 returns-then-not-branch-clause-found g c =
@@ -22,9 +22,9 @@ returns-then-not-branch-clause-found g c =
     let seen = l.names.keys in
     let rec = c.in-Some.rec in
     let r = c.in-Some.record in
-    let step = one (Seeks test all seen) l.rec-iterator c.next.new.self rec r l.invariant c.in-Some.ensures.steps in
+    let step = one (Scans test all seen) l.rec-iterator c.next.new.self rec r l.invariant c.in-Some.ensures.steps in
     let is = sym c.is_private.ensures ∙ c.if-is_private.true in
-    seek_found test all seen rec r step.0 step.2 is (not_new c.in_ok-insert.field-0 (list_any (bytes_eq r.name) seen) c.if-not-branch.true c.in_ok-insert.ensures.added)
+    scan_found test all seen rec r step.0 step.2 is (not_new c.in_ok-insert.field-0 (list_any (bytes_eq r.name) seen) c.if-not-branch.true c.in_ok-insert.ensures.added)
 
 pub loop-rec-preserved : goal.loop-rec-preserved
 loop-rec-preserved g c =
@@ -34,23 +34,23 @@ loop-rec-preserved g c =
     let seen = l.names.keys in
     let rec = c.in-Some.rec in
     let r = c.in-Some.record in
-    let step = one (Seeks test all seen) l.rec-iterator c.next.new.self rec r l.invariant c.in-Some.ensures.steps in
+    let step = one (Scans test all seen) l.rec-iterator c.next.new.self rec r l.invariant c.in-Some.ensures.steps in
     let rest = step.0 in
     elim c.else-is_private.branch [
       | else-is_private-via-then-is_private+in_ok-insert+else-not-branch w ↦
           let is = sym c.is_private.ensures ∙ w.if-is_private.true in
           let new = newly w.in_ok-insert.field-0 (list_any (bytes_eq r.name) seen) w.if-not-branch.false w.in_ok-insert.ensures.added in
           let keys : c.else-is_private.names.keys ≡ seen ++ r.name ∷ [] = ap (λ v. v.keys) w.names-is ∙ w.in_ok-insert.ensures.keys ∙ ap (λ b. if b then seen else seen ++ r.name ∷ []) new in
-          (rec + 1, rest, step.1, subst (λ (ks : List (List ℕ)). Seeks test all ks (rec + 1) rest) (sym keys) (seek_more test all seen rec r rest step.2 is new))
+          (rec + 1, rest, step.1, subst (λ (ks : List (List ℕ)). Scans test all ks (rec + 1) rest) (sym keys) (scan_more test all seen rec r rest step.2 is new))
       | else-is_private-via-else-is_private w ↦
           let no = sym c.is_private.ensures ∙ w.if-is_private.false in
           let keys : c.else-is_private.names.keys ≡ seen = ap (λ v. v.keys) w.names-is in
-          (rec + 1, rest, step.1, subst (λ (ks : List (List ℕ)). Seeks test all ks (rec + 1) rest) (sym keys) (seek_on test all seen rec r rest step.2 no))
+          (rec + 1, rest, step.1, subst (λ (ks : List (List ℕ)). Scans test all ks (rec + 1) rest) (sym keys) (scan_on test all seen rec r rest step.2 no))
     ]
 
 pub returns-clause-found : goal.returns-clause-found
 returns-clause-found g c =
     let test = is_private_reference in
     let l = c.loop-rec in
-    let end = none (Seeks test c.args.records.now l.names.keys) l.rec-iterator l.invariant c.in-None.ensures.steps.0 in
-    seek_end test c.args.records.now l.names.keys end.0 end.1
+    let end = none (Scans test c.args.records.now l.names.keys) l.rec-iterator l.invariant c.in-None.ensures.steps.0 in
+    scan_end test c.args.records.now l.names.keys end.0 end.1

@@ -10,7 +10,7 @@ use Rattle.ps_resolve.proofs.ReadingLibraries.{files}
 use Rattle.std.specs.Option.{option_or}
 use Rattle.ps_resolve.specs.Faults.{slots_fault, no_host_fault, libraries_fault, sources_fault}
 use Rattle.ps_resolve.specs.AllFaults.{reading_rest}
-use Rattle.ps_resolve.proofs.ReadingRows.{neither_first, neither_second}
+use Rattle.ps_resolve.proofs.FirstSlots.{neither_first, neither_second}
 use Rattle.ps_resolve.proofs.ReadingHosts.{host_refused, host_whole, host_is, host_read, rest_of}
 use Rattle.ps_resolve.proofs.ReadingKnown.{ascend, host_there, one_host}
 use Rattle.ps_resolve.proofs.Sharing.{all_sound, read_alike}

@@ -18,12 +18,12 @@ use Rattle.ps_resolve.proofs.reading.added.read_added.Goals as goal
 
 pub entries_reason-requires-clause-entry : goal.entries_reason-requires-clause-entry
 entries_reason-requires-clause-entry c =
-    ap (λ (o : Order). find (is_named o c.args.sought.now.name c.in-Some.unit.dict.file) slots) c.in-Some.ensures.order ∙ c.in-Some.ensures.entry
+    ap (λ (o : Order). find (is_named o c.args.requested.now.name c.in-Some.unit.dict.file) slots) c.in-Some.ensures.order ∙ c.in-Some.ensures.entry
 
 pub read_segment-requires-clause-kind : goal.read_segment-requires-clause-kind
 read_segment-requires-clause-kind c =
     let unit = c.in-Some.unit in
-    let name = c.args.sought.now.name in
+    let name = c.args.requested.now.name in
     let entry = ap (λ (o : Order). find (is_named o name unit.dict.file) slots) c.in-Some.ensures.order ∙ c.in-Some.ensures.entry in
     λ linked. ap kind_needs_linking (kind_is unit.dict.order name unit.dict.file unit.index (sym c.entries_reason.ensures ∙ c.in-None-entries_reason.is) entry)
 
@@ -31,13 +31,13 @@ pub read_segment-requires-clause-known : goal.read_segment-requires-clause-known
 read_segment-requires-clause-known c =
     let unit = c.in-Some.unit in
     let libs = files c.args.libs.now in
-    let file = chosen_file c.args.order c.args.sought.now.name libs unit.library unit.dict.file [] c.in-Some.ensures.library in
+    let file = chosen_file c.args.order c.args.requested.now.name libs unit.library unit.dict.file [] c.in-Some.ensures.library in
     c.known_records.ensures [] libs file (subst (λ (o : Order). All (IsRead o [] libs) c.args.known.now) (sym c.in-Some.ensures.order) (c.requires.read []))
 
 pub returns-in-Some-entries_reason-clause-fault : goal.returns-in-Some-entries_reason-clause-fault
 returns-in-Some-entries_reason-clause-fault c = λ host.
     let unit = c.in-Some.unit in
-    let g = c.args.sought.now in
+    let g = c.args.requested.now in
     let why = ap (λ (o : Order). entries_reason o g.name unit.dict.file) (sym c.in-Some.ensures.order) ∙ (sym c.entries_reason.ensures ∙ c.in-Some-entries_reason.is) in
     ap (λ (f : Fault). Some f) c.in_slot.ensures
     ∙ sym (placed_refused c.args.order host (files c.args.libs.now) g c.args.slot unit.library unit.dict.file (sym c.in-Some.ensures.missing) c.in-Some.ensures.library c.in-Some-entries_reason.reason why)
@@ -45,7 +45,7 @@ returns-in-Some-entries_reason-clause-fault c = λ host.
 pub returns-in_err-segment-in-None-entries_reason : goal.returns-in_err-segment-in-None-entries_reason
 returns-in_err-segment-in-None-entries_reason c =
     let unit = c.in-Some.unit in
-    let g = c.args.sought.now in
+    let g = c.args.requested.now in
     let libs = files c.args.libs.now in
     let why = ap (λ (o : Order). entries_reason o g.name unit.dict.file) (sym c.in-Some.ensures.order) ∙ (sym c.entries_reason.ensures ∙ c.in-None-entries_reason.is) in
     let file = λ (host : List ℕ). chosen_file c.args.order g.name libs unit.library unit.dict.file host c.in-Some.ensures.library in
@@ -61,7 +61,7 @@ returns-in_err-segment-in-None-entries_reason c =
 pub returns-in_ok-segment-in-None-entries_reason : goal.returns-in_ok-segment-in-None-entries_reason
 returns-in_ok-segment-in-None-entries_reason c =
     let unit = c.in-Some.unit in
-    let g = c.args.sought.now in
+    let g = c.args.requested.now in
     let libs = files c.args.libs.now in
     let why = ap (λ (o : Order). entries_reason o g.name unit.dict.file) (sym c.in-Some.ensures.order) ∙ (sym c.entries_reason.ensures ∙ c.in-None-entries_reason.is) in
     let file = λ (host : List ℕ). chosen_file c.args.order g.name libs unit.library unit.dict.file host c.in-Some.ensures.library in

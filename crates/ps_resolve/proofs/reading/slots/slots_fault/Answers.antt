@@ -4,7 +4,7 @@ use Rattle.ps_words.specs.FaultPlaces.{in_slot}
 use Rattle.ps_words.specs.declared.fault.Reason.{Reason}
 use Rattle.ps_words.specs.declared.fault.Fault.{Fault}
 use Rattle.ps_resolve.specs.Faults.{slot_reason, slots_fault}
-use Rattle.ps_resolve.proofs.ReadingRows.{first_here, first_later}
+use Rattle.ps_resolve.proofs.FirstSlots.{first_here, first_later}
 use Rattle.ps_resolve.proofs.reading.slots.slots_fault.Goals as goal
 
 pub loop-slot-init : goal.loop-slot-init

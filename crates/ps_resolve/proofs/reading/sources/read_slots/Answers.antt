@@ -5,7 +5,7 @@ use Rattle.ps_resolve.specs.Sources.{own_segment, own_segments}
 use Rattle.ps_resolve.specs.Faults.{source_fault, sources_fault}
 use Rattle.ps_resolve.specs.Views.{segment_of, IsRead}
 use Rattle.ps_resolve.proofs.ReadingLibraries.{files}
-use Rattle.ps_resolve.proofs.ReadingRows.{first_here, first_later}
+use Rattle.ps_resolve.proofs.FirstSlots.{first_here, first_later}
 use Rattle.ps_resolve.proofs.ReadingSources.{all_with, kept_on, few_more}
 use Rattle.ps_resolve.proofs.reading.sources.read_slots.Goals as goal
 

@@ -3,7 +3,7 @@ use Rattle.std.specs.List.{find}
 use Rattle.ps_codefile.specs.Dictionary.{OpenedFile, slots}
 use Rattle.ps_resolve.specs.Sources.{is_named, has_entry}
 use Rattle.ps_resolve.specs.Faults.{libraries_fault}
-use Rattle.ps_resolve.proofs.ReadingRows.{any_found}
+use Rattle.ps_resolve.proofs.FirstSlots.{any_found}
 use Rattle.ps_resolve.proofs.ReadingLibraries.{no_file, no_reason, no_more, chosen_here, chosen_later}
 use Rattle.ps_resolve.proofs.reading.units.chosen_library.Goals as goal
 

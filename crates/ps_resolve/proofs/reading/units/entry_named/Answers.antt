@@ -1,6 +1,6 @@
 use Rattle.std.proofs.Common.{◌∙◌, refl, sym}
 use Rattle.ps_resolve.specs.Sources.{is_named}
-use Rattle.ps_resolve.proofs.ReadingRows.{found_here, found_later, found_none}
+use Rattle.ps_resolve.proofs.FirstSlots.{found_here, found_later, found_none}
 use Rattle.ps_resolve.proofs.reading.units.entry_named.Goals as goal
 
 pub loop-index-init : goal.loop-index-init

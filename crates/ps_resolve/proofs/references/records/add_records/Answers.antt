@@ -17,8 +17,8 @@ use Rattle.ps_resolve.specs.declared.reading.segment.Segment.{Segment as Segment
 use Rattle.ps_resolve.proofs.Numbers.{one, none}
 use Rattle.ps_resolve.proofs.Once.{map_none}
 use Rattle.ps_resolve.proofs.Takes.{first_taken}
-use Rattle.ps_resolve.proofs.Rows.{Links, no_links, record_refused, references_refused, record_stands, edits_more, words_are}
-use Rattle.ps_resolve.proofs.Sharing.{of_row, no_references}
+use Rattle.ps_resolve.proofs.NextRecords.{Links, no_links, record_refused, references_refused, record_stands, edits_more, words_are}
+use Rattle.ps_resolve.proofs.Sharing.{of_shared, no_references}
 use Rattle.ps_resolve.proofs.references.records.add_records.Goals as goal
 
 -- the first fault of the records of a segment with these tables
@@ -45,8 +45,8 @@ returns-then-is_resolved g c =
     let v : SegmentView = c.args.segment.now in
     let es = c.args.edits.now.items in
     let yes = c.if-is_resolved.true in
-    let has = c.is_resolved.ensures.row yes in
-    let named : HaveTargets known v.records = of_row (λ (rs : List Record). HaveTargets known rs) c.args.earlier.now v has.0 c.requires.linked c.requires.next.alike c.requires.next.named has.1 in
+    let has = c.is_resolved.ensures.records yes in
+    let named : HaveTargets known v.records = of_shared (λ (rs : List Record). HaveTargets known rs) c.args.earlier.now v has.0 c.requires.linked c.requires.next.alike c.requires.next.named has.1 in
     let no = no_references known (is_reserved c.args.link.now.order v.code.now) v.code.now v.records 0 c.args.free [] named (c.is_resolved.ensures.references yes) (c.is_resolved.ensures.privates yes) in
     record {
       edits = sym (append-nil es) ∙ ap (λ (ds : List Edit). es ++ ds) (sym no.edits);

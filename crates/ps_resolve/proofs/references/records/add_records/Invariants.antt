@@ -1,5 +1,5 @@
 use Rattle.ps_resolve.proofs.Numbers.{IsLeft}
-use Rattle.ps_resolve.proofs.Rows.{Links}
+use Rattle.ps_resolve.proofs.NextRecords.{Links}
 use Rattle.ps_resolve.proofs.references.records.add_records.Given as goal
 
 -- the edits so far and those of what is left are all; so is the first fault of what is left

@@ -1,8 +1,8 @@
 use Rattle.std.proofs.Common.{◌∙◌, sym}
-use Rattle.ps_resolve.specs.Views.{HasRow}
+use Rattle.ps_resolve.specs.Views.{HasRecordsAt}
 use Rattle.ps_resolve.proofs.Sharing.{found}
 use Rattle.ps_resolve.proofs.reading.segment.Segment.shares_with.Goals as goal
 
-pub returns-then-needs_linking-clause-row : goal.returns-then-needs_linking-clause-row
-returns-then-needs_linking-clause-row c = λ is.
-    found (HasRow c.args.segments.now c.args.self.now.file c.args.self.now.block) c.row_of.result (sym c.is_some.ensures ∙ is) c.row_of.ensures.row
+pub returns-then-needs_linking-clause-records : goal.returns-then-needs_linking-clause-records
+returns-then-needs_linking-clause-records c = λ is.
+    found (HasRecordsAt c.args.segments.now c.args.self.now.file c.args.self.now.block) c.records_at.result (sym c.is_some.ensures ∙ is) c.records_at.ensures.records

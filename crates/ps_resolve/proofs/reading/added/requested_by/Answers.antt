@@ -8,12 +8,12 @@ use Rattle.ps_resolve.specs.declared.reading.added.UnitReference.{UnitReference}
 use Rattle.ps_resolve.specs.declared.reading.segment.Segment.{Segment as SegmentView}
 use Rattle.ps_resolve.proofs.Adding.{kept_segment, few_kept}
 use Rattle.ps_resolve.proofs.Segs.{drop_at}
-use Rattle.ps_resolve.proofs.Seeking.{had_here, had_still}
+use Rattle.ps_resolve.proofs.Requesting.{known_here, still_known}
 use Rattle.ps_resolve.proofs.Sharing.{all_taken}
-use Rattle.ps_resolve.proofs.reading.added.sought_by.Goals as goal
+use Rattle.ps_resolve.proofs.reading.added.requested_by.Goals as goal
 
-pub seek_unseen-requires-clause-alike : goal.seek_unseen-requires-clause-alike
-seek_unseen-requires-clause-alike c =
+pub enqueue_unshared-requires-clause-alike : goal.enqueue_unshared-requires-clause-alike
+enqueue_unshared-requires-clause-alike c =
     let own : List SegmentView = c.args.own.now in
     let i : ℕ = c.loop-index.index in
     let lt : i < length own = omega arith in
@@ -33,10 +33,10 @@ loop-index-preserved c =
     let all : List UnitReference = all_unit_references (map segment_of (drop i own)) in
     let split : all ≡ one ++ rest = ap (λ (xs : List SegmentView). all_unit_references (map segment_of xs)) (drop_at own i v lt c.index-own-index.is) in
     record {
-      row = kept_segment units c.loop-index.row.items c.seek_unseen.new.row.items one rest all split c.seek_unseen.ensures ∙ c.loop-index.invariant.row;
-      few = rw c.seek_unseen.ensures (few_kept (requested_from units c.loop-index.row.items one));
-      had = all_taken (λ (q : SegmentView). AreAlreadyKnown units c.seek_unseen.new.row.items q.records) i own v lt c.index-own-index.is
-          (All-weaker (λ (q : SegmentView). AreAlreadyKnown units c.loop-index.row.items q.records) (λ (q : SegmentView). AreAlreadyKnown units c.seek_unseen.new.row.items q.records)
-          (λ q h. had_still units c.loop-index.row.items one c.seek_unseen.new.row.items q.records c.seek_unseen.ensures h) (take i own) c.loop-index.invariant.had)
-          (had_here units s.file s.slot s.records c.loop-index.row.items c.seek_unseen.new.row.items c.seek_unseen.ensures);
+      queue = kept_segment units c.loop-index.queue.items c.enqueue_unshared.new.queue.items one rest all split c.enqueue_unshared.ensures ∙ c.loop-index.invariant.queue;
+      few = rw c.enqueue_unshared.ensures (few_kept (requested_from units c.loop-index.queue.items one));
+      known = all_taken (λ (q : SegmentView). AreAlreadyKnown units c.enqueue_unshared.new.queue.items q.records) i own v lt c.index-own-index.is
+          (All-weaker (λ (q : SegmentView). AreAlreadyKnown units c.loop-index.queue.items q.records) (λ (q : SegmentView). AreAlreadyKnown units c.enqueue_unshared.new.queue.items q.records)
+          (λ q h. still_known units c.loop-index.queue.items one c.enqueue_unshared.new.queue.items q.records c.enqueue_unshared.ensures h) (take i own) c.loop-index.invariant.known)
+          (known_here units s.file s.slot s.records c.loop-index.queue.items c.enqueue_unshared.new.queue.items c.enqueue_unshared.ensures);
     }

@@ -60,9 +60,9 @@ definitions_counted (r ∷ rs) = at (definitions_counted rs) (def_in r.body) ref
     at rest (Some d) h = let a = one true (defines_is r.body ∙ ap is_some h) in let b = ap length (new_entries 0 [] r rs d h) in omega (arith, rest)
 
 -- records that define nothing define no name again
-none_doubled : (rs : List Record) (n : ℕ) (ds : List (List ℕ × Def)) → definitions rs ≡ [] → first_duplicate_from n ds rs ≡ None
-none_doubled [] n ds h = refl
-none_doubled (r ∷ rs) n ds h = at (λ e. none_doubled rs (n + 1) ds e) (def_in r.body) refl
+none_duplicate : (rs : List Record) (n : ℕ) (ds : List (List ℕ × Def)) → definitions rs ≡ [] → first_duplicate_from n ds rs ≡ None
+none_duplicate [] n ds h = refl
+none_duplicate (r ∷ rs) n ds h = at (λ e. none_duplicate rs (n + 1) ds e) (def_in r.body) refl
   where
     at : (definitions rs ≡ [] → first_duplicate_from (n + 1) ds rs ≡ None) → (o : Option Def) → def_in r.body ≡ o → first_duplicate_from n ds (r ∷ rs) ≡ None
     at rest None e = none_first n ds r rs e ∙ rest (sym (none_entries 0 [] r rs e) ∙ h)
@@ -74,7 +74,7 @@ positive (suc n) h = omega arith
 
 -- where nothing defines a name, there are no definitions, and none is duplicate
 pub no_definitions : (rs : List Record) → definitions_in rs ≡ 0 → (definitions rs ≡ []) × (first_duplicate rs ≡ None)
-no_definitions rs h = (none, none_doubled rs 0 [] none)
+no_definitions rs h = (none, none_duplicate rs 0 [] none)
   where
     empty : (ds : List (List ℕ × Def)) → length ds ≡ 0 → ds ≡ []
     empty [] k = refl

@@ -1,4 +1,4 @@
--- Just one row of names and one list of segments have what is said of the units that are added.
+-- Just one queue of names and one list of segments have what is said of the units that are added.
 use Rattle.std.proofs.Common.{◌≡◌, ℕ, zero, suc, ◌+◌, ◌<◌, List, [], ◌∷◌, ◌++◌, length, take, Option, Some, None, Ok, Result, Bool, refl, sym, ap, subst, ◌∙◌, inl, inr, arith}
 use Rattle.std.specs.List.{slice_get}
 use Rattle.std.proofs.lemmas.Bool.{cases_lt}
@@ -85,7 +85,7 @@ same_reference segs i j g h a b same =
     segment : a.0.0 ≡ b.0.0
     segment = same_Some a.0.0 b.0.0 (sym a.0.1 ∙ ap (λ (n : ℕ). slice_get segs n) place.0 ∙ b.0.1)
 
--- 3. the row
+-- 3. the queue
 before_at : {a b c d p q r s : ℕ} → a ≡ p → b ≡ q → c ≡ r → d ≡ s → Before (a ∷ b ∷ []) (c ∷ d ∷ []) → Before (p ∷ q ∷ []) (r ∷ s ∷ [])
 before_at {a} {b} {c} {d} {p} {q} {r} {s} e f g h t =
     subst (λ (n : ℕ). Before (n ∷ q ∷ []) (r ∷ s ∷ [])) e (subst (λ (n : ℕ). Before (a ∷ n ∷ []) (r ∷ s ∷ [])) f (subst (λ (n : ℕ). Before (a ∷ b ∷ []) (n ∷ s ∷ [])) g (subst (λ (n : ℕ). Before (a ∷ b ∷ []) (c ∷ n ∷ [])) h t)))
@@ -101,12 +101,12 @@ not_both a b c d (inr h) (inr k) = records h.1 k.1
     records (inl x) (inr y) = y.1
     records (inr x) y = x.1
 
-module _ (order : Order) (host : List ℕ) (libs : List (List ℕ)) (row other : List UnitReference) (segs others : List Segment) (A : AddedUnits order host libs row segs) (B : AddedUnits order host libs other others) where
+module _ (order : Order) (host : List ℕ) (libs : List (List ℕ)) (queue other : List UnitReference) (segs others : List Segment) (A : AddedUnits order host libs queue segs) (B : AddedUnits order host libs other others) where
   abbrev Own : List Segment
   Own = own_segments order host libs
 
   -- where both are the same up to a place, the name that one has there is that of the other
-  module _ (k : ℕ) (same_segs : Agree k segs others) (same_row : Agree k row other) (g : UnitReference) (at : slice_get row k ≡ Some g) where
+  module _ (k : ℕ) (same_segs : Agree k segs others) (same_queue : Agree k queue other) (g : UnitReference) (at : slice_get queue k ≡ Some g) where
     abbrev i : ℕ
     i = (A.requested k g at).0.0
 
@@ -132,7 +132,7 @@ module _ (order : Order) (host : List ℕ) (libs : List (List ℕ)) (row other :
         back : IsGiver (Own ++ segs) j y
         back = giver_moves (Own ++ others) (Own ++ segs) (length Own + k) j y (λ n l. sym (agree_behind Own segs others k same_segs n l)) (B.requested k y first).0.1 giver
 
-        crossed : (m : ℕ) (z : UnitReference) → k < m → slice_get row m ≡ Some z → z.name ≡ y.name → ⊥
+        crossed : (m : ℕ) (z : UnitReference) → k < m → slice_get queue m ≡ Some z → z.name ≡ y.name → ⊥
         crossed m z l e n =
             let p = A.ordered k m g z l at e in
             let q = B.ordered k x y h later first is in
@@ -142,13 +142,13 @@ module _ (order : Order) (host : List ℕ) (libs : List (List ℕ)) (row other :
             let d = same_place (Own ++ others) q.1 i h g q.3 there name in
             not_both i g.rec j y.rec (before_at a.0 a.1 b.0 b.1 p.4) (before_at c.0 c.1 d.0 d.1 q.4)
 
-        at_place : (m : ℕ) (z : UnitReference) → slice_get row m ≡ Some z → z.name ≡ y.name → ⊥
+        at_place : (m : ℕ) (z : UnitReference) → slice_get queue m ≡ Some z → z.name ≡ y.name → ⊥
         at_place m z e n = elim (cases_lt m k) [
-          | inl l ↦ (let a = B.once m k z y (sym (same_row m l) ∙ e) first n in omega (arith, a, l))
+          | inl l ↦ (let a = B.once m k z y (sym (same_queue m l) ∙ e) first n in omega (arith, a, l))
           | inr l ↦ elim (cases_lt k m) [
             | inl u ↦ crossed m z u e n
             | inr u ↦
-                let one : z ≡ g = same_Some z g (sym e ∙ ap (λ (o : ℕ). slice_get row o) (omega (arith, l, u)) ∙ at) in
+                let one : z ≡ g = same_Some z g (sym e ∙ ap (λ (o : ℕ). slice_get queue o) (omega (arith, l, u)) ∙ at) in
                 let a = B.once k x y h first is (sym n ∙ ap (λ (r : UnitReference). r.name) one ∙ sym name) in
                 omega (arith, a, later)
           ]
@@ -156,7 +156,7 @@ module _ (order : Order) (host : List ℕ) (libs : List (List ℕ)) (row other :
 
     found : (x : ℕ) (h : UnitReference) → slice_get other x ≡ Some h → h.name ≡ g.name → slice_get other k ≡ Some g
     found x h is name = elim (cases_lt x k) [
-      | inl l ↦ (let a = A.once x k h g (same_row x l ∙ is) at name in absurd (omega (arith, a, l)))
+      | inl l ↦ (let a = A.once x k h g (same_queue x l ∙ is) at name in absurd (omega (arith, a, l)))
       | inr l ↦ elim (cases_lt k x) [
         | inl u ↦ absurd (behind u (slice_get other k) refl)
         | inr u ↦
