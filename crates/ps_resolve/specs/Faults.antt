@@ -20,7 +20,7 @@ use Rattle.ps_codefile.specs.declared.entry.Entry.{Entry}
 use Rattle.ps_linkinfo.specs.Records.{reading}
 use Rattle.ps_resolve.specs.Searches.{first_of, fault_if}
 use Rattle.ps_codefile.specs.Roles.{needs_linking, is_host, is_unit, is_wanted}
-use Rattle.ps_resolve.specs.Sources.{Segment, source_of, file_at, is_named, chosen_library, host_of, host_records}
+use Rattle.ps_resolve.specs.Sources.{Segment, source_of, file_at, is_named, chosen_library, library_file, host_of, host_records}
 use Rattle.ps_resolve.specs.Symbols.{first_duplicate}
 use Rattle.ps_resolve.specs.References.{Known, records_fault}
 use Rattle.ps_resolve.specs.Linking.{known_of, grown_data_size}
@@ -70,11 +70,11 @@ entries_reason order name lib =
 -- the fault of a wanted unit: no library has its name, or the library's entries of it are refused
 abbrev pub unit_fault : Order → List ℕ → List (List ℕ) → ℕ → Option Fault
 unit_fault order name libs slot =
-    option_map_or (λ lib. option_map (in_slot (lib.0 + 1) slot) (entries_reason order name lib.1)) (chosen_library order name libs) (Some (in_slot 0 slot reason.MissingUnit))
+    option_map_or (λ lib. option_map (in_slot (library_file lib.0) slot) (entries_reason order name lib.1)) (chosen_library order name libs) (Some (in_slot 0 slot reason.MissingUnit))
 
 -- the first fault of the chosen library's entries of a name, where there is such a library
 abbrev pub entry_fault : Order → List ℕ → List (List ℕ) → ℕ → Option Fault
-entry_fault order name libs slot = option_and_then (λ lib. option_map (in_slot (lib.0 + 1) slot) (entries_reason order name lib.1)) (chosen_library order name libs)
+entry_fault order name libs slot = option_and_then (λ lib. option_map (in_slot (library_file lib.0) slot) (entries_reason order name lib.1)) (chosen_library order name libs)
 
 -- the fault of a wanted unit, if the slot wants one
 abbrev pub wanted_fault : Order → List ℕ → List (List ℕ) → ℕ → Role → Option Fault

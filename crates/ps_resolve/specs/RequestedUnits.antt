@@ -15,7 +15,7 @@ use Rattle.ps_linkinfo.specs.Records.{reading}
 use Rattle.ps_linkinfo.specs.declared.record.LinkRecord.{LinkRecord as Record}
 use Rattle.ps_resolve.specs.First.{Before}
 use Rattle.ps_codefile.specs.Roles.{is_unit}
-use Rattle.ps_resolve.specs.Sources.{Segment, order_of, own_segments}
+use Rattle.ps_resolve.specs.Sources.{Segment, order_of, own_segments, library_file}
 use Rattle.ps_resolve.specs.declared.reading.added.UnitReference.{UnitReference}
 
 -- record `rec` of the i-th segment is a UNITREF of this name
@@ -44,7 +44,7 @@ abbrev pub IsOfFirstLibrary : Order → List (List ℕ) → Segment → Type 0
 IsOfFirstLibrary order libs s =
     SomeItem libs (λ k lib.
     ((lesser : ℕ) (other : List ℕ) → lesser < k → slice_get libs lesser ≡ Some other → HasEntry order s.name other → ⊥)
-    × (s.file ≡ k + 1) × (s.index < 16) × IsNamed order s.name lib s.index
+    × (s.file ≡ library_file k) × (s.index < 16) × IsNamed order s.name lib s.index
     × (code_of lib (entry_at order lib s.index) ≡ Ok s.code)
     × (s.records ≡ (reading order (information_of lib (entry_at order lib s.index))).0))
 

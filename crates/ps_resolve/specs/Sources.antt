@@ -43,10 +43,14 @@ has_entry order name file = list_any (is_named order name file) slots
 abbrev pub chosen_library : Order → List ℕ → List (List ℕ) → Option (ℕ × List ℕ)
 chosen_library order name libs = find (λ lib. has_entry order name lib.1) (enumerate_from 0 libs)
 
+-- the number of a library's file, where the library has this number from 0: file 0 is the host
+abbrev pub library_file : ℕ → ℕ
+library_file library = library + 1
+
 -- the first such entry of the first such library: the number of its file, and its slot there
 abbrev pub unit_source : Order → List ℕ → List (List ℕ) → Option (ℕ × ℕ)
 unit_source order name libs =
-    option_and_then (λ lib. option_map (λ i. (lib.0 + 1, i)) (find (is_named order name lib.1) slots)) (chosen_library order name libs)
+    option_and_then (λ lib. option_map (λ i. (library_file lib.0, i)) (find (is_named order name lib.1) slots)) (chosen_library order name libs)
 
 -- the file, 0 for the host and k for the k-th library, and the entry there that a slot's code comes
 -- from

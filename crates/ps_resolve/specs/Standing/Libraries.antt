@@ -1,12 +1,13 @@
 -- Faults of a library file by itself.
 -- Source: this project's profile.
-use Rattle.std.specs.Prelude.{◌≡◌, ◌≢◌, ℕ, ◌+◌, ◌<◌, ◌≤◌, List, length}
+use Rattle.std.specs.Prelude.{◌≡◌, ◌≢◌, ℕ, ◌<◌, ◌≤◌, List, length}
 use Rattle.ps_codefile.specs.Dictionary.{Ordered, Mixed, file_order}
 use Rattle.ps_words.specs.FaultPlaces.{in_file}
 use Rattle.ps_words.specs.declared.order.Order.{Order}
 use Rattle.ps_words.specs.declared.fault.Reason.{Reason}
 use Rattle.ps_words.specs.declared.fault.Fault.{Fault}
 use Rattle.ps_words.specs.declared.fault.Reason.TheVariants as reason
+use Rattle.ps_resolve.specs.Sources.{library_file}
 use Rattle.ps_resolve.specs.Standing.Phrases.{Because, SomeItem}
 
 -- The library is shorter than 512 bytes, or the kinds of its entries fit no byte order, or the
@@ -19,4 +20,4 @@ LibraryHas order lib other = ⊥
 
 -- a fault of a library file, reported with its number, from 1, and without a slot
 abbrev pub InLibraries : Order → List (List ℕ) → Fault → Type 0
-InLibraries order libs f = SomeItem libs (λ k lib. Because (in_file (k + 1)) (LibraryHas order lib) f)
+InLibraries order libs f = SomeItem libs (λ k lib. Because (in_file (library_file k)) (LibraryHas order lib) f)

@@ -9,7 +9,7 @@ use Rattle.ps_codefile.specs.declared.entry.Role.{Role}
 use Rattle.ps_linkinfo.specs.Records.{Stops}
 use Rattle.ps_linkinfo.specs.declared.record.LinkRecord.{LinkRecord as Record}
 use Rattle.ps_codefile.specs.Roles.{needs_linking, is_host}
-use Rattle.ps_resolve.specs.Sources.{source_of, file_at}
+use Rattle.ps_resolve.specs.Sources.{source_of, file_at, library_file}
 use Rattle.ps_words.specs.FaultPlaces.{in_slot, in_record}
 use Rattle.ps_words.specs.declared.order.Order.{Order}
 use Rattle.ps_words.specs.declared.fault.Reason.{Reason}
@@ -43,7 +43,7 @@ abbrev pub EntryFault : Order → List ℕ → List (List ℕ) → ℕ → Fault
 EntryFault order name libs slot f =
     SomeItem libs (λ k lib.
     (HasEntry order name lib × ((lesser : ℕ) (other : List ℕ) → lesser < k → slice_get libs lesser ≡ Some other → HasEntry order name other → ⊥))
-    × Because (in_slot (k + 1) slot) (EntriesHave order name lib) f)
+    × Because (in_slot (library_file k) slot) (EntriesHave order name lib) f)
 
 -- what is wrong with the source of a wanted unit: no library has an entry of its name, or the first
 -- that has one has a fault there

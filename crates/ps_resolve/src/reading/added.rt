@@ -13,7 +13,7 @@ ghost use Rattle.ps_resolve.specs.Views.{segment_of, IsRead, IsLike, AreAlike};
 
 use crate::linkage::SegmentPlace;
 use crate::reading::segment::Segment;
-use crate::reading::slots::is_empty;
+use crate::reading::slots::{is_empty, library_file};
 use crate::reading::sources::{known_records, read_segment};
 use crate::reading::units::{UnitSource, chosen_library, entries_reason};
 use crate::references::names::UnitSlots;
@@ -245,9 +245,9 @@ fn read_added<'a>(
             Reason::MissingUnit,
         )),
         Some(unit) => match entries_reason(&unit.dict, requested.name, unit.index) {
-            Some(reason) => Err(Fault::in_slot(unit.library + 1, slot, reason)),
+            Some(reason) => Err(Fault::in_slot(library_file(unit.library), slot, reason)),
             None => {
-                let file = unit.library + 1;
+                let file = library_file(unit.library);
                 let segment = read_segment(
                     SegmentPlace { file, slot },
                     requested.name,

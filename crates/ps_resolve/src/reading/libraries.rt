@@ -2,6 +2,7 @@ ghost use Rattle.std.specs.Prelude.{◌≡◌};
 ghost use Rattle.ps_resolve.specs.Sources.{contents};
 ghost use Rattle.ps_resolve.specs.Faults.{libraries_fault as libraries_fault_spec};
 
+use crate::reading::slots::library_file;
 use ps_codefile::Dict;
 use ps_words::{Fault, Order};
 
@@ -11,7 +12,7 @@ pub(crate) fn libraries_fault(order: Order, libs: &[&[u8]]) -> Option<Fault>
 {
     for (i, lib) in libs.iter().enumerate() {
         if let Err(reason) = Dict::read_beside(lib, order) {
-            return Some(Fault::in_file(i + 1, reason));
+            return Some(Fault::in_file(library_file(i), reason));
         }
     }
     None

@@ -3,6 +3,7 @@ ghost use Rattle.std.specs.List.{list_any, range_with_len};
 ghost use Rattle.std.specs.Str.{bytes_eq};
 ghost use Rattle.ps_codefile.specs.Dictionary.{entry_at};
 ghost use Rattle.ps_codefile.specs.Roles.{is_host as is_host_role, is_unit as is_unit_role, is_empty as is_empty_role};
+ghost use Rattle.ps_resolve.specs.Sources.{library_file as library_file_spec};
 ghost use Rattle.ps_resolve.specs.Faults.{is_role, slot_reason as slot_reason_spec, slots_fault as slots_fault_spec, no_host_fault as no_host_fault_spec};
 
 use ps_codefile::dictionary_layout::SLOTS;
@@ -11,6 +12,15 @@ use ps_words::{Fault, Name, Reason};
 
 /// The number of the host among the files of a link.
 pub(crate) const HOST_FILE: usize = 0;
+
+/// The number of a library among the files of a link: the first library is file 1. `library` is its
+/// index, from 0.
+pub(crate) fn library_file(library: usize) -> usize
+    requires { library < 9223372036854775808 }
+    ensures { result ≡ library_file_spec library }
+{
+    library + 1
+}
 
 /// The slot has no segment of its own.
 pub(crate) fn is_empty(host: &Dict, slot: u8) -> bool

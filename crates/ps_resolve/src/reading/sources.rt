@@ -13,7 +13,7 @@ ghost use Rattle.ps_resolve.specs.Views.{segment_of, IsPlaced, IsRead, AreRecord
 
 use crate::linkage::SegmentPlace;
 use crate::reading::segment::{Segment, records_at};
-use crate::reading::slots::HOST_FILE;
+use crate::reading::slots::{HOST_FILE, library_file};
 use crate::reading::units::unit_source;
 use arrayvec::ArrayVec;
 use ps_codefile::dictionary_layout::SLOTS;
@@ -197,7 +197,7 @@ fn read_slot<'a>(
             }
             Role::Wanted => {
                 let unit = unit_source(host.order(), name, libs, slot)?;
-                let file = unit.library + 1;
+                let file = library_file(unit.library);
                 let place = SegmentPlace { file, slot };
                 let records = known_records(known, &unit.dict, file, unit.index);
                 let wanted = read_segment(place, name, role, &unit.dict, unit.index, records)?;

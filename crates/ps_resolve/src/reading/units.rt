@@ -3,10 +3,10 @@ ghost use Rattle.std.specs.List.{find, list_any, range_with_len};
 ghost use Rattle.std.specs.Option.{option_map};
 ghost use Rattle.std.specs.Result.{result_err};
 ghost use Rattle.ps_codefile.specs.Dictionary.{slots, entry_at};
-ghost use Rattle.ps_resolve.specs.Sources.{is_named as is_named_spec, chosen_library as chosen_library_spec, unit_source as unit_source_spec, file_at, contents};
+ghost use Rattle.ps_resolve.specs.Sources.{is_named as is_named_spec, chosen_library as chosen_library_spec, unit_source as unit_source_spec, file_at, contents, library_file as library_file_spec};
 ghost use Rattle.ps_resolve.specs.Faults.{library_reason, libraries_fault, entries_reason as entries_reason_spec, unit_fault};
 
-use crate::reading::slots::HOST_FILE;
+use crate::reading::slots::{HOST_FILE, library_file};
 use ps_codefile::Dict;
 use ps_codefile::dictionary_layout::SLOTS;
 use ps_codefile::kinds::UNITSEG;
@@ -132,9 +132,9 @@ pub(crate) fn unit_source<'a>(
     requires { libraries_fault order (contents libs.now) ≡ None }
     ensures fault { result_err result ≡ unit_fault order name (contents libs.now) slot }
     ensures source { IfOk result (λ u. unit_source_spec order name (contents libs.now)
-        ≡ Some (u.library + 1, u.index)) }
+        ≡ Some (library_file_spec u.library, u.index)) }
     ensures file { (host : List ℕ)
-        → IfOk result (λ u. file_at host (contents libs.now) (u.library + 1) ≡ u.dict.file) }
+        → IfOk result (λ u. file_at host (contents libs.now) (library_file_spec u.library) ≡ u.dict.file) }
     ensures order { IfOk result (λ u. u.dict.order ≡ order) }
     ensures unit { IfOk result (λ u. (entry_at order u.dict.file u.index).kind ≡ 3) }
     ensures in_range { IfOk result (λ u. u.index < 16) }
@@ -143,7 +143,7 @@ pub(crate) fn unit_source<'a>(
     match chosen_library(order, name, libs) {
         None => Err(Fault::in_slot(HOST_FILE, slot, Reason::MissingUnit)),
         Some(source) => match entries_reason(&source.dict, name, source.index) {
-            Some(reason) => Err(Fault::in_slot(source.library + 1, slot, reason)),
+            Some(reason) => Err(Fault::in_slot(library_file(source.library), slot, reason)),
             None => Ok(source),
         },
     }

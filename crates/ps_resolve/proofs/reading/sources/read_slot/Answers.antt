@@ -1,9 +1,9 @@
-use Rattle.std.proofs.Common.{◌∙◌, ℕ, List, sym, ap, subst, refl}
+use Rattle.std.proofs.Common.{◌≡◌, ◌∙◌, ℕ, List, sym, ap, subst, refl}
 use Rattle.std.specs.Prelude.{All}
 use Rattle.std.proofs.lemmas.Result.{err_from_is_err_and}
 use Rattle.ps_words.specs.declared.order.Order.{Order}
 use Rattle.ps_codefile.specs.declared.entry.Entry.{Entry}
-use Rattle.ps_resolve.specs.Sources.{segment_from}
+use Rattle.ps_resolve.specs.Sources.{segment_from, file_at}
 use Rattle.ps_resolve.specs.Views.{IsRead}
 use Rattle.ps_resolve.proofs.ReadingLibraries.{files}
 use Rattle.ps_resolve.proofs.ReadingSources.{own_fault, read_from_host}
@@ -16,7 +16,8 @@ pub read_segment-requires-in-Wanted-clause-known : goal.read_segment-requires-in
 read_segment-requires-in-Wanted-clause-known c =
     let host = c.args.host.now in
     let libs = files c.args.libs.now in
-    c.known_records-records-in-Wanted.ensures host.file libs (c.in_ok-unit-in-Wanted.ensures.file host.file)
+    let file = subst (λ (n : ℕ). file_at host.file libs n ≡ c.in_ok-unit-in-Wanted.unit.dict.file) (sym c.library_file-file.ensures) (c.in_ok-unit-in-Wanted.ensures.file host.file) in
+    c.known_records-records-in-Wanted.ensures host.file libs file
     (subst (λ (o : Order). All (IsRead o host.file libs) c.args.known.now) (sym (c.in_ok-unit-in-Wanted.ensures.order ∙ c.order.ensures)) c.requires.read)
 
 pub returns-in_err-own-in-Plain : goal.returns-in_err-own-in-Plain
@@ -48,5 +49,6 @@ returns-in_ok-wanted-in-Wanted-clause-read c =
     let libs = files c.args.libs.now in
     let unit = c.in_ok-unit-in-Wanted.ensures in
     let wanted = c.in_ok-wanted-in-Wanted in
+    let file = subst (λ (n : ℕ). file_at host.file libs n ≡ c.in_ok-unit-in-Wanted.unit.dict.file) (sym c.library_file-file.ensures) (unit.file host.file) in
     subst (λ (o : Order). IsRead o host.file libs wanted.wanted) (unit.order ∙ c.order.ensures)
-    (record { placed = wanted.ensures.placed host.file libs (unit.file host.file); sound = wanted.ensures.sound })
+    (record { placed = wanted.ensures.placed host.file libs file; sound = wanted.ensures.sound })

@@ -22,8 +22,9 @@ returns-in-Some-entries_reason-clause-fault c =
     let source = c.in-Some.source in
     let why = ap (λ (o : Order). entries_reason o c.args.name source.dict.file) (sym c.in-Some.ensures.order) ∙ (sym c.entries_reason.ensures ∙ c.in-Some-entries_reason.is) in
     ap (λ (f : Fault). Some f) c.in_slot-in-Some-entries_reason.ensures
+    ∙ (ap (λ (n : ℕ). Some (in_slot n c.args.slot c.in-Some-entries_reason.reason)) c.library_file.ensures
     ∙ sym (ap (λ (o : Option (ℕ × List ℕ)). option_map_or (λ (lib : ℕ × List ℕ). option_map (in_slot (lib.0 + 1) c.args.slot) (entries_reason c.args.order c.args.name lib.1)) o (Some (in_slot 0 c.args.slot reason.MissingUnit))) (sym c.in-Some.ensures.library)
-    ∙ ap (λ (o : Option Reason). option_map (in_slot (source.library + 1) c.args.slot) o) why)
+    ∙ ap (λ (o : Option Reason). option_map (in_slot (source.library + 1) c.args.slot) o) why))
 
 pub returns-in-None-entries_reason : goal.returns-in-None-entries_reason
 returns-in-None-entries_reason c =
