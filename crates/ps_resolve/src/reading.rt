@@ -19,7 +19,7 @@ pub(crate) mod units;
 use crate::reading::added::{add_units, empty_slots};
 use crate::reading::libraries::libraries_fault;
 use crate::reading::segment::Segment;
-use crate::reading::slots::{HOST_FILE, is_empty, no_host_fault, slots_fault};
+use crate::reading::slots::{HOST_FILE, HostSlots, is_empty, no_host_fault, slots_fault};
 use crate::reading::sources::{add, read_slots};
 use arrayvec::ArrayVec;
 use ps_codefile::Dict;
@@ -44,7 +44,7 @@ fn segment_in<'a>(segments: &[Segment<'a>], slot: u8) -> Option<Segment<'a>>
 
 /// The slot's own segment, or in an empty slot the one that was added there.
 fn segment_of_slot<'a>(
-    host: &Dict<'a>,
+    host: &HostSlots<'a>,
     own: &[Segment<'a>],
     added: &[Segment<'a>],
     slot: u8,
@@ -69,7 +69,7 @@ fn segment_of_slot<'a>(
 
 /// The segments of all slots, by slot.
 fn by_slot<'a>(
-    host: &Dict<'a>,
+    host: &HostSlots<'a>,
     own: &[Segment<'a>],
     added: &[Segment<'a>],
 ) -> ArrayVec<Segment<'a>, 16>
@@ -89,7 +89,7 @@ fn by_slot<'a>(
 }
 
 /// The name of a slot in the linked file.
-fn slot_name(host: &Dict, segments: &[Segment], slot: u8) -> Name
+fn slot_name(host: &HostSlots, segments: &[Segment], slot: u8) -> Name
     requires { slot < 16 }
     ensures { result ≡ slot_name_spec host.now.file (map segment_of segments.now) slot }
 {
@@ -100,7 +100,7 @@ fn slot_name(host: &Dict, segments: &[Segment], slot: u8) -> Name
 }
 
 /// The names of all slots in the linked file.
-fn slot_names(host: &Dict, segments: &[Segment]) -> [Name; 16]
+fn slot_names(host: &HostSlots, segments: &[Segment]) -> [Name; 16]
     ensures { result ≡ slot_names_spec host.now.file (map segment_of segments.now) }
 {
     let mut names = [[0; 8]; SLOTS as usize];
@@ -112,7 +112,10 @@ fn slot_names(host: &Dict, segments: &[Segment]) -> [Name; 16]
 
 /// The segments of a host whose slots and libraries have no fault of their own, or the first fault
 /// of their sources.
-fn read_all<'a>(host: &Dict<'a>, libs: &'a [&'a [u8]]) -> Result<ArrayVec<Segment<'a>, 16>, Fault>
+fn read_all<'a>(
+    host: &HostSlots<'a>,
+    libs: &'a [&'a [u8]],
+) -> Result<ArrayVec<Segment<'a>, 16>, Fault>
     requires { libraries_fault_spec host.now.order (contents libs.now) ≡ None }
     ensures fault { result_err result ≡ reading_rest host.now.order host.now.file
         (contents libs.now) }
@@ -128,7 +131,7 @@ fn read_all<'a>(host: &Dict<'a>, libs: &'a [&'a [u8]]) -> Result<ArrayVec<Segmen
 }
 
 /// The first fault of the slots of the host, of its want of a host segment, or of the libraries.
-fn files_fault(host: &Dict, libs: &[&[u8]]) -> Option<Fault>
+fn files_fault(host: &HostSlots, libs: &[&[u8]]) -> Option<Fault>
     ensures { result ≡ option_or (slots_fault_spec host.now.order host.now.file)
         (option_or (no_host_fault_spec host.now.order host.now.file)
         (libraries_fault_spec host.now.order (contents libs.now))) }
@@ -145,7 +148,7 @@ fn files_fault(host: &Dict, libs: &[&[u8]]) -> Option<Fault>
 /// The segments of a host that is read in its own byte order, or the first fault after that of its
 /// order.
 fn read_sources<'a>(
-    host: &Dict<'a>,
+    host: &HostSlots<'a>,
     libs: &'a [&'a [u8]],
 ) -> Result<ArrayVec<Segment<'a>, 16>, Fault>
     ensures fault { result_err result ≡ option_or (slots_fault_spec host.now.order host.now.file)
@@ -198,11 +201,12 @@ pub(crate) fn read_segments<'a>(host: &'a [u8], libs: &'a [&'a [u8]]) -> Result<
     match Dict::read(host) {
         Err(reason) => Err(Fault::in_file(HOST_FILE, reason)),
         Ok(dict) => {
-            let items = read_sources(&dict, libs)?;
+            let slots = HostSlots::of(dict);
+            let items = read_sources(&slots, libs)?;
             Ok(Segments {
-                order: dict.order(),
+                order: slots.order(),
                 host,
-                names: slot_names(&dict, items.as_slice()),
+                names: slot_names(&slots, items.as_slice()),
                 items,
             })
         }

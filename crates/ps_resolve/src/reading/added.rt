@@ -13,13 +13,13 @@ ghost use Rattle.ps_resolve.specs.Views.{segment_of, IsRead, IsLike, AreAlike};
 
 use crate::linkage::SegmentPlace;
 use crate::reading::segment::Segment;
-use crate::reading::slots::{is_empty, library_file};
+use crate::reading::slots::{HostSlots, is_empty, library_file};
 use crate::reading::sources::{known_records, read_segment};
 use crate::reading::units::{UnitSource, chosen_library, entries_reason};
 use crate::references::names::UnitSlots;
 use arrayvec::ArrayVec;
 use ps_codefile::dictionary_layout::{FIRST_ADDED, SLOTS};
-use ps_codefile::{Dict, Role, is_nameless};
+use ps_codefile::{Role, is_nameless};
 use ps_linkinfo::{Body, LinkRecord};
 use ps_words::{Fault, Name, Order, Reason};
 
@@ -55,7 +55,7 @@ impl Default for UnitReference {
 }
 
 /// Appends the slot if it is empty.
-fn add_empty(host: &Dict, slots: &mut ArrayVec<u8, 9>, slot: u8)
+fn add_empty(host: &HostSlots, slots: &mut ArrayVec<u8, 9>, slot: u8)
     requires in_range { slot < 16 }
     requires room { array_vec_len slots.old < 9 }
     ensures { slots.new.items ≡ slots.old.items
@@ -67,7 +67,7 @@ fn add_empty(host: &Dict, slots: &mut ArrayVec<u8, 9>, slot: u8)
 }
 
 /// The empty slots that a unit may be added in, ascending.
-pub(crate) fn empty_slots(host: &Dict) -> ArrayVec<u8, 9>
+pub(crate) fn empty_slots(host: &HostSlots) -> ArrayVec<u8, 9>
     ensures slots { result.items ≡ empty_slots_spec host.now.order host.now.file }
     ensures in_range { All (λ slot. slot < 16) result.items }
     ensures few { length result.items ≤ 9 }

@@ -1,14 +1,15 @@
 ghost use Rattle.std.specs.Prelude.{◌≡◌, ◌<◌, ◌≤◌, ◌&&◌};
 ghost use Rattle.std.specs.List.{list_any, range_with_len};
 ghost use Rattle.std.specs.Str.{bytes_eq};
-ghost use Rattle.ps_codefile.specs.Dictionary.{entry_at};
+ghost use Rattle.ps_codefile.specs.Dictionary.{entry_at, role_of};
 ghost use Rattle.ps_codefile.specs.Roles.{is_host as is_host_role, is_unit as is_unit_role, is_empty as is_empty_role};
 ghost use Rattle.ps_resolve.specs.Sources.{library_file as library_file_spec};
 ghost use Rattle.ps_resolve.specs.Faults.{is_role, slot_reason as slot_reason_spec, slots_fault as slots_fault_spec, no_host_fault as no_host_fault_spec};
 
 use ps_codefile::dictionary_layout::SLOTS;
-use ps_codefile::{Dict, Role};
-use ps_words::{Fault, Name, Reason};
+use ps_codefile::{Dict, Entry, Role};
+use ps_words::{Fault, Name, Order, Reason};
+use std::marker::Model;
 
 /// The number of the host among the files of a link.
 pub(crate) const HOST_FILE: usize = 0;
@@ -22,8 +23,70 @@ pub(crate) fn library_file(library: usize) -> usize
     library + 1
 }
 
+/// A host's segment dictionary, with the role of each of its slots, which is decided once.
+#[derive(Drop)]
+pub(crate) struct HostSlots<'a> {
+    dict: Dict<'a>,
+    /// The role of each slot, or why its kind is refused.
+    roles: [Result<Role, Reason>; 16],
+}
+
+impl<'a> Model for HostSlots<'a> {
+    ghost use Rattle.ps_codefile.specs.Dictionary.{OpenedFile};
+    ghost use Rattle.ps_resolve.specs.Linkable.{AreRoles};
+
+    ghost Value = { OpenedFile };
+
+    ghost view = { λ s. s.dict };
+
+    ghost invariant = { λ s. AreRoles s.dict s.roles };
+}
+
+impl<'a> HostSlots<'a> {
+    /// The slots of this dictionary.
+    pub(crate) fn of(dict: Dict<'a>) -> HostSlots<'a>
+        ensures { result ≡ dict.entry }
+    {
+        let mut roles = [Ok(Role::Empty); SLOTS as usize];
+        for slot in 0..SLOTS {
+            roles[slot as usize] = dict.role(slot);
+        }
+        HostSlots { dict, roles }
+    }
+
+    /// The dictionary itself.
+    pub(crate) fn dict(&self) -> &Dict<'a>
+        ensures { result.now ≡ self.now }
+    {
+        &self.dict
+    }
+
+    /// The byte order of the host.
+    pub(crate) fn order(&self) -> Order
+        ensures { result ≡ self.now.order }
+    {
+        self.dict.order()
+    }
+
+    /// What the dictionary says of a slot.
+    pub(crate) fn entry(&self, slot: u8) -> Entry
+        requires { slot < 16 }
+        ensures { result ≡ entry_at self.now.order self.now.file slot }
+    {
+        self.dict.entry(slot)
+    }
+
+    /// What a slot is for, or why its kind is refused.
+    pub(crate) fn role(&self, slot: u8) -> Result<Role, Reason>
+        requires { slot < 16 }
+        ensures { result ≡ role_of (entry_at self.now.order self.now.file slot) }
+    {
+        self.roles[slot as usize]
+    }
+}
+
 /// The slot has no segment of its own.
-pub(crate) fn is_empty(host: &Dict, slot: u8) -> bool
+pub(crate) fn is_empty(host: &HostSlots, slot: u8) -> bool
     requires { slot < 16 }
     ensures { result ≡ is_role is_empty_role host.now.order host.now.file slot }
 {
@@ -31,7 +94,7 @@ pub(crate) fn is_empty(host: &Dict, slot: u8) -> bool
 }
 
 /// The slot has the host's own segment.
-fn is_host(host: &Dict, slot: u8) -> bool
+fn is_host(host: &HostSlots, slot: u8) -> bool
     requires { slot < 16 }
     ensures { result ≡ is_role is_host_role host.now.order host.now.file slot }
 {
@@ -39,7 +102,7 @@ fn is_host(host: &Dict, slot: u8) -> bool
 }
 
 /// The slot has a unit, in place or wanted.
-fn is_unit(host: &Dict, slot: u8) -> bool
+fn is_unit(host: &HostSlots, slot: u8) -> bool
     requires { slot < 16 }
     ensures { result ≡ is_role is_unit_role host.now.order host.now.file slot }
 {
@@ -47,7 +110,7 @@ fn is_unit(host: &Dict, slot: u8) -> bool
 }
 
 /// One of the slots below `end` has the host's own segment.
-fn has_host_below(host: &Dict, end: u8) -> bool
+fn has_host_below(host: &HostSlots, end: u8) -> bool
     requires { end ≤ 16 }
     ensures { result ≡ list_any (is_role is_host_role host.now.order host.now.file)
         (range_with_len 0 end) }
@@ -56,7 +119,7 @@ fn has_host_below(host: &Dict, end: u8) -> bool
 }
 
 /// One of the slots below `end` has a unit of this name.
-fn has_unit_below(host: &Dict, name: Name, end: u8) -> bool
+fn has_unit_below(host: &HostSlots, name: Name, end: u8) -> bool
     requires { end ≤ 16 }
     ensures { result ≡ list_any (λ s. is_role is_unit_role host.now.order host.now.file s
         && bytes_eq (entry_at host.now.order host.now.file s).name name) (range_with_len 0 end) }
@@ -66,7 +129,7 @@ fn has_unit_below(host: &Dict, name: Name, end: u8) -> bool
 
 /// What is wrong with a slot of the host: its kind, a second host segment, or a second unit of a
 /// name.
-fn slot_reason(host: &Dict, slot: u8) -> Option<Reason>
+fn slot_reason(host: &HostSlots, slot: u8) -> Option<Reason>
     requires { slot < 16 }
     ensures { result ≡ slot_reason_spec host.now.order host.now.file slot }
 {
@@ -83,7 +146,7 @@ fn slot_reason(host: &Dict, slot: u8) -> Option<Reason>
 }
 
 /// The first fault of the host's slots.
-pub(crate) fn slots_fault(host: &Dict) -> Option<Fault>
+pub(crate) fn slots_fault(host: &HostSlots) -> Option<Fault>
     ensures { result ≡ slots_fault_spec host.now.order host.now.file }
 {
     for slot in 0..SLOTS {
@@ -95,7 +158,7 @@ pub(crate) fn slots_fault(host: &Dict) -> Option<Fault>
 }
 
 /// The fault of a host file that has no host segment.
-pub(crate) fn no_host_fault(host: &Dict) -> Option<Fault>
+pub(crate) fn no_host_fault(host: &HostSlots) -> Option<Fault>
     ensures { result ≡ no_host_fault_spec host.now.order host.now.file }
 {
     if has_host_below(host, SLOTS) {

@@ -13,7 +13,7 @@ ghost use Rattle.ps_resolve.specs.Views.{segment_of, IsPlaced, IsRead, AreRecord
 
 use crate::linkage::SegmentPlace;
 use crate::reading::segment::{Segment, records_at};
-use crate::reading::slots::{HOST_FILE, library_file};
+use crate::reading::slots::{HOST_FILE, HostSlots, library_file};
 use crate::reading::units::unit_source;
 use arrayvec::ArrayVec;
 use ps_codefile::dictionary_layout::SLOTS;
@@ -166,7 +166,7 @@ pub(crate) fn read_segment<'a>(
 /// The segment of a slot, or None where the slot is empty or has a kind that was refused. `known`
 /// are segments that were read before.
 fn read_slot<'a>(
-    host: &Dict<'a>,
+    host: &HostSlots<'a>,
     libs: &'a [&'a [u8]],
     slot: u8,
     known: &[Segment<'a>],
@@ -191,8 +191,8 @@ fn read_slot<'a>(
                     file: HOST_FILE,
                     slot,
                 };
-                let records = known_records(known, host, HOST_FILE, slot);
-                let own = read_segment(place, name, role, host, slot, records)?;
+                let records = known_records(known, host.dict(), HOST_FILE, slot);
+                let own = read_segment(place, name, role, host.dict(), slot, records)?;
                 Ok(Some(own))
             }
             Role::Wanted => {
@@ -219,7 +219,7 @@ pub(crate) fn add<'a>(segments: &mut ArrayVec<Segment<'a>, 16>, segment: Option<
 
 /// The segments of the host's own slots by slot ascending, or the first fault of a slot's source.
 pub(crate) fn read_slots<'a>(
-    host: &Dict<'a>,
+    host: &HostSlots<'a>,
     libs: &'a [&'a [u8]],
 ) -> Result<ArrayVec<Segment<'a>, 16>, Fault>
     requires { libraries_fault_spec host.now.order (contents libs.now) ≡ None }

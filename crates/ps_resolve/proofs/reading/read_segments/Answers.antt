@@ -1,4 +1,4 @@
-use Rattle.std.proofs.Common.{◌≡◌, ◌≤◌, ◌∙◌, List, ℕ, length, map, Some, None, sym, ap, subst}
+use Rattle.std.proofs.Common.{◌≡◌, ◌≤◌, ◌∙◌, List, ℕ, length, map, Some, None, Ok, sym, ap, subst}
 use Rattle.std.proofs.lemmas.Result.{err_from_is_err_and}
 use Rattle.ps_words.specs.declared.order.Order.{Order}
 use Rattle.ps_words.specs.declared.fault.Fault.{Fault}
@@ -23,19 +23,19 @@ returns-in-Err-clause-fault c =
 pub returns-in_err-items-in-Ok-clause-fault : goal.returns-in_err-items-in-Ok-clause-fault
 returns-in_err-items-in-Ok-clause-fault c =
     let p = err_from_is_err_and c.from_residual.result c.from_residual.ensures.1 in
-    rw (p.1, p.2) (host_read c.args.host.now (files c.args.libs.now) c.in-Ok.dict (sym c.read.ensures ∙ c.in-Ok.is) ∙ sym c.in_err-items-in-Ok.ensures.fault)
+    rw (p.1, p.2) (host_read c.args.host.now (files c.args.libs.now) c.of-slots.result (sym c.read.ensures ∙ (c.in-Ok.is ∙ ap Ok (sym c.of-slots.ensures))) ∙ sym c.in_err-items-in-Ok.ensures.fault)
 
 pub returns-in_ok-items-in-Ok-clause-faultless : goal.returns-in_ok-items-in-Ok-clause-faultless
 returns-in_ok-items-in-Ok-clause-faultless c =
-    host_read c.args.host.now (files c.args.libs.now) c.in-Ok.dict (sym c.read.ensures ∙ c.in-Ok.is) ∙ sym c.in_ok-items-in-Ok.ensures.fault
+    host_read c.args.host.now (files c.args.libs.now) c.of-slots.result (sym c.read.ensures ∙ (c.in-Ok.is ∙ ap Ok (sym c.of-slots.ensures))) ∙ sym c.in_ok-items-in-Ok.ensures.fault
 
 pub returns-in_ok-items-in-Ok-clause-order : goal.returns-in_ok-items-in-Ok-clause-order
 returns-in_ok-items-in-Ok-clause-order c =
-    c.order.ensures ∙ ap (λ (o : OpenedFile). o.order) (host_is c.args.host.now c.in-Ok.dict (sym c.read.ensures ∙ c.in-Ok.is))
+    c.order.ensures ∙ ap (λ (o : OpenedFile). o.order) (host_is c.args.host.now c.of-slots.result (sym c.read.ensures ∙ (c.in-Ok.is ∙ ap Ok (sym c.of-slots.ensures))))
 
 pub returns-in_ok-items-in-Ok-clause-segments : goal.returns-in_ok-items-in-Ok-clause-segments
 returns-in_ok-items-in-Ok-clause-segments c =
-    let is = host_is c.args.host.now c.in-Ok.dict (sym c.read.ensures ∙ c.in-Ok.is) in
+    let is = host_is c.args.host.now c.of-slots.result (sym c.read.ensures ∙ (c.in-Ok.is ∙ ap Ok (sym c.of-slots.ensures))) in
     c.in_ok-items-in-Ok.ensures.segments ∙ ap (λ (o : OpenedFile). segments o.order o.file (files c.args.libs.now)) is
 
 -- the files have no fault
@@ -49,18 +49,18 @@ none_of order host libs h =
 
 pub invariant_of-result : goal.invariant_of-result
 invariant_of-result c =
-    let dict = c.in-Ok.dict in
+    let dict = c.of-slots.result in
     let libs = files c.args.libs.now in
     let read = c.in_ok-items-in-Ok in
     let items : List SegmentView = read.items.items in
-    let is = host_is c.args.host.now dict (sym c.read.ensures ∙ c.in-Ok.is) in
+    let is = host_is c.args.host.now dict (sym c.read.ensures ∙ (c.in-Ok.is ∙ ap Ok (sym c.of-slots.ensures))) in
     let none = none_of dict.order dict.file libs (sym read.ensures.fault) in
     record {
       sound = rw c.order.ensures (all_sound dict.order dict.file libs items read.ensures.read);
       has_host = rw read.ensures.segments (host_there dict.order dict.file libs none.1 none.2);
       one_host = rw read.ensures.segments (one_host dict.order dict.file libs none.0);
       ascending = rw read.ensures.segments (ascend dict.order dict.file libs);
-      whole = host_whole c.args.host.now dict (sym c.read.ensures ∙ c.in-Ok.is);
+      whole = host_whole c.args.host.now dict (sym c.read.ensures ∙ (c.in-Ok.is ∙ ap Ok (sym c.of-slots.ensures)));
       alike = read_alike dict.order dict.file libs items read.ensures.read;
       most = subst (λ (ss : List SegmentView). length ss ≤ 16) c.as_slice.ensures.value c.as_slice.ensures.fits;
       named = c.slot_names.ensures
