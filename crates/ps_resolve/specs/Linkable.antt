@@ -5,6 +5,7 @@ use Rattle.ps_words.specs.declared.order.Order.{Order}
 use Rattle.ps_words.specs.declared.edit.Edit.{Edit}
 use Rattle.ps_words.specs.declared.fault.Reason.{Reason}
 use Rattle.ps_codefile.specs.Dictionary.{OpenedFile, slots, entry_at, role_of}
+use Rattle.ps_codefile.specs.declared.entry.Entry.{Entry}
 use Rattle.ps_codefile.specs.declared.entry.Role.{Role}
 use Rattle.ps_codefile.specs.Roles.{is_host}
 use Rattle.ps_resolve.specs.Sources.{Segment, host_of}
@@ -16,13 +17,11 @@ use Rattle.ps_resolve.specs.References.{Known, HaveTargets}
 use Rattle.ps_resolve.specs.Views.{segment_of, IsSound, IsLike, AreAlike}
 use Rattle.ps_resolve.specs.declared.reading.segment.Segment.{Segment as SegmentView}
 
--- what each slot of a host is for, or why its kind is refused, by slot
-abbrev pub slot_roles : OpenedFile → List (Result Role Reason)
-slot_roles dict = map (λ slot. role_of (entry_at dict.order dict.file slot)) slots
-
--- these are the roles of all slots of a host
-abbrev pub AreRoles : OpenedFile → List (Result Role Reason) → Type 0
-AreRoles dict roles = roles ≡ slot_roles dict
+-- These are the entries of all slots of a host, and what each slot is for, or why its kind is
+-- refused.
+pub record AreSlots (dict : OpenedFile) (entries : List Entry) (roles : List (Result Role Reason)) : Type 0 where
+  pub are_entries : entries ≡ map (entry_at dict.order dict.file) slots
+  pub are_roles : roles ≡ map (λ slot. role_of (entry_at dict.order dict.file slot)) slots
 
 -- the numbers rise strictly, from `from` on
 abbrev pub AscendFrom : ℕ → List ℕ → Type 0

@@ -23,23 +23,35 @@ pub(crate) fn library_file(library: usize) -> usize
     library + 1
 }
 
-/// A host's segment dictionary, with the role of each of its slots, which is decided once.
+/// The entry of an empty slot.
+const NO_ENTRY: Entry = Entry {
+    address: 0,
+    length: 0,
+    name: [0; 8],
+    kind: 0,
+    text: 0,
+};
+
+/// A host's segment dictionary, of which each entry is read once, and the role of each slot is
+/// decided once.
 #[derive(Drop)]
 pub(crate) struct HostSlots<'a> {
     dict: Dict<'a>,
+    /// What the dictionary says of each slot.
+    entries: [Entry; 16],
     /// The role of each slot, or why its kind is refused.
     roles: [Result<Role, Reason>; 16],
 }
 
 impl<'a> Model for HostSlots<'a> {
     ghost use Rattle.ps_codefile.specs.Dictionary.{OpenedFile};
-    ghost use Rattle.ps_resolve.specs.Linkable.{AreRoles};
+    ghost use Rattle.ps_resolve.specs.Linkable.{AreSlots};
 
     ghost Value = { OpenedFile };
 
     ghost view = { λ s. s.dict };
 
-    ghost invariant = { λ s. AreRoles s.dict s.roles };
+    ghost invariant = { λ s. AreSlots s.dict s.entries s.roles };
 }
 
 impl<'a> HostSlots<'a> {
@@ -47,11 +59,17 @@ impl<'a> HostSlots<'a> {
     pub(crate) fn of(dict: Dict<'a>) -> HostSlots<'a>
         ensures { result ≡ dict.entry }
     {
+        let mut entries = [NO_ENTRY; SLOTS as usize];
         let mut roles = [Ok(Role::Empty); SLOTS as usize];
         for slot in 0..SLOTS {
+            entries[slot as usize] = dict.entry(slot);
             roles[slot as usize] = dict.role(slot);
         }
-        HostSlots { dict, roles }
+        HostSlots {
+            dict,
+            entries,
+            roles,
+        }
     }
 
     /// The dictionary itself.
@@ -73,7 +91,7 @@ impl<'a> HostSlots<'a> {
         requires { slot < 16 }
         ensures { result ≡ entry_at self.now.order self.now.file slot }
     {
-        self.dict.entry(slot)
+        self.entries[slot as usize]
     }
 
     /// What a slot is for, or why its kind is refused.
