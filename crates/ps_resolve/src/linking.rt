@@ -25,13 +25,14 @@ use ps_words::Edit;
 use std::alloc::Allocator;
 
 /// The host's own segment.
-fn host_of<'a>(segments: &[Segment<'a>]) -> Option<Segment<'a>>
-    ensures found { option_map segment_of result ≡ host_of_spec (map segment_of segments.now) }
-    ensures role { IfSome result (λ host. is_host_spec host.role ≡ true) }
+fn host_of<'s, 'a>(segments: &'s [Segment<'a>]) -> Option<&'s Segment<'a>>
+    ensures found { option_map (λ host. segment_of host.now) result
+        ≡ host_of_spec (map segment_of segments.now) }
+    ensures role { IfSome result (λ host. is_host_spec host.now.role ≡ true) }
 {
     for segment in segments {
         if segment.role.is_host() {
-            return Some(segment.copy());
+            return Some(segment);
         }
     }
     None
@@ -108,7 +109,7 @@ pub(crate) fn link_segments<'a, A: Allocator + Copy>(
             let definitions = Definitions::of_records(alloc, HOST_FILE, own.slot, &own.records)?;
             let base = own.records.next();
             let allotment = Allotment::of_segments(alloc, base, all)?;
-            let size = grown_data_size(order, &own, allotment.words())?;
+            let size = grown_data_size(order, own, allotment.words())?;
             let units = UnitSlots::of(all);
             let known = Names {
                 definitions: &definitions,

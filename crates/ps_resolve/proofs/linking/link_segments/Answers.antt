@@ -24,7 +24,7 @@ given {order} {host} {names} same h = subst (AreSegments order host names) (sym 
 pub returns-in_err-definitions-in-Some-clause-stop : goal.returns-in_err-definitions-in-Some-clause-stop
 returns-in_err-definitions-in-Some-clause-stop g c =
     let p = err_from_is_err_and c.from_residual.result c.from_residual.ensures.1 in
-    rw (p.1, p.2, ← c.segments.view_is, ← c.as_slice-all.ensures.value) (definitions_stop c.segments.inside.order c.as_slice-all.result.now c.in-Some.own (sym c.in-Some.ensures.found) c.in_err-definitions-in-Some.field-0.0 c.in_err-definitions-in-Some.ensures.stop)
+    rw (p.1, p.2, ← c.segments.view_is, ← c.as_slice-all.ensures.value) (definitions_stop c.segments.inside.order c.as_slice-all.result.now c.in-Some.own.now (sym c.in-Some.ensures.found) c.in_err-definitions-in-Some.field-0.0 c.in_err-definitions-in-Some.ensures.stop)
 
 pub of_segments-requires : goal.of_segments-requires
 of_segments-requires g c =
@@ -36,19 +36,19 @@ pub returns-in_err-allotment-in-Some-clause-stop : goal.returns-in_err-allotment
 returns-in_err-allotment-in-Some-clause-stop g c =
     let p = err_from_is_err_and c.from_residual-in_err-allotment-in-Some.result c.from_residual-in_err-allotment-in-Some.ensures.1 in
     let ds = c.in_ok-definitions-in-Some in
-    rw (p.1, p.2, ← c.segments.view_is, ← c.as_slice-all.ensures.value) (privates_stop c.segments.inside.order c.as_slice-all.result.now c.in-Some.own (sym c.in-Some.ensures.found) ds.definitions ds.ensures.found ds.ensures.once c.next-base.result c.next-base.ensures
+    rw (p.1, p.2, ← c.segments.view_is, ← c.as_slice-all.ensures.value) (privates_stop c.segments.inside.order c.as_slice-all.result.now c.in-Some.own.now (sym c.in-Some.ensures.found) ds.definitions ds.ensures.found ds.ensures.once c.next-base.result c.next-base.ensures
     c.in_err-allotment-in-Some.field-0.0 c.in_err-allotment-in-Some.ensures.stop)
 
 pub grown_data_size-requires-clause-sound : goal.grown_data_size-requires-clause-sound
 grown_data_size-requires-clause-sound g c =
-    host_sound c.segments.inside.order (map segment_of c.as_slice-all.result.now) (segment_of c.in-Some.own) (sym c.in-Some.ensures.found) c.in-Some.ensures.role (given c.as_slice-all.ensures.value c.segments.invariant).sound
+    host_sound c.segments.inside.order (map segment_of c.as_slice-all.result.now) (segment_of c.in-Some.own.now) (sym c.in-Some.ensures.found) c.in-Some.ensures.role (given c.as_slice-all.ensures.value c.segments.invariant).sound
 
 pub returns-in_err-size-in-Some-clause-stop : goal.returns-in_err-size-in-Some-clause-stop
 returns-in_err-size-in-Some-clause-stop g c =
     let p = err_from_is_err_and c.from_residual-in_err-size-in-Some.result c.from_residual-in_err-size-in-Some.ensures.1 in
     let ds = c.in_ok-definitions-in-Some in
     let a = c.in_ok-allotment-in-Some in
-    rw (p.1, p.2, ← c.segments.view_is, ← c.as_slice-all.ensures.value) (size_stop c.segments.inside.order c.as_slice-all.result.now c.in-Some.own (sym c.in-Some.ensures.found) ds.definitions ds.ensures.found ds.ensures.once c.next-base.result c.next-base.ensures
+    rw (p.1, p.2, ← c.segments.view_is, ← c.as_slice-all.ensures.value) (size_stop c.segments.inside.order c.as_slice-all.result.now c.in-Some.own.now (sym c.in-Some.ensures.found) ds.definitions ds.ensures.found ds.ensures.once c.next-base.result c.next-base.ensures
     a.allotment a.ensures.found a.ensures.once c.words.result c.words.ensures c.in_err-size-in-Some.field-0.0 c.in_err-size-in-Some.ensures.stop)
 
 pub all_edits-requires : goal.all_edits-requires
@@ -61,8 +61,8 @@ all_edits-requires g c =
     record {
       sound = (given c.as_slice-all.ensures.value c.segments.invariant).sound;
       room = omega (arith, end, free, c.allotment.ranges.1.0.1);
-      table = of_hosts (map segment_of ss) (segment_of c.in-Some.own) (sym c.in-Some.ensures.found) (given c.as_slice-all.ensures.value c.segments.invariant).one_host (λ s. IsOfTable c.segments.inside.order s.code size)
-          (subst (IsOfTable c.segments.inside.order c.in-Some.own.code.now) (sym c.edit.ensures) c.in_ok-size-in-Some.ensures.table);
+      table = of_hosts (map segment_of ss) (segment_of c.in-Some.own.now) (sym c.in-Some.ensures.found) (given c.as_slice-all.ensures.value c.segments.invariant).one_host (λ s. IsOfTable c.segments.inside.order s.code size)
+          (subst (IsOfTable c.segments.inside.order c.in-Some.own.now.code.now) (sym c.edit.ensures) c.in_ok-size-in-Some.ensures.table);
       alike = (given c.as_slice-all.ensures.value c.segments.invariant).alike;
     }
 
@@ -71,7 +71,7 @@ returns-in_err-edits-in-Some-clause-stop g c =
     let p = err_from_is_err_and c.from_residual-in_err-edits-in-Some.result c.from_residual-in_err-edits-in-Some.ensures.1 in
     let ds = c.in_ok-definitions-in-Some in
     let a = c.in_ok-allotment-in-Some in
-    rw (p.1, p.2, ← c.segments.view_is, ← c.as_slice-all.ensures.value) (references_stop c.segments.inside.order c.as_slice-all.result.now c.in-Some.own (sym c.in-Some.ensures.found) ds.definitions ds.ensures.found ds.ensures.once c.next-base.result c.next-base.ensures
+    rw (p.1, p.2, ← c.segments.view_is, ← c.as_slice-all.ensures.value) (references_stop c.segments.inside.order c.as_slice-all.result.now c.in-Some.own.now (sym c.in-Some.ensures.found) ds.definitions ds.ensures.found ds.ensures.once c.next-base.result c.next-base.ensures
     a.allotment a.ensures.found a.ensures.once c.words.result c.words.ensures c.in_ok-size-in-Some.ensures.fits c.of-units.result c.of-units.ensures c.in_err-edits-in-Some.field-0.0 c.in_err-edits-in-Some.ensures.stop)
 
 pub invariant_of-result : goal.invariant_of-result
@@ -80,7 +80,7 @@ invariant_of-result g c =
     let a = c.in_ok-allotment-in-Some in
     let size = c.in_ok-size-in-Some.ensures in
     let edits = c.in_ok-edits-in-Some in (
-      sym (length-map edits.edits.items (λ e. e.items)) ∙ as_many c.segments.inside.order c.as_slice-all.result.now c.in-Some.own (sym c.in-Some.ensures.found) ds.definitions ds.ensures.found ds.ensures.once c.next-base.result c.next-base.ensures
+      sym (length-map edits.edits.items (λ e. e.items)) ∙ as_many c.segments.inside.order c.as_slice-all.result.now c.in-Some.own.now (sym c.in-Some.ensures.found) ds.definitions ds.ensures.found ds.ensures.once c.next-base.result c.next-base.ensures
           a.allotment a.ensures.found a.ensures.once c.words.result c.words.ensures size.fits c.of-units.result c.of-units.ensures
           (given c.as_slice-all.ensures.value c.segments.invariant).one_host c.edit.result (size.edit ∙ ap (λ (e : Edit). e ∷ []) (sym c.edit.ensures)) (map (λ e. e.items) edits.edits.items) edits.ensures.links c.sources_of-sources.result.items c.sources_of-sources.ensures,
       c.segments.invariant.whole,
@@ -90,7 +90,7 @@ pub returns-clause-plan : goal.returns-clause-plan
 returns-clause-plan g c =
     let order = c.segments.inside.order in
     let ss : List SegmentView = c.as_slice-all.result.now in
-    let own : SegmentView = c.in-Some.own in
+    let own : SegmentView = c.in-Some.own.now in
     let is = sym c.in-Some.ensures.found in
     let ds = c.in_ok-definitions-in-Some in
     let a = c.in_ok-allotment-in-Some in
@@ -117,5 +117,5 @@ pub returns-clause-sound : goal.returns-clause-sound
 returns-clause-sound g c =
     let ds = c.in_ok-definitions-in-Some in
     let a = c.in_ok-allotment-in-Some in
-    rw (← c.segments.view_is, ← c.as_slice-all.ensures.value) (none_stands c.segments.inside.order c.as_slice-all.result.now c.in-Some.own (sym c.in-Some.ensures.found) ds.definitions ds.ensures.found ds.ensures.once c.next-base.result c.next-base.ensures
+    rw (← c.segments.view_is, ← c.as_slice-all.ensures.value) (none_stands c.segments.inside.order c.as_slice-all.result.now c.in-Some.own.now (sym c.in-Some.ensures.found) ds.definitions ds.ensures.found ds.ensures.once c.next-base.result c.next-base.ensures
     a.allotment a.ensures.found a.ensures.once c.words.result c.words.ensures c.in_ok-size-in-Some.ensures.fits c.of-units.result c.of-units.ensures c.in_ok-edits-in-Some.ensures.sound)
