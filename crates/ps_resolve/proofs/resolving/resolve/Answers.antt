@@ -8,7 +8,6 @@ use Rattle.ps_resolve.specs.Faults.{linking_fault}
 use Rattle.ps_resolve.specs.AllFaults.{first_fault}
 use Rattle.ps_resolve.specs.Plans.{AreStopped, IsPlanOf, IsStopped}
 use Rattle.ps_resolve.proofs.FirstFaults.{if_ok, if_err, first_read, first_linked, stopped}
-use Rattle.ps_resolve.specs.Linkable.{AreSegments}
 use Rattle.ps_resolve.proofs.resolving.resolve.Goals as goal
 
 pub returns-in-Err-clause-stop : goal.returns-in-Err-clause-stop

@@ -1,4 +1,4 @@
-use Rattle.std.proofs.Common.{◌∙◌, List, ℕ, slice_index_or, ap, arith}
+use Rattle.std.proofs.Common.{◌∙◌, List, slice_index_or, ap, arith}
 use Rattle.std.proofs.lemmas.List.FromFn.{get_or-map-range_with_len}
 use Rattle.ps_codefile.specs.Dictionary.{OpenedFile, entry_at}
 use Rattle.ps_codefile.specs.declared.entry.Entry.{Entry}
