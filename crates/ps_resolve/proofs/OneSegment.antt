@@ -20,7 +20,7 @@ use Rattle.ps_resolve.specs.Plans.{LinksSegment}
 use Rattle.ps_resolve.specs.Privates.{private_words}
 use Rattle.ps_resolve.specs.References.{Known, records_edits, records_fault}
 use Rattle.ps_resolve.specs.Views.{segment_of}
-use Rattle.ps_resolve.specs.declared.reading.segment.Segment.{Segment as SegmentView}
+use Rattle.ps_resolve.specs.Views.{SegmentView}
 
 pub unless_ok : (o : Option Reason) (x y : ProcedureTables) → ◌≡◌ {A = Result ProcedureTables Reason} (Ok y) (unless o x) → y ≡ x
 unless_ok None x y h = cc
@@ -44,7 +44,7 @@ none_links order s es e = subst (λ (fs : List Edit). LinksSegment order (record
 
 -- the number of a segment that is linked, its own edit, and the edits of its references
 abbrev pub all_of : Known → SegmentView → Option Edit → ℕ → List Edit
-all_of known v own free = Byte v.slot (length v.code.now - 2) ∷ (option_to_list own ++ records_edits known v.code.now free v.records)
+all_of known v own free = Byte v.slot (length v.code - 2) ∷ (option_to_list own ++ records_edits known v.code free v.records)
 
 module _ (order : Order) (known : Known) (v : SegmentView) (free : ℕ) where
   -- a segment that is linked already
@@ -56,7 +56,7 @@ module _ (order : Order) (known : Known) (v : SegmentView) (free : ℕ) where
     plain_end = let e = ap private_words none in omega (arith, e)
 
     pub plain_fault : segment_fault order known free (segment_of v) ≡ None
-    plain_fault = ap (λ (rs : List Record). option_map (in_segment v.file v.slot) (records_fault known (is_reserved order v.code.now) v.code.now 0 free [] rs)) none
+    plain_fault = ap (λ (rs : List Record). option_map (in_segment v.file v.slot) (records_fault known (is_reserved order v.code) v.code 0 free [] rs)) none
 
   -- one whose references are resolved
   module _ (h : needs_linking v.role ≡ true) (size : Edit) where
@@ -64,12 +64,12 @@ module _ (order : Order) (known : Known) (v : SegmentView) (free : ℕ) where
     own_is true es e = sym (e refl)
     own_is false es e = refl
 
-    listed : (words : ℕ) → (is_host v.role ≡ true → data_edits order words v.code.now ≡ size ∷ []) → segment_edits order known words free (segment_of v) ≡ all_of known v (data_size_edit (is_host v.role) size) free
-    listed words e = if_true (needs_linking v.role) _ [] h ∙ ap (λ (es : List Edit). Byte v.slot (length v.code.now - 2) ∷ (es ++ records_edits known v.code.now free v.records)) (sym (own_is (is_host v.role) (data_edits order words v.code.now) e))
+    listed : (words : ℕ) → (is_host v.role ≡ true → data_edits order words v.code ≡ size ∷ []) → segment_edits order known words free (segment_of v) ≡ all_of known v (data_size_edit (is_host v.role) size) free
+    listed words e = if_true (needs_linking v.role) _ [] h ∙ ap (λ (es : List Edit). Byte v.slot (length v.code - 2) ∷ (es ++ records_edits known v.code free v.records)) (sym (own_is (is_host v.role) (data_edits order words v.code) e))
 
-    pub linked_links : (sorted : List Edit) → IsPermutation (all_of known v (data_size_edit (is_host v.role) size) free) sorted → AreEdits (length v.code.now) sorted
-        → ((edits listed : List Edit) (p : ℕ) → AreApart 0 edits → IsPermutation edits listed → patched_byte order v.code.now edits p ≡ patched_byte order v.code.now listed p)
-        → (words : ℕ) → (is_host v.role ≡ true → data_edits order words v.code.now ≡ size ∷ [])
+    pub linked_links : (sorted : List Edit) → IsPermutation (all_of known v (data_size_edit (is_host v.role) size) free) sorted → AreEdits (length v.code) sorted
+        → ((edits listed : List Edit) (p : ℕ) → AreApart 0 edits → IsPermutation edits listed → patched_byte order v.code edits p ≡ patched_byte order v.code listed p)
+        → (words : ℕ) → (is_host v.role ≡ true → data_edits order words v.code ≡ size ∷ [])
         → LinksSegment order (record { segment = segment_of v; edits = segment_edits order known words free (segment_of v) }) sorted
     linked_links sorted same ready alike words e =
         let all : List Edit = all_of known v (data_size_edit (is_host v.role) size) free in
@@ -77,5 +77,5 @@ module _ (order : Order) (known : Known) (v : SegmentView) (free : ℕ) where
         record {
           ready = ready;
           each = subst (λ (es : List Edit). IsPermutation es sorted) (sym is) same;
-          bytes = λ p lt. alike sorted all p ready.apart (IsPermutation-sym all sorted same) ∙ ap (λ (es : List Edit). patched_byte order v.code.now es p) (sym is);
+          bytes = λ p lt. alike sorted all p ready.apart (IsPermutation-sym all sorted same) ∙ ap (λ (es : List Edit). patched_byte order v.code es p) (sym is);
         }

@@ -5,9 +5,8 @@ use Rattle.std.proofs.lemmas.List.{map-append}
 use Rattle.std.proofs.lemmas.List.Elements.{All-tail}
 use Rattle.ps_resolve.specs.Privates.{owner_of}
 use Rattle.ps_resolve.specs.Views.{segment_of}
-use Rattle.ps_codefile.specs.declared.entry.Role.TheVariants.{Empty}
 use Rattle.ps_resolve.specs.Sources.{Segment}
-use Rattle.ps_resolve.specs.declared.reading.segment.Segment.{Segment as SegmentView}
+use Rattle.ps_resolve.specs.Views.{SegmentView}
 
 -- the item at i, and what holds of it
 pub drop_at : {X : Type 0} (xs : List X) (i : ℕ) (x : X) → i < length xs → x ≡ get_or xs i x → drop i xs ≡ x ∷ drop (i + 1) xs
@@ -29,7 +28,3 @@ owners_of_segments (s ∷ ss) = rw (owners_of_segments ss) refl
 pub slots_are : (segs : List Segment) → map (λ o. o.slot) (map owner_of segs) ≡ map (λ s. s.slot) segs
 slots_are [] = refl
 slots_are (s ∷ ss) = rw (slots_are ss) refl
-
--- a segment of none of the files, which is read past the end of a list
-abbrev pub blank_view : SegmentView
-blank_view = record { slot = 0; name = []; role = Empty; added = false; file = 0; index = 0; code = record { ref_ptr = (0, 0); now = [] }; block = 0; records = [] }

@@ -25,7 +25,7 @@ use Rattle.ps_resolve.specs.declared.definitions.Def.{Def}
 use Rattle.ps_resolve.specs.declared.linkage.Stop.{Stop}
 use Rattle.ps_resolve.specs.declared.linkage.Stop.TheVariants.{Refused, Memory}
 use Rattle.ps_resolve.specs.declared.plan.Source.{Source}
-use Rattle.ps_resolve.specs.declared.reading.segment.Segment.{Segment as SegmentView}
+use Rattle.ps_resolve.specs.Views.{SegmentView}
 use Rattle.ps_resolve.proofs.Hosts.{of_hosts}
 use Rattle.ps_resolve.proofs.Lengths.{lengths}
 use Rattle.ps_resolve.proofs.Segs.{owners_of_segments}
@@ -125,10 +125,10 @@ module _ (order : Order) (ss : List SegmentView) (own : SegmentView) (is : host_
         pub none_stands : references_fault_from order known next segs ≡ None → linking_fault order segs ≡ None
         none_stands d = behind_size ∙ d
 
-        module _ (one : HasOneHost segs) (size : Edit) (stored : data_edits order words own.code.now ≡ size ∷ []) (edits : List (List Edit))
+        module _ (one : HasOneHost segs) (size : Edit) (stored : data_edits order words own.code ≡ size ∷ []) (edits : List (List Edit))
             (links : (n : ℕ) → All (λ s. is_host s.role ≡ true → data_edits order n s.code ≡ size ∷ []) segs → LinkSegments order (edited_from order known n next segs) edits) where
           linked : LinkSegments order (edited_from order known (total_words segs) next segs) edits
-          linked = links (total_words segs) (of_hosts segs (segment_of own) is one (λ s. data_edits order (total_words segs) s.code ≡ size ∷ []) (sym (ap (λ (n : ℕ). data_edits order n own.code.now) words_are) ∙ stored))
+          linked = links (total_words segs) (of_hosts segs (segment_of own) is one (λ s. data_edits order (total_words segs) s.code ≡ size ∷ []) (sym (ap (λ (n : ℕ). data_edits order n own.code) words_are) ∙ stored))
 
           pub all_linked : LinkSegments order (edited_segments order segs) edits
           all_linked = subst (λ (n : ℕ). LinkSegments order (edited_from order (known_of segs) (total_words segs) n segs) edits) (next_is ∙ ap next_of (sym records_are))

@@ -1,12 +1,13 @@
 -- What is known of the segments of a link, once the files were read without a fault.
 -- Source: this project's profile.
-use Rattle.std.specs.Prelude.{◌≡◌, ℕ, ◌+◌, ◌<◌, ◌≤◌, List, [], ◌∷◌, length, map, true, None, Some, Result, All, IsSome, ⊤}
+use Rattle.std.specs.Prelude.{◌≡◌, ℕ, ◌+◌, ◌<◌, ◌≤◌, List, [], ◌∷◌, length, map, true, None, Some, Result, All, ⊤}
 use Rattle.ps_words.specs.declared.order.Order.{Order}
 use Rattle.ps_words.specs.declared.edit.Edit.{Edit}
 use Rattle.ps_words.specs.declared.fault.Reason.{Reason}
 use Rattle.ps_codefile.specs.Dictionary.{OpenedFile, slots, entry_at, role_of}
 use Rattle.ps_codefile.specs.declared.entry.Entry.{Entry}
 use Rattle.ps_codefile.specs.declared.entry.Role.{Role}
+use Rattle.ps_codefile.specs.Procedures.{table_of}
 use Rattle.ps_codefile.specs.Roles.{is_host}
 use Rattle.ps_resolve.specs.Sources.{Segment, host_of}
 use Rattle.ps_resolve.specs.Added.{slot_names}
@@ -15,7 +16,8 @@ use Rattle.ps_resolve.specs.Faults.{libraries_fault}
 use Rattle.ps_resolve.specs.Privates.{owner_of, private_words, all_words}
 use Rattle.ps_resolve.specs.References.{Known, HaveTargets}
 use Rattle.ps_resolve.specs.Views.{segment_of, IsSound, IsLike, AreAlike}
-use Rattle.ps_resolve.specs.declared.reading.segment.Segment.{Segment as SegmentView}
+use Rattle.ps_resolve.specs.Views.{SegmentView}
+use Rattle.ps_resolve.specs.declared.reading.host.HostSegment.{HostSegment}
 
 -- These are the entries of all slots of a host, and what each slot is for, or why its kind is
 -- refused.
@@ -41,11 +43,19 @@ pub record MayBeAddedTo (order : Order) (libs : List (List ℕ)) (own : List Seg
   pub few : length slots ≤ 9
   pub in_range : All (λ slot. slot < 16) slots
 
+-- a host's own segment: its records, and the place of the attribute table of its outer block
+pub record IsHost (order : Order) (h : HostSegment) : Type 0 where
+  pub role : is_host h.segment.role ≡ true
+  pub sound : IsSound order (segment_of h.segment)
+  pub records : h.records ≡ h.segment.records
+  pub table : table_of order h.segment.code 1 ≡ Some h.outer_block
+
 -- The segments of a link, by slot: each sound, one of them the host's, those that share link
 -- information alike; and the names of the slots of the linked file.
-pub record AreSegments (order : Order) (host : List ℕ) (names : List (List ℕ)) (ss : List SegmentView) : Type 0 where
+pub record AreSegments (order : Order) (host : List ℕ) (names : List (List ℕ)) (host_segment : HostSegment) (ss : List SegmentView) : Type 0 where
   pub sound : All (IsSound order) (map segment_of ss)
-  pub has_host : IsSome (host_of (map segment_of ss))
+  pub found : host_of (map segment_of ss) ≡ Some (segment_of host_segment.segment)
+  pub own : IsHost order host_segment
   pub one_host : HasOneHost (map segment_of ss)
   pub ascending : AscendFrom 0 (map (λ s. s.slot) (map segment_of ss))
   pub whole : 512 ≤ length host
@@ -53,12 +63,13 @@ pub record AreSegments (order : Order) (host : List ℕ) (names : List (List ℕ
   pub most : length ss ≤ 16
   pub named : names ≡ slot_names host (map segment_of ss)
 
--- the byte order of the files, the host file, the names of the slots of the linked file, and the
--- segments by slot
+-- the byte order of the files, the host file, the names of the slots of the linked file, the host's
+-- own segment, and all segments by slot
 pub record ReadSegments : Type 0 where
   pub order : Order
   pub host : List ℕ
   pub names : List (List ℕ)
+  pub own : HostSegment
   pub items : List SegmentView
 
 -- Segments whose privates were allotted from `base` on, and that what stores the host's data size,
@@ -74,6 +85,6 @@ pub record AreLinkable (order : Order) (size : Edit) (base : ℕ) (ss : List Seg
 pub record IsNext (order : Order) (known : Known) (size : Edit) (earlier : List SegmentView) (s : SegmentView) (free : ℕ) : Type 0 where
   pub sound : IsSound order (segment_of s)
   pub room : free + private_words s.records < 65536
-  pub table : is_host s.role ≡ true → IsOfTable order s.code.now size
+  pub table : is_host s.role ≡ true → IsOfTable order s.code size
   pub alike : All (IsLike s) earlier
   pub named : All (λ q. HaveTargets known q.records) earlier

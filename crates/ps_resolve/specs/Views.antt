@@ -7,13 +7,26 @@ use Rattle.std.specs.Option.{option_or}
 use Rattle.ps_words.specs.declared.order.Order.{Order}
 use Rattle.ps_codefile.specs.Dictionary.{slots, block_len, information_of}
 use Rattle.ps_codefile.specs.declared.entry.Entry.{Entry}
+use Rattle.ps_codefile.specs.declared.entry.Role.{Role}
 use Rattle.ps_linkinfo.specs.Records.{reading}
 use Rattle.ps_linkinfo.specs.declared.record.LinkRecord.{LinkRecord as Record}
 use Rattle.ps_codefile.specs.Procedures.{tables_fault}
 use Rattle.ps_codefile.specs.Roles.{needs_linking, is_host, is_empty}
 use Rattle.ps_resolve.specs.Sources.{Segment, file_at}
 use Rattle.ps_resolve.specs.Faults.{is_role}
-use Rattle.ps_resolve.specs.declared.reading.segment.Segment.{Segment as SegmentView}
+
+-- A segment of the files: as a segment of the link, and the block of its file, from 0, in which the
+-- link information of one begins whose references are resolved.
+pub record SegmentView : Type 0 where
+  pub slot : ℕ
+  pub name : List ℕ
+  pub role : Role
+  pub added : Bool
+  pub file : ℕ
+  pub index : ℕ
+  pub code : List ℕ
+  pub block : ℕ
+  pub records : List Record
 
 -- a segment of the files, seen as a segment of the link
 abbrev pub segment_of : SegmentView → Segment
@@ -24,7 +37,7 @@ segment_of s = record {
   added = s.added;
   file = s.file;
   index = s.index;
-  code = s.code.now;
+  code = s.code;
   records = s.records;
 }
 
@@ -68,13 +81,12 @@ segment_in_slot order host own added slot = option_or (find (is_in_slot slot) ow
 unfoldable pub segments_in_slots : Order → List ℕ → List Segment → List Segment → List Segment
 segments_in_slots order host own added = filter_map (segment_in_slot order host own added) slots
 
--- the length of the code is within its limits, the procedure tables of a linked segment have no
--- fault, and one that is linked already has no records
+-- the length of the code is within its limits, and the procedure tables of a linked segment have no
+-- fault
 pub record IsSound (order : Order) (s : Segment) : Type 0 where
   pub small : length s.code ≤ 32767
   pub large : needs_linking s.role ≡ true → 4 ≤ length s.code
   pub tables : needs_linking s.role ≡ true → tables_fault order s.code (is_host s.role) ≡ None
-  pub plain : needs_linking s.role ≡ false → s.records ≡ []
   pub slot : s.slot ≤ 15
 
 -- a segment as the files have it: its records are those of its place, and it is sound

@@ -1,4 +1,4 @@
-ghost use Rattle.std.specs.Prelude.{◌≡◌, ◌<◌, ◌+◌, ◌++◌, [], IfOk, IfErr, None, length, map};
+ghost use Rattle.std.specs.Prelude.{◌≡◌, ◌<◌, ◌+◌, ◌++◌, [], IfOk, IfErr, None, length, map, unwrap_or};
 ghost use Rattle.ps_resolve.specs.Linkable.{AscendFrom};
 ghost use Rattle.ps_resolve.specs.Offsets.{FollowOn, offset_listed};
 ghost use Rattle.ps_resolve.specs.declared.linkage.Stop.TheVariants.{Memory};
@@ -125,9 +125,9 @@ pub(crate) trait AsksForPrivates {
     fn slot(&self) -> u8
         ensures { result ≡ (owner self.now).slot };
 
-    /// Its link information.
-    fn records(&self) -> LinkInformation<'_>
-        ensures { result ≡ (owner self.now).records };
+    /// Its link information; `None` where it is linked already, so that it has no records.
+    fn records(&self) -> Option<LinkInformation<'_>>
+        ensures { unwrap_or result [] ≡ (owner self.now).records };
 }
 
 impl<'a> AsksForPrivates for Linkage<'a> {
@@ -141,8 +141,8 @@ impl<'a> AsksForPrivates for Linkage<'a> {
         self.slot
     }
 
-    fn records(&self) -> LinkInformation<'_> {
-        LinkInformation::up_to_fault(self.order, self.bytes)
+    fn records(&self) -> Option<LinkInformation<'_>> {
+        Some(LinkInformation::up_to_fault(self.order, self.bytes))
     }
 }
 
@@ -157,8 +157,8 @@ impl<'a> AsksForPrivates for Segment<'a> {
         self.slot
     }
 
-    fn records(&self) -> LinkInformation<'_> {
-        self.records.copy()
+    fn records(&self) -> Option<LinkInformation<'_>> {
+        self.contents().map(|contents| contents.records.copy())
     }
 }
 
@@ -179,15 +179,10 @@ fn allot_all<A: Allocator + Copy, S: AsksForPrivates>(
     let mut privates = Vec::new(alloc);
     let mut free = next;
     for segment in segments {
-        let records = segment.records();
-        free = allot(
-            alloc,
-            segment.file(),
-            segment.slot(),
-            &records,
-            free,
-            &mut privates,
-        )?;
+        if let Some(records) = segment.records() {
+            let (file, slot) = (segment.file(), segment.slot());
+            free = allot(alloc, file, slot, &records, free, &mut privates)?;
+        }
     }
     Ok((privates, free))
 }

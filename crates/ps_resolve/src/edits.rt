@@ -31,19 +31,19 @@ const NUMBER_FROM_END: usize = 2;
 const MOST_EDITS_BESIDE_REFERENCES: usize = 2;
 
 /// The edits of a linked segment that are no reference's: its number, and in the host's segment
-/// `size`. There is room for those of its references.
+/// `size`. There is room for those of this many references.
 fn own_edits<A: Allocator + Copy>(
     alloc: A,
     segment: &Segment,
+    references: usize,
     size: Edit,
 ) -> Result<Vec<Edit, A>, Stop>
-    requires { 4 ≤ length segment.now.code.now }
+    requires { 4 ≤ length segment.now.code }
     ensures items { IfOk result (λ edits. edits.items
-        ≡ Byte segment.now.slot (length segment.now.code.now - 2)
+        ≡ Byte segment.now.slot (length segment.now.code - 2)
         ∷ option_to_list (data_size_edit (is_host_spec segment.now.role) size)) }
     ensures stop { IfErr result (λ stop. stop ≡ Memory) }
 {
-    let references = segment.records.references();
     let room = references.saturating_add(MOST_EDITS_BESIDE_REFERENCES);
     let mut edits = Vec::with_capacity(alloc, room)?;
     edits.push(Edit::Byte {
@@ -71,7 +71,7 @@ pub(crate) fn segment_edits<'a, A: Allocator + Copy>(
         earlier.now segment.now free }
     ensures links { (words : ℕ)
         → (is_host_spec segment.now.role ≡ true
-        → data_edits link.now.order words segment.now.code.now ≡ link.now.size ∷ [])
+        → data_edits link.now.order words segment.now.code ≡ link.now.size ∷ [])
         → IfOk result (λ found. LinksSegment link.now.order
         (record {
           segment = segment_of segment.now;
@@ -84,12 +84,15 @@ pub(crate) fn segment_edits<'a, A: Allocator + Copy>(
     ensures stop { IfErr result (IsStop ⊤
         (segment_fault link.now.order link.now.names.now free (segment_of segment.now))) }
 {
-    if !segment.role.needs_linking() {
-        return Ok((Vec::new(alloc), free));
+    match segment.contents() {
+        None => Ok((Vec::new(alloc), free)),
+        Some(contents) => {
+            edits_patch_alike_in_any_order();
+            let references = contents.records.references();
+            let mut edits = own_edits(alloc, segment, references, link.size)?;
+            let end = add_records(link, earlier, segment, &contents.records, free, &mut edits)?;
+            let ordered = sorted_edits(alloc, segment.code.len(), edits)?;
+            Ok((ordered, end))
+        }
     }
-    edits_patch_alike_in_any_order();
-    let mut edits = own_edits(alloc, segment, link.size)?;
-    let end = add_records(link, earlier, segment, free, &mut edits)?;
-    let ordered = sorted_edits(alloc, segment.code.len(), edits)?;
-    Ok((ordered, end))
 }

@@ -28,6 +28,19 @@ pub(crate) struct SegmentPlace {
     pub(crate) slot: u8,
 }
 
+impl SegmentPlace {
+    /// Where the record of this index, from 0, of the segment's link information is.
+    pub(crate) fn record(self, rec: usize) -> RecordPlace
+        ensures { result ≡ record { file = self.file; slot = self.slot; rec = rec } }
+    {
+        RecordPlace {
+            file: self.file,
+            slot: self.slot,
+            rec,
+        }
+    }
+}
+
 /// Where a record is.
 #[derive(Clone, Copy)]
 pub(crate) struct RecordPlace {

@@ -1,12 +1,10 @@
-ghost use Rattle.std.specs.Prelude.{◌≡◌, ℕ, ◌≤◌, ◌∷◌, [], length, map, All, true, None, IfOk, IfErr, IfSome};
-ghost use Rattle.std.specs.Option.{option_map};
+ghost use Rattle.std.specs.Prelude.{◌≡◌, ℕ, ◌≤◌, ◌∷◌, [], length, map, All, true, None, IfOk, IfErr};
 ghost use Rattle.ps_resolve.specs.Edits.{AreOfReferences};
 ghost use Rattle.ps_resolve.specs.Faults.{references_fault_from, linking_fault};
 ghost use Rattle.ps_resolve.specs.Linkable.{AreLinkable};
 ghost use Rattle.ps_resolve.specs.Linking.{data_edits, edited_from};
 ghost use Rattle.ps_resolve.specs.Plans.{AreStopped, IsPlanOf, LinkSegments, origin_of, origin_of_source};
 ghost use Rattle.ps_codefile.specs.Roles.{is_host as is_host_spec};
-ghost use Rattle.ps_resolve.specs.Sources.{host_of as host_of_spec};
 ghost use Rattle.ps_resolve.specs.Views.{segment_of};
 ghost use Rattle.ps_resolve.specs.declared.linkage.Stop.TheVariants.{Memory};
 
@@ -23,20 +21,6 @@ use crate::references::names::{Linking, Names, UnitSlots};
 use arrayvec::ArrayVec;
 use ps_words::Edit;
 use std::alloc::Allocator;
-
-/// The host's own segment.
-fn host_of<'s, 'a>(segments: &'s [Segment<'a>]) -> Option<&'s Segment<'a>>
-    ensures found { option_map (λ host. segment_of host.now) result
-        ≡ host_of_spec (map segment_of segments.now) }
-    ensures role { IfSome result (λ host. is_host_spec host.now.role ≡ true) }
-{
-    for segment in segments {
-        if segment.role.is_host() {
-            return Some(segment);
-        }
-    }
-    None
-}
 
 /// The edits of each segment, where the first private has the offset `base`.
 fn all_edits<A: Allocator + Copy>(
@@ -103,35 +87,32 @@ pub(crate) fn link_segments<'a, A: Allocator + Copy>(
 {
     let order = segments.order;
     let all = segments.items.as_slice();
-    match host_of(all) {
-        None => unreachable!(),
-        Some(own) => {
-            let definitions = Definitions::of_records(alloc, HOST_FILE, own.slot, &own.records)?;
-            let base = own.records.next();
-            let allotment = Allotment::of_segments(alloc, base, all)?;
-            let size = grown_data_size(order, own, allotment.words())?;
-            let units = UnitSlots::of(all);
-            let known = Names {
-                definitions: &definitions,
-                units: &units,
-            };
-            let link = Linking {
-                order,
-                names: &known,
-                size: size.edit(),
-            };
-            let edits = all_edits(alloc, &link, all, base)?;
-            let sources = sources_of(all);
-            Ok(Plan {
-                order,
-                host: segments.host,
-                names: segments.names,
-                sources,
-                edits,
-                definitions,
-                allotment,
-                data_size: size.size,
-            })
-        }
-    }
+    let own = &segments.own;
+    let slot = own.segment.place().slot;
+    let definitions = Definitions::of_records(alloc, HOST_FILE, slot, &own.records)?;
+    let base = own.records.next();
+    let allotment = Allotment::of_segments(alloc, base, all)?;
+    let size = grown_data_size(order, own, allotment.words())?;
+    let units = UnitSlots::of(all);
+    let known = Names {
+        definitions: &definitions,
+        units: &units,
+    };
+    let link = Linking {
+        order,
+        names: &known,
+        size: size.edit(),
+    };
+    let edits = all_edits(alloc, &link, all, base)?;
+    let sources = sources_of(all);
+    Ok(Plan {
+        order,
+        host: segments.host,
+        names: segments.names,
+        sources,
+        edits,
+        definitions,
+        allotment,
+        data_size: size.size,
+    })
 }

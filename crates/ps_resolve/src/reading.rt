@@ -10,6 +10,7 @@ ghost use Rattle.ps_resolve.specs.AllFaults.{reading_fault, reading_rest};
 ghost use Rattle.ps_resolve.specs.Views.{segment_of, IsRead, is_in_slot, segment_in_slot, segments_in_slots};
 
 pub(crate) mod added;
+pub(crate) mod host;
 pub(crate) mod libraries;
 pub(crate) mod segment;
 pub(crate) mod slots;
@@ -17,6 +18,7 @@ pub(crate) mod sources;
 pub(crate) mod units;
 
 use crate::reading::added::{add_units, empty_slots};
+use crate::reading::host::{HostSegment, host_of};
 use crate::reading::libraries::libraries_fault;
 use crate::reading::segment::Segment;
 use crate::reading::slots::{HOST_FILE, HostSlots, is_empty, no_host_fault, slots_fault};
@@ -24,7 +26,7 @@ use crate::reading::sources::{add, read_slots};
 use arrayvec::ArrayVec;
 use ps_codefile::Dict;
 use ps_codefile::dictionary_layout::SLOTS;
-use ps_words::{Fault, Name, Order};
+use ps_words::{Fault, Name, Order, Reason};
 use std::marker::Model;
 
 /// The segment that is in a slot.
@@ -175,7 +177,9 @@ pub(crate) struct Segments<'a> {
     pub(crate) host: &'a [u8],
     /// The names of all slots in the linked file.
     pub(crate) names: [Name; 16],
-    /// The segments by slot ascending.
+    /// The host's own segment.
+    pub(crate) own: HostSegment<'a>,
+    /// All segments by slot ascending.
     pub(crate) items: ArrayVec<Segment<'a>, 16>,
 }
 
@@ -184,9 +188,9 @@ impl<'a> Model for Segments<'a> {
 
     ghost Value = { ReadSegments };
 
-    ghost view = { λ s. record { order = s.order; host = s.host.now; names = s.names; items = s.items.items } };
+    ghost view = { λ s. record { order = s.order; host = s.host.now; names = s.names; own = s.own; items = s.items.items } };
 
-    ghost invariant = { λ s. AreSegments s.order s.host.now s.names s.items.items };
+    ghost invariant = { λ s. AreSegments s.order s.host.now s.names s.own s.items.items };
 }
 
 /// The segments of a link, or the first fault of reading the files.
@@ -202,13 +206,20 @@ pub(crate) fn read_segments<'a>(host: &'a [u8], libs: &'a [&'a [u8]]) -> Result<
         Err(reason) => Err(Fault::in_file(HOST_FILE, reason)),
         Ok(dict) => {
             let slots = HostSlots::of(dict);
+            let order = slots.order();
             let items = read_sources(&slots, libs)?;
-            Ok(Segments {
-                order: slots.order(),
-                host,
-                names: slot_names(&slots, items.as_slice()),
-                items,
-            })
+            let all = items.as_slice();
+            let names = slot_names(&slots, all);
+            match host_of(order, all) {
+                None => Err(Fault::in_file(HOST_FILE, Reason::NoHost)),
+                Some(own) => Ok(Segments {
+                    order,
+                    host,
+                    names,
+                    own,
+                    items,
+                }),
+            }
         }
     }
 }

@@ -1,16 +1,16 @@
 ghost use Rattle.std.specs.Prelude.{◌≡◌, ℕ, ◌≤◌, ◌+◌, ◌-◌, ◌∷◌, [], length, true, Some, None, IfOk, IfErr};
 ghost use Rattle.ps_words.specs.declared.edit.Edit.TheVariants.{Word};
-ghost use Rattle.ps_codefile.specs.Procedures.{table_of};
 ghost use Rattle.ps_resolve.specs.Edits.{IsOfSize, IsOfTable};
 ghost use Rattle.ps_resolve.specs.Faults.{size_fault};
 ghost use Rattle.ps_resolve.specs.Linking.{data_edits, data_size_of};
+ghost use Rattle.ps_codefile.specs.Procedures.{table_of};
 ghost use Rattle.ps_codefile.specs.Roles.{is_host as is_host_spec};
 ghost use Rattle.ps_resolve.specs.Views.{segment_of, IsSound};
 
 use crate::linkage::Stop;
-use crate::reading::segment::Segment;
+use crate::reading::host::HostSegment;
 use crate::reading::slots::HOST_FILE;
-use ps_codefile::code_layout::{DATA_SIZE_BEFORE_TABLE, OUTER_BLOCK};
+use ps_codefile::code_layout::DATA_SIZE_BEFORE_TABLE;
 use ps_words::{Edit, Fault, Order, Reason, WORD_LEN, get};
 
 /// The data size of the host's outer block, grown by the private words.
@@ -37,29 +37,31 @@ impl DataSize {
 /// The data size of the outer block of the host's segment, grown by two bytes for each private
 /// word.
 /// Refuses `DataTooLarge` where it is over 65535.
-pub(crate) fn grown_data_size(order: Order, host: &Segment, words: u16) -> Result<DataSize, Stop>
-    requires host { is_host_spec host.now.role ≡ true }
-    requires sound { IsSound order (segment_of host.now) }
-    ensures edit { IfOk result (λ d. data_edits order words host.now.code.now
+pub(crate) fn grown_data_size(
+    order: Order,
+    host: &HostSegment,
+    words: u16,
+) -> Result<DataSize, Stop>
+    requires role { is_host_spec host.now.segment.role ≡ true }
+    requires sound { IsSound order (segment_of host.now.segment) }
+    requires table { table_of order host.now.segment.code 1 ≡ Some host.now.outer_block }
+    ensures edit { IfOk result (λ d. data_edits order words host.now.segment.code
         ≡ Word d.size d.place ∷ []) }
-    ensures size { IfOk result (λ d. d.size ≡ data_size_of order words host.now.code.now) }
-    ensures table { IfOk result (λ d. IsOfTable order host.now.code.now (Word d.size d.place)) }
-    ensures fits { IfOk result (λ _. size_fault order words (segment_of host.now) ≡ None) }
-    ensures stop { IfErr result (IsOfSize order words (segment_of host.now)) }
+    ensures size { IfOk result (λ d. d.size ≡ data_size_of order words host.now.segment.code) }
+    ensures table { IfOk result (λ d. IsOfTable order host.now.segment.code
+        (Word d.size d.place)) }
+    ensures fits { IfOk result (λ _. size_fault order words (segment_of host.now.segment) ≡ None) }
+    ensures stop { IfErr result (IsOfSize order words (segment_of host.now.segment)) }
 {
-    match host.procedures(order).table(OUTER_BLOCK) {
-        None => unreachable!(),
-        Some(table) => {
-            let place = table - DATA_SIZE_BEFORE_TABLE;
-            let size = get(order, host.code, place) as usize + WORD_LEN * words as usize;
-            if size > u16::MAX as usize {
-                let reason = Reason::DataTooLarge;
-                return Err(Stop::Refused(Fault::in_slot(HOST_FILE, host.slot, reason)));
-            }
-            Ok(DataSize {
-                place,
-                size: size as u16,
-            })
-        }
+    let place = host.outer_block - DATA_SIZE_BEFORE_TABLE;
+    let size = get(order, host.segment.code, place) as usize + WORD_LEN * words as usize;
+    if size > u16::MAX as usize {
+        let slot = host.segment.slot;
+        let fault = Fault::in_slot(HOST_FILE, slot, Reason::DataTooLarge);
+        return Err(Stop::Refused(fault));
     }
+    Ok(DataSize {
+        place,
+        size: size as u16,
+    })
 }

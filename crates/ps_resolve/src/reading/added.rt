@@ -11,7 +11,7 @@ ghost use Rattle.ps_resolve.specs.Faults.{is_role, libraries_fault};
 ghost use Rattle.ps_resolve.specs.Linkable.{MayBeAddedTo};
 ghost use Rattle.ps_resolve.specs.Views.{segment_of, IsRead, IsLike, AreAlike};
 
-use crate::linkage::SegmentPlace;
+use crate::linkage::{RecordPlace, SegmentPlace};
 use crate::reading::segment::Segment;
 use crate::reading::slots::{HostSlots, is_empty, library_file};
 use crate::reading::sources::{known_records, read_segment};
@@ -20,7 +20,7 @@ use crate::references::names::UnitSlots;
 use arrayvec::ArrayVec;
 use ps_codefile::dictionary_layout::{FIRST_ADDED, SLOTS};
 use ps_codefile::{Role, is_nameless};
-use ps_linkinfo::{Body, LinkRecord};
+use ps_linkinfo::{Body, LinkInformation, LinkRecord};
 use ps_words::{Fault, Name, Order, Reason};
 
 /// How many units may be added: one in each slot from the first on.
@@ -110,17 +110,16 @@ fn enqueue(units: &UnitSlots, queue: &mut ArrayVec<UnitReference, 10>, reference
     }
 }
 
-/// Appends a record of a segment to the queue, if it requests a unit whose name is not known yet.
+/// Appends the record that is there to the queue, if it requests a unit whose name is not known yet.
 fn enqueue_record(
     units: &UnitSlots,
     queue: &mut ArrayVec<UnitReference, 10>,
-    segment: &Segment,
-    rec: usize,
+    place: RecordPlace,
     entry: &LinkRecord,
 )
     requires { length queue.old.items ≤ 10 }
     ensures { queue.new.items ≡ take 10 (requested_from units.now queue.old.items
-        (unit_references segment.now.file segment.now.slot rec (entry.now ∷ []))) }
+        (unit_references place.file place.slot place.rec (entry.now ∷ []))) }
 {
     match &entry.body {
         Body::UnitRef(_) => enqueue(
@@ -128,9 +127,9 @@ fn enqueue_record(
             queue,
             UnitReference {
                 name: entry.name,
-                file: segment.file,
-                slot: segment.slot,
-                rec,
+                file: place.file,
+                slot: place.slot,
+                rec: place.rec,
             },
         ),
         Body::PublRef(_)
@@ -141,17 +140,33 @@ fn enqueue_record(
     }
 }
 
+/// Appends the unit names that these records of the segment that is there request to the queue.
+fn enqueue_records(
+    units: &UnitSlots,
+    queue: &mut ArrayVec<UnitReference, 10>,
+    place: SegmentPlace,
+    records: &LinkInformation,
+)
+    requires { length queue.old.items ≤ 10 }
+    ensures { queue.new.items ≡ take 10 (requested_from units.now queue.old.items
+        (unit_references place.file place.slot 0 records.now)) }
+{
+    if records.units() == 0 {
+        return;
+    }
+    for (rec, record) in records.records() {
+        enqueue_record(units, queue, place.record(rec), &record);
+    }
+}
+
 /// Appends the unit names that the records of a segment request to the queue.
-fn enqueue_records(units: &UnitSlots, queue: &mut ArrayVec<UnitReference, 10>, segment: &Segment)
+fn enqueue_segment(units: &UnitSlots, queue: &mut ArrayVec<UnitReference, 10>, segment: &Segment)
     requires { length queue.old.items ≤ 10 }
     ensures { queue.new.items ≡ take 10 (requested_from units.now queue.old.items
         (unit_references segment.now.file segment.now.slot 0 segment.now.records)) }
 {
-    if segment.records.units() == 0 {
-        return;
-    }
-    for (rec, record) in segment.records.records() {
-        enqueue_record(units, queue, segment, rec, &record);
+    if let Some(contents) = segment.contents() {
+        enqueue_records(units, queue, segment.place(), &contents.records);
     }
 }
 
@@ -172,7 +187,7 @@ fn enqueue_unshared<'a>(
     if segment.shares_with(earlier) {
         return;
     }
-    enqueue_records(units, queue, segment);
+    enqueue_segment(units, queue, segment);
 }
 
 /// The queue of the unit names that the host's own segments request.
@@ -256,10 +271,7 @@ fn read_added<'a>(
                     unit.index,
                     known_records(known, &unit.dict, file, unit.index),
                 )?;
-                Ok(Segment {
-                    added: true,
-                    ..segment
-                })
+                Ok(segment.into_added())
             }
         },
     }
@@ -301,7 +313,7 @@ pub(crate) fn add_units<'a>(
             None => return Ok(added),
             Some(requested) => {
                 let segment = read_added(order, libs, &requested, *slot, added.as_slice())?;
-                enqueue_records(&units, &mut queue, &segment);
+                enqueue_segment(&units, &mut queue, &segment);
                 added.push(segment);
             }
         }

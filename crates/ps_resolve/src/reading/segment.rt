@@ -1,11 +1,23 @@
-ghost use Rattle.std.specs.Prelude.{◌≡◌, List, true, IfSome, ◌&&◌, None, false};
+ghost use Rattle.std.specs.Prelude.{◌≡◌, [], List, true, IfSome, ◌&&◌, None, false, is_some};
+ghost use Rattle.std.specs.Option.{option_map_or};
 ghost use Rattle.ps_linkinfo.specs.declared.record.LinkRecord.{LinkRecord as Record};
 ghost use Rattle.ps_codefile.specs.Roles.{needs_linking as needs_linking_spec};
 ghost use Rattle.ps_resolve.specs.Views.{segment_of, has_records_at, HasRecordsAt, IsSound};
 
+use crate::linkage::SegmentPlace;
 use ps_codefile::{Procs, Role};
 use ps_linkinfo::LinkInformation;
 use ps_words::{Name, Order};
+use std::marker::Model;
+
+/// What only a segment has whose references are resolved.
+#[derive(Drop)]
+pub(crate) struct Contents<'a> {
+    /// The block of its file, from 0, in which its link information begins.
+    pub(crate) block: usize,
+    /// Its link information, read whole.
+    pub(crate) records: LinkInformation<'a>,
+}
 
 /// A segment of the linked file, as the files have it.
 #[derive(Drop)]
@@ -23,10 +35,33 @@ pub(crate) struct Segment<'a> {
     /// The slot of its entry in that file, 0 to 15.
     pub(crate) index: u8,
     pub(crate) code: &'a [u8],
-    /// The block of that file, from 0, in which its link information begins.
-    pub(crate) block: usize,
-    /// Its link information, read whole; no records where the segment is linked already.
-    pub(crate) records: LinkInformation<'a>,
+    /// What it is linked by; `None` just where its role is that of a segment that is linked already.
+    pub(crate) contents: Option<Contents<'a>>,
+}
+
+impl<'a> Model for Segment<'a> {
+    ghost use Rattle.std.specs.Prelude.{◌≡◌, [], is_some};
+    ghost use Rattle.std.specs.Option.{option_map_or};
+    ghost use Rattle.ps_codefile.specs.Roles.{needs_linking};
+    ghost use Rattle.ps_resolve.specs.Views.{SegmentView};
+
+    ghost Value = { SegmentView };
+
+    ghost view = { λ s. record { slot = s.slot; name = s.name; role = s.role; added = s.added; file = s.file; index = s.index; code = s.code.now; block = option_map_or (λ c. c.block) s.contents 0; records = option_map_or (λ c. c.records) s.contents [] } };
+
+    ghost invariant = { λ s. is_some s.contents ≡ needs_linking s.role };
+}
+
+impl<'a> Contents<'a> {
+    /// A copy, which borrows the same bytes.
+    fn copy(&self) -> Contents<'a>
+        ensures { result ≡ self.now }
+    {
+        Contents {
+            block: self.block,
+            records: self.records.copy(),
+        }
+    }
 }
 
 impl<'a> Segment<'a> {
@@ -42,8 +77,36 @@ impl<'a> Segment<'a> {
             file: self.file,
             index: self.index,
             code: self.code,
-            block: self.block,
-            records: self.records.copy(),
+            contents: self.contents.as_ref().map(|contents| contents.copy()),
+        }
+    }
+
+    /// The same segment, as one that was added.
+    pub(crate) fn into_added(self) -> Segment<'a>
+        ensures { result ≡ record self.entry { added = true } }
+    {
+        Segment {
+            added: true,
+            ..self
+        }
+    }
+
+    /// What it is linked by; `None` where it is linked already, so that it has no records.
+    pub(crate) fn contents(&self) -> Option<&Contents<'a>>
+        ensures linked { is_some result ≡ needs_linking_spec self.now.role }
+        ensures records { option_map_or (λ c. c.now.records) result [] ≡ self.now.records }
+        ensures block { IfSome result (λ c. c.now.block ≡ self.now.block) }
+    {
+        self.contents.as_ref()
+    }
+
+    /// Where it is.
+    pub(crate) fn place(&self) -> SegmentPlace
+        ensures { result ≡ record { file = self.now.file; slot = self.now.slot } }
+    {
+        SegmentPlace {
+            file: self.file,
+            slot: self.slot,
         }
     }
 
@@ -51,7 +114,7 @@ impl<'a> Segment<'a> {
     pub(crate) fn procedures(&self, order: Order) -> Procs<'a>
         requires linked { needs_linking_spec self.now.role ≡ true }
         requires sound { IsSound order (segment_of self.now) }
-        ensures { result ≡ record { order = order; code = self.now.code.now } }
+        ensures { result ≡ record { order = order; code = self.now.code } }
     {
         match Procs::read(order, self.code, self.role.is_host()) {
             Err(_) => unreachable!(),
@@ -68,7 +131,10 @@ impl<'a> Segment<'a> {
         ensures own { result ≡ false → (needs_linking_spec self.now.role
             && has_records_at self.now.file self.now.block segments.now) ≡ false }
     {
-        self.role.needs_linking() && records_at(segments, self.file, self.block).is_some()
+        match self.contents() {
+            None => false,
+            Some(contents) => records_at(segments, self.file, contents.block).is_some(),
+        }
     }
 }
 
@@ -83,8 +149,10 @@ pub(crate) fn records_at<'a>(
     ensures none { result ≡ None → has_records_at file block segments.now ≡ false }
 {
     for segment in segments {
-        if segment.role.needs_linking() && segment.file == file && segment.block == block {
-            return Some(segment.records.copy());
+        if let Some(contents) = segment.contents() {
+            if segment.file == file && contents.block == block {
+                return Some(contents.records.copy());
+            }
         }
     }
     None

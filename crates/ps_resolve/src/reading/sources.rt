@@ -12,7 +12,7 @@ ghost use Rattle.ps_resolve.specs.Faults.{code_fault, libraries_fault as librari
 ghost use Rattle.ps_resolve.specs.Views.{segment_of, IsPlaced, IsRead, AreRecordsOf, IsSound};
 
 use crate::linkage::SegmentPlace;
-use crate::reading::segment::{Segment, records_at};
+use crate::reading::segment::{Contents, Segment, records_at};
 use crate::reading::slots::{HOST_FILE, HostSlots, library_file};
 use crate::reading::units::unit_source;
 use arrayvec::ArrayVec;
@@ -26,13 +26,12 @@ impl<'a> Default for Segment<'a> {
         Segment {
             slot: 0,
             name: [0; 8],
-            role: Role::Empty,
+            role: Role::Plain,
             added: false,
             file: 0,
             index: 0,
             code: &[],
-            block: 0,
-            records: LinkInformation::none(),
+            contents: None,
         }
     }
 }
@@ -90,7 +89,7 @@ fn read_contents<'a>(
     role: Role,
     place: SegmentPlace,
     known: Option<LinkInformation<'a>>,
-) -> Result<LinkInformation<'a>, Fault>
+) -> Result<Option<LinkInformation<'a>>, Fault>
     requires large { needs_linking_spec role ≡ true → 2 ≤ length code.now }
     requires known { IfSome known (λ records. reading order information.now ≡ (records, None)) }
     ensures fault { result_err result ≡ (if needs_linking_spec role
@@ -100,16 +99,16 @@ fn read_contents<'a>(
         (reading order information.now).1)
         else None) }
     ensures records { IfOk result (λ records. records
-        ≡ (if needs_linking_spec role then (reading order information.now).0 else [])) }
+        ≡ (if needs_linking_spec role then Some (reading order information.now).0 else None)) }
 {
     if !role.needs_linking() {
-        return Ok(LinkInformation::none());
+        return Ok(None);
     }
     match Procs::read(order, code, role.is_host()) {
         Err(reason) => Err(Fault::in_slot(place.file, place.slot, reason)),
         Ok(_) => match known {
-            Some(records) => Ok(records),
-            None => read_information(order, information, place),
+            Some(records) => Ok(Some(records)),
+            None => Ok(Some(read_information(order, information, place)?)),
         },
     }
 }
@@ -147,6 +146,7 @@ pub(crate) fn read_segment<'a>(
         Err(reason) => Err(Fault::in_slot(place.file, place.slot, reason)),
         Ok(code) => {
             let after = from.after(index);
+            let block = block_behind(from, index);
             let records = read_contents(from.order(), code, after, role, place, known)?;
             Ok(Segment {
                 slot: place.slot,
@@ -156,8 +156,7 @@ pub(crate) fn read_segment<'a>(
                 file: place.file,
                 index,
                 code,
-                block: block_behind(from, index),
-                records,
+                contents: records.map(|records| Contents { block, records }),
             })
         }
     }

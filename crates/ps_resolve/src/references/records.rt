@@ -103,7 +103,12 @@ fn asks_for_nothing(records: &LinkInformation) -> bool
 
 /// The segment has the records of an earlier one, so what they name is found, and none of them has
 /// a reference or requests a private.
-fn is_resolved<'a>(earlier: &[Segment<'a>], segment: &Segment<'a>) -> bool
+fn is_resolved<'a>(
+    earlier: &[Segment<'a>],
+    segment: &Segment<'a>,
+    records: &LinkInformation<'a>,
+) -> bool
+    requires { records.now ≡ segment.now.records }
     ensures records { result ≡ true
         → (records : List Record) × HasRecordsAt earlier.now segment.now.file segment.now.block records }
     ensures references { result ≡ true → references_in segment.now.records ≡ 0 }
@@ -112,9 +117,7 @@ fn is_resolved<'a>(earlier: &[Segment<'a>], segment: &Segment<'a>) -> bool
         && privates_in segment.now.records == 0 && needs_linking segment.now.role
         && has_records_at segment.now.file segment.now.block earlier.now) ≡ false }
 {
-    segment.records.references() == 0
-        && segment.records.privates() == 0
-        && segment.shares_with(earlier)
+    records.references() == 0 && records.privates() == 0 && segment.shares_with(earlier)
 }
 
 /// Adds the edits of all records of a linked segment after others, the first of whose privates has
@@ -124,36 +127,33 @@ pub(crate) fn add_records<'a, A: Allocator + Copy>(
     link: &Linking<A>,
     earlier: &[Segment<'a>],
     segment: &Segment<'a>,
+    records: &LinkInformation<'a>,
     free: u16,
     edits: &mut Vec<Edit, A>,
 ) -> Result<u16, Stop>
+    requires records { records.now ≡ segment.now.records }
     requires linked { needs_linking segment.now.role ≡ true }
     requires next { IsNext link.now.order link.now.names.now link.now.size
         earlier.now segment.now free }
     ensures edits { OnOk result (edits.new.items ≡ edits.old.items
-        ++ records_edits link.now.names.now segment.now.code.now free segment.now.records) }
+        ++ records_edits link.now.names.now segment.now.code free segment.now.records) }
     ensures end { IfOk result (λ end. end ≡ free + private_words segment.now.records) }
     ensures sound { OnOk result
         (segment_fault link.now.order link.now.names.now free (segment_of segment.now) ≡ None) }
     ensures stop { IfErr result (IsStop ⊤
         (segment_fault link.now.order link.now.names.now free (segment_of segment.now))) }
 {
-    let records = &segment.records;
     if asks_for_nothing(records) {
         return Ok(free);
     }
-    if is_resolved(earlier, segment) {
+    if is_resolved(earlier, segment, records) {
         return Ok(free);
     }
     let procedures = segment.procedures(link.order);
     let mut taken = procedures.reserved_places();
     let mut next = free;
     for (rec, record) in records.records() {
-        let place = RecordPlace {
-            file: segment.file,
-            slot: segment.slot,
-            rec,
-        };
+        let place = segment.place().record(rec);
         match target_of(link.names, next, &record) {
             Err(reason) => return Err(place.stop_for(reason)),
             Ok(target) => {

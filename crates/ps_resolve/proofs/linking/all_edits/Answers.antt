@@ -12,7 +12,7 @@ use Rattle.ps_resolve.specs.Privates.{owner_of, all_words}
 use Rattle.ps_resolve.specs.References.{Known, HaveTargets}
 use Rattle.ps_resolve.specs.Sources.{Segment}
 use Rattle.ps_resolve.specs.Views.{segment_of, IsSound, IsLike}
-use Rattle.ps_resolve.specs.declared.reading.segment.Segment.{Segment as SegmentView}
+use Rattle.ps_resolve.specs.Views.{SegmentView}
 use Rattle.ps_resolve.proofs.AllSegments.{room_at, words_on, first_on, links_on, none_left}
 use Rattle.ps_resolve.proofs.FirstSlots.{none_mapped}
 use Rattle.ps_resolve.proofs.Segs.{at_map, map_push}
@@ -59,7 +59,7 @@ loop-index-preserved g c =
           (c.in_ok-found.ensures.links words (at_map (λ (s : Segment). is_host s.role ≡ true → data_edits order words s.code ≡ size ∷ []) segment_of ss i v lt is all))
           (inv.links words all) behind h);
       named = all_taken (λ (s : SegmentView). HaveTargets known s.records) i ss v lt is inv.named
-          (have_targets known (is_reserved order v.code.now) v.code.now v.records 0 free [] (none_mapped _ _ sound));
+          (have_targets known (is_reserved order v.code) v.code v.records 0 free [] (none_mapped _ _ sound));
     }
 
 pub returns-clause-links : goal.returns-clause-links

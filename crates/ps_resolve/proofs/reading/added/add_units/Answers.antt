@@ -7,7 +7,7 @@ use Rattle.ps_resolve.specs.Sources.{Segment, units_of}
 use Rattle.ps_resolve.specs.Added.{Rounds, requested_from, unit_references, all_unit_references, rounds_from}
 use Rattle.ps_resolve.specs.Views.{segment_of, IsRead}
 use Rattle.ps_resolve.specs.declared.reading.added.UnitReference.{UnitReference}
-use Rattle.ps_resolve.specs.declared.reading.segment.Segment.{Segment as SegmentView}
+use Rattle.ps_resolve.specs.Views.{SegmentView}
 use Rattle.ps_resolve.proofs.Adding.{at_round, kept, no_name_left, no_slot_left, round_refused, round_adds, joined, joined_more}
 use Rattle.ps_resolve.proofs.ReadingLibraries.{files}
 use Rattle.ps_resolve.proofs.ReadingSources.{all_with}
@@ -77,7 +77,7 @@ loop-slot-preserved c =
     let queue = inv.rounds.0 in
     let next = requested_from units queue gs in
     let at = at_round queue c.loop-slot.queue.items i c.len.result (Some c.in-Some.requested) inv.rounds.1 (omega arith) (c.len.ensures.value ∙ inv.count) c.in-Some.ensures in
-    let is : c.enqueue_records.new.queue.items ≡ take 10 next = c.enqueue_records.ensures
+    let is : c.enqueue_segment.new.queue.items ≡ take 10 next = c.enqueue_segment.ensures
     ∙ (ap (λ (u : List (List ℕ × ℕ)). take 10 (requested_from u c.loop-slot.queue.items gs)) c.of-units.ensures
     ∙ (ap (λ (q : List UnitReference). take 10 (requested_from units q gs)) inv.rounds.1 ∙ kept units queue gs)) in
     let pushed : map segment_of c.push.new.self.items ≡ xs ++ s ∷ [] = ap (map segment_of) c.push.ensures.items ∙ map-append segment_of old (c.in_ok-segment-in-Some.segment ∷ []) in

@@ -5,7 +5,7 @@ use Rattle.ps_resolve.specs.Sources.{Segment}
 use Rattle.ps_resolve.specs.Added.{AreAlreadyKnown, requested_from, unit_references, all_unit_references}
 use Rattle.ps_resolve.specs.Views.{segment_of, IsLike}
 use Rattle.ps_resolve.specs.declared.reading.added.UnitReference.{UnitReference}
-use Rattle.ps_resolve.specs.declared.reading.segment.Segment.{Segment as SegmentView}
+use Rattle.ps_resolve.specs.Views.{SegmentView}
 use Rattle.ps_resolve.proofs.Adding.{kept_segment, few_kept}
 use Rattle.ps_resolve.proofs.Segs.{drop_at}
 use Rattle.ps_resolve.proofs.Requesting.{known_here, still_known}

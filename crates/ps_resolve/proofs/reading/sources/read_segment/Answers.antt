@@ -18,6 +18,5 @@ returns-in_ok-records-in-Ok-clause-sound c =
           let none = sym c.in_ok-records-in-Ok.ensures.fault in
           let tables = rw linked at none in
           ap (λ (o : Order). tables_fault o c.in-Ok.code.now (is_host c.args.role)) (sym c.order.ensures) ∙ none_mapped _ _ (neither_first _ _ tables);
-      plain = λ linked. let read = c.in_ok-records-in-Ok.ensures.records in rw linked at read;
       slot = omega arith;
     }

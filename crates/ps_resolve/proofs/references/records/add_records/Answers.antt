@@ -5,15 +5,19 @@ use Rattle.std.specs.Option.{option_map}
 use Rattle.ps_words.specs.declared.edit.Edit.{Edit}
 use Rattle.ps_words.specs.declared.fault.Reason.{Reason}
 use Rattle.ps_linkinfo.specs.Records.{refs_of}
+use Rattle.ps_linkinfo.specs.RecordCounts.{units_in, publics_in, privates_in}
+use Rattle.ps_linkinfo.specs.Numbered.{numbered_records}
 use Rattle.ps_codefile.specs.Procedures.{is_reserved, ProcedureTables}
 use Rattle.ps_linkinfo.specs.declared.record.LinkRecord.{LinkRecord as Record}
 use Rattle.ps_resolve.specs.Operands.{operands}
+use Rattle.ps_resolve.specs.Edits.{refs_fault_at}
 use Rattle.ps_resolve.specs.Faults.{in_segment, segment_fault}
 use Rattle.ps_resolve.specs.References.{Known, HaveTargets, records_edits, records_fault, words_taken}
 use Rattle.ps_resolve.specs.Stops.{IsStop}
 use Rattle.ps_resolve.specs.Views.{segment_of}
+use Rattle.ps_resolve.specs.declared.linkage.RecordPlace.{RecordPlace}
 use Rattle.ps_resolve.specs.declared.linkage.Stop.{Stop}
-use Rattle.ps_resolve.specs.declared.reading.segment.Segment.{Segment as SegmentView}
+use Rattle.ps_resolve.specs.Views.{SegmentView}
 use Rattle.ps_resolve.proofs.Numbers.{one, none}
 use Rattle.ps_resolve.proofs.Once.{map_none}
 use Rattle.ps_resolve.proofs.Takes.{first_taken}
@@ -31,7 +35,8 @@ returns-then-asks_for_nothing g c =
     let es = c.args.edits.now.items in
     let yes = c.if-asks_for_nothing.true in
     let asks = c.asks_for_nothing.ensures in
-    let no = no_links c.args.link.now.names.now (is_reserved c.args.link.now.order v.code.now) v.code.now v.records 0 c.args.free [] (asks.units yes) (asks.publics yes) (asks.privates yes) in
+    let is = c.requires.records in
+    let no = no_links c.args.link.now.names.now (is_reserved c.args.link.now.order v.code) v.code v.records 0 c.args.free [] (ap units_in (sym is) ∙ asks.units yes) (ap publics_in (sym is) ∙ asks.publics yes) (ap privates_in (sym is) ∙ asks.privates yes) in
     record {
       edits = sym (append-nil es) ∙ ap (λ (ds : List Edit). es ++ ds) (sym no.edits);
       end = omega (arith, no.words);
@@ -47,7 +52,7 @@ returns-then-is_resolved g c =
     let yes = c.if-is_resolved.true in
     let has = c.is_resolved.ensures.records yes in
     let named : HaveTargets known v.records = of_shared (λ (rs : List Record). HaveTargets known rs) c.args.earlier.now v has.0 c.requires.linked c.requires.next.alike c.requires.next.named has.1 in
-    let no = no_references known (is_reserved c.args.link.now.order v.code.now) v.code.now v.records 0 c.args.free [] named (c.is_resolved.ensures.references yes) (c.is_resolved.ensures.privates yes) in
+    let no = no_references known (is_reserved c.args.link.now.order v.code) v.code v.records 0 c.args.free [] named (c.is_resolved.ensures.references yes) (c.is_resolved.ensures.privates yes) in
     record {
       edits = sym (append-nil es) ∙ ap (λ (ds : List Edit). es ++ ds) (sym no.edits);
       end = omega (arith, no.words);
@@ -57,7 +62,7 @@ returns-then-is_resolved g c =
 
 pub loop-rec-init : goal.loop-rec-init
 loop-rec-init g c =
-    (0, c.args.segment.now.records, c.into_iter-rec-iterator.ensures.into_iter_gives ∙ c.records-rec-items.ensures, record { listed = refl; first = ([], first_taken c.procedures-procedures.result c.reserved_places-taken.result c.reserved_places-taken.ensures, refl); words = refl })
+    (0, c.args.segment.now.records, c.into_iter-rec-iterator.ensures.into_iter_gives ∙ c.records-rec-items.ensures ∙ ap (numbered_records 0) c.requires.records, record { listed = refl; first = ([], first_taken c.procedures-procedures.result c.reserved_places-taken.result c.reserved_places-taken.ensures, refl); words = refl })
 
 pub overflow_add-next : goal.overflow_add-next
 overflow_add-next g c =
@@ -76,8 +81,8 @@ returns-in-Err-clause-stop g c =
     let step = one (Links c.args.link.now.names.now c.procedures-procedures.result c.args.free c.args.segment.now.records c.args.edits.now.items l.next l.edits.items l.taken) l.rec-iterator c.next.new.self c.in-Some.rec r l.invariant c.in-Some.ensures.steps in
     let first = step.2.first in
     let here = record_refused known (is_reserved tables.order tables.code) tables.code c.in-Some.rec l.next first.0 r step.0 c.in-Err.reason (sym c.target_of.ensures ∙ c.in-Err.is) in
-    subst (IsStop ⊤ (segment_fault c.args.link.now.order known c.args.free (segment_of s))) (sym c.stop_for.ensures)
-    (ap (option_map (in_segment s.file s.slot)) (ap (fault_by known s c.args.free) (sym c.procedures-procedures.ensures) ∙ sym first.2 ∙ here))
+    subst (IsStop ⊤ (segment_fault c.args.link.now.order known c.args.free (segment_of s))) (sym c.stop_for.ensures) (rw (c.record-place.ensures, c.place.ensures)
+    (ap (option_map (in_segment s.file s.slot)) (ap (fault_by known s c.args.free) (sym c.procedures-procedures.ensures) ∙ sym first.2 ∙ here)))
 
 pub returns-in_err-add_body-in-Ok-clause-stop : goal.returns-in_err-add_body-in-Ok-clause-stop
 returns-in_err-add_body-in-Ok-clause-stop g c =
@@ -94,7 +99,7 @@ returns-in_err-add_body-in-Ok-clause-stop g c =
     let p = err_from_is_err_and c.from_residual.result c.from_residual.ensures.1 in
     rw (p.1, p.2) (subst (λ (o : Option (ℕ × (Option ℕ × Reason))). IsStop ⊤ (option_map (in_segment s.file s.slot) o) stop) fault_is
     (references_refused known (is_reserved tables.order tables.code) tables.code c.in-Some.rec l.next first.0 r rest s.file s.slot c.in-Ok.target stop
-    (sym c.target_of.ensures ∙ c.in-Ok.is) (c.in_err-add_body-in-Ok.ensures.stop first.0 first.1)))
+    (sym c.target_of.ensures ∙ c.in-Ok.is) (subst (λ (p : RecordPlace). IsStop ⊤ (refs_fault_at p tables c.in-Ok.target first.0 (refs_of r.body)) stop) (rw c.place.ensures at c.record-place.ensures) (c.in_err-add_body-in-Ok.ensures.stop first.0 first.1))))
 
 pub loop-rec-preserved : goal.loop-rec-preserved
 loop-rec-preserved g c =

@@ -1,7 +1,7 @@
 use Rattle.std.proofs.Common.{◌≡◌, map, drop}
 use Rattle.ps_resolve.specs.Sources.{host_of}
 use Rattle.ps_resolve.specs.Views.{segment_of}
-use Rattle.ps_resolve.proofs.linking.host_of.Given as goal
+use Rattle.ps_resolve.proofs.reading.host.host_of.Given as goal
 
 -- the host's segment is one of those that are left
 abbrev pub invariant-loop-segment : goal.invariant-loop-segment

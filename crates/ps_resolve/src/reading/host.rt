@@ -1,0 +1,54 @@
+ghost use Rattle.std.specs.Prelude.{◌≡◌, map, All, IfSome, is_some, true};
+ghost use Rattle.std.specs.Option.{option_map};
+ghost use Rattle.ps_codefile.specs.Roles.{is_host as is_host_spec};
+ghost use Rattle.ps_resolve.specs.Linkable.{IsHost};
+ghost use Rattle.ps_resolve.specs.Sources.{host_of as host_of_spec};
+ghost use Rattle.ps_resolve.specs.Views.{segment_of, IsSound};
+
+use crate::reading::segment::Segment;
+use ps_codefile::code_layout::OUTER_BLOCK;
+use ps_linkinfo::LinkInformation;
+use ps_words::Order;
+
+/// The host's own segment, with what only a host's has.
+#[derive(Drop)]
+pub(crate) struct HostSegment<'a> {
+    /// The segment itself.
+    pub(crate) segment: Segment<'a>,
+    /// Its link information, read whole.
+    pub(crate) records: LinkInformation<'a>,
+    /// The place in its code of the attribute table of its outer block.
+    pub(crate) outer_block: usize,
+}
+
+/// A segment with the role of a host's, as the host's own; `None` where it has no outer block.
+fn as_host<'a>(order: Order, segment: &Segment<'a>) -> Option<HostSegment<'a>>
+    requires role { is_host_spec segment.now.role ≡ true }
+    requires sound { IsSound order (segment_of segment.now) }
+    ensures some { is_some result ≡ true }
+    ensures segment { IfSome result (λ host. host.segment ≡ segment.now) }
+    ensures is { IfSome result (IsHost order) }
+{
+    let contents = segment.contents()?;
+    let outer_block = segment.procedures(order).table(OUTER_BLOCK)?;
+    Some(HostSegment {
+        segment: segment.copy(),
+        records: contents.records.copy(),
+        outer_block,
+    })
+}
+
+/// The host's own segment among these.
+pub(crate) fn host_of<'a>(order: Order, segments: &[Segment<'a>]) -> Option<HostSegment<'a>>
+    requires { All (IsSound order) (map segment_of segments.now) }
+    ensures found { option_map (λ host. segment_of host.segment) result
+        ≡ host_of_spec (map segment_of segments.now) }
+    ensures is { IfSome result (IsHost order) }
+{
+    for segment in segments {
+        if segment.role.is_host() {
+            return as_host(order, segment);
+        }
+    }
+    None
+}
