@@ -45,9 +45,9 @@ is_placed order code p =
 abbrev pub numbers : List ℕ → List ℕ
 numbers code = range_with_len 1 (procedures code)
 
--- the attribute table of each procedure
-abbrev pub all_tables : Order → List ℕ → List (Option ℕ)
-all_tables order code = map (table_of order code) (numbers code)
+-- the content of each procedure's word
+abbrev pub all_words : Order → List ℕ → List ℕ
+all_words order code = map (content_of order code) (numbers code)
 
 -- the places of all tables
 abbrev pub tables : Order → List ℕ → List ℕ
