@@ -36,10 +36,8 @@ like_by order host libs s q hs hq ls lq file block =
 pub read_alike : (order : Order) (host : List ℕ) (libs : List (List ℕ)) (segs : List SegmentView) → All (IsRead order host libs) segs → AreAlike segs
 read_alike order host libs segs all = λ i d l. λ j e m. like_by order host libs (get_or segs i d) (get_or segs j e) (all i d l).placed (all j e m).placed
 
-pub all_sound : (order : Order) (host : List ℕ) (libs : List (List ℕ)) (segs : List SegmentView) → All (IsRead order host libs) segs → All (IsSound order) (map segment_of segs)
-all_sound order host libs [] all = All-nil (IsSound order)
-all_sound order host libs (s ∷ ss) all =
-    All-cons (IsSound order) (segment_of s) (map segment_of ss) (All-head (IsRead order host libs) s ss all).sound (all_sound order host libs ss (All-tail (IsRead order host libs) s ss all))
+pub all_sound : (order : Order) (host : List ℕ) (libs : List (List ℕ)) (segs : List SegmentView) → All (IsRead order host libs) segs → All (IsSound order) segs
+all_sound order host libs segs all = λ i d lt. (all i d lt).sound
 
 -- what holds of the records of each segment holds of those of one that is like them
 pub of_shared : (P : List Record → Type 0) (segs : List SegmentView) (s : SegmentView) (rs : List Record) → needs_linking s.role ≡ true → All (IsLike s) segs → All (λ q. P q.records) segs → HasRecordsAt segs s.file s.block rs → P s.records

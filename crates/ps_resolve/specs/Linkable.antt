@@ -46,14 +46,14 @@ pub record MayBeAddedTo (order : Order) (libs : List (List ℕ)) (own : List Seg
 -- a host's own segment: its records, and the place of the attribute table of its outer block
 pub record IsHost (order : Order) (h : HostSegment) : Type 0 where
   pub role : is_host h.segment.role ≡ true
-  pub sound : IsSound order (segment_of h.segment)
+  pub sound : IsSound order h.segment
   pub records : h.records ≡ h.segment.records
   pub table : table_of order h.segment.code 1 ≡ Some h.outer_block
 
 -- The segments of a link, by slot: each sound, one of them the host's, those that share link
 -- information alike; and the names of the slots of the linked file.
 pub record AreSegments (order : Order) (host : List ℕ) (names : List (List ℕ)) (host_segment : HostSegment) (ss : List SegmentView) : Type 0 where
-  pub sound : All (IsSound order) (map segment_of ss)
+  pub sound : All (IsSound order) ss
   pub found : host_of (map segment_of ss) ≡ Some (segment_of host_segment.segment)
   pub own : IsHost order host_segment
   pub one_host : HasOneHost (map segment_of ss)
@@ -75,7 +75,7 @@ pub record ReadSegments : Type 0 where
 -- Segments whose privates were allotted from `base` on, and that what stores the host's data size,
 -- `size`, suits.
 pub record AreLinkable (order : Order) (size : Edit) (base : ℕ) (ss : List SegmentView) : Type 0 where
-  pub sound : All (IsSound order) (map segment_of ss)
+  pub sound : All (IsSound order) ss
   pub room : base + all_words (map owner_of (map segment_of ss)) < 65536
   pub table : All (λ s. is_host s.role ≡ true → IsOfTable order s.code size) (map segment_of ss)
   pub alike : AreAlike ss
@@ -83,7 +83,7 @@ pub record AreLinkable (order : Order) (size : Edit) (base : ℕ) (ss : List Seg
 -- such a segment after earlier ones, of whose names it is known what they stand for, with the
 -- offset of the first of its privates
 pub record IsNext (order : Order) (known : Known) (size : Edit) (earlier : List SegmentView) (s : SegmentView) (free : ℕ) : Type 0 where
-  pub sound : IsSound order (segment_of s)
+  pub sound : IsSound order s
   pub room : free + private_words s.records < 65536
   pub table : is_host s.role ≡ true → IsOfTable order s.code size
   pub alike : All (IsLike s) earlier

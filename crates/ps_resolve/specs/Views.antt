@@ -1,7 +1,7 @@
 -- The segments that the files have, seen as the segments of the link, and what is known of them
 -- once the files were read without a fault.
 -- Source: this project's profile.
-use Rattle.std.specs.Prelude.{◌≡◌, ◌≤◌, ◌*◌, ◌==◌, if◌then◌else◌, ℕ, All, List, [], length, drop, Bool, true, false, Option, None, ◌&&◌}
+use Rattle.std.specs.Prelude.{◌≡◌, ◌≤◌, ◌*◌, ◌==◌, if◌then◌else◌, ℕ, All, List, [], length, drop, Bool, true, false, Option, Some, None, ◌&&◌}
 use Rattle.std.specs.List.{find, filter_map, list_any, Contains}
 use Rattle.std.specs.Option.{option_or}
 use Rattle.ps_words.specs.declared.order.Order.{Order}
@@ -10,13 +10,13 @@ use Rattle.ps_codefile.specs.declared.entry.Entry.{Entry}
 use Rattle.ps_codefile.specs.declared.entry.Role.{Role}
 use Rattle.ps_linkinfo.specs.Records.{reading}
 use Rattle.ps_linkinfo.specs.declared.record.LinkRecord.{LinkRecord as Record}
-use Rattle.ps_codefile.specs.Procedures.{tables_fault}
+use Rattle.ps_codefile.specs.Procedures.{ProcedureTables, tables_fault}
 use Rattle.ps_codefile.specs.Roles.{needs_linking, is_host, is_empty}
 use Rattle.ps_resolve.specs.Sources.{Segment, file_at}
 use Rattle.ps_resolve.specs.Faults.{is_role}
 
--- A segment of the files: as a segment of the link, and the block of its file, from 0, in which the
--- link information of one begins whose references are resolved.
+-- A segment of the files: as a segment of the link, and where its references are resolved its
+-- procedure tables, and the block of its file, from 0, in which its link information begins.
 pub record SegmentView : Type 0 where
   pub slot : ℕ
   pub name : List ℕ
@@ -25,6 +25,7 @@ pub record SegmentView : Type 0 where
   pub file : ℕ
   pub index : ℕ
   pub code : List ℕ
+  pub tables : Option ProcedureTables
   pub block : ℕ
   pub records : List Record
 
@@ -82,14 +83,15 @@ unfoldable pub segments_in_slots : Order → List ℕ → List Segment → List 
 segments_in_slots order host own added = filter_map (segment_in_slot order host own added) slots
 
 -- the length of the code is within its limits, and the procedure tables of a linked segment have no
--- fault
-pub record IsSound (order : Order) (s : Segment) : Type 0 where
+-- fault and are kept
+pub record IsSound (order : Order) (s : SegmentView) : Type 0 where
   pub small : length s.code ≤ 32767
   pub large : needs_linking s.role ≡ true → 4 ≤ length s.code
   pub tables : needs_linking s.role ≡ true → tables_fault order s.code (is_host s.role) ≡ None
+  pub kept : needs_linking s.role ≡ true → s.tables ≡ Some (record { order = order; code = s.code })
   pub slot : s.slot ≤ 15
 
 -- a segment as the files have it: its records are those of its place, and it is sound
 pub record IsRead (order : Order) (host : List ℕ) (libs : List (List ℕ)) (s : SegmentView) : Type 0 where
   pub placed : IsPlaced order host libs s
-  pub sound : IsSound order (segment_of s)
+  pub sound : IsSound order s

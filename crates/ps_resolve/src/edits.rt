@@ -89,8 +89,8 @@ pub(crate) fn segment_edits<'a, A: Allocator + Copy>(
         Some(contents) => {
             edits_patch_alike_in_any_order();
             let references = contents.records.references();
-            let mut edits = own_edits(alloc, segment, references, link.size)?;
-            let end = add_records(link, earlier, segment, &contents.records, free, &mut edits)?;
+            let own = own_edits(alloc, segment, references, link.size)?;
+            let (edits, end) = add_records(link, earlier, segment, contents, free, own)?;
             let ordered = sorted_edits(alloc, segment.code.len(), edits)?;
             Ok((ordered, end))
         }

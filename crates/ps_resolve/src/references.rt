@@ -1,7 +1,8 @@
-ghost use Rattle.std.specs.Prelude.{◌≡◌, ℕ, ◌<◌, ◌≤◌, ◌+◌, ◌++◌, ◌||◌, List, length, map, nat_lt, OnOk, IfOk, IfErr, None, ⊤};
+ghost use Rattle.std.specs.Prelude.{◌≡◌, ℕ, ◌<◌, ◌≤◌, ◌+◌, ◌++◌, ◌||◌, List, [], length, map, nat_lt, OnOk, IfOk, IfErr, IfSome, None, ⊤};
 ghost use Rattle.std.specs.List.{range_with_len, list_any};
 ghost use Rattle.std.specs.Result.{result_err};
 ghost use Rattle.ps_words.specs.declared.fault.Reason.TheVariants.{OperandTooLarge};
+ghost use Rattle.ps_linkinfo.specs.Records.{refs_of};
 ghost use Rattle.ps_codefile.specs.Places.{has};
 ghost use Rattle.ps_resolve.specs.Searches.{fault_if};
 ghost use Rattle.ps_codefile.specs.Procedures.{is_reserved};
@@ -15,7 +16,7 @@ pub(crate) mod records;
 
 use crate::linkage::{RecordPlace, Stop};
 use ps_codefile::{Places, Procs};
-use ps_linkinfo::Refs;
+use ps_linkinfo::{Body, Refs};
 use ps_words::{Edit, Reason, get_big};
 use std::alloc::Allocator;
 
@@ -91,28 +92,6 @@ fn stored_at(code: &[u8], target: Target, x: usize) -> Result<Edit, Reason>
     }
 }
 
-/// The edit of the operand at x, where these places are taken; or why there is none.
-fn edit_at(procedures: &Procs, taken: &Places, target: Target, x: usize) -> Result<Edit, Reason>
-    requires small { length procedures.now.code ≤ 32767 }
-    requires word { x < 65536 }
-    ensures inside { IfOk result (λ _. x + width_of_spec target ≤ length procedures.now.code) }
-    ensures edit { IfOk result (λ edit. edit ≡ edit_of procedures.now.code target x) }
-    ensures reason { (os : List (ℕ × ℕ)) → AreTaken procedures.now taken.now os
-        → result_err result ≡ reason_in procedures.now os target x }
-{
-    let code = procedures.code();
-    if x + width_of(target) > code.len() {
-        return Err(Reason::OutsideCode);
-    }
-    if any_of(taken, target, x) {
-        if is_any_reserved(procedures, target, x) {
-            return Err(Reason::ReservedPlace);
-        }
-        return Err(Reason::Overlap);
-    }
-    stored_at(code, target, x)
-}
-
 /// Adds the places of the operand.
 fn mark(taken: &mut Places, target: Target, x: usize)
     requires { x + width_of_spec target ≤ 32768 }
@@ -125,35 +104,86 @@ fn mark(taken: &mut Places, target: Target, x: usize)
     }
 }
 
-/// Adds the edits of the references of the record that is there, or finds their first fault.
-pub(crate) fn add_references<A: Allocator>(
-    procedures: &Procs,
-    taken: &mut Places,
-    place: RecordPlace,
-    target: Target,
-    refs: &Refs,
-    edits: &mut Vec<Edit, A>,
-) -> Result<(), Stop>
-    requires { length procedures.now.code ≤ 32767 }
-    ensures edits { OnOk result (edits.new.items
-        ≡ edits.old.items ++ map (edit_of procedures.now.code target) refs.now) }
-    ensures sound { (os : List (ℕ × ℕ)) → AreTaken procedures.now taken.old os
-        → OnOk result (refs_fault_at place procedures.now target os refs.now ≡ None) }
-    ensures stop { (os : List (ℕ × ℕ)) → AreTaken procedures.now taken.old os
-        → IfErr result (IsStop ⊤ (refs_fault_at place procedures.now target os refs.now)) }
-    ensures taken { (os : List (ℕ × ℕ)) → AreTaken procedures.now taken.old os
-        → OnOk result (AreTaken procedures.now taken.new
-        (os ++ operands target refs.now)) }
+/// The references of a record, where it is of a kind that has them.
+fn references_of<'b, 'a>(body: &'b Body<'a>) -> Option<&'b Refs<'a>>
+    ensures some { IfSome result (λ refs. refs.now ≡ refs_of body.now) }
+    ensures none { result ≡ None → refs_of body.now ≡ [] }
 {
-    for i in 0..refs.len() {
-        let x = refs.get(i) as usize;
-        match edit_at(procedures, taken, target, x) {
-            Err(reason) => return Err(place.reference_refused(i, reason)),
-            Ok(edit) => {
-                mark(taken, target, x);
-                edits.push(edit)?;
+    match body {
+        Body::UnitRef(refs) | Body::PublRef(refs) | Body::PrivRef { refs, .. } => Some(refs),
+        Body::PublDef(_) | Body::ConstDef(_) | Body::Eof(_) => None,
+    }
+}
+
+/// The edits of a segment's references, as they are found.
+#[derive(Drop)]
+pub(crate) struct ReferenceEdits<'a, A: Allocator> {
+    /// The procedure tables of the segment's code, whose places are reserved.
+    pub(crate) procedures: Procs<'a>,
+    /// The reserved places, and those of the operands so far.
+    pub(crate) taken: Places,
+    /// The edits so far, after others.
+    pub(crate) edits: Vec<Edit, A>,
+    ghost small: { length procedures.code ≤ 32767 },
+}
+
+impl<A: Allocator> ReferenceEdits<'_, A> {
+    /// The edit of the operand at x, or why there is none.
+    fn edit_at(&self, target: Target, x: usize) -> Result<Edit, Reason>
+        requires { x < 65536 }
+        ensures inside { IfOk result (λ _. x + width_of_spec target
+            ≤ length self.now.procedures.code) }
+        ensures edit { IfOk result (λ edit. edit
+            ≡ edit_of self.now.procedures.code target x) }
+        ensures reason { (os : List (ℕ × ℕ)) → AreTaken self.now.procedures self.now.taken os
+            → result_err result ≡ reason_in self.now.procedures os target x }
+    {
+        let code = self.procedures.code();
+        if x + width_of(target) > code.len() {
+            return Err(Reason::OutsideCode);
+        }
+        if any_of(&self.taken, target, x) {
+            if is_any_reserved(&self.procedures, target, x) {
+                return Err(Reason::ReservedPlace);
+            }
+            return Err(Reason::Overlap);
+        }
+        stored_at(code, target, x)
+    }
+
+    /// Adds the edits of the record that is there, or finds the first fault of its references.
+    pub(crate) fn add_record(
+        &mut self,
+        place: RecordPlace,
+        target: Target,
+        body: &Body,
+    ) -> Result<(), Stop>
+        ensures same_procedures { self.new.procedures ≡ self.old.procedures }
+        ensures edits { OnOk result (self.new.edits.items ≡ self.old.edits.items
+            ++ map (edit_of self.old.procedures.code target) (refs_of body.now)) }
+        ensures sound { (os : List (ℕ × ℕ)) → AreTaken self.old.procedures self.old.taken os
+            → OnOk result
+            (refs_fault_at place self.old.procedures target os (refs_of body.now) ≡ None) }
+        ensures stop { (os : List (ℕ × ℕ)) → AreTaken self.old.procedures self.old.taken os
+            → IfErr result
+            (IsStop ⊤ (refs_fault_at place self.old.procedures target os (refs_of body.now))) }
+        ensures taken { (os : List (ℕ × ℕ)) → AreTaken self.old.procedures self.old.taken os
+            → OnOk result (AreTaken self.old.procedures self.new.taken
+            (os ++ operands target (refs_of body.now))) }
+    {
+        let Some(refs) = references_of(body) else {
+            return Ok(());
+        };
+        for i in 0..refs.len() {
+            let x = refs.get(i) as usize;
+            match self.edit_at(target, x) {
+                Err(reason) => return Err(place.reference_refused(i, reason)),
+                Ok(edit) => {
+                    mark(&mut self.taken, target, x);
+                    self.edits.push(edit)?;
+                }
             }
         }
+        Ok(())
     }
-    Ok(())
 }

@@ -43,7 +43,7 @@ pub(crate) fn grown_data_size(
     words: u16,
 ) -> Result<DataSize, Stop>
     requires role { is_host_spec host.now.segment.role ≡ true }
-    requires sound { IsSound order (segment_of host.now.segment) }
+    requires sound { IsSound order host.now.segment }
     requires table { table_of order host.now.segment.code 1 ≡ Some host.now.outer_block }
     ensures edit { IfOk result (λ d. data_edits order words host.now.segment.code
         ≡ Word d.size d.place ∷ []) }

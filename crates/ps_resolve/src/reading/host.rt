@@ -24,13 +24,13 @@ pub(crate) struct HostSegment<'a> {
 /// A segment with the role of a host's, as the host's own; `None` where it has no outer block.
 fn as_host<'a>(order: Order, segment: &Segment<'a>) -> Option<HostSegment<'a>>
     requires role { is_host_spec segment.now.role ≡ true }
-    requires sound { IsSound order (segment_of segment.now) }
+    requires sound { IsSound order segment.now }
     ensures some { is_some result ≡ true }
     ensures segment { IfSome result (λ host. host.segment ≡ segment.now) }
     ensures is { IfSome result (IsHost order) }
 {
     let contents = segment.contents()?;
-    let outer_block = segment.procedures(order).table(OUTER_BLOCK)?;
+    let outer_block = contents.procedures.table(OUTER_BLOCK)?;
     Some(HostSegment {
         segment: segment.copy(),
         records: contents.records.copy(),
@@ -40,7 +40,7 @@ fn as_host<'a>(order: Order, segment: &Segment<'a>) -> Option<HostSegment<'a>>
 
 /// The host's own segment among these.
 pub(crate) fn host_of<'a>(order: Order, segments: &[Segment<'a>]) -> Option<HostSegment<'a>>
-    requires { All (IsSound order) (map segment_of segments.now) }
+    requires { All (IsSound order) segments.now }
     ensures found { option_map (λ host. segment_of host.segment) result
         ≡ host_of_spec (map segment_of segments.now) }
     ensures is { IfSome result (IsHost order) }

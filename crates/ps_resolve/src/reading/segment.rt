@@ -1,18 +1,20 @@
 ghost use Rattle.std.specs.Prelude.{◌≡◌, [], List, true, IfSome, ◌&&◌, None, false, is_some};
-ghost use Rattle.std.specs.Option.{option_map_or};
+ghost use Rattle.std.specs.Option.{option_map, option_map_or};
 ghost use Rattle.ps_linkinfo.specs.declared.record.LinkRecord.{LinkRecord as Record};
 ghost use Rattle.ps_codefile.specs.Roles.{needs_linking as needs_linking_spec};
-ghost use Rattle.ps_resolve.specs.Views.{segment_of, has_records_at, HasRecordsAt, IsSound};
+ghost use Rattle.ps_resolve.specs.Views.{has_records_at, HasRecordsAt};
 
 use crate::linkage::SegmentPlace;
 use ps_codefile::{Procs, Role};
 use ps_linkinfo::LinkInformation;
-use ps_words::{Name, Order};
+use ps_words::Name;
 use std::marker::Model;
 
 /// What only a segment has whose references are resolved.
 #[derive(Drop)]
 pub(crate) struct Contents<'a> {
+    /// The procedure tables of its code.
+    pub(crate) procedures: Procs<'a>,
     /// The block of its file, from 0, in which its link information begins.
     pub(crate) block: usize,
     /// Its link information, read whole.
@@ -41,13 +43,13 @@ pub(crate) struct Segment<'a> {
 
 impl<'a> Model for Segment<'a> {
     ghost use Rattle.std.specs.Prelude.{◌≡◌, [], is_some};
-    ghost use Rattle.std.specs.Option.{option_map_or};
+    ghost use Rattle.std.specs.Option.{option_map, option_map_or};
     ghost use Rattle.ps_codefile.specs.Roles.{needs_linking};
     ghost use Rattle.ps_resolve.specs.Views.{SegmentView};
 
     ghost Value = { SegmentView };
 
-    ghost view = { λ s. record { slot = s.slot; name = s.name; role = s.role; added = s.added; file = s.file; index = s.index; code = s.code.now; block = option_map_or (λ c. c.block) s.contents 0; records = option_map_or (λ c. c.records) s.contents [] } };
+    ghost view = { λ s. record { slot = s.slot; name = s.name; role = s.role; added = s.added; file = s.file; index = s.index; code = s.code.now; tables = option_map (λ c. c.procedures) s.contents; block = option_map_or (λ c. c.block) s.contents 0; records = option_map_or (λ c. c.records) s.contents [] } };
 
     ghost invariant = { λ s. is_some s.contents ≡ needs_linking s.role };
 }
@@ -58,6 +60,7 @@ impl<'a> Contents<'a> {
         ensures { result ≡ self.now }
     {
         Contents {
+            procedures: self.procedures.copy(),
             block: self.block,
             records: self.records.copy(),
         }
@@ -95,6 +98,7 @@ impl<'a> Segment<'a> {
     pub(crate) fn contents(&self) -> Option<&Contents<'a>>
         ensures linked { is_some result ≡ needs_linking_spec self.now.role }
         ensures records { option_map_or (λ c. c.now.records) result [] ≡ self.now.records }
+        ensures tables { option_map (λ c. c.now.procedures) result ≡ self.now.tables }
         ensures block { IfSome result (λ c. c.now.block ≡ self.now.block) }
     {
         self.contents.as_ref()
@@ -107,18 +111,6 @@ impl<'a> Segment<'a> {
         SegmentPlace {
             file: self.file,
             slot: self.slot,
-        }
-    }
-
-    /// The procedure tables of its code, in which reading found no fault.
-    pub(crate) fn procedures(&self, order: Order) -> Procs<'a>
-        requires linked { needs_linking_spec self.now.role ≡ true }
-        requires sound { IsSound order (segment_of self.now) }
-        ensures { result ≡ record { order = order; code = self.now.code } }
-    {
-        match Procs::read(order, self.code, self.role.is_host()) {
-            Err(_) => unreachable!(),
-            Ok(procedures) => procedures,
         }
     }
 

@@ -1,5 +1,5 @@
-ghost use Rattle.std.specs.Prelude.{◌≡◌, ◌<◌, ◌≤◌, ◌+◌, ◌*◌, ◌++◌, [], List, ℕ, length, map, drop, true, Some, None, Ok, IfOk, IfSome, All, if◌then◌else◌};
-ghost use Rattle.std.specs.Option.{option_map, option_or, option_to_list};
+ghost use Rattle.std.specs.Prelude.{◌≡◌, ◌<◌, ◌≤◌, ◌+◌, ◌*◌, ◌++◌, [], List, ℕ, length, map, drop, true, Some, None, Ok, IfOk, IfSome, All, if◌then◌else◌, is_some};
+ghost use Rattle.std.specs.Option.{option_map, option_map_or, option_or, option_to_list};
 ghost use Rattle.arrayvec.specs.ArrayVec.{array_vec_len};
 ghost use Rattle.std.specs.Result.{result_err};
 ghost use Rattle.ps_words.specs.FaultPlaces.{in_record, in_slot as in_slot_spec};
@@ -7,8 +7,8 @@ ghost use Rattle.ps_codefile.specs.Dictionary.{entry_at, kind_needs_linking, inf
 ghost use Rattle.ps_codefile.specs.Procedures.{tables_fault as tables_fault_spec};
 ghost use Rattle.ps_linkinfo.specs.Records.{reading};
 ghost use Rattle.ps_codefile.specs.Roles.{needs_linking as needs_linking_spec, is_host as is_host_spec};
-ghost use Rattle.ps_resolve.specs.Sources.{own_segment, own_segments, file_at, segment_from, contents};
-ghost use Rattle.ps_resolve.specs.Faults.{code_fault, libraries_fault as libraries_fault_spec, source_fault, sources_fault};
+ghost use Rattle.ps_resolve.specs.Sources.{own_segment, own_segments, file_at, segment_from, contents, records_of};
+ghost use Rattle.ps_resolve.specs.Faults.{code_fault, information_fault, libraries_fault as libraries_fault_spec, source_fault, sources_fault};
 ghost use Rattle.ps_resolve.specs.Views.{segment_of, IsPlaced, IsRead, AreRecordsOf, IsSound};
 
 use crate::linkage::SegmentPlace;
@@ -79,37 +79,54 @@ pub(crate) fn known_records<'a>(
     records_at(known, file, block_behind(from, index))
 }
 
-/// The link information of a segment whose procedure tables are read first, or the first fault of
-/// either. Neither is looked at where the segment is linked already, and link information that is
-/// known is not read again.
+/// What a segment is linked by, whose procedure tables are read before its link information, or the
+/// first fault of either. Neither is looked at where the segment is linked already, and link
+/// information that is known is not read again.
 fn read_contents<'a>(
-    order: Order,
+    from: &Dict<'a>,
+    index: u8,
     code: &'a [u8],
-    information: &'a [u8],
     role: Role,
     place: SegmentPlace,
     known: Option<LinkInformation<'a>>,
-) -> Result<Option<LinkInformation<'a>>, Fault>
+) -> Result<Option<Contents<'a>>, Fault>
+    requires in_range { index < 16 }
     requires large { needs_linking_spec role ≡ true → 2 ≤ length code.now }
-    requires known { IfSome known (λ records. reading order information.now ≡ (records, None)) }
+    requires known { IfSome known (AreRecordsOf from.now.order from.now.file
+        (entry_at from.now.order from.now.file index)) }
     ensures fault { result_err result ≡ (if needs_linking_spec role
         then option_or (option_map (in_slot_spec place.file place.slot)
-        (tables_fault_spec order code.now (is_host_spec role)))
-        (option_map (in_record place.file place.slot (length (reading order information.now).0))
-        (reading order information.now).1)
+        (tables_fault_spec from.now.order code.now (is_host_spec role)))
+        (information_fault from.now.order from.now.file
+        (entry_at from.now.order from.now.file index) place.file place.slot)
         else None) }
-    ensures records { IfOk result (λ records. records
-        ≡ (if needs_linking_spec role then Some (reading order information.now).0 else None)) }
+    ensures records { IfOk result (λ contents. option_map_or (λ c. c.records) contents []
+        ≡ records_of from.now.order from.now.file
+        (entry_at from.now.order from.now.file index) (needs_linking_spec role)) }
+    ensures linked { IfOk result (λ contents. is_some contents ≡ needs_linking_spec role) }
+    ensures tables { IfOk result (λ contents. option_map (λ c. c.procedures) contents
+        ≡ (if needs_linking_spec role
+        then Some (record { order = from.now.order; code = code.now }) else None)) }
+    ensures block { IfOk result (λ contents. IfSome contents (λ c.
+        information_of from.now.file (entry_at from.now.order from.now.file index)
+        ≡ drop (512 * c.block) from.now.file)) }
 {
     if !role.needs_linking() {
         return Ok(None);
     }
-    match Procs::read(order, code, role.is_host()) {
+    match Procs::read(from.order(), code, role.is_host()) {
         Err(reason) => Err(Fault::in_slot(place.file, place.slot, reason)),
-        Ok(_) => match known {
-            Some(records) => Ok(Some(records)),
-            None => Ok(Some(read_information(order, information, place)?)),
-        },
+        Ok(procedures) => {
+            let records = match known {
+                Some(records) => records,
+                None => read_information(from.order(), from.after(index), place)?,
+            };
+            Ok(Some(Contents {
+                procedures,
+                block: block_behind(from, index),
+                records,
+            }))
+        }
     }
 }
 
@@ -140,14 +157,12 @@ pub(crate) fn read_segment<'a>(
     ensures placed { (host : List ℕ) (libs : List (List ℕ))
         → file_at host libs place.file ≡ from.now.file
         → IfOk result (IsPlaced from.now.order host libs) }
-    ensures sound { IfOk result (λ s. IsSound from.now.order (segment_of s)) }
+    ensures sound { IfOk result (IsSound from.now.order) }
 {
     match from.code(index) {
         Err(reason) => Err(Fault::in_slot(place.file, place.slot, reason)),
         Ok(code) => {
-            let after = from.after(index);
-            let block = block_behind(from, index);
-            let records = read_contents(from.order(), code, after, role, place, known)?;
+            let contents = read_contents(from, index, code, role, place, known)?;
             Ok(Segment {
                 slot: place.slot,
                 name,
@@ -156,7 +171,7 @@ pub(crate) fn read_segment<'a>(
                 file: place.file,
                 index,
                 code,
-                contents: records.map(|records| Contents { block, records }),
+                contents,
             })
         }
     }

@@ -15,10 +15,9 @@ ghost use Rattle.ps_resolve.specs.Views.{segment_of, has_records_at, HasRecordsA
 
 use crate::definitions::DefKind;
 use crate::linkage::{RecordPlace, Stop};
-use crate::reading::segment::Segment;
+use crate::reading::segment::{Contents, Segment};
 use crate::references::names::{Linking, Names};
-use crate::references::{Target, add_references};
-use ps_codefile::{Places, Procs};
+use crate::references::{ReferenceEdits, Target};
 use ps_linkinfo::{Body, LinkInformation, LinkRecord};
 use ps_words::{Edit, Reason};
 use std::alloc::Allocator;
@@ -59,37 +58,6 @@ fn words_taken(body: &Body) -> u16
     }
 }
 
-/// Adds the edits of the record that is there, or finds the first fault of its references.
-fn add_body<A: Allocator>(
-    procedures: &Procs,
-    taken: &mut Places,
-    place: RecordPlace,
-    target: Target,
-    body: &Body,
-    edits: &mut Vec<Edit, A>,
-) -> Result<(), Stop>
-    requires { length procedures.now.code ≤ 32767 }
-    ensures edits { OnOk result (edits.new.items
-        ≡ edits.old.items ++ map (edit_of procedures.now.code target) (refs_of body.now)) }
-    ensures sound { (os : List (ℕ × ℕ)) → AreTaken procedures.now taken.old os
-        → OnOk result (refs_fault_at place procedures.now target os (refs_of body.now) ≡ None) }
-    ensures stop { (os : List (ℕ × ℕ)) → AreTaken procedures.now taken.old os
-        → IfErr result
-        (IsStop ⊤ (refs_fault_at place procedures.now target os (refs_of body.now))) }
-    ensures taken { (os : List (ℕ × ℕ)) → AreTaken procedures.now taken.old os
-        → OnOk result (AreTaken procedures.now taken.new
-        (os ++ operands target (refs_of body.now))) }
-{
-    match body {
-        Body::UnitRef(refs) => add_references(procedures, taken, place, target, refs, edits),
-        Body::PublRef(refs) => add_references(procedures, taken, place, target, refs, edits),
-        Body::PrivRef { refs, .. } => {
-            add_references(procedures, taken, place, target, refs, edits)
-        }
-        Body::PublDef(_) | Body::ConstDef(_) | Body::Eof(_) => Ok(()),
-    }
-}
-
 /// No record of a segment requests a unit, a public or a private variable, so none has a reference.
 fn asks_for_nothing(records: &LinkInformation) -> bool
     ensures units { result ≡ true → units_in records.now ≡ 0 }
@@ -127,40 +95,45 @@ pub(crate) fn add_records<'a, A: Allocator + Copy>(
     link: &Linking<A>,
     earlier: &[Segment<'a>],
     segment: &Segment<'a>,
-    records: &LinkInformation<'a>,
+    contents: &Contents<'a>,
     free: u16,
-    edits: &mut Vec<Edit, A>,
-) -> Result<u16, Stop>
-    requires records { records.now ≡ segment.now.records }
+    edits: Vec<Edit, A>,
+) -> Result<(Vec<Edit, A>, u16), Stop>
+    requires records { contents.now.records ≡ segment.now.records }
+    requires tables { Some contents.now.procedures ≡ segment.now.tables }
     requires linked { needs_linking segment.now.role ≡ true }
     requires next { IsNext link.now.order link.now.names.now link.now.size
         earlier.now segment.now free }
-    ensures edits { OnOk result (edits.new.items ≡ edits.old.items
+    ensures edits { IfOk result (λ all. all.0.items ≡ edits.items
         ++ records_edits link.now.names.now segment.now.code free segment.now.records) }
-    ensures end { IfOk result (λ end. end ≡ free + private_words segment.now.records) }
+    ensures end { IfOk result (λ all. all.1 ≡ free + private_words segment.now.records) }
     ensures sound { OnOk result
         (segment_fault link.now.order link.now.names.now free (segment_of segment.now) ≡ None) }
     ensures stop { IfErr result (IsStop ⊤
         (segment_fault link.now.order link.now.names.now free (segment_of segment.now))) }
 {
+    let records = &contents.records;
     if asks_for_nothing(records) {
-        return Ok(free);
+        return Ok((edits, free));
     }
     if is_resolved(earlier, segment, records) {
-        return Ok(free);
+        return Ok((edits, free));
     }
-    let procedures = segment.procedures(link.order);
-    let mut taken = procedures.reserved_places();
+    let mut found = ReferenceEdits {
+        procedures: contents.procedures.copy(),
+        taken: contents.procedures.reserved_places(),
+        edits,
+    };
     let mut next = free;
     for (rec, record) in records.records() {
         let place = segment.place().record(rec);
         match target_of(link.names, next, &record) {
             Err(reason) => return Err(place.stop_for(reason)),
             Ok(target) => {
-                add_body(&procedures, &mut taken, place, target, &record.body, edits)?;
+                found.add_record(place, target, &record.body)?;
                 next += words_taken(&record.body);
             }
         }
     }
-    Ok(next)
+    Ok((found.edits, next))
 }

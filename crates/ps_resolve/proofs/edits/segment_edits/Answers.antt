@@ -22,9 +22,9 @@ sorted_edits-requires g c =
     let free : ℕ = c.args.free in
     let own : Option Edit = data_size_edit (is_host v.role) c.args.link.now.size in
     let table = own_of_table order code (is_host v.role) c.args.link.now.size c.requires.table in
-    let items : c.add_records.new.edits.items ≡ all_of known v own free =
-    c.in_ok-end-in-Some.ensures.edits ∙ ap (λ (es : List Edit). es ++ records_edits known code free v.records) c.in_ok-edits-in-Some.ensures.items in
-    let none = map_none _ _ c.in_ok-end-in-Some.ensures.sound in
+    let items : c.in_ok-edits-in-Some.edits.items ≡ all_of known v own free =
+    c.in_ok-edits-in-Some.ensures.edits ∙ ap (λ (es : List Edit). es ++ records_edits known code free v.records) c.in_ok-own-in-Some.ensures.items in
+    let none = map_none _ _ c.in_ok-edits-in-Some.ensures.sound in
     let large = c.requires.sound.large (sym c.in-Some.ensures.linked) in
     rw (ap (λ (s : SegmentView). s.code) c.segment.view_is) (subst (AreSortable (length code)) (sym items) (record {
       small = c.requires.sound.small;
@@ -44,14 +44,14 @@ returns-in_ok-ordered-in-Some g c =
     let table = own_of_table order code (is_host v.role) size c.requires.table in
     let linked : needs_linking v.role ≡ true = (sym c.in-Some.ensures.linked) in
     let sorted : List Edit = c.in_ok-ordered-in-Some.ordered.items in
-    let items : c.add_records.new.edits.items ≡ all_of known v own free =
-    c.in_ok-end-in-Some.ensures.edits ∙ ap (λ (es : List Edit). es ++ records_edits known code free v.records) c.in_ok-edits-in-Some.ensures.items in
+    let items : c.in_ok-edits-in-Some.edits.items ≡ all_of known v own free =
+    c.in_ok-edits-in-Some.ensures.edits ∙ ap (λ (es : List Edit). es ++ records_edits known code free v.records) c.in_ok-own-in-Some.ensures.items in
     let same : IsPermutation (all_of known v own free) sorted = subst (λ (es : List Edit). IsPermutation es sorted) items c.in_ok-ordered-in-Some.ensures.same in
-    let inside = edits_inside order known code v.records free v.slot own (c.requires.sound.large linked) table (map_none _ _ c.in_ok-end-in-Some.ensures.sound) in
+    let inside = edits_inside order known code v.records free v.slot own (c.requires.sound.large linked) table (map_none _ _ c.in_ok-edits-in-Some.ensures.sound) in
     let ready : AreEdits (length code) sorted = record { inside = All-permutation (IsInside (length code)) (all_of known v own free) sorted same inside; apart = c.in_ok-ordered-in-Some.ensures.apart } in
     record {
       links = λ words e. linked_links order known v free linked size sorted same ready (λ edits listed p. c.edits_patch_alike_in_any_order.ensures order code edits listed p) words e;
-      end = c.in_ok-end-in-Some.ensures.end;
-      sound = c.in_ok-end-in-Some.ensures.sound;
+      end = c.in_ok-edits-in-Some.ensures.end;
+      sound = c.in_ok-edits-in-Some.ensures.sound;
       stop = tt;
     }

@@ -74,7 +74,7 @@ returns-in_ok-segment-in-None-entries_reason c =
     let file = λ (host : List ℕ). subst (λ (n : ℕ). file_at host libs n ≡ unit.dict.file) (sym number)
     (chosen_file c.args.order g.name libs unit.library unit.dict.file host c.in-Some.ensures.library) in
     let read = c.in_ok-segment-in-None-entries_reason in
-    let h = subst (λ (o : Order). IsSound o (segment_of read.segment)) c.in-Some.ensures.order read.ensures.sound in
+    let h = subst (λ (o : Order). IsSound o read.segment) c.in-Some.ensures.order read.ensures.sound in
     rw c.into_added.ensures (record {
       fault = λ host. read.ensures.fault host libs (file host)
           ∙ (ap (λ (o : Order). code_fault o host libs c.args.slot Wanted (c.library_file-file.result, unit.index)) c.in-Some.ensures.order
@@ -86,6 +86,6 @@ returns-in_ok-segment-in-None-entries_reason c =
           ∙ (ap (λ (o : Order). segment_from o host libs c.args.slot g.name Wanted (c.library_file-file.result, unit.index)) (sym c.in-Some.ensures.order) ∙ read.ensures.segment host libs (file host)));
       read = λ host. record {
         placed = subst (λ (o : Order). IsPlaced o host libs read.segment) c.in-Some.ensures.order (read.ensures.placed host libs (file host));
-        sound = record { small = h.small; large = h.large; tables = h.tables; slot = h.slot };
+        sound = record { small = h.small; large = h.large; tables = h.tables; kept = h.kept; slot = h.slot };
       };
     })

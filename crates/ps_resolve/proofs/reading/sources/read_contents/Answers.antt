@@ -12,9 +12,9 @@ why_of (Some other) tables why h = cc
 
 pub returns-in-Err-clause-fault : goal.returns-in-Err-clause-fault
 returns-in-Err-clause-fault c =
-    let order = c.args.order in
+    let order = c.args.from.now.order in
     let code = c.args.code.now in
     let linked : needs_linking c.args.role ≡ true = sym c.needs_linking.ensures ∙ c.if-not-needs_linking.false in
     let why : tables_fault order code (is_host c.args.role) ≡ Some c.in-Err.reason =
-    why_of (tables_fault order code (is_host c.args.role)) (record { order = order; code = code }) c.in-Err.reason (c.in-Err.ensures ∙ ap (λ (b : Bool). read_tables order code b) c.is_host.ensures) in
+    why_of (tables_fault order code (is_host c.args.role)) (record { order = order; code = code }) c.in-Err.reason (rw (c.order.ensures, c.is_host.ensures) at c.in-Err.ensures) in
     rw (linked, why) (ap (λ (f : Fault). Some f) c.in_slot.ensures)

@@ -1,3 +1,4 @@
+use Rattle.std.proofs.Common.{◌≡◌}
 use Rattle.ps_resolve.proofs.Numbers.{IsLeft}
 use Rattle.ps_resolve.proofs.NextRecords.{Links}
 use Rattle.ps_resolve.proofs.references.records.add_records.Given as goal
@@ -5,4 +6,7 @@ use Rattle.ps_resolve.proofs.references.records.add_records.Given as goal
 -- the edits so far and those of what is left are all; so is the first fault of what is left
 abbrev pub invariant-loop-rec : goal.invariant-loop-rec
 invariant-loop-rec g l =
-    IsLeft (Links l.link.names.now l.procedures l.free l.segment.records l.fn.edits.items l.next l.edits.items l.taken) l.rec-iterator
+    record {
+      links : IsLeft (Links l.link.names.now l.found.procedures l.free l.segment.records l.fn.edits.items l.next l.found.edits.items l.found.taken) l.rec-iterator;
+      procedures : l.found.procedures ≡ record { order = l.link.order; code = l.segment.code };
+    }
