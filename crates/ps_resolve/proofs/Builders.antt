@@ -34,6 +34,7 @@ use Rattle.ps_resolve.specs.declared.linkage.Stop.TheVariants.{Refused, Memory}
 use Rattle.ps_resolve.proofs.LookingBack.{is_again, again, take_prefix, longer, of_test, defines_is, asks_is, definitions_carried, reason_at, record_fault, privates_carried}
 use Rattle.ps_resolve.proofs.Allots.{skip_privates}
 use Rattle.ps_resolve.proofs.Duplicates.{none_entries}
+use Rattle.ps_resolve.proofs.FirstSlots.{none_mapped}
 use Rattle.ps_resolve.proofs.Rises.{behind}
 
 -- the first that f gives of a list's items and their numbers
@@ -144,40 +145,9 @@ module _ (file slot : ℕ) (rs : List Record) where
   not_defined (Refused fault) d = stops_definitions (Refused fault) (ap (option_map told) d.1 ∙ ap (λ (f : Fault). Some f) (sym d.2))
   not_defined Memory d = stops_definitions Memory d
 
--- no other record is the first
-only_first : (test : Body → Bool) (rs : List Record) (m n : ℕ) → IsFirstNamesake test rs m → IsFirstNamesake test rs n → m < n → ⊥
-only_first test rs m n f g lt = g.first m f.item lt f.there f.again
-
--- so two records that are the first of a kind with an earlier namesake are one
-same_first : (test : Body → Bool) (rs : List Record) (m n : ℕ) → IsFirstNamesake test rs m → IsFirstNamesake test rs n → m ≡ n
-same_first test rs m n f g = elim (cases_lt m n) [
-  | inl lt ↦ absurd (only_first test rs m n f g lt)
-  | inr le ↦ elim (cases_lt n m) [ inl lt ↦ absurd (only_first test rs n m g f lt) | inr ge ↦ omega (arith, le, ge) ]
-]
-
--- the first record of this kind that has an earlier namesake is the first that defines a name again
-pub duplicate_is : (rs : List Record) (found : Option ℕ) → FindsNamesake is_definition rs found → found ≡ first_duplicate rs
-duplicate_is rs found f = at (first_duplicate rs) refl found f
-  where
-    first_at : (m : ℕ) → first_duplicate rs ≡ Some m → IsFirstNamesake is_definition rs m
-    first_at m e =
-        let t = stops_definitions 0 0 rs (Refused (told 0 0 rs m)) (ap (option_map (told 0 0 rs)) e) in
-        let same : t.0 ≡ m = same_Some _ _ (ap (λ (f : Fault). f.rec) (sym t.2)) in
-        subst (IsFirstNamesake is_definition rs) same t.1
-
-    at : (d : Option ℕ) → first_duplicate rs ≡ d → (o : Option ℕ) → FindsNamesake is_definition rs o → o ≡ first_duplicate rs
-    at None e None f = sym e
-    at None e (Some n) f = absurd (defined_once 0 0 rs e n f.item f.there f.again)
-    at (Some m) e None f = let g = first_at m e in absurd (f m g.item g.there g.again)
-    at (Some m) e (Some n) f = ap (λ (k : ℕ). Some k) (same_first is_definition rs n m f (first_at m e)) ∙ sym e
-
 -- 2. the words before a record
 one_more : (r : Record) (rs : List Record) → private_words (r ∷ rs) ≡ words_taken r.body + private_words rs
-one_more r rs = go (words_in r.body) refl
-  where
-    go : (w : Option ℕ) → words_in r.body ≡ w → private_words (r ∷ rs) ≡ words_taken r.body + private_words rs
-    go None e = rw (e, private_words, words_taken) (omega arith)
-    go (Some w) e = rw (e, private_words, words_taken) refl
+one_more r rs = grind arith
 
 words_are : (rs : List Record) → words_taken_by rs ≡ private_words rs
 words_are [] = refl
@@ -200,10 +170,6 @@ offset_is base prefix s rest rec =
 
 -- 3. privates
 -- what h was made of
-h_none : {A X : Type 0} (h : A → X) (o : Option A) → option_map h o ≡ None → o ≡ None
-h_none h None e = refl
-h_none h (Some a) e = absurd (cc)
-
 h_some : {A X : Type 0} (h : A → X) (o : Option A) (x : X) → option_map h o ≡ Some x → (a : A) × (o ≡ Some a) × (x ≡ h a)
 h_some h None x e = absurd (cc)
 h_some h (Some a) x e = (a, refl, cc)
@@ -245,7 +211,7 @@ module _ (base : ℕ) (ss : List Owner) where
 
     -- a record without a fault is not unfit
     fits : record_faults (k, s) (rec, r) ≡ None → (why : Reason) → IsUnfit base ss k s rec r why → ⊥
-    fits e = go (is_again is_private_reference s.records (rec, r)) full (again is_private_reference s.records rec r) is_full (h_none (λ why. in_record s.file s.slot rec why) (reason_at (λ n. offset_at base ss k s n) s.records (rec, r)) e)
+    fits e = go (is_again is_private_reference s.records (rec, r)) full (again is_private_reference s.records rec r) is_full (none_mapped (λ why. in_record s.file s.slot rec why) (reason_at (λ n. offset_at base ss k s n) s.records (rec, r)) e)
       where
         go : (b c : Bool) → Decides b (HasEarlierNamesake is_private_reference s.records rec r) → Decides c ((is_private_reference r.body ≡ true) × (32767 < offset_at base ss k s rec + words_taken r.body))
             → option_or (fault_if b reason.DoubledPrivate) (fault_if c reason.NoRoom) ≡ None → (why : Reason) → IsUnfit base ss k s rec r why → ⊥
@@ -349,16 +315,7 @@ not_allotted base ss Memory d = some_segment base ss d
 -- 4. what is allotted
 -- slots first, then records
 later_record : (a b s r : ℕ) → (nat_lt a s || (a == s && nat_le (b + 1) r)) ≡ true → Before (a ∷ b ∷ []) (s ∷ r ∷ [])
-later_record a b s r h = elim (cases_lt a s) [
-  | inl lt ↦ inl lt
-  | inr le ↦ inr (same a b s r h le, inl (lesser a b s r h le))
-]
-  where
-    same : (a b s r : ℕ) → (nat_lt a s || (a == s && nat_le (b + 1) r)) ≡ true → s ≤ a → a ≡ s
-    same a b s r h le = grind (arith, nat_tests)
-
-    lesser : (a b s r : ℕ) → (nat_lt a s || (a == s && nat_le (b + 1) r)) ≡ true → s ≤ a → b < r
-    lesser a b s r h le = grind (arith, nat_tests)
+later_record a b s r h = grind (arith, nat_tests)
 
 -- privates whose slot and record rise are by slot and, of one slot, by record
 pub by_record : (ps : List Private) → RiseFrom 0 0 ps → AreByRecord ps
