@@ -15,9 +15,7 @@ one_more test x xs = sum_by-cons (λ y. cond (test y) 1 0) x xs
 
 -- an edit covers one byte at least
 pub wide : (e : Edit) → 0 < width e
-wide (Big value place) = omega arith
-wide (Byte value place) = omega arith
-wide (Word value place) = omega arith
+wide e = grind arith
 
 pub in_it : (e : Edit) (p : ℕ) → place_of e ≤ p → p < place_of e + width e → covers p e ≡ true
 in_it e p h k = grind (arith, nat_tests)

@@ -31,7 +31,7 @@ use Rattle.ps_resolve.specs.declared.allotment.Private.{Private}
 use Rattle.ps_resolve.specs.declared.definitions.Def.{Def}
 use Rattle.ps_resolve.specs.declared.linkage.Stop.{Stop}
 use Rattle.ps_resolve.specs.declared.linkage.Stop.TheVariants.{Refused, Memory}
-use Rattle.ps_resolve.proofs.LookingBack.{is_again, again, take_prefix, longer, of_test, defines_is, asks_is, definitions_carried, reason_at, record_fault, privates_carried}
+use Rattle.ps_resolve.proofs.LookingBack.{is_again, again, take_prefix, longer, of_test, defines_is, asks_is, definitions_carried, words_before, reason_at, record_fault, privates_carried}
 use Rattle.ps_resolve.proofs.Allots.{skip_privates}
 use Rattle.ps_resolve.proofs.Duplicates.{none_entries}
 use Rattle.ps_resolve.proofs.FirstSlots.{none_mapped}
@@ -146,12 +146,9 @@ module _ (file slot : ℕ) (rs : List Record) where
   not_defined Memory d = stops_definitions Memory d
 
 -- 2. the words before a record
-one_more : (r : Record) (rs : List Record) → private_words (r ∷ rs) ≡ words_taken r.body + private_words rs
-one_more r rs = grind arith
-
 words_are : (rs : List Record) → words_taken_by rs ≡ private_words rs
 words_are [] = refl
-words_are (r ∷ rs) = omega (arith, sum_by-cons (λ (q : Record). words_taken q.body) r rs, words_are rs, one_more r rs)
+words_are (r ∷ rs) = omega (arith, sum_by-cons (λ (q : Record). words_taken q.body) r rs, words_are rs, words_before r rs)
 
 all_are : (ss : List Owner) → words_taken_by (flat_map (λ q. q.records) ss) ≡ all_words ss
 all_are [] = refl

@@ -8,6 +8,8 @@ use Rattle.ps_linkinfo.specs.declared.record.Body.{Body}
 use Rattle.ps_linkinfo.specs.declared.record.Body.TheVariants.{UnitRef, PublRef, PrivRef, PublDef, ConstDef, Eof}
 use Rattle.ps_linkinfo.specs.declared.record.LinkRecord.{LinkRecord as Record}
 use Rattle.ps_resolve.proofs.Apart.{one_more}
+use Rattle.ps_resolve.proofs.LookingBack.{defines_is}
+use Rattle.std.proofs.lemmas.List.{nil_from_length}
 
 pub none_is : {X : Type 0} (o : Option X) → is_some o ≡ false → o ≡ None
 none_is None h = refl
@@ -38,15 +40,6 @@ pub record Defines (all : List Record) (ds : List (List ℕ × Def)) (n : ℕ) (
   pub entries : ds ++ definitions rs ≡ definitions all
   pub first : first_duplicate_from n ds rs ≡ first_duplicate all
 
--- what defines a name is counted
-defines_is : (b : Body) → is_definition b ≡ is_some (def_in b)
-defines_is (UnitRef refs) = refl
-defines_is (PublRef refs) = refl
-defines_is (PrivRef words refs) = refl
-defines_is (PublDef value) = refl
-defines_is (ConstDef value) = refl
-defines_is (Eof next) = refl
-
 -- there are as many definitions as records that define a name
 pub definitions_counted : (rs : List Record) → length (definitions rs) ≡ definitions_in rs
 definitions_counted [] = refl
@@ -69,19 +62,14 @@ none_duplicate (r ∷ rs) n ds h = at (λ e. none_duplicate rs (n + 1) ds e) (de
     at rest (Some d) e = absurd (omega (arith, ap length (sym (new_entries 0 [] r rs d e) ∙ h)))
 
 pub positive : (n : ℕ) → (n ≡ 0 → ⊥) → 0 < n
-positive zero h = absurd (h refl)
-positive (suc n) h = omega arith
+positive n h = omega (arith, h)
 
 -- where nothing defines a name, there are no definitions, and none is duplicate
 pub no_definitions : (rs : List Record) → definitions_in rs ≡ 0 → (definitions rs ≡ []) × (first_duplicate rs ≡ None)
 no_definitions rs h = (none, none_duplicate rs 0 [] none)
   where
-    empty : (ds : List (List ℕ × Def)) → length ds ≡ 0 → ds ≡ []
-    empty [] k = refl
-    empty (d ∷ ds) k = absurd (omega arith)
-
     none : definitions rs ≡ []
-    none = empty (definitions rs) (definitions_counted rs ∙ h)
+    none = nil_from_length (definitions rs) (definitions_counted rs ∙ h)
 
 -- a name that is there already
 pub again_first : (n : ℕ) (ds : List (List ℕ × Def)) (r : Record) (rs : List Record) (d : Def) → def_in r.body ≡ Some d → is_some (definition_of r.name ds) ≡ true → first_duplicate_from n ds (r ∷ rs) ≡ Some n

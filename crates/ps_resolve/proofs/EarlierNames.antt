@@ -1,13 +1,13 @@
 -- Records of a kind that have the name of an earlier one: that none has, where the numbers of the
 -- names of privates differ, and the first of them.
-use Rattle.std.proofs.Common.{◌≡◌, ℕ, nat_cmp, zero, suc, ◌+◌, ◌<◌, ◌==◌, ◌++◌, List, [], ◌∷◌, length, take, Bool, true, false, Some, None, refl, sym, ◌∙◌, ap, subst, arith, append_assoc, append-nil}
+use Rattle.std.proofs.Common.{◌≡◌, ℕ, nat_cmp, zero, suc, ◌+◌, ◌<◌, ◌==◌, ◌++◌, List, [], ◌∷◌, length, take, Bool, true, false, Some, None, inl, inr, refl, sym, ◌∙◌, ap, subst, arith, append_assoc, append-nil}
 use Rattle.std.specs.Prelude.{◌&&◌, nat_lt, not}
 use Rattle.std.specs.Bool.{Decides}
 use Rattle.std.specs.Int.{w64, from_be_bytes}
 use Rattle.std.specs.List.{AllByRecursion, IsAllAdjacentAnswer, IsDistinct, filter, list_any, slice_get}
 use Rattle.std.specs.List.Sorted.{IsPermutation, IsSorted, IsStrictlyIncreasing}
 use Rattle.std.specs.Str.{bytes_eq}
-use Rattle.std.proofs.lemmas.Bool.{false≢true}
+use Rattle.std.proofs.lemmas.Bool.{cases_lt, eq-eqb, false≢true, ne_eqb}
 use Rattle.std.proofs.lemmas.Bool.Decides.{Decides-ltb, nat_tests}
 use Rattle.std.proofs.lemmas.List.Kept.{AllPairs-from_increasing}
 use Rattle.std.proofs.lemmas.List.Sorted.{IsNonDecreasingBy-from_sort, IsPermutation-sym}
@@ -26,21 +26,9 @@ number r = from_be_bytes w64 r.name
 abbrev is_same : ℕ → ℕ → Bool
 is_same x y = x == y
 
-below_differs : (x y : ℕ) → x < y → (x == y) ≡ false
-below_differs x y h = grind (arith, nat_tests)
-
-equal_is : (x y : ℕ) → x ≡ y → (x == y) ≡ false → ⊥
-equal_is x y e h = absurd (grind (arith, nat_tests))
-
 -- two numbers are the same, whichever is compared with the other
 flips : (x y : ℕ) → is_same x y ≡ is_same y x
-flips x y = at (x == y) refl (y == x) refl
-  where
-    at : (a : Bool) → (x == y) ≡ a → (b : Bool) → (y == x) ≡ b → a ≡ b
-    at true p true q = refl
-    at false p false q = refl
-    at true p false q = absurd (grind (arith, nat_tests))
-    at false p true q = absurd (grind (arith, nat_tests))
+flips x y = grind (arith, nat_tests)
 
 -- 1. numbers of names
 -- a private more, and another record
@@ -82,7 +70,7 @@ none_again (s ∷ ss) d (suc n) zero r q there is lt before was name =
     let apart : IsDistinct is_same (number s ∷ private_numbers ss) = subst (λ (xs : List ℕ). IsDistinct is_same xs) (taken s ss here) d in
     let differ : is_same (number s) (number r) ≡ false = all_numbers (λ (y : ℕ). is_same (number s) y ≡ false) ss (IsDistinct-head is_same (number s) (private_numbers ss) apart) n r there is in
     let equal : number s ≡ number r = ap (λ (x : Record). number x) same ∙ ap (λ (bytes : List ℕ). from_be_bytes w64 bytes) name in
-    equal_is (number s) (number r) equal differ
+    false≢true (sym differ ∙ eq-eqb (number s) (number r) equal)
 none_again (s ∷ ss) d (suc n) (suc m) r q there is lt before was name = none_again ss (rest (is_private_reference s.body) refl) n m r q there is (omega (arith, lt)) before was name
   where
     rest : (b : Bool) → is_private_reference s.body ≡ b → IsDistinct is_same (private_numbers ss)
@@ -103,7 +91,7 @@ pub distinct_names : (rs : List Record) (ys : List ℕ) → IsPermutation (priva
 distinct_names rs ys moved ascends rec r there h = none_again rs distinct rec h.1.0 r h.1.2.0 there h.0 h.1.1 h.1.2.1 h.1.2.2.0 h.1.2.2.1
   where
     sorted : IsDistinct is_same ys
-    sorted = IsDistinct-from_apart is_same ys (λ i j d lt le. below_differs _ _ (AllPairs-from_increasing ys ascends i j d lt le))
+    sorted = IsDistinct-from_apart is_same ys (λ i j d lt le. ne_eqb _ _ (λ e. absurd (omega (arith, e, AllPairs-from_increasing ys ascends i j d lt le))))
 
     distinct : IsDistinct is_same (private_numbers rs)
     distinct = IsDistinct-IsPermutation is_same flips ys (private_numbers rs) (IsPermutation-sym (private_numbers rs) ys moved) sorted
@@ -164,34 +152,18 @@ pub record Scans (test : Body → Bool) (all : List Record) (seen : List (List �
 pub scans : (test : Body → Bool) (all : List Record) → Scans test all [] 0 all
 scans test all = record { stands = record { prefix = []; whole = refl; count = refl }; same = refl; none = λ lesser q lt. absurd (omega (arith, lt)) }
 
--- whether a name was new
-pub not_new : (b x : Bool) → b ≡ false → b ≡ not x → x ≡ true
-not_new b true h e = refl
-not_new b false h e = absurd (false≢true (sym h ∙ e))
-
-pub newly : (b x : Bool) → b ≡ true → b ≡ not x → x ≡ false
-newly b false h e = refl
-newly b true h e = absurd (false≢true (sym (sym h ∙ e)))
-
 module _ (test : Body → Bool) (all : List Record) (seen : List (List ℕ)) (n : ℕ) (r : Record) (rs : List Record) (s : Scans test all seen n (r ∷ rs)) where
   this_is : (q : Record) → slice_get all n ≡ Some q → r ≡ q
   this_is q e = same_Some _ _ (sym (there all n r rs s.stands) ∙ e)
 
   none_more : (HasEarlierNamesake test all n r → ⊥) → (lesser : ℕ) (q : Record) → lesser < n + 1 → slice_get all lesser ≡ Some q → HasEarlierNamesake test all lesser q → ⊥
-  none_more fresh lesser q lt e h = at (nat_lt lesser n) refl
-    where
-      below : (k m : ℕ) → nat_lt k m ≡ true → k < m
-      below k m e = grind (arith, nat_tests)
-
-      last : (k m : ℕ) → k < m + 1 → nat_lt k m ≡ false → k ≡ m
-      last k m lt e = grind (arith, nat_tests)
-
-      at : (b : Bool) → nat_lt lesser n ≡ b → ⊥
-      at true t = s.none lesser q (below lesser n t) e h
-      at false t =
-          let here : lesser ≡ n = last lesser n lt t in
-          let is : slice_get all n ≡ Some q = subst (λ (k : ℕ). slice_get all k ≡ Some q) here e in
-          fresh (subst (λ (x : Record). HasEarlierNamesake test all n x) (sym (this_is q is)) (subst (λ (k : ℕ). HasEarlierNamesake test all k q) here h))
+  none_more fresh lesser q lt e h = elim (cases_lt lesser n) [
+    | inl less ↦ s.none lesser q less e h
+    | inr le ↦
+        let here : lesser ≡ n = omega (arith, lt, le) in
+        let is : slice_get all n ≡ Some q = subst (λ (k : ℕ). slice_get all k ≡ Some q) here e in
+        fresh (subst (λ (x : Record). HasEarlierNamesake test all n x) (sym (this_is q is)) (subst (λ (k : ℕ). HasEarlierNamesake test all k q) here h))
+  ]
 
   pub scan_on : test r.body ≡ false → Scans test all seen (n + 1) rs
   scan_on other = record {

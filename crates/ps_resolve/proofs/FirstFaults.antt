@@ -11,14 +11,6 @@ use Rattle.ps_resolve.specs.declared.linkage.Stop.{Stop}
 use Rattle.ps_resolve.specs.declared.linkage.Stop.TheVariants.{Refused, Memory}
 use Rattle.ps_resolve.proofs.Stages.{skip, keep}
 
-pub if_ok : {X E : Type 0} (r : Result X E) (P Q : Type 0) → (P → Q) → IfOk r (λ _. P) → IfOk r (λ _. Q)
-if_ok (Ok x) P Q f h = f h
-if_ok (Err e) P Q f h = tt
-
-pub if_err : {X E : Type 0} (r : Result X E) (P Q : E → Type 0) → ((e : E) → P e → Q e) → IfErr r P → IfErr r Q
-if_err (Ok x) P Q f h = tt
-if_err (Err e) P Q f h = f e h
-
 module _ (host : List ℕ) (libs : List (List ℕ)) where
   pub first_read : (fault : Fault) → reading_fault host libs ≡ Some fault → first_fault host libs ≡ Some fault
   unfolding first_fault

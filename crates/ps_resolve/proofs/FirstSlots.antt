@@ -33,11 +33,7 @@ found_none p i n le = let left : n - i ≡ 0 = omega arith in ap (λ (k : ℕ). 
 -- some number passes where a first one does
 pub any_found : {X : Type 0} (p : X → Bool) (xs : List X) → list_any p xs ≡ is_some (find p xs)
 any_found p [] = refl
-any_found {X} p (x ∷ xs) = at (any_found p xs) (p x) refl
-  where
-    at : list_any p xs ≡ is_some (find p xs) → (b : Bool) → p x ≡ b → list_any p (x ∷ xs) ≡ is_some (find p (x ∷ xs))
-    at rest true h = rw h
-    at rest false h = rw h rest
+any_found p (x ∷ xs) = grind (arith, any_found p xs)
 
 -- what two searches one after the other do not find
 pub neither_first : {Y : Type 0} (a b : Option Y) → option_or a b ≡ None → a ≡ None

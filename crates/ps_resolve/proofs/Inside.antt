@@ -3,7 +3,7 @@ use Rattle.std.proofs.Common.{◌≡◌, ℕ, ◌+◌, ◌≤◌, ◌++◌, List
 use Rattle.std.specs.Prelude.{nat_lt, All}
 use Rattle.std.specs.List.{list_any, range_with_len}
 use Rattle.std.specs.Option.{option_map}
-use Rattle.std.proofs.lemmas.Bool.Decides.{nat_tests}
+use Rattle.std.proofs.lemmas.Bool.{ltb-false}
 use Rattle.std.proofs.lemmas.List.Elements.{All-nil, All-cons, All-append}
 use Rattle.ps_words.specs.Edits.{IsInside}
 use Rattle.ps_words.specs.declared.fault.Reason.{Reason}
@@ -17,9 +17,6 @@ use Rattle.ps_resolve.specs.declared.references.Target.TheVariants.{Slot, Base}
 use Rattle.ps_resolve.proofs.Once.{or_none, map_none, reasons_none}
 use Rattle.ps_resolve.proofs.NextRecords.{record_refused, record_by}
 
-not_below : (a b : ℕ) → nat_lt a b ≡ false → b ≤ a
-not_below a b h = grind (arith, nat_tests)
-
 inside_of : (code : List ℕ) (t : Target) (x : ℕ) → x + width_of t ≤ length code → value_of code t x ≤ 32767 → IsInside (length code) (edit_of code t x)
 inside_of code (Slot slot) x h k = record { storable = tt; within = h }
 inside_of code (Base base) x h k = record { storable = omega arith; within = h }
@@ -29,7 +26,7 @@ one_inside : (R : ℕ → Bool) (code : List ℕ) (t : Target) (x : ℕ) (os : L
 one_inside R code t x os h =
     let places = range_with_len x (width_of t) in
     let e = reasons_none (nat_lt (length code) (x + width_of t)) (list_any R places) (list_any (λ p. list_any (is_in p) os) places) (nat_lt 32767 (value_of code t x)) reason.OutsideCode reason.ReservedPlace reason.Overlap reason.OperandTooLarge h in
-    inside_of code t x (not_below (length code) (x + width_of t) e.0) (not_below 32767 (value_of code t x) e.3)
+    inside_of code t x (ltb-false (length code) (x + width_of t) e.0) (ltb-false 32767 (value_of code t x) e.3)
 
 -- where no reference of a record has a fault, the edits of them lie in the code and can be stored
 refs_inside : (R : ℕ → Bool) (code : List ℕ) (t : Target) (xs : List ℕ) (i : ℕ) (os : List (ℕ × ℕ)) → refs_fault R code t i os xs ≡ None → All (IsInside (length code)) (map (edit_of code t) xs)

@@ -9,7 +9,7 @@ use Rattle.std.specs.Str.{bytes_eq}
 use Rattle.std.proofs.lemmas.Bool.{false≢true}
 use Rattle.std.proofs.lemmas.Bool.Decides.{Decides-and, Decides-or, Decides-like}
 use Rattle.std.proofs.lemmas.List.{map-append}
-use Rattle.std.proofs.lemmas.List.Elements.{filter-append}
+use Rattle.std.proofs.lemmas.List.Elements.{filter-append, filter_map-append}
 use Rattle.std.proofs.lemmas.Slice.Eq.{bytes_eq-Decides}
 use Rattle.ps_linkinfo.specs.declared.record.Body.{Body}
 use Rattle.ps_linkinfo.specs.declared.record.Body.TheVariants.{UnitRef, PublRef, PrivRef, PublDef, ConstDef, Eof}
@@ -65,12 +65,7 @@ longer (b ∷ prefix) a = let h = longer prefix a in omega (arith, h)
 
 -- a record defines a name where it has a definition
 pub defines_is : (b : Body) → is_definition b ≡ is_some (def_in b)
-defines_is (UnitRef refs) = refl
-defines_is (PublRef refs) = refl
-defines_is (PrivRef words refs) = refl
-defines_is (PublDef value) = refl
-defines_is (ConstDef value) = refl
-defines_is (Eof next) = refl
+defines_is b = grind arith
 
 abbrev defined : List ℕ → Record → Bool
 defined name q = is_definition q.body && bytes_eq name q.name
@@ -92,12 +87,7 @@ known name (q ∷ prefix) =
 
 -- one record more adds its definition, if it has one
 more_definitions : (prefix : List Record) (r : Record) → definitions (prefix ++ r ∷ []) ≡ definitions prefix ++ cons_option (definition_in r) []
-more_definitions [] r = refl
-more_definitions (q ∷ prefix) r = go (definition_in q) (more_definitions prefix r)
-  where
-    go : (o : Option (List ℕ × Def)) → definitions (prefix ++ r ∷ []) ≡ definitions prefix ++ cons_option (definition_in r) [] → cons_option o (definitions (prefix ++ r ∷ [])) ≡ cons_option o (definitions prefix) ++ cons_option (definition_in r) []
-    go None e = e
-    go (Some d) e = ap (λ (ds : List (List ℕ × Def)). d ∷ ds) e
+more_definitions prefix r = filter_map-append definition_in prefix (r ∷ [])
 
 -- the search that carries the definitions so far is the one that looks back
 pub definitions_carried : (h : ℕ → Fault) (prefix rs : List Record) (rec : ℕ) → rec ≡ length prefix
@@ -144,12 +134,7 @@ definitions_carried h prefix (r ∷ rs) rec e = go (def_in r.body) refl (definit
 
 -- a record requests a private where that takes words
 pub asks_is : (b : Body) → is_private_reference b ≡ is_some (words_in b)
-asks_is (UnitRef refs) = refl
-asks_is (PublRef refs) = refl
-asks_is (PrivRef words refs) = refl
-asks_is (PublDef value) = refl
-asks_is (ConstDef value) = refl
-asks_is (Eof next) = refl
+asks_is b = grind arith
 
 -- the names of the records of a kind
 abbrev pub names_of : (Body → Bool) → List Record → List (List ℕ)
@@ -165,12 +150,7 @@ has_name test name q = test q.body && bytes_eq name q.name
 -- a name is among those of the records of a kind where one of these records has it
 pub seen_is : (test : Body → Bool) (name : List ℕ) (prefix : List Record) → list_any (bytes_eq name) (names_of test prefix) ≡ list_any (has_name test name) prefix
 seen_is test name [] = refl
-seen_is test name (q ∷ prefix) = go (test q.body) (seen_is test name prefix)
-  where
-    go : (b : Bool) → list_any (bytes_eq name) (names_of test prefix) ≡ list_any (has_name test name) prefix
-        → list_any (bytes_eq name) (map (λ (q : Record). q.name) (if b then q ∷ filter (λ (q : Record). test q.body) prefix else filter (λ (q : Record). test q.body) prefix)) ≡ ((b && bytes_eq name q.name) || list_any (has_name test name) prefix)
-    go true e = ap (λ (b : Bool). bytes_eq name q.name || b) e
-    go false e = e
+seen_is test name (q ∷ prefix) = grind (arith, seen_is test name prefix)
 
 -- one record more adds its name, if it is of the kind
 pub more_names : (test : Body → Bool) (prefix : List Record) (r : Record) → names_of test (prefix ++ r ∷ []) ≡ names_of test prefix ++ names_of test (r ∷ [])
@@ -178,18 +158,14 @@ more_names test prefix r =
     ap (λ (qs : List Record). map (λ (q : Record). q.name) qs) (filter-append (λ (q : Record). test q.body) prefix (r ∷ []))
     ∙ map-append (λ (q : Record). q.name) (filter (λ (q : Record). test q.body) prefix) (filter (λ (q : Record). test q.body) (r ∷ []))
 
--- one record more adds the words of its private, if it requests one
+-- one record more, before the others or after them, adds the words of its private, if it requests
+-- one
+pub words_before : (r : Record) (rs : List Record) → private_words (r ∷ rs) ≡ words_taken r.body + private_words rs
+words_before r rs = grind arith
+
 pub more_words : (prefix : List Record) (r : Record) → private_words (prefix ++ r ∷ []) ≡ private_words prefix + words_taken r.body
-more_words [] r = go (words_in r.body) refl
-  where
-    go : (w : Option ℕ) → words_in r.body ≡ w → private_words (r ∷ []) ≡ private_words [] + words_taken r.body
-    go None e = rw (e, private_words, words_taken) refl
-    go (Some w) e = rw (e, private_words, words_taken) (omega arith)
-more_words (q ∷ prefix) r = go (words_in q.body) refl (more_words prefix r)
-  where
-    go : (w : Option ℕ) → words_in q.body ≡ w → private_words (prefix ++ r ∷ []) ≡ private_words prefix + words_taken r.body → private_words (q ∷ (prefix ++ r ∷ [])) ≡ private_words (q ∷ prefix) + words_taken r.body
-    go None e h = rw (e, private_words) h
-    go (Some w) e h = rw (e, private_words) (omega (arith, h))
+more_words [] r = omega (arith, words_before r [])
+more_words (q ∷ prefix) r = omega (arith, words_before q (prefix ++ r ∷ []), words_before q prefix, more_words prefix r)
 
 -- why a private cannot be allotted, by the records before it and by its offset
 abbrev pub reason_at : (ℕ → ℕ) → List Record → ℕ × Record → Option Reason

@@ -3,6 +3,7 @@ use Rattle.std.proofs.Common.{◌≡◌, ℕ, ◌+◌, ◌≤◌, ◌++◌, ◌|
 use Rattle.std.specs.Prelude.{count_by}
 use Rattle.std.specs.List.{list_any, range_with_len}
 use Rattle.std.specs.Option.{option_map, option_or}
+use Rattle.std.proofs.lemmas.Bool.{or_parts}
 use Rattle.std.proofs.lemmas.Bool.Decides.{nat_tests}
 use Rattle.std.proofs.lemmas.List.Sums.{sum_by_push, sum_by-append}
 use Rattle.ps_words.specs.declared.fault.Reason.{Reason}
@@ -32,24 +33,16 @@ pub map_none : {X Y : Type 0} (f : X → Y) (o : Option X) → option_map f o �
 map_none f None h = refl
 map_none f (Some x) h = cc
 
-if_none : {X : Type 0} (b : Bool) (x : X) → fault_if b x ≡ None → b ≡ false
-if_none true x h = cc
-if_none false x h = refl
-
-or_false : (a b : Bool) → (a || b) ≡ false → (a ≡ false) × (b ≡ false)
-or_false true b h = cc
-or_false false b h = (refl, h)
-
 count_none : {X : Type 0} (test : X → Bool) (xs : List X) → list_any test xs ≡ false → count_by test xs ≡ 0
 count_none test [] h = refl
-count_none test (x ∷ xs) h = let e = or_false (test x) (list_any test xs) h in let r = count_none test xs e.1 in one_more test x xs ∙ rw e.0 (omega arith)
+count_none test (x ∷ xs) h = let e = or_parts (test x) (list_any test xs) h in let r = count_none test xs e.1 in one_more test x xs ∙ rw e.0 (omega arith)
 
 -- a test that no place of an operand passes fails at each of them
 none_at : (t : Target) (x : ℕ) (q : ℕ → Bool) → list_any q (range_with_len x (width_of t)) ≡ false → (p : ℕ) → is_in p (x, width_of t) ≡ true → q p ≡ false
-none_at (Slot slot) x q h p k = let e = or_false (q x) false h in let same : x ≡ p = grind (arith, nat_tests) in subst (λ (n : ℕ). q n ≡ false) same e.0
+none_at (Slot slot) x q h p k = let e = or_parts (q x) false h in let same : x ≡ p = grind (arith, nat_tests) in subst (λ (n : ℕ). q n ≡ false) same e.0
 none_at (Base base) x q h p k =
-    let e = or_false (q x) _ h in
-    let f = or_false (q (x + 1)) false e.1 in
+    let e = or_parts (q x) _ h in
+    let f = or_parts (q (x + 1)) false e.1 in
     at (x == p) refl e.0 f.0
   where
     at : (b : Bool) → (x == p) ≡ b → q x ≡ false → q (x + 1) ≡ false → q p ≡ false
@@ -59,11 +52,7 @@ none_at (Base base) x q h p k =
 -- where none of four reasons is given, none of their tests holds
 pub reasons_none : (a b c d : Bool) (r s t u : Reason) → option_or (fault_if a r) (option_or (fault_if b s) (option_or (fault_if c t) (fault_if d u))) ≡ None
     → (a ≡ false) × (b ≡ false) × (c ≡ false) × (d ≡ false)
-reasons_none true b c d r s t u h = cc
-reasons_none false true c d r s t u h = cc
-reasons_none false false true d r s t u h = cc
-reasons_none false false false true r s t u h = cc
-reasons_none false false false false r s t u h = (refl, refl, refl, refl)
+reasons_none a b c d r s t u h = grind arith
 
 -- a reference without a fault keeps it so
 once_more : (R : ℕ → Bool) (code : List ℕ) (t : Target) (x : ℕ) (os : List (ℕ × ℕ)) → reference_reason R code os t x ≡ None → IsOnce R os → IsOnce R (os ++ (x, width_of t) ∷ [])

@@ -21,13 +21,7 @@ use Rattle.ps_resolve.proofs.FirstSlots.{neither_first, neither_second, none_map
 -- a library that is not refused is read as it is
 read_as : (short : Bool) (of : FileOrder) (order : Order) (file : List ℕ) → result_err (if short then Err reason.ShortFile else opened_beside_as order file of) ≡ None
     → (if short then Err reason.ShortFile else opened_beside_as order file of) ≡ Ok (record { order = order; file = file })
-read_as true of order file h = cc
-read_as false Zero order file h = refl
-read_as false (Ordered Little) Little file h = refl
-read_as false (Ordered Little) Big file h = cc
-read_as false (Ordered Big) Little file h = cc
-read_as false (Ordered Big) Big file h = refl
-read_as false Mixed order file h = cc
+read_as short of order file h = grind arith
 
 pub read_beside : (order : Order) (file : List ℕ) → library_reason order file ≡ None → opened_beside order file ≡ Ok (record { order = order; file = file })
 read_beside order file h = read_as (ltb (length file) 512) (file_order file) order file h

@@ -37,16 +37,9 @@ pub of_unit : (order : Order) (name lib : List ℕ) (i : ℕ) → is_duplicate o
 of_unit order name lib i d first unit =
     once order name lib i d first ∙ ap (λ (k : ℕ). fault_if (not (k == 3)) (reason.NotAUnit k)) unit
 
--- where there is no reason the kind is that of a unit
-three : (k : ℕ) (b : Bool) → (k == 3) ≡ b → fault_if (not b) (reason.NotAUnit k) ≡ None → k ≡ 3
-three k true e h = grind (arith, nat_tests)
-three k false e h = cc
-
--- so it is with the first entry of a name
+-- where there is no reason the kind of the first entry of a name is that of a unit
 kind_from : (duplicate : Bool) (first : Option ℕ) (kind : ℕ → ℕ) (i : ℕ) → reason_from duplicate first kind ≡ None → first ≡ Some i → kind i ≡ 3
-kind_from true first kind i h e = cc
-kind_from false None kind i h e = cc
-kind_from false (Some j) kind i h e = let same : j ≡ i = cc in subst (λ (m : ℕ). kind m ≡ 3) same (three (kind j) (kind j == 3) refl h)
+kind_from duplicate first kind i h e = grind (arith, nat_tests)
 
 pub kind_is : (order : Order) (name lib : List ℕ) (i : ℕ) → entries_reason order name lib ≡ None → find (is_named order name lib) slots ≡ Some i → (entry_at order lib i).kind ≡ 3
 kind_is order name lib i h first = kind_from (is_duplicate order name lib) (find (is_named order name lib) slots) (kind_at order lib) i h first

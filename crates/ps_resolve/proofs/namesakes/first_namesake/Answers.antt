@@ -1,9 +1,10 @@
 use Rattle.std.proofs.Common.{◌≡◌, ◌+◌, ◌++◌, ◌∙◌, [], ◌∷◌, List, ℕ, ap, sym, subst}
 use Rattle.std.specs.Prelude.{if◌then◌else◌}
+use Rattle.std.proofs.lemmas.Bool.{not-false, not-true}
 use Rattle.std.specs.List.{list_any}
 use Rattle.std.specs.Str.{bytes_eq}
 use Rattle.ps_linkinfo.specs.RecordCounts.{is_private_reference}
-use Rattle.ps_resolve.proofs.EarlierNames.{Scans, newly, not_new, scan_end, scan_found, scan_more, scan_on, scans}
+use Rattle.ps_resolve.proofs.EarlierNames.{Scans, scan_end, scan_found, scan_more, scan_on, scans}
 use Rattle.ps_resolve.proofs.Numbers.{one, none}
 use Rattle.ps_resolve.proofs.namesakes.first_namesake.Goals as goal
 use Rattle.ps_resolve.proofs.namesakes.first_namesake.Goals.{else-is_private-via-then-is_private+in_ok-insert+else-not-branch, else-is_private-via-else-is_private}
@@ -24,7 +25,7 @@ returns-then-not-branch-clause-found g c =
     let r = c.in-Some.record in
     let step = one (Scans test all seen) l.rec-iterator c.next.new.self rec r l.invariant c.in-Some.ensures.steps in
     let is = sym c.is_private.ensures ∙ c.if-is_private.true in
-    scan_found test all seen rec r step.0 step.2 is (not_new c.in_ok-insert.field-0 (list_any (bytes_eq r.name) seen) c.if-not-branch.true c.in_ok-insert.ensures.added)
+    scan_found test all seen rec r step.0 step.2 is (not-false (list_any (bytes_eq r.name) seen) (sym c.in_ok-insert.ensures.added ∙ c.if-not-branch.true))
 
 pub loop-rec-preserved : goal.loop-rec-preserved
 loop-rec-preserved g c =
@@ -39,7 +40,7 @@ loop-rec-preserved g c =
     elim c.else-is_private.branch [
       | else-is_private-via-then-is_private+in_ok-insert+else-not-branch w ↦
           let is = sym c.is_private.ensures ∙ w.if-is_private.true in
-          let new = newly w.in_ok-insert.field-0 (list_any (bytes_eq r.name) seen) w.if-not-branch.false w.in_ok-insert.ensures.added in
+          let new = not-true (list_any (bytes_eq r.name) seen) (sym w.in_ok-insert.ensures.added ∙ w.if-not-branch.false) in
           let keys : c.else-is_private.names.keys ≡ seen ++ r.name ∷ [] = ap (λ v. v.keys) w.names-is ∙ w.in_ok-insert.ensures.keys ∙ ap (λ b. if b then seen else seen ++ r.name ∷ []) new in
           (rec + 1, rest, step.1, subst (λ (ks : List (List ℕ)). Scans test all ks (rec + 1) rest) (sym keys) (scan_more test all seen rec r rest step.2 is new))
       | else-is_private-via-else-is_private w ↦

@@ -1,5 +1,6 @@
 use Rattle.std.proofs.Common.{◌≡◌, ℕ, List, map, None, sym, ◌∙◌, ap, subst}
 use Rattle.std.specs.Prelude.{IfOk}
+use Rattle.std.proofs.lemmas.Result.{IfErr-weaker, IfOk-weaker}
 use Rattle.ps_words.specs.declared.order.Order.{Order}
 use Rattle.ps_resolve.specs.Sources.{Segment, order_of}
 use Rattle.ps_resolve.specs.Added.{segments}
@@ -7,7 +8,7 @@ use Rattle.ps_resolve.specs.Views.{segment_of}
 use Rattle.ps_resolve.specs.Faults.{linking_fault}
 use Rattle.ps_resolve.specs.AllFaults.{first_fault}
 use Rattle.ps_resolve.specs.Plans.{AreStopped, IsPlanOf, IsStopped}
-use Rattle.ps_resolve.proofs.FirstFaults.{if_ok, if_err, first_read, first_linked, stopped}
+use Rattle.ps_resolve.proofs.FirstFaults.{first_read, first_linked, stopped}
 use Rattle.ps_resolve.proofs.resolving.resolve.Goals as goal
 
 pub returns-in-Err-clause-stop : goal.returns-in-Err-clause-stop
@@ -28,7 +29,7 @@ returns-in-Ok g c =
       plan = subst (λ (o : Order). IfOk c.link_segments.result (IsPlanOf o host all)) order_is
           (subst (λ (file : List ℕ). IfOk c.link_segments.result (IsPlanOf order file all)) c.in-Ok.ensures.host
           (subst (λ (segs : List Segment). IfOk c.link_segments.result (IsPlanOf order c.in-Ok.segments.host segs)) given_is c.link_segments.ensures.plan));
-      sound = if_ok c.link_segments.result (linking_fault order given ≡ None) (first_fault host libs ≡ None) (λ h. first_linked host libs none ∙ sym same ∙ h) c.link_segments.ensures.sound;
-      stop = if_err c.link_segments.result (AreStopped order given) (IsStopped host libs)
+      sound = IfOk-weaker c.link_segments.result (λ _. linking_fault order given ≡ None) (λ _. first_fault host libs ≡ None) (λ _ h. first_linked host libs none ∙ sym same ∙ h) c.link_segments.ensures.sound;
+      stop = IfErr-weaker c.link_segments.result (AreStopped order given) (IsStopped host libs)
           (λ stop d. stopped host libs none stop (subst (λ (o : Order). AreStopped o all stop) order_is (subst (λ (segs : List Segment). AreStopped order segs stop) given_is d))) c.link_segments.ensures.stop;
     }
