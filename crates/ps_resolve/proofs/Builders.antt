@@ -34,7 +34,7 @@ use Rattle.ps_resolve.specs.declared.linkage.Stop.TheVariants.{Refused, Memory}
 use Rattle.ps_resolve.proofs.LookingBack.{is_again, again, take_prefix, longer, of_test, defines_is, asks_is, definitions_carried, words_before, reason_at, record_fault, privates_carried}
 use Rattle.ps_resolve.proofs.Allots.{skip_privates}
 use Rattle.ps_resolve.proofs.Duplicates.{none_entries}
-use Rattle.ps_resolve.proofs.FirstSlots.{none_mapped}
+use Rattle.ps_resolve.proofs.FirstSlots.{none_mapped, or_none}
 use Rattle.ps_resolve.proofs.Rises.{behind}
 
 -- the first that f gives of a list's items and their numbers
@@ -206,17 +206,14 @@ module _ (base : ℕ) (ss : List Owner) where
         Decides-and (is_private_reference r.body) (nat_lt 32767 (offset_at base ss k s rec + words_taken r.body)) (of_test (is_private_reference r.body))
         (Decides-ltb 32767 (offset_at base ss k s rec + words_taken r.body))
 
+    neither : record_faults (k, s) (rec, r) ≡ None → (fault_if (is_again is_private_reference s.records (rec, r)) reason.DoubledPrivate ≡ None) × (fault_if full reason.NoRoom ≡ None)
+    neither e = or_none _ _ (none_mapped (λ why. in_record s.file s.slot rec why) (reason_at (λ n. offset_at base ss k s n) s.records (rec, r)) e)
+
     -- a record without a fault is not unfit
     fits : record_faults (k, s) (rec, r) ≡ None → (why : Reason) → IsUnfit base ss k s rec r why → ⊥
-    fits e = go (is_again is_private_reference s.records (rec, r)) full (again is_private_reference s.records rec r) is_full (none_mapped (λ why. in_record s.file s.slot rec why) (reason_at (λ n. offset_at base ss k s n) s.records (rec, r)) e)
-      where
-        go : (b c : Bool) → Decides b (HasEarlierNamesake is_private_reference s.records rec r) → Decides c ((is_private_reference r.body ≡ true) × (32767 < offset_at base ss k s rec + words_taken r.body))
-            → option_or (fault_if b reason.DoubledPrivate) (fault_if c reason.NoRoom) ≡ None → (why : Reason) → IsUnfit base ss k s rec r why → ⊥
-        go true c d f h why u = absurd (cc)
-        go false true d f h why u = absurd (cc)
-        go false false d f h reason.DoubledPrivate u = false≢true (d.1 u)
-        go false false d f h reason.NoRoom u = false≢true (f.1 (u.1, u.2))
-        go false false d f h other u = u
+    fits e reason.DoubledPrivate u = not_there (is_again is_private_reference s.records (rec, r)) reason.DoubledPrivate (again is_private_reference s.records rec r) (neither e).0 u
+    fits e reason.NoRoom u = not_there full reason.NoRoom is_full (neither e).1 (u.1, u.2)
+    fits e other u = u
 
     -- a record is unfit by the reason that the search gives
     unfit : (why : Reason) → reason_at (λ n. offset_at base ss k s n) s.records (rec, r) ≡ Some why → IsUnfit base ss k s rec r why
@@ -325,13 +322,10 @@ by_record ps rises i j p q lt is_p is_q =
 -- the privates have the words that their records request
 words_allotted : (slot rec next : ℕ) (rs : List Record) → words_of_all (allotted_privates slot rec next rs) ≡ private_words rs
 words_allotted slot rec next [] = refl
-words_allotted slot rec next (r ∷ rs) = go (words_in r.body) refl (λ next. words_allotted slot (rec + 1) next rs)
-  where
-    go : (w : Option ℕ) → words_in r.body ≡ w → ((next : ℕ) → words_of_all (allotted_privates slot (rec + 1) next rs) ≡ private_words rs) → words_of_all (allotted_privates slot rec next (r ∷ rs)) ≡ private_words (r ∷ rs)
-    go None e later = rw (e, allotted_privates, private_words) (later next)
-    go (Some w) e later =
-        rw (e, allotted_privates, private_words)
-        (sum_by-cons (λ (p : Private). p.words) (record { slot = slot; rec = rec; name = r.name; offset = next; words = w }) (allotted_privates slot (rec + 1) (next + w) rs) ∙ ap (λ (n : ℕ). w + n) (later (next + w)))
+words_allotted slot rec next (r ∷ rs) =
+    let rest = λ (n : ℕ). words_allotted slot (rec + 1) n rs in
+    let more = λ (w : ℕ). sum_by-cons (λ (p : Private). p.words) (record { slot = slot; rec = rec; name = r.name; offset = next; words = w }) (allotted_privates slot (rec + 1) (next + w) rs) in
+    grind (arith, rest, more)
 
 -- and so have the privates of all segments
 pub summed : (next : ℕ) (ss : List Owner) → words_of_all (all_allotted next ss) ≡ all_words ss
@@ -347,12 +341,9 @@ summed next (s ∷ ss) =
 -- the privates of a segment, without their offsets
 asked_allotted : (s : Owner) (rec next : ℕ) (rs : List Record) → map asked_of (allotted_privates s.slot rec next rs) ≡ filter_map (asked_in s) (enumerate_from rec rs)
 asked_allotted s rec next [] = refl
-asked_allotted s rec next (r ∷ rs) = go (words_in r.body) refl (λ next. asked_allotted s (rec + 1) next rs)
-  where
-    go : (w : Option ℕ) → words_in r.body ≡ w → ((next : ℕ) → map asked_of (allotted_privates s.slot (rec + 1) next rs) ≡ filter_map (asked_in s) (enumerate_from (rec + 1) rs))
-        → map asked_of (allotted_privates s.slot rec next (r ∷ rs)) ≡ cons_option (asked_in s (rec, r)) (filter_map (asked_in s) (enumerate_from (rec + 1) rs))
-    go None e rest = rw (e, allotted_privates, asked_in) (rest next)
-    go (Some w) e rest = rw (e, allotted_privates, asked_in) (ap (λ (xs : List Asked). record { slot = s.slot; rec = rec; name = r.name; words = w } ∷ xs) (rest (next + w)))
+asked_allotted s rec next (r ∷ rs) =
+    let rest = λ (n : ℕ). asked_allotted s (rec + 1) n rs in
+    grind (arith, rest)
 
 -- and those of all segments, which are what all records request
 pub asked : (next : ℕ) (ss : List Owner) → map asked_of (all_allotted next ss) ≡ all_asked ss

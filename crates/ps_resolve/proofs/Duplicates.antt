@@ -43,23 +43,12 @@ pub record Defines (all : List Record) (ds : List (List ℕ × Def)) (n : ℕ) (
 -- there are as many definitions as records that define a name
 pub definitions_counted : (rs : List Record) → length (definitions rs) ≡ definitions_in rs
 definitions_counted [] = refl
-definitions_counted (r ∷ rs) = at (definitions_counted rs) (def_in r.body) refl
-  where
-    one : (b : Bool) → is_definition r.body ≡ b → definitions_in (r ∷ rs) ≡ cond b 1 0 + definitions_in rs
-    one b h = one_more (λ s. is_definition s.body) r rs ∙ ap (λ (c : Bool). cond {A = ℕ} c 1 0 + definitions_in rs) h
-
-    at : length (definitions rs) ≡ definitions_in rs → (o : Option Def) → def_in r.body ≡ o → length (definitions (r ∷ rs)) ≡ definitions_in (r ∷ rs)
-    at rest None h = let a = one false (defines_is r.body ∙ ap is_some h) in let b = ap length (none_entries 0 [] r rs h) in omega (arith, rest)
-    at rest (Some d) h = let a = one true (defines_is r.body ∙ ap is_some h) in let b = ap length (new_entries 0 [] r rs d h) in omega (arith, rest)
+definitions_counted (r ∷ rs) = grind (arith, definitions_counted rs, defines_is r.body, one_more (λ s. is_definition s.body) r rs)
 
 -- records that define nothing define no name again
 none_duplicate : (rs : List Record) (n : ℕ) (ds : List (List ℕ × Def)) → definitions rs ≡ [] → first_duplicate_from n ds rs ≡ None
 none_duplicate [] n ds h = refl
-none_duplicate (r ∷ rs) n ds h = at (λ e. none_duplicate rs (n + 1) ds e) (def_in r.body) refl
-  where
-    at : (definitions rs ≡ [] → first_duplicate_from (n + 1) ds rs ≡ None) → (o : Option Def) → def_in r.body ≡ o → first_duplicate_from n ds (r ∷ rs) ≡ None
-    at rest None e = none_first n ds r rs e ∙ rest (sym (none_entries 0 [] r rs e) ∙ h)
-    at rest (Some d) e = absurd (omega (arith, ap length (sym (new_entries 0 [] r rs d e) ∙ h)))
+none_duplicate (r ∷ rs) n ds h = grind (arith, none_duplicate rs (n + 1) ds)
 
 pub positive : (n : ℕ) → (n ≡ 0 → ⊥) → 0 < n
 positive n h = omega (arith, h)

@@ -5,9 +5,11 @@ use Rattle.std.specs.Prelude.{All}
 use Rattle.std.specs.List.{range_with_len, filter_map, cons_option, flat_map, find, slice_get}
 use Rattle.std.specs.Option.{option_map, option_map_or, option_and_then}
 use Rattle.std.specs.Result.{result_ok}
-use Rattle.std.proofs.lemmas.Option.{option_and_then_some, same_Some}
+use Rattle.std.proofs.lemmas.Option.{get_or_from_slice_get, option_and_then_some, same_Some, slice_get_within}
 use Rattle.std.proofs.lemmas.List.{length-take, length-drop}
-use Rattle.std.proofs.lemmas.List.Elements.{All-nil, All-cons, All-tail, All-append}
+use Rattle.std.proofs.lemmas.List.Elements.{All-nil, All-cons, All-tail, All-append, All-push, All-get_or, All-from_get_or}
+use Rattle.std.proofs.lemmas.List.FromFn.{get_or-range_with_len}
+use Rattle.std.proofs.lemmas.Bool.{cond_both}
 use Rattle.ps_words.specs.declared.order.Order.{Order}
 use Rattle.ps_words.specs.declared.fault.Fault.{Fault}
 use Rattle.ps_codefile.specs.Dictionary.{slots, name_at, entry_at, role_of, code_of, information_of}
@@ -39,21 +41,12 @@ record HasNames (s : Segment) : Type 0 where
   own : length s.name ≡ 8
   records : All IsWhole s.records
 
--- what holds of all items holds of item k
-got : {X : Type 0} (P : X → Type 0) (xs : List X) (k : ℕ) (x : X) → slice_get xs k ≡ Some x → All P xs → P x
-got P [] k x h all = cc
-got P (y ∷ ys) zero x h all = let same : y ≡ x = same_Some _ _ h in subst P same (all 0 y (omega arith))
-got P (y ∷ ys) (suc k) x h all = got P ys k x h (All-tail P y ys all)
-
 -- where the names of records have eight bytes, so have those of the UNITREF records among them
 references_named : (file slot rec : ℕ) (rs : List Record) → All IsWhole rs → All IsNamed (unit_references file slot rec rs)
 references_named file slot rec [] all = All-nil IsNamed
-references_named file slot rec (r ∷ rs) all = by (is_unit_reference r.body) (all 0 r (omega arith)) (references_named file slot (rec + 1) rs (All-tail IsWhole r rs all))
-  where
-    by : (b : Bool) → IsWhole r → All IsNamed (unit_references file slot (rec + 1) rs)
-        → All IsNamed (if b then record { name = r.name; file = file; slot = slot; rec = rec } ∷ unit_references file slot (rec + 1) rs else unit_references file slot (rec + 1) rs)
-    by true h rest = All-cons IsNamed (record { name = r.name; file = file; slot = slot; rec = rec }) (unit_references file slot (rec + 1) rs) h rest
-    by false h rest = rest
+references_named file slot rec (r ∷ rs) all =
+    let rest = references_named file slot (rec + 1) rs (All-tail IsWhole r rs all) in
+    cond_both (is_unit_reference r.body) _ _ (All IsNamed) (λ _. All-cons IsNamed (record { name = r.name; file = file; slot = slot; rec = rec }) _ (all 0 r (omega arith)) rest) (λ _. rest)
 
 -- so it is with the UNITREF records of all segments
 all_references_named : (ss : List Segment) → All HasNames ss → All IsNamed (all_unit_references ss)
@@ -63,7 +56,7 @@ all_references_named (s ∷ ss) all =
 
 one_more : (b : Bool) (queue : List UnitReference) (g : UnitReference) → All IsNamed queue → IsNamed g → All IsNamed (if b then queue else queue ++ g ∷ [])
 one_more true queue g all h = all
-one_more false queue g all h = All-append IsNamed queue (g ∷ []) all (All-cons IsNamed g [] h (All-nil IsNamed))
+one_more false queue g all h = All-push IsNamed queue g all h
 
 -- a sequence of names of eight bytes stays one, where the names that are then requested have eight
 -- bytes
@@ -130,7 +123,7 @@ rounds_named law order host libs units (slot ∷ left) k queue all = by (λ next
     at rest g (Some fault) e o f h = rw (h, rounds_from) (rw (e, rounds_from) (All-nil HasNames))
     at rest g None e None f h = rw (h, rounds_from) (rw (e, rounds_from) (rw (f, rounds_from) (All-nil HasNames)))
     at rest g None e (Some s) f h =
-        let named = added_named law order host libs g slot s (got IsNamed queue k g h all) f in
+        let named = added_named law order host libs g slot s (subst IsNamed (get_or_from_slice_get queue k g g h) (All-get_or IsNamed queue k g (slice_get_within queue k g h) all)) f in
         let gs = unit_references s.file s.slot 0 s.records in
         let next = requested_from units queue gs in
         let later = rest next (queue_named units queue gs all (references_named s.file s.slot 0 s.records named.records)) in
@@ -149,13 +142,8 @@ each_has P f h (x ∷ xs) all = by (f x) refl (each_has P f h xs (All-tail (λ (
     by None e rest = rest
     by (Some s) e rest = All-cons P s (filter_map f xs) (h x s (all 0 x (omega arith)) e) rest
 
--- the slots are below 16
-rising : (a n : ℕ) → a + n ≤ 16 → All (λ (x : ℕ). x < 16) (range_with_len a n)
-rising a zero h = All-nil (λ (x : ℕ). x < 16)
-rising a (suc n) h = All-cons (λ (x : ℕ). x < 16) a (range_with_len (a + 1) n) (omega arith) (rising (a + 1) n (omega arith))
-
 all_slots : All (λ (x : ℕ). x < 16) slots
-all_slots = rising 0 16 (omega arith)
+all_slots = All-from_get_or (λ (x : ℕ). x < 16) slots 0 (λ i lt. omega (arith, lt, get_or-range_with_len 0 16 i 0))
 
 all_own : ReadWhole → (order : Order) (host : List ℕ) (libs : List (List ℕ)) → 512 ≤ length host → All HasNames (own_segments order host libs)
 unfolding own_segments

@@ -36,13 +36,15 @@ any_found p [] = refl
 any_found p (x ∷ xs) = grind (arith, any_found p xs)
 
 -- what two searches one after the other do not find
+pub or_none : {Y : Type 0} (a b : Option Y) → option_or a b ≡ None → (a ≡ None) × (b ≡ None)
+or_none None b h = (refl, h)
+or_none (Some y) b h = cc
+
 pub neither_first : {Y : Type 0} (a b : Option Y) → option_or a b ≡ None → a ≡ None
-neither_first None b h = refl
-neither_first (Some y) b h = h
+neither_first a b h = (or_none a b h).0
 
 pub neither_second : {Y : Type 0} (a b : Option Y) → option_or a b ≡ None → b ≡ None
-neither_second None b h = h
-neither_second (Some y) b h = cc
+neither_second a b h = (or_none a b h).1
 
 pub none_mapped : {X Y : Type 0} (f : X → Y) (o : Option X) → option_map f o ≡ None → o ≡ None
 none_mapped f None h = refl

@@ -14,7 +14,8 @@ use Rattle.ps_resolve.specs.Operands.{operands, width_of, is_in, refs_fault, ref
 use Rattle.ps_resolve.specs.References.{Known, words_taken, target_of, records_fault, record_edits, records_edits}
 use Rattle.ps_resolve.specs.declared.references.Target.{Target}
 use Rattle.ps_resolve.specs.declared.references.Target.TheVariants.{Slot, Base}
-use Rattle.ps_resolve.proofs.Once.{or_none, map_none, reasons_none}
+use Rattle.ps_resolve.proofs.FirstSlots.{or_none, none_mapped}
+use Rattle.ps_resolve.proofs.Once.{reasons_none}
 use Rattle.ps_resolve.proofs.NextRecords.{record_refused, record_by}
 
 inside_of : (code : List ℕ) (t : Target) (x : ℕ) → x + width_of t ≤ length code → value_of code t x ≤ 32767 → IsInside (length code) (edit_of code t x)
@@ -33,7 +34,7 @@ refs_inside : (R : ℕ → Bool) (code : List ℕ) (t : Target) (xs : List ℕ) 
 refs_inside R code t [] i os h = All-nil (IsInside (length code))
 refs_inside R code t (x ∷ xs) i os h =
     let e = or_none (option_map (λ why. (i, why)) (reference_reason R code os t x)) (refs_fault R code t (i + 1) (os ++ (x, width_of t) ∷ []) xs) h in
-    All-cons (IsInside (length code)) (edit_of code t x) (map (edit_of code t) xs) (one_inside R code t x os (map_none _ _ e.0)) (refs_inside R code t xs (i + 1) (os ++ (x, width_of t) ∷ []) e.1)
+    All-cons (IsInside (length code)) (edit_of code t x) (map (edit_of code t) xs) (one_inside R code t x os (none_mapped _ _ e.0)) (refs_inside R code t xs (i + 1) (os ++ (x, width_of t) ∷ []) e.1)
 
 -- where no record has a fault, the edits of all their references lie in the code and can be stored
 pub records_inside : (known : Known) (R : ℕ → Bool) (code : List ℕ) (rs : List Record) (rec off : ℕ) (os : List (ℕ × ℕ)) → records_fault known R code rec off os rs ≡ None → All (IsInside (length code)) (records_edits known code off rs)
@@ -45,4 +46,4 @@ records_inside known R code (r ∷ rs) rec off os h = at (target_of known off r)
     at (Ok t) k again =
         let e = or_none (option_map (λ f. (rec, (Some f.0, f.1))) (refs_fault R code t 0 os (refs_of r.body))) (records_fault known R code (rec + 1) (off + words_taken r.body) (os ++ operands t (refs_of r.body)) rs) (sym (record_by known R code rec off os r rs t k) ∙ h) in
         rw (k, record_edits) (All-append (IsInside (length code)) (map (edit_of code t) (refs_of r.body)) (records_edits known code (off + words_taken r.body) rs)
-        (refs_inside R code t (refs_of r.body) 0 os (map_none _ _ e.0)) (again (os ++ operands t (refs_of r.body)) e.1))
+        (refs_inside R code t (refs_of r.body) 0 os (none_mapped _ _ e.0)) (again (os ++ operands t (refs_of r.body)) e.1))

@@ -8,7 +8,7 @@ use Rattle.std.specs.Option.{option_map, option_or}
 use Rattle.std.specs.Str.{bytes_eq}
 use Rattle.std.proofs.lemmas.Bool.{false≢true}
 use Rattle.std.proofs.lemmas.Bool.Decides.{Decides-and, Decides-or, Decides-like}
-use Rattle.std.proofs.lemmas.List.{map-append}
+use Rattle.std.proofs.lemmas.List.{length_push, map-append, take_at}
 use Rattle.std.proofs.lemmas.List.Elements.{filter-append, filter_map-append}
 use Rattle.std.proofs.lemmas.Slice.Eq.{bytes_eq-Decides}
 use Rattle.ps_linkinfo.specs.declared.record.Body.{Body}
@@ -56,12 +56,10 @@ again test records rec r =
 
 -- a prefix of a list
 pub take_prefix : {A : Type 0} (prefix rest : List A) → take (length prefix) (prefix ++ rest) ≡ prefix
-take_prefix [] rest = refl
-take_prefix (a ∷ prefix) rest = ap (λ (xs : List _). a ∷ xs) (take_prefix prefix rest)
+take_prefix prefix rest = take_at prefix rest (length prefix) refl
 
 pub longer : {A : Type 0} (prefix : List A) (a : A) → length (prefix ++ a ∷ []) ≡ length prefix + 1
-longer [] a = refl
-longer (b ∷ prefix) a = let h = longer prefix a in omega (arith, h)
+longer prefix a = length_push prefix a
 
 -- a record defines a name where it has a definition
 pub defines_is : (b : Body) → is_definition b ≡ is_some (def_in b)
@@ -73,17 +71,7 @@ defined name q = is_definition q.body && bytes_eq name q.name
 -- the definitions have the name where a record does
 known : (name : List ℕ) (prefix : List Record) → is_some (definition_of name (definitions prefix)) ≡ list_any (defined name) prefix
 known name [] = refl
-known name (q ∷ prefix) =
-    go (def_in q.body) (known name prefix) ∙ ap (λ (b : Bool). (b && bytes_eq name q.name) || list_any (defined name) prefix) (sym (defines_is q.body))
-  where
-    go : (o : Option Def) → is_some (definition_of name (definitions prefix)) ≡ list_any (defined name) prefix
-        → is_some (definition_of name (cons_option (elim o [ None ↦ None | Some d ↦ Some (q.name, d) ]) (definitions prefix))) ≡ ((is_some o && bytes_eq name q.name) || list_any (defined name) prefix)
-    go None e = e
-    go (Some d) e = at (bytes_eq name q.name)
-      where
-        at : (b : Bool) → is_some (if b then Some d else definition_of name (definitions prefix)) ≡ (b || list_any (defined name) prefix)
-        at true = refl
-        at false = e
+known name (q ∷ prefix) = grind (arith, known name prefix)
 
 -- one record more adds its definition, if it has one
 more_definitions : (prefix : List Record) (r : Record) → definitions (prefix ++ r ∷ []) ≡ definitions prefix ++ cons_option (definition_in r) []

@@ -16,6 +16,8 @@ use Rattle.ps_resolve.specs.References.{Known, words_taken, target_of, records_f
 use Rattle.ps_resolve.specs.declared.references.Target.{Target}
 use Rattle.ps_resolve.specs.declared.references.Target.TheVariants.{Slot, Base}
 use Rattle.ps_resolve.proofs.Apart.{one_more}
+use Rattle.ps_resolve.proofs.FirstSlots.{or_none}
+pub use Rattle.ps_resolve.proofs.FirstSlots.{none_mapped as map_none}
 use Rattle.ps_resolve.proofs.NextRecords.{record_refused, record_by}
 use Rattle.ps_words.specs.declared.fault.Reason.TheVariants as reason
 use Rattle.std.specs.Prelude.{nat_lt}
@@ -24,14 +26,6 @@ use Rattle.std.specs.Prelude.{nat_lt}
 pub record IsOnce (R : ℕ → Bool) (os : List (ℕ × ℕ)) : Type 0 where
   pub once : (p : ℕ) → count_by (is_in p) os ≤ 1
   pub free : (p : ℕ) → R p ≡ true → count_by (is_in p) os ≡ 0
-
-pub or_none : {X : Type 0} (a b : Option X) → option_or a b ≡ None → (a ≡ None) × (b ≡ None)
-or_none None b h = (refl, h)
-or_none (Some x) b h = cc
-
-pub map_none : {X Y : Type 0} (f : X → Y) (o : Option X) → option_map f o ≡ None → o ≡ None
-map_none f None h = refl
-map_none f (Some x) h = cc
 
 count_none : {X : Type 0} (test : X → Bool) (xs : List X) → list_any test xs ≡ false → count_by test xs ≡ 0
 count_none test [] h = refl

@@ -1,8 +1,7 @@
 -- The libraries of a link, from one of them on.
 use Rattle.std.proofs.Common.{◌≡◌, ℕ, suc, ◌+◌, ◌<◌, List, [], ◌∷◌, length, get_or, drop, map, Bool, true, false, if◌then◌else◌, Option, Some, None, Ok, Err, Bor, refl, sym, ◌∙◌, ap, arith, add-one}
-use Rattle.std.proofs.Math.Seq.{drop-cons}
 use Rattle.std.proofs.Math.Dec.{ltb}
-use Rattle.std.proofs.lemmas.List.{length-map, get_or-map}
+use Rattle.std.proofs.lemmas.List.{drop_more, length-map, get_or-map}
 use Rattle.std.proofs.lemmas.Option.{some_pair_parts}
 use Rattle.std.specs.List.{enumerate_from, find, slice_get}
 use Rattle.std.specs.Option.{option_or, unwrap_or}
@@ -39,7 +38,7 @@ files_more libs i n lt =
     let same : get_or (files libs) i (get_or libs i no_file).now ≡ (get_or libs i no_file).now = get_or-map (λ (lib : Bor (List ℕ)). lib.now) libs i no_file (get_or libs i no_file).now lt in
     let long : length (files libs) ≡ length libs = length-map libs (λ (lib : Bor (List ℕ)). lib.now) in
     let here : drop i (files libs) ≡ (get_or libs i no_file).now ∷ drop (i + 1) (files libs) =
-    drop-cons (files libs) i (get_or libs i no_file).now (omega arith) ∙ (ap (λ (y : List ℕ). y ∷ drop (suc i) (files libs)) same ∙ ap (λ (j : ℕ). (get_or libs i no_file).now ∷ drop j (files libs)) (sym (add-one i))) in
+    drop_more (files libs) i (get_or libs i no_file).now (omega arith) ∙ ap (λ (y : List ℕ). y ∷ drop (i + 1) (files libs)) same in
     ap (λ (ys : List (List ℕ)). enumerate_from n ys) here
 
 -- the first fault from library i on

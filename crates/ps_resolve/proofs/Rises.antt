@@ -1,9 +1,10 @@
 -- Privates are by slot and then by record, where the segments are by slot; and so one is found by
 -- binary search.
-use Rattle.std.proofs.Common.{◌≡◌, ℕ, zero, suc, ◌+◌, ◌<◌, ◌≤◌, ◌==◌, ◌&&◌, ◌||◌, ◌++◌, List, [], ◌∷◌, length, map, get_or, Bool, true, false, Option, Some, None, refl, sym, ◌∙◌, ap, subst, arith}
+use Rattle.std.proofs.Common.{◌≡◌, ℕ, zero, suc, ◌+◌, ◌<◌, ◌≤◌, ◌==◌, ◌&&◌, ◌||◌, ◌++◌, List, [], ◌∷◌, length, map, get_or, Bool, true, false, Option, Some, None, inl, inr, refl, sym, ◌∙◌, ap, subst, arith}
 use Rattle.std.specs.Prelude.{find, nat_le, nat_lt}
 use Rattle.std.specs.Option.{option_map}
 use Rattle.std.specs.List.Sorted.{IsPartitionedBy, IsPartitionPoint}
+use Rattle.std.proofs.lemmas.Bool.{cases_lt, cases_order}
 use Rattle.std.proofs.lemmas.Bool.Decides.{nat_tests}
 use Rattle.ps_linkinfo.specs.declared.record.LinkRecord.{LinkRecord as Record}
 use Rattle.ps_resolve.specs.Linkable.{AscendFrom}
@@ -15,32 +16,20 @@ weaker : (a b c d : ℕ) (ps : List Private) → ((p : Private) → is_from a b 
 weaker a b c d [] h r = tt
 weaker a b c d (p ∷ ps) h r = (h p r.0, r.1)
 
-slot_before : (a c s r : ℕ) → a ≤ c → (nat_lt c s || (c == s && nat_le 0 r)) ≡ true → (nat_lt a s || (a == s && nat_le 0 r)) ≡ true
-slot_before a c s r le h = grind (arith, nat_tests)
-
-slot_over : (a b s r : ℕ) → (nat_lt (a + 1) s || (a + 1 == s && nat_le 0 r)) ≡ true → (nat_lt a s || (a == s && nat_le b r)) ≡ true
-slot_over a b s r h = grind (arith, nat_tests)
-
-rec_before : (a b s r : ℕ) → (nat_lt a s || (a == s && nat_le (b + 1) r)) ≡ true → (nat_lt a s || (a == s && nat_le b r)) ≡ true
-rec_before a b s r h = grind (arith, nat_tests)
-
-itself : (a b : ℕ) → (nat_lt a a || (a == a && nat_le b b)) ≡ true
-itself a b = grind (arith, nat_tests)
-
 -- the privates of the records of a segment rise, with those of later slots after them
 prefixed : (slot : ℕ) (rs : List Record) (rec next : ℕ) (tail : List Private) → RiseFrom (slot + 1) 0 tail → RiseFrom slot rec (allotted_privates slot rec next rs ++ tail)
-prefixed slot [] rec next tail h = weaker (slot + 1) 0 slot rec tail (λ p k. slot_over slot rec p.slot p.rec k) h
+prefixed slot [] rec next tail h = weaker (slot + 1) 0 slot rec tail (λ p k. grind (arith, nat_tests)) h
 prefixed slot (r ∷ rs) rec next tail h = at (words_in r.body) refl (λ rec next. prefixed slot rs rec next tail h)
   where
     at : (w : Option ℕ) → words_in r.body ≡ w → ((rec next : ℕ) → RiseFrom slot rec (allotted_privates slot rec next rs ++ tail)) → RiseFrom slot rec (allotted_privates slot rec next (r ∷ rs) ++ tail)
-    at None e again = rw (e, allotted_privates) (weaker slot (rec + 1) slot rec (allotted_privates slot (rec + 1) next rs ++ tail) (λ p k. rec_before slot rec p.slot p.rec k) (again (rec + 1) next))
-    at (Some w) e again = rw (e, allotted_privates) (itself slot rec, again (rec + 1) (next + w))
+    at None e again = rw (e, allotted_privates) (weaker slot (rec + 1) slot rec (allotted_privates slot (rec + 1) next rs ++ tail) (λ p k. grind (arith, nat_tests)) (again (rec + 1) next))
+    at (Some w) e again = rw (e, allotted_privates) (grind (arith, nat_tests), again (rec + 1) (next + w))
 
 -- the privates of segments that are by slot rise by slot and then by record
 pub rise : (next from : ℕ) (ss : List Owner) → AscendFrom from (map (λ s. s.slot) ss) → RiseFrom from 0 (all_allotted next ss)
 rise next from [] h = tt
 rise next from (s ∷ ss) h =
-    weaker s.slot 0 from 0 (all_allotted next (s ∷ ss)) (λ p k. slot_before from s.slot p.slot p.rec h.0 k)
+    weaker s.slot 0 from 0 (all_allotted next (s ∷ ss)) (λ p k. grind (arith, nat_tests))
     (prefixed s.slot s.records 0 next (all_allotted (next + private_words s.records) ss) (rise (next + private_words s.records) (s.slot + 1) ss h.1))
 
 chained : (a b s r t u : ℕ) → (nat_lt a s || (a == s && nat_le b r)) ≡ true → (nat_lt s t || (s == t && nat_le (r + 1) u)) ≡ true → (nat_lt a t || (a == t && nat_le b u)) ≡ true
@@ -70,16 +59,10 @@ earlier a b s r t u h k = grind (arith, nat_tests)
 
 -- the privates that are of an earlier record are before all others
 pub partitioned : (slot rec a b : ℕ) (ps : List Private) → RiseFrom a b ps → IsPartitionedBy (is_before slot rec) ps
-partitioned slot rec a b ps h i j d le lt t = at (i == j) refl
-  where
-    at : (e : Bool) → (i == j) ≡ e → is_before slot rec (get_or ps i d) ≡ true
-    at true s = let same : i ≡ j = grind (arith, nat_tests) in subst (λ (n : ℕ). is_before slot rec (get_or ps n d) ≡ true) (sym same) t
-    at false s =
-        let x = get_or ps i d in let y = get_or ps j d in
-        earlier x.slot x.rec y.slot y.rec slot rec (behind a b ps i j d h (apart i j le s) lt) t
-      where
-        apart : (i j : ℕ) → i ≤ j → (i == j) ≡ false → i < j
-        apart i j le s = grind (arith, nat_tests)
+partitioned slot rec a b ps h i j d le lt t = elim (cases_lt i j) [
+  | inl less ↦ let x = get_or ps i d in let y = get_or ps j d in earlier x.slot x.rec y.slot y.rec slot rec (behind a b ps i j d h less lt) t
+  | inr ge ↦ let same : i ≡ j = omega (arith, le, ge) in subst (λ (n : ℕ). is_before slot rec (get_or ps n d) ≡ true) (sym same) t
+]
 
 -- an item that passes a test, where none before it does, is the one that is found
 first_find : {X : Type 0} (q : X → Bool) (xs : List X) (i : ℕ) (x : X) → ((k : ℕ) → k < i → q (get_or xs k x) ≡ false) → i < length xs → x ≡ get_or xs i x → q x ≡ true → find q xs ≡ Some x
@@ -106,21 +89,11 @@ module _ (slot rec a b : ℕ) (ps : List Private) (i : ℕ) (h : RiseFrom a b ps
   found_there x lt is t = first_find (is_of slot rec) ps i x (λ k l. let y = get_or ps k x in not_before y.slot y.rec slot rec (p.0 k x (omega arith) l)) lt is t
 
   pub found_nowhere : ((d : Private) → i < length ps → is_of slot rec (get_or ps i d) ≡ false) → find (is_of slot rec) ps ≡ None
-  found_nowhere other = no_find (is_of slot rec) ps (λ k d lt. at k d lt (nat_lt k i) refl (k == i) refl)
-    where
-      at : (k : ℕ) (d : Private) → k < length ps → (l : Bool) → nat_lt k i ≡ l → (e : Bool) → (k == i) ≡ e → is_of slot rec (get_or ps k d) ≡ false
-      at k d lt true l e f = let y = get_or ps k d in not_before y.slot y.rec slot rec (p.0 k d (omega arith) (below k i l))
-        where
-          below : (k i : ℕ) → nat_lt k i ≡ true → k < i
-          below k i l = grind (arith, nat_tests)
-      at k d lt false l true f = let same : k ≡ i = grind (arith, nat_tests) in subst (λ (n : ℕ). is_of slot rec (get_or ps n d) ≡ false) (sym same) (other d (omega arith))
-      at k d lt false l false f =
-          let y = get_or ps k d in let x = get_or ps i d in
-          let le : i < k = over k i l f in
-          not_behind x.slot x.rec slot rec y.slot y.rec (p.1 i d (omega arith) (omega arith)) (behind a b ps i k d h le lt)
-        where
-          over : (k i : ℕ) → nat_lt k i ≡ false → (k == i) ≡ false → i < k
-          over k i l f = grind (arith, nat_tests)
+  found_nowhere other = no_find (is_of slot rec) ps (λ k d lt. let y = get_or ps k d in let x = get_or ps i d in elim (cases_order k i) [
+    | inl same ↦ subst (λ (n : ℕ). is_of slot rec (get_or ps n d) ≡ false) (sym same) (other d (omega (arith, same, lt)))
+    | inr (inl less) ↦ not_before y.slot y.rec slot rec (p.0 k d (omega (arith, less, lt)) less)
+    | inr (inr more) ↦ not_behind x.slot x.rec slot rec y.slot y.rec (p.1 i d (omega arith) (omega (arith, more, lt))) (behind a b ps i k d h more lt)
+  ])
 
 module _ (slot rec : ℕ) (xs ps : List Private) (i : ℕ) (same : xs ≡ ps) (h : RiseFrom 0 0 xs) (p : IsPartitionPoint (λ x. is_before slot rec x ≡ true) (λ x. is_before slot rec x ≡ false) xs i) where
   all_of : offset_listed slot rec xs ≡ offset_listed slot rec ps
