@@ -1,11 +1,11 @@
 -- What the builders of definitions and of allotments say of their refusals, by looking back; and
 -- how the privates of an allotment are.
 use Rattle.std.proofs.Common.{◌≡◌, ℕ, zero, suc, ◌+◌, ◌<◌, ◌≤◌, List, [], ◌∷◌, ◌++◌, length, length-append, take, map, get_or, Option, Some, None, Bool, true, false, refl, sym, ap, subst, ◌∙◌, inl, inr, arith, append_assoc, is_some}
-use Rattle.std.specs.Prelude.{◌==◌, ◌&&◌, ◌||◌, nat_le, nat_lt}
+use Rattle.std.specs.Prelude.{◌==◌, ◌&&◌, ◌||◌, count_by, nat_le, nat_lt}
 use Rattle.std.specs.Bool.{Decides}
 use Rattle.std.specs.List.{cons_option, enumerate_from, filter_map, slice_get, flat_map}
 use Rattle.std.specs.Option.{option_map, option_or}
-use Rattle.std.proofs.lemmas.Bool.{cases_lt, false≢true}
+use Rattle.std.proofs.lemmas.Bool.{cases_Bool, cases_lt, false≢true}
 use Rattle.std.proofs.lemmas.Bool.Decides.{Decides-and, Decides-ltb, nat_tests}
 use Rattle.std.proofs.lemmas.List.{map-append}
 use Rattle.std.proofs.lemmas.List.Sums.{sum_by-append, sum_by-cons}
@@ -32,9 +32,10 @@ use Rattle.ps_resolve.specs.declared.definitions.Def.{Def}
 use Rattle.ps_resolve.specs.declared.linkage.Stop.{Stop}
 use Rattle.ps_resolve.specs.declared.linkage.Stop.TheVariants.{Refused, Memory}
 use Rattle.ps_resolve.proofs.LookingBack.{is_again, again, take_prefix, longer, of_test, defines_is, asks_is, definitions_carried, words_before, reason_at, record_fault, privates_carried}
-use Rattle.ps_resolve.proofs.Allots.{skip_privates}
-use Rattle.ps_resolve.proofs.Duplicates.{none_entries}
-use Rattle.ps_resolve.proofs.FirstSlots.{none_mapped, or_none}
+use Rattle.ps_resolve.proofs.Allots.{privates_counted}
+use Rattle.ps_resolve.proofs.Apart.{one_more as counted}
+use Rattle.ps_resolve.proofs.Duplicates.{definitions_counted}
+use Rattle.ps_resolve.proofs.FirstSlots.{none_mapped, or_none, some_mapped}
 use Rattle.ps_resolve.proofs.Rises.{behind}
 
 -- the first that f gives of a list's items and their numbers
@@ -94,6 +95,14 @@ is_there : {X P : Type 0} (b : Bool) (x y : X) → Decides b P → fault_if b x 
 is_there true x y d h = (d.0 refl, cc)
 is_there false x y d h = absurd (cc)
 
+-- where some items pass a test, one does
+some_counted : {A : Type 0} (test : A → Bool) (items : List A) → 0 < count_by test items → SomeItem items (λ _ a. test a ≡ true)
+some_counted test [] h = absurd (omega (arith, h))
+some_counted test (a ∷ items) h = elim (cases_Bool (test a)) [
+  | inl passes ↦ (zero, a, refl, passes)
+  | inr fails ↦ let t = some_counted test items (grind (arith, counted test a items)) in (suc t.0, t.1, t.2, t.3)
+]
+
 -- 1. definitions
 module _ (file slot : ℕ) (rs : List Record) where
   abbrev told : ℕ → Fault
@@ -125,16 +134,7 @@ module _ (file slot : ℕ) (rs : List Record) where
         },
         here.1,
       )
-  stops_definitions Memory d = some_defined rs d
-    where
-      -- where a name is defined, a record defines it
-      some_defined : (qs : List Record) → 0 < length (definitions qs) → SomeItem qs (λ rec r. is_definition r.body ≡ true)
-      some_defined [] h = absurd (omega (arith, h))
-      some_defined (q ∷ qs) h = go (def_in q.body) refl (some_defined qs)
-        where
-          go : (o : Option Def) → def_in q.body ≡ o → (0 < length (definitions qs) → SomeItem qs (λ rec r. is_definition r.body ≡ true)) → SomeItem (q ∷ qs) (λ rec r. is_definition r.body ≡ true)
-          go (Some d) e later = (zero, q, refl, defines_is q.body ∙ ap is_some e)
-          go None e later = let t = later (subst (λ (ds : List (List ℕ × Def)). 0 < length ds) (none_entries 0 [] q qs e) h) in (suc t.0, t.1, t.2, t.3)
+  stops_definitions Memory d = some_counted (λ r. is_definition r.body) rs (omega (arith, d, definitions_counted rs))
 
   -- the same, with the number of the record
   abbrev IsNamed : Stop → Type 0
@@ -166,11 +166,6 @@ offset_is base prefix s rest rec =
     omega (arith, a, b, all_are prefix, words_are (take rec s.records))
 
 -- 3. privates
--- what h was made of
-h_some : {A X : Type 0} (h : A → X) (o : Option A) (x : X) → option_map h o ≡ Some x → (a : A) × (o ≡ Some a) × (x ≡ h a)
-h_some h None x e = absurd (cc)
-h_some h (Some a) x e = (a, refl, cc)
-
 module _ (base : ℕ) (ss : List Owner) where
   abbrev record_faults : ℕ × Owner → ℕ × Record → Option Fault
   record_faults k = record_fault (λ why rec. in_record k.1.file k.1.slot rec why) (λ rec. offset_at base ss k.0 k.1 rec) k.1.records
@@ -260,7 +255,7 @@ module _ (base : ℕ) (ss : List Owner) where
 
           in_records : Given (record_faults (k, s)) 0 s.records fault → IsFirstUnfit base ss fault
           in_records one =
-              let why = h_some (λ (w : Reason). in_record s.file s.slot one.at w) (reason_at (λ n. offset_at base ss k s n) s.records (one.at, one.item)) fault (one.gives one.at (omega arith)) in
+              let why = some_mapped (λ (w : Reason). in_record s.file s.slot one.at w) (reason_at (λ n. offset_at base ss k s n) s.records (one.at, one.item)) fault (one.gives one.at (omega arith)) in
               record {
                 segment = k;
                 rec = one.at;
@@ -283,20 +278,11 @@ module _ (base : ℕ) (ss : List Owner) where
                   let u2 : IsUnfit base ss k s n r other = subst (λ (o : Owner). IsUnfit base ss k o n r other) is (subst (λ (m : ℕ). IsUnfit base ss m q n r other) at u) in
                   fits k s n r (one.before n n r lt (omega arith) (subst (λ (o : Owner). slice_get o.records n ≡ Some r) is there)) other u2
 
--- where a private is allotted, a record requests it
-some_asks : (slot rec next : ℕ) (rs : List Record) → 0 < length (allotted_privates slot rec next rs) → SomeItem rs (λ n r. is_private_reference r.body ≡ true)
-some_asks slot rec next [] h = absurd (omega (arith, h))
-some_asks slot rec next (r ∷ rs) h = go (words_in r.body) refl (some_asks slot (rec + 1) next rs)
-  where
-    go : (w : Option ℕ) → words_in r.body ≡ w → (0 < length (allotted_privates slot (rec + 1) next rs) → SomeItem rs (λ n q. is_private_reference q.body ≡ true)) → SomeItem (r ∷ rs) (λ n q. is_private_reference q.body ≡ true)
-    go (Some w) e later = (zero, r, refl, asks_is r.body ∙ ap is_some e)
-    go None e later = let t = later (subst (λ (ps : List Private). 0 < length ps) (skip_privates slot rec next [] [] r rs e) h) in (suc t.0, t.1, t.2, t.3)
-
 -- where a private of segments is allotted, a record of one of them requests it
 some_segment : (next : ℕ) (ss : List Owner) → 0 < length (all_allotted next ss) → SomeItem ss (λ k s. SomeItem s.records (λ rec r. is_private_reference r.body ≡ true))
 some_segment next [] h = absurd (omega (arith, h))
 some_segment next (s ∷ ss) h = elim (cases_lt 0 (length (allotted_privates s.slot 0 next s.records))) [
-  | inl some ↦ (zero, s, refl, some_asks s.slot 0 next s.records some)
+  | inl some ↦ (zero, s, refl, some_counted (λ r. is_private_reference r.body) s.records (omega (arith, some, privates_counted s.slot 0 next s.records)))
   | inr none ↦
       let t = some_segment (next + private_words s.records) ss (omega (arith, h, none, length-append (allotted_privates s.slot 0 next s.records) (all_allotted (next + private_words s.records) ss))) in
       (suc t.0, t.1, t.2, t.3)

@@ -1,6 +1,6 @@
 -- The names of all slots of a linked file have eight bytes each: those of the host's dictionary,
 -- and those of UNITREF records.
-use Rattle.std.proofs.Common.{◌≡◌, ℕ, zero, suc, ◌+◌, ◌*◌, ◌-◌, ◌<◌, ◌≤◌, ◌==◌, List, [], ◌∷◌, ◌++◌, length, length-append, map, drop, Bool, true, false, if◌then◌else◌, Option, Some, None, refl, ◌∙◌, subst, arith}
+use Rattle.std.proofs.Common.{◌≡◌, ℕ, zero, suc, ◌+◌, ◌*◌, ◌-◌, ◌<◌, ◌≤◌, ◌==◌, List, [], ◌∷◌, ◌++◌, length, length-append, map, drop, Bool, true, false, if◌then◌else◌, Option, Some, None, refl, sym, ◌∙◌, subst, arith}
 use Rattle.std.specs.Prelude.{All}
 use Rattle.std.specs.List.{range_with_len, filter_map, cons_option, flat_map, find, slice_get}
 use Rattle.std.specs.Option.{option_map, option_map_or, option_and_then}
@@ -24,6 +24,7 @@ use Rattle.ps_codefile.specs.Roles.{needs_linking, is_empty}
 use Rattle.ps_resolve.specs.Sources.{Segment, own_segment, own_segments, segment_from, source_of, unit_source, units_of, records_of, file_at}
 use Rattle.ps_resolve.specs.Faults.{is_role}
 use Rattle.ps_resolve.specs.declared.reading.added.UnitReference.{UnitReference}
+use Rattle.ps_resolve.proofs.FirstSlots.{some_mapped}
 use Rattle.ps_resolve.proofs.ReadingKnown.{find_has}
 
 -- the law of link information
@@ -72,7 +73,9 @@ records_whole law order file e false = All-nil IsWhole
 -- a segment that is read with a name of eight bytes has that name, and records whose names have
 -- eight
 read_named : ReadWhole → (order : Order) (host : List ℕ) (libs : List (List ℕ)) (slot : ℕ) (name : List ℕ) (r : Role) (at : ℕ × ℕ) (s : Segment) → length name ≡ 8 → segment_from order host libs slot name r at ≡ Some s → HasNames s
-read_named law order host libs slot name r at s long h = by (result_ok (code_of file e)) h
+read_named law order host libs slot name r at s long h =
+    let made_of = some_mapped made (result_ok (code_of file e)) s h in
+    subst HasNames (sym made_of.2) (record { own = long; records = records_whole law order file e (needs_linking r) })
   where
     file : List ℕ
     file = file_at host libs at.0
@@ -82,10 +85,6 @@ read_named law order host libs slot name r at s long h = by (result_ok (code_of 
 
     made : List ℕ → Segment
     made code = record { slot = slot; name = name; role = r; added = false; file = at.0; index = at.1; code = code; records = records_of order file e (needs_linking r) }
-
-    by : (o : Option (List ℕ)) → option_map made o ≡ Some s → HasNames s
-    by None k = cc
-    by (Some code) k = let same : made code ≡ s = same_Some _ _ k in subst HasNames same (record { own = long; records = records_whole law order file e (needs_linking r) })
 
 name_long : (host : List ℕ) (slot : ℕ) → 512 ≤ length host → slot < 16 → length (name_at host slot) ≡ 8
 name_long host slot long lt = omega (arith, length-take (64 + 8 * slot + 8 - (64 + 8 * slot)) (drop (64 + 8 * slot) host), length-drop (64 + 8 * slot) host)
@@ -102,15 +101,11 @@ own_named law order host libs slot s long lt h =
 -- a segment that is added for a name of eight bytes has that name, and records whose names have
 -- eight
 added_named : ReadWhole → (order : Order) (host : List ℕ) (libs : List (List ℕ)) (g : UnitReference) (slot : ℕ) (s : Segment) → IsNamed g → added_segment order host libs g slot ≡ Some s → HasNames s
-added_named law order host libs g slot s long h = by (option_and_then (segment_from order host libs slot g.name Wanted) (unit_source order g.name libs)) refl h
-  where
-    by : (o : Option Segment) → option_and_then (segment_from order host libs slot g.name Wanted) (unit_source order g.name libs) ≡ o → option_map as_added o ≡ Some s → HasNames s
-    by None e k = cc
-    by (Some t) e k =
-        let same : as_added t ≡ s = same_Some _ _ k in
-        let named : HasNames t =
-        option_and_then_some (segment_from order host libs slot g.name Wanted) (unit_source order g.name libs) t e (λ place there from. read_named law order host libs slot g.name Wanted place t long from) in
-        subst HasNames same (record { own = named.own; records = named.records })
+added_named law order host libs g slot s long h =
+    let made_of = some_mapped as_added (option_and_then (segment_from order host libs slot g.name Wanted) (unit_source order g.name libs)) s h in
+    let named : HasNames made_of.0 =
+    option_and_then_some (segment_from order host libs slot g.name Wanted) (unit_source order g.name libs) made_of.0 made_of.1 (λ place there from. read_named law order host libs slot g.name Wanted place made_of.0 long from) in
+    subst HasNames (sym made_of.2) (record { own = named.own; records = named.records })
 
 -- where each name of the queue has eight bytes, so have those of the added segments and of their
 -- records

@@ -49,3 +49,8 @@ neither_second a b h = (or_none a b h).1
 pub none_mapped : {X Y : Type 0} (f : X → Y) (o : Option X) → option_map f o ≡ None → o ≡ None
 none_mapped f None h = refl
 none_mapped f (Some x) h = cc
+
+-- what it is made of
+pub some_mapped : {X Y : Type 0} (f : X → Y) (o : Option X) (y : Y) → option_map f o ≡ Some y → (x : X) × (o ≡ Some x) × (y ≡ f x)
+some_mapped f None y h = cc
+some_mapped f (Some x) y h = (x, refl, cc)

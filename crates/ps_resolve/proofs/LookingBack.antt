@@ -81,44 +81,11 @@ more_definitions prefix r = filter_map-append definition_in prefix (r ∷ [])
 pub definitions_carried : (h : ℕ → Fault) (prefix rs : List Record) (rec : ℕ) → rec ≡ length prefix
     → option_map h (first_duplicate_from rec (definitions prefix) rs) ≡ first_of (λ (r : ℕ × Record). fault_if (is_again is_definition (prefix ++ rs) r) (h r.0)) (enumerate_from rec rs)
 definitions_carried h prefix [] rec e = refl
-definitions_carried h prefix (r ∷ rs) rec e = go (def_in r.body) refl (definitions_carried h (prefix ++ r ∷ []) rs (rec + 1) (let l = longer prefix r in omega (arith, l, e)))
-  where
-    all : List Record
-    all = prefix ++ r ∷ rs
-
-    later : List Record → Option Fault
-    later records = first_of (λ (q : ℕ × Record). fault_if (is_again is_definition records q) (h q.0)) (enumerate_from (rec + 1) rs)
-
-    prefix_is : take rec all ≡ prefix
-    prefix_is = ap (λ (n : ℕ). take n all) e ∙ take_prefix prefix (r ∷ rs)
-
-    go : (o : Option Def) → def_in r.body ≡ o
-        → option_map h (first_duplicate_from (rec + 1) (definitions (prefix ++ r ∷ [])) rs) ≡ later ((prefix ++ r ∷ []) ++ rs)
-        → option_map h (first_duplicate_from rec (definitions prefix) (r ∷ rs)) ≡ option_or (fault_if (is_again is_definition all (rec, r)) (h rec)) (later all)
-    go None d more =
-        let same : definitions (prefix ++ r ∷ []) ≡ definitions prefix = more_definitions prefix r ∙ rw (d, cons_option) (append-nil (definitions prefix)) in
-        let step : option_map h (first_duplicate_from (rec + 1) (definitions prefix) rs) ≡ later all = rw (← same) (more ∙ ap later (append_assoc prefix (r ∷ []) rs)) in
-        let none : is_definition r.body ≡ false = defines_is r.body ∙ ap is_some d in
-        rw (d, first_duplicate_from, is_again) (rw none step)
-    go (Some d) defines more = at (is_some (definition_of r.name (definitions prefix))) refl
-      where
-        same : definitions (prefix ++ r ∷ []) ≡ definitions prefix ++ (r.name, d) ∷ []
-        same = more_definitions prefix r ∙ rw (defines, cons_option) refl
-
-        step : option_map h (first_duplicate_from (rec + 1) (definitions prefix ++ (r.name, d) ∷ []) rs) ≡ later all
-        step = rw (← same) (more ∙ ap later (append_assoc prefix (r ∷ []) rs))
-
-        one : is_definition r.body ≡ true
-        one = defines_is r.body ∙ ap is_some defines
-
-        at : (b : Bool) → is_some (definition_of r.name (definitions prefix)) ≡ b
-            → option_map h (first_duplicate_from rec (definitions prefix) (r ∷ rs)) ≡ option_or (fault_if (is_again is_definition all (rec, r)) (h rec)) (later all)
-        at true known_is =
-            let found : list_any (defined r.name) prefix ≡ true = sym (known r.name prefix) ∙ known_is in
-            rw (defines, first_duplicate_from, is_again) (rw (known_is, one, prefix_is, found) refl)
-        at false known_is =
-            let found : list_any (defined r.name) prefix ≡ false = sym (known r.name prefix) ∙ known_is in
-            rw (defines, first_duplicate_from, is_again) (rw (known_is, one, prefix_is, found) step)
+definitions_carried h prefix (r ∷ rs) rec e =
+    let later = λ (all : List Record). first_of (λ (q : ℕ × Record). fault_if (is_again is_definition all q) (h q.0)) (enumerate_from (rec + 1) rs) in
+    let before : take rec (prefix ++ r ∷ rs) ≡ prefix = take_at prefix (r ∷ rs) rec (sym e) in
+    let more = definitions_carried h (prefix ++ r ∷ []) rs (rec + 1) (omega (arith, longer prefix r, e)) ∙ ap later (append_assoc prefix (r ∷ []) rs) in
+    grind (arith, more, more_definitions prefix r, append-nil (definitions prefix), before, known r.name prefix, defines_is r.body)
 
 -- a record requests a private where that takes words
 pub asks_is : (b : Body) → is_private_reference b ≡ is_some (words_in b)
@@ -170,57 +137,9 @@ pub privates_carried : (h : Reason → ℕ → Fault) (offset : ℕ → ℕ) (ba
     → option_map (λ (f : ℕ × Reason). h f.1 f.0) (private_fault rec (base + private_words prefix) (names prefix) rs) ≡ first_of (record_fault h offset (prefix ++ rs)) (enumerate_from rec rs)
 privates_carried h offset base prefix [] rec e offsets = refl
 privates_carried h offset base prefix (r ∷ rs) rec e offsets =
-    go (words_in r.body) refl (privates_carried h offset base (prefix ++ r ∷ []) rs (rec + 1) (let l = longer prefix r in omega (arith, l, e)) (λ n. offsets n ∙ ap (λ (records : List Record). base + private_words (take n records)) (sym (append_assoc prefix (r ∷ []) rs))))
-  where
-    all : List Record
-    all = prefix ++ r ∷ rs
-
-    later : List Record → Option Fault
-    later records = first_of (record_fault h offset records) (enumerate_from (rec + 1) rs)
-
-    prefix_is : take rec all ≡ prefix
-    prefix_is = ap (λ (n : ℕ). take n all) e ∙ take_prefix prefix (r ∷ rs)
-
-    at_offset : offset rec ≡ base + private_words prefix
-    at_offset = offsets rec ∙ ap (λ (records : List Record). base + private_words records) prefix_is
-
-    Faults : ℕ → List (List ℕ) → Option Fault
-    Faults free seen = option_map (λ (f : ℕ × Reason). h f.1 f.0) (private_fault (rec + 1) free seen rs)
-
-    go : (w : Option ℕ) → words_in r.body ≡ w
-        → Faults (base + private_words (prefix ++ r ∷ [])) (names (prefix ++ r ∷ [])) ≡ later ((prefix ++ r ∷ []) ++ rs)
-        → option_map (λ (f : ℕ × Reason). h f.1 f.0) (private_fault rec (base + private_words prefix) (names prefix) (r ∷ rs)) ≡ option_or (record_fault h offset all (rec, r)) (later all)
-    go None p more =
-        let same_words : private_words (prefix ++ r ∷ []) ≡ private_words prefix = more_words prefix r ∙ rw (p, words_taken) (omega arith) in
-        let none : is_private_reference r.body ≡ false = asks_is r.body ∙ ap is_some p in
-        let same_names : names (prefix ++ r ∷ []) ≡ names prefix = more_names is_private_reference prefix r ∙ rw (none, filter) (append-nil (names prefix)) in
-        let step : Faults (base + private_words prefix) (names prefix) ≡ later all = rw (← same_words, ← same_names) (more ∙ ap later (append_assoc prefix (r ∷ []) rs)) in
-        rw (p, private_fault, is_again) (rw none step)
-    go (Some w) p more = at (list_any (bytes_eq r.name) (names prefix)) refl (nat_lt 32767 (base + private_words prefix + w)) refl
-      where
-        one : is_private_reference r.body ≡ true
-        one = asks_is r.body ∙ ap is_some p
-
-        same_words : private_words (prefix ++ r ∷ []) ≡ private_words prefix + w
-        same_words = more_words prefix r ∙ rw (p, words_taken) refl
-
-        same_names : names (prefix ++ r ∷ []) ≡ names prefix ++ r.name ∷ []
-        same_names = more_names is_private_reference prefix r ∙ rw (one, filter) refl
-
-        again_at : (free : ℕ) → base + private_words (prefix ++ r ∷ []) ≡ free → Faults free (names prefix ++ r.name ∷ []) ≡ later all
-        again_at free is = rw (← is, ← same_names) (more ∙ ap later (append_assoc prefix (r ∷ []) rs))
-
-        step : Faults (base + private_words prefix + w) (names prefix ++ r.name ∷ []) ≡ later all
-        step = again_at (base + private_words prefix + w) (omega (arith, same_words))
-
-        at : (b : Bool) → list_any (bytes_eq r.name) (names prefix) ≡ b → (c : Bool) → nat_lt 32767 (base + private_words prefix + w) ≡ c
-            → option_map (λ (f : ℕ × Reason). h f.1 f.0) (private_fault rec (base + private_words prefix) (names prefix) (r ∷ rs)) ≡ option_or (record_fault h offset all (rec, r)) (later all)
-        at true seen c full =
-            let found : list_any (has_name is_private_reference r.name) prefix ≡ true = sym (seen_is is_private_reference r.name prefix) ∙ seen in
-            rw (p, private_fault, is_again) (rw (seen, one, prefix_is, found) refl)
-        at false seen true full =
-            let found : list_any (has_name is_private_reference r.name) prefix ≡ false = sym (seen_is is_private_reference r.name prefix) ∙ seen in
-            rw (p, private_fault, is_again) (rw (seen, one, prefix_is, found, at_offset, full) refl)
-        at false seen false full =
-            let found : list_any (has_name is_private_reference r.name) prefix ≡ false = sym (seen_is is_private_reference r.name prefix) ∙ seen in
-            rw (p, private_fault, is_again) (rw (seen, one, prefix_is, found, at_offset, full) step)
+    let later = λ (all : List Record). first_of (record_fault h offset all) (enumerate_from (rec + 1) rs) in
+    let before : take rec (prefix ++ r ∷ rs) ≡ prefix = take_at prefix (r ∷ rs) rec (sym e) in
+    let words = offsets rec ∙ ap (λ (records : List Record). base + private_words records) before in
+    let offsets_again = λ (n : ℕ). offsets n ∙ ap (λ (all : List Record). base + private_words (take n all)) (sym (append_assoc prefix (r ∷ []) rs)) in
+    let more = privates_carried h offset base (prefix ++ r ∷ []) rs (rec + 1) (omega (arith, longer prefix r, e)) offsets_again ∙ ap later (append_assoc prefix (r ∷ []) rs) in
+    grind (arith, more, more_words prefix r, more_names is_private_reference prefix r, append-nil (names prefix), before, words, seen_is is_private_reference r.name prefix, asks_is r.body)
