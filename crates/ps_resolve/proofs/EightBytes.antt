@@ -55,16 +55,13 @@ all_references_named [] all = All-nil IsNamed
 all_references_named (s ∷ ss) all =
     All-append IsNamed (unit_references s.file s.slot 0 s.records) (all_unit_references ss) (references_named s.file s.slot 0 s.records (all 0 s (omega arith)).records) (all_references_named ss (All-tail HasNames s ss all))
 
-one_more : (b : Bool) (queue : List UnitReference) (g : UnitReference) → All IsNamed queue → IsNamed g → All IsNamed (if b then queue else queue ++ g ∷ [])
-one_more true queue g all h = all
-one_more false queue g all h = All-push IsNamed queue g all h
-
 -- a sequence of names of eight bytes stays one, where the names that are then requested have eight
 -- bytes
 queue_named : (units : List (List ℕ × ℕ)) (queue gs : List UnitReference) → All IsNamed queue → All IsNamed gs → All IsNamed (requested_from units queue gs)
 queue_named units queue [] all rest = all
 queue_named units queue (g ∷ gs) all rest =
-    queue_named units (if is_already_known units queue g.name then queue else queue ++ g ∷ []) gs (one_more (is_already_known units queue g.name) queue g all (rest 0 g (omega arith))) (All-tail IsNamed g gs rest)
+    let more = cond_both (is_already_known units queue g.name) queue (queue ++ g ∷ []) (All IsNamed) (λ _. all) (λ _. All-push IsNamed queue g all (rest 0 g (omega arith))) in
+    queue_named units (if is_already_known units queue g.name then queue else queue ++ g ∷ []) gs more (All-tail IsNamed g gs rest)
 
 records_whole : ReadWhole → (order : Order) (file : List ℕ) (e : Entry) (b : Bool) → All IsWhole (records_of order file e b)
 records_whole law order file e true = law order (information_of file e)

@@ -33,15 +33,7 @@ count_none test (x ∷ xs) h = let e = or_parts (test x) (list_any test xs) h in
 
 -- a test that no place of an operand passes fails at each of them
 none_at : (t : Target) (x : ℕ) (q : ℕ → Bool) → list_any q (range_with_len x (width_of t)) ≡ false → (p : ℕ) → is_in p (x, width_of t) ≡ true → q p ≡ false
-none_at (Slot slot) x q h p k = let e = or_parts (q x) false h in let same : x ≡ p = grind (arith, nat_tests) in subst (λ (n : ℕ). q n ≡ false) same e.0
-none_at (Base base) x q h p k =
-    let e = or_parts (q x) _ h in
-    let f = or_parts (q (x + 1)) false e.1 in
-    at (x == p) refl e.0 f.0
-  where
-    at : (b : Bool) → (x == p) ≡ b → q x ≡ false → q (x + 1) ≡ false → q p ≡ false
-    at true s g i = let same : x ≡ p = eqb-true x p s in subst (λ (n : ℕ). q n ≡ false) same g
-    at false s g i = let same : x + 1 ≡ p = grind (arith, nat_tests) in subst (λ (n : ℕ). q n ≡ false) same i
+none_at t x q h p k = grind (arith, nat_tests)
 
 -- where none of four reasons is given, none of their tests holds
 pub reasons_none : (a b c d : Bool) (r s t u : Reason) → option_or (fault_if a r) (option_or (fault_if b s) (option_or (fault_if c t) (fault_if d u))) ≡ None
@@ -51,8 +43,8 @@ reasons_none a b c d r s t u h = grind arith
 -- a reference without a fault keeps it so
 once_more : (R : ℕ → Bool) (code : List ℕ) (t : Target) (x : ℕ) (os : List (ℕ × ℕ)) → reference_reason R code os t x ≡ None → IsOnce R os → IsOnce R (os ++ (x, width_of t) ∷ [])
 once_more R code t x os h o = record {
-  once = λ p. one p (is_in p (x, width_of t)) refl (o.once p);
-  free = λ p r. none p r (is_in p (x, width_of t)) refl (o.free p r);
+  once = λ p. let places_free = none_at t x (λ p. list_any (is_in p) os) e.2 p in grind (arith, more p, o.once p, places_free, count_none (is_in p) os);
+  free = λ p r. let not_reserved = none_at t x R e.1 p in grind (arith, more p, o.free p r, not_reserved);
 }
   where
     places : List ℕ
@@ -63,21 +55,6 @@ once_more R code t x os h o = record {
 
     more : (p : ℕ) → count_by (is_in p) (os ++ (x, width_of t) ∷ []) ≡ count_by (is_in p) os + cond (is_in p (x, width_of t)) 1 0
     more p = sum_by_push (λ y. cond (is_in p y) 1 0) os (x, width_of t)
-
-    one : (p : ℕ) (b : Bool) → is_in p (x, width_of t) ≡ b → count_by (is_in p) os ≤ 1 → count_by (is_in p) (os ++ (x, width_of t) ∷ []) ≤ 1
-    one p true k le =
-        let zero = count_none (is_in p) os (none_at t x (λ p. list_any (is_in p) os) e.2 p k) in
-        let is : ◌≡◌ {A = ℕ} (cond {A = ℕ} (is_in p (x, width_of t)) 1 0) 1 = ap (λ (b : Bool). cond {A = ℕ} b 1 0) k in
-        omega (arith, more p, zero, is)
-    one p false k le =
-        let is : ◌≡◌ {A = ℕ} (cond {A = ℕ} (is_in p (x, width_of t)) 1 0) 0 = ap (λ (b : Bool). cond {A = ℕ} b 1 0) k in
-        omega (arith, more p, is)
-
-    none : (p : ℕ) → R p ≡ true → (b : Bool) → is_in p (x, width_of t) ≡ b → count_by (is_in p) os ≡ 0 → count_by (is_in p) (os ++ (x, width_of t) ∷ []) ≡ 0
-    none p r true k z = let no = none_at t x R e.1 p k in cc
-    none p r false k z =
-        let is : ◌≡◌ {A = ℕ} (cond {A = ℕ} (is_in p (x, width_of t)) 1 0) 0 = ap (λ (b : Bool). cond {A = ℕ} b 1 0) k in
-        omega (arith, more p, is)
 
 -- the references of a record keep it so, where none of them has a fault
 pub refs_once : (R : ℕ → Bool) (code : List ℕ) (t : Target) (xs : List ℕ) (i : ℕ) (os : List (ℕ × ℕ)) → refs_fault R code t i os xs ≡ None → IsOnce R os → IsOnce R (os ++ operands t xs)
