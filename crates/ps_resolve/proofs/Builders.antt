@@ -49,14 +49,8 @@ record Given {A X : Type 0} (f : ℕ × A → Option X) (n : ℕ) (items : List 
 -- where it gives none of any, it gives none of each
 none_given : {A X : Type 0} (f : ℕ × A → Option X) (n : ℕ) (items : List A) → first_of f (enumerate_from n items) ≡ None → (i k : ℕ) (a : A) → k ≡ n + i → slice_get items i ≡ Some a → f (k, a) ≡ None
 none_given f n [] h i k a is e = absurd (cc)
-none_given {A} {X} f n (b ∷ items) h i k a is e = go (f (n, b)) refl h (λ rest j is e. none_given f (n + 1) items rest j k a is e) i is e
-  where
-    go : (o : Option X) → f (n, b) ≡ o → option_or o (first_of f (enumerate_from (n + 1) items)) ≡ None
-        → (first_of f (enumerate_from (n + 1) items) ≡ None → (j : ℕ) → k ≡ n + 1 + j → slice_get items j ≡ Some a → f (k, a) ≡ None)
-        → (i : ℕ) → k ≡ n + i → slice_get (b ∷ items) i ≡ Some a → f (k, a) ≡ None
-    go (Some x) g h later i is e = absurd (cc)
-    go None g h later zero is e = subst (λ (m : ℕ). f (m, a) ≡ None) (omega (arith, is)) (subst (λ (c : A). f (n, c) ≡ None) (cc) g)
-    go None g h later (suc i) is e = later h i (omega (arith, is)) e
+none_given f n (b ∷ items) h zero k a is e = grind arith
+none_given f n (b ∷ items) h (suc i) k a is e = none_given f (n + 1) items (or_none _ _ h).1 i k a (omega (arith, is)) e
 
 -- what it gives of some is what it gives of one, and it gives none of those before
 some_given : {A X : Type 0} (f : ℕ × A → Option X) (n : ℕ) (items : List A) (x : X) → first_of f (enumerate_from n items) ≡ Some x → Given f n items x
@@ -242,41 +236,33 @@ module _ (base : ℕ) (ss : List Owner) where
   -- the first segment with a fault, and its first record with one
   first_unfit : (fault : Fault) → first_private_fault base ss ≡ Some fault → IsFirstUnfit base ss fault
   first_unfit fault e =
-      in_segment (some_given segment_fault 0 ss fault (sym segments_back ∙ e))
+      let found = some_given segment_fault 0 ss fault (sym segments_back ∙ e) in
+      let k = found.at in
+      let s = found.item in
+      let one = some_given (record_faults (k, s)) 0 s.records fault (found.gives k (omega arith)) in
+      let why = some_mapped (λ (w : Reason). in_record s.file s.slot one.at w) (reason_at (λ n. offset_at base ss k s n) s.records (one.at, one.item)) fault (one.gives one.at (omega arith)) in
+      record {
+        segment = k;
+        rec = one.at;
+        owner = s;
+        item = one.item;
+        why = why.0;
+        of = found.there;
+        there = one.there;
+        unfit = unfit k s one.at one.item why.0 why.1;
+        told = why.2;
+        first = λ j n q r other of there u b. elim b [
+          | inl lt ↦ none_in j q (found.before j j q lt (omega arith) of) n r there other u
+          | inr t ↦ elim t.1 [ inl lt ↦ same_segment k s one.at found.there one.before j n q r other of there u t.0 lt | inr x ↦ x.1 ]
+        ];
+      }
     where
-      in_segment : Given segment_fault 0 ss fault → IsFirstUnfit base ss fault
-      in_segment found = in_records (some_given (record_faults (k, s)) 0 s.records fault (found.gives k (omega arith)))
-        where
-          k : ℕ
-          k = found.at
-
-          s : Owner
-          s = found.item
-
-          in_records : Given (record_faults (k, s)) 0 s.records fault → IsFirstUnfit base ss fault
-          in_records one =
-              let why = some_mapped (λ (w : Reason). in_record s.file s.slot one.at w) (reason_at (λ n. offset_at base ss k s n) s.records (one.at, one.item)) fault (one.gives one.at (omega arith)) in
-              record {
-                segment = k;
-                rec = one.at;
-                owner = s;
-                item = one.item;
-                why = why.0;
-                of = found.there;
-                there = one.there;
-                unfit = unfit k s one.at one.item why.0 why.1;
-                told = why.2;
-                first = λ j n q r other of there u b. elim b [
-                  | inl lt ↦ none_in j q (found.before j j q lt (omega arith) of) n r there other u
-                  | inr t ↦ elim t.1 [ inl lt ↦ same_segment j n q r other of there u t.0 lt | inr x ↦ x.1 ]
-                ];
-              }
-            where
-              same_segment : (j n : ℕ) (q : Owner) (r : Record) (other : Reason) → slice_get ss j ≡ Some q → slice_get q.records n ≡ Some r → IsUnfit base ss j q n r other → j ≡ k → n < one.at → ⊥
-              same_segment j n q r other of there u at lt =
-                  let is : q ≡ s = let g = found.there in cc in
-                  let u2 : IsUnfit base ss k s n r other = subst (λ (o : Owner). IsUnfit base ss k o n r other) is (subst (λ (m : ℕ). IsUnfit base ss m q n r other) at u) in
-                  fits k s n r (one.before n n r lt (omega arith) (subst (λ (o : Owner). slice_get o.records n ≡ Some r) is there)) other u2
+      same_segment : (k : ℕ) (s : Owner) (rec : ℕ) → slice_get ss k ≡ Some s → ((j i : ℕ) (b : Record) → j < rec → i ≡ 0 + j → slice_get s.records j ≡ Some b → record_faults (k, s) (i, b) ≡ None)
+          → (j n : ℕ) (q : Owner) (r : Record) (other : Reason) → slice_get ss j ≡ Some q → slice_get q.records n ≡ Some r → IsUnfit base ss j q n r other → j ≡ k → n < rec → ⊥
+      same_segment k s rec at_k before j n q r other of there u at lt =
+          let is : q ≡ s = cc in
+          let u2 : IsUnfit base ss k s n r other = subst (λ (o : Owner). IsUnfit base ss k o n r other) is (subst (λ (m : ℕ). IsUnfit base ss m q n r other) at u) in
+          fits k s n r (before n n r lt (omega arith) (subst (λ (o : Owner). slice_get o.records n ≡ Some r) is there)) other u2
 
 -- where a private of segments is allotted, a record of one of them requests it
 some_segment : (next : ℕ) (ss : List Owner) → 0 < length (all_allotted next ss) → SomeItem ss (λ k s. SomeItem s.records (λ rec r. is_private_reference r.body ≡ true))

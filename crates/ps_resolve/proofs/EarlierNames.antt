@@ -45,18 +45,13 @@ more_numbers xs r rs h = ap (λ (ys : List ℕ). xs ++ ys) (taken r rs h) ∙ sy
 abbrev pub AreNumbers : List Record → List ℕ → ℕ → List Record → Type 0
 AreNumbers all xs n rs = xs ++ private_numbers rs ≡ private_numbers all
 
--- what all numbers are, that of a private is
-all_numbers : (P : ℕ → Type 0) (rs : List Record) → AllByRecursion P (private_numbers rs) → (n : ℕ) (r : Record) → slice_get rs n ≡ Some r → is_private_reference r.body ≡ true → P (number r)
-all_numbers P [] all n r there is = cc
-all_numbers P (s ∷ ss) all zero r there is =
-    let same : s ≡ r = same_Some _ _ there in
-    let here : is_private_reference s.body ≡ true = subst (λ (q : Record). is_private_reference q.body ≡ true) (sym same) is in
-    subst (λ (q : Record). P (number q)) same (subst (λ (xs : List ℕ). AllByRecursion P xs) (taken s ss here) all).0
-all_numbers P (s ∷ ss) all (suc n) r there is = all_numbers P ss (rest (is_private_reference s.body) refl) n r there is
-  where
-    rest : (b : Bool) → is_private_reference s.body ≡ b → AllByRecursion P (private_numbers ss)
-    rest true h = (subst (λ (xs : List ℕ). AllByRecursion P xs) (taken s ss h) all).1
-    rest false h = subst (λ (xs : List ℕ). AllByRecursion P xs) (passed s ss h) all
+-- a number that differs from those of all privates differs from that of each
+all_numbers : (x : ℕ) (rs : List Record) → AllByRecursion (λ y. is_same x y ≡ false) (private_numbers rs) → (n : ℕ) (r : Record) → slice_get rs n ≡ Some r → is_private_reference r.body ≡ true → is_same x (number r) ≡ false
+all_numbers x [] all n r there is = cc
+all_numbers x (s ∷ ss) all zero r there is = grind arith
+all_numbers x (s ∷ ss) all (suc n) r there is =
+    let rest = λ (h : AllByRecursion (λ y. is_same x y ≡ false) (private_numbers ss)). all_numbers x ss h n r there is in
+    grind (arith, rest)
 
 -- where the numbers of the names of privates are distinct, no private has the name of an earlier
 -- one
@@ -65,12 +60,10 @@ none_again : (rs : List Record) → IsDistinct is_same (private_numbers rs) → 
 none_again [] d rec other r q there is lt before was name = let none : None ≡ Some r = there in cc
 none_again (s ∷ ss) d zero other r q there is lt before was name = absurd (omega (arith, lt))
 none_again (s ∷ ss) d (suc n) zero r q there is lt before was name =
-    let same : s ≡ q = same_Some _ _ before in
-    let here : is_private_reference s.body ≡ true = subst (λ (x : Record). is_private_reference x.body ≡ true) (sym same) was in
+    let here : is_private_reference s.body ≡ true = grind arith in
     let apart : IsDistinct is_same (number s ∷ private_numbers ss) = subst (λ (xs : List ℕ). IsDistinct is_same xs) (taken s ss here) d in
-    let differ : is_same (number s) (number r) ≡ false = all_numbers (λ (y : ℕ). is_same (number s) y ≡ false) ss (IsDistinct-head is_same (number s) (private_numbers ss) apart) n r there is in
-    let equal : number s ≡ number r = ap (λ (x : Record). number x) same ∙ ap (λ (bytes : List ℕ). from_be_bytes w64 bytes) name in
-    false≢true (sym differ ∙ eq-eqb (number s) (number r) equal)
+    let differ = all_numbers (number s) ss (IsDistinct-head is_same (number s) (private_numbers ss) apart) n r there is in
+    grind (arith, nat_tests, differ)
 none_again (s ∷ ss) d (suc n) (suc m) r q there is lt before was name = none_again ss (rest (is_private_reference s.body) refl) n m r q there is (omega (arith, lt)) before was name
   where
     rest : (b : Bool) → is_private_reference s.body ≡ b → IsDistinct is_same (private_numbers ss)
