@@ -30,16 +30,13 @@ behind e f es le once lt =
     one_more (covers p) e (f ∷ es) ∙ rw first (ap (λ (n : ℕ). 1 + n) (one_more (covers p) f es ∙ rw second refl)) in
     omega (arith, once p)
 
-not_lt : (a b : ℕ) → (b < a → ⊥) → a ≤ b
-not_lt a b h = omega (arith, h)
-
 -- such edits are apart from a place on, where the first begins there or after it
 pub apart_from : (es : List Edit) (from : ℕ) → ((d : Edit) → 0 < length es → from ≤ place_of (get_or es 0 d)) → IsNonDecreasingBy place_of es → ((p : ℕ) → count_by (covers p) es ≤ 1) → AreApart from es
 apart_from [] from low rise once = tt
 apart_from (e ∷ []) from low rise once = (low e (omega arith), tt)
 apart_from (e ∷ f ∷ es) from low rise once = (
   low e (omega arith),
-  apart_from (f ∷ es) (place_of e + width e) (λ d h. not_lt (place_of e + width e) (place_of f) (behind e f es (rise 0 1 e (omega arith) (omega arith)) once)) (IsNonDecreasingBy-drop place_of 1 (e ∷ f ∷ es) rise)
+  apart_from (f ∷ es) (place_of e + width e) (λ d h. omega (arith, behind e f es (rise 0 1 e (omega arith) (omega arith)) once)) (IsNonDecreasingBy-drop place_of 1 (e ∷ f ∷ es) rise)
       (λ p. omega (arith, one_more (covers p) e (f ∷ es), once p)),
 )
 

@@ -12,8 +12,7 @@ use Rattle.ps_resolve.proofs.LookingBack.{defines_is}
 use Rattle.std.proofs.lemmas.List.{nil_from_length}
 
 pub none_is : {X : Type 0} (o : Option X) → is_some o ≡ false → o ≡ None
-none_is None h = refl
-none_is (Some x) h = cc
+none_is o h = grind arith
 
 module _ (rec : ℕ) (ds : List (List ℕ × Def)) (r : Record) (rs : List Record) where
   -- a record that defines nothing

@@ -84,8 +84,7 @@ records_once known R code (r ∷ rs) rec off os h o = at (target_of known off r)
 
 -- an edit covers what its operand has
 same_places : (code : List ℕ) (t : Target) (p x : ℕ) → covers p (edit_of code t x) ≡ is_in p (x, width_of t)
-same_places code (Slot slot) p x = refl
-same_places code (Base base) p x = refl
+same_places code t p x = grind arith
 
 same_counts : (code : List ℕ) (t : Target) (p : ℕ) (xs : List ℕ) → count_by (covers p) (map (edit_of code t) xs) ≡ count_by (is_in p) (operands t xs)
 same_counts code t p [] = refl

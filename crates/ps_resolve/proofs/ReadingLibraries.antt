@@ -1,7 +1,8 @@
 -- The libraries of a link, from one of them on.
-use Rattle.std.proofs.Common.{◌≡◌, ℕ, suc, ◌+◌, ◌<◌, List, [], ◌∷◌, length, get_or, drop, map, Bool, true, false, if◌then◌else◌, Option, Some, None, Ok, Err, Bor, refl, sym, ◌∙◌, ap, arith, add-one}
+use Rattle.std.proofs.Common.{◌≡◌, ℕ, suc, ◌+◌, ◌<◌, List, [], ◌∷◌, length, get_or, drop, map, Bool, true, false, if◌then◌else◌, Option, Some, None, Ok, Err, Bor, inl, inr, refl, sym, ◌∙◌, ap, arith, add-one}
 use Rattle.std.proofs.Math.Dec.{ltb}
-use Rattle.std.proofs.lemmas.List.{drop_more, length-map, get_or-map}
+use Rattle.std.proofs.lemmas.List.{drop_more, drop-map}
+use Rattle.std.proofs.lemmas.Bool.{cases_Bool}
 use Rattle.std.proofs.lemmas.Option.{some_pair_parts}
 use Rattle.std.specs.List.{enumerate_from, find, slice_get}
 use Rattle.std.specs.Option.{option_or, unwrap_or}
@@ -35,11 +36,8 @@ no_file = record { ref_ptr = (0, 0); now = [] }
 -- the files from i on are that of i and those after it
 pub files_more : (libs : List (Bor (List ℕ))) (i n : ℕ) → i < length libs → enumerate_from n (drop i (files libs)) ≡ (n, (get_or libs i no_file).now) ∷ enumerate_from (n + 1) (drop (i + 1) (files libs))
 files_more libs i n lt =
-    let same : get_or (files libs) i (get_or libs i no_file).now ≡ (get_or libs i no_file).now = get_or-map (λ (lib : Bor (List ℕ)). lib.now) libs i no_file (get_or libs i no_file).now lt in
-    let long : length (files libs) ≡ length libs = length-map libs (λ (lib : Bor (List ℕ)). lib.now) in
-    let here : drop i (files libs) ≡ (get_or libs i no_file).now ∷ drop (i + 1) (files libs) =
-    drop_more (files libs) i (get_or libs i no_file).now (omega arith) ∙ ap (λ (y : List ℕ). y ∷ drop (i + 1) (files libs)) same in
-    ap (λ (ys : List (List ℕ)). enumerate_from n ys) here
+    let now = λ (lib : Bor (List ℕ)). lib.now in
+    grind (arith, drop-map now i libs, drop-map now (i + 1) libs, drop_more libs i no_file lt)
 
 -- the first fault from library i on
 abbrev pub rest_of : Order → List (Bor (List ℕ)) → ℕ → Option Fault
@@ -67,17 +65,14 @@ chosen_later order name libs i lt h = ap (λ (xs : List (ℕ × List ℕ)). find
 -- a file that is found among numbered files is at its number
 at_number : (p : ℕ × List ℕ → Bool) (files : List (List ℕ)) (n k : ℕ) (file : List ℕ) → find p (enumerate_from n files) ≡ Some (k, file) → (j : ℕ) × (k ≡ n + j) × (slice_get files j ≡ Some file)
 at_number p [] n k file h = cc
-at_number p (x ∷ xs) n k file h = by (λ e. at_number p xs (n + 1) k file e) (p (n, x)) refl
-  where
-    by : (find p (enumerate_from (n + 1) xs) ≡ Some (k, file) → (j : ℕ) × (k ≡ n + 1 + j) × (slice_get xs j ≡ Some file)) → (b : Bool) → p (n, x) ≡ b → (j : ℕ) × (k ≡ n + j) × (slice_get (x ∷ xs) j ≡ Some file)
-    by further true q =
-        let here : ◌≡◌ {A = Option (ℕ × List ℕ)} (Some (n, x)) (Some (k, file)) = rw q at h in
-        let same = some_pair_parts n k x file here in
-        let place : k ≡ n + 0 = omega (arith, same.0) in
-        (0, place, ap (λ (y : List ℕ). Some y) same.1)
-    by further false q =
-        let rest = further (rw q at h) in
-        (suc rest.0, omega (arith, rest.1), rest.2)
+at_number p (x ∷ xs) n k file h = elim (cases_Bool (p (n, x))) [
+  | inl passes ↦
+      let same = some_pair_parts n k x file (rw passes at h) in
+      (0, omega (arith, same.0), ap (λ (y : List ℕ). Some y) same.1)
+  | inr fails ↦
+      let rest = at_number p xs (n + 1) k file (rw fails at h) in
+      (suc rest.0, omega (arith, rest.1), rest.2)
+]
 
 -- the chosen library, of number k from 0, is file k + 1, as the host is file 0
 pub chosen_file : (order : Order) (name : List ℕ) (files : List (List ℕ)) (k : ℕ) (file host : List ℕ) → chosen_library order name files ≡ Some (k, file) → file_at host files (k + 1) ≡ file

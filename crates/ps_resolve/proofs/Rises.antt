@@ -32,15 +32,12 @@ rise next from (s ∷ ss) h =
     weaker s.slot 0 from 0 (all_allotted next (s ∷ ss)) (λ p k. grind (arith, nat_tests))
     (prefixed s.slot s.records 0 next (all_allotted (next + private_words s.records) ss) (rise (next + private_words s.records) (s.slot + 1) ss h.1))
 
-chained : (a b s r t u : ℕ) → (nat_lt a s || (a == s && nat_le b r)) ≡ true → (nat_lt s t || (s == t && nat_le (r + 1) u)) ≡ true → (nat_lt a t || (a == t && nat_le b u)) ≡ true
-chained a b s r t u h k = grind (arith, nat_tests)
-
 -- where privates rise from a record on, each of them is of this record or of a later one
 all_behind : (a b : ℕ) (ps : List Private) (k : ℕ) (d : Private) → RiseFrom a b ps → k < length ps → is_from a b (get_or ps k d) ≡ true
 all_behind a b [] k d h lt = absurd (omega arith)
 all_behind a b (p ∷ ps) zero d h lt = h.0
 all_behind a b (p ∷ ps) (suc k) d h lt =
-    let x = get_or ps k d in chained a b p.slot p.rec x.slot x.rec h.0 (all_behind p.slot (p.rec + 1) ps k d h.1 (omega arith))
+    let later = all_behind p.slot (p.rec + 1) ps k d h.1 (omega arith) in grind (arith, nat_tests, h.0, later)
 
 -- any later one is of a later record
 pub behind : (a b : ℕ) (ps : List Private) (i j : ℕ) (d : Private) → RiseFrom a b ps → i < j → j < length ps → is_from (get_or ps i d).slot ((get_or ps i d).rec + 1) (get_or ps j d) ≡ true
@@ -54,22 +51,17 @@ behind a b (p ∷ ps) (suc i) (suc j) d h le lt = behind p.slot (p.rec + 1) ps i
 abbrev pub is_before : ℕ → ℕ → Private → Bool
 is_before slot rec p = nat_lt p.slot slot || (p.slot == slot && nat_lt p.rec rec)
 
-earlier : (a b s r t u : ℕ) → (nat_lt a s || (a == s && nat_le (b + 1) r)) ≡ true → (nat_lt s t || (s == t && nat_lt r u)) ≡ true → (nat_lt a t || (a == t && nat_lt b u)) ≡ true
-earlier a b s r t u h k = grind (arith, nat_tests)
-
 -- the privates that are of an earlier record are before all others
 pub partitioned : (slot rec a b : ℕ) (ps : List Private) → RiseFrom a b ps → IsPartitionedBy (is_before slot rec) ps
 partitioned slot rec a b ps h i j d le lt t = elim (cases_lt i j) [
-  | inl less ↦ let x = get_or ps i d in let y = get_or ps j d in earlier x.slot x.rec y.slot y.rec slot rec (behind a b ps i j d h less lt) t
+  | inl less ↦ let later = behind a b ps i j d h less lt in grind (arith, nat_tests, later)
   | inr ge ↦ let same : i ≡ j = omega (arith, le, ge) in subst (λ (n : ℕ). is_before slot rec (get_or ps n d) ≡ true) (sym same) t
 ]
 
 -- an item that passes a test, where none before it does, is the one that is found
 first_find : {X : Type 0} (q : X → Bool) (xs : List X) (i : ℕ) (x : X) → ((k : ℕ) → k < i → q (get_or xs k x) ≡ false) → i < length xs → x ≡ get_or xs i x → q x ≡ true → find q xs ≡ Some x
 first_find q [] i x h lt is t = absurd (omega arith)
-first_find {X} q (y ∷ ys) zero x h lt is t =
-    let e : q y ≡ true = subst (λ (z : X). q z ≡ true) is t in
-    rw e (ap Some (sym is))
+first_find q (y ∷ ys) zero x h lt is t = grind arith
 first_find q (y ∷ ys) (suc i) x h lt is t =
     let e : q y ≡ false = h 0 (omega arith) in
     rw e (first_find q ys i x (λ k l. h (suc k) (omega arith)) (omega arith) is t)
@@ -78,21 +70,15 @@ no_find : {X : Type 0} (q : X → Bool) (xs : List X) → ((k : ℕ) (d : X) →
 no_find q [] h = refl
 no_find q (y ∷ ys) h = let e : q y ≡ false = h 0 y (omega arith) in rw e (no_find q ys (λ k d l. h (suc k) d (omega arith)))
 
-not_before : (s r t u : ℕ) → (nat_lt s t || (s == t && nat_lt r u)) ≡ true → (s == t && r == u) ≡ false
-not_before s r t u h = grind (arith, nat_tests)
-
-not_behind : (s r t u v w : ℕ) → (nat_lt s t || (s == t && nat_lt r u)) ≡ false → (nat_lt s v || (s == v && nat_le (r + 1) w)) ≡ true → (v == t && w == u) ≡ false
-not_behind s r t u v w h k = grind (arith, nat_tests)
-
 module _ (slot rec a b : ℕ) (ps : List Private) (i : ℕ) (h : RiseFrom a b ps) (p : IsPartitionPoint (λ x. is_before slot rec x ≡ true) (λ x. is_before slot rec x ≡ false) ps i) where
   pub found_there : (x : Private) → i < length ps → x ≡ get_or ps i x → is_of slot rec x ≡ true → find (is_of slot rec) ps ≡ Some x
-  found_there x lt is t = first_find (is_of slot rec) ps i x (λ k l. let y = get_or ps k x in not_before y.slot y.rec slot rec (p.0 k x (omega arith) l)) lt is t
+  found_there x lt is t = first_find (is_of slot rec) ps i x (λ k l. let before = p.0 k x (omega arith) l in grind (arith, nat_tests, before)) lt is t
 
   pub found_nowhere : ((d : Private) → i < length ps → is_of slot rec (get_or ps i d) ≡ false) → find (is_of slot rec) ps ≡ None
-  found_nowhere other = no_find (is_of slot rec) ps (λ k d lt. let y = get_or ps k d in let x = get_or ps i d in elim (cases_order k i) [
+  found_nowhere other = no_find (is_of slot rec) ps (λ k d lt. elim (cases_order k i) [
     | inl same ↦ subst (λ (n : ℕ). is_of slot rec (get_or ps n d) ≡ false) (sym same) (other d (omega (arith, same, lt)))
-    | inr (inl less) ↦ not_before y.slot y.rec slot rec (p.0 k d (omega (arith, less, lt)) less)
-    | inr (inr more) ↦ not_behind x.slot x.rec slot rec y.slot y.rec (p.1 i d (omega arith) (omega (arith, more, lt))) (behind a b ps i k d h more lt)
+    | inr (inl less) ↦ let before = p.0 k d (omega (arith, less, lt)) less in grind (arith, nat_tests, before)
+    | inr (inr more) ↦ let at = p.1 i d (omega arith) (omega (arith, more, lt)) in let later = behind a b ps i k d h more lt in grind (arith, nat_tests, at, later)
   ])
 
 module _ (slot rec : ℕ) (xs ps : List Private) (i : ℕ) (same : xs ≡ ps) (h : RiseFrom 0 0 xs) (p : IsPartitionPoint (λ x. is_before slot rec x ≡ true) (λ x. is_before slot rec x ≡ false) xs i) where

@@ -1,4 +1,4 @@
-use Rattle.std.proofs.Common.{◌+◌, ◌∙◌, ℕ, List, Option, Some, sym, ap}
+use Rattle.std.proofs.Common.{◌+◌, ◌∙◌, ℕ, List, Option, Some, sym, ap, arith}
 use Rattle.std.specs.List.{find}
 use Rattle.std.specs.Option.{option_map, option_map_or, option_and_then}
 use Rattle.ps_words.specs.FaultPlaces.{in_slot}
@@ -21,20 +21,15 @@ pub returns-in-Some-entries_reason-clause-fault : goal.returns-in-Some-entries_r
 returns-in-Some-entries_reason-clause-fault c =
     let source = c.in-Some.source in
     let why = ap (λ (o : Order). entries_reason o c.args.name source.dict.file) (sym c.in-Some.ensures.order) ∙ (sym c.entries_reason.ensures ∙ c.in-Some-entries_reason.is) in
-    ap (λ (f : Fault). Some f) c.in_slot-in-Some-entries_reason.ensures
-    ∙ (ap (λ (n : ℕ). Some (in_slot n c.args.slot c.in-Some-entries_reason.reason)) c.library_file.ensures
-    ∙ sym (ap (λ (o : Option (ℕ × List ℕ)). option_map_or (λ (lib : ℕ × List ℕ). option_map (in_slot (lib.0 + 1) c.args.slot) (entries_reason c.args.order c.args.name lib.1)) o (Some (in_slot 0 c.args.slot reason.MissingUnit))) (sym c.in-Some.ensures.library)
-    ∙ ap (λ (o : Option Reason). option_map (in_slot (source.library + 1) c.args.slot) o) why))
+    grind (arith, why, c.in_slot-in-Some-entries_reason.ensures, c.library_file.ensures, c.in-Some.ensures.library)
 
 pub returns-in-None-entries_reason : goal.returns-in-None-entries_reason
 returns-in-None-entries_reason c =
     let source = c.in-Some.source in
     let why = ap (λ (o : Order). entries_reason o c.args.name source.dict.file) (sym c.in-Some.ensures.order) ∙ (sym c.entries_reason.ensures ∙ c.in-None-entries_reason.is) in
     record {
-      fault = sym (ap (λ (o : Option (ℕ × List ℕ)). option_map_or (λ (lib : ℕ × List ℕ). option_map (in_slot (lib.0 + 1) c.args.slot) (entries_reason c.args.order c.args.name lib.1)) o (Some (in_slot 0 c.args.slot reason.MissingUnit))) (sym c.in-Some.ensures.library)
-          ∙ ap (λ (o : Option Reason). option_map (in_slot (source.library + 1) c.args.slot) o) why);
-      source = ap (λ (o : Option (ℕ × List ℕ)). option_and_then (λ (lib : ℕ × List ℕ). option_map (λ (i : ℕ). (lib.0 + 1, i)) (find (is_named c.args.order c.args.name lib.1) slots)) o) (sym c.in-Some.ensures.library)
-          ∙ ap (λ (o : Option ℕ). option_map (λ (i : ℕ). (source.library + 1, i)) o) c.in-Some.ensures.entry;
+      fault = grind (arith, why, c.in-Some.ensures.library);
+      source = grind (arith, c.in-Some.ensures.library, c.in-Some.ensures.entry);
       file = λ host. chosen_file c.args.order c.args.name (files c.args.libs.now) source.library source.dict.file host (sym c.in-Some.ensures.library);
       order = c.in-Some.ensures.order;
       unit = kind_is c.args.order c.args.name source.dict.file source.index why c.in-Some.ensures.entry;
