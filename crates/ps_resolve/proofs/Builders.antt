@@ -1,16 +1,15 @@
 -- What the builders of definitions and of allotments say of their refusals, by looking back; and
 -- how the privates of an allotment are.
-use Rattle.std.proofs.Common.{◌≡◌, ℕ, zero, suc, ◌+◌, ◌<◌, ◌≤◌, List, [], ◌∷◌, ◌++◌, length, length-append, take, map, get_or, Option, Some, None, Bool, true, false, refl, sym, ap, subst, ◌∙◌, inl, inr, arith, append_assoc, is_some}
+use Rattle.std.proofs.Common.{◌≡◌, ℕ, zero, suc, ◌+◌, ◌<◌, List, [], ◌∷◌, ◌++◌, length, length-append, take, map, get_or, Option, Some, None, Bool, true, false, refl, sym, ap, subst, ◌∙◌, inl, inr, arith, append_assoc}
 use Rattle.std.specs.Prelude.{◌==◌, ◌&&◌, ◌||◌, count_by, nat_le, nat_lt}
 use Rattle.std.specs.Bool.{Decides}
-use Rattle.std.specs.List.{cons_option, enumerate_from, filter_map, slice_get, flat_map}
+use Rattle.std.specs.List.{enumerate_from, filter_map, slice_get, flat_map}
 use Rattle.std.specs.Option.{option_map, option_or}
 use Rattle.std.proofs.lemmas.Bool.{cases_Bool, cases_lt, false≢true}
 use Rattle.std.proofs.lemmas.Bool.Decides.{Decides-and, Decides-ltb, nat_tests}
 use Rattle.std.proofs.lemmas.List.{map-append}
 use Rattle.std.proofs.lemmas.List.Sums.{sum_by-append, sum_by-cons}
-use Rattle.std.proofs.lemmas.Option.{get_or_from_slice_get, same_Some, slice_get_within}
-use Rattle.ps_linkinfo.specs.declared.record.Body.{Body}
+use Rattle.std.proofs.lemmas.Option.{get_or_from_slice_get, slice_get_within}
 use Rattle.ps_linkinfo.specs.declared.record.LinkRecord.{LinkRecord as Record}
 use Rattle.ps_words.specs.FaultPlaces.{in_record}
 use Rattle.ps_words.specs.declared.fault.Fault.{Fault}
@@ -18,20 +17,19 @@ use Rattle.ps_words.specs.declared.fault.Reason.{Reason}
 use Rattle.ps_words.specs.declared.fault.Reason.TheVariants as reason
 use Rattle.ps_resolve.specs.First.{Before}
 use Rattle.ps_resolve.specs.Searches.{first_of, fault_if}
-use Rattle.ps_resolve.specs.Symbols.{def_in, definitions, first_duplicate}
-use Rattle.ps_resolve.specs.Privates.{Owner, words_in, allotted_privates, private_words, private_fault, all_allotted, all_words, first_private_fault}
+use Rattle.ps_resolve.specs.Symbols.{definitions, first_duplicate}
+use Rattle.ps_resolve.specs.Privates.{Owner, allotted_privates, private_words, private_fault, all_allotted, all_words, first_private_fault}
 use Rattle.ps_resolve.specs.Offsets.{RiseFrom}
 use Rattle.ps_resolve.specs.Standing.Phrases.{SomeItem}
 use Rattle.ps_resolve.specs.Standing.Definitions.{HasEarlierNamesake}
 use Rattle.ps_linkinfo.specs.RecordCounts.{is_definition, is_private_reference}
 use Rattle.ps_resolve.specs.References.{words_taken, words_taken_by}
 use Rattle.ps_resolve.specs.Stops.{IsStop, duplicate_fault}
-use Rattle.ps_resolve.specs.Builders.{FindsNamesake, HaveNoNamesakes, IsFirstNamesake, StopsDefinitions, offset_at, HaveDistinctPrivates, HaveRoom, IsUnfit, IsFirstUnfit, StopsPrivates, Asked, asked_in, all_asked, asked_of, AreByRecord, words_of_all}
+use Rattle.ps_resolve.specs.Builders.{HaveNoNamesakes, StopsDefinitions, offset_at, HaveDistinctPrivates, HaveRoom, IsUnfit, IsFirstUnfit, StopsPrivates, Asked, asked_in, all_asked, asked_of, AreByRecord, words_of_all}
 use Rattle.ps_resolve.specs.declared.allotment.Private.{Private}
-use Rattle.ps_resolve.specs.declared.definitions.Def.{Def}
 use Rattle.ps_resolve.specs.declared.linkage.Stop.{Stop}
 use Rattle.ps_resolve.specs.declared.linkage.Stop.TheVariants.{Refused, Memory}
-use Rattle.ps_resolve.proofs.LookingBack.{is_again, again, take_prefix, longer, of_test, defines_is, asks_is, definitions_carried, words_before, reason_at, record_fault, privates_carried}
+use Rattle.ps_resolve.proofs.LookingBack.{is_again, again, take_prefix, longer, of_test, definitions_carried, words_before, reason_at, record_fault, privates_carried}
 use Rattle.ps_resolve.proofs.Allots.{privates_counted}
 use Rattle.ps_resolve.proofs.Apart.{one_more as counted}
 use Rattle.ps_resolve.proofs.Duplicates.{definitions_counted}

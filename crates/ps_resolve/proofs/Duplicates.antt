@@ -1,11 +1,9 @@
 -- One record more of a table of definitions.
-use Rattle.std.proofs.Common.{◌≡◌, ℕ, zero, suc, ◌+◌, List, [], ◌∷◌, ◌++◌, length, Bool, true, false, cond, Option, Some, None, is_some, refl, sym, ◌∙◌, ap, arith, append_assoc, length-append, ◌<◌}
+use Rattle.std.proofs.Common.{◌≡◌, ℕ, ◌+◌, List, [], ◌∷◌, ◌++◌, length, true, false, Option, Some, None, is_some, refl, sym, ◌∙◌, arith, append_assoc, length-append, ◌<◌}
 use Rattle.std.specs.List.{filter_map}
 use Rattle.ps_resolve.specs.Symbols.{def_in, definition_in, definitions, definition_of, first_duplicate, first_duplicate_from}
 use Rattle.ps_resolve.specs.declared.definitions.Def.{Def}
 use Rattle.ps_linkinfo.specs.RecordCounts.{is_definition, definitions_in}
-use Rattle.ps_linkinfo.specs.declared.record.Body.{Body}
-use Rattle.ps_linkinfo.specs.declared.record.Body.TheVariants.{UnitRef, PublRef, PrivRef, PublDef, ConstDef, Eof}
 use Rattle.ps_linkinfo.specs.declared.record.LinkRecord.{LinkRecord as Record}
 use Rattle.ps_resolve.proofs.Apart.{one_more}
 use Rattle.ps_resolve.proofs.LookingBack.{defines_is}

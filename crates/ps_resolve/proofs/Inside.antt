@@ -1,5 +1,5 @@
 -- Where no fault applies each reference's edit lies in the code and can be stored.
-use Rattle.std.proofs.Common.{◌≡◌, ℕ, ◌+◌, ◌≤◌, ◌++◌, List, [], ◌∷◌, length, map, Bool, false, Some, None, Result, Ok, Err, refl, sym, ◌∙◌, arith}
+use Rattle.std.proofs.Common.{◌≡◌, ℕ, ◌+◌, ◌≤◌, ◌++◌, List, [], ◌∷◌, length, map, Bool, Some, None, Result, Ok, Err, refl, sym, ◌∙◌, arith}
 use Rattle.std.specs.Prelude.{nat_lt, All}
 use Rattle.std.specs.List.{list_any, range_with_len}
 use Rattle.std.specs.Option.{option_map}

@@ -1,7 +1,7 @@
 -- The searches of a segment's records that carry what came before are those that look back over the
 -- records. What is said of whole links, in ps_laws, is on them too.
-use Rattle.std.proofs.Common.{◌≡◌, ℕ, zero, suc, ◌+◌, ◌<◌, List, [], ◌∷◌, ◌++◌, length, take, map, Option, Some, None, Bool, true, false, refl, sym, ap, subst, ◌∙◌, inl, inr, arith, append_assoc, append-nil, is_some}
-use Rattle.std.specs.Prelude.{◌⊎◌, if◌then◌else◌, ◌&&◌, ◌||◌, nat_lt}
+use Rattle.std.proofs.Common.{◌≡◌, ℕ, zero, suc, ◌+◌, ◌<◌, List, [], ◌∷◌, ◌++◌, length, take, map, Option, Some, Bool, true, refl, sym, ap, subst, ◌∙◌, inl, inr, arith, append_assoc, append-nil, is_some}
+use Rattle.std.specs.Prelude.{◌⊎◌, ◌&&◌, ◌||◌, nat_lt}
 use Rattle.std.specs.Bool.{Decides}
 use Rattle.std.specs.List.{enumerate_from, slice_get, list_any, filter, cons_option}
 use Rattle.std.specs.Option.{option_map, option_or}
@@ -12,7 +12,6 @@ use Rattle.std.proofs.lemmas.List.{length_push, map-append, take_at}
 use Rattle.std.proofs.lemmas.List.Elements.{filter-append, filter_map-append}
 use Rattle.std.proofs.lemmas.Slice.Eq.{bytes_eq-Decides}
 use Rattle.ps_linkinfo.specs.declared.record.Body.{Body}
-use Rattle.ps_linkinfo.specs.declared.record.Body.TheVariants.{UnitRef, PublRef, PrivRef, PublDef, ConstDef, Eof}
 use Rattle.ps_linkinfo.specs.declared.record.LinkRecord.{LinkRecord as Record}
 use Rattle.ps_words.specs.declared.fault.Fault.{Fault}
 use Rattle.ps_words.specs.declared.fault.Reason.{Reason}
@@ -24,7 +23,6 @@ use Rattle.ps_resolve.specs.Standing.Phrases.{SomeBelow}
 use Rattle.ps_resolve.specs.Standing.Definitions.{HasEarlierNamesake}
 use Rattle.ps_linkinfo.specs.RecordCounts.{is_definition, is_private_reference}
 use Rattle.ps_resolve.specs.References.{words_taken}
-use Rattle.ps_resolve.specs.declared.definitions.Def.{Def}
 
 pub of_test : (b : Bool) → Decides b (b ≡ true)
 of_test b = (λ e. e, λ e. e)

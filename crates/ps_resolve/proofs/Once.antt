@@ -1,5 +1,5 @@
 -- Where no fault applies no place is covered twice, and no reserved place at all.
-use Rattle.std.proofs.Common.{◌≡◌, ℕ, ◌+◌, ◌≤◌, ◌++◌, ◌||◌, ◌==◌, eqb-true, List, [], ◌∷◌, length, map, Bool, true, false, cond, Option, Some, None, Result, Ok, Err, refl, sym, ◌∙◌, ap, subst, arith, append_assoc, append-nil}
+use Rattle.std.proofs.Common.{◌≡◌, ℕ, ◌+◌, ◌≤◌, ◌++◌, List, [], ◌∷◌, length, map, Bool, true, false, cond, Some, None, Result, Ok, Err, refl, sym, ◌∙◌, subst, arith, append_assoc, append-nil}
 use Rattle.std.specs.Prelude.{count_by}
 use Rattle.std.specs.List.{list_any, range_with_len}
 use Rattle.std.specs.Option.{option_map, option_or}
@@ -14,7 +14,6 @@ use Rattle.ps_linkinfo.specs.declared.record.LinkRecord.{LinkRecord as Record}
 use Rattle.ps_resolve.specs.Operands.{operands, width_of, is_in, refs_fault, reference_reason, value_of, edit_of}
 use Rattle.ps_resolve.specs.References.{Known, words_taken, target_of, records_fault, record_edits, records_edits}
 use Rattle.ps_resolve.specs.declared.references.Target.{Target}
-use Rattle.ps_resolve.specs.declared.references.Target.TheVariants.{Slot, Base}
 use Rattle.ps_resolve.proofs.Apart.{one_more}
 use Rattle.ps_resolve.proofs.FirstSlots.{or_none}
 pub use Rattle.ps_resolve.proofs.FirstSlots.{none_mapped as map_none}

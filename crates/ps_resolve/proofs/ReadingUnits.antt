@@ -1,14 +1,11 @@
 -- Why the library's first entry of a name is not taken.
-use Rattle.std.proofs.Common.{◌≡◌, ◌≢◌, ◌==◌, ◌&&◌, not, ℕ, List, Bool, true, false, if◌then◌else◌, Option, Some, None, inl, inr, refl, ◌∙◌, ap, subst, arith}
+use Rattle.std.proofs.Common.{◌≡◌, ◌≢◌, ◌&&◌, ℕ, List, Bool, true, false, Some, None, inl, inr, arith}
 use Rattle.std.proofs.lemmas.Bool.{cases_Bool, cases_eq}
 use Rattle.std.proofs.lemmas.Bool.Decides.{nat_tests}
 use Rattle.std.specs.List.{list_any, find, range_with_len}
-use Rattle.std.specs.Option.{option_and_then}
 use Rattle.ps_words.specs.declared.order.Order.{Order}
-use Rattle.ps_words.specs.declared.fault.Reason.{Reason}
 use Rattle.ps_words.specs.declared.fault.Reason.TheVariants as reason
 use Rattle.ps_codefile.specs.Dictionary.{slots, entry_at}
-use Rattle.ps_resolve.specs.Searches.{fault_if}
 use Rattle.ps_resolve.specs.Sources.{is_named}
 use Rattle.ps_resolve.specs.Faults.{entries_reason}
 

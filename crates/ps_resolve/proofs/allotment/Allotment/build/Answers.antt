@@ -1,8 +1,8 @@
-use Rattle.std.proofs.Common.{◌≡◌, ◌+◌, ℕ, List, map, arith, ap, sym, subst, ◌∙◌}
+use Rattle.std.proofs.Common.{◌≡◌, ◌+◌, ℕ, List, map, arith, sym, subst}
 use Rattle.std.proofs.lemmas.Result.{IfOk-weaker, IfErr-weaker}
 use Rattle.ps_resolve.specs.Builders.{HaveDistinctPrivates, HaveRoom, StopsPrivates, all_asked, asked_of, words_of_all, AreByRecord}
 use Rattle.ps_resolve.specs.Offsets.{FollowOn}
-use Rattle.ps_resolve.specs.Privates.{Allotted, Owner, all_allotted, all_words, allotment_of, owner_of_linkage}
+use Rattle.ps_resolve.specs.Privates.{Allotted, Owner, all_allotted, allotment_of, owner_of_linkage}
 use Rattle.ps_resolve.proofs.Builders.{distinct_names, room, not_allotted, by_record, asked, summed}
 use Rattle.ps_resolve.proofs.Follow.{follow}
 use Rattle.ps_resolve.proofs.Rises.{rise}

@@ -1,9 +1,8 @@
-use Rattle.std.proofs.Common.{◌≡◌, ℕ, ◌+◌, ◌∙◌, Option, Some, None, get_or, refl, sym, ap, arith}
+use Rattle.std.proofs.Common.{◌≡◌, ◌+◌, ◌∙◌, Option, Some, None, get_or, refl, sym, ap, arith}
 use Rattle.std.specs.Option.{option_or, option_map}
 use Rattle.std.specs.Result.{result_err}
 use Rattle.ps_words.specs.FaultPlaces.{in_file}
 use Rattle.ps_words.specs.declared.fault.Reason.{Reason}
-use Rattle.ps_words.specs.declared.fault.Fault.{Fault}
 use Rattle.ps_resolve.specs.Faults.{libraries_fault, library_reason}
 use Rattle.ps_resolve.proofs.ReadingLibraries.{no_file, rest_at, rest_of}
 use Rattle.ps_resolve.proofs.reading.libraries.libraries_fault.Goals as goal

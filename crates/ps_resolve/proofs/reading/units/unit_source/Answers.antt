@@ -1,11 +1,6 @@
-use Rattle.std.proofs.Common.{◌+◌, ◌∙◌, ℕ, List, Option, Some, sym, ap, arith}
+use Rattle.std.proofs.Common.{◌∙◌, sym, ap, arith}
 use Rattle.std.specs.List.{find}
-use Rattle.std.specs.Option.{option_map, option_map_or, option_and_then}
-use Rattle.ps_words.specs.FaultPlaces.{in_slot}
 use Rattle.ps_words.specs.declared.order.Order.{Order}
-use Rattle.ps_words.specs.declared.fault.Reason.{Reason}
-use Rattle.ps_words.specs.declared.fault.Reason.TheVariants as reason
-use Rattle.ps_words.specs.declared.fault.Fault.{Fault}
 use Rattle.ps_codefile.specs.Dictionary.{slots}
 use Rattle.ps_resolve.specs.Sources.{is_named}
 use Rattle.ps_resolve.specs.Faults.{entries_reason}
