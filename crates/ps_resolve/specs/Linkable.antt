@@ -7,7 +7,8 @@ use Rattle.ps_words.specs.declared.fault.Reason.{Reason}
 use Rattle.ps_codefile.specs.Dictionary.{OpenedFile, slots, entry_at, role_of}
 use Rattle.ps_codefile.specs.declared.entry.Entry.{Entry}
 use Rattle.ps_codefile.specs.declared.entry.Role.{Role}
-use Rattle.ps_codefile.specs.Procedures.{table_of}
+use Rattle.ps_codefile.specs.Places.{IsWhole}
+use Rattle.ps_codefile.specs.Procedures.{procedures, table_of}
 use Rattle.ps_codefile.specs.Roles.{is_host}
 use Rattle.ps_resolve.specs.Sources.{Segment, host_of}
 use Rattle.ps_resolve.specs.Added.{slot_names}
@@ -43,12 +44,15 @@ pub record MayBeAddedTo (order : Order) (libs : List (List ℕ)) (own : List Seg
   pub few : length slots ≤ 9
   pub in_range : All (λ slot. slot < 16) slots
 
--- a host's own segment: its records, and the place of the attribute table of its outer block
+-- a host's own segment: its records, and the place of the attribute table of its outer block, which
+-- lies in its code before the procedure dictionary
 pub record IsHost (order : Order) (h : HostSegment) : Type 0 where
   pub role : is_host h.segment.role ≡ true
   pub sound : IsSound order h.segment
   pub records : h.records ≡ h.segment.records
+  pub procedure : 1 ≤ procedures h.segment.code
   pub table : table_of order h.segment.code 1 ≡ Some h.outer_block
+  pub whole : IsWhole h.segment.code h.outer_block
 
 -- The segments of a link, by slot: each sound, one of them the host's, those that share link
 -- information alike; and the names of the slots of the linked file.

@@ -1,11 +1,11 @@
-ghost use Rattle.std.specs.Prelude.{◌≡◌, ℕ, ◌≤◌, ◌+◌, ◌-◌, ◌∷◌, [], length, true, Some, None, IfOk, IfErr};
+ghost use Rattle.std.specs.Prelude.{◌≡◌, ◌≤◌, ◌∷◌, [], Some, None, IfOk, IfErr};
 ghost use Rattle.ps_words.specs.declared.edit.Edit.TheVariants.{Word};
 ghost use Rattle.ps_resolve.specs.Edits.{IsOfSize, IsOfTable};
 ghost use Rattle.ps_resolve.specs.Faults.{size_fault};
 ghost use Rattle.ps_resolve.specs.Linking.{data_edits, data_size_of};
-ghost use Rattle.ps_codefile.specs.Procedures.{table_of};
-ghost use Rattle.ps_codefile.specs.Roles.{is_host as is_host_spec};
-ghost use Rattle.ps_resolve.specs.Views.{segment_of, IsSound};
+ghost use Rattle.ps_codefile.specs.Places.{IsWhole};
+ghost use Rattle.ps_codefile.specs.Procedures.{procedures, table_of};
+ghost use Rattle.ps_resolve.specs.Views.{segment_of};
 
 use crate::linkage::Stop;
 use crate::reading::host::HostSegment;
@@ -42,8 +42,8 @@ pub(crate) fn grown_data_size(
     host: &HostSegment,
     words: u16,
 ) -> Result<DataSize, Stop>
-    requires role { is_host_spec host.now.segment.role ≡ true }
-    requires sound { IsSound order host.now.segment }
+    requires procedure { 1 ≤ procedures host.now.segment.code }
+    requires whole { IsWhole host.now.segment.code host.now.outer_block }
     requires table { table_of order host.now.segment.code 1 ≡ Some host.now.outer_block }
     ensures edit { IfOk result (λ d. data_edits order words host.now.segment.code
         ≡ Word d.size d.place ∷ []) }
