@@ -47,8 +47,6 @@ pub record MayBeAddedTo (order : Order) (libs : List (List ℕ)) (own : List Seg
 -- a host's own segment: its records, and the place of the attribute table of its outer block, which
 -- lies in its code before the procedure dictionary
 pub record IsHost (order : Order) (h : HostSegment) : Type 0 where
-  pub role : is_host h.segment.role ≡ true
-  pub sound : IsSound order h.segment
   pub records : h.records ≡ h.segment.records
   pub procedure : 1 ≤ procedures h.segment.code
   pub table : table_of order h.segment.code 1 ≡ Some h.outer_block

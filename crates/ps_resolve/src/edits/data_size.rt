@@ -3,8 +3,7 @@ ghost use Rattle.ps_words.specs.declared.edit.Edit.TheVariants.{Word};
 ghost use Rattle.ps_resolve.specs.Edits.{IsOfSize, IsOfTable};
 ghost use Rattle.ps_resolve.specs.Faults.{size_fault};
 ghost use Rattle.ps_resolve.specs.Linking.{data_edits, data_size_of};
-ghost use Rattle.ps_codefile.specs.Places.{IsWhole};
-ghost use Rattle.ps_codefile.specs.Procedures.{procedures, table_of};
+ghost use Rattle.ps_resolve.specs.Linkable.{IsHost};
 ghost use Rattle.ps_resolve.specs.Views.{segment_of};
 
 use crate::linkage::Stop;
@@ -42,9 +41,7 @@ pub(crate) fn grown_data_size(
     host: &HostSegment,
     words: u16,
 ) -> Result<DataSize, Stop>
-    requires procedure { 1 ≤ procedures host.now.segment.code }
-    requires whole { IsWhole host.now.segment.code host.now.outer_block }
-    requires table { table_of order host.now.segment.code 1 ≡ Some host.now.outer_block }
+    requires { IsHost order host.now }
     ensures edit { IfOk result (λ d. data_edits order words host.now.segment.code
         ≡ Word d.size d.place ∷ []) }
     ensures size { IfOk result (λ d. d.size ≡ data_size_of order words host.now.segment.code) }

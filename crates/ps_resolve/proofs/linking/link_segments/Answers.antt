@@ -55,14 +55,8 @@ returns-in_err-allotment-clause-stop g c =
     rw (p.1, p.2, ← c.segments.view_is, ← c.as_slice-all.ensures.value) (privates_stop c.segments.inside.order c.as_slice-all.result.now own is ds.definitions ds.ensures.found ds.ensures.once c.next-base.result c.next-base.ensures
     c.in_err-allotment.field-0.0 c.in_err-allotment.ensures.stop)
 
-pub grown_data_size-requires-clause-procedure : goal.grown_data_size-requires-clause-procedure
-grown_data_size-requires-clause-procedure g c = c.segments.invariant.own.procedure
-
-pub grown_data_size-requires-clause-whole : goal.grown_data_size-requires-clause-whole
-grown_data_size-requires-clause-whole g c = c.segments.invariant.own.whole
-
-pub grown_data_size-requires-clause-table : goal.grown_data_size-requires-clause-table
-grown_data_size-requires-clause-table g c = c.segments.invariant.own.table
+pub grown_data_size-requires : goal.grown_data_size-requires
+grown_data_size-requires g c = c.segments.invariant.own
 
 pub returns-in_err-size-clause-stop : goal.returns-in_err-size-clause-stop
 returns-in_err-size-clause-stop g c =
