@@ -1,13 +1,9 @@
-ghost use Rattle.std.specs.Prelude.{◌≡◌, ℕ, ◌≤◌, ◌+◌, ◌++◌, List, length, map, OnOk, IfOk, IfErr, None, true, ⊤, ◌==◌, ◌&&◌, ◌<◌, false};
+ghost use Rattle.std.specs.Prelude.{◌≡◌, ◌+◌, ◌++◌, List, OnOk, IfOk, IfErr, None, true, ⊤, ◌==◌, ◌&&◌, ◌<◌, false};
 ghost use Rattle.ps_linkinfo.specs.RecordCounts.{privates_in, publics_in, references_in, units_in};
-ghost use Rattle.ps_linkinfo.specs.Records.{refs_of};
 ghost use Rattle.ps_linkinfo.specs.declared.record.LinkRecord.{LinkRecord as Record};
 ghost use Rattle.ps_codefile.specs.Roles.{needs_linking};
 ghost use Rattle.ps_resolve.specs.Linkable.{IsNext};
-ghost use Rattle.ps_resolve.specs.Operands.{edit_of, operands};
-ghost use Rattle.ps_resolve.specs.TakenPlaces.{AreTaken};
 ghost use Rattle.ps_resolve.specs.References.{target_of as target_of_spec, words_taken as words_taken_spec, records_edits};
-ghost use Rattle.ps_resolve.specs.Edits.{refs_fault_at};
 ghost use Rattle.ps_resolve.specs.Faults.{segment_fault};
 ghost use Rattle.ps_resolve.specs.Privates.{private_words};
 ghost use Rattle.ps_resolve.specs.Stops.{IsStop};
@@ -88,9 +84,10 @@ fn is_resolved<'a>(
     records.references() == 0 && records.privates() == 0 && segment.shares_with(earlier)
 }
 
-/// Adds the edits of all records of a linked segment after others, the first of whose privates has
-/// the offset `free`, or finds their first fault. Returns the offset after its last private.
-/// Records that an earlier segment has too are not looked at again, where they change nothing.
+/// Adds the edits of all records of a linked segment to `edits`, where the first of its privates has
+/// the offset `free`, or finds their first fault. Returns all edits, and the offset after its last
+/// private. Records that an earlier segment has too are not looked at again, where they change
+/// nothing.
 pub(crate) fn add_records<'a, A: Allocator + Copy>(
     link: &Linking<A>,
     earlier: &[Segment<'a>],

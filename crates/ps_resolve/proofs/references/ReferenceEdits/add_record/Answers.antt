@@ -1,9 +1,6 @@
-use Rattle.std.proofs.Common.{◌≡◌, ℕ, ◌<◌, ◌++◌, ◌∷◌, ◌∙◌, [], List, length, map, take, sym, ap, subst, arith, append_assoc, get_or}
-use Rattle.ps_words.specs.declared.edit.Edit.{Edit}
-use Rattle.ps_resolve.specs.Edits.{reason_in}
-use Rattle.ps_resolve.specs.Operands.{edit_of, operands, width_of}
-use Rattle.ps_resolve.specs.TakenPlaces.{AreTaken}
+use Rattle.std.proofs.Common.{◌≡◌, ℕ, ◌<◌, ◌++◌, ◌∷◌, ◌∙◌, [], List, length, map, take, sym, arith, append_assoc, get_or}
 use Rattle.ps_codefile.specs.Procedures.{is_reserved}
+use Rattle.ps_resolve.specs.Operands.{edit_of, operands, width_of}
 use Rattle.ps_resolve.proofs.Takes.{map_one, operands_one, fault_one, taken_more}
 use Rattle.ps_resolve.proofs.references.ReferenceEdits.add_record.Goals as goal
 
@@ -17,14 +14,13 @@ loop-i-preserved g c =
     let within : i < length refs = omega arith in
     let x : c.get-x.result ≡ get_or refs i 0 = c.get-x.ensures in
     let inv = c.loop-i.invariant in
-    let old = c.args.self.now.edits.items in
+    let so_far : List (ℕ × ℕ) → List (ℕ × ℕ) = λ os. os ++ operands t (take i refs) in
     record {
       same_procedures = inv.same_procedures;
       edits = rw (c.in_ok-push-in-Ok.ensures.items, inv.edits, c.in-Ok.ensures.edit, x, map_one (edit_of code t) refs i within)
-          (append_assoc old (map (edit_of code t) (take i refs)) (edit_of code t (get_or refs i 0) ∷ []));
+          (append_assoc c.args.self.now.edits.items (map (edit_of code t) (take i refs)) (edit_of code t (get_or refs i 0) ∷ []));
       fault = λ os taken. sym (fault_one (is_reserved tables.order code) code t os refs i within
-          (ap (reason_in tables (os ++ operands t (take i refs)) t) (sym x) ∙ sym (c.in-Ok.ensures.reason (os ++ operands t (take i refs)) (inv.taken os taken)))) ∙ inv.fault os taken;
-      taken = λ os taken. subst (AreTaken tables c.mark.new.taken) (sym (operands_one t os refs i within))
-          (subst (λ (y : ℕ). AreTaken tables c.mark.new.taken ((os ++ operands t (take i refs)) ++ (y, width_of t) ∷ [])) x
-          (taken_more tables c.loop-i.self.taken c.mark.new.taken (os ++ operands t (take i refs)) (c.get-x.result, width_of t) (inv.taken os taken) c.mark.ensures));
+          (rw (← x) (sym (c.in-Ok.ensures.reason (so_far os) (inv.taken os taken))))) ∙ inv.fault os taken;
+      taken = λ os taken. rw (operands_one t os refs i within, ← x)
+          (taken_more tables c.loop-i.self.taken c.mark.new.taken (so_far os) (c.get-x.result, width_of t) (inv.taken os taken) c.mark.ensures);
     }

@@ -22,7 +22,7 @@ use Rattle.ps_resolve.specs.Views.{SegmentView}
 use Rattle.ps_resolve.proofs.Numbers.{one, none}
 use Rattle.ps_resolve.proofs.Once.{map_none}
 use Rattle.ps_resolve.proofs.Takes.{first_taken}
-use Rattle.ps_resolve.proofs.NextRecords.{Links, no_links, record_refused, references_refused, record_stands, edits_more, words_are}
+use Rattle.ps_resolve.proofs.NextRecords.{no_links, record_refused, references_refused, record_stands, edits_more, words_are}
 use Rattle.ps_resolve.proofs.Sharing.{of_shared, no_references}
 use Rattle.ps_resolve.proofs.references.records.add_records.Goals as goal
 
@@ -33,13 +33,12 @@ fault_by known s free t = records_fault known (is_reserved t.order t.code) t.cod
 pub returns-then-asks_for_nothing : goal.returns-then-asks_for_nothing
 returns-then-asks_for_nothing g c =
     let v : SegmentView = c.args.segment.now in
-    let es = c.args.edits.items in
     let yes = c.if-asks_for_nothing.true in
     let asks = c.asks_for_nothing.ensures in
     let is = c.requires.records in
     let no = no_links c.args.link.now.names.now (is_reserved c.args.link.now.order v.code) v.code v.records 0 c.args.free [] (ap units_in (sym is) ∙ asks.units yes) (ap publics_in (sym is) ∙ asks.publics yes) (ap privates_in (sym is) ∙ asks.privates yes) in
     record {
-      edits = sym (append-nil es) ∙ ap (λ (ds : List Edit). es ++ ds) (sym no.edits);
+      edits = rw no.edits (sym (append-nil c.args.edits.items));
       end = omega (arith, no.words);
       sound = ap (option_map (in_segment v.file v.slot)) no.first;
       stop = tt;
@@ -49,13 +48,12 @@ pub returns-then-is_resolved : goal.returns-then-is_resolved
 returns-then-is_resolved g c =
     let known : Known = c.args.link.now.names.now in
     let v : SegmentView = c.args.segment.now in
-    let es = c.args.edits.items in
     let yes = c.if-is_resolved.true in
     let has = c.is_resolved.ensures.records yes in
     let named : HaveTargets known v.records = of_shared (λ (rs : List Record). HaveTargets known rs) c.args.earlier.now v has.0 c.requires.linked c.requires.next.alike c.requires.next.named has.1 in
     let no = no_references known (is_reserved c.args.link.now.order v.code) v.code v.records 0 c.args.free [] named (c.is_resolved.ensures.references yes) (c.is_resolved.ensures.privates yes) in
     record {
-      edits = sym (append-nil es) ∙ ap (λ (ds : List Edit). es ++ ds) (sym no.edits);
+      edits = rw no.edits (sym (append-nil c.args.edits.items));
       end = omega (arith, no.words);
       sound = ap (option_map (in_segment v.file v.slot)) no.first;
       stop = tt;
@@ -71,19 +69,18 @@ loop-rec-init g c =
 
 pub overflow_add-next : goal.overflow_add-next
 overflow_add-next g c =
-    let l = c.loop-rec in
     let r = c.in-Some.record in
-    let step = one (Links c.args.link.now.names.now l.found.procedures c.args.free c.args.segment.now.records c.args.edits.items l.next l.found.edits.items l.found.taken) l.rec-iterator c.next.new.self c.in-Some.rec r l.invariant.links c.in-Some.ensures.steps in
+    let step = one _ c.loop-rec.rec-iterator c.next.new.self c.in-Some.rec r c.loop-rec.invariant.links c.in-Some.ensures.steps in
     omega (arith, step.2.words, words_are r step.0, c.words_taken-next.ensures, c.requires.next.room)
 
 pub returns-in-Err-clause-stop : goal.returns-in-Err-clause-stop
 returns-in-Err-clause-stop g c =
     let known : Known = c.args.link.now.names.now in
-    let tables = c.loop-rec.found.procedures in
     let s = c.args.segment.now in
     let l = c.loop-rec in
+    let tables = l.found.procedures in
     let r = c.in-Some.record in
-    let step = one (Links c.args.link.now.names.now l.found.procedures c.args.free c.args.segment.now.records c.args.edits.items l.next l.found.edits.items l.found.taken) l.rec-iterator c.next.new.self c.in-Some.rec r l.invariant.links c.in-Some.ensures.steps in
+    let step = one _ l.rec-iterator c.next.new.self c.in-Some.rec r l.invariant.links c.in-Some.ensures.steps in
     let first = step.2.first in
     let here = record_refused known (is_reserved tables.order tables.code) tables.code c.in-Some.rec l.next first.0 r step.0 c.in-Err.reason (sym c.target_of.ensures ∙ c.in-Err.is) in
     subst (IsStop ⊤ (segment_fault c.args.link.now.order known c.args.free (segment_of s))) (sym c.stop_for.ensures) (rw (c.record-place.ensures, c.place.ensures)
@@ -92,50 +89,47 @@ returns-in-Err-clause-stop g c =
 pub returns-in_err-add_record-in-Ok-clause-stop : goal.returns-in_err-add_record-in-Ok-clause-stop
 returns-in_err-add_record-in-Ok-clause-stop g c =
     let known : Known = c.args.link.now.names.now in
-    let tables = c.loop-rec.found.procedures in
     let s = c.args.segment.now in
     let l = c.loop-rec in
+    let tables = l.found.procedures in
     let r = c.in-Some.record in
-    let step = one (Links c.args.link.now.names.now l.found.procedures c.args.free c.args.segment.now.records c.args.edits.items l.next l.found.edits.items l.found.taken) l.rec-iterator c.next.new.self c.in-Some.rec r l.invariant.links c.in-Some.ensures.steps in
+    let step = one _ l.rec-iterator c.next.new.self c.in-Some.rec r l.invariant.links c.in-Some.ensures.steps in
     let first = step.2.first in
-    let rest = step.0 in
     let fault_is = first.2 ∙ ap (fault_by known s c.args.free) l.invariant.procedures in
     let stop : Stop = c.in_err-add_record-in-Ok.field-0.0 in
     let p = err_from_is_err_and c.from_residual.result c.from_residual.ensures.1 in
     rw (p.1, p.2) (subst (λ (o : Option (ℕ × (Option ℕ × Reason))). IsStop ⊤ (option_map (in_segment s.file s.slot) o) stop) fault_is
-    (references_refused known (is_reserved tables.order tables.code) tables.code c.in-Some.rec l.next first.0 r rest s.file s.slot c.in-Ok.target stop
+    (references_refused known (is_reserved tables.order tables.code) tables.code c.in-Some.rec l.next first.0 r step.0 s.file s.slot c.in-Ok.target stop
     (sym c.target_of.ensures ∙ c.in-Ok.is) (subst (λ (p : RecordPlace). IsStop ⊤ (refs_fault_at p tables c.in-Ok.target first.0 (refs_of r.body)) stop) (rw c.place.ensures at c.record-place.ensures) (c.in_err-add_record-in-Ok.ensures.stop first.0 first.1))))
 
 pub loop-rec-preserved : goal.loop-rec-preserved
 loop-rec-preserved g c =
     let known : Known = c.args.link.now.names.now in
-    let tables = c.loop-rec.found.procedures in
-    let R = is_reserved tables.order tables.code in
     let l = c.loop-rec in
+    let tables = l.found.procedures in
+    let R = is_reserved tables.order tables.code in
     let rec = c.in-Some.rec in
     let r = c.in-Some.record in
     let t = c.in-Ok.target in
-    let step = one (Links c.args.link.now.names.now l.found.procedures c.args.free c.args.segment.now.records c.args.edits.items l.next l.found.edits.items l.found.taken) l.rec-iterator c.next.new.self c.in-Some.rec r l.invariant.links c.in-Some.ensures.steps in
-    let rest = step.0 in
     let is_t = sym c.target_of.ensures ∙ c.in-Ok.is in
+    let step = one _ l.rec-iterator c.next.new.self rec r l.invariant.links c.in-Some.ensures.steps in
+    let rest = step.0 in
     let first = step.2.first in
+    let added = c.in_ok-add_record-in-Ok.ensures in
+    let stands = record_stands known R tables.code rec l.next first.0 r rest t is_t (map_none _ _ (added.sound first.0 first.1)) in
     record {
       links = (
         rec + 1,
         rest,
         step.1,
-        rw (c.words_taken-next.ensures, c.add_record.ensures.same_procedures) (record {
-          listed = ap (λ (es : List Edit). es ++ records_edits known tables.code (l.next + words_taken r.body) rest) c.in_ok-add_record-in-Ok.ensures.edits
+        rw (c.words_taken-next.ensures, added.same_procedures) (record {
+          listed = ap (λ (es : List Edit). es ++ records_edits known tables.code (l.next + words_taken r.body) rest) added.edits
               ∙ sym (edits_more known R tables.code rec l.next first.0 r rest l.found.edits.items t is_t) ∙ step.2.listed;
-          first = (
-            first.0 ++ operands t (refs_of r.body),
-            c.in_ok-add_record-in-Ok.ensures.taken first.0 first.1,
-            sym (record_stands known R tables.code rec l.next first.0 r rest t is_t (map_none _ _ (c.in_ok-add_record-in-Ok.ensures.sound first.0 first.1))) ∙ first.2,
-          );
+          first = (first.0 ++ operands t (refs_of r.body), added.taken first.0 first.1, sym stands ∙ first.2);
           words = omega (arith, step.2.words, words_are r rest);
         }),
       );
-      procedures = c.add_record.ensures.same_procedures ∙ l.invariant.procedures;
+      procedures = added.same_procedures ∙ l.invariant.procedures;
     }
 
 pub returns : goal.returns
@@ -143,7 +137,7 @@ returns g c =
     let l = c.loop-rec in
     let s : SegmentView = c.args.segment.now in
     let known : Known = c.args.link.now.names.now in
-    let end = none (Links known l.found.procedures c.args.free s.records c.args.edits.items l.next l.found.edits.items l.found.taken) l.rec-iterator l.invariant.links c.in-None.ensures.steps.0 in
+    let end = none _ l.rec-iterator l.invariant.links c.in-None.ensures.steps.0 in
     record {
       edits = sym (append-nil l.found.edits.items) ∙ end.1.listed ∙ ap (λ (t : ProcedureTables). c.args.edits.items ++ records_edits known t.code c.args.free s.records) l.invariant.procedures;
       end = omega (arith, end.1.words);
