@@ -74,7 +74,8 @@ fn is_resolved<'a>(
 ) -> bool
     requires { records.now ≡ segment.now.records }
     ensures records { result ≡ true
-        → (records : List Record) × HasRecordsAt earlier.now segment.now.file segment.now.block records }
+        → (records : List Record)
+        × HasRecordsAt earlier.now segment.now.file segment.now.block records }
     ensures references { result ≡ true → references_in segment.now.records ≡ 0 }
     ensures privates { result ≡ true → privates_in segment.now.records ≡ 0 }
     ensures open { result ≡ false → (references_in segment.now.records == 0
@@ -84,9 +85,9 @@ fn is_resolved<'a>(
     records.references() == 0 && records.privates() == 0 && segment.shares_with(earlier)
 }
 
-/// Adds the edits of all records of a linked segment to `edits`, where the first of its privates has
-/// the offset `free`, or finds their first fault. Returns all edits, and the offset after its last
-/// private. Records that an earlier segment has too are not looked at again, where they change
+/// Adds the edits of all records of a linked segment to `edits`, where the first of its privates
+/// has the offset `free`, or finds their first fault. Returns all edits, and the offset after its
+/// last private. Records that an earlier segment has too are not looked at again, where they change
 /// nothing.
 pub(crate) fn add_records<'a, A: Allocator + Copy>(
     link: &Linking<A>,
