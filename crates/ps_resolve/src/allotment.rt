@@ -158,7 +158,8 @@ impl<'a> AsksForPrivates for Segment<'a> {
     }
 
     fn records(&self) -> Option<LinkInformation<'_>> {
-        self.contents().map(|contents| contents.records.copy())
+        self.resolvable()
+            .map(|resolvable| resolvable.records.copy())
     }
 }
 
@@ -200,7 +201,8 @@ impl<A: Allocator + Copy> Allotment<A> {
     /// Source: this project's profile.
     pub fn build(alloc: A, next: u16, segments: &[Linkage]) -> Result<Self, Stop>
         requires { AscendFrom 0 (map (λ s. s.slot) (map owner_of_linkage segments.now)) }
-        ensures names { IfOk result (λ _. HaveDistinctPrivates (map owner_of_linkage segments.now)) }
+        ensures names { IfOk result (λ _. HaveDistinctPrivates
+            (map owner_of_linkage segments.now)) }
         ensures room { IfOk result (λ _. HaveRoom next (map owner_of_linkage segments.now)) }
         ensures refused { IfErr result (StopsPrivates next (map owner_of_linkage segments.now)) }
         ensures asked { IfOk result (λ a. map asked_of a.privates

@@ -119,8 +119,8 @@ impl<A: Allocator + Copy> Definitions<A> {
             (reading host.now.order host.now.bytes.now).0) }
         ensures refused { IfErr result (StopsDefinitions host.now.file host.now.slot
             (reading host.now.order host.now.bytes.now).0) }
-        ensures once { IfOk result (λ _. first_duplicate (reading host.now.order host.now.bytes.now).0
-            ≡ None) }
+        ensures once { IfOk result (λ _. first_duplicate
+            (reading host.now.order host.now.bytes.now).0 ≡ None) }
         ensures stop { IfErr result (IsStop
             (0 < length (definitions (reading host.now.order host.now.bytes.now).0))
             (duplicate_fault host.now.file host.now.slot

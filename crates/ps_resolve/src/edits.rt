@@ -84,13 +84,13 @@ pub(crate) fn segment_edits<'a, A: Allocator + Copy>(
     ensures stop { IfErr result (IsStop ⊤
         (segment_fault link.now.order link.now.names.now free (segment_of segment.now))) }
 {
-    match segment.contents() {
+    match segment.resolvable() {
         None => Ok((Vec::new(alloc), free)),
-        Some(contents) => {
+        Some(resolvable) => {
             edits_patch_alike_in_any_order();
-            let references = contents.records.references();
+            let references = resolvable.records.references();
             let own = own_edits(alloc, segment, references, link.size)?;
-            let (edits, end) = add_records(link, earlier, segment, contents, free, own)?;
+            let (edits, end) = add_records(link, earlier, segment, resolvable, free, own)?;
             let ordered = sorted_edits(alloc, segment.code.len(), edits)?;
             Ok((ordered, end))
         }

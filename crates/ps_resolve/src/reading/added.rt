@@ -110,7 +110,8 @@ fn enqueue(units: &UnitSlots, queue: &mut ArrayVec<UnitReference, 10>, reference
     }
 }
 
-/// Appends the record that is there to the queue, if it requests a unit whose name is not known yet.
+/// Appends the record that is there to the queue, if it requests a unit whose name is not known
+/// yet.
 fn enqueue_record(
     units: &UnitSlots,
     queue: &mut ArrayVec<UnitReference, 10>,
@@ -165,8 +166,8 @@ fn enqueue_segment(units: &UnitSlots, queue: &mut ArrayVec<UnitReference, 10>, s
     ensures { queue.new.items ≡ take 10 (requested_from units.now queue.old.items
         (unit_references segment.now.file segment.now.slot 0 segment.now.records)) }
 {
-    if let Some(contents) = segment.contents() {
-        enqueue_records(units, queue, segment.place(), &contents.records);
+    if let Some(resolvable) = segment.resolvable() {
+        enqueue_records(units, queue, segment.place(), &resolvable.records);
     }
 }
 

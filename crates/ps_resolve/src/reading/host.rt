@@ -29,11 +29,11 @@ fn as_host<'a>(order: Order, segment: &Segment<'a>) -> Option<HostSegment<'a>>
     ensures segment { IfSome result (λ host. host.segment ≡ segment.now) }
     ensures is { IfSome result (IsHost order) }
 {
-    let contents = segment.contents()?;
-    let outer_block = contents.procedures.table(OUTER_BLOCK)?;
+    let resolvable = segment.resolvable()?;
+    let outer_block = resolvable.procedures.table(OUTER_BLOCK)?;
     Some(HostSegment {
         segment: segment.copy(),
-        records: contents.records.copy(),
+        records: resolvable.records.copy(),
         outer_block,
     })
 }

@@ -12,7 +12,7 @@ use std::marker::Model;
 
 /// What only a segment has whose references are resolved.
 #[derive(Drop)]
-pub(crate) struct Contents<'a> {
+pub(crate) struct Resolvable<'a> {
     /// The procedure tables of its code.
     pub(crate) procedures: Procs<'a>,
     /// The block of its file, from 0, in which its link information begins.
@@ -37,8 +37,9 @@ pub(crate) struct Segment<'a> {
     /// The slot of its entry in that file, 0 to 15.
     pub(crate) index: u8,
     pub(crate) code: &'a [u8],
-    /// What it is linked by; `None` just where its role is that of a segment that is linked already.
-    pub(crate) contents: Option<Contents<'a>>,
+    /// What only a segment has whose references are resolved; `None` for one that is linked
+    /// already, as its role says.
+    pub(crate) resolvable: Option<Resolvable<'a>>,
 }
 
 impl<'a> Model for Segment<'a> {
@@ -49,17 +50,17 @@ impl<'a> Model for Segment<'a> {
 
     ghost Value = { SegmentView };
 
-    ghost view = { λ s. record { slot = s.slot; name = s.name; role = s.role; added = s.added; file = s.file; index = s.index; code = s.code.now; tables = option_map (λ c. c.procedures) s.contents; block = option_map_or (λ c. c.block) s.contents 0; records = option_map_or (λ c. c.records) s.contents [] } };
+    ghost view = { λ s. record { slot = s.slot; name = s.name; role = s.role; added = s.added; file = s.file; index = s.index; code = s.code.now; tables = option_map (λ c. c.procedures) s.resolvable; block = option_map_or (λ c. c.block) s.resolvable 0; records = option_map_or (λ c. c.records) s.resolvable [] } };
 
-    ghost invariant = { λ s. is_some s.contents ≡ needs_linking s.role };
+    ghost invariant = { λ s. is_some s.resolvable ≡ needs_linking s.role };
 }
 
-impl<'a> Contents<'a> {
+impl<'a> Resolvable<'a> {
     /// A copy, which borrows the same bytes.
-    fn copy(&self) -> Contents<'a>
+    fn copy(&self) -> Resolvable<'a>
         ensures { result ≡ self.now }
     {
-        Contents {
+        Resolvable {
             procedures: self.procedures.copy(),
             block: self.block,
             records: self.records.copy(),
@@ -80,7 +81,7 @@ impl<'a> Segment<'a> {
             file: self.file,
             index: self.index,
             code: self.code,
-            contents: self.contents.as_ref().map(|contents| contents.copy()),
+            resolvable: self.resolvable.as_ref().map(|resolvable| resolvable.copy()),
         }
     }
 
@@ -94,14 +95,15 @@ impl<'a> Segment<'a> {
         }
     }
 
-    /// What it is linked by; `None` where it is linked already, so that it has no records.
-    pub(crate) fn contents(&self) -> Option<&Contents<'a>>
+    /// What only a segment has whose references are resolved; `None` for one that is linked
+    /// already, and so has no records.
+    pub(crate) fn resolvable(&self) -> Option<&Resolvable<'a>>
         ensures linked { is_some result ≡ needs_linking_spec self.now.role }
         ensures records { option_map_or (λ c. c.now.records) result [] ≡ self.now.records }
         ensures tables { option_map (λ c. c.now.procedures) result ≡ self.now.tables }
         ensures block { IfSome result (λ c. c.now.block ≡ self.now.block) }
     {
-        self.contents.as_ref()
+        self.resolvable.as_ref()
     }
 
     /// Where it is.
@@ -119,13 +121,14 @@ impl<'a> Segment<'a> {
     pub(crate) fn shares_with(&self, segments: &[Segment<'a>]) -> bool
         ensures linked { result ≡ true → needs_linking_spec self.now.role ≡ true }
         ensures records { result ≡ true
-            → (records : List Record) × HasRecordsAt segments.now self.now.file self.now.block records }
+            → (records : List Record)
+            × HasRecordsAt segments.now self.now.file self.now.block records }
         ensures own { result ≡ false → (needs_linking_spec self.now.role
             && has_records_at self.now.file self.now.block segments.now) ≡ false }
     {
-        match self.contents() {
+        match self.resolvable() {
             None => false,
-            Some(contents) => records_at(segments, self.file, contents.block).is_some(),
+            Some(resolvable) => records_at(segments, self.file, resolvable.block).is_some(),
         }
     }
 }
@@ -141,9 +144,9 @@ pub(crate) fn records_at<'a>(
     ensures none { result ≡ None → has_records_at file block segments.now ≡ false }
 {
     for segment in segments {
-        if let Some(contents) = segment.contents() {
-            if segment.file == file && contents.block == block {
-                return Some(contents.records.copy());
+        if let Some(resolvable) = segment.resolvable() {
+            if segment.file == file && resolvable.block == block {
+                return Some(resolvable.records.copy());
             }
         }
     }

@@ -12,7 +12,7 @@ ghost use Rattle.ps_resolve.specs.Faults.{code_fault, information_fault, librari
 ghost use Rattle.ps_resolve.specs.Views.{segment_of, IsPlaced, IsRead, AreRecordsOf, IsSound};
 
 use crate::linkage::SegmentPlace;
-use crate::reading::segment::{Contents, Segment, records_at};
+use crate::reading::segment::{Resolvable, Segment, records_at};
 use crate::reading::slots::{HOST_FILE, HostSlots, library_file};
 use crate::reading::units::unit_source;
 use arrayvec::ArrayVec;
@@ -31,7 +31,7 @@ impl<'a> Default for Segment<'a> {
             file: 0,
             index: 0,
             code: &[],
-            contents: None,
+            resolvable: None,
         }
     }
 }
@@ -79,17 +79,17 @@ pub(crate) fn known_records<'a>(
     records_at(known, file, block_behind(from, index))
 }
 
-/// What a segment is linked by, whose procedure tables are read before its link information, or the
-/// first fault of either. Neither is looked at where the segment is linked already, and link
-/// information that is known is not read again.
-fn read_contents<'a>(
+/// What only a segment has whose references are resolved: its procedure tables, which are read
+/// first, and its link information; or the first fault of either. Neither is looked at where the
+/// segment is linked already, and link information that is known is not read again.
+fn read_resolvable<'a>(
     from: &Dict<'a>,
     index: u8,
     code: &'a [u8],
     role: Role,
     place: SegmentPlace,
     known: Option<LinkInformation<'a>>,
-) -> Result<Option<Contents<'a>>, Fault>
+) -> Result<Option<Resolvable<'a>>, Fault>
     requires in_range { index < 16 }
     requires large { needs_linking_spec role ≡ true → 2 ≤ length code.now }
     requires known { IfSome known (AreRecordsOf from.now.order from.now.file
@@ -100,14 +100,14 @@ fn read_contents<'a>(
         (information_fault from.now.order from.now.file
         (entry_at from.now.order from.now.file index) place.file place.slot)
         else None) }
-    ensures records { IfOk result (λ contents. option_map_or (λ c. c.records) contents []
+    ensures records { IfOk result (λ resolvable. option_map_or (λ c. c.records) resolvable []
         ≡ records_of from.now.order from.now.file
         (entry_at from.now.order from.now.file index) (needs_linking_spec role)) }
-    ensures linked { IfOk result (λ contents. is_some contents ≡ needs_linking_spec role) }
-    ensures tables { IfOk result (λ contents. option_map (λ c. c.procedures) contents
+    ensures linked { IfOk result (λ resolvable. is_some resolvable ≡ needs_linking_spec role) }
+    ensures tables { IfOk result (λ resolvable. option_map (λ c. c.procedures) resolvable
         ≡ (if needs_linking_spec role
         then Some (record { order = from.now.order; code = code.now }) else None)) }
-    ensures block { IfOk result (λ contents. IfSome contents (λ c.
+    ensures block { IfOk result (λ resolvable. IfSome resolvable (λ c.
         information_of from.now.file (entry_at from.now.order from.now.file index)
         ≡ drop (512 * c.block) from.now.file)) }
 {
@@ -121,7 +121,7 @@ fn read_contents<'a>(
                 Some(records) => records,
                 None => read_information(from.order(), from.after(index), place)?,
             };
-            Ok(Some(Contents {
+            Ok(Some(Resolvable {
                 procedures,
                 block: block_behind(from, index),
                 records,
@@ -162,7 +162,7 @@ pub(crate) fn read_segment<'a>(
     match from.code(index) {
         Err(reason) => Err(Fault::in_slot(place.file, place.slot, reason)),
         Ok(code) => {
-            let contents = read_contents(from, index, code, role, place, known)?;
+            let resolvable = read_resolvable(from, index, code, role, place, known)?;
             Ok(Segment {
                 slot: place.slot,
                 name,
@@ -171,7 +171,7 @@ pub(crate) fn read_segment<'a>(
                 file: place.file,
                 index,
                 code,
-                contents,
+                resolvable,
             })
         }
     }

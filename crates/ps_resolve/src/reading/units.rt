@@ -134,7 +134,8 @@ pub(crate) fn unit_source<'a>(
     ensures source { IfOk result (λ u. unit_source_spec order name (contents libs.now)
         ≡ Some (library_file_spec u.library, u.index)) }
     ensures file { (host : List ℕ)
-        → IfOk result (λ u. file_at host (contents libs.now) (library_file_spec u.library) ≡ u.dict.file) }
+        → IfOk result (λ u. file_at host (contents libs.now) (library_file_spec u.library)
+        ≡ u.dict.file) }
     ensures order { IfOk result (λ u. u.dict.order ≡ order) }
     ensures unit { IfOk result (λ u. (entry_at order u.dict.file u.index).kind ≡ 3) }
     ensures in_range { IfOk result (λ u. u.index < 16) }

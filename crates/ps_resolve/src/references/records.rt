@@ -11,7 +11,7 @@ ghost use Rattle.ps_resolve.specs.Views.{segment_of, has_records_at, HasRecordsA
 
 use crate::definitions::DefKind;
 use crate::linkage::{RecordPlace, Stop};
-use crate::reading::segment::{Contents, Segment};
+use crate::reading::segment::{Resolvable, Segment};
 use crate::references::names::{Linking, Names};
 use crate::references::{ReferenceEdits, Target};
 use ps_linkinfo::{Body, LinkInformation, LinkRecord};
@@ -93,12 +93,12 @@ pub(crate) fn add_records<'a, A: Allocator + Copy>(
     link: &Linking<A>,
     earlier: &[Segment<'a>],
     segment: &Segment<'a>,
-    contents: &Contents<'a>,
+    resolvable: &Resolvable<'a>,
     free: u16,
     edits: Vec<Edit, A>,
 ) -> Result<(Vec<Edit, A>, u16), Stop>
-    requires records { contents.now.records ≡ segment.now.records }
-    requires tables { Some contents.now.procedures ≡ segment.now.tables }
+    requires records { resolvable.now.records ≡ segment.now.records }
+    requires tables { Some resolvable.now.procedures ≡ segment.now.tables }
     requires linked { needs_linking segment.now.role ≡ true }
     requires next { IsNext link.now.order link.now.names.now link.now.size
         earlier.now segment.now free }
@@ -110,7 +110,7 @@ pub(crate) fn add_records<'a, A: Allocator + Copy>(
     ensures stop { IfErr result (IsStop ⊤
         (segment_fault link.now.order link.now.names.now free (segment_of segment.now))) }
 {
-    let records = &contents.records;
+    let records = &resolvable.records;
     if asks_for_nothing(records) {
         return Ok((edits, free));
     }
@@ -118,8 +118,8 @@ pub(crate) fn add_records<'a, A: Allocator + Copy>(
         return Ok((edits, free));
     }
     let mut found = ReferenceEdits {
-        procedures: contents.procedures.copy(),
-        taken: contents.procedures.reserved_places(),
+        procedures: resolvable.procedures.copy(),
+        taken: resolvable.procedures.reserved_places(),
         edits,
     };
     let mut next = free;

@@ -61,9 +61,9 @@ returns-then-is_resolved g c =
 
 pub loop-rec-init : goal.loop-rec-init
 loop-rec-init g c =
-    let contents = c.args.contents.now in
+    let resolvable = c.args.resolvable.now in
     rw c.copy.ensures (record {
-      links = (0, c.args.segment.now.records, c.into_iter-rec-iterator.ensures.into_iter_gives ∙ c.records-rec-items.ensures ∙ ap (numbered_records 0) c.requires.records, record { listed = refl; first = ([], first_taken contents.procedures c.reserved_places.result c.reserved_places.ensures, refl); words = refl });
+      links = (0, c.args.segment.now.records, c.into_iter-rec-iterator.ensures.into_iter_gives ∙ c.records-rec-items.ensures ∙ ap (numbered_records 0) c.requires.records, record { listed = refl; first = ([], first_taken resolvable.procedures c.reserved_places.result c.reserved_places.ensures, refl); words = refl });
       procedures = same_Some _ _ (c.requires.tables ∙ c.requires.next.sound.kept c.requires.linked);
     })
 
