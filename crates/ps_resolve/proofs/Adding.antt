@@ -82,9 +82,6 @@ kept_known units queue g h e = rw e (sym (take_all 10 queue h))
 pub kept_full : (units : List (List ℕ × ℕ)) (queue : List UnitReference) (g : UnitReference) → length queue ≡ 10 → is_already_known units queue g.name ≡ false → queue ≡ take 10 (requested_from units queue (g ∷ []))
 kept_full units queue g h e = rw e (sym (take-append-le 10 queue (g ∷ []) (omega arith) ∙ take_all 10 queue (omega arith)))
 
-pub kept_new : (units : List (List ℕ × ℕ)) (queue : List UnitReference) (g : UnitReference) → length queue < 10 → is_already_known units queue g.name ≡ false → queue ++ g ∷ [] ≡ take 10 (requested_from units queue (g ∷ []))
-kept_new units queue g h e = rw e (sym (take_all 10 (queue ++ g ∷ []) (omega (arith, length-append queue (g ∷ [])))))
-
 -- one record more
 pub references-cons : (file slot rec : ℕ) (r : Record) (rs : List Record) → unit_references file slot rec (r ∷ rs) ≡ unit_references file slot rec (r ∷ []) ++ unit_references file slot (rec + 1) rs
 references-cons file slot rec r rs = by (is_unit_reference r.body) refl

@@ -1,5 +1,5 @@
 -- The edits of one segment link it.
-use Rattle.std.proofs.Common.{◌≡◌, ℕ, ◌+◌, ◌-◌, ◌++◌, List, [], ◌∷◌, length, Bool, true, false, Option, Some, None, Result, Ok, Err, refl, sym, ◌∙◌, ap, subst, arith}
+use Rattle.std.proofs.Common.{◌≡◌, ℕ, ◌+◌, ◌-◌, ◌++◌, List, [], ◌∷◌, length, Bool, true, false, Option, None, refl, sym, ◌∙◌, ap, subst, arith}
 use Rattle.std.specs.Prelude.{IsPermutation, if◌then◌else◌}
 use Rattle.std.specs.Option.{option_map, option_to_list}
 use Rattle.std.proofs.lemmas.List.Sorted.{IsPermutation-refl, IsPermutation-sym}
@@ -8,8 +8,7 @@ use Rattle.ps_words.specs.Edits.{AreApart, AreEdits, IsInside, patched_byte}
 use Rattle.ps_words.specs.declared.order.Order.{Order}
 use Rattle.ps_words.specs.declared.edit.Edit.{Edit}
 use Rattle.ps_words.specs.declared.edit.Edit.TheVariants.{Byte}
-use Rattle.ps_words.specs.declared.fault.Reason.{Reason}
-use Rattle.ps_codefile.specs.Procedures.{is_reserved, ProcedureTables, unless}
+use Rattle.ps_codefile.specs.Procedures.{is_reserved}
 use Rattle.ps_codefile.specs.Roles.{needs_linking, is_host}
 use Rattle.ps_linkinfo.specs.declared.record.LinkRecord.{LinkRecord as Record}
 use Rattle.ps_resolve.specs.Edits.{data_size_edit}
@@ -21,14 +20,6 @@ use Rattle.ps_resolve.specs.Privates.{private_words}
 use Rattle.ps_resolve.specs.References.{Known, records_edits, records_fault}
 use Rattle.ps_resolve.specs.Views.{segment_of}
 use Rattle.ps_resolve.specs.Views.{SegmentView}
-
-pub unless_ok : (o : Option Reason) (x y : ProcedureTables) → ◌≡◌ {A = Result ProcedureTables Reason} (Ok y) (unless o x) → y ≡ x
-unless_ok None x y h = cc
-unless_ok (Some why) x y h = cc
-
-pub unless_err : (o : Option Reason) (x : ProcedureTables) (why : Reason) → ◌≡◌ {A = Result ProcedureTables Reason} (Err why) (unless o x) → o ≡ None → ⊥
-unless_err None x why h k = cc
-unless_err (Some e) x why h k = cc
 
 if_true : {X : Type 0} (b : Bool) (x y : X) → b ≡ true → (if b then x else y) ≡ x
 if_true true x y h = refl

@@ -1,10 +1,11 @@
-ghost use Rattle.std.specs.Prelude.{◌≡◌, ◌<◌, List, ℕ, map, Some, None, IfOk, IfErr, IfSome, All};
+ghost use Rattle.std.specs.Prelude.{◌≡◌, ◌<◌, ◌++◌, [], List, ℕ, map, Some, None, IfOk, IfErr, IfSome, All};
 ghost use Rattle.ps_words.specs.declared.order.Order.{Order as ByteOrder};
 ghost use Rattle.std.specs.List.{find};
-ghost use Rattle.std.specs.Option.{option_map, option_or};
+ghost use Rattle.std.specs.Option.{option_map, option_or, option_to_list};
+ghost use Rattle.arrayvec.specs.ArrayVec.{array_vec_len};
 ghost use Rattle.std.specs.Result.{result_err};
 ghost use Rattle.ps_resolve.specs.Sources.{order_of, contents};
-ghost use Rattle.ps_resolve.specs.Added.{segments, slot_name as slot_name_spec, slot_names as slot_names_spec};
+ghost use Rattle.ps_resolve.specs.Added.{segments as all_segments, slot_name as slot_name_spec, slot_names as slot_names_spec};
 ghost use Rattle.ps_resolve.specs.Faults.{slots_fault as slots_fault_spec, no_host_fault as no_host_fault_spec, libraries_fault as libraries_fault_spec};
 ghost use Rattle.ps_resolve.specs.AllFaults.{reading_fault, reading_rest};
 ghost use Rattle.ps_resolve.specs.Views.{segment_of, IsRead, is_in_slot, segment_in_slot, segments_in_slots};
@@ -22,7 +23,7 @@ use crate::reading::host::{HostSegment, host_of};
 use crate::reading::libraries::libraries_fault;
 use crate::reading::segment::Segment;
 use crate::reading::slots::{HOST_FILE, HostSlots, is_empty, no_host_fault, slots_fault};
-use crate::reading::sources::{add, read_slots};
+use crate::reading::sources::read_slots;
 use arrayvec::ArrayVec;
 use ps_codefile::Dict;
 use ps_codefile::dictionary_layout::SLOTS;
@@ -30,35 +31,36 @@ use ps_words::{Fault, Name, Order, Reason};
 use std::marker::Model;
 
 /// The segment that is in a slot.
-fn segment_in<'a>(segments: &[Segment<'a>], slot: u8) -> Option<Segment<'a>>
-    ensures found { option_map segment_of result
+fn segment_in<'s, 'a>(segments: &'s [Segment<'a>], slot: u8) -> Option<&'s Segment<'a>>
+    ensures found { option_map (λ s. segment_of s.now) result
         ≡ find (is_in_slot slot) (map segment_of segments.now) }
     ensures read { (order : ByteOrder) (host : List ℕ) (libs : List (List ℕ))
-        → All (IsRead order host libs) segments.now → IfSome result (IsRead order host libs) }
+        → All (IsRead order host libs) segments.now
+        → IfSome result (λ s. IsRead order host libs s.now) }
 {
     for segment in segments {
         if segment.slot == slot {
-            return Some(segment.copy());
+            return Some(segment);
         }
     }
     None
 }
 
 /// The slot's own segment, or in an empty slot the one that was added there.
-fn segment_of_slot<'a>(
+fn segment_of_slot<'s, 'a>(
     host: &HostSlots<'a>,
-    own: &[Segment<'a>],
-    added: &[Segment<'a>],
+    own: &'s [Segment<'a>],
+    added: &'s [Segment<'a>],
     slot: u8,
-) -> Option<Segment<'a>>
+) -> Option<&'s Segment<'a>>
     requires { slot < 16 }
-    ensures found { option_map segment_of result
+    ensures found { option_map (λ s. segment_of s.now) result
         ≡ segment_in_slot host.now.order host.now.file (map segment_of own.now)
         (map segment_of added.now) slot }
     ensures read { (libs : List (List ℕ))
         → All (IsRead host.now.order host.now.file libs) own.now
         → All (IsRead host.now.order host.now.file libs) added.now
-        → IfSome result (IsRead host.now.order host.now.file libs) }
+        → IfSome result (λ s. IsRead host.now.order host.now.file libs s.now) }
 {
     if let Some(segment) = segment_in(own, slot) {
         return Some(segment);
@@ -69,25 +71,36 @@ fn segment_of_slot<'a>(
     None
 }
 
-/// The segments of all slots, by slot.
-fn by_slot<'a>(
+/// Adds a copy of the segment, where there is one.
+fn add_copy<'a>(segments: &mut ArrayVec<Segment<'a>, 16>, segment: Option<&Segment<'a>>)
+    requires { array_vec_len segments.old < 16 }
+    ensures { segments.new.items
+        ≡ segments.old.items ++ option_to_list (option_map (λ s. s.now) segment.entry) }
+{
+    if let Some(segment) = segment {
+        segments.push(segment.copy());
+    }
+}
+
+/// Fills the table with copies of the segments of all slots, by slot.
+fn by_slot<'s, 'a>(
     host: &HostSlots<'a>,
-    own: &[Segment<'a>],
-    added: &[Segment<'a>],
-) -> ArrayVec<Segment<'a>, 16>
-    ensures segments { map segment_of result.items
+    own: &'s [Segment<'a>],
+    added: &'s [Segment<'a>],
+    segments: &mut ArrayVec<Segment<'a>, 16>,
+)
+    requires { segments.old.items ≡ [] }
+    ensures segments { map segment_of segments.new.items
         ≡ segments_in_slots host.now.order host.now.file (map segment_of own.now)
         (map segment_of added.now) }
     ensures read { (libs : List (List ℕ))
         → All (IsRead host.now.order host.now.file libs) own.now
         → All (IsRead host.now.order host.now.file libs) added.now
-        → All (IsRead host.now.order host.now.file libs) result.items }
+        → All (IsRead host.now.order host.now.file libs) segments.new.items }
 {
-    let mut segments = ArrayVec::new();
     for slot in 0..SLOTS {
-        add(&mut segments, segment_of_slot(host, own, added, slot));
+        add_copy(segments, segment_of_slot(host, own, added, slot));
     }
-    segments
 }
 
 /// The name of a slot in the linked file.
@@ -112,24 +125,35 @@ fn slot_names(host: &HostSlots, segments: &[Segment]) -> [Name; 16]
     names
 }
 
-/// The segments of a host whose slots and libraries have no fault of their own, or the first fault
-/// of their sources.
+/// Fills the table with the segments of a host whose slots and libraries have no fault of their own,
+/// or answers the first fault of their sources.
 fn read_all<'a>(
     host: &HostSlots<'a>,
     libs: &'a [&'a [u8]],
-) -> Result<ArrayVec<Segment<'a>, 16>, Fault>
-    requires { libraries_fault_spec host.now.order (contents libs.now) ≡ None }
+    segments: &mut ArrayVec<Segment<'a>, 16>,
+) -> Result<(), Fault>
+    requires empty { segments.old.items ≡ [] }
+    requires libraries { libraries_fault_spec host.now.order (contents libs.now) ≡ None }
     ensures fault { result_err result ≡ reading_rest host.now.order host.now.file
         (contents libs.now) }
-    ensures segments { IfOk result (λ s. map segment_of s.items
-        ≡ segments host.now.order host.now.file (contents libs.now)) }
-    ensures read { IfOk result (λ s. All
-        (IsRead host.now.order host.now.file (contents libs.now)) s.items) }
+    ensures segments { IfOk result (λ _. map segment_of segments.new.items
+        ≡ all_segments host.now.order host.now.file (contents libs.now)) }
+    ensures read { IfOk result (λ _. All
+        (IsRead host.now.order host.now.file (contents libs.now)) segments.new.items) }
 {
-    let own = read_slots(host, libs)?;
+    let mut own = ArrayVec::new();
+    read_slots(host, libs, &mut own)?;
     let slots = empty_slots(host);
-    let added = add_units(host.order(), libs, own.as_slice(), slots.as_slice())?;
-    Ok(by_slot(host, own.as_slice(), added.as_slice()))
+    let mut added = ArrayVec::new();
+    add_units(
+        host.order(),
+        libs,
+        own.as_slice(),
+        slots.as_slice(),
+        &mut added,
+    )?;
+    by_slot(host, own.as_slice(), added.as_slice(), segments);
+    Ok(())
 }
 
 /// The first fault of the slots of the host, of its want of a host segment, or of the libraries.
@@ -147,24 +171,26 @@ fn files_fault(host: &HostSlots, libs: &[&[u8]]) -> Option<Fault>
     libraries_fault(host.order(), libs)
 }
 
-/// The segments of a host that is read in its own byte order, or the first fault after that of its
-/// order.
+/// Fills the table with the segments of a host that is read in its own byte order, or answers the
+/// first fault after that of its order.
 fn read_sources<'a>(
     host: &HostSlots<'a>,
     libs: &'a [&'a [u8]],
-) -> Result<ArrayVec<Segment<'a>, 16>, Fault>
+    segments: &mut ArrayVec<Segment<'a>, 16>,
+) -> Result<(), Fault>
+    requires { segments.old.items ≡ [] }
     ensures fault { result_err result ≡ option_or (slots_fault_spec host.now.order host.now.file)
         (option_or (no_host_fault_spec host.now.order host.now.file)
         (option_or (libraries_fault_spec host.now.order (contents libs.now))
         (reading_rest host.now.order host.now.file (contents libs.now)))) }
-    ensures segments { IfOk result (λ s. map segment_of s.items
-        ≡ segments host.now.order host.now.file (contents libs.now)) }
-    ensures read { IfOk result (λ s. All
-        (IsRead host.now.order host.now.file (contents libs.now)) s.items) }
+    ensures segments { IfOk result (λ _. map segment_of segments.new.items
+        ≡ all_segments host.now.order host.now.file (contents libs.now)) }
+    ensures read { IfOk result (λ _. All
+        (IsRead host.now.order host.now.file (contents libs.now)) segments.new.items) }
 {
     match files_fault(host, libs) {
         Some(fault) => Err(fault),
-        None => read_all(host, libs),
+        None => read_all(host, libs, segments),
     }
 }
 
@@ -198,7 +224,7 @@ pub(crate) fn read_segments<'a>(host: &'a [u8], libs: &'a [&'a [u8]]) -> Result<
     ensures order { IfOk result (λ r. r.order ≡ order_of host.now) }
     ensures host { IfOk result (λ r. r.host ≡ host.now) }
     ensures segments { IfOk result (λ r. map segment_of r.items
-        ≡ segments (order_of host.now) host.now (contents libs.now)) }
+        ≡ all_segments (order_of host.now) host.now (contents libs.now)) }
     ensures faultless { IfOk result (λ _. reading_fault host.now (contents libs.now) ≡ None) }
     ensures fault { IfErr result (λ f. reading_fault host.now (contents libs.now) ≡ Some f) }
 {
@@ -207,7 +233,8 @@ pub(crate) fn read_segments<'a>(host: &'a [u8], libs: &'a [&'a [u8]]) -> Result<
         Ok(dict) => {
             let slots = HostSlots::of(dict);
             let order = slots.order();
-            let items = read_sources(&slots, libs)?;
+            let mut items = ArrayVec::new();
+            read_sources(&slots, libs, &mut items)?;
             let all = items.as_slice();
             let names = slot_names(&slots, all);
             match host_of(order, all) {

@@ -285,7 +285,8 @@ fn requested_at(queue: &ArrayVec<UnitReference, 10>, k: usize) -> Option<UnitRef
     queue.get(k).copied()
 }
 
-/// The segments that are added to the host's own in these slots, in order, or their first fault.
+/// Fills the table with the segments that are added to the host's own in these slots, in order, or
+/// answers their first fault.
 ///
 /// Each name that a UNITREF record requests and that no unit of the host has gets the next empty
 /// slot from 7 to 15, and in it the unit of that name of the first library that has one. The names
@@ -295,23 +296,24 @@ pub(crate) fn add_units<'a>(
     libs: &'a [&'a [u8]],
     own: &[Segment<'a>],
     slots: &[u8],
-) -> Result<ArrayVec<Segment<'a>, 9>, Fault>
-    requires { MayBeAddedTo order (contents libs.now) own.now slots.now }
+    added: &mut ArrayVec<Segment<'a>, 9>,
+) -> Result<(), Fault>
+    requires empty { added.old.items ≡ [] }
+    requires room { MayBeAddedTo order (contents libs.now) own.now slots.now }
     ensures fault { (host : List ℕ)
         → result_err result ≡ (rounds_in order host (contents libs.now) (map segment_of own.now)
         slots.now).fault }
     ensures added { (host : List ℕ)
-        → IfOk result (λ added. map segment_of added.items
+        → IfOk result (λ _. map segment_of added.new.items
         ≡ (rounds_in order host (contents libs.now) (map segment_of own.now) slots.now).added) }
     ensures read { (host : List ℕ)
-        → IfOk result (λ added. All (IsRead order host (contents libs.now)) added.items) }
+        → IfOk result (λ _. All (IsRead order host (contents libs.now)) added.new.items) }
 {
     let units = UnitSlots::of(own);
     let mut queue = requested_by(&units, own);
-    let mut added: ArrayVec<Segment<'a>, MAX_ADDED> = ArrayVec::new();
     for slot in slots {
         match requested_at(&queue, added.len()) {
-            None => return Ok(added),
+            None => return Ok(()),
             Some(requested) => {
                 let segment = read_added(order, libs, &requested, *slot, added.as_slice())?;
                 enqueue_segment(&units, &mut queue, &segment);
@@ -321,7 +323,7 @@ pub(crate) fn add_units<'a>(
     }
     let placed = added.len();
     match requested_at(&queue, placed) {
-        None => Ok(added),
+        None => Ok(()),
         Some(requested) => Err(no_slot(order, libs, &requested)),
     }
 }

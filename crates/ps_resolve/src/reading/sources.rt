@@ -231,23 +231,25 @@ pub(crate) fn add<'a>(segments: &mut ArrayVec<Segment<'a>, 16>, segment: Option<
     }
 }
 
-/// The segments of the host's own slots by slot ascending, or the first fault of a slot's source.
+/// Fills the table with the segments of the host's own slots by slot ascending, or answers the first
+/// fault of a slot's source.
 pub(crate) fn read_slots<'a>(
     host: &HostSlots<'a>,
     libs: &'a [&'a [u8]],
-) -> Result<ArrayVec<Segment<'a>, 16>, Fault>
-    requires { libraries_fault_spec host.now.order (contents libs.now) ≡ None }
+    segments: &mut ArrayVec<Segment<'a>, 16>,
+) -> Result<(), Fault>
+    requires empty { segments.old.items ≡ [] }
+    requires libraries { libraries_fault_spec host.now.order (contents libs.now) ≡ None }
     ensures fault { result_err result ≡ sources_fault host.now.order host.now.file
         (contents libs.now) }
-    ensures segments { IfOk result (λ s. map segment_of s.items
+    ensures segments { IfOk result (λ _. map segment_of segments.new.items
         ≡ own_segments host.now.order host.now.file (contents libs.now)) }
-    ensures read { IfOk result (λ s. All
-        (IsRead host.now.order host.now.file (contents libs.now)) s.items) }
+    ensures read { IfOk result (λ _. All
+        (IsRead host.now.order host.now.file (contents libs.now)) segments.new.items) }
 {
-    let mut segments = ArrayVec::new();
     for slot in 0..SLOTS {
         let segment = read_slot(host, libs, slot, segments.as_slice())?;
-        add(&mut segments, segment);
+        add(segments, segment);
     }
-    Ok(segments)
+    Ok(())
 }

@@ -16,11 +16,14 @@ pub add_units-requires : goal.add_units-requires
 add_units-requires c =
     let host = c.args.host.now in
     record {
-      libraries = rw c.order.ensures c.requires;
-      alike = rw c.as_slice.ensures.value (read_alike host.order host.file (files c.args.libs.now) c.in_ok-own.own.items c.in_ok-own.ensures.read);
-      most = c.as_slice.ensures.fits;
-      few = c.as_slice-2.ensures.fits;
-      in_range = rw c.as_slice-2.ensures.value c.empty_slots-slots.ensures.in_range;
+      empty = c.new-added.ensures;
+      room = record {
+        libraries = rw c.order.ensures c.requires.libraries;
+        alike = rw c.as_slice.ensures.value (read_alike host.order host.file (files c.args.libs.now) c.read_slots.new.segments.items c.in_ok-read_slots.ensures.read);
+        most = c.as_slice.ensures.fits;
+        few = c.as_slice-2.ensures.fits;
+        in_range = rw c.as_slice-2.ensures.value c.empty_slots-slots.ensures.in_range;
+      };
     }
 
 -- the rounds are those of the host's own segments, with its empty slots
@@ -29,36 +32,36 @@ unfolding rounds
 rounds_are o order host libs own slots a b d =
     ap (λ (q : Order). rounds_in q host libs own slots) a ∙ ap (λ (segs : List Segment). rounds_in order host libs segs slots) b ∙ ap (rounds_in order host libs (own_segments order host libs)) d
 
-pub returns-in_err-own-clause-fault : goal.returns-in_err-own-clause-fault
-returns-in_err-own-clause-fault c =
+pub returns-in_err-read_slots-clause-fault : goal.returns-in_err-read_slots-clause-fault
+returns-in_err-read_slots-clause-fault c =
     let host = c.args.host.now in
     let libs = files c.args.libs.now in
     let p = err_from_is_err_and c.from_residual.result c.from_residual.ensures.1 in
-    rw (p.1, p.2) (sym (keep (sources_fault host.order host.file libs) (added_fault host.order host.file libs) c.in_err-own.field-0.0 (sym c.in_err-own.ensures.fault)))
+    rw (p.1, p.2) (sym (keep (sources_fault host.order host.file libs) (added_fault host.order host.file libs) c.in_err-read_slots.field-0.0 (sym c.in_err-read_slots.ensures.fault)))
 
-pub returns-in_err-added-clause-fault : goal.returns-in_err-added-clause-fault
-returns-in_err-added-clause-fault c =
+pub returns-in_err-add_units-clause-fault : goal.returns-in_err-add_units-clause-fault
+returns-in_err-add_units-clause-fault c =
     let host = c.args.host.now in
     let libs = files c.args.libs.now in
-    let same = rounds_are c.order.result host.order host.file libs _ _ c.order.ensures (ap (map segment_of) c.as_slice.ensures.value ∙ c.in_ok-own.ensures.segments) (c.as_slice-2.ensures.value ∙ c.empty_slots-slots.ensures.slots) in
-    let p = err_from_is_err_and c.from_residual-in_err-added.result c.from_residual-in_err-added.ensures.1 in
-    rw (p.1, p.2) (sym (skip (sources_fault host.order host.file libs) (added_fault host.order host.file libs) (sym c.in_ok-own.ensures.fault)
-    ∙ (sym (ap (λ (r : Rounds). r.fault) same) ∙ sym (c.in_err-added.ensures.fault host.file))))
+    let same = rounds_are c.order.result host.order host.file libs _ _ c.order.ensures (ap (map segment_of) c.as_slice.ensures.value ∙ c.in_ok-read_slots.ensures.segments) (c.as_slice-2.ensures.value ∙ c.empty_slots-slots.ensures.slots) in
+    let p = err_from_is_err_and c.from_residual-in_err-add_units.result c.from_residual-in_err-add_units.ensures.1 in
+    rw (p.1, p.2) (sym (skip (sources_fault host.order host.file libs) (added_fault host.order host.file libs) (sym c.in_ok-read_slots.ensures.fault)
+    ∙ (sym (ap (λ (r : Rounds). r.fault) same) ∙ sym (c.in_err-add_units.ensures.fault host.file))))
 
 pub returns : goal.returns
 returns c =
     let host = c.args.host.now in
     let libs = files c.args.libs.now in
-    let same = rounds_are c.order.result host.order host.file libs _ _ c.order.ensures (ap (map segment_of) c.as_slice.ensures.value ∙ c.in_ok-own.ensures.segments) (c.as_slice-2.ensures.value ∙ c.empty_slots-slots.ensures.slots) in
-    let again : map segment_of c.as_slice-3.result.now ≡ own_segments host.order host.file libs = ap (map segment_of) c.as_slice-3.ensures.value ∙ c.in_ok-own.ensures.segments in
+    let same = rounds_are c.order.result host.order host.file libs _ _ c.order.ensures (ap (map segment_of) c.as_slice.ensures.value ∙ c.in_ok-read_slots.ensures.segments) (c.as_slice-2.ensures.value ∙ c.empty_slots-slots.ensures.slots) in
+    let again : map segment_of c.as_slice-3.result.now ≡ own_segments host.order host.file libs = ap (map segment_of) c.as_slice-3.ensures.value ∙ c.in_ok-read_slots.ensures.segments in
     let others : map segment_of c.as_slice-4.result.now ≡ added_segments host.order host.file libs =
-    ap (map segment_of) c.as_slice-4.ensures.value ∙ (c.in_ok-added.ensures.added host.file ∙ ap (λ (r : Rounds). r.added) same) in
-    let read = subst (λ (o : Order). All (IsRead o host.file libs) c.in_ok-added.added.items) c.order.ensures (c.in_ok-added.ensures.read host.file) in
+    ap (map segment_of) c.as_slice-4.ensures.value ∙ (c.in_ok-add_units.ensures.added host.file ∙ ap (λ (r : Rounds). r.added) same) in
+    let read = subst (λ (o : Order). All (IsRead o host.file libs) c.add_units.new.added.items) c.order.ensures (c.in_ok-add_units.ensures.read host.file) in
     record {
-      fault = sym (skip (sources_fault host.order host.file libs) (added_fault host.order host.file libs) (sym c.in_ok-own.ensures.fault)
-          ∙ (sym (ap (λ (r : Rounds). r.fault) same) ∙ sym (c.in_ok-added.ensures.fault host.file)));
+      fault = sym (skip (sources_fault host.order host.file libs) (added_fault host.order host.file libs) (sym c.in_ok-read_slots.ensures.fault)
+          ∙ (sym (ap (λ (r : Rounds). r.fault) same) ∙ sym (c.in_ok-add_units.ensures.fault host.file)));
       segments = c.by_slot.ensures.segments
           ∙ (ap (λ (segs : List Segment). segments_in_slots host.order host.file segs (map segment_of c.as_slice-4.result.now)) again
           ∙ (ap (segments_in_slots host.order host.file (own_segments host.order host.file libs)) others ∙ in_slots_are host.order host.file libs));
-      read = c.by_slot.ensures.read libs (rw c.as_slice-3.ensures.value c.in_ok-own.ensures.read) (rw c.as_slice-4.ensures.value read);
+      read = c.by_slot.ensures.read libs (rw c.as_slice-3.ensures.value c.in_ok-read_slots.ensures.read) (rw c.as_slice-4.ensures.value read);
     }

@@ -21,10 +21,10 @@ pub returns-in-Err-clause-fault : goal.returns-in-Err-clause-fault
 returns-in-Err-clause-fault c =
     host_refused c.args.host.now (files c.args.libs.now) c.in-Err.reason (sym c.read.ensures ∙ c.in-Err.is) ∙ ap (λ (f : Fault). Some f) (sym c.in_file.ensures)
 
-pub returns-in_err-items-in-Ok-clause-fault : goal.returns-in_err-items-in-Ok-clause-fault
-returns-in_err-items-in-Ok-clause-fault c =
+pub returns-in_err-read_sources-in-Ok-clause-fault : goal.returns-in_err-read_sources-in-Ok-clause-fault
+returns-in_err-read_sources-in-Ok-clause-fault c =
     let p = err_from_is_err_and c.from_residual.result c.from_residual.ensures.1 in
-    rw (p.1, p.2) (host_read c.args.host.now (files c.args.libs.now) c.of-slots.result (sym c.read.ensures ∙ (c.in-Ok.is ∙ ap Ok (sym c.of-slots.ensures))) ∙ sym c.in_err-items-in-Ok.ensures.fault)
+    rw (p.1, p.2) (host_read c.args.host.now (files c.args.libs.now) c.of-slots.result (sym c.read.ensures ∙ (c.in-Ok.is ∙ ap Ok (sym c.of-slots.ensures))) ∙ sym c.in_err-read_sources-in-Ok.ensures.fault)
 
 -- the files have no fault
 none_of : (order : Order) (host : List ℕ) (libs : List (List ℕ)) → rest_of order host libs ≡ None → (slots_fault order host ≡ None) × (no_host_fault order host ≡ None) × (sources_fault order host libs ≡ None)
@@ -38,14 +38,14 @@ none_of order host libs h =
 pub host_of-requires : goal.host_of-requires
 host_of-requires c =
     let dict = c.of-slots.result in
-    let read = c.in_ok-items-in-Ok in
-    rw (c.as_slice-all.ensures.value, c.order-order.ensures) (all_sound dict.order dict.file (files c.args.libs.now) read.items.items read.ensures.read)
+    let read = c.in_ok-read_sources-in-Ok in
+    rw (c.as_slice-all.ensures.value, c.order-order.ensures) (all_sound dict.order dict.file (files c.args.libs.now) c.read_sources.new.segments.items read.ensures.read)
 
 pub returns-in-None-clause-fault : goal.returns-in-None-clause-fault
 returns-in-None-clause-fault c =
     let dict = c.of-slots.result in
     let libs = files c.args.libs.now in
-    let read = c.in_ok-items-in-Ok in
+    let read = c.in_ok-read_sources-in-Ok in
     let none = none_of dict.order dict.file libs (sym read.ensures.fault) in
     let has = host_there dict.order dict.file libs none.1 none.2 in
     let lacks = c.in-None.ensures.found ∙ ap (λ (ss : List SegmentView). host_of (map segment_of ss)) c.as_slice-all.ensures.value ∙ ap host_of read.ensures.segments in
@@ -55,7 +55,7 @@ returns-in-None-clause-fault c =
 
 pub returns-in-Some-clause-faultless : goal.returns-in-Some-clause-faultless
 returns-in-Some-clause-faultless c =
-    host_read c.args.host.now (files c.args.libs.now) c.of-slots.result (sym c.read.ensures ∙ (c.in-Ok.is ∙ ap Ok (sym c.of-slots.ensures))) ∙ sym c.in_ok-items-in-Ok.ensures.fault
+    host_read c.args.host.now (files c.args.libs.now) c.of-slots.result (sym c.read.ensures ∙ (c.in-Ok.is ∙ ap Ok (sym c.of-slots.ensures))) ∙ sym c.in_ok-read_sources-in-Ok.ensures.fault
 
 pub returns-in-Some-clause-order : goal.returns-in-Some-clause-order
 returns-in-Some-clause-order c =
@@ -64,14 +64,14 @@ returns-in-Some-clause-order c =
 pub returns-in-Some-clause-segments : goal.returns-in-Some-clause-segments
 returns-in-Some-clause-segments c =
     let is = host_is c.args.host.now c.of-slots.result (sym c.read.ensures ∙ (c.in-Ok.is ∙ ap Ok (sym c.of-slots.ensures))) in
-    c.in_ok-items-in-Ok.ensures.segments ∙ ap (λ (o : OpenedFile). segments o.order o.file (files c.args.libs.now)) is
+    c.in_ok-read_sources-in-Ok.ensures.segments ∙ ap (λ (o : OpenedFile). segments o.order o.file (files c.args.libs.now)) is
 
 pub invariant_of-result : goal.invariant_of-result
 invariant_of-result c =
     let dict = c.of-slots.result in
     let libs = files c.args.libs.now in
-    let read = c.in_ok-items-in-Ok in
-    let items : List SegmentView = read.items.items in
+    let read = c.in_ok-read_sources-in-Ok in
+    let items : List SegmentView = c.read_sources.new.segments.items in
     let is = host_is c.args.host.now dict (sym c.read.ensures ∙ (c.in-Ok.is ∙ ap Ok (sym c.of-slots.ensures))) in
     let none = none_of dict.order dict.file libs (sym read.ensures.fault) in
     record {

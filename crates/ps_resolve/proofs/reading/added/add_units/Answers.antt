@@ -19,7 +19,7 @@ loop-slot-init c =
     let own : List Segment = map segment_of c.args.own.now in
     let queue = requested_from (units_of own) [] (all_unit_references own) in
     let is : c.requested_by-queue.result.items ≡ take 10 queue = c.requested_by-queue.ensures ∙ ap (λ (u : List (List ℕ × ℕ)). take 10 (requested_from u [] (all_unit_references own))) c.of-units.ensures in
-    rw c.new-added.ensures (record { rounds = (queue, is, λ host. refl); count = refl; read = λ host. All-nil (IsRead c.args.order host (files c.args.libs.now)) })
+    rw c.requires.empty (record { rounds = (queue, is, λ host. refl); count = refl; read = λ host. All-nil (IsRead c.args.order host (files c.args.libs.now)) })
 
 pub read_added-requires-clause-read : goal.read_added-requires-clause-read
 read_added-requires-clause-read c = λ host. rw c.as_slice.ensures.value (c.loop-slot.invariant.read host)

@@ -11,7 +11,7 @@ use Rattle.ps_resolve.proofs.reading.sources.read_slots.Goals as goal
 
 pub loop-slot-init : goal.loop-slot-init
 unfolding own_segments sources_fault
-loop-slot-init c = rw c.new-segments.ensures (record { first = refl; all = refl; read = All-nil _; few = omega arith })
+loop-slot-init c = rw c.requires.empty (record { first = refl; all = refl; read = All-nil _; few = omega arith })
 
 pub read_slot-requires-clause-read : goal.read_slot-requires-clause-read
 read_slot-requires-clause-read c = rw c.as_slice.ensures.value c.loop-slot.invariant.read
