@@ -151,7 +151,9 @@ impl<A: Allocator> ReferenceEdits<'_, A> {
         stored_at(code, target, x)
     }
 
-    /// Adds the edits of the record that is there, or finds the first fault of its references.
+    /// Adds the edits of the record that is there, or finds the first fault of its references. A
+    /// function by itself, so that its loop has all registers.
+    #[inline(never)]
     pub(crate) fn add_record(
         &mut self,
         place: RecordPlace,
