@@ -125,8 +125,8 @@ fn slot_names(host: &HostSlots, segments: &[Segment]) -> [Name; 16]
     names
 }
 
-/// Fills the table with the segments of a host whose slots and libraries have no fault of their own,
-/// or answers the first fault of their sources.
+/// Fills the table with the segments of a host whose slots and libraries have no fault of their
+/// own, or answers the first fault of their sources.
 fn read_all<'a>(
     host: &HostSlots<'a>,
     libs: &'a [&'a [u8]],

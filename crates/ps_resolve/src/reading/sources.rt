@@ -231,8 +231,8 @@ pub(crate) fn add<'a>(segments: &mut ArrayVec<Segment<'a>, 16>, segment: Option<
     }
 }
 
-/// Fills the table with the segments of the host's own slots by slot ascending, or answers the first
-/// fault of a slot's source.
+/// Fills the table with the segments of the host's own slots by slot ascending, or answers the
+/// first fault of a slot's source.
 pub(crate) fn read_slots<'a>(
     host: &HostSlots<'a>,
     libs: &'a [&'a [u8]],
