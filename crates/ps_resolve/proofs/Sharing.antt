@@ -14,7 +14,7 @@ use Rattle.ps_linkinfo.specs.declared.record.Body.TheVariants.{UnitRef, PublRef,
 use Rattle.ps_linkinfo.specs.declared.record.LinkRecord.{LinkRecord as Record}
 use Rattle.ps_codefile.specs.Roles.{needs_linking}
 use Rattle.ps_resolve.specs.Sources.{file_at}
-use Rattle.ps_resolve.specs.Views.{segment_of, IsPlaced, IsRead, IsSound, IsLike, AreAlike, HasRecordsAt}
+use Rattle.ps_resolve.specs.Views.{IsPlaced, IsRead, IsSound, IsLike, AreAlike, HasRecordsAt}
 use Rattle.ps_resolve.specs.Operands.{edit_of, operands, refs_fault}
 use Rattle.ps_resolve.specs.References.{Known, HasTarget, HaveTargets, target_in, target_of, words_taken, records_fault, records_edits}
 use Rattle.ps_resolve.specs.declared.references.Target.{Target}

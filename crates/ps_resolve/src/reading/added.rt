@@ -299,7 +299,7 @@ pub(crate) fn add_units<'a>(
     added: &mut ArrayVec<Segment<'a>, 9>,
 ) -> Result<(), Fault>
     requires empty { added.old.items ≡ [] }
-    requires room { MayBeAddedTo order (contents libs.now) own.now slots.now }
+    requires addable { MayBeAddedTo order (contents libs.now) own.now slots.now }
     ensures fault { (host : List ℕ)
         → result_err result ≡ (rounds_in order host (contents libs.now) (map segment_of own.now)
         slots.now).fault }

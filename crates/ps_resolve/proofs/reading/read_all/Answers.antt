@@ -17,7 +17,7 @@ add_units-requires c =
     let host = c.args.host.now in
     record {
       empty = c.new-added.ensures;
-      room = record {
+      addable = record {
         libraries = rw c.order.ensures c.requires.libraries;
         alike = rw c.as_slice.ensures.value (read_alike host.order host.file (files c.args.libs.now) c.read_slots.new.segments.items c.in_ok-read_slots.ensures.read);
         most = c.as_slice.ensures.fits;

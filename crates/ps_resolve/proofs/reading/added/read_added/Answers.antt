@@ -8,7 +8,7 @@ use Rattle.ps_words.specs.FaultPlaces.{in_slot}
 use Rattle.ps_words.specs.declared.fault.Fault.{Fault}
 use Rattle.ps_codefile.specs.Dictionary.{slots, kind_needs_linking}
 use Rattle.ps_resolve.specs.Added.{as_added}
-use Rattle.ps_resolve.specs.Views.{segment_of, IsSound, IsPlaced, IsRead}
+use Rattle.ps_resolve.specs.Views.{IsSound, IsPlaced, IsRead}
 use Rattle.ps_codefile.specs.declared.entry.Role.TheVariants.{Wanted}
 use Rattle.ps_resolve.specs.Sources.{is_named, segment_from, file_at}
 use Rattle.ps_resolve.specs.Faults.{entries_reason, code_fault}

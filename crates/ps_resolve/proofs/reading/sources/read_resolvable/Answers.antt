@@ -1,8 +1,8 @@
-use Rattle.std.proofs.Common.{◌≡◌, ◌∙◌, Bool, true, Option, Some, None, sym, ap}
+use Rattle.std.proofs.Common.{◌≡◌, ◌∙◌, true, Option, Some, None, sym, ap}
 use Rattle.std.specs.Prelude.{Result, Err}
 use Rattle.ps_words.specs.declared.fault.Fault.{Fault}
 use Rattle.ps_words.specs.declared.fault.Reason.{Reason}
-use Rattle.ps_codefile.specs.Procedures.{ProcedureTables, tables_fault, read_tables, unless}
+use Rattle.ps_codefile.specs.Procedures.{ProcedureTables, tables_fault, unless}
 use Rattle.ps_codefile.specs.Roles.{needs_linking, is_host}
 use Rattle.ps_resolve.proofs.reading.sources.read_resolvable.Goals as goal
 

@@ -1,8 +1,5 @@
-use Rattle.std.proofs.Common.{◌∙◌, sym, ap, arith}
-use Rattle.ps_words.specs.declared.order.Order.{Order}
+use Rattle.std.proofs.Common.{sym, arith}
 use Rattle.ps_codefile.specs.Dictionary.{entry_at}
-use Rattle.ps_codefile.specs.Procedures.{tables_fault}
-use Rattle.ps_codefile.specs.Roles.{is_host}
 use Rattle.ps_resolve.proofs.FirstSlots.{neither_first, none_mapped}
 use Rattle.ps_resolve.proofs.ReadingCodes.{whole}
 use Rattle.ps_resolve.proofs.reading.sources.read_segment.Goals as goal
