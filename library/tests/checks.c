@@ -182,6 +182,30 @@ static void check_refusals(void)
     check(is_untouched((unsigned char *)text, size, sizeof text), "what is behind the text is written to", size);
 }
 
+/* The fault of the second library, which is cut, has its file and nothing more. */
+static void check_file_of_a_fault(void)
+{
+    static const char wanted[] = "refused 1 ShortFile file 2";
+    static unsigned char room[100];
+    static char libs[1022];
+    static const size_t lengths[2] = {512, 510};
+    char text[PSLINK_FAULT_TEXT_MAX];
+    pslink_answer answer;
+    pslink_answer short_file;
+
+    memset(room, FILLER, sizeof room);
+    check(pslink_link(host.bytes, host.length, libs, sizeof libs, lengths, 2, room, sizeof room, &answer) == PSLINK_REFUSED,
+          "a library that is cut is taken", 2);
+    memset(&short_file, 0, sizeof short_file);
+    short_file.status = PSLINK_REFUSED;
+    short_file.fault = 1;
+    short_file.file = 2;
+    check(memcmp(&answer, &short_file, sizeof answer) == 0, "the fault of a cut library is another", 2);
+    check(is_untouched(room, 0, sizeof room), "a refusal writes to the room", 2);
+    check(pslink_fault_text(&answer, text, sizeof text) == sizeof wanted && strcmp(text, wanted) == 0,
+          "the text of a cut library is another", 2);
+}
+
 static void check_lengths(void)
 {
     static const size_t wrong[][2] = {{1536, 1}, {1535, 0}, {SIZE_MAX, 1537}, {0, 0}, {1, 1536}};
@@ -259,6 +283,7 @@ int main(int argc, char **argv)
         check_memory((enum call)call);
     }
     check_refusals();
+    check_file_of_a_fault();
     check_lengths();
     check_threads();
     return failures != 0;

@@ -7,6 +7,3 @@ mod whole;
 
 pub use patcher::Patcher;
 pub use whole::apply;
-
-#[cfg(test)]
-mod tests;

@@ -1,11 +1,18 @@
-//! Tests of the linker across its crates, and the makers of their inputs.
+//! Tests of the linker across its crates, and the makers of their inputs. All of it is for tests, so
+//! that the crate is proved once.
 #![tactic(auto)]
 
-pub mod added;
-pub mod base;
-pub mod code_file;
-pub mod in_place;
-pub mod information;
+#[cfg(test)]
+mod added;
+#[cfg(test)]
+mod base;
+#[cfg(test)]
+mod code_file;
+#[cfg(test)]
+mod in_place;
+#[cfg(test)]
+mod information;
 #[cfg(test)]
 mod tests;
-pub mod units;
+#[cfg(test)]
+mod units;

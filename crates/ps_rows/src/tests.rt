@@ -17,6 +17,7 @@ mod most_records;
 mod order_of_faults;
 mod pair_faults;
 mod pairs;
+mod patches;
 mod plan;
 mod procedures;
 mod record_kinds;

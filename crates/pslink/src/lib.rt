@@ -13,8 +13,6 @@ mod outcome;
 mod reasons;
 mod refusal_law;
 mod room;
-#[cfg(test)]
-mod tests;
 mod texts;
 
 pub use answer::{Answer, DONE, NO_MEMORY, REFUSED, TOO_SMALL, WRONG_LENGTHS};

@@ -16,14 +16,13 @@ use crate::base::{
 use crate::code_file::Change::{
     Address, Bytes, Code, CodeWord, Entry, Kind, Length, Records, Resized,
 };
-use crate::code_file::{CodeFile, LINKED, Slot, UNIT_SEGMENT};
-use crate::information::Name;
+use crate::code_file::{Change, CodeFile, LINKED, Slot, UNIT_SEGMENT};
 use crate::information::Record::{End, PrivateReference, PublicDefinition, UnitReference};
+use crate::information::{Name, Record};
 use crate::units::{AUX, LIBRARY_AUX, LINKED_AUX};
 use ps_resolve::{Plan, resolve};
 use std::alloc::{AllocError, Global};
 use std::process::Abort;
-use std::test::Fail;
 
 const BLANK: Name = [b' '; 8];
 
@@ -249,15 +248,17 @@ const TABLES: [Table<'static, Row<'static>>; 5] = [
 ];
 
 #[test]
-fn added_units(rt: HostRuntime) -> Result<(), Fail> {
-    link_tables(&rt, &TABLES)?;
+fn added_units(rt: HostRuntime) {
+    link_tables(&rt, &TABLES);
     refuse_tables(&rt, &[(Base::UsedUnit, AMPLE_OR_NONE, &FAULTS)])
 }
 
+/// A block of the base host with the code of a segment that is linked already.
+const TOOLS_ADDED: [Change<'static>; 2] = [Resized(1541), Code(3, 0, &TOOLS_CODE)];
+
 /// The base host whose slots from 8 to this one have segments that are linked already.
 fn host_filled_to(alloc: Global, last: u8) -> Result<CodeFile, AllocError> {
-    let changes = [Resized(1541), Code(3, 0, &TOOLS_CODE)];
-    let mut host = base_host(alloc, LITTLE)?.with(alloc, &changes)?;
+    let mut host = base_host(alloc, LITTLE)?.with(alloc, &TOOLS_ADDED)?;
     for slot in 8..=last {
         host = host.with(alloc, &[Entry(slot, LINKED_TOOLS)])?;
     }
@@ -265,10 +266,10 @@ fn host_filled_to(alloc: Global, last: u8) -> Result<CodeFile, AllocError> {
 }
 
 #[test]
-fn no_slot_is_left(rt: HostRuntime) -> Result<(), Fail> {
+fn no_slot_is_left(rt: HostRuntime) {
     let alloc = rt.alloc();
-    let host = host_filled_to(alloc, 15)?;
-    let library = library_of_a_used_unit(alloc, LITTLE)?;
+    let host = host_filled_to(alloc, 15).expect(&rt, "unexpected error");
+    let library = library_of_a_used_unit(alloc, LITTLE).expect(&rt, "unexpected error");
     let libraries = [library.as_slice()];
     let call = Link {
         host: host.as_slice(),
@@ -276,27 +277,33 @@ fn no_slot_is_left(rt: HostRuntime) -> Result<(), Fail> {
         linked: &[],
     };
     let fault = "refused 35 NoSlot file 1 slot 7 record 0";
-    Memory::NoAllocation.answers(&rt, "sixteen segments", &call, fault)?;
-    let library = library.with(alloc, &[Length(3, 0)])?;
+    Memory::NoAllocation.answers(&rt, "sixteen segments", &call, fault);
+    let library = library
+        .with(alloc, &[Length(3, 0)])
+        .expect(&rt, "unexpected error");
     let libraries = [library.as_slice()];
     let fault = "refused 13 MissingUnit file 1 slot 7 record 0";
     refuses(&rt, "and no unit", host.as_slice(), &libraries, fault)
 }
 
+/// The linked base pair with the added unit in slot 15 in place of 8, and its code's operands.
+const MOVED_TO_THE_LAST_SLOT: [Change<'static>; 6] = [
+    Resized(5632),
+    Entry(8, EMPTY),
+    Code(2, 2, &[15]),
+    Code(3, 0, &[0; 24]),
+    Entry(15, LINKED_AUX),
+    Address(15, 10),
+];
+
+const OPERANDS_OF_THE_LAST: [Change<'static>; 2] = [Code(10, 2, &[3]), Code(10, 5, &[10])];
+
 /// What the host that is filled up to slot 14 is linked to: a block for each segment.
 fn linked_in_the_last_slot(alloc: Global) -> Result<CodeFile, AllocError> {
-    let changes = [
-        Resized(5632),
-        Entry(8, EMPTY),
-        Code(2, 2, &[15]),
-        Code(3, 0, &[0; 24]),
-        Entry(15, LINKED_AUX),
-        Address(15, 10),
-        Code(10, 0, &util_code(LITTLE, 15)),
-        Code(10, 2, &[3]),
-        Code(10, 5, &[10]),
-    ];
-    let mut linked = linked_used_unit(alloc, LITTLE)?.with(alloc, &changes)?;
+    let mut linked = linked_used_unit(alloc, LITTLE)?
+        .with(alloc, &MOVED_TO_THE_LAST_SLOT)?
+        .with(alloc, &[Code(10, 0, &util_code(LITTLE, 15))])?
+        .with(alloc, &OPERANDS_OF_THE_LAST)?;
     for slot in 8..15 {
         let block = u16::from(slot).saturating_sub(5);
         let changes = [
@@ -310,11 +317,11 @@ fn linked_in_the_last_slot(alloc: Global) -> Result<CodeFile, AllocError> {
 }
 
 #[test]
-fn the_last_slot(rt: HostRuntime) -> Result<(), Fail> {
+fn the_last_slot(rt: HostRuntime) {
     let alloc = rt.alloc();
-    let host = host_filled_to(alloc, 14)?;
-    let library = library_of_a_used_unit(alloc, LITTLE)?;
-    let linked = linked_in_the_last_slot(alloc)?;
+    let host = host_filled_to(alloc, 14).expect(&rt, "unexpected error");
+    let library = library_of_a_used_unit(alloc, LITTLE).expect(&rt, "unexpected error");
+    let linked = linked_in_the_last_slot(alloc).expect(&rt, "unexpected error");
     let libraries = [library.as_slice()];
     let summary = "segments 10 private words 4 blocks 11";
     links(
@@ -327,55 +334,75 @@ fn the_last_slot(rt: HostRuntime) -> Result<(), Fail> {
     )
 }
 
+const A: Name = *b"A       ";
+
+const B: Name = *b"B       ";
+
+const C: Name = *b"C       ";
+
+const D: Name = *b"D       ";
+
+const E: Name = *b"E       ";
+
+const F: Name = *b"F       ";
+
+const G: Name = *b"G       ";
+
+const H: Name = *b"H       ";
+
+const I: Name = *b"I       ";
+
+const J: Name = *b"J       ";
+
+const K: Name = *b"K       ";
+
 /// The names of units, each of one letter.
-const NAMES: [Name; 11] = [
-    *b"A       ",
-    *b"B       ",
-    *b"C       ",
-    *b"D       ",
-    *b"E       ",
-    *b"F       ",
-    *b"G       ",
-    *b"H       ",
-    *b"I       ",
-    *b"J       ",
-    *b"K       ",
+const NAMES: [Name; 11] = [A, B, C, D, E, F, G, H, I, J, K];
+
+/// Records that name each of these units after a definition, without any reference.
+const NAMING: [Record<'static>; 13] = [
+    PublicDefinition(COUNT, 3),
+    UnitReference(A, &[]),
+    UnitReference(B, &[]),
+    UnitReference(C, &[]),
+    UnitReference(D, &[]),
+    UnitReference(E, &[]),
+    UnitReference(F, &[]),
+    UnitReference(G, &[]),
+    UnitReference(H, &[]),
+    UnitReference(I, &[]),
+    UnitReference(J, &[]),
+    UnitReference(K, &[]),
+    End(8),
 ];
 
+/// The base host that has its own segment alone, with these records.
+const OWN_ALONE: [Change<'static>; 2] = [Entry(7, EMPTY), Records(2, &NAMING)];
+
+/// What leaves out the last two of these records, or the last one: zeros, as an end mark is.
+const NINE_NAMES: [Change<'static>; 1] = [Bytes(1184, &[0; 32])];
+
+const TEN_NAMES: [Change<'static>; 1] = [Bytes(1200, &[0; 16])];
+
 /// A host that has its own segment alone, whose records name the first nine, ten or eleven of these
-/// units after a definition, without any reference: the records of the others are zeros, as an end
-/// mark is.
+/// units.
 fn host_naming(alloc: Global, count: usize) -> Result<CodeFile, AllocError> {
-    let [a, b, c, d, e, f, g, h, i, j, k] = NAMES;
-    let records = [
-        PublicDefinition(COUNT, 3),
-        UnitReference(a, &[]),
-        UnitReference(b, &[]),
-        UnitReference(c, &[]),
-        UnitReference(d, &[]),
-        UnitReference(e, &[]),
-        UnitReference(f, &[]),
-        UnitReference(g, &[]),
-        UnitReference(h, &[]),
-        UnitReference(i, &[]),
-        UnitReference(j, &[]),
-        UnitReference(k, &[]),
-        End(8),
-    ];
-    let host = base_host(alloc, LITTLE)?;
-    let host = host.with(alloc, &[Entry(7, EMPTY), Records(2, &records)])?;
+    let host = base_host(alloc, LITTLE)?.with(alloc, &OWN_ALONE)?;
     match count {
-        9 => host.with(alloc, &[Bytes(1024 + 16 * 10, &[0; 32])]),
-        10 => host.with(alloc, &[Bytes(1024 + 16 * 11, &[0; 16])]),
+        9 => host.with(alloc, &NINE_NAMES),
+        10 => host.with(alloc, &TEN_NAMES),
         _ => Ok(host),
     }
 }
 
+const NO_RECORDS: [Change<'static>; 1] = [Records(2, &[End(0)])];
+
 /// A library of the first so many of these units, which share one code and have no records but an
 /// end mark.
 fn library_of_letters(alloc: Global, count: u8) -> Result<CodeFile, AllocError> {
-    let changes = [Records(2, &[End(0)]), Code(1, 0, &util_code(LITTLE, 2))];
-    let mut library = CodeFile::new(alloc, LITTLE, 1536)?.with(alloc, &changes)?;
+    let mut library = CodeFile::new(alloc, LITTLE, 1536)?
+        .with(alloc, &NO_RECORDS)?
+        .with(alloc, &[Code(1, 0, &util_code(LITTLE, 2))])?;
     for (entry, name) in (0..count).zip(NAMES) {
         let unit = Slot {
             name,
@@ -387,15 +414,14 @@ fn library_of_letters(alloc: Global, count: u8) -> Result<CodeFile, AllocError> 
     Ok(library)
 }
 
+const OWN_LINKED: [Change<'static>; 2] = [Bytes(300, &[0x2A]), Entry(1, LINKED_DEMO)];
+
 /// What the host is linked to where it names nine of them: each slot from 7 on has one, in a block
 /// of its own.
 fn linked_nine(alloc: Global) -> Result<CodeFile, AllocError> {
-    let changes = [
-        Bytes(300, &[0x2A]),
-        Entry(1, LINKED_DEMO),
-        Code(1, 0, &demo_code(LITTLE)),
-    ];
-    let mut linked = CodeFile::new(alloc, LITTLE, 11 * 512)?.with(alloc, &changes)?;
+    let mut linked = CodeFile::new(alloc, LITTLE, 11 * 512)?
+        .with(alloc, &OWN_LINKED)?
+        .with(alloc, &[Code(1, 0, &demo_code(LITTLE))])?;
     for (slot, name) in (7..16).zip(NAMES) {
         let block = u16::from(slot).saturating_sub(5);
         let unit = Slot {
@@ -431,16 +457,16 @@ const TOO_MANY: [(&str, usize, u8, &str); 5] = [
 ];
 
 #[test]
-fn nine_ten_and_eleven_names(rt: HostRuntime) -> Result<(), Fail> {
+fn nine_ten_and_eleven_names(rt: HostRuntime) {
     let alloc = rt.alloc();
     for (what, named, count, fault) in TOO_MANY {
-        let host = host_naming(alloc, named)?;
-        let library = library_of_letters(alloc, count)?;
-        refuses(&rt, what, host.as_slice(), &[library.as_slice()], fault)?;
+        let host = host_naming(alloc, named).expect(&rt, "unexpected error");
+        let library = library_of_letters(alloc, count).expect(&rt, "unexpected error");
+        refuses(&rt, what, host.as_slice(), &[library.as_slice()], fault);
     }
-    let host = host_naming(alloc, 9)?;
-    let library = library_of_letters(alloc, 11)?;
-    let linked = linked_nine(alloc)?;
+    let host = host_naming(alloc, 9).expect(&rt, "unexpected error");
+    let library = library_of_letters(alloc, 11).expect(&rt, "unexpected error");
+    let linked = linked_nine(alloc).expect(&rt, "unexpected error");
     let (host, library, linked) = (host.as_slice(), library.as_slice(), linked.as_slice());
     let summary = "segments 10 private words 0 blocks 11";
     links(&rt, "nine", host, &[library], summary, linked)
@@ -459,48 +485,60 @@ private 11 STATE    offset 8 words 4
 next 12 data 18 blocks 9
 ";
 
+/// A unit's entry in a host.
+const IN_PLACE: Slot = Slot {
+    name: TOOLS,
+    ..LIBRARY_AUX
+};
+
+const FIRST_NAMES: [Change<'static>; 6] = [
+    Resized(2560),
+    Entry(0, IN_PLACE),
+    Entry(2, WANTED_UTIL),
+    Entry(7, EMPTY),
+    Records(
+        2,
+        &[
+            PublicDefinition(COUNT, 3),
+            UnitReference(C, &[]),
+            UnitReference(A, &[]),
+            End(8),
+        ],
+    ),
+    Records(4, &[UnitReference(B, &[]), UnitReference(C, &[]), End(0)]),
+];
+
 /// A host whose first slot has a unit in place, which names B and C; its own segment names C and A,
 /// and in slot 2 it wants a unit.
 fn host_of_first_names(alloc: Global) -> Result<CodeFile, AllocError> {
-    let [a, b, c, ..] = NAMES;
-    let in_place = Slot {
-        name: TOOLS,
-        ..LIBRARY_AUX
+    base_host(alloc, LITTLE)?
+        .with(alloc, &FIRST_NAMES)?
+        .with(alloc, &[Code(3, 0, &util_code(LITTLE, 0))])
+}
+
+const WANTED_NAMES: [Change<'static>; 1] = [Records(
+    2,
+    &[UnitReference(E, &[]), UnitReference(A, &[]), End(0)],
+)];
+
+const USED_BY_A_LETTER: [Change<'static>; 1] = [Records(2, &USING_RECORDS)];
+
+/// The map of that host, with a library whose unit names E and A, and one of five letters' units.
+fn map_of_first_names(alloc: Global) -> Result<String, AllocError> {
+    let host = host_of_first_names(alloc)?;
+    let library = library_of_a_used_unit(alloc, LITTLE)?.with(alloc, &WANTED_NAMES)?;
+    let letters = library_of_letters(alloc, 5)?.with(alloc, &USED_BY_A_LETTER)?;
+    let call = Map {
+        host: host.as_slice(),
+        libraries: &[library.as_slice(), letters.as_slice()],
     };
-    let own = [
-        PublicDefinition(COUNT, 3),
-        UnitReference(c, &[]),
-        UnitReference(a, &[]),
-        End(8),
-    ];
-    let changes = [
-        Resized(2560),
-        Entry(0, in_place),
-        Entry(2, WANTED_UTIL),
-        Entry(7, EMPTY),
-        Records(2, &own),
-        Code(3, 0, &util_code(LITTLE, 0)),
-        Records(4, &[UnitReference(b, &[]), UnitReference(c, &[]), End(0)]),
-    ];
-    base_host(alloc, LITTLE)?.with(alloc, &changes)
+    call.answer(alloc, alloc)
 }
 
 #[test]
-fn names_in_the_order_of_their_first_records(rt: HostRuntime) -> Result<(), Fail> {
-    let alloc = rt.alloc();
-    let [a, _, _, _, e, ..] = NAMES;
-    let host = host_of_first_names(alloc)?;
-    let wanted = [UnitReference(e, &[]), UnitReference(a, &[]), End(0)];
-    let library = library_of_a_used_unit(alloc, LITTLE)?.with(alloc, &[Records(2, &wanted)])?;
-    let letters = library_of_letters(alloc, 5)?.with(alloc, &[Records(2, &USING_RECORDS)])?;
-    let libraries = [library.as_slice(), letters.as_slice()];
-    let call = Map {
-        host: host.as_slice(),
-        libraries: libraries.as_slice(),
-    };
-    let map = call.answer(alloc, alloc)?;
+fn names_in_the_order_of_their_first_records(rt: HostRuntime) {
+    let map = map_of_first_names(rt.alloc()).expect(&rt, "unexpected error");
     assert!(rt; map.as_str() == MAP_OF_FIRST_NAMES, "{map}");
-    Ok(())
 }
 
 /// The sources of a plan, as text.
@@ -518,22 +556,20 @@ const SOURCES: &str =
     "slot 1 added false linked true; slot 7 added false linked true; slot 8 added true linked true; ";
 
 /// Checks the sources of that plan, and the names of its two units and of the slot after them.
-fn is_plan_of_a_used_unit(rt: &(impl Abort + AllocGlobal), plan: &Plan<'_>) -> Result<(), Fail> {
-    let text = describe(rt.alloc(), plan)?;
+fn is_plan_of_a_used_unit(rt: &(impl Abort + AllocGlobal), plan: &Plan<'_>) {
+    let text = describe(rt.alloc(), plan).expect(rt, "unexpected error");
     assert!(rt; text.as_str() == SOURCES, "{text}");
     let names = [UTIL, AUX, BLANK];
     assert!(rt; plan.names().get(7..10) == Some(names.as_slice()));
-    Ok(())
 }
 
 #[test]
-fn sources_and_names_of_a_plan(rt: HostRuntime) -> Result<(), Fail> {
+fn sources_and_names_of_a_plan(rt: HostRuntime) {
     let alloc = rt.alloc();
-    let host = base_host(alloc, LITTLE)?;
-    let library = library_of_a_used_unit(alloc, LITTLE)?;
+    let host = base_host(alloc, LITTLE).expect(&rt, "unexpected error");
+    let library = library_of_a_used_unit(alloc, LITTLE).expect(&rt, "unexpected error");
     match resolve(alloc, host.as_slice(), &[library.as_slice()]) {
-        Ok(plan) => is_plan_of_a_used_unit(&rt, &plan)?,
+        Ok(plan) => is_plan_of_a_used_unit(&rt, &plan),
         Err(_) => assert!(rt; false, "no plan"),
     }
-    Ok(())
 }

@@ -2,7 +2,6 @@
 use refusing::Refusing;
 use std::alloc::{AllocError, Allocator, Global};
 use std::process::Abort;
-use std::test::Fail;
 
 /// More allocations than a call on these files makes.
 const MANY: u64 = 1000;
@@ -25,24 +24,24 @@ fn refuses_allocation(
     call: &impl Allocating,
     answer: &str,
     allocation: u64,
-) -> Result<bool, Fail> {
+) -> bool {
     let alloc = rt.alloc();
     let heap = Refusing::once(alloc, allocation);
-    let text = call.answer(alloc, &heap)?;
+    let text = call.answer(alloc, &heap).expect(rt, "unexpected error");
     if !heap.has_refused() {
         assert!(rt; text.as_str() == answer, "{what}: {text}");
-        return Ok(false);
+        return false;
     }
     assert!(rt;
         text.as_str() == OUT_OF_MEMORY,
         "{what}: allocation {allocation}: {text}"
     );
-    let again = call.answer(alloc, &heap)?;
+    let again = call.answer(alloc, &heap).expect(rt, "unexpected error");
     assert!(rt;
         again.as_str() == answer,
         "{what}: after allocation {allocation}: {again}"
     );
-    Ok(true)
+    true
 }
 
 /// Makes a call with each allocation refused in turn, until none was refused. Returns how many were
@@ -52,14 +51,14 @@ pub(crate) fn refused_allocations(
     what: &str,
     call: &impl Allocating,
     answer: &str,
-) -> Result<u64, Fail> {
+) -> u64 {
     for allocation in 1..MANY {
-        if !refuses_allocation(rt, what, call, answer, allocation)? {
-            return Ok(allocation - 1);
+        if !refuses_allocation(rt, what, call, answer, allocation) {
+            return allocation - 1;
         }
     }
     assert!(rt; false, "{what}: each allocation was refused");
-    Ok(MANY)
+    MANY
 }
 
 /// The same, of a call that does grow.
@@ -68,10 +67,9 @@ pub(crate) fn refuses_each_allocation(
     what: &str,
     call: &impl Allocating,
     answer: &str,
-) -> Result<(), Fail> {
-    let refused = refused_allocations(rt, what, call, answer)?;
+) {
+    let refused = refused_allocations(rt, what, call, answer);
     assert!(rt; refused > 0, "{what}: no allocation at all");
-    Ok(())
 }
 
 /// Checks the answer of a call that has no memory and requests none.
@@ -80,11 +78,10 @@ pub(crate) fn makes_no_allocation(
     what: &str,
     call: &impl Allocating,
     answer: &str,
-) -> Result<(), Fail> {
+) {
     let alloc = rt.alloc();
     let heap = Refusing::from(alloc, 1);
-    let text = call.answer(alloc, &heap)?;
+    let text = call.answer(alloc, &heap).expect(rt, "unexpected error");
     assert!(rt; text.as_str() == answer, "{what}: {text}");
     assert!(rt; heap.allocations() == 0, "{what}");
-    Ok(())
 }

@@ -3,7 +3,6 @@ use ps_linkfile::{LinkError, Summary, WriteFault, link};
 use ps_words::Order;
 use std::alloc::{AllocError, Global};
 use std::process::Abort;
-use std::test::Fail;
 
 /// The byte order of most inputs.
 pub(crate) const LITTLE: Order = Order::Little;
@@ -47,13 +46,15 @@ pub(crate) fn links(
     libraries: &[&[u8]],
     summary: &str,
     file: &[u8],
-) -> Result<(), Fail> {
+) {
     let alloc = rt.alloc();
     let mut out = Vec::new(alloc);
-    let answer = text_of(alloc, link(alloc, host, libraries, &mut out))?;
+    let answer = text_of(alloc, link(alloc, host, libraries, &mut out)).expect(
+        rt,
+        "unexpected error",
+    );
     assert!(rt; answer.as_str() == summary, "{what}: {answer}");
     assert!(rt; out.as_slice() == file, "{what}");
-    Ok(())
 }
 
 /// Checks that a link with these files gives this error, and that nothing is written.
@@ -63,6 +64,6 @@ pub(crate) fn refuses(
     host: &[u8],
     libraries: &[&[u8]],
     error: &str,
-) -> Result<(), Fail> {
+) {
     links(rt, what, host, libraries, error, &[])
 }

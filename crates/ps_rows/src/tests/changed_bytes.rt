@@ -6,7 +6,6 @@ use crate::code_file::{Change, CodeFile};
 use ps_words::{Fault, Reason};
 use std::alloc::{AllocError, Global};
 use std::process::Abort;
-use std::test::Fail;
 
 /// What is answered for a changed byte.
 enum Wanted {
@@ -91,33 +90,28 @@ fn answer(alloc: Global, place: usize, byte: u8) -> Result<String, AllocError> {
 }
 
 /// Checks the answer where the byte at a place of the host's dictionary is this one.
-fn check(
-    rt: &(impl Abort + AllocGlobal),
-    host: &[u8],
-    library: &[u8],
-    place: usize,
-    byte: u8,
-) -> Result<(), Fail> {
+fn check(rt: &(impl Abort + AllocGlobal), host: &[u8], library: &[u8], place: usize, byte: u8) {
     let alloc = rt.alloc();
-    let what = format!(in alloc; "byte {place} set to {byte}")?;
-    let answer = answer(alloc, place, byte)?;
-    let file = written(alloc, place, byte)?;
+    let what = format!(in alloc; "byte {place} set to {byte}").expect(rt, "unexpected error");
+    let answer = answer(alloc, place, byte).expect(rt, "unexpected error");
+    let file = written(alloc, place, byte).expect(rt, "unexpected error");
     let (what, answer) = (what.as_str(), answer.as_str());
     links(rt, what, host, &[library], answer, file.as_slice())
 }
 
 #[test]
-fn each_byte_of_the_dictionary(rt: HostRuntime) -> Result<(), Fail> {
+fn each_byte_of_the_dictionary(rt: HostRuntime) {
     let alloc = rt.alloc();
-    let library = base_library(alloc, LITTLE)?;
+    let library = base_library(alloc, LITTLE).expect(&rt, "unexpected error");
     for place in 0..512 {
         for byte in [0x00, 0x01, 0x7F, 0x80, 0xFF] {
-            let host = base_host(alloc, LITTLE)?;
+            let host = base_host(alloc, LITTLE).expect(&rt, "unexpected error");
             if host.as_slice().get(place) != Some(&byte) {
-                let changed = host.with(alloc, &[Bytes(place, &[byte])])?;
-                check(&rt, changed.as_slice(), library.as_slice(), place, byte)?;
+                let changed = host
+                    .with(alloc, &[Bytes(place, &[byte])])
+                    .expect(&rt, "unexpected error");
+                check(&rt, changed.as_slice(), library.as_slice(), place, byte);
             }
         }
     }
-    Ok(())
 }

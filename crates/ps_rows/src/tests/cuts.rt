@@ -3,7 +3,6 @@ use super::answers::links;
 use crate::base::{BASE_LENGTH, base_host, base_library, linked_base_pair};
 use ps_words::Order;
 use std::process::Abort;
-use std::test::Fail;
 
 /// What is answered for the base host truncated to a length, or None where it is long enough.
 fn host_fault(length: usize) -> Option<&'static str> {
@@ -35,7 +34,7 @@ fn answers(
     library: &[u8],
     fault: Option<&str>,
     linked: &[u8],
-) -> Result<(), Fail> {
+) {
     let summary = "segments 2 private words 4 blocks 3";
     match fault {
         Some(fault) => links(rt, "a cut file", host, &[library], fault, &[]),
@@ -44,19 +43,18 @@ fn answers(
 }
 
 #[test]
-fn each_length_in_either_byte_order(rt: HostRuntime) -> Result<(), Fail> {
+fn each_length_in_either_byte_order(rt: HostRuntime) {
     let alloc = rt.alloc();
     for order in [Order::Little, Order::Big] {
-        let host = base_host(alloc, order)?;
-        let library = base_library(alloc, order)?;
-        let linked = linked_base_pair(alloc, order)?;
+        let host = base_host(alloc, order).expect(&rt, "unexpected error");
+        let library = base_library(alloc, order).expect(&rt, "unexpected error");
+        let linked = linked_base_pair(alloc, order).expect(&rt, "unexpected error");
         let (host, library, linked) = (host.as_slice(), library.as_slice(), linked.as_slice());
         for length in 0..BASE_LENGTH {
             let cut = host.get(..length).unwrap_or(host);
-            answers(&rt, cut, library, host_fault(length), linked)?;
+            answers(&rt, cut, library, host_fault(length), linked);
             let cut = library.get(..length).unwrap_or(library);
-            answers(&rt, host, cut, library_fault(length), linked)?;
+            answers(&rt, host, cut, library_fault(length), linked);
         }
     }
-    Ok(())
 }

@@ -8,7 +8,6 @@ use ps_codefile::{Dict, Entry, Role};
 use ps_words::{Order, Reason};
 use std::alloc::{AllocError, Global};
 use std::process::Abort;
-use std::test::Fail;
 
 /// The byte orders, each with the other one.
 const ORDERS: [(Order, Order); 2] = [(Order::Little, Order::Big), (Order::Big, Order::Little)];
@@ -42,15 +41,14 @@ fn is(
     rt: &(impl Abort + AllocGlobal),
     answer: Result<Dict<'_>, Reason>,
     wanted: Result<(Order, &str), Reason>,
-) -> Result<(), Fail> {
+) {
     match answer {
         Ok(dictionary) => {
-            let text = describe(rt.alloc(), &dictionary)?;
+            let text = describe(rt.alloc(), &dictionary).expect(rt, "unexpected error");
             assert!(rt; Ok((dictionary.order(), text.as_str())) == wanted);
         }
         Err(reason) => assert!(rt; Err(reason) == wanted),
     }
-    Ok(())
 }
 
 /// The slots of the base host, of the host with its unit in place, of the base library and of the
@@ -87,45 +85,47 @@ fn gives_the_host_s_parts(rt: &impl Abort, dictionary: &Dict<'_>, information: &
     assert!(rt; dictionary.after(1).starts_with(information));
 }
 
-fn hosts(rt: &(impl Abort + AllocGlobal), order: Order) -> Result<(), Fail> {
-    let host = base_host(rt.alloc(), order)?;
-    is(rt, Dict::read(host.as_slice()), Ok((order, HOST)))?;
-    let information = Information::new(rt.alloc(), order, &HOST_RECORDS)?;
+fn hosts(rt: &(impl Abort + AllocGlobal), order: Order) {
+    let host = base_host(rt.alloc(), order).expect(rt, "unexpected error");
+    is(rt, Dict::read(host.as_slice()), Ok((order, HOST)));
+    let information = Information::new(rt.alloc(), order, &HOST_RECORDS).expect(
+        rt,
+        "unexpected error",
+    );
     match Dict::read(host.as_slice()) {
         Ok(dictionary) => gives_the_host_s_parts(rt, &dictionary, information.as_slice()),
         Err(_) => assert!(rt; false, "no dictionary"),
     }
-    let host = unit_in_place(rt.alloc(), order)?;
+    let host = unit_in_place(rt.alloc(), order).expect(rt, "unexpected error");
     is(rt, Dict::read(host.as_slice()), Ok((order, IN_PLACE)))
 }
 
-fn libraries(rt: &(impl Abort + AllocGlobal), order: Order, other: Order) -> Result<(), Fail> {
-    let library = base_library(rt.alloc(), order)?;
+fn libraries(rt: &(impl Abort + AllocGlobal), order: Order, other: Order) {
+    let library = base_library(rt.alloc(), order).expect(rt, "unexpected error");
     let library = library.as_slice();
-    is(rt, Dict::read_beside(library, order), Ok((order, LIBRARY)))?;
+    is(rt, Dict::read_beside(library, order), Ok((order, LIBRARY)));
     let code = Dict::read_beside(library, order).and_then(|dictionary| dictionary.code(2));
     assert!(rt; code == Ok(util_code(order, UTIL_ENTRY).as_slice()));
     let answer = Dict::read_beside(library, other);
-    is(rt, answer, Err(Reason::OrderMismatch))?;
+    is(rt, answer, Err(Reason::OrderMismatch));
     let short = library.get(..511).unwrap_or(&[]);
-    is(rt, Dict::read_beside(short, other), Err(Reason::ShortFile))?;
+    is(rt, Dict::read_beside(short, other), Err(Reason::ShortFile));
     is(rt, Dict::read_beside(short, order), Err(Reason::ShortFile))
 }
 
-fn files_of_no_order(rt: &(impl Abort + AllocGlobal), order: Order) -> Result<(), Fail> {
-    is(rt, Dict::read_beside(&[0; 512], order), Ok((order, "")))?;
-    let linked = linked_base_pair(rt.alloc(), order)?;
+fn files_of_no_order(rt: &(impl Abort + AllocGlobal), order: Order) {
+    is(rt, Dict::read_beside(&[0; 512], order), Ok((order, "")));
+    let linked = linked_base_pair(rt.alloc(), order).expect(rt, "unexpected error");
     let linked = linked.as_slice();
-    is(rt, Dict::read_beside(linked, order), Ok((order, LINKED)))?;
+    is(rt, Dict::read_beside(linked, order), Ok((order, LINKED)));
     is(rt, Dict::read(linked), Err(Reason::NoHost))
 }
 
 #[test]
-fn files_in_either_byte_order(rt: HostRuntime) -> Result<(), Fail> {
+fn files_in_either_byte_order(rt: HostRuntime) {
     for (order, other) in ORDERS {
-        hosts(&rt, order)?;
-        libraries(&rt, order, other)?;
-        files_of_no_order(&rt, order)?;
+        hosts(&rt, order);
+        libraries(&rt, order, other);
+        files_of_no_order(&rt, order);
     }
-    Ok(())
 }

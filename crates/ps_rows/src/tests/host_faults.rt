@@ -5,7 +5,6 @@ use crate::code_file::Change::{Address, Bytes, Code, Entry, Kind, Length, Record
 use crate::code_file::{HOST_SEGMENT, LINKED, Slot};
 use crate::in_place::UTIL_IN_PLACE;
 use crate::information::Record::{ConstantDefinition, End, PublicDefinition};
-use std::test::Fail;
 
 /// A slot with no name that has the host segment's code.
 pub(crate) const LIKE_DEMO: Slot = Slot {
@@ -269,7 +268,7 @@ pub(crate) const DEFINITIONS: [Refusal<'static>; 3] = [
 /// Checks the refusals that are found before anything grows: with the unit in place, in a library
 /// and nowhere.
 #[test]
-fn faults_of_hosts(rt: HostRuntime) -> Result<(), Fail> {
+fn faults_of_hosts(rt: HostRuntime) {
     for base in [Base::InPlace, Base::Pair, Base::HostAlone] {
         let tables: [Table<'_, Refusal<'_>>; 4] = [
             (base, AMPLE_OR_NONE, &DICTIONARIES),
@@ -277,7 +276,6 @@ fn faults_of_hosts(rt: HostRuntime) -> Result<(), Fail> {
             (base, AMPLE_OR_NONE, &PROCEDURES),
             (base, AMPLE_OR_NONE, &RECORDS),
         ];
-        refuse_tables(&rt, &tables)?;
+        refuse_tables(&rt, &tables);
     }
-    Ok(())
 }

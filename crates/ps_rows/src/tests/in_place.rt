@@ -6,18 +6,16 @@ use crate::code_file::{LINKED, Slot};
 use crate::in_place::linked_unit_in_place;
 use crate::information::Record::{End, PrivateReference, PublicDefinition, PublicReference};
 use ps_words::Order;
-use std::test::Fail;
 
 const SUMMARY: &str = "segments 2 private words 0 blocks 3";
 
 #[test]
-fn a_linked_dictionary_has_the_host_s_byte_order(rt: HostRuntime) -> Result<(), Fail> {
-    let linked = linked_unit_in_place(rt.alloc(), Order::Big)?;
+fn a_linked_dictionary_has_the_host_s_byte_order(rt: HostRuntime) {
+    let linked = linked_unit_in_place(rt.alloc(), Order::Big).expect(&rt, "unexpected error");
     let bytes = linked.as_slice();
     assert!(rt; bytes.len() == 1536);
     assert!(rt; bytes.get(4..8) == Some([0, 1, 0, 0x12].as_slice()));
     assert!(rt; bytes.get(28..32) == Some([0, 2, 0, 0x18].as_slice()));
-    Ok(())
 }
 
 const OPERANDS: [Row<'static>; 4] = [
@@ -267,12 +265,12 @@ const LINKS: [Table<'static, Row<'static>>; 8] = [
 ];
 
 #[test]
-fn links_of_a_unit_in_place(rt: HostRuntime) -> Result<(), Fail> {
+fn links_of_a_unit_in_place(rt: HostRuntime) {
     link_tables(&rt, &LINKS)
 }
 
 #[test]
-fn private_variables(rt: HostRuntime) -> Result<(), Fail> {
+fn private_variables(rt: HostRuntime) {
     link_tables(
         &rt,
         &[(Base::InPlace, AMPLE_OR_REFUSED, &PRIVATE_VARIABLES)],

@@ -9,7 +9,6 @@ use crate::information::Record::{
     ConstantDefinition, End, Other, PrivateReference, PublicDefinition, PublicReference,
     UnitReference,
 };
-use std::test::Fail;
 
 /// A segment that is linked already, of the host segment's code.
 const TOOLS: Name = *b"TOOLS   ";
@@ -384,6 +383,6 @@ const FAULTS: [Table<'static, Refusal<'static>>; 8] = [
 ];
 
 #[test]
-fn faults_of_a_unit_in_place(rt: HostRuntime) -> Result<(), Fail> {
+fn faults_of_a_unit_in_place(rt: HostRuntime) {
     refuse_tables(&rt, &FAULTS)
 }

@@ -16,7 +16,6 @@ use crate::information::Name;
 use crate::information::Record::{End, PublicDefinition, PublicReference, UnitReference};
 use std::alloc::{AllocError, Global};
 use std::process::Abort;
-use std::test::Fail;
 
 /// The length of the largest code of a linked segment, and how many of its bytes are before its
 /// attribute table.
@@ -172,21 +171,26 @@ next 8 data 10 blocks 1025
 ";
 
 #[test]
-fn sixteen_segments_of_two_hundred_libraries(rt: HostRuntime) -> Result<(), Fail> {
+fn sixteen_segments_of_two_hundred_libraries(rt: HostRuntime) {
     let alloc = rt.alloc();
-    let host = host(alloc)?;
-    let library = library(alloc)?;
-    let linked = linked(alloc)?;
-    let without = base_library(alloc, LITTLE)?;
-    let mut libraries = Vec::from_elem(alloc, without.as_slice(), 199)?;
-    libraries.push(library.as_slice())?;
+    let host = host(alloc).expect(&rt, "unexpected error");
+    let library = library(alloc).expect(&rt, "unexpected error");
+    let linked = linked(alloc).expect(&rt, "unexpected error");
+    let without = base_library(alloc, LITTLE).expect(&rt, "unexpected error");
+    let mut libraries = Vec::from_elem(alloc, without.as_slice(), 199).expect(
+        &rt,
+        "unexpected error",
+    );
+    libraries
+        .push(library.as_slice())
+        .expect(&rt, "unexpected error");
     let link = Link {
         host: host.as_slice(),
         libraries: libraries.as_slice(),
         linked: linked.as_slice(),
     };
     let summary = "segments 16 private words 0 blocks 1025";
-    answers_each_call(&rt, link, PLANNED, summary, MAP)?;
+    answers_each_call(&rt, link, PLANNED, summary, MAP);
     let call = Map {
         host: host.as_slice(),
         libraries: libraries.as_slice(),
@@ -227,12 +231,23 @@ fn links_late(
     changes: Changes<'_>,
     answer: &str,
     linked: &[u8],
-) -> Result<(), Fail> {
+) {
     let alloc = rt.alloc();
-    let host = base_host(alloc, LITTLE)?;
-    let other = base_library(alloc, LITTLE)?.with(alloc, &[Bytes(80, &NOBODY)])?;
-    let library = base_library(alloc, LITTLE)?.with(alloc, changes)?;
-    let libraries = libraries_with_a_last(alloc, before, other.as_slice(), library.as_slice())?;
+    let host = base_host(alloc, LITTLE).expect(rt, "unexpected error");
+    let other = base_library(alloc, LITTLE)
+        .expect(rt, "unexpected error")
+        .with(alloc, &[Bytes(80, &NOBODY)])
+        .expect(rt, "unexpected error");
+    let library = base_library(alloc, LITTLE)
+        .expect(rt, "unexpected error")
+        .with(alloc, changes)
+        .expect(rt, "unexpected error");
+    let libraries = libraries_with_a_last(
+        alloc,
+        before,
+        other.as_slice(),
+        library.as_slice(),
+    ).expect(rt, "unexpected error");
     links(
         rt,
         "a late library",
@@ -244,28 +259,33 @@ fn links_late(
 }
 
 #[test]
-fn units_of_late_libraries(rt: HostRuntime) -> Result<(), Fail> {
+fn units_of_late_libraries(rt: HostRuntime) {
     let alloc = rt.alloc();
-    let linked = linked_base_pair(alloc, LITTLE)?;
+    let linked = linked_base_pair(alloc, LITTLE).expect(&rt, "unexpected error");
     let summary = "segments 2 private words 4 blocks 3";
     for (before, file) in [(256, 257), (65_536, 65_537)] {
-        links_late(&rt, before, &[], summary, linked.as_slice())?;
+        links_late(&rt, before, &[], summary, linked.as_slice());
         for (changes, fault, parts) in LATE {
-            let fault = format!(in alloc; "refused {fault} file {file} slot 7{parts}")?;
-            links_late(&rt, before, changes, fault.as_str(), &[])?;
+            let fault = format!(in alloc; "refused {fault} file {file} slot 7{parts}").expect(
+                &rt,
+                "unexpected error",
+            );
+            links_late(&rt, before, changes, fault.as_str(), &[]);
         }
     }
-    Ok(())
 }
 
 #[test]
-fn a_reference_too_many(rt: HostRuntime) -> Result<(), Fail> {
+fn a_reference_too_many(rt: HostRuntime) {
     let alloc = rt.alloc();
-    let host = host(alloc)?;
-    let references = references(alloc)?;
+    let host = host(alloc).expect(&rt, "unexpected error");
+    let references = references(alloc).expect(&rt, "unexpected error");
     let records = [UnitReference(name_of(LAST), references.as_slice()), End(0)];
     let changes = [Resized(166_000), Records(INFORMATION, &records)];
-    let library = library(alloc)?.with(alloc, &changes)?;
+    let library = library(alloc)
+        .expect(&rt, "unexpected error")
+        .with(alloc, &changes)
+        .expect(&rt, "unexpected error");
     let fault = "refused 32 ReservedPlace file 1 slot 1 record 0 reference 32752";
     refuses(
         &rt,
@@ -277,7 +297,7 @@ fn a_reference_too_many(rt: HostRuntime) -> Result<(), Fail> {
 }
 
 #[test]
-fn a_segment_that_is_linked_already(rt: HostRuntime) -> Result<(), Fail> {
+fn a_segment_that_is_linked_already(rt: HostRuntime) {
     let alloc = rt.alloc();
     let entry = Slot {
         name: *b"TOOLS   ",
@@ -285,17 +305,23 @@ fn a_segment_that_is_linked_already(rt: HostRuntime) -> Result<(), Fail> {
         address: 3,
         length: 32_767,
     };
-    let code = Vec::from_elem(alloc, 0xD7, 32_767)?;
+    let code = Vec::from_elem(alloc, 0xD7, 32_767).expect(&rt, "unexpected error");
     let changes = [
         Resized(BASE_LENGTH + 32_767),
         Entry(8, entry),
         Code(3, 0, code.as_slice()),
     ];
-    let host = base_host(alloc, LITTLE)?.with(alloc, &changes)?;
-    let library = base_library(alloc, LITTLE)?;
-    let linked = linked_base_pair(alloc, LITTLE)?
-        .with(alloc, &changes)?
-        .with(alloc, &[Resized(BASE_LENGTH + 32_768)])?;
+    let host = base_host(alloc, LITTLE)
+        .expect(&rt, "unexpected error")
+        .with(alloc, &changes)
+        .expect(&rt, "unexpected error");
+    let library = base_library(alloc, LITTLE).expect(&rt, "unexpected error");
+    let linked = linked_base_pair(alloc, LITTLE)
+        .expect(&rt, "unexpected error")
+        .with(alloc, &changes)
+        .expect(&rt, "unexpected error")
+        .with(alloc, &[Resized(BASE_LENGTH + 32_768)])
+        .expect(&rt, "unexpected error");
     links(
         &rt,
         "",

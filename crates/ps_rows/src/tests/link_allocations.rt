@@ -9,7 +9,6 @@ use ps_resolve::{Plan, Stop, resolve};
 use refusing::Refusing;
 use std::alloc::{AllocError, Allocator, Global};
 use std::process::Abort;
-use std::test::Fail;
 
 /// `link` with these files; the linked file is empty where it is refused.
 #[derive(Clone, Copy)]
@@ -92,15 +91,10 @@ impl<'a> Allocating for Prepare<'a> {
 }
 
 /// Checks the answer of a call with ample memory.
-fn answers(
-    rt: &(impl Abort + AllocGlobal),
-    call: &impl Allocating,
-    answer: &str,
-) -> Result<(), Fail> {
+fn answers(rt: &(impl Abort + AllocGlobal), call: &impl Allocating, answer: &str) {
     let alloc = rt.alloc();
-    let text = call.answer(alloc, alloc)?;
+    let text = call.answer(alloc, alloc).expect(rt, "unexpected error");
     assert!(rt; text.as_str() == answer, "{text}");
-    Ok(())
 }
 
 /// Checks the answers of each call that plans a link, with ample memory: its edits and private
@@ -111,18 +105,17 @@ pub(crate) fn answers_each_call(
     planned: &str,
     summary: &str,
     map: &str,
-) -> Result<(), Fail> {
-    answers(rt, &Resolve { link }, planned)?;
-    answers(rt, &Prepare { link }, summary)?;
-    answers(rt, &link, summary)?;
+) {
+    answers(rt, &Resolve { link }, planned);
+    answers(rt, &Prepare { link }, summary);
+    answers(rt, &link, summary);
     let alloc = rt.alloc();
     let call = Map {
         host: link.host,
         libraries: link.libraries,
     };
-    let text = call.answer(alloc, alloc)?;
+    let text = call.answer(alloc, alloc).expect(rt, "unexpected error");
     assert!(rt; text.as_str() == map, "another map: {text}");
-    Ok(())
 }
 
 /// Writes a prepared link to a writer with room for the linked file, and checks what is said and
@@ -132,14 +125,16 @@ fn writes_to_a_room<A: Allocator + Copy>(
     linked: &Linked<'_, A>,
     summary: &str,
     file: &[u8],
-) -> Result<(), Fail> {
+) {
     let alloc = rt.alloc();
-    let mut out = Room::new(alloc, file.len(), usize::MAX, Full::Stalls)?;
+    let mut out = Room::new(alloc, file.len(), usize::MAX, Full::Stalls).expect(
+        rt,
+        "unexpected error",
+    );
     let answer = linked.write(&mut out).map_err(LinkError::Write);
-    let text = text_of(alloc, answer)?;
+    let text = text_of(alloc, answer).expect(rt, "unexpected error");
     assert!(rt; text.as_str() == summary, "{text}");
     assert!(rt; out.written() == file);
-    Ok(())
 }
 
 /// The same, to a list of bytes.
@@ -148,14 +143,13 @@ fn writes_to_a_list<A: Allocator + Copy>(
     linked: &Linked<'_, A>,
     summary: &str,
     file: &[u8],
-) -> Result<(), Fail> {
+) {
     let alloc = rt.alloc();
     let mut out = Vec::new(alloc);
     let answer = linked.write(&mut out).map_err(LinkError::Write);
-    let text = text_of(alloc, answer)?;
+    let text = text_of(alloc, answer).expect(rt, "unexpected error");
     assert!(rt; text.as_str() == summary, "{text}");
     assert!(rt; out.as_slice() == file);
-    Ok(())
 }
 
 /// The same, to a writer that counts.
@@ -164,16 +158,18 @@ fn writes_and_tells<A: Allocator + Copy>(
     linked: &Linked<'_, A>,
     summary: &str,
     file: &[u8],
-) -> Result<(), Fail> {
+) {
     let alloc = rt.alloc();
-    let room = Room::new(alloc, file.len(), usize::MAX, Full::Stalls)?;
+    let room = Room::new(alloc, file.len(), usize::MAX, Full::Stalls).expect(
+        rt,
+        "unexpected error",
+    );
     let mut out = Counting::new(room);
     let answer = linked.write_told(&mut out).map_err(LinkError::Write);
-    let text = text_of(alloc, answer)?;
+    let text = text_of(alloc, answer).expect(rt, "unexpected error");
     assert!(rt; text.as_str() == summary, "{text}");
     let inner = out.into_inner();
     assert!(rt; inner.written() == file);
-    Ok(())
 }
 
 /// Writes a prepared link twice to each kind of plain writer, and to one that counts.
@@ -182,10 +178,10 @@ fn writes_each_way<A: Allocator + Copy>(
     linked: &Linked<'_, A>,
     summary: &str,
     file: &[u8],
-) -> Result<(), Fail> {
+) {
     for _ in 0..2 {
-        writes_to_a_room(rt, linked, summary, file)?;
-        writes_to_a_list(rt, linked, summary, file)?;
+        writes_to_a_room(rt, linked, summary, file);
+        writes_to_a_list(rt, linked, summary, file);
     }
     writes_and_tells(rt, linked, summary, file)
 }
@@ -198,13 +194,12 @@ fn writing_grows_nothing(
     link: &Link<'_>,
     asked: (u64, u64),
     summary: &str,
-) -> Result<(), Fail> {
-    let linked = prepare(heap, link.host, link.libraries)?;
+) {
+    let linked = prepare(heap, link.host, link.libraries).expect(rt, "unexpected error");
     let (allocations, bytes) = (heap.allocations(), heap.bytes());
     assert!(rt; (allocations, bytes) == asked, "{allocations} {bytes}");
-    writes_each_way(rt, &linked, summary, link.linked)?;
+    writes_each_way(rt, &linked, summary, link.linked);
     assert!(rt; heap.allocations() == allocations);
-    Ok(())
 }
 
 /// Checks that the map of a link takes memory for its plan and for its text alone. The text has 128
@@ -215,8 +210,8 @@ fn a_map_grows_by_its_text(
     heap: &Refusing<Global>,
     link: &Link<'_>,
     (allocations, bytes): (u64, u64),
-) -> Result<(), Fail> {
-    let text = map_text(heap, link.host, link.libraries)?;
+) {
+    let text = map_text(heap, link.host, link.libraries).expect(rt, "unexpected error");
     let length = text.len() as u64;
     assert!(rt; (128..256).contains(&length), "{length}");
     let grown = heap.allocations().saturating_sub(allocations);
@@ -226,7 +221,6 @@ fn a_map_grows_by_its_text(
         length <= asked && asked <= length.saturating_mul(4),
         "{asked}"
     );
-    Ok(())
 }
 
 /// Checks the answers of `resolve` and of `prepare` with each allocation refused in turn, that both
@@ -237,15 +231,15 @@ fn only_the_plan_grows(
     planned: &str,
     summary: &str,
     asked: (u64, u64),
-) -> Result<(), Fail> {
-    let planning = refused_allocations(rt, "resolve", &Resolve { link }, planned)?;
-    let preparing = refused_allocations(rt, "prepare", &Prepare { link }, summary)?;
+) {
+    let planning = refused_allocations(rt, "resolve", &Resolve { link }, planned);
+    let preparing = refused_allocations(rt, "prepare", &Prepare { link }, summary);
     assert!(rt;
         (planning, preparing) == (asked.0, asked.0),
         "{planning} {preparing}"
     );
     let heap = Refusing::once(rt.alloc(), 0);
-    writing_grows_nothing(rt, &heap, &link, asked, summary)?;
+    writing_grows_nothing(rt, &heap, &link, asked, summary);
     let heap = Refusing::once(rt.alloc(), 0);
     a_map_grows_by_its_text(rt, &heap, &link, asked)
 }
@@ -280,19 +274,18 @@ const PLANS: [(Base, &str, &str, (u64, u64)); 3] = [
 ];
 
 #[test]
-fn writing_takes_no_memory(rt: HostRuntime) -> Result<(), Fail> {
+fn writing_takes_no_memory(rt: HostRuntime) {
     let alloc = rt.alloc();
     for (base, planned, summary, asked) in PLANS {
-        let host = base.host(alloc)?;
-        let library = base.library(alloc)?;
-        let linked = base.linked(alloc)?;
+        let host = base.host(alloc).expect(&rt, "unexpected error");
+        let library = base.library(alloc).expect(&rt, "unexpected error");
+        let linked = base.linked(alloc).expect(&rt, "unexpected error");
         let library = [library.as_slice()];
         let link = Link {
             host: host.as_slice(),
             libraries: base.libraries(&library),
             linked: linked.as_slice(),
         };
-        only_the_plan_grows(&rt, link, planned, summary, asked)?;
+        only_the_plan_grows(&rt, link, planned, summary, asked);
     }
-    Ok(())
 }

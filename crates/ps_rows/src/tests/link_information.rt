@@ -9,7 +9,6 @@ use ps_words::{Order, Reason};
 use std::alloc::{AllocError, Global};
 use std::hash::{DefaultHasher, Hasher};
 use std::process::Abort;
-use std::test::Fail;
 
 /// What link information comes to: its records, definitions, privates, publics, units and
 /// references, and its end mark's value.
@@ -52,16 +51,15 @@ fn comes_to(
     wanted: [usize; 7],
     records: &str,
     names: &[Name],
-) -> Result<(), Fail> {
+) {
     assert!(rt; counts(information) == wanted, "{records}");
     assert!(rt; information.is_empty() == (wanted[0] == 0), "{records}");
-    let text = list(rt.alloc(), information)?;
+    let text = list(rt.alloc(), information).expect(rt, "unexpected error");
     assert!(rt; text.as_str() == records, "{text}");
     assert!(rt;
         information.digest().finish() == digest_of(names),
         "{records}"
     );
-    Ok(())
 }
 
 /// Records that are filled up with words 65535, and one of no type behind the end mark.
@@ -82,9 +80,9 @@ const BASE_READ: &str =
     "0 PUBLREF COUNT    at 1; 1 PRIVREF STATE    words 4 at 4; 2 EOFMARK next 0; ";
 
 #[test]
-fn records_counts_and_names(rt: HostRuntime) -> Result<(), Fail> {
+fn records_counts_and_names(rt: HostRuntime) {
     let none = LinkInformation::none();
-    comes_to(&rt, &none, [0; 7], "", &[])?;
+    comes_to(&rt, &none, [0; 7], "", &[]);
     match LinkInformation::read(Order::Little, &WORDS_IN_FULL) {
         Ok(information) => {
             let counts = [5, 2, 0, 1, 1, 1, 264];
@@ -94,12 +92,15 @@ fn records_counts_and_names(rt: HostRuntime) -> Result<(), Fail> {
                 counts,
                 WORDS_IN_FULL_READ,
                 &[LIMIT, COUNT],
-            )?;
+            );
         }
         Err(fault) => assert!(rt; false, "{fault:?}"),
     }
     for order in [Order::Little, Order::Big] {
-        let bytes = Information::new(rt.alloc(), order, &LIBRARY_RECORDS)?;
+        let bytes = Information::new(rt.alloc(), order, &LIBRARY_RECORDS).expect(
+            &rt,
+            "unexpected error",
+        );
         match LinkInformation::read(order, bytes.as_slice()) {
             Ok(information) => {
                 comes_to(
@@ -108,18 +109,20 @@ fn records_counts_and_names(rt: HostRuntime) -> Result<(), Fail> {
                     [3, 0, 1, 1, 0, 2, 0],
                     BASE_READ,
                     &[STATE],
-                )?;
+                );
             }
             Err(fault) => assert!(rt; false, "{fault:?}"),
         }
     }
-    Ok(())
 }
 
 #[test]
-fn the_first_fault(rt: HostRuntime) -> Result<(), Fail> {
+fn the_first_fault(rt: HostRuntime) {
     for order in [Order::Little, Order::Big] {
-        let information = Information::new(rt.alloc(), order, &LIBRARY_RECORDS)?;
+        let information = Information::new(rt.alloc(), order, &LIBRARY_RECORDS).expect(
+            &rt,
+            "unexpected error",
+        );
         for (length, rec) in [(79, 2), (64, 2), (63, 1), (31, 0), (0, 0)] {
             let cut = information.as_slice().get(..length).unwrap_or(&[]);
             let fault = LinkInformation::read(order, cut).err();
@@ -130,10 +133,12 @@ fn the_first_fault(rt: HostRuntime) -> Result<(), Fail> {
             );
         }
         let records = [LIBRARY_RECORDS[1], Other(COUNT, 11, [2, 0, 0])];
-        let information = Information::new(rt.alloc(), order, &records)?;
+        let information = Information::new(rt.alloc(), order, &records).expect(
+            &rt,
+            "unexpected error",
+        );
         let fault = LinkInformation::read(order, information.as_slice()).err();
         let reason = Reason::SeparateRecord;
         assert!(rt; fault == Some(ReadFault { rec: 1, reason }));
     }
-    Ok(())
 }

@@ -12,7 +12,6 @@ use ps_linkfile::show_text;
 use ps_words::Order;
 use std::process::Abort;
 use std::str;
-use std::test::Fail;
 
 const ZEROS: Name = [0; 8];
 
@@ -79,19 +78,24 @@ fn shows_records(
     order: Order,
     records: &[Record<'_>],
     text: &str,
-) -> Result<(), Fail> {
+) {
     let alloc = rt.alloc();
-    let library = base_library(alloc, order)?.with(alloc, &[Records(2, records)])?;
+    let library = base_library(alloc, order)
+        .expect(rt, "unexpected error")
+        .with(alloc, &[Records(2, records)])
+        .expect(rt, "unexpected error");
     shows(rt, what, &library, text)
 }
 
 #[test]
-fn the_show_of_units_that_a_file_has_and_has_not(rt: HostRuntime) -> Result<(), Fail> {
+fn the_show_of_units_that_a_file_has_and_has_not(rt: HostRuntime) {
     let alloc = rt.alloc();
     for (references, line) in UNLISTED {
         let records = [UnitReference(AUX, references), End(0)];
-        let text = format!(in alloc; "{SLOTS_OF_THE_LIBRARY}links 02\n{line}\n1 EOFMARK next 0\n")?;
-        shows_records(&rt, line, LITTLE, &records, text.as_str())?;
+        let text = format!(in alloc;
+            "{SLOTS_OF_THE_LIBRARY}links 02\n{line}\n1 EOFMARK next 0\n"
+        ).expect(&rt, "unexpected error");
+        shows_records(&rt, line, LITTLE, &records, text.as_str());
     }
     let records = [
         UnitReference(UTIL, &[2]),
@@ -99,8 +103,8 @@ fn the_show_of_units_that_a_file_has_and_has_not(rt: HostRuntime) -> Result<(), 
         End(0),
     ];
     let what = "a big-endian library";
-    shows_records(&rt, what, Order::Big, &records, SHOWN_BIG_ENDIAN)?;
-    let library = library_of_a_used_unit(alloc, LITTLE)?;
+    shows_records(&rt, what, Order::Big, &records, SHOWN_BIG_ENDIAN);
+    let library = library_of_a_used_unit(alloc, LITTLE).expect(&rt, "unexpected error");
     shows(&rt, "both units", &library, SHOW_OF_THE_LIBRARY_OF_TWO)
 }
 
@@ -208,7 +212,7 @@ fn shows_last(
     file: &CodeFile,
     links: &str,
     lines: &str,
-) -> Result<(), Fail> {
+) {
     let text = show_text(rt.alloc(), file.as_slice());
     match text {
         Ok(bytes) => {
@@ -218,7 +222,6 @@ fn shows_last(
         }
         Err(_) => assert!(rt; false, "{what}: no text"),
     }
-    Ok(())
 }
 
 /// The records of a host that names units, and how they are shown.
@@ -233,12 +236,18 @@ const SHOWN_OF_A_HOST: &str =
     "0 UNITREF UTIL     at 2\n1 UNITREF AUX      at 4 unlisted\n2 UNITREF DEMO     at 6 unlisted\n3 EOFMARK next 8\n";
 
 #[test]
-fn the_show_of_records_by_their_names(rt: HostRuntime) -> Result<(), Fail> {
+fn the_show_of_records_by_their_names(rt: HostRuntime) {
     let alloc = rt.alloc();
     for (what, changes, lines) in RECORDS {
-        let library = base_library(alloc, LITTLE)?.with(alloc, changes)?;
-        shows_last(&rt, what, &library, "links 02\n", lines)?;
+        let library = base_library(alloc, LITTLE)
+            .expect(&rt, "unexpected error")
+            .with(alloc, changes)
+            .expect(&rt, "unexpected error");
+        shows_last(&rt, what, &library, "links 02\n", lines);
     }
-    let host = base_host(alloc, LITTLE)?.with(alloc, &[Records(2, &RECORDS_OF_A_HOST)])?;
+    let host = base_host(alloc, LITTLE)
+        .expect(&rt, "unexpected error")
+        .with(alloc, &[Records(2, &RECORDS_OF_A_HOST)])
+        .expect(&rt, "unexpected error");
     shows_last(&rt, "a host", &host, "links 01\n", SHOWN_OF_A_HOST)
 }

@@ -18,7 +18,6 @@ use ps_linkinfo::{Body, LinkRecord, read_records};
 use ps_resolve::{Allotment, Def, DefKind, Linkage};
 use std::alloc::{AllocError, Global};
 use std::process::Abort;
-use std::test::Fail;
 
 /// How many names are numbers.
 const NUMBERED: usize = 99_999;
@@ -102,19 +101,22 @@ fn defined(alloc: Global) -> Result<Vec<(Name, Def)>, AllocError> {
 }
 
 #[test]
-fn definitions_by_name_and_by_index(rt: HostRuntime) -> Result<(), Fail> {
+fn definitions_by_name_and_by_index(rt: HostRuntime) {
     let alloc = rt.alloc();
-    let references = references(alloc)?;
+    let references = references(alloc).expect(&rt, "unexpected error");
     let before = [PublicReference(STATE, references.as_slice())];
-    let records = definitions(alloc, &before, &[])?;
-    let information = Information::new(alloc, LITTLE, records.as_slice())?;
+    let records = definitions(alloc, &before, &[]).expect(&rt, "unexpected error");
+    let information = Information::new(alloc, LITTLE, records.as_slice()).expect(
+        &rt,
+        "unexpected error",
+    );
     let host = Linkage {
         file: 0,
         slot: 1,
         order: LITTLE,
         bytes: information.as_slice(),
     };
-    let wanted = defined(alloc)?;
+    let wanted = defined(alloc).expect(&rt, "unexpected error");
     assert!(rt; wanted.len() == NAMES);
     builds_definitions(&rt, &host, wanted.as_slice(), &numbered(NUMBERED))
 }
@@ -133,12 +135,15 @@ fn has_private_variables(rt: &impl Abort, allotment: &Allotment) {
 }
 
 #[test]
-fn private_variables_by_record(rt: HostRuntime) -> Result<(), Fail> {
+fn private_variables_by_record(rt: HostRuntime) {
     let alloc = rt.alloc();
-    let references = references(alloc)?;
+    let references = references(alloc).expect(&rt, "unexpected error");
     let before = [PrivateReference(COUNT, 2, references.as_slice())];
-    let records = private_variables(alloc, &before, &[])?;
-    let information = Information::new(alloc, LITTLE, records.as_slice())?;
+    let records = private_variables(alloc, &before, &[]).expect(&rt, "unexpected error");
+    let information = Information::new(alloc, LITTLE, records.as_slice()).expect(
+        &rt,
+        "unexpected error",
+    );
     let segment = Linkage {
         file: 1,
         slot: 7,
@@ -149,7 +154,6 @@ fn private_variables_by_record(rt: HostRuntime) -> Result<(), Fail> {
         Ok(allotment) => has_private_variables(&rt, &allotment),
         Err(_) => assert!(rt; false, "no allotment"),
     }
-    Ok(())
 }
 
 /// The value of a record that is a public definition.
@@ -170,15 +174,17 @@ fn are_definitions(rt: &impl Abort, records: &[LinkRecord<'_>]) {
 }
 
 #[test]
-fn records_read_into_a_list(rt: HostRuntime) -> Result<(), Fail> {
+fn records_read_into_a_list(rt: HostRuntime) {
     let alloc = rt.alloc();
-    let records = definitions(alloc, &[], &[])?;
-    let information = Information::new(alloc, LITTLE, records.as_slice())?;
+    let records = definitions(alloc, &[], &[]).expect(&rt, "unexpected error");
+    let information = Information::new(alloc, LITTLE, records.as_slice()).expect(
+        &rt,
+        "unexpected error",
+    );
     match read_records(alloc, LITTLE, information.as_slice()) {
         Ok(read) => are_definitions(&rt, read.as_slice()),
         Err(_) => assert!(rt; false, "no records"),
     }
-    Ok(())
 }
 
 /// The map of the base pair with all of these.
@@ -211,18 +217,27 @@ fn long_file(
 }
 
 #[test]
-fn a_link_and_its_map(rt: HostRuntime) -> Result<(), Fail> {
+fn a_link_and_its_map(rt: HostRuntime) {
     let alloc = rt.alloc();
-    let definitions = definitions(alloc, &[], &[])?;
-    let host = long_file(alloc, base_host(alloc, LITTLE)?, definitions.as_slice())?;
-    let private_variables = private_variables(alloc, &[PublicReference(COUNT, &[1])], &[])?;
+    let definitions = definitions(alloc, &[], &[]).expect(&rt, "unexpected error");
+    let host = long_file(
+        alloc,
+        base_host(alloc, LITTLE).expect(&rt, "unexpected error"),
+        definitions.as_slice(),
+    )
+    .expect(&rt, "unexpected error");
+    let private_variables = private_variables(alloc, &[PublicReference(COUNT, &[1])], &[]).expect(
+        &rt,
+        "unexpected error",
+    );
     let library = long_file(
         alloc,
-        base_library(alloc, LITTLE)?,
+        base_library(alloc, LITTLE).expect(&rt, "unexpected error"),
         private_variables.as_slice(),
-    )?;
-    let linked = linked_base_pair(alloc, LITTLE)?;
-    let map = map(alloc)?;
+    )
+    .expect(&rt, "unexpected error");
+    let linked = linked_base_pair(alloc, LITTLE).expect(&rt, "unexpected error");
+    let map = map(alloc).expect(&rt, "unexpected error");
     let libraries = [library.as_slice()];
     let link = Link {
         host: host.as_slice(),
@@ -231,7 +246,7 @@ fn a_link_and_its_map(rt: HostRuntime) -> Result<(), Fail> {
     };
     let planned = "edits 2 3 private words 4";
     let summary = "segments 2 private words 4 blocks 3";
-    answers_each_call(&rt, link, planned, summary, map.as_str())?;
+    answers_each_call(&rt, link, planned, summary, map.as_str());
     let call = Map {
         host: host.as_slice(),
         libraries: libraries.as_slice(),
@@ -266,22 +281,31 @@ const LATE_IN_THE_LIBRARY: [(Record<'static>, &str); 4] = [
 ];
 
 #[test]
-fn faults_behind_a_hundred_thousand_records(rt: HostRuntime) -> Result<(), Fail> {
+fn faults_behind_a_hundred_thousand_records(rt: HostRuntime) {
     let alloc = rt.alloc();
     let (record, fault) = LATE_IN_THE_HOST;
-    let records = definitions(alloc, &[], &[record])?;
-    let host = long_file(alloc, base_host(alloc, LITTLE)?, records.as_slice())?;
-    let library = base_library(alloc, LITTLE)?;
+    let records = definitions(alloc, &[], &[record]).expect(&rt, "unexpected error");
+    let host = long_file(
+        alloc,
+        base_host(alloc, LITTLE).expect(&rt, "unexpected error"),
+        records.as_slice(),
+    )
+    .expect(&rt, "unexpected error");
+    let library = base_library(alloc, LITTLE).expect(&rt, "unexpected error");
     let libraries = [library.as_slice()];
-    refuses(&rt, "the host", host.as_slice(), &libraries, fault)?;
-    let host = base_host(alloc, LITTLE)?;
+    refuses(&rt, "the host", host.as_slice(), &libraries, fault);
+    let host = base_host(alloc, LITTLE).expect(&rt, "unexpected error");
     for (record, fault) in LATE_IN_THE_LIBRARY {
-        let records = private_variables(alloc, &[], &[record])?;
-        let library = long_file(alloc, base_library(alloc, LITTLE)?, records.as_slice())?;
+        let records = private_variables(alloc, &[], &[record]).expect(&rt, "unexpected error");
+        let library = long_file(
+            alloc,
+            base_library(alloc, LITTLE).expect(&rt, "unexpected error"),
+            records.as_slice(),
+        )
+        .expect(&rt, "unexpected error");
         let libraries = [library.as_slice()];
-        refuses(&rt, "the library", host.as_slice(), &libraries, fault)?;
+        refuses(&rt, "the library", host.as_slice(), &libraries, fault);
     }
-    Ok(())
 }
 
 /// The show of the base library with all of these.
@@ -302,15 +326,18 @@ fn show(alloc: Global) -> Result<String, AllocError> {
 }
 
 #[test]
-fn a_show_of_megabytes(rt: HostRuntime) -> Result<(), Fail> {
+fn a_show_of_megabytes(rt: HostRuntime) {
     let alloc = rt.alloc();
-    let references = references(alloc)?;
+    let references = references(alloc).expect(&rt, "unexpected error");
     let before = [PublicReference(STATE, references.as_slice())];
-    let records = definitions(alloc, &before, &[])?;
+    let records = definitions(alloc, &before, &[]).expect(&rt, "unexpected error");
     let changes = [Resized(LENGTH), Records(2, records.as_slice())];
-    let library = base_library(alloc, LITTLE)?.with(alloc, &changes)?;
-    let wanted = show(alloc)?;
-    let text = show_text(alloc, library.as_slice())?;
+    let library = base_library(alloc, LITTLE)
+        .expect(&rt, "unexpected error")
+        .with(alloc, &changes)
+        .expect(&rt, "unexpected error");
+    let wanted = show(alloc).expect(&rt, "unexpected error");
+    let text = show_text(alloc, library.as_slice()).expect(&rt, "unexpected error");
     assert!(rt; text.as_slice() == wanted.as_bytes(), "another text");
     assert!(rt; text.len() > 2_000_000);
     let call = Show {

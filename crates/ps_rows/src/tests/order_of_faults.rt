@@ -11,7 +11,6 @@ use crate::information::Record::{End, PrivateReference, PublicDefinition, Public
 use ps_words::Order;
 use std::alloc::{AllocError, Global};
 use std::process::Abort;
-use std::test::Fail;
 
 /// Faults of dictionaries, and others after them.
 const DICTIONARIES: [Refusal<'static>; 9] = [
@@ -319,7 +318,7 @@ const TABLES: [Table<'static, Refusal<'static>>; 4] = [
 ];
 
 #[test]
-fn the_first_of_several_faults(rt: HostRuntime) -> Result<(), Fail> {
+fn the_first_of_several_faults(rt: HostRuntime) {
     refuse_tables(&rt, &TABLES)
 }
 
@@ -356,12 +355,12 @@ fn refuses_libraries(
     what: &str,
     [first, second, third]: [Library; 3],
     fault: &str,
-) -> Result<(), Fail> {
+) {
     let alloc = rt.alloc();
-    let host = base_host(alloc, LITTLE)?;
-    let first = first.file(alloc)?;
-    let second = second.file(alloc)?;
-    let third = third.file(alloc)?;
+    let host = base_host(alloc, LITTLE).expect(rt, "unexpected error");
+    let first = first.file(alloc).expect(rt, "unexpected error");
+    let second = second.file(alloc).expect(rt, "unexpected error");
+    let third = third.file(alloc).expect(rt, "unexpected error");
     let libraries = [first.as_slice(), second.as_slice(), third.as_slice()];
     refuses(rt, what, host.as_slice(), &libraries, fault)
 }
@@ -391,19 +390,21 @@ const LIBRARIES: [(&str, [Library; 3], &str); 4] = [
 ];
 
 #[test]
-fn libraries_in_order(rt: HostRuntime) -> Result<(), Fail> {
+fn libraries_in_order(rt: HostRuntime) {
     for (what, libraries, fault) in LIBRARIES {
-        refuses_libraries(&rt, what, libraries, fault)?;
+        refuses_libraries(&rt, what, libraries, fault);
     }
-    Ok(())
 }
 
 #[test]
-fn libraries_before_codes(rt: HostRuntime) -> Result<(), Fail> {
+fn libraries_before_codes(rt: HostRuntime) {
     let alloc = rt.alloc();
-    let host = base_host(alloc, LITTLE)?.with(alloc, &[Length(1, 17)])?;
-    let base = base_library(alloc, LITTLE)?;
-    let big = base_library(alloc, Order::Big)?;
+    let host = base_host(alloc, LITTLE)
+        .expect(&rt, "unexpected error")
+        .with(alloc, &[Length(1, 17)])
+        .expect(&rt, "unexpected error");
+    let base = base_library(alloc, LITTLE).expect(&rt, "unexpected error");
+    let big = base_library(alloc, Order::Big).expect(&rt, "unexpected error");
     let libraries = [base.as_slice(), big.as_slice()];
     let fault = "refused 3 OrderMismatch file 2";
     refuses(&rt, "an order", host.as_slice(), &libraries, fault)

@@ -6,7 +6,6 @@ use crate::code_file::Change::{Address, Bytes, Code, Entry, Kind, Length, Record
 use crate::information::Record::{
     ConstantDefinition, End, PrivateReference, PublicDefinition, PublicReference, UnitReference,
 };
-use std::test::Fail;
 
 /// Segment dictionaries of the library.
 const LIBRARIES: [Refusal<'static>; 11] = [
@@ -345,6 +344,6 @@ const FAULTS: [Table<'static, Refusal<'static>>; 12] = [
 ];
 
 #[test]
-fn faults_of_a_pair(rt: HostRuntime) -> Result<(), Fail> {
+fn faults_of_a_pair(rt: HostRuntime) {
     refuse_tables(&rt, &FAULTS)
 }

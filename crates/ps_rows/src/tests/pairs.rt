@@ -9,7 +9,6 @@ use crate::code_file::{LINKED, Slot, TAIL, UNIT_SEGMENT};
 use crate::in_place::linked_unit_in_place;
 use crate::information::Record::{End, PrivateReference, PublicDefinition, PublicReference};
 use ps_words::Order;
-use std::test::Fail;
 
 const BASE_SUMMARY: &str = "segments 2 private words 4 blocks 3";
 
@@ -252,47 +251,48 @@ const LINKS: [Table<'static, Row<'static>>; 8] = [
 ];
 
 #[test]
-fn links_of_a_pair(rt: HostRuntime) -> Result<(), Fail> {
+fn links_of_a_pair(rt: HostRuntime) {
     link_tables(&rt, &LINKS)
 }
 
 #[test]
-fn a_linked_file_behind_its_library(rt: HostRuntime) -> Result<(), Fail> {
+fn a_linked_file_behind_its_library(rt: HostRuntime) {
     let alloc = rt.alloc();
     for order in [Order::Little, Order::Big] {
-        let host = base_host(alloc, order)?;
-        let library = base_library(alloc, order)?;
-        let linked = linked_base_pair(alloc, order)?;
+        let host = base_host(alloc, order).expect(&rt, "unexpected error");
+        let library = base_library(alloc, order).expect(&rt, "unexpected error");
+        let linked = linked_base_pair(alloc, order).expect(&rt, "unexpected error");
         let (host, library, linked) = (host.as_slice(), library.as_slice(), linked.as_slice());
         let what = "and a linked file";
-        links(&rt, what, host, &[library, linked], BASE_SUMMARY, linked)?;
+        links(&rt, what, host, &[library, linked], BASE_SUMMARY, linked);
     }
-    Ok(())
 }
 
 #[test]
-fn a_linked_file_is_no_host(rt: HostRuntime) -> Result<(), Fail> {
+fn a_linked_file_is_no_host(rt: HostRuntime) {
     let alloc = rt.alloc();
     let fault = "refused 4 NoHost file 0";
     for order in [Order::Little, Order::Big] {
-        let linked = linked_base_pair(alloc, order)?;
-        let library = base_library(alloc, order)?;
+        let linked = linked_base_pair(alloc, order).expect(&rt, "unexpected error");
+        let library = base_library(alloc, order).expect(&rt, "unexpected error");
         let libraries = [library.as_slice()];
-        refuses(&rt, "linked", linked.as_slice(), &libraries, fault)?;
-        refuses(&rt, "no library", linked.as_slice(), &[], fault)?;
-        let linked = linked_unit_in_place(alloc, order)?;
-        refuses(&rt, "in place", linked.as_slice(), &[], fault)?;
+        refuses(&rt, "linked", linked.as_slice(), &libraries, fault);
+        refuses(&rt, "no library", linked.as_slice(), &[], fault);
+        let linked = linked_unit_in_place(alloc, order).expect(&rt, "unexpected error");
+        refuses(&rt, "in place", linked.as_slice(), &[], fault);
     }
-    Ok(())
 }
 
 #[test]
-fn the_first_library_with_the_unit(rt: HostRuntime) -> Result<(), Fail> {
+fn the_first_library_with_the_unit(rt: HostRuntime) {
     let alloc = rt.alloc();
-    let host = base_host(alloc, LITTLE)?;
-    let base = base_library(alloc, LITTLE)?;
-    let other = base_library(alloc, LITTLE)?.with(alloc, &[CodeWord(1, 6, 0)])?;
-    let linked = linked_base_pair(alloc, LITTLE)?;
+    let host = base_host(alloc, LITTLE).expect(&rt, "unexpected error");
+    let base = base_library(alloc, LITTLE).expect(&rt, "unexpected error");
+    let other = base_library(alloc, LITTLE)
+        .expect(&rt, "unexpected error")
+        .with(alloc, &[CodeWord(1, 6, 0)])
+        .expect(&rt, "unexpected error");
+    let linked = linked_base_pair(alloc, LITTLE).expect(&rt, "unexpected error");
     let libraries = [base.as_slice(), other.as_slice()];
     links(
         &rt,
@@ -301,8 +301,10 @@ fn the_first_library_with_the_unit(rt: HostRuntime) -> Result<(), Fail> {
         &libraries,
         BASE_SUMMARY,
         linked.as_slice(),
-    )?;
-    let linked = linked.with(alloc, &[CodeWord(2, 6, 0)])?;
+    );
+    let linked = linked
+        .with(alloc, &[CodeWord(2, 6, 0)])
+        .expect(&rt, "unexpected error");
     let libraries = [other.as_slice(), base.as_slice()];
     links(
         &rt,

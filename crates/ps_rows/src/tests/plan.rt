@@ -11,10 +11,9 @@ use crate::information::Record::{
 use crate::information::{Name, Record};
 use ps_codefile::Dict;
 use ps_resolve::{Allotment, Def, DefKind, Definitions, Linkage, Plan, Source, Stop, resolve};
-use ps_words::{Edit, Order};
+use ps_words::{Edit, Order, Reason};
 use std::alloc::{AllocError, Allocator, Global};
 use std::process::Abort;
-use std::test::Fail;
 
 const ORDERS: [Order; 2] = [Order::Little, Order::Big];
 
@@ -30,7 +29,7 @@ fn text_of(alloc: Global, stop: &Stop) -> Result<String, AllocError> {
 }
 
 /// The link information of the host segment.
-fn host_linkage(host: &[u8]) -> Result<Linkage<'_>, Fail> {
+fn host_linkage(host: &[u8]) -> Result<Linkage<'_>, Reason> {
     let dictionary = Dict::read(host)?;
     Ok(Linkage {
         file: 0,
@@ -41,7 +40,7 @@ fn host_linkage(host: &[u8]) -> Result<Linkage<'_>, Fail> {
 }
 
 /// The link information of the unit in the library.
-fn unit_linkage(library: &[u8], order: Order) -> Result<Linkage<'_>, Fail> {
+fn unit_linkage(library: &[u8], order: Order) -> Result<Linkage<'_>, Reason> {
     Ok(Linkage {
         file: 1,
         slot: UTIL_SLOT,
@@ -115,7 +114,7 @@ pub(crate) fn has_definitions(
     definitions: &Definitions,
     wanted: &[(Name, Def)],
     absent: &Name,
-) -> Result<(), Fail> {
+) {
     assert!(rt; definitions.len() == wanted.len());
     for i in 0..definitions.len() {
         let (name, def) = definitions.at(i);
@@ -123,7 +122,6 @@ pub(crate) fn has_definitions(
         assert!(rt; definitions.look(&name) == Some(def), "{i}");
     }
     assert!(rt; definitions.look(absent) == None);
-    Ok(())
 }
 
 /// Builds definitions and checks them.
@@ -132,12 +130,11 @@ pub(crate) fn builds_definitions(
     host: &Linkage<'_>,
     wanted: &[(Name, Def)],
     absent: &Name,
-) -> Result<(), Fail> {
+) {
     match Definitions::build(rt.alloc(), host) {
-        Ok(definitions) => has_definitions(rt, &definitions, wanted, absent)?,
+        Ok(definitions) => has_definitions(rt, &definitions, wanted, absent),
         Err(_) => assert!(rt; false, "no definitions"),
     }
-    Ok(())
 }
 
 /// The definitions of the base host, and a constant of another one.
@@ -158,15 +155,15 @@ const LIMIT_IS_9: (Name, Def) = (
 );
 
 #[test]
-fn definitions_by_index_and_by_name(rt: HostRuntime) -> Result<(), Fail> {
+fn definitions_by_index_and_by_name(rt: HostRuntime) {
     let alloc = rt.alloc();
     for order in ORDERS {
-        let host = base_host(alloc, order)?;
+        let host = base_host(alloc, order).expect(&rt, "unexpected error");
         let call = BuildDefinitions {
-            host: host_linkage(host.as_slice())?,
+            host: host_linkage(host.as_slice()).expect(&rt, "unexpected error"),
         };
-        refuses_each_allocation(&rt, "the base host", &call, "COUNT    Public 3; ")?;
-        builds_definitions(&rt, &call.host, &[COUNT_IS_3], &STATE)?;
+        refuses_each_allocation(&rt, "the base host", &call, "COUNT    Public 3; ");
+        builds_definitions(&rt, &call.host, &[COUNT_IS_3], &STATE);
     }
     let records = [
         PublicDefinition(COUNT, 3),
@@ -174,8 +171,11 @@ fn definitions_by_index_and_by_name(rt: HostRuntime) -> Result<(), Fail> {
         ConstantDefinition(LIMIT, 9),
         End(8),
     ];
-    let host = base_host(alloc, Order::Little)?.with(alloc, &[Records(2, &records)])?;
-    let host = host_linkage(host.as_slice())?;
+    let host = base_host(alloc, Order::Little)
+        .expect(&rt, "unexpected error")
+        .with(alloc, &[Records(2, &records)])
+        .expect(&rt, "unexpected error");
+    let host = host_linkage(host.as_slice()).expect(&rt, "unexpected error");
     builds_definitions(&rt, &host, &[COUNT_IS_3, LIMIT_IS_9], &STATE)
 }
 
@@ -199,22 +199,21 @@ fn has_offsets(rt: &impl Abort, allotment: &Allotment) {
 }
 
 #[test]
-fn the_unit_s_private_variable(rt: HostRuntime) -> Result<(), Fail> {
+fn the_unit_s_private_variable(rt: HostRuntime) {
     let alloc = rt.alloc();
     for order in ORDERS {
-        let library = base_library(alloc, order)?;
+        let library = base_library(alloc, order).expect(&rt, "unexpected error");
         let call = BuildAllotment {
             next: 8,
-            segment: unit_linkage(library.as_slice(), order)?,
+            segment: unit_linkage(library.as_slice(), order).expect(&rt, "unexpected error"),
         };
         let answer = "slot 7 record 1 STATE    offset 8 words 4; words 4 next 12";
-        refuses_each_allocation(&rt, "the unit", &call, answer)?;
+        refuses_each_allocation(&rt, "the unit", &call, answer);
         match Allotment::build(alloc, 8, &[call.segment]) {
             Ok(allotment) => has_offsets(&rt, &allotment),
             Err(_) => assert!(rt; false, "no allotment"),
         }
     }
-    Ok(())
 }
 
 /// Checks that no definitions are built of a host segment with these records.
@@ -223,11 +222,14 @@ fn refuses_definitions(
     what: &str,
     records: &[Record<'_>],
     fault: &str,
-) -> Result<(), Fail> {
+) {
     let alloc = rt.alloc();
-    let host = base_host(alloc, Order::Little)?.with(alloc, &[Records(2, records)])?;
+    let host = base_host(alloc, Order::Little)
+        .expect(rt, "unexpected error")
+        .with(alloc, &[Records(2, records)])
+        .expect(rt, "unexpected error");
     let call = BuildDefinitions {
-        host: host_linkage(host.as_slice())?,
+        host: host_linkage(host.as_slice()).expect(rt, "unexpected error"),
     };
     refuses_each_allocation(rt, what, &call, fault)
 }
@@ -239,27 +241,30 @@ fn refuses_allotment(
     next: u16,
     records: &[Record<'_>],
     fault: &str,
-) -> Result<(), Fail> {
+) {
     let alloc = rt.alloc();
-    let library = base_library(alloc, Order::Little)?.with(alloc, &[Records(2, records)])?;
+    let library = base_library(alloc, Order::Little)
+        .expect(rt, "unexpected error")
+        .with(alloc, &[Records(2, records)])
+        .expect(rt, "unexpected error");
     let call = BuildAllotment {
         next,
-        segment: unit_linkage(library.as_slice(), Order::Little)?,
+        segment: unit_linkage(library.as_slice(), Order::Little).expect(rt, "unexpected error"),
     };
     refuses_each_allocation(rt, what, &call, fault)
 }
 
 #[test]
-fn faults_of_single_calls(rt: HostRuntime) -> Result<(), Fail> {
+fn faults_of_single_calls(rt: HostRuntime) {
     let records = [
         PublicDefinition(COUNT, 3),
         ConstantDefinition(COUNT, 4),
         End(8),
     ];
     let fault = "refused 24 DoubledDefinition file 0 slot 1 record 1";
-    refuses_definitions(&rt, "a name twice", &records, fault)?;
+    refuses_definitions(&rt, "a name twice", &records, fault);
     let fault = "refused 26 NoRoom file 1 slot 7 record 1";
-    refuses_allotment(&rt, "no room", 32764, &LIBRARY_RECORDS, fault)?;
+    refuses_allotment(&rt, "no room", 32764, &LIBRARY_RECORDS, fault);
     let records = [
         PrivateReference(STATE, 4, &[]),
         PrivateReference(STATE, 4, &[]),
@@ -313,32 +318,25 @@ slot 7 file 1 entry 2 length 24: big at 1: 3 big at 4: 10 byte at 22: 7; \
 definitions 1 privates 1 words 4 next 12 data 18";
 
 /// Checks the plan of the base pair, and that it has the host's names and its tail.
-fn is_base_plan(
-    rt: &(impl Abort + AllocGlobal),
-    plan: &Plan<'_>,
-    order: Order,
-    host: &[u8],
-) -> Result<(), Fail> {
-    let text = describe(rt.alloc(), plan)?;
+fn is_base_plan(rt: &(impl Abort + AllocGlobal), plan: &Plan<'_>, order: Order, host: &[u8]) {
+    let text = describe(rt.alloc(), plan).expect(rt, "unexpected error");
     assert!(rt; text.as_str() == BASE_PLAN, "{text}");
     assert!(rt; plan.order() == order);
     assert!(rt; Some(plan.names().as_flattened()) == host.get(64..192));
     assert!(rt; Some(plan.tail()) == host.get(256..512));
-    Ok(())
 }
 
 #[test]
-fn the_base_pair(rt: HostRuntime) -> Result<(), Fail> {
+fn the_base_pair(rt: HostRuntime) {
     let alloc = rt.alloc();
     for order in ORDERS {
-        let host = base_host(alloc, order)?;
-        let library = base_library(alloc, order)?;
+        let host = base_host(alloc, order).expect(&rt, "unexpected error");
+        let library = base_library(alloc, order).expect(&rt, "unexpected error");
         match resolve(alloc, host.as_slice(), &[library.as_slice()]) {
-            Ok(plan) => is_base_plan(&rt, &plan, order, host.as_slice())?,
+            Ok(plan) => is_base_plan(&rt, &plan, order, host.as_slice()),
             Err(_) => assert!(rt; false, "no plan"),
         }
     }
-    Ok(())
 }
 
 /// The next free offset, the private words and the data size of a plan without libraries.
@@ -350,12 +348,14 @@ fn sizes(alloc: Global, host: &[u8]) -> Option<(u16, u16, u16)> {
 }
 
 #[test]
-fn no_private_words_behind_the_last_offset(rt: HostRuntime) -> Result<(), Fail> {
+fn no_private_words_behind_the_last_offset(rt: HostRuntime) {
     let alloc = rt.alloc();
     let changes = [Records(2, &[PublicDefinition(COUNT, 3), End(40000)])];
     for order in ORDERS {
-        let host = unit_in_place(alloc, order)?.with(alloc, &changes)?;
+        let host = unit_in_place(alloc, order)
+            .expect(&rt, "unexpected error")
+            .with(alloc, &changes)
+            .expect(&rt, "unexpected error");
         assert!(rt; sizes(alloc, host.as_slice()) == Some((40000, 0, 10)));
     }
-    Ok(())
 }

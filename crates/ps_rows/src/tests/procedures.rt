@@ -3,7 +3,6 @@ use crate::base::{UTIL_ENTRY, demo_code, util_code};
 use ps_codefile::Procs;
 use ps_words::{Order, Reason};
 use std::process::Abort;
-use std::test::Fail;
 
 const LITTLE: Order = Order::Little;
 
@@ -155,8 +154,8 @@ fn tables_of_small_codes(rt: HostRuntime) {
 }
 
 #[test]
-fn a_table_as_far_from_the_end_as_can_be(rt: HostRuntime) -> Result<(), Fail> {
-    let mut code = Vec::from_elem(rt.alloc(), 0xD7, 70000)?;
+fn a_table_as_far_from_the_end_as_can_be(rt: HostRuntime) {
+    let mut code = Vec::from_elem(rt.alloc(), 0xD7, 70000).expect(&rt, "unexpected error");
     let bytes = code.as_mut_slice();
     assert!(rt; bytes.len() == 70000);
     bytes[69488..70000].fill(0);
@@ -189,5 +188,4 @@ fn a_table_as_far_from_the_end_as_can_be(rt: HostRuntime) -> Result<(), Fail> {
         }
         Err(reason) => assert!(rt; false, "{reason:?}"),
     }
-    Ok(())
 }

@@ -3,7 +3,6 @@ use super::records::reads_records;
 use crate::base::COUNT;
 use crate::information::Record::{End, Other};
 use std::process::Abort;
-use std::test::Fail;
 
 /// What a record of a type and with these words is read as, an EOFMARK after it, or how it is
 /// refused.
@@ -49,36 +48,30 @@ const RECORDS: [(u16, [u16; 3], &str); 29] = [
 
 /// Checks what a record of this type and these words is read as, an EOFMARK after it, in either
 /// byte order.
-fn reads(
-    rt: &(impl Abort + AllocGlobal),
-    kind: u16,
-    words: [u16; 3],
-    wanted: &str,
-) -> Result<(), Fail> {
-    let what = format!(in rt.alloc(); "type {kind} words {words:?}")?;
+fn reads(rt: &(impl Abort + AllocGlobal), kind: u16, words: [u16; 3], wanted: &str) {
+    let what = format!(in rt.alloc(); "type {kind} words {words:?}").expect(rt, "unexpected error");
     let records = [Other(COUNT, kind, words), End(0)];
     reads_records(rt, what.as_str(), &records, 32, wanted)
 }
 
 /// Checks how a PUBLREF record of this format is refused whose list has one reference and is
 /// truncated.
-fn reads_cut_list(rt: &(impl Abort + AllocGlobal), format: u16, wanted: &str) -> Result<(), Fail> {
-    let what = format!(in rt.alloc(); "format {format}")?;
+fn reads_cut_list(rt: &(impl Abort + AllocGlobal), format: u16, wanted: &str) {
+    let what = format!(in rt.alloc(); "format {format}").expect(rt, "unexpected error");
     let records = [Other(COUNT, 3, [format, 1, 0])];
     reads_records(rt, what.as_str(), &records, 16, wanted)
 }
 
 #[test]
-fn each_type_and_each_format_in_either_byte_order(rt: HostRuntime) -> Result<(), Fail> {
+fn each_type_and_each_format_in_either_byte_order(rt: HostRuntime) {
     for (kind, words, wanted) in &RECORDS {
-        reads(&rt, *kind, *words, *wanted)?;
+        reads(&rt, *kind, *words, *wanted);
     }
-    Ok(())
 }
 
 #[test]
-fn a_wrong_format_is_named_before_a_list_that_is_cut(rt: HostRuntime) -> Result<(), Fail> {
-    reads_cut_list(&rt, 0, "NativeRecord at record 0")?;
-    reads_cut_list(&rt, 1, "BadFormat at record 0")?;
+fn a_wrong_format_is_named_before_a_list_that_is_cut(rt: HostRuntime) {
+    reads_cut_list(&rt, 0, "NativeRecord at record 0");
+    reads_cut_list(&rt, 1, "BadFormat at record 0");
     reads_cut_list(&rt, 2, "RecordsTruncated at record 0")
 }

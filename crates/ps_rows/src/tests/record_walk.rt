@@ -7,7 +7,6 @@ use ps_linkinfo::Records;
 use ps_words::Order;
 use std::alloc::{AllocError, Global};
 use std::process::Abort;
-use std::test::Fail;
 
 /// The next item as text, and a record's size.
 fn next(alloc: Global, records: &mut Records<'_>) -> Result<(String, usize), AllocError> {
@@ -80,18 +79,13 @@ const WALKS: [Walk<'static>; 6] = [
 ];
 
 /// Checks the items in turn, and how many bytes each record takes.
-fn walks(
-    rt: &(impl Abort + AllocGlobal),
-    order: Order,
-    bytes: &[u8],
-    wanted: &[(&str, usize)],
-) -> Result<(), Fail> {
+fn walks(rt: &(impl Abort + AllocGlobal), order: Order, bytes: &[u8], wanted: &[(&str, usize)]) {
     let length = bytes.len();
     let mut records = Records::new(order, bytes);
     assert!(rt; records.used() == 0);
     for (item, used) in wanted {
         let before = records.used();
-        let (text, size) = next(rt.alloc(), &mut records)?;
+        let (text, size) = next(rt.alloc(), &mut records).expect(rt, "unexpected error");
         assert!(rt; text.as_str() == *item, "of {length} bytes: {text}");
         assert!(rt; records.used() == *used, "of {length} bytes: {text}");
         assert!(rt;
@@ -99,17 +93,18 @@ fn walks(
             "of {length} bytes: {text}"
         );
     }
-    Ok(())
 }
 
 #[test]
-fn records_one_by_one(rt: HostRuntime) -> Result<(), Fail> {
+fn records_one_by_one(rt: HostRuntime) {
     for order in [Order::Little, Order::Big] {
         for (records, length, items) in WALKS {
-            let information = Information::new(rt.alloc(), order, records)?;
+            let information = Information::new(rt.alloc(), order, records).expect(
+                &rt,
+                "unexpected error",
+            );
             let bytes = information.as_slice();
-            walks(&rt, order, bytes.get(..length).unwrap_or(&[]), items)?;
+            walks(&rt, order, bytes.get(..length).unwrap_or(&[]), items);
         }
     }
-    Ok(())
 }

@@ -10,7 +10,6 @@ use ps_linkinfo::{Body, LinkRecord, ReadStop, Refs, read_records};
 use ps_words::Order;
 use std::alloc::{AllocError, Allocator, Global};
 use std::process::Abort;
-use std::test::Fail;
 
 const LITTLE: Order = Order::Little;
 
@@ -79,11 +78,10 @@ pub(crate) fn reads(
     what: &str,
     bytes: &[u8],
     wanted: &str,
-) -> Result<(), Fail> {
+) {
     let alloc = rt.alloc();
-    let text = read(alloc, alloc, order, bytes)?;
+    let text = read(alloc, alloc, order, bytes).expect(rt, "unexpected error");
     assert!(rt; text.as_str() == wanted, "{what}: {text}");
-    Ok(())
 }
 
 /// Checks what these records are read as in either byte order, and how long they are.
@@ -93,14 +91,16 @@ pub(crate) fn reads_records(
     records: &[Record<'_>],
     length: usize,
     wanted: &str,
-) -> Result<(), Fail> {
+) {
     for order in [Order::Little, Order::Big] {
-        let information = Information::new(rt.alloc(), order, records)?;
+        let information = Information::new(rt.alloc(), order, records).expect(
+            rt,
+            "unexpected error",
+        );
         let bytes = information.as_slice();
         assert!(rt; bytes.len() == length, "{what}");
-        reads(rt, order, what, bytes, wanted)?;
+        reads(rt, order, what, bytes, wanted);
     }
-    Ok(())
 }
 
 /// Lengths to which the base library's link information is truncated, and what it is then read as.
@@ -113,17 +113,19 @@ const CUTS: [(&str, usize, &str); 5] = [
 ];
 
 #[test]
-fn the_base_library_and_its_cuts(rt: HostRuntime) -> Result<(), Fail> {
+fn the_base_library_and_its_cuts(rt: HostRuntime) {
     for order in [Order::Little, Order::Big] {
-        let information = Information::new(rt.alloc(), order, &LIBRARY_RECORDS)?;
+        let information = Information::new(rt.alloc(), order, &LIBRARY_RECORDS).expect(
+            &rt,
+            "unexpected error",
+        );
         let bytes = information.as_slice();
         assert!(rt; bytes.len() == 80);
         for (what, length, wanted) in CUTS {
             let cut = bytes.get(..length).unwrap_or(bytes);
-            reads(&rt, order, what, cut, wanted)?;
+            reads(&rt, order, what, cut, wanted);
         }
     }
-    Ok(())
 }
 
 /// A record of each type, and what they are read as.
@@ -172,11 +174,10 @@ const READ: [Read<'static>; 5] = [
 ];
 
 #[test]
-fn records_in_either_byte_order(rt: HostRuntime) -> Result<(), Fail> {
+fn records_in_either_byte_order(rt: HostRuntime) {
     for (what, records, length, wanted) in READ {
-        reads_records(&rt, what, records, length, wanted)?;
+        reads_records(&rt, what, records, length, wanted);
     }
-    Ok(())
 }
 
 /// Checks a record of references 0, 1, 2 and so on, as many as one can have, and an end mark.
@@ -195,11 +196,11 @@ fn have_every_reference(rt: &impl Abort, records: &[LinkRecord<'_>]) {
 }
 
 #[test]
-fn as_many_references_as_a_record_can_have(rt: HostRuntime) -> Result<(), Fail> {
+fn as_many_references_as_a_record_can_have(rt: HostRuntime) {
     let alloc = rt.alloc();
-    let references = references(alloc)?;
+    let references = references(alloc).expect(&rt, "unexpected error");
     let records = [PublicReference(COUNT, references.as_slice()), End(0)];
-    let information = Information::new(alloc, LITTLE, &records)?;
+    let information = Information::new(alloc, LITTLE, &records).expect(&rt, "unexpected error");
     let bytes = information.as_slice();
     assert!(rt; bytes.len() == 131104);
     match read_records(alloc, LITTLE, bytes) {

@@ -6,7 +6,6 @@ use crate::information::Information;
 use crate::information::Record::Other;
 use ps_words::Order;
 use std::alloc::{AllocError, Allocator, Global};
-use std::test::Fail;
 
 /// `read_records` on these little-endian bytes.
 #[derive(Clone, Copy)]
@@ -21,16 +20,20 @@ impl<'a> Allocating for ReadRecords<'a> {
 }
 
 #[test]
-fn each_allocation_refused_and_a_claimed_list_that_is_not_there(
-    rt: HostRuntime,
-) -> Result<(), Fail> {
-    let information = Information::new(rt.alloc(), Order::Little, &LIBRARY_RECORDS)?;
+fn each_allocation_refused_and_a_claimed_list_that_is_not_there(rt: HostRuntime) {
+    let information = Information::new(rt.alloc(), Order::Little, &LIBRARY_RECORDS).expect(
+        &rt,
+        "unexpected error",
+    );
     let call = ReadRecords {
         bytes: information.as_slice(),
     };
-    refuses_each_allocation(&rt, "the base library", &call, BASE_RECORDS)?;
+    refuses_each_allocation(&rt, "the base library", &call, BASE_RECORDS);
     let records = [Other(COUNT, 3, [2, 65535, 0])];
-    let information = Information::new(rt.alloc(), Order::Little, &records)?;
+    let information = Information::new(rt.alloc(), Order::Little, &records).expect(
+        &rt,
+        "unexpected error",
+    );
     let call = ReadRecords {
         bytes: information.as_slice(),
     };

@@ -1,7 +1,6 @@
 //! The allocator that refuses and counts.
 use refusing::Refusing;
 use std::alloc::Global;
-use std::test::Fail;
 
 #[test]
 fn one_allocation_is_refused_and_the_next_is_not(rt: HostRuntime) {
@@ -31,12 +30,12 @@ fn each_allocation_from_a_number_on_is_refused(rt: HostRuntime) {
 }
 
 #[test]
-fn the_bytes_of_all_allocations_are_added_up(rt: HostRuntime) -> Result<(), Fail> {
+fn the_bytes_of_all_allocations_are_added_up(rt: HostRuntime) {
     let heap = Refusing::once(rt.alloc(), 3);
-    let mut words = Vec::with_capacity(&heap, 5)?;
+    let mut words = Vec::with_capacity(&heap, 5).expect(&rt, "unexpected error");
     assert!(rt; words.push(7u64).is_ok());
     assert!(rt; heap.bytes() == 40);
-    let ends = Vec::from_elem(&heap, 0u16, 3)?;
+    let ends = Vec::from_elem(&heap, 0u16, 3).expect(&rt, "unexpected error");
     assert!(rt; ends.len() == 3);
     assert!(rt; heap.bytes() == 46);
     assert!(rt; Vec::from_elem(&heap, 1u8, 100).is_err());
@@ -44,7 +43,6 @@ fn the_bytes_of_all_allocations_are_added_up(rt: HostRuntime) -> Result<(), Fail
     words.shrink_to_fit();
     assert!(rt; heap.bytes() == 154);
     assert!(rt; heap.allocations() == 4);
-    Ok(())
 }
 
 #[test]

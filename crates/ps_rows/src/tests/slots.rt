@@ -12,7 +12,6 @@ use crate::information::Record::{End, PrivateReference, PublicDefinition};
 use crate::units::{AUX, LINKED_AUX};
 use ps_words::Order;
 use std::alloc::{AllocError, Global};
-use std::test::Fail;
 
 const BLANK: Name = [b' '; 8];
 
@@ -132,7 +131,7 @@ const IN_PLACE: [Row<'static>; 3] = [
 ];
 
 #[test]
-fn units_in_any_slot(rt: HostRuntime) -> Result<(), Fail> {
+fn units_in_any_slot(rt: HostRuntime) {
     let tables: [Table<'_, Row<'_>>; 2] = [
         (Base::Pair, AMPLE, &BELOW_THE_HOST),
         (Base::InPlace, AMPLE, &IN_PLACE),
@@ -183,15 +182,14 @@ fn linked_full_host(alloc: Global, order: Order, host_slot: u8) -> Result<CodeFi
 }
 
 #[test]
-fn sixteen_segments(rt: HostRuntime) -> Result<(), Fail> {
+fn sixteen_segments(rt: HostRuntime) {
     let alloc = rt.alloc();
     let summary = "segments 16 private words 0 blocks 17";
     for order in [Order::Little, Order::Big] {
         for (what, host_slot) in [("the host in the last slot", 15), ("in the first", 0)] {
-            let host = full_host(alloc, order, host_slot)?;
-            let linked = linked_full_host(alloc, order, host_slot)?;
-            links(&rt, what, host.as_slice(), &[], summary, linked.as_slice())?;
+            let host = full_host(alloc, order, host_slot).expect(&rt, "unexpected error");
+            let linked = linked_full_host(alloc, order, host_slot).expect(&rt, "unexpected error");
+            links(&rt, what, host.as_slice(), &[], summary, linked.as_slice());
         }
     }
-    Ok(())
 }

@@ -16,7 +16,6 @@ use crate::units::{
 use ps_words::Order;
 use std::alloc::{AllocError, Global};
 use std::process::Abort;
-use std::test::Fail;
 
 /// Changes of a file.
 pub(crate) type Changes<'a> = &'a [Change<'a>];
@@ -68,7 +67,7 @@ impl Memory {
         what: &str,
         link: &Link<'_>,
         answer: &str,
-    ) -> Result<(), Fail> {
+    ) {
         match self {
             Memory::Ample => links(rt, what, link.host, link.libraries, answer, link.linked),
             Memory::NoAllocation => makes_no_allocation(rt, what, link, answer),
@@ -190,10 +189,18 @@ impl Base {
         changes: (Changes<'_>, Changes<'_>),
         answer: &str,
         linked: &[u8],
-    ) -> Result<(), Fail> {
+    ) {
         let alloc = rt.alloc();
-        let host = self.host(alloc)?.with(alloc, changes.0)?;
-        let library = self.library(alloc)?.with(alloc, changes.1)?;
+        let host = self
+            .host(alloc)
+            .expect(rt, "unexpected error")
+            .with(alloc, changes.0)
+            .expect(rt, "unexpected error");
+        let library = self
+            .library(alloc)
+            .expect(rt, "unexpected error")
+            .with(alloc, changes.1)
+            .expect(rt, "unexpected error");
         let library = [library.as_slice()];
         let link = Link {
             host: host.as_slice(),
@@ -205,43 +212,32 @@ impl Base {
 }
 
 /// Checks one link of a table, with this memory.
-fn link_row(
-    rt: &(impl Abort + AllocGlobal),
-    base: Base,
-    memory: Memory,
-    row: &Row<'_>,
-) -> Result<(), Fail> {
+fn link_row(rt: &(impl Abort + AllocGlobal), base: Base, memory: Memory, row: &Row<'_>) {
     let alloc = rt.alloc();
-    let linked = base.linked(alloc)?.with(alloc, row.linked)?;
+    let linked = base
+        .linked(alloc)
+        .expect(rt, "unexpected error")
+        .with(alloc, row.linked)
+        .expect(rt, "unexpected error");
     let changes = (row.host, row.library);
     let linked = linked.as_slice();
     base.answers(rt, memory, row.what, changes, row.summary, linked)
 }
 
 /// Checks each link of a table, with this memory.
-fn link_rows(
-    rt: &(impl Abort + AllocGlobal),
-    base: Base,
-    memory: Memory,
-    rows: &[Row<'_>],
-) -> Result<(), Fail> {
+fn link_rows(rt: &(impl Abort + AllocGlobal), base: Base, memory: Memory, rows: &[Row<'_>]) {
     for row in rows {
-        link_row(rt, base, memory, row)?;
+        link_row(rt, base, memory, row);
     }
-    Ok(())
 }
 
 /// Checks each link of these tables.
-pub(crate) fn link_tables(
-    rt: &(impl Abort + AllocGlobal),
-    tables: &[Table<'_, Row<'_>>],
-) -> Result<(), Fail> {
+pub(crate) fn link_tables(rt: &(impl Abort + AllocGlobal), tables: &[Table<'_, Row<'_>>]) {
     for (base, memories, rows) in tables {
         for memory in *memories {
-            link_rows(rt, *base, *memory, rows)?;
+            link_rows(rt, *base, *memory, rows);
         }
     }
-    Ok(())
 }
 
 /// Checks each refusal of a table, with this memory, and that nothing is written.
@@ -250,22 +246,17 @@ fn refuse_rows(
     base: Base,
     memory: Memory,
     refusals: &[Refusal<'_>],
-) -> Result<(), Fail> {
+) {
     for (what, host, library, fault) in refusals {
-        base.answers(rt, memory, *what, (*host, *library), *fault, &[])?;
+        base.answers(rt, memory, *what, (*host, *library), *fault, &[]);
     }
-    Ok(())
 }
 
 /// Checks each refusal of these tables, and that nothing is written.
-pub(crate) fn refuse_tables(
-    rt: &(impl Abort + AllocGlobal),
-    tables: &[Table<'_, Refusal<'_>>],
-) -> Result<(), Fail> {
+pub(crate) fn refuse_tables(rt: &(impl Abort + AllocGlobal), tables: &[Table<'_, Refusal<'_>>]) {
     for (base, memories, refusals) in tables {
         for memory in *memories {
-            refuse_rows(rt, *base, *memory, refusals)?;
+            refuse_rows(rt, *base, *memory, refusals);
         }
     }
-    Ok(())
 }

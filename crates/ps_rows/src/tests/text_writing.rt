@@ -6,7 +6,6 @@ use ps_linkfile::{LinkError, prepare, write_show};
 use std::alloc::Global;
 use std::io::Write;
 use std::process::Abort;
-use std::test::Fail;
 
 /// A text that is written in pieces.
 pub(crate) trait Writing {
@@ -36,12 +35,12 @@ pub(crate) fn writes<T: Writing>(
     (room, per_write, full): (usize, usize, Full),
     answer: &str,
     counts: (u64, u64),
-) -> Result<(), Fail> {
+) {
     let alloc = rt.alloc();
-    let mut out = Room::new(alloc, room, per_write, full)?;
+    let mut out = Room::new(alloc, room, per_write, full).expect(rt, "unexpected error");
     let answered = match call.write(alloc, &mut out) {
-        Ok(()) => String::from_str(alloc, "written")?,
-        Err(error) => text_of_error(alloc, error)?,
+        Ok(()) => String::from_str(alloc, "written").expect(rt, "unexpected error"),
+        Err(error) => text_of_error(alloc, error).expect(rt, "unexpected error"),
     };
     assert!(rt;
         answered.as_str() == answer,
@@ -53,24 +52,19 @@ pub(crate) fn writes<T: Writing>(
         (out.writes(), out.failures(), out.flushes()) == (counts.0, counts.1, 0),
         "{room} {per_write}"
     );
-    Ok(())
 }
 
 /// Writes this short text into writers that take all or little, stall or fail. No write is made
 /// after one that failed.
-pub(crate) fn writes_text<T: Writing>(
-    rt: &(impl Abort + AllocGlobal),
-    call: &T,
-    text: &str,
-) -> Result<(), Fail> {
+pub(crate) fn writes_text<T: Writing>(rt: &(impl Abort + AllocGlobal), call: &T, text: &str) {
     for per_write in [1, 7, usize::MAX] {
         let count = text.len().div_ceil(per_write) as u64;
         let writer = (text.len(), per_write, Full::Fails);
-        writes(rt, (call, text), writer, "written", (count, 0))?;
+        writes(rt, (call, text), writer, "written", (count, 0));
     }
     for (room, count) in [(0, 1), (1, 2), (text.len().saturating_sub(1), 2)] {
         let writer = (room, usize::MAX, Full::Stalls);
-        writes(rt, (call, text), writer, "stalled", (count, 0))?;
+        writes(rt, (call, text), writer, "stalled", (count, 0));
         let writer = (room, usize::MAX, Full::Fails);
         writes(
             rt,
@@ -78,26 +72,23 @@ pub(crate) fn writes_text<T: Writing>(
             writer,
             "device error Interrupted",
             (count, 1),
-        )?;
+        );
     }
-    Ok(())
 }
 
 /// Writes this text of any length, and half of it.
-pub(crate) fn writes_long_text<T: Writing>(
-    rt: &(impl Abort + AllocGlobal),
-    call: &T,
-    text: &str,
-) -> Result<(), Fail> {
+pub(crate) fn writes_long_text<T: Writing>(rt: &(impl Abort + AllocGlobal), call: &T, text: &str) {
     let alloc = rt.alloc();
-    let mut out = Room::new(alloc, text.len(), usize::MAX, Full::Fails)?;
+    let mut out = Room::new(alloc, text.len(), usize::MAX, Full::Fails).expect(
+        rt,
+        "unexpected error",
+    );
     assert!(rt; call.write(alloc, &mut out).is_ok());
     assert!(rt; out.written() == text.as_bytes(), "another text");
     let half = text.len() / 2;
-    let mut out = Room::new(alloc, half, usize::MAX, Full::Fails)?;
+    let mut out = Room::new(alloc, half, usize::MAX, Full::Fails).expect(rt, "unexpected error");
     assert!(rt; call.write(alloc, &mut out).is_err());
     let prefix = text.as_bytes().get(..half).unwrap_or(&[]);
     assert!(rt; out.written() == prefix, "no prefix");
     assert!(rt; out.failures() == 1);
-    Ok(())
 }

@@ -13,7 +13,6 @@ use ps_linkfile::{LinkError, map_text, show_text};
 use std::alloc::{AllocError, Allocator, Global};
 use std::process::Abort;
 use std::str;
-use std::test::Fail;
 
 const MAP: &str = "segment 01 DEMO     file 0 entry 01 block 1 length 18
 segment 07 UTIL     file 1 entry 02 block 2 length 24
@@ -119,30 +118,28 @@ const DEFINITIONS: [Record<'static>; 3] = [
 ];
 
 /// Checks the map of a link, as a text and written.
-fn maps(
-    rt: &(impl Abort + AllocGlobal),
-    what: &str,
-    call: &Map<'_>,
-    text: &str,
-) -> Result<(), Fail> {
-    refuses_each_allocation(rt, what, call, text)?;
+fn maps(rt: &(impl Abort + AllocGlobal), what: &str, call: &Map<'_>, text: &str) {
+    refuses_each_allocation(rt, what, call, text);
     writes_text(rt, call, text)
 }
 
 #[test]
-fn maps_of_pairs(rt: HostRuntime) -> Result<(), Fail> {
+fn maps_of_pairs(rt: HostRuntime) {
     let alloc = rt.alloc();
     for (what, base, map) in MAPS {
-        let host = base.host(alloc)?;
-        let library = base.library(alloc)?;
+        let host = base.host(alloc).expect(&rt, "unexpected error");
+        let library = base.library(alloc).expect(&rt, "unexpected error");
         let call = Map {
             host: host.as_slice(),
             libraries: &[library.as_slice()],
         };
-        maps(&rt, what, &call, map)?;
+        maps(&rt, what, &call, map);
     }
-    let host = base_host(alloc, LITTLE)?.with(alloc, &[Records(2, &DEFINITIONS)])?;
-    let library = base_library(alloc, LITTLE)?;
+    let host = base_host(alloc, LITTLE)
+        .expect(&rt, "unexpected error")
+        .with(alloc, &[Records(2, &DEFINITIONS)])
+        .expect(&rt, "unexpected error");
+    let library = base_library(alloc, LITTLE).expect(&rt, "unexpected error");
     let call = Map {
         host: host.as_slice(),
         libraries: &[library.as_slice()],
@@ -151,16 +148,11 @@ fn maps_of_pairs(rt: HostRuntime) -> Result<(), Fail> {
 }
 
 /// Checks the show of a file, as a text and written.
-pub(crate) fn shows(
-    rt: &(impl Abort + AllocGlobal),
-    what: &str,
-    file: &CodeFile,
-    text: &str,
-) -> Result<(), Fail> {
+pub(crate) fn shows(rt: &(impl Abort + AllocGlobal), what: &str, file: &CodeFile, text: &str) {
     let call = Show {
         file: file.as_slice(),
     };
-    refuses_each_allocation(rt, what, &call, text)?;
+    refuses_each_allocation(rt, what, &call, text);
     writes_text(rt, &call, text)
 }
 
@@ -185,40 +177,48 @@ const SHOWS: [(&str, usize, &str); 3] = [
 ];
 
 #[test]
-fn shows_of_a_library(rt: HostRuntime) -> Result<(), Fail> {
+fn shows_of_a_library(rt: HostRuntime) {
     let alloc = rt.alloc();
     for (what, length, last) in SHOWS {
-        let library = base_library(alloc, LITTLE)?.with(alloc, &[Resized(length)])?;
-        let text = format!(in alloc; "{SLOTS_OF_THE_LIBRARY}{last}")?;
-        shows(&rt, what, &library, text.as_str())?;
+        let library = base_library(alloc, LITTLE)
+            .expect(&rt, "unexpected error")
+            .with(alloc, &[Resized(length)])
+            .expect(&rt, "unexpected error");
+        let text = format!(in alloc; "{SLOTS_OF_THE_LIBRARY}{last}").expect(
+            &rt,
+            "unexpected error",
+        );
+        shows(&rt, what, &library, text.as_str());
     }
-    Ok(())
 }
 
 #[test]
-fn maps_and_shows_that_are_refused(rt: HostRuntime) -> Result<(), Fail> {
+fn maps_and_shows_that_are_refused(rt: HostRuntime) {
     let alloc = rt.alloc();
-    let host = base_host(alloc, LITTLE)?;
+    let host = base_host(alloc, LITTLE).expect(&rt, "unexpected error");
     let call = Map {
         host: host.as_slice(),
         libraries: &[],
     };
     let refused = "refused 13 MissingUnit file 0 slot 7";
-    makes_no_allocation(&rt, "no library", &call, refused)?;
+    makes_no_allocation(&rt, "no library", &call, refused);
     let writer = (512, usize::MAX, Full::Fails);
-    writes(&rt, (&call, ""), writer, refused, (0, 0))?;
-    let short = CodeFile::new(alloc, LITTLE, 511)?;
+    writes(&rt, (&call, ""), writer, refused, (0, 0));
+    let short = CodeFile::new(alloc, LITTLE, 511).expect(&rt, "unexpected error");
     let call = Show {
         file: short.as_slice(),
     };
     let refused = "refused 1 ShortFile file 0";
-    makes_no_allocation(&rt, "short", &call, refused)?;
-    writes(&rt, (&call, ""), writer, refused, (0, 0))?;
-    let mixed = CodeFile::new(alloc, LITTLE, 512)?.with(alloc, &[Bytes(192, &[1, 1])])?;
+    makes_no_allocation(&rt, "short", &call, refused);
+    writes(&rt, (&call, ""), writer, refused, (0, 0));
+    let mixed = CodeFile::new(alloc, LITTLE, 512)
+        .expect(&rt, "unexpected error")
+        .with(alloc, &[Bytes(192, &[1, 1])])
+        .expect(&rt, "unexpected error");
     let call = Show {
         file: mixed.as_slice(),
     };
     let refused = "refused 2 NoOrder file 0";
-    makes_no_allocation(&rt, "mixed", &call, refused)?;
+    makes_no_allocation(&rt, "mixed", &call, refused);
     writes(&rt, (&call, ""), writer, refused, (0, 0))
 }

@@ -7,7 +7,6 @@ use std::alloc::{AllocError, Global};
 use std::io;
 use std::io::{ErrorKind, Write};
 use std::process::Abort;
-use std::test::Fail;
 
 /// What a counting writer counted.
 #[derive(Clone, Copy, Debug, PartialEq, Eq)]
@@ -62,9 +61,9 @@ fn tells(
     writer: Writer,
     answer: &str,
     wanted: Tallied,
-) -> Result<(), Fail> {
+) {
     let (room, per_write, _) = writer;
-    let (text, counted, inner) = told(rt.alloc(), linked, writer)?;
+    let (text, counted, inner) = told(rt.alloc(), linked, writer).expect(rt, "unexpected error");
     assert!(rt; text.as_str() == answer, "{room} {per_write}: {text}");
     assert!(rt; counted == wanted, "{room} {per_write}");
     let made = (inner.writes(), inner.failures(), inner.flushes());
@@ -74,7 +73,6 @@ fn tells(
     );
     let prefix = file.get(..room).unwrap_or(&[]);
     assert!(rt; inner.written() == prefix, "{room} {per_write}");
-    Ok(())
 }
 
 /// How much a write takes at most, how many writes there are of the three blocks, and how many of
@@ -89,11 +87,7 @@ const WHOLE: [(usize, u64, u64); 6] = [
 ];
 
 /// Checks what is reported of a writer with room for the whole file.
-fn tells_the_whole_file(
-    rt: &(impl Abort + AllocGlobal),
-    linked: &Linked<'_>,
-    file: &[u8],
-) -> Result<(), Fail> {
+fn tells_the_whole_file(rt: &(impl Abort + AllocGlobal), linked: &Linked<'_>, file: &[u8]) {
     for (per_write, writes, shorts) in WHOLE {
         let wanted = Tallied {
             writes,
@@ -101,9 +95,8 @@ fn tells_the_whole_file(
             ..NOTHING
         };
         let writer = (1536, per_write, Full::Fails);
-        tells(rt, linked, file, writer, SUMMARY, wanted)?;
+        tells(rt, linked, file, writer, SUMMARY, wanted);
     }
-    Ok(())
 }
 
 /// How much room a writer has, how many writes there are until one has no room, and how many of
@@ -121,11 +114,7 @@ const ROOMS: [(usize, u64, u64, u64); 9] = [
 ];
 
 /// Checks what is reported of a writer that has too little room, and then fails or takes nothing.
-fn tells_what_has_no_room(
-    rt: &(impl Abort + AllocGlobal),
-    linked: &Linked<'_>,
-    file: &[u8],
-) -> Result<(), Fail> {
+fn tells_what_has_no_room(rt: &(impl Abort + AllocGlobal), linked: &Linked<'_>, file: &[u8]) {
     for (room, writes, shorts, stalled_shorts) in ROOMS {
         let failed = Tallied {
             writes,
@@ -134,7 +123,7 @@ fn tells_what_has_no_room(
             shorts,
         };
         let writer = (room, usize::MAX, Full::Fails);
-        tells(rt, linked, file, writer, "device error Interrupted", failed)?;
+        tells(rt, linked, file, writer, "device error Interrupted", failed);
         let stalled = Tallied {
             writes,
             errors: 0,
@@ -142,62 +131,57 @@ fn tells_what_has_no_room(
             shorts: stalled_shorts,
         };
         let writer = (room, usize::MAX, Full::Stalls);
-        tells(rt, linked, file, writer, "stalled", stalled)?;
+        tells(rt, linked, file, writer, "stalled", stalled);
     }
-    Ok(())
 }
 
 /// Checks that a counting writer counts no plain write.
-fn counts_no_plain_write(
-    rt: &(impl Abort + AllocGlobal),
-    linked: &Linked<'_>,
-    file: &[u8],
-) -> Result<(), Fail> {
-    let mut out = Counting::new(Room::new(rt.alloc(), 1536, 100, Full::Stalls)?);
-    linked.write(&mut out)?;
+fn counts_no_plain_write(rt: &(impl Abort + AllocGlobal), linked: &Linked<'_>, file: &[u8]) {
+    let mut out = Counting::new(Room::new(rt.alloc(), 1536, 100, Full::Stalls).expect(
+        rt,
+        "unexpected error",
+    ));
+    linked.write(&mut out).expect(rt, "unexpected error");
     assert!(rt; tally_of(&out) == NOTHING);
-    assert!(rt; out.write(b"more")? == 0);
+    assert!(rt; out.write(b"more").expect(rt, "unexpected error") == 0);
     assert!(rt; out.flush().is_err());
     assert!(rt; tally_of(&out) == NOTHING);
     let inner = out.into_inner();
     assert!(rt; inner.flushes() == 1);
     assert!(rt; inner.written() == file);
-    Ok(())
 }
 
 /// Checks that a plain write is handed on whole, in one write.
-fn hands_on_a_long_write(rt: &(impl Abort + AllocGlobal)) -> Result<(), Fail> {
+fn hands_on_a_long_write(rt: &(impl Abort + AllocGlobal)) {
     let alloc = rt.alloc();
-    let bytes = Vec::from_elem(alloc, 0xD7, 100_000)?;
-    let mut out = Counting::new(Room::new(alloc, 100_000, usize::MAX, Full::Fails)?);
-    assert!(rt; out.write(bytes.as_slice())? == 100_000);
+    let bytes = Vec::from_elem(alloc, 0xD7, 100_000).expect(rt, "unexpected error");
+    let mut out = Counting::new(Room::new(alloc, 100_000, usize::MAX, Full::Fails).expect(
+        rt,
+        "unexpected error",
+    ));
+    assert!(rt; out.write(bytes.as_slice()).expect(rt, "unexpected error") == 100_000);
     assert!(rt; tally_of(&out) == NOTHING);
     let inner = out.into_inner();
     assert!(rt; inner.writes() == 1);
     assert!(rt; inner.written() == bytes.as_slice());
-    Ok(())
 }
 
 /// Checks what is reported of each writer.
-fn tells_each_writer(
-    rt: &(impl Abort + AllocGlobal),
-    linked: &Linked<'_>,
-    file: &[u8],
-) -> Result<(), Fail> {
-    tells_the_whole_file(rt, linked, file)?;
-    tells_what_has_no_room(rt, linked, file)?;
-    counts_no_plain_write(rt, linked, file)?;
+fn tells_each_writer(rt: &(impl Abort + AllocGlobal), linked: &Linked<'_>, file: &[u8]) {
+    tells_the_whole_file(rt, linked, file);
+    tells_what_has_no_room(rt, linked, file);
+    counts_no_plain_write(rt, linked, file);
     hands_on_a_long_write(rt)
 }
 
 #[test]
-fn the_base_pair(rt: HostRuntime) -> Result<(), Fail> {
+fn the_base_pair(rt: HostRuntime) {
     let alloc = rt.alloc();
-    let host = base_host(alloc, LITTLE)?;
-    let library = base_library(alloc, LITTLE)?;
-    let file = linked_base_pair(alloc, LITTLE)?;
+    let host = base_host(alloc, LITTLE).expect(&rt, "unexpected error");
+    let library = base_library(alloc, LITTLE).expect(&rt, "unexpected error");
+    let file = linked_base_pair(alloc, LITTLE).expect(&rt, "unexpected error");
     let libraries = [library.as_slice()];
-    let linked = prepare(alloc, host.as_slice(), &libraries)?;
+    let linked = prepare(alloc, host.as_slice(), &libraries).expect(&rt, "unexpected error");
     tells_each_writer(&rt, &linked, file.as_slice())
 }
 
@@ -208,16 +192,18 @@ fn tells_once(
     bytes: &[u8],
     taken: Option<usize>,
     wanted: Tallied,
-) -> Result<(), Fail> {
-    let mut out = Counting::new(Room::new(rt.alloc(), room, per_write, full)?);
+) {
+    let mut out = Counting::new(Room::new(rt.alloc(), room, per_write, full).expect(
+        rt,
+        "unexpected error",
+    ));
     assert!(rt; tally_of(&out) == NOTHING);
     assert!(rt; out.told_write(bytes).ok() == taken);
     assert!(rt; tally_of(&out) == wanted);
-    Ok(())
 }
 
 #[test]
-fn one_told_write(rt: HostRuntime) -> Result<(), Fail> {
+fn one_told_write(rt: HostRuntime) {
     let once = Tallied {
         writes: 1,
         ..NOTHING
@@ -225,10 +211,10 @@ fn one_told_write(rt: HostRuntime) -> Result<(), Fail> {
     let short = Tallied { shorts: 1, ..once };
     let stalled = Tallied { stalls: 1, ..short };
     let failed = Tallied { errors: 1, ..once };
-    tells_once(&rt, (3, 3, Full::Fails), b"abc", Some(3), once)?;
-    tells_once(&rt, (3, 2, Full::Fails), b"abc", Some(2), short)?;
-    tells_once(&rt, (0, 3, Full::Stalls), b"abc", Some(0), stalled)?;
-    tells_once(&rt, (0, 3, Full::Fails), b"abc", None, failed)?;
+    tells_once(&rt, (3, 3, Full::Fails), b"abc", Some(3), once);
+    tells_once(&rt, (3, 2, Full::Fails), b"abc", Some(2), short);
+    tells_once(&rt, (0, 3, Full::Stalls), b"abc", Some(0), stalled);
+    tells_once(&rt, (0, 3, Full::Fails), b"abc", None, failed);
     tells_once(&rt, (0, 3, Full::Fails), b"", Some(0), once)
 }
 
@@ -278,36 +264,39 @@ fn is_error(
     rt: &(impl Abort + AllocGlobal),
     answer: Result<Summary, LinkError>,
     given: &io::Error,
-) -> Result<(), Fail> {
+) {
     let alloc = rt.alloc();
     match answer {
         Err(LinkError::Write(WriteFault::Device(error))) => {
             assert!(rt; error.kind() == given.kind());
             assert!(rt; error.raw_os_error() == given.raw_os_error());
-            let given = format!(in alloc; "{given}")?;
-            assert!(rt; format!(in alloc; "{error}")?.as_str() == given.as_str());
+            let given = format!(in alloc; "{given}").expect(rt, "unexpected error");
+            assert!(rt;
+                format!(in alloc; "{error}")
+                    .expect(rt, "unexpected error")
+                    .as_str()
+                    == given.as_str()
+            );
         }
         _ => assert!(rt; false, "no error of the write"),
     }
-    Ok(())
 }
 
 #[test]
-fn the_error_of_the_write_comes_back(rt: HostRuntime) -> Result<(), Fail> {
+fn the_error_of_the_write_comes_back(rt: HostRuntime) {
     let alloc = rt.alloc();
-    let host = base_host(alloc, LITTLE)?;
-    let library = base_library(alloc, LITTLE)?;
+    let host = base_host(alloc, LITTLE).expect(&rt, "unexpected error");
+    let library = base_library(alloc, LITTLE).expect(&rt, "unexpected error");
     let libraries = [library.as_slice()];
-    let linked = prepare(alloc, host.as_slice(), &libraries)?;
+    let linked = prepare(alloc, host.as_slice(), &libraries).expect(&rt, "unexpected error");
     for mut way in WAYS {
         let answer = link(alloc, host.as_slice(), &libraries, &mut way);
-        is_error(&rt, answer, &way.error())?;
+        is_error(&rt, answer, &way.error());
         let answer = linked.write(&mut way).map_err(LinkError::Write);
-        is_error(&rt, answer, &way.error())?;
+        is_error(&rt, answer, &way.error());
         let answer = linked.write_told(&mut Counting::new(way));
-        is_error(&rt, answer.map_err(LinkError::Write), &way.error())?;
+        is_error(&rt, answer.map_err(LinkError::Write), &way.error());
     }
-    Ok(())
 }
 
 #[test]
@@ -320,13 +309,18 @@ fn a_flush_is_handed_on(rt: HostRuntime) {
 }
 
 #[test]
-fn texts_of_write_faults(rt: HostRuntime) -> Result<(), Fail> {
+fn texts_of_write_faults(rt: HostRuntime) {
     let alloc = rt.alloc();
-    let text = format!(in alloc; "{}", WriteFault::Device(Broken::Torn.error()))?;
+    let text = format!(in alloc; "{}", WriteFault::Device(Broken::Torn.error())).expect(
+        &rt,
+        "unexpected error",
+    );
     assert!(rt; text.as_str() == "the tape is torn", "{text}");
-    let text = format!(in alloc; "{}", WriteFault::Stalled)?;
+    let text = format!(in alloc; "{}", WriteFault::Stalled).expect(&rt, "unexpected error");
     assert!(rt; text.as_str() == "the writer takes no more bytes", "{text}");
-    let text = format!(in alloc; "{}", LinkError::Write(WriteFault::Stalled))?;
+    let text = format!(in alloc; "{}", LinkError::Write(WriteFault::Stalled)).expect(
+        &rt,
+        "unexpected error",
+    );
     assert!(rt; text.as_str() == "the writer takes no more bytes", "{text}");
-    Ok(())
 }

@@ -4,7 +4,6 @@ use crate::base::UTIL;
 use crate::code_file::Change::{Address, Code, CodeWord, Entry, Records, Resized};
 use crate::code_file::{LINKED, Slot};
 use crate::information::Record::{End, UnitReference};
-use std::test::Fail;
 
 /// An empty slot.
 const BLANK: Slot = Slot {
@@ -59,6 +58,6 @@ const TWO_UNITS: [Row<'static>; 4] = [
 ];
 
 #[test]
-fn two_units(rt: HostRuntime) -> Result<(), Fail> {
+fn two_units(rt: HostRuntime) {
     link_tables(&rt, &[(Base::TwoUnits, AMPLE_OR_REFUSED, &TWO_UNITS)])
 }

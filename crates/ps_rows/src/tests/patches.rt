@@ -1,4 +1,5 @@
-use crate::{Patcher, apply};
+//! Edits on codes, at once and block by block.
+use ps_patch::{Patcher, apply};
 use ps_words::{Edit, Order};
 
 #[test]
