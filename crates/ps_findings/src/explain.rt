@@ -9,7 +9,7 @@ pub(crate) mod records;
 mod references;
 
 use crate::inputs::{Inputs, Shown};
-use crate::segments::{Segment, in_slot};
+use crate::segments::{Segment, Source, in_slot};
 use crate::sentences::{remedy_of, wrong_of};
 use ps_codefile::Dict;
 use ps_codefile::dictionary_layout::SLOTS;
@@ -54,26 +54,37 @@ impl<'c, 'a> Case<'c, 'a> {
         }
         None
     }
+
+    /// Where its segment comes from.
+    pub(crate) fn source(&self) -> Option<Source<'a>> {
+        self.segment?.source
+    }
+
+    /// The code of its segment, as far as it can be read.
+    pub(crate) fn code(&self) -> &'a [u8] {
+        match self.source() {
+            Some(source) => source.code.unwrap_or(&[]),
+            None => &[],
+        }
+    }
 }
 
 /// Adds the refusal in words.
-pub(crate) fn add_explanation<A: Allocator>(
+pub(crate) fn add_explanation<'c, 'a, A: Allocator>(
     text: &mut String<A>,
-    inputs: &Inputs<'_>,
-    list: &[Segment<'_>],
+    inputs: &'c Inputs<'a>,
+    list: &'c [Segment<'a>],
     fault: Fault,
 ) -> Result<(), AllocError> {
     let case = Case::new(inputs, list, fault);
-    let path = inputs.path(fault.file);
-    writeln!(text, "  file {path}")?;
+    writeln!(text, "  file {}", inputs.path(fault.file))?;
     add_slot(text, &case)?;
     add_record(text, &case)?;
     references::add_reference(text, &case)?;
     add_details(text, &case)?;
     let wrong = wrong_of(fault.reason);
     let remedy = remedy_of(fault.reason);
-    writeln!(text, "  {wrong}")?;
-    writeln!(text, "  {remedy}")
+    writeln!(text, "  {wrong}\n  {remedy}")
 }
 
 /// Adds the slot with the name of its segment.
@@ -114,8 +125,7 @@ fn add_record<A: Allocator>(text: &mut String<A>, case: &Case<'_, '_>) -> Result
     match case.record() {
         Some(record) => {
             let kind = word_of(&record.body);
-            let name = Shown(record.name);
-            writeln!(text, "  record {rec}: {kind} {name}")
+            writeln!(text, "  record {rec}: {kind} {}", Shown(record.name))
         }
         None => records::add_unread(text, case, rec),
     }

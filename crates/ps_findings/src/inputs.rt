@@ -35,9 +35,9 @@ impl<'a> Inputs<'a> {
         }
     }
 
-    /// The dictionary of a file, whose words are read in this order where it shows none.
-    pub(crate) fn dict(&self, file: usize, order: Order) -> Option<Dict<'a>> {
-        Dict::read_beside(self.bytes(file), order).ok()
+    /// The dictionary of a file, whose words are read in the host's order where it shows none.
+    pub(crate) fn dict(&self, file: usize) -> Option<Dict<'a>> {
+        Dict::read_beside(self.bytes(file), self.order()).ok()
     }
 
     /// The byte order of the host; little-endian where it shows none.
@@ -50,41 +50,15 @@ impl<'a> Inputs<'a> {
 }
 
 /// What the kind words of a file say of its byte order.
-#[derive(Clone, Copy)]
-pub(crate) enum FileOrder {
-    Little,
-    Big,
-    /// All kinds are 0.
-    Unknown,
-    /// The kinds fit neither order.
-    Mixed,
-    /// The file has no whole dictionary.
-    Short,
-}
-
-impl FileOrder {
-    pub(crate) fn of(bytes: &[u8]) -> FileOrder {
-        match Dict::read(bytes) {
-            Ok(dict) => match dict.order() {
-                Order::Little => FileOrder::Little,
-                Order::Big => FileOrder::Big,
-            },
-            Err(Reason::NoHost) => FileOrder::Unknown,
-            Err(Reason::NoOrder) => FileOrder::Mixed,
-            Err(_) => FileOrder::Short,
-        }
-    }
-}
-
-impl fmt::Display for FileOrder {
-    fn fmt<W: fmt::Write>(&self, f: &mut Formatter<W>) -> fmt::Result {
-        f.write_str(match self {
-            FileOrder::Little => "little-endian",
-            FileOrder::Big => "big-endian",
-            FileOrder::Unknown => "no byte order (no segment has a kind)",
-            FileOrder::Mixed => "mixed byte order (no code file)",
-            FileOrder::Short => "no segment dictionary (under 512 bytes)",
-        })
+pub(crate) fn order_words(bytes: &[u8]) -> &'static str {
+    match Dict::read(bytes) {
+        Ok(dict) => match dict.order() {
+            Order::Little => "little-endian",
+            Order::Big => "big-endian",
+        },
+        Err(Reason::NoHost) => "no byte order (no segment has a kind)",
+        Err(Reason::NoOrder) => "mixed byte order (no code file)",
+        Err(_) => "no segment dictionary (under 512 bytes)",
     }
 }
 

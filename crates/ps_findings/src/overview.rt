@@ -1,6 +1,6 @@
 //! The first part of the report: the files, and the segments with where each comes from.
-use crate::inputs::{FileOrder, Inputs, Shown};
-use crate::segments::{Part, Segment, Source, filled_entry, in_slot};
+use crate::inputs::{Inputs, Shown, order_words};
+use crate::segments::{Segment, Source, filled_entry, in_slot};
 use ps_codefile::dictionary_layout::SLOTS;
 use std::alloc::{AllocError, Allocator};
 use std::fmt::{self, Formatter, Write as _};
@@ -24,11 +24,14 @@ pub(crate) fn add_files<A: Allocator>(
     inputs: &Inputs<'_>,
 ) -> Result<(), AllocError> {
     for file in 0..=inputs.libs.len() {
-        let path = inputs.path(file);
         let bytes = inputs.bytes(file);
-        let length = bytes.len();
-        let order = FileOrder::of(bytes);
-        writeln!(text, "file {file} {path}: {length} bytes, {order}")?;
+        writeln!(
+            text,
+            "file {file} {}: {} bytes, {}",
+            inputs.path(file),
+            bytes.len(),
+            order_words(bytes)
+        )?;
     }
     Ok(())
 }
@@ -40,7 +43,7 @@ pub(crate) fn add_segments<A: Allocator>(
     list: &[Segment<'_>],
 ) -> Result<(), AllocError> {
     for segment in list {
-        add_segment(text, inputs, list, segment)?;
+        add_segment(text, inputs, segment)?;
     }
     if !list.is_empty() {
         add_empty(text, list)?;
@@ -52,38 +55,13 @@ pub(crate) fn add_segments<A: Allocator>(
 fn add_segment<A: Allocator>(
     text: &mut String<A>,
     inputs: &Inputs<'_>,
-    list: &[Segment<'_>],
     segment: &Segment<'_>,
 ) -> Result<(), AllocError> {
     let slot = SlotOf(segment.slot);
-    let name = Shown(segment.name);
-    write!(text, "{slot} {name}: ")?;
-    match segment.part {
-        Part::Plain => text.push_str("linked already, copied as it is")?,
-        Part::Host => text.push_str("the host program")?,
-        Part::Unit => text.push_str("a unit in the host file")?,
-        Part::Wanted => text.push_str("a unit that the host wants")?,
-        Part::Added { asker, rec } => add_asker(text, list, asker, rec)?,
-    }
-    match segment.source {
-        Some(source) => add_source(text, inputs, segment, &source),
+    write!(text, "{slot} {}: {}", Shown(segment.name), segment.part)?;
+    match &segment.source {
+        Some(source) => add_source(text, inputs, segment, source),
         None => text.push_str(", which no library has\n"),
-    }
-}
-
-/// Adds which record requests a unit that is added.
-fn add_asker<A: Allocator>(
-    text: &mut String<A>,
-    list: &[Segment<'_>],
-    asker: usize,
-    rec: usize,
-) -> Result<(), AllocError> {
-    match list.get(asker) {
-        Some(asking) => {
-            let name = Shown(asking.name);
-            write!(text, "a unit that record {rec} of {name} asks for")
-        }
-        None => text.push_str("a unit that is asked for"),
     }
 }
 
@@ -94,16 +72,19 @@ fn add_source<A: Allocator>(
     segment: &Segment<'_>,
     source: &Source<'_>,
 ) -> Result<(), AllocError> {
-    let path = inputs.path(source.file);
-    let index = source.index;
-    let length = source.entry.length;
-    writeln!(text, ", from {path} entry {index:02}, {length} bytes")?;
+    writeln!(
+        text,
+        ", from {} entry {:02}, {} bytes",
+        inputs.path(source.file),
+        source.index,
+        source.entry.length
+    )?;
     if source.file == 0 {
         return Ok(());
     }
     for file in 1..=inputs.libs.len() {
         if file > source.file {
-            add_later(text, inputs, segment, source, file)?;
+            add_later(text, inputs, segment, file)?;
         }
     }
     Ok(())
@@ -113,19 +94,16 @@ fn add_later<A: Allocator>(
     text: &mut String<A>,
     inputs: &Inputs<'_>,
     segment: &Segment<'_>,
-    source: &Source<'_>,
     file: usize,
 ) -> Result<(), AllocError> {
-    let Some(dict) = inputs.dict(file, source.order) else {
+    let Some(dict) = inputs.dict(file) else {
         return Ok(());
     };
-    match filled_entry(&dict, &segment.name, 0) {
-        Some(index) => {
-            let path = inputs.path(file);
-            writeln!(text, "  not used: {path} entry {index:02} has the name too")
-        }
-        None => Ok(()),
-    }
+    let Some(index) = filled_entry(&dict, &segment.name) else {
+        return Ok(());
+    };
+    let path = inputs.path(file);
+    writeln!(text, "  not used: {path} entry {index:02} has the name too")
 }
 
 /// Adds the slots that have no segment.
@@ -136,7 +114,7 @@ fn add_empty<A: Allocator>(text: &mut String<A>, list: &[Segment<'_>]) -> Result
             write!(text, " {slot:02}")?;
         }
     }
-    text.push_str("\n")
+    text.push('\n')
 }
 
 /// Adds the libraries from which nothing is taken.
@@ -147,8 +125,11 @@ fn add_unused<A: Allocator>(
 ) -> Result<(), AllocError> {
     for file in 1..=inputs.libs.len() {
         if !is_used(list, file) {
-            let path = inputs.path(file);
-            writeln!(text, "nothing is taken from file {file} {path}")?;
+            writeln!(
+                text,
+                "nothing is taken from file {file} {}",
+                inputs.path(file)
+            )?;
         }
     }
     Ok(())

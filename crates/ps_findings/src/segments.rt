@@ -1,12 +1,13 @@
 //! The segments of a link as the files have them, also where they are refused.
 ghost use Rattle.std.specs.Prelude.{◌<◌, IfSome};
 
-use crate::inputs::Inputs;
+use crate::inputs::{Inputs, Shown};
 use ps_codefile::dictionary_layout::{FIRST_ADDED, SLOTS};
 use ps_codefile::{Dict, Entry, Role};
-use ps_linkinfo::{Body, LinkInformation};
+use ps_linkinfo::{Body, LinkInformation, LinkRecord};
 use ps_words::{Name, Order};
 use std::alloc::{AllocError, Allocator};
+use std::fmt::{self, Formatter};
 
 /// More segments than a link has: those of sixteen slots, and one that has none.
 const MANY: usize = 32;
@@ -22,8 +23,8 @@ pub(crate) enum Part {
     Unit,
     /// A unit that the host wants from a library.
     Wanted,
-    /// A unit that a record requests: that of this index of the segment of this index of the list.
-    Added { asker: usize, rec: usize },
+    /// A unit that a record requests: that of this index of the segment of this name.
+    Added { asker: Name, rec: usize },
 }
 
 impl Part {
@@ -35,6 +36,46 @@ impl Part {
     /// It is a unit.
     pub(crate) fn is_unit(self) -> bool {
         !matches!(self, Part::Plain | Part::Host)
+    }
+}
+
+impl fmt::Display for Part {
+    fn fmt<W: fmt::Write>(&self, f: &mut Formatter<W>) -> fmt::Result {
+        match *self {
+            Part::Plain => f.write_str("linked already, copied as it is"),
+            Part::Host => f.write_str("the host program"),
+            Part::Unit => f.write_str("a unit in the host file"),
+            Part::Wanted => f.write_str("a unit that the host wants"),
+            Part::Added { asker, rec } => {
+                write!(f, "a unit that record {rec} of {} asks for", Shown(asker))
+            }
+        }
+    }
+}
+
+/// What a record may say that is looked for by its name.
+#[derive(Clone, Copy)]
+pub(crate) enum Sort {
+    /// It requests a public variable or a constant.
+    Request,
+    /// It defines a public variable.
+    Variable,
+    /// It defines a public variable or a constant.
+    Definition,
+    /// It has a private variable.
+    Private,
+}
+
+impl Sort {
+    /// The record is of this sort.
+    pub(crate) fn has(self, body: &Body<'_>) -> bool {
+        match body {
+            Body::PublRef(_) => matches!(self, Sort::Request),
+            Body::PrivRef { .. } => matches!(self, Sort::Private),
+            Body::PublDef(_) => matches!(self, Sort::Variable | Sort::Definition),
+            Body::ConstDef(_) => matches!(self, Sort::Definition),
+            Body::UnitRef(_) | Body::Eof(_) => false,
+        }
     }
 }
 
@@ -76,6 +117,16 @@ impl<'a> Segment<'a> {
             _ => LinkInformation::none(),
         }
     }
+
+    /// Its first record of this name and sort, with its index.
+    pub(crate) fn find(&self, name: &Name, sort: Sort) -> Option<(usize, LinkRecord<'a>)> {
+        for (rec, record) in self.records().records() {
+            if record.name == *name && sort.has(&record.body) {
+                return Some((rec, record));
+            }
+        }
+        None
+    }
 }
 
 /// The segment of this entry of a file.
@@ -92,12 +143,12 @@ pub(crate) fn source_of<'a>(dict: &Dict<'a>, file: usize, index: u8) -> Source<'
     }
 }
 
-/// The first slot, from this one on, whose entry is filled and has the name.
-pub(crate) fn filled_entry(dict: &Dict<'_>, name: &Name, from: u8) -> Option<u8>
+/// The first slot whose entry is filled and has the name.
+pub(crate) fn filled_entry(dict: &Dict<'_>, name: &Name) -> Option<u8>
     ensures { IfSome result (λ slot. slot < 16) }
 {
     for slot in 0..SLOTS {
-        if from <= slot && dict.filled(slot) && dict.entry(slot).name == *name {
+        if dict.filled(slot) && dict.entry(slot).name == *name {
             return Some(slot);
         }
     }
@@ -105,11 +156,10 @@ pub(crate) fn filled_entry(dict: &Dict<'_>, name: &Name, from: u8) -> Option<u8>
 }
 
 /// The first library's segment of the name.
-fn library_source<'a>(inputs: &Inputs<'a>, order: Order, name: &Name) -> Option<Source<'a>> {
-    for k in 0..inputs.libs.len() {
-        let file = k + 1;
-        if let Some(dict) = inputs.dict(file, order) {
-            if let Some(index) = filled_entry(&dict, name, 0) {
+fn library_source<'a>(inputs: &Inputs<'a>, name: &Name) -> Option<Source<'a>> {
+    for file in 1..=inputs.libs.len() {
+        if let Some(dict) = inputs.dict(file) {
+            if let Some(index) = filled_entry(&dict, name) {
                 return Some(source_of(&dict, file, index));
             }
         }
@@ -130,7 +180,7 @@ fn host_segment<'a>(inputs: &Inputs<'a>, dict: &Dict<'a>, slot: u8) -> Option<Se
         Ok(Role::Wanted) => Part::Wanted,
     };
     let source = match part {
-        Part::Wanted => library_source(inputs, dict.order(), &name),
+        Part::Wanted => library_source(inputs, &name),
         _ => Some(source_of(dict, 0, slot)),
     };
     Some(Segment {
@@ -175,24 +225,28 @@ fn next_slot(dict: &Dict<'_>, list: &[Segment<'_>]) -> Option<u8> {
 }
 
 /// Adds the units that the records of this segment of the list request and that it does not have.
-/// The answer is false where no slot was left for one.
+/// The answer is false where there is no such segment, or no slot was left for a unit.
 fn add_asked<'a, A: Allocator + Copy>(
     inputs: &Inputs<'a>,
     dict: &Dict<'a>,
     list: &mut Vec<Segment<'a>, A>,
     asker: usize,
-    asking: &Segment<'a>,
 ) -> Result<bool, AllocError> {
+    let Some(asking) = list.as_slice().get(asker).copied() else {
+        return Ok(false);
+    };
     for (rec, record) in asking.records().records() {
         let is_asking = matches!(record.body, Body::UnitRef(_));
         if is_asking && !is_already_known(list.as_slice(), &record.name) {
             let slot = next_slot(dict, list.as_slice());
-            let source = library_source(inputs, dict.order(), &record.name);
             list.push(Segment {
                 slot,
                 name: record.name,
-                part: Part::Added { asker, rec },
-                source,
+                part: Part::Added {
+                    asker: asking.name,
+                    rec,
+                },
+                source: library_source(inputs, &record.name),
             })?;
             if slot.is_none() {
                 return Ok(false);
@@ -202,6 +256,20 @@ fn add_asked<'a, A: Allocator + Copy>(
     Ok(true)
 }
 
+/// Adds the units that are requested, each after the segment that requests it first.
+fn add_units<'a, A: Allocator + Copy>(
+    inputs: &Inputs<'a>,
+    dict: &Dict<'a>,
+    list: &mut Vec<Segment<'a>, A>,
+) -> Result<(), AllocError> {
+    for asker in 0..MANY {
+        if !add_asked(inputs, dict, list, asker)? {
+            return Ok(());
+        }
+    }
+    Ok(())
+}
+
 /// The segments of a link: those of the host's slots, ascending, then those that are added, each
 /// after the one that requests for it. None where the host cannot be read.
 pub(crate) fn segments_of<'a, A: Allocator + Copy>(
@@ -209,21 +277,13 @@ pub(crate) fn segments_of<'a, A: Allocator + Copy>(
     inputs: &Inputs<'a>,
 ) -> Result<Vec<Segment<'a>, A>, AllocError> {
     let mut list = Vec::new(alloc);
-    let Ok(dict) = Dict::read(inputs.host) else {
-        return Ok(list);
-    };
-    for slot in 0..SLOTS {
-        if let Some(segment) = host_segment(inputs, &dict, slot) {
-            list.push(segment)?;
+    if let Ok(dict) = Dict::read(inputs.host) {
+        for slot in 0..SLOTS {
+            if let Some(segment) = host_segment(inputs, &dict, slot) {
+                list.push(segment)?;
+            }
         }
-    }
-    for asker in 0..MANY {
-        let Some(asking) = list.as_slice().get(asker).copied() else {
-            return Ok(list);
-        };
-        if !add_asked(inputs, &dict, &mut list, asker, &asking)? {
-            return Ok(list);
-        }
+        add_units(inputs, &dict, &mut list)?;
     }
     Ok(list)
 }

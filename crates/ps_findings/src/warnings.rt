@@ -87,10 +87,7 @@ impl Look {
             Look::IntrinsicKind { slot, kind } => {
                 write!(f, "entry {slot:02} is of kind {kind}, of Apple Pascal")
             }
-            Look::OddName { name, oddity } => {
-                let name = Shown(name);
-                write!(f, "the name {name} {oddity}")
-            }
+            Look::OddName { name, oddity } => { write!(f, "the name {} {oddity}", Shown(name)) }
             Look::Overlap { other } => { write!(f, "it has bytes in common with entry {other:02}") }
             _ => Ok(()),
         }
@@ -135,17 +132,17 @@ impl fmt::Display for Look {
                 )
             }
             Look::UnitDefinition { name } => {
-                let name = Shown(name);
                 write!(
                     f,
-                    "a unit's PUBLDEF of {name} is not used: the host program's count"
+                    "a unit's PUBLDEF of {} is not used: the host program's count",
+                    Shown(name)
                 )
             }
             Look::UsedUnitDefinition { name } => {
-                let name = Shown(name);
                 write!(
                     f,
-                    "it asks for {name}, which it alone defines: the host program has to define it"
+                    "it asks for {}, which it alone defines: the host program has to define it",
+                    Shown(name)
                 )
             }
             Look::LowMark { next, data } => {
@@ -156,32 +153,5 @@ impl fmt::Display for Look {
             }
             _ => self.fmt_code(f),
         }
-    }
-}
-
-/// Something that looks wrong, and where.
-#[derive(Clone, Copy)]
-pub(crate) struct Warning<'a> {
-    pub(crate) path: &'a str,
-    /// The name of the segment, where it is about one.
-    pub(crate) segment: Option<Name>,
-    /// The index of the record, where it is about one.
-    pub(crate) rec: Option<usize>,
-    pub(crate) look: Look,
-}
-
-impl fmt::Display for Warning<'_> {
-    fn fmt<W: fmt::Write>(&self, f: &mut Formatter<W>) -> fmt::Result {
-        let path = self.path;
-        write!(f, "warning: {path}")?;
-        if let Some(name) = self.segment {
-            let name = Shown(name);
-            write!(f, ", segment {name}")?;
-        }
-        if let Some(rec) = self.rec {
-            write!(f, ", record {rec}")?;
-        }
-        let look = self.look;
-        write!(f, ": {look}")
     }
 }

@@ -8,10 +8,9 @@ use Rattle.std.proofs.lemmas.List.Elements.{All-nil, All-cons, All-append}
 use Rattle.ps_resolve.proofs.FirstSlots.{range_more}
 use Rattle.std.specs.List.{slice_get, find, filter, range_with_len}
 use Rattle.std.specs.Option.{option_map}
-use Rattle.ps_words.specs.FaultPlaces.{in_slot, in_record}
+use Rattle.ps_words.specs.FaultPlaces.{in_slot}
 use Rattle.ps_words.specs.declared.order.Order.{Order}
 use Rattle.ps_words.specs.declared.fault.Reason.{Reason}
-use Rattle.ps_words.specs.declared.fault.Reason.TheVariants as reason
 use Rattle.ps_codefile.specs.Dictionary.{slots}
 use Rattle.ps_linkinfo.specs.RecordCounts.{is_unit_reference, units_in as units_asked}
 use Rattle.ps_resolve.specs.Added.{is_missing, as_added, is_already_known, unit_references, requested_from, unplaced_fault, placed_fault, added_segment, Rounds, after, rounds_from}
@@ -134,9 +133,6 @@ module _ (order : Order) (host : List ℕ) (libs : List (List ℕ)) (units : Lis
 
 -- the fault and the segment of a name in its slot, by the library's entry
 module _ (order : Order) (host : List ℕ) (libs : List (List ℕ)) (g : UnitReference) (slot : ℕ) where
-  pub placed_missing : is_missing order libs g.name ≡ true → placed_fault order host libs g slot ≡ Some (in_record g.file g.slot g.rec reason.MissingUnit)
-  placed_missing m = rw m refl
-
   module _ (library : ℕ) (file : List ℕ) (m : is_missing order libs g.name ≡ false) (chosen : chosen_library order g.name libs ≡ Some (library, file)) where
     pub placed_refused : (why : Reason) → entries_reason order g.name file ≡ Some why → placed_fault order host libs g slot ≡ Some (in_slot (library + 1) slot why)
     placed_refused why e = rw m (rw chosen (rw e refl))

@@ -47,9 +47,6 @@ module _ (slot rec next : ℕ) (seen : List (List ℕ)) (ps : List Private) (r :
       → private_fault rec next seen (r ∷ rs) ≡ private_fault (rec + 1) (next + w) (seen ++ r.name ∷ []) rs
   more_fault w h k le = rw (h, private_fault) (rw (k, fits_test (next + w) le) refl)
 
-  pub more_length : (w : ℕ) → words_in r.body ≡ Some w → length ps < length (ps ++ allotted_privates slot rec next (r ∷ rs))
-  more_length w h = rw (more_privates w h, append_assoc) (omega (arith, length-append ps (record { slot = slot; rec = rec; name = r.name; offset = next; words = w } ∷ allotted_privates slot (rec + 1) (next + w) rs)))
-
 -- what requests a private is counted
 pub privates_counted : (slot n next : ℕ) (rs : List Record) → length (allotted_privates slot n next rs) ≡ privates_in rs
 privates_counted slot n next [] = refl

@@ -1,8 +1,9 @@
 -- Where no fault applies each reference's edit lies in the code and can be stored.
-use Rattle.std.proofs.Common.{◌≡◌, ℕ, ◌+◌, ◌≤◌, ◌++◌, List, [], ◌∷◌, length, map, Bool, Some, None, Result, Ok, Err, refl, sym, ◌∙◌, arith}
+use Rattle.std.proofs.Common.{◌≡◌, ℕ, ◌+◌, ◌≤◌, ◌++◌, List, [], ◌∷◌, length, map, Bool, false, Some, None, Result, Ok, Err, refl, sym, ◌∙◌, arith}
 use Rattle.std.specs.Prelude.{nat_lt, All}
 use Rattle.std.specs.List.{list_any, range_with_len}
-use Rattle.std.specs.Option.{option_map}
+use Rattle.std.specs.Option.{option_map, option_or}
+use Rattle.ps_resolve.specs.Searches.{fault_if}
 use Rattle.std.proofs.lemmas.Bool.{ltb-false}
 use Rattle.std.proofs.lemmas.List.Elements.{All-nil, All-cons, All-append}
 use Rattle.ps_words.specs.Edits.{IsInside}
@@ -15,8 +16,12 @@ use Rattle.ps_resolve.specs.References.{Known, words_taken, target_of, records_f
 use Rattle.ps_resolve.specs.declared.references.Target.{Target}
 use Rattle.ps_resolve.specs.declared.references.Target.TheVariants.{Slot, Base}
 use Rattle.ps_resolve.proofs.FirstSlots.{or_none, none_mapped}
-use Rattle.ps_resolve.proofs.Once.{reasons_none}
 use Rattle.ps_resolve.proofs.NextRecords.{record_refused, record_by}
+
+-- where none of four reasons is given, none of their tests holds
+reasons_none : (a b c d : Bool) (r s t u : Reason) → option_or (fault_if a r) (option_or (fault_if b s) (option_or (fault_if c t) (fault_if d u))) ≡ None
+    → (a ≡ false) × (b ≡ false) × (c ≡ false) × (d ≡ false)
+reasons_none a b c d r s t u h = grind arith
 
 inside_of : (code : List ℕ) (t : Target) (x : ℕ) → x + width_of t ≤ length code → value_of code t x ≤ 32767 → IsInside (length code) (edit_of code t x)
 inside_of code (Slot slot) x h k = record { storable = tt; within = h }

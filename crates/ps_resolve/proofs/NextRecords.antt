@@ -1,7 +1,8 @@
 -- One record more of a segment.
-use Rattle.std.proofs.Common.{◌≡◌, ◌∙◌, ℕ, ◌+◌, ◌++◌, List, [], ◌∷◌, map, Bool, true, false, cond, Option, Some, None, Ok, Err, refl, sym, ap, append_assoc}
-use Rattle.std.specs.Prelude.{⊤}
+use Rattle.std.proofs.Common.{◌≡◌, ◌∙◌, ℕ, ◌+◌, ◌++◌, List, [], ◌∷◌, map, Bool, true, false, cond, Option, Some, None, Ok, Err, refl, sym, ap, subst, append_assoc}
+use Rattle.std.specs.Prelude.{⊤, IsPermutation}
 use Rattle.std.specs.Option.{option_map, option_or}
+use Rattle.std.proofs.lemmas.List.Sorted.{IsPermutation-trans, IsPermutation-append_left}
 use Rattle.ps_linkinfo.specs.Records.{refs_of}
 use Rattle.ps_linkinfo.specs.RecordCounts.{is_private_reference, is_public_reference, is_unit_reference, privates_in, publics_in, units_in as units_asked}
 use Rattle.ps_resolve.specs.Privates.{private_words, words_in}
@@ -16,6 +17,8 @@ use Rattle.ps_codefile.specs.Procedures.{is_reserved, ProcedureTables}
 use Rattle.ps_resolve.specs.Faults.{in_segment}
 use Rattle.ps_resolve.specs.Operands.{edit_of, operands, refs_fault}
 use Rattle.ps_resolve.specs.TakenPlaces.{AreTaken}
+use Rattle.ps_resolve.specs.EditTables.{IsTableOf, edits_of}
+use Rattle.ps_resolve.specs.declared.edits.table.PlaceState.{PlaceState}
 use Rattle.ps_resolve.specs.Stops.{IsStop}
 use Rattle.ps_resolve.specs.References.{Known, words_taken, target_in, target_of, records_fault, record_edits, records_edits}
 use Rattle.ps_resolve.specs.declared.references.Target.{Target}
@@ -62,12 +65,21 @@ module _ (known : Known) (R : ℕ → Bool) (code : List ℕ) (rec off : ℕ) (o
   pub edits_more : (es : List Edit) (t : Target) → target_of known off r ≡ Ok t → es ++ records_edits known code off (r ∷ rs) ≡ (es ++ map (edit_of code t) (refs_of r.body)) ++ records_edits known code (off + words_taken r.body) rs
   edits_more es t h = rw (h, record_edits) (sym (append_assoc es (map (edit_of code t) (refs_of r.body)) (records_edits known code (off + words_taken r.body) rs)))
 
--- With these edits and these places taken, what the records from this index on come to is what all
--- come to, the first of whose privates has the offset `free`: their edits, their first fault, and
--- their words.
-pub record Links (known : Known) (tables : ProcedureTables) (free : ℕ) (all : List Record) (old : List Edit) (next : ℕ) (edits : List Edit) (taken : List ℕ) (n : ℕ) (rs : List Record) : Type 0 where
-  pub listed : edits ++ records_edits known tables.code next rs ≡ old ++ records_edits known tables.code free all
-  pub first : (os : List (ℕ × ℕ)) × AreTaken tables taken os
+  -- the edits of the record, put in
+  pub listed_more : (all : List Edit) (ts us : List PlaceState) (t : Target) → target_of known off r ≡ Ok t → IsPermutation all (edits_of ts ++ records_edits known code off (r ∷ rs))
+      → IsPermutation (edits_of ts ++ map (edit_of code t) (refs_of r.body)) (edits_of us) → IsPermutation all (edits_of us ++ records_edits known code (off + words_taken r.body) rs)
+  listed_more all ts us t h listed put =
+      let rest : List Edit = records_edits known code (off + words_taken r.body) rs in
+      let so_far : List Edit = edits_of ts ++ map (edit_of code t) (refs_of r.body) in
+      IsPermutation-trans all (so_far ++ rest) (edits_of us ++ rest) (subst (λ (es : List Edit). IsPermutation all es) (edits_more (edits_of ts) t h) listed) (IsPermutation-append_left rest so_far (edits_of us) put)
+
+-- With this table of edits, what the records from this index on come to is
+-- what all come to, the first of whose privates has the offset `free`: their edits, their first
+-- fault, and their words.
+pub record Links (known : Known) (tables : ProcedureTables) (free : ℕ) (all : List Record) (old : List Edit) (next : ℕ) (edits : List PlaceState) (n : ℕ) (rs : List Record) : Type 0 where
+  pub table : IsTableOf tables.code edits
+  pub listed : IsPermutation (old ++ records_edits known tables.code free all) (edits_of edits ++ records_edits known tables.code next rs)
+  pub first : (os : List (ℕ × ℕ)) × AreTaken tables edits os
       × (records_fault known (is_reserved tables.order tables.code) tables.code n next os rs ≡ records_fault known (is_reserved tables.order tables.code) tables.code 0 free [] all)
   pub words : next + private_words rs ≡ free + private_words all
 

@@ -1,23 +1,17 @@
 -- The edits of one segment link it.
-use Rattle.std.proofs.Common.{◌≡◌, ℕ, ◌+◌, ◌-◌, ◌++◌, List, [], ◌∷◌, length, Bool, true, false, Option, None, refl, sym, ◌∙◌, ap, subst, arith}
+use Rattle.std.proofs.Common.{◌≡◌, ℕ, ◌-◌, ◌++◌, List, [], ◌∷◌, length, Bool, true, false, Option, refl, sym, ◌∙◌, ap, subst}
 use Rattle.std.specs.Prelude.{IsPermutation, if◌then◌else◌}
-use Rattle.std.specs.Option.{option_map, option_to_list}
-use Rattle.std.proofs.lemmas.List.Sorted.{IsPermutation-refl, IsPermutation-sym}
-use Rattle.std.proofs.lemmas.List.Elements.{All-nil}
-use Rattle.ps_words.specs.Edits.{AreApart, AreEdits, IsInside, patched_byte}
+use Rattle.std.specs.Option.{option_to_list}
+use Rattle.std.proofs.lemmas.List.Sorted.{IsPermutation-sym}
+use Rattle.ps_words.specs.Edits.{AreApart, AreEdits, patched_byte}
 use Rattle.ps_words.specs.declared.order.Order.{Order}
 use Rattle.ps_words.specs.declared.edit.Edit.{Edit}
 use Rattle.ps_words.specs.declared.edit.Edit.TheVariants.{Byte}
-use Rattle.ps_codefile.specs.Procedures.{is_reserved}
 use Rattle.ps_codefile.specs.Roles.{needs_linking, is_host}
-use Rattle.ps_linkinfo.specs.declared.record.LinkRecord.{LinkRecord as Record}
 use Rattle.ps_resolve.specs.Edits.{data_size_edit}
-use Rattle.ps_resolve.specs.Faults.{in_segment, segment_fault}
-use Rattle.ps_resolve.specs.Sources.{Segment}
 use Rattle.ps_resolve.specs.Linking.{data_edits, segment_edits}
 use Rattle.ps_resolve.specs.Plans.{LinksSegment}
-use Rattle.ps_resolve.specs.Privates.{private_words}
-use Rattle.ps_resolve.specs.References.{Known, records_edits, records_fault}
+use Rattle.ps_resolve.specs.References.{Known, records_edits}
 use Rattle.ps_resolve.specs.Views.{segment_of}
 use Rattle.ps_resolve.specs.Views.{SegmentView}
 
@@ -25,30 +19,11 @@ if_true : {X : Type 0} (b : Bool) (x y : X) → b ≡ true → (if b then x else
 if_true true x y h = refl
 if_true false x y h = cc
 
-if_false : {X : Type 0} (b : Bool) (x y : X) → b ≡ false → (if b then x else y) ≡ y
-if_false true x y h = cc
-if_false false x y h = refl
-
-none_links : (order : Order) (s : Segment) (es : List Edit) → es ≡ [] → LinksSegment order (record { segment = s; edits = es }) []
-none_links order s es e = subst (λ (fs : List Edit). LinksSegment order (record { segment = s; edits = fs }) []) (sym e)
-    (record { ready = record { inside = All-nil (IsInside (length s.code)); apart = tt }; each = IsPermutation-refl []; bytes = λ p lt. refl })
-
 -- the number of a segment that is linked, its own edit, and the edits of its references
 abbrev pub all_of : Known → SegmentView → Option Edit → ℕ → List Edit
 all_of known v own free = Byte v.slot (length v.code - 2) ∷ (option_to_list own ++ records_edits known v.code free v.records)
 
 module _ (order : Order) (known : Known) (v : SegmentView) (free : ℕ) where
-  -- a segment that is linked already
-  module _ (h : needs_linking v.role ≡ false) (none : v.records ≡ []) where
-    pub plain_links : (words : ℕ) → LinksSegment order (record { segment = segment_of v; edits = segment_edits order known words free (segment_of v) }) []
-    plain_links words = none_links order (segment_of v) (segment_edits order known words free (segment_of v)) (if_false (needs_linking v.role) _ [] h)
-
-    pub plain_end : free ≡ free + private_words v.records
-    plain_end = let e = ap private_words none in omega (arith, e)
-
-    pub plain_fault : segment_fault order known free (segment_of v) ≡ None
-    plain_fault = ap (λ (rs : List Record). option_map (in_segment v.file v.slot) (records_fault known (is_reserved order v.code) v.code 0 free [] rs)) none
-
   -- one whose references are resolved
   module _ (h : needs_linking v.role ≡ true) (size : Edit) where
     own_is : (b : Bool) (es : List Edit) → (b ≡ true → es ≡ size ∷ []) → option_to_list (data_size_edit b size) ≡ (if b then es else [])

@@ -1,22 +1,27 @@
 -- The edits of a segment that are no reference's: they cover reserved places, each once, and so are
 -- beside those of the references.
-use Rattle.std.proofs.Common.{◌≡◌, ℕ, zero, suc, ◌+◌, ◌-◌, ◌*◌, ◌<◌, ◌≤◌, ◌++◌, ◌&&◌, ◌||◌, List, [], ◌∷◌, length, Bool, true, false, cond, Option, Some, None, refl, ◌∙◌, ap, subst, arith}
-use Rattle.std.specs.Prelude.{count_by, All, IfSome, nat_le, nat_lt}
+use Rattle.std.proofs.Common.{◌≡◌, ℕ, suc, ◌+◌, ◌-◌, ◌*◌, ◌<◌, ◌≤◌, ◌++◌, ◌&&◌, ◌||◌, List, [], ◌∷◌, length, Bool, true, false, Option, Some, None, get_or, ◌⊎◌, inl, inr, refl, sym, ◌∙◌, ap, subst, arith}
+use Rattle.std.specs.Prelude.{IsPermutation, All, IfSome, nat_le, nat_lt}
 use Rattle.std.specs.Option.{option_to_list}
+use Rattle.std.proofs.lemmas.Bool.{cases_lt}
 use Rattle.std.proofs.lemmas.Bool.Decides.{nat_tests}
-use Rattle.std.proofs.lemmas.List.Sums.{sum_by-append}
+use Rattle.std.proofs.lemmas.List.{get_or-set_other, get_or_past}
+use Rattle.std.proofs.lemmas.List.Sorted.{IsPermutation-refl}
 use Rattle.std.proofs.lemmas.List.Elements.{All-nil, All-cons, All-append}
 use Rattle.ps_words.specs.Edits.{covers, place_of, width, IsInside}
 use Rattle.ps_words.specs.declared.order.Order.{Order}
 use Rattle.ps_words.specs.declared.edit.Edit.{Edit}
 use Rattle.ps_words.specs.declared.edit.Edit.TheVariants.{Byte}
-use Rattle.ps_codefile.specs.Procedures.{is_reserved, procedures}
+use Rattle.ps_codefile.specs.Procedures.{is_reserved, procedures, ProcedureTables}
 use Rattle.ps_resolve.specs.Edits.{IsOfTable, data_size_edit}
 use Rattle.ps_linkinfo.specs.declared.record.LinkRecord.{LinkRecord as Record}
-use Rattle.ps_resolve.specs.Operands.{is_in}
 use Rattle.ps_resolve.specs.References.{Known, records_edits, records_fault}
-use Rattle.ps_resolve.proofs.Apart.{one_more}
-use Rattle.ps_resolve.proofs.Once.{IsOnce, all_operands, counts_are, records_once, none_once}
+use Rattle.ps_resolve.specs.EditTables.{IsTableOf, edits_of, first_state, is_taken, is_wide, put_in}
+use Rattle.ps_resolve.specs.TakenPlaces.{AreTaken}
+use Rattle.ps_resolve.specs.declared.edits.table.PlaceState.{PlaceState}
+use Rattle.ps_resolve.specs.declared.edits.table.PlaceState.TheVariants as stored
+use Rattle.ps_resolve.specs.declared.edits.table.PlaceState.TheVariants.{Free}
+use Rattle.ps_resolve.proofs.InPlaces.{IsIdle, idle_narrow, table_more, put_more, put_taken, none_listed}
 use Rattle.ps_resolve.proofs.Inside.{records_inside}
 
 -- where two tests hold, it holds that either both do or a third one does
@@ -35,77 +40,8 @@ number_reserved order code h = either_true _ _ _ (le (length code) (procedures c
     lt : (n : ℕ) → 4 ≤ n → nat_lt (n - 2) n ≡ true
     lt n h = grind (arith, nat_tests)
 
--- edits that cover no place twice, and only places that pass R
-record AreOwn (R : ℕ → Bool) (own : List Edit) : Type 0 where
-  once : (p : ℕ) → count_by (covers p) own ≤ 1
-  reserved : (p : ℕ) → 0 < count_by (covers p) own → R p ≡ true
-
--- the number of the segment, and an edit of its tables if there is one, cover only reserved places,
--- each once
-own_of : (order : Order) (code : List ℕ) (slot : ℕ) (table : Option Edit) → 4 ≤ length code → IfSome table (IsOfTable order code) → AreOwn (is_reserved order code) (Byte slot (length code - 2) ∷ option_to_list table)
-own_of order code slot None h d = record { once = λ p. once p (covers p number) refl; reserved = λ p lt. reserved p (covers p number) refl lt }
-  where
-    number : Edit
-    number = Byte slot (length code - 2)
-
-    count : (p : ℕ) → count_by (covers p) (number ∷ []) ≡ cond (covers p number) 1 0 + 0
-    count p = one_more (covers p) number []
-
-    once : (p : ℕ) (b : Bool) → covers p number ≡ b → count_by (covers p) (number ∷ []) ≤ 1
-    once p true k = let is : ◌≡◌ {A = ℕ} (cond {A = ℕ} (covers p number) 1 0) 1 = ap (λ (b : Bool). cond {A = ℕ} b 1 0) k in omega (arith, count p)
-    once p false k = let is : ◌≡◌ {A = ℕ} (cond {A = ℕ} (covers p number) 1 0) 0 = ap (λ (b : Bool). cond {A = ℕ} b 1 0) k in omega (arith, count p)
-
-    reserved : (p : ℕ) (b : Bool) → covers p number ≡ b → 0 < count_by (covers p) (number ∷ []) → is_reserved order code p ≡ true
-    reserved p true k lt = let same : length code - 2 ≡ p = grind (arith, nat_tests) in subst (λ (n : ℕ). is_reserved order code n ≡ true) same (number_reserved order code h)
-    reserved p false k lt = let is : ◌≡◌ {A = ℕ} (cond {A = ℕ} (covers p number) 1 0) 0 = ap (λ (b : Bool). cond {A = ℕ} b 1 0) k in absurd (omega (arith, count p))
-own_of order code slot (Some e) h d = record { once = λ p. once p (covers p number) refl (covers p e) refl; reserved = λ p lt. reserved p (covers p number) refl (covers p e) refl lt }
-  where
-    number : Edit
-    number = Byte slot (length code - 2)
-
-    count : (p : ℕ) → count_by (covers p) (number ∷ e ∷ []) ≡ cond (covers p number) 1 0 + (cond (covers p e) 1 0 + 0)
-    count p = one_more (covers p) number (e ∷ []) ∙ ap (λ (n : ℕ). cond (covers p number) 1 0 + n) (one_more (covers p) e [])
-
-    bit : (q : Bool) (b : Bool) → q ≡ b → ◌≡◌ {A = ℕ} (cond {A = ℕ} q 1 0) (cond {A = ℕ} b 1 0)
-    bit q b k = ap (λ (b : Bool). cond {A = ℕ} b 1 0) k
-
-    never : (p : ℕ) → covers p number ≡ true → covers p e ≡ true → ⊥
-    never p k l = apart (length code - 2) (place_of e) (width e) p k l d.before
-      where
-        apart : (n x w p : ℕ) → (nat_le n p && nat_lt p (n + 1)) ≡ true → (nat_le x p && nat_lt p (x + w)) ≡ true → x + w ≤ n → ⊥
-        apart n x w p k l le = absurd (grind (arith, nat_tests))
-
-    once : (p : ℕ) (b : Bool) → covers p number ≡ b → (f : Bool) → covers p e ≡ f → count_by (covers p) (number ∷ e ∷ []) ≤ 1
-    once p true k true l = absurd (never p k l)
-    once p true k false l = let s = bit (covers p number) true k in let t = bit (covers p e) false l in omega (arith, count p)
-    once p false k true l = let s = bit (covers p number) false k in let t = bit (covers p e) true l in omega (arith, count p)
-    once p false k false l = let s = bit (covers p number) false k in let t = bit (covers p e) false l in omega (arith, count p)
-
-    reserved : (p : ℕ) (b : Bool) → covers p number ≡ b → (f : Bool) → covers p e ≡ f → 0 < count_by (covers p) (number ∷ e ∷ []) → is_reserved order code p ≡ true
-    reserved p true k f l lt = let same : length code - 2 ≡ p = grind (arith, nat_tests) in subst (λ (n : ℕ). is_reserved order code n ≡ true) same (number_reserved order code h)
-    reserved p false k true l lt = d.reserved p l
-    reserved p false k false l lt = let s = bit (covers p number) false k in let t = bit (covers p e) false l in absurd (omega (arith, count p))
-
--- own edits, and those of references that cover no place twice and no reserved one, together cover
--- none twice
-beside : (R : ℕ → Bool) (known : Known) (code : List ℕ) (rs : List Record) (off : ℕ) (own : List Edit) → AreOwn R own → IsOnce R (all_operands known off rs)
-    → (p : ℕ) → count_by (covers p) (own ++ records_edits known code off rs) ≤ 1
-beside R known code rs off own a o p = at (count_by (covers p) own) refl
-  where
-    all : count_by (covers p) (own ++ records_edits known code off rs) ≡ count_by (covers p) own + count_by (is_in p) (all_operands known off rs)
-    all = sum_by-append (λ e. cond (covers p e) 1 0) own (records_edits known code off rs) ∙ ap (λ (n : ℕ). count_by (covers p) own + n) (counts_are known code p rs off)
-
-    at : (n : ℕ) → count_by (covers p) own ≡ n → count_by (covers p) (own ++ records_edits known code off rs) ≤ 1
-    at zero k = omega (arith, all, o.once p)
-    at (suc n) k = let free = o.free p (a.reserved p (omega arith)) in omega (arith, all, a.once p)
-
 module _ (order : Order) (known : Known) (code : List ℕ) (rs : List Record) (off slot : ℕ) (table : Option Edit) (h : 4 ≤ length code) (d : IfSome table (IsOfTable order code))
     (none : records_fault known (is_reserved order code) code 0 off [] rs ≡ None) where
-  -- no place is covered twice
-  pub edits_once : (p : ℕ) → count_by (covers p) (Byte slot (length code - 2) ∷ (option_to_list table ++ records_edits known code off rs)) ≤ 1
-  edits_once p = beside (is_reserved order code) known code rs off (Byte slot (length code - 2) ∷ option_to_list table) (own_of order code slot table h d)
-      (records_once known (is_reserved order code) code rs 0 off [] none (none_once (is_reserved order code))) p
-
   table_inside : (o : Option Edit) → IfSome o (IsOfTable order code) → All (IsInside (length code)) (option_to_list o)
   table_inside None e = All-nil (IsInside (length code))
   table_inside (Some e) t = All-cons (IsInside (length code)) e [] (record { storable = t.storable; within = omega (arith, t.before) }) (All-nil (IsInside (length code)))
@@ -119,3 +55,75 @@ module _ (order : Order) (known : Known) (code : List ℕ) (rs : List Record) (o
 pub own_of_table : (order : Order) (code : List ℕ) (b : Bool) (size : Edit) → (b ≡ true → IsOfTable order code size) → IfSome (data_size_edit b size) (IsOfTable order code)
 own_of_table order code true size h = h refl
 own_of_table order code false size h = tt
+
+-- A table of the places of a code has these edits, each at reserved places, and no place more is
+-- taken.
+pub record IsOwnTable (tables : ProcedureTables) (edits : List Edit) (ts : List PlaceState) : Type 0 where
+  pub table : IsTableOf tables.code ts
+  pub taken : AreTaken tables ts []
+  pub same : IsPermutation edits (edits_of ts)
+
+-- one edit of reserved places more
+own_more : (tables : ProcedureTables) (es : List Edit) (ts : List PlaceState) (e : Edit) → IsOwnTable tables es ts → place_of e + width e ≤ length tables.code → ((p : ℕ) → covers p e ≡ true → is_reserved tables.order tables.code p ≡ true)
+    → ((p : ℕ) → covers p e ≡ true → IsIdle (get_or ts p Free)) → ((p : ℕ) → is_wide (get_or ts p Free) ≡ true → suc p ≡ place_of e → ⊥) → IsOwnTable tables (es ++ e ∷ []) (put_in ts e)
+own_more tables es ts e own le reserved idle beside = record {
+  table = table_more tables.code ts e own.table beside (omega (arith, own.table.len));
+  taken = λ p lt. put_taken ts e p (omega (arith, own.table.len)) ∙ ap (λ (b : Bool). b || covers p e) (own.taken p lt) ∙ kept (is_reserved tables.order tables.code p) (covers p e) (reserved p);
+  same = put_more es ts e own.same (omega (arith, own.table.len)) idle;
+}
+  where
+    kept : (a b : Bool) → (b ≡ true → a ≡ true) → ((a || false) || b) ≡ (a || false)
+    kept true b h = refl
+    kept false true h = sym (h refl)
+    kept false false h = refl
+
+module _ (tables : ProcedureTables) (ts : List PlaceState) (slot : ℕ) (large : 4 ≤ length tables.code) (len : length ts ≡ length tables.code)
+    (first : (p : ℕ) → p < length tables.code → get_or ts p Free ≡ first_state (is_reserved tables.order tables.code p)) where
+  abbrev number : Edit
+  number = Byte slot (length tables.code - 2)
+
+  idle : (p : ℕ) → IsIdle (get_or ts p Free)
+  idle p = at (cases_lt p (length tables.code))
+    where
+      state : (b : Bool) → IsIdle (first_state b)
+      state true = refl
+      state false = refl
+
+      at : (p < length tables.code) ⊎ (length tables.code ≤ p) → IsIdle (get_or ts p Free)
+      at (inl lt) = subst IsIdle (sym (first p lt)) (state (is_reserved tables.order tables.code p))
+      at (inr past) = subst IsIdle (sym (get_or_past ts p Free (omega (arith, len)))) refl
+
+  narrow : (p : ℕ) → is_wide (get_or ts p Free) ≡ true → ⊥
+  narrow p wide = let both : true ≡ false = sym wide ∙ idle_narrow (get_or ts p Free) (idle p) in cc
+
+  no_edits : IsOwnTable tables [] ts
+  no_edits = record {
+    table = record { len = len; spaced = λ p wide. absurd (narrow p wide) };
+    taken = λ p lt. ap is_taken (first p lt) ∙ at (is_reserved tables.order tables.code p);
+    same = subst (λ (es : List Edit). IsPermutation [] es) (sym (none_listed 0 ts idle)) (IsPermutation-refl []);
+  }
+    where
+      at : (b : Bool) → is_taken (first_state b) ≡ (b || false)
+      at true = refl
+      at false = refl
+
+  at_number : (p : ℕ) → covers p number ≡ true → p ≡ length tables.code - 2
+  at_number p covered = grind (arith, nat_tests)
+
+  -- the table of the number of the segment
+  pub number_table : IsOwnTable tables (number ∷ []) (put_in ts number)
+  number_table = own_more tables [] ts number no_edits (omega arith)
+      (λ p covered. subst (λ (n : ℕ). is_reserved tables.order tables.code n ≡ true) (sym (at_number p covered)) (number_reserved tables.order tables.code large))
+      (λ p covered. idle p) (λ p wide next. narrow p wide)
+
+  -- the table of that and an edit of the procedure tables
+  pub size_table : (size : Edit) → IsOfTable tables.order tables.code size → IsOwnTable tables (number ∷ size ∷ []) (put_in (put_in ts number) size)
+  size_table size of_table = own_more tables (number ∷ []) (put_in ts number) size number_table (omega (arith, of_table.before)) of_table.reserved
+      (λ p covered. let low : p < length tables.code - 2 = below (place_of size) (width size) p of_table.before covered in subst IsIdle (sym (kept p low)) (idle p))
+      (λ p wide next. narrow p (subst (λ (s : PlaceState). is_wide s ≡ true) (kept p (omega (arith, of_table.before, next))) wide))
+    where
+      below : (x w p : ℕ) → x + w ≤ length tables.code - 2 → (nat_le x p && nat_lt p (x + w)) ≡ true → p < length tables.code - 2
+      below x w p le covered = grind (arith, nat_tests)
+
+      kept : (p : ℕ) → p < length tables.code - 2 → get_or (put_in ts number) p Free ≡ get_or ts p Free
+      kept p low = get_or-set_other ts (length tables.code - 2) p (stored.Byte slot) Free (λ same. absurd (omega arith))

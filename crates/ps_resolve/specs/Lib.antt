@@ -19,7 +19,7 @@ pub mod Standing
 pub mod Parts
 pub mod RequestedUnits
 pub mod Linkable
-pub mod Starts
+pub mod EditTables
 pub mod LinkedBytes
 pub mod Builders
 pub mod Origins

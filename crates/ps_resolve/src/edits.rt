@@ -1,9 +1,11 @@
-ghost use Rattle.std.specs.Prelude.{◌≡◌, ℕ, ◌≤◌, ◌+◌, ◌-◌, ◌∷◌, [], length, true, None, IfOk, OnOk, IfErr, ⊤};
+ghost use Rattle.std.specs.Prelude.{◌≡◌, ℕ, ◌≤◌, ◌+◌, ◌-◌, ◌∷◌, [], IsPermutation, length, true, None, IfOk, OnOk, IfErr, ⊤};
 ghost use Rattle.std.specs.Option.{option_to_list};
 ghost use Rattle.ps_words.specs.declared.edit.Edit.TheVariants.{Byte};
 ghost use Rattle.ps_codefile.specs.Roles.{is_host as is_host_spec};
 ghost use Rattle.ps_resolve.specs.Privates.{private_words};
-ghost use Rattle.ps_resolve.specs.Edits.{data_size_edit};
+ghost use Rattle.ps_resolve.specs.Edits.{data_size_edit, IsOfTable};
+ghost use Rattle.ps_resolve.specs.EditTables.{IsTableOf, edits_of};
+ghost use Rattle.ps_resolve.specs.TakenPlaces.{AreTaken};
 ghost use Rattle.ps_resolve.specs.Faults.{segment_fault};
 ghost use Rattle.ps_resolve.specs.Linkable.{IsNext};
 ghost use Rattle.ps_resolve.specs.Linking.{segment_edits as segment_edits_spec, data_edits};
@@ -13,13 +15,14 @@ ghost use Rattle.ps_resolve.specs.Views.{segment_of};
 ghost use Rattle.ps_resolve.specs.declared.linkage.Stop.TheVariants.{Memory};
 
 pub(crate) mod data_size;
-pub(crate) mod sorting;
+pub(crate) mod table;
 
-use crate::edits::sorting::sorted_edits;
+use crate::edits::table::EditTable;
 use crate::linkage::Stop;
 use crate::reading::segment::Segment;
 use crate::references::names::Linking;
 use crate::references::records::add_records;
+use ps_codefile::Procs;
 use ps_words::Edit;
 use ps_words::word_laws::edits_patch_alike_in_any_order;
 use std::alloc::Allocator;
@@ -30,30 +33,34 @@ const NUMBER_FROM_END: usize = 2;
 /// How many edits of a linked segment are no reference's, at most.
 const MOST_EDITS_BESIDE_REFERENCES: usize = 2;
 
-/// The edits of a linked segment that are no reference's: its number, and in the host's segment
-/// `size`. There is room for those of this many references.
+/// A table of the places of a linked segment's code, with the edits that are no reference's: its
+/// number, and in the host's segment `size`.
 fn own_edits<A: Allocator + Copy>(
     alloc: A,
-    segment: &Segment,
-    references: usize,
+    procedures: &Procs,
+    slot: u8,
+    host: bool,
     size: Edit,
-) -> Result<Vec<Edit, A>, Stop>
-    requires { 4 ≤ length segment.now.code }
-    ensures items { IfOk result (λ edits. edits.items
-        ≡ Byte segment.now.slot (length segment.now.code - 2)
-        ∷ option_to_list (data_size_edit (is_host_spec segment.now.role) size)) }
+) -> Result<EditTable<A>, Stop>
+    requires long { 4 ≤ length procedures.now.code }
+    requires small { length procedures.now.code ≤ 32767 }
+    requires table { host ≡ true → IsOfTable procedures.now.order procedures.now.code size }
+    ensures table { IfOk result (λ edits. IsTableOf procedures.now.code edits.states.items) }
+    ensures taken { IfOk result (λ edits. AreTaken procedures.now edits.states.items []) }
+    ensures edits { IfOk result (λ edits. IsPermutation
+        (Byte slot (length procedures.now.code - 2) ∷ option_to_list (data_size_edit host size))
+        (edits_of edits.states.items)) }
     ensures stop { IfErr result (λ stop. stop ≡ Memory) }
 {
-    let room = references.saturating_add(MOST_EDITS_BESIDE_REFERENCES);
-    let mut edits = Vec::with_capacity(alloc, room)?;
-    edits.push(Edit::Byte {
-        place: segment.code.len() - NUMBER_FROM_END,
-        value: segment.slot,
-    })?;
-    if !segment.role.is_host() {
+    let mut edits = EditTable::new(alloc, procedures)?;
+    edits.put(Edit::Byte {
+        place: procedures.code().len() - NUMBER_FROM_END,
+        value: slot,
+    });
+    if !host {
         return Ok(edits);
     }
-    edits.push(size)?;
+    edits.put(size);
     Ok(edits)
 }
 
@@ -88,11 +95,14 @@ pub(crate) fn segment_edits<'a, A: Allocator + Copy>(
         None => Ok((Vec::new(alloc), free)),
         Some(resolvable) => {
             edits_patch_alike_in_any_order();
+            let host = segment.role.is_host();
+            let procedures = &resolvable.procedures;
+            let own = own_edits(alloc, procedures, segment.slot, host, link.size)?;
+            let (table, end) = add_records(link, earlier, segment, resolvable, free, own)?;
             let references = resolvable.records.references();
-            let own = own_edits(alloc, segment, references, link.size)?;
-            let (edits, end) = add_records(link, earlier, segment, resolvable, free, own)?;
-            let ordered = sorted_edits(alloc, segment.code.len(), edits)?;
-            Ok((ordered, end))
+            let count = references.saturating_add(MOST_EDITS_BESIDE_REFERENCES);
+            let edits = table.edits(alloc, count)?;
+            Ok((edits, end))
         }
     }
 }

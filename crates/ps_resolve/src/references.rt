@@ -1,21 +1,22 @@
-ghost use Rattle.std.specs.Prelude.{◌≡◌, ℕ, ◌<◌, ◌≤◌, ◌+◌, ◌++◌, ◌||◌, List, [], length, map, nat_lt, OnOk, IfOk, IfErr, IfSome, None, ⊤};
+ghost use Rattle.std.specs.Prelude.{◌≡◌, ℕ, ◌<◌, ◌≤◌, ◌+◌, ◌++◌, List, [], length, map, nat_lt, OnOk, IfOk, IfErr, IfSome, IsPermutation, None, false, ⊤};
 ghost use Rattle.std.specs.List.{range_with_len, list_any};
 ghost use Rattle.std.specs.Result.{result_err};
 ghost use Rattle.ps_words.specs.declared.fault.Reason.TheVariants.{OperandTooLarge};
 ghost use Rattle.ps_linkinfo.specs.Records.{refs_of};
-ghost use Rattle.ps_codefile.specs.Places.{has};
 ghost use Rattle.ps_resolve.specs.Searches.{fault_if};
 ghost use Rattle.ps_codefile.specs.Procedures.{is_reserved};
-ghost use Rattle.ps_resolve.specs.Operands.{width_of as width_of_spec, edit_of, value_of, operands, is_in};
+ghost use Rattle.ps_resolve.specs.Operands.{width_of as width_of_spec, edit_of, value_of, operands};
 ghost use Rattle.ps_resolve.specs.TakenPlaces.{AreTaken};
+ghost use Rattle.ps_resolve.specs.EditTables.{IsTableOf, edits_of, is_taken_at};
 ghost use Rattle.ps_resolve.specs.Edits.{reason_in, refs_fault_at};
 ghost use Rattle.ps_resolve.specs.Stops.{IsStop};
 
 pub(crate) mod names;
 pub(crate) mod records;
 
+use crate::edits::table::EditTable;
 use crate::linkage::{RecordPlace, Stop};
-use ps_codefile::{Places, Procs};
+use ps_codefile::Procs;
 use ps_linkinfo::{Body, Refs};
 use ps_words::{Edit, Reason, get_big};
 use std::alloc::Allocator;
@@ -43,14 +44,15 @@ fn width_of(target: Target) -> usize
     }
 }
 
-/// Whether one of the places of the operand is in the set.
-fn any_of(places: &Places, target: Target, x: usize) -> bool
-    requires { x + width_of_spec target ≤ 32768 }
-    ensures { result ≡ list_any (has places.now) (range_with_len x (width_of_spec target)) }
+/// Whether one of the places of the operand is taken.
+fn is_any_taken<A: Allocator + Copy>(edits: &EditTable<A>, target: Target, x: usize) -> bool
+    requires { x + width_of_spec target ≤ length edits.now.states.items }
+    ensures { result
+        ≡ list_any (is_taken_at edits.now.states.items) (range_with_len x (width_of_spec target)) }
 {
     match target {
-        Target::Slot(_) => places.contains(x),
-        Target::Base(_) => places.contains(x) || places.contains(x + 1),
+        Target::Slot(_) => edits.is_taken(x),
+        Target::Base(_) => edits.is_taken(x) || edits.is_taken(x + 1),
     }
 }
 
@@ -92,18 +94,6 @@ fn stored_at(code: &[u8], target: Target, x: usize) -> Result<Edit, Reason>
     }
 }
 
-/// Adds the places of the operand.
-fn mark(taken: &mut Places, target: Target, x: usize)
-    requires { x + width_of_spec target ≤ 32768 }
-    ensures { (p : ℕ) → has taken.new p
-        ≡ (has taken.old p || is_in p (x, width_of_spec target)) }
-{
-    taken.insert(x);
-    if let Target::Base(_) = target {
-        taken.insert(x + 1);
-    }
-}
-
 /// The references of a record, where it is of a kind that has them.
 fn references_of<'b, 'a>(body: &'b Body<'a>) -> Option<&'b Refs<'a>>
     ensures some { IfSome result (λ refs. refs.now ≡ refs_of body.now) }
@@ -120,29 +110,32 @@ fn references_of<'b, 'a>(body: &'b Body<'a>) -> Option<&'b Refs<'a>>
 pub(crate) struct ReferenceEdits<'a, A: Allocator> {
     /// The procedure tables of the segment's code, whose places are reserved.
     pub(crate) procedures: Procs<'a>,
-    /// The reserved places, and those of the operands so far.
-    pub(crate) taken: Places,
-    /// The edits so far, after others.
-    pub(crate) edits: Vec<Edit, A>,
+    /// The edits so far, and others. The places of the operands so far are taken, and those that
+    /// are reserved.
+    pub(crate) edits: EditTable<A>,
     ghost small: { length procedures.code ≤ 32767 },
 }
 
-impl<A: Allocator> ReferenceEdits<'_, A> {
+impl<A: Allocator + Copy> ReferenceEdits<'_, A> {
     /// The edit of the operand at x, or why there is none.
     fn edit_at(&self, target: Target, x: usize) -> Result<Edit, Reason>
-        requires { x < 65536 }
+        requires low { x < 65536 }
+        requires len { length self.now.edits.states.items ≡ length self.now.procedures.code }
         ensures inside { IfOk result (λ _. x + width_of_spec target
             ≤ length self.now.procedures.code) }
         ensures edit { IfOk result (λ edit. edit
             ≡ edit_of self.now.procedures.code target x) }
-        ensures reason { (os : List (ℕ × ℕ)) → AreTaken self.now.procedures self.now.taken os
+        ensures free { OnOk result (list_any (is_taken_at self.now.edits.states.items)
+            (range_with_len x (width_of_spec target)) ≡ false) }
+        ensures reason { (os : List (ℕ × ℕ))
+            → AreTaken self.now.procedures self.now.edits.states.items os
             → result_err result ≡ reason_in self.now.procedures os target x }
     {
         let code = self.procedures.code();
         if x + width_of(target) > code.len() {
             return Err(Reason::OutsideCode);
         }
-        if any_of(&self.taken, target, x) {
+        if is_any_taken(&self.edits, target, x) {
             if is_any_reserved(&self.procedures, target, x) {
                 return Err(Reason::ReservedPlace);
             }
@@ -160,17 +153,22 @@ impl<A: Allocator> ReferenceEdits<'_, A> {
         target: Target,
         body: &Body,
     ) -> Result<(), Stop>
+        requires { IsTableOf self.old.procedures.code self.old.edits.states.items }
         ensures same_procedures { self.new.procedures ≡ self.old.procedures }
-        ensures edits { OnOk result (self.new.edits.items ≡ self.old.edits.items
-            ++ map (edit_of self.old.procedures.code target) (refs_of body.now)) }
-        ensures sound { (os : List (ℕ × ℕ)) → AreTaken self.old.procedures self.old.taken os
-            → OnOk result
+        ensures table { OnOk result (IsTableOf self.old.procedures.code
+            self.new.edits.states.items) }
+        ensures edits { OnOk result (IsPermutation (edits_of self.old.edits.states.items
+            ++ map (edit_of self.old.procedures.code target) (refs_of body.now))
+            (edits_of self.new.edits.states.items)) }
+        ensures sound { (os : List (ℕ × ℕ))
+            → AreTaken self.old.procedures self.old.edits.states.items os → OnOk result
             (refs_fault_at place self.old.procedures target os (refs_of body.now) ≡ None) }
-        ensures stop { (os : List (ℕ × ℕ)) → AreTaken self.old.procedures self.old.taken os
-            → IfErr result
+        ensures stop { (os : List (ℕ × ℕ))
+            → AreTaken self.old.procedures self.old.edits.states.items os → IfErr result
             (IsStop ⊤ (refs_fault_at place self.old.procedures target os (refs_of body.now))) }
-        ensures taken { (os : List (ℕ × ℕ)) → AreTaken self.old.procedures self.old.taken os
-            → OnOk result (AreTaken self.old.procedures self.new.taken
+        ensures taken { (os : List (ℕ × ℕ))
+            → AreTaken self.old.procedures self.old.edits.states.items os → OnOk result
+            (AreTaken self.old.procedures self.new.edits.states.items
             (os ++ operands target (refs_of body.now))) }
     {
         let Some(refs) = references_of(body) else {
@@ -180,10 +178,7 @@ impl<A: Allocator> ReferenceEdits<'_, A> {
             let x = refs.get(i) as usize;
             match self.edit_at(target, x) {
                 Err(reason) => return Err(place.reference_refused(i, reason)),
-                Ok(edit) => {
-                    mark(&mut self.taken, target, x);
-                    self.edits.push(edit)?;
-                }
+                Ok(edit) => self.edits.put(edit),
             }
         }
         Ok(())

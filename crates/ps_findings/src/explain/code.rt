@@ -2,7 +2,7 @@
 use super::Case;
 use crate::segments::{Part, Source};
 use ps_codefile::code_layout::{NUMBERS, TABLE_NUMBERS, TABLE_WORDS};
-use ps_words::{BLOCK_SIZE, WORD_LEN, get};
+use ps_words::{BLOCK_SIZE, Order, WORD_LEN, get};
 use std::alloc::{AllocError, Allocator};
 use std::fmt::{self, Formatter, Write as _};
 
@@ -11,17 +11,17 @@ pub(super) fn add_extent<A: Allocator>(
     text: &mut String<A>,
     case: &Case<'_, '_>,
 ) -> Result<(), AllocError> {
-    let Some(source) = case.segment.and_then(|segment| segment.source) else {
+    let Some(source) = case.source() else {
         return Ok(());
     };
     let start = BLOCK_SIZE * usize::from(source.entry.address);
-    let end = start + usize::from(source.entry.length);
-    let index = source.index;
-    let has = case.inputs.bytes(source.file).len();
-    let length = source.entry.length;
+    let length = usize::from(source.entry.length);
     writeln!(
         text,
-        "  entry {index:02} has {length} bytes of code, from byte {start} to {end}; the file has {has}"
+        "  entry {:02} has {length} bytes of code, from byte {start} to {}; the file has {}",
+        source.index,
+        start + length,
+        case.inputs.bytes(source.file).len()
     )
 }
 
@@ -75,55 +75,60 @@ pub(crate) enum Table {
 }
 
 /// The table of a procedure, from 1, of a code.
-pub(crate) fn table_of(source: &Source<'_>, code: &[u8], procedure: usize) -> Table {
-    let Some(word) = code
-        .len()
-        .checked_sub(NUMBERS + WORD_LEN * procedure.min(255))
-    else {
-        return Table::Before;
-    };
-    let Some(rest) = code.get(word..) else {
-        return Table::Before;
-    };
-    if rest.len() < WORD_LEN {
+pub(crate) fn table_of(order: Order, code: &[u8], procedure: usize) -> Table {
+    let behind = NUMBERS + WORD_LEN * procedure.min(255);
+    if code.len() < behind {
         return Table::Before;
     }
-    match usize::from(get(source.order, rest, 0)) {
+    let word = code.len() - behind;
+    match usize::from(get(order, code, word)) {
         0 => Table::Absent,
-        content => match word.checked_sub(content) {
-            Some(place) => Table::At(place),
-            None => Table::Before,
-        },
+        content if content <= word => Table::At(word - content),
+        _ => Table::Before,
     }
 }
 
+/// The first procedure whose table lies outside the code or in the dictionary, which begins here.
+fn first_outside(order: Order, code: &[u8], count: usize, dictionary: usize) -> Option<usize> {
+    for procedure in 1..=count {
+        match table_of(order, code, procedure) {
+            Table::Absent => {}
+            Table::At(place)
+                if TABLE_WORDS <= place && place.saturating_add(TABLE_NUMBERS) <= dictionary => {}
+            _ => return Some(procedure),
+        }
+    }
+    None
+}
+
+/// The first procedure whose table has the number 0.
+fn first_native(order: Order, code: &[u8], count: usize) -> Option<usize> {
+    for procedure in 1..=count {
+        if let Table::At(place) = table_of(order, code, procedure) {
+            if code.get(place).copied() == Some(0) {
+                return Some(procedure);
+            }
+        }
+    }
+    None
+}
+
 /// The first thing that is wrong with the procedures of a code.
-pub(crate) fn procedure_fault(source: &Source<'_>, is_host: bool) -> Option<Procedure> {
-    let code = source.code?;
+fn procedure_fault(source: &Source<'_>, is_host: bool) -> Option<Procedure> {
+    let (order, code) = (source.order, source.code?);
     let count = usize::from(code.last().copied()?);
     let bytes = NUMBERS + WORD_LEN * count;
     let Some(dictionary) = code.len().checked_sub(bytes) else {
         return Some(Procedure::LongDictionary { bytes });
     };
-    for procedure in 1..=count {
-        match table_of(source, code, procedure) {
-            Table::Absent => {}
-            Table::At(place)
-                if TABLE_WORDS <= place && place.saturating_add(TABLE_NUMBERS) <= dictionary => {}
-            _ => return Some(Procedure::Outside { procedure }),
-        }
+    if let Some(procedure) = first_outside(order, code, count, dictionary) {
+        return Some(Procedure::Outside { procedure });
     }
-    if is_host && (count == 0 || matches!(table_of(source, code, 1), Table::Absent)) {
+    if is_host && (count == 0 || matches!(table_of(order, code, 1), Table::Absent)) {
         return Some(Procedure::NoOuterBlock);
     }
-    for procedure in 1..=count {
-        if let Table::At(place) = table_of(source, code, procedure) {
-            if code.get(place).copied() == Some(0) {
-                return Some(Procedure::Native { procedure });
-            }
-        }
-    }
-    None
+    let procedure = first_native(order, code, count)?;
+    Some(Procedure::Native { procedure })
 }
 
 /// Adds which procedure it is, and which of the causes.

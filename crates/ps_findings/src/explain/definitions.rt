@@ -1,9 +1,8 @@
 //! What is said of a name that the host program does not define as it is requested.
-use super::dictionary::is_near;
+use super::dictionary::plain;
 use super::{Case, word_of};
 use crate::inputs::Shown;
-use crate::segments::{Part, Segment};
-use ps_linkinfo::Body;
+use crate::segments::{Part, Segment, Sort};
 use ps_words::Name;
 use std::alloc::{AllocError, Allocator};
 use std::fmt::Write as _;
@@ -30,14 +29,7 @@ pub(super) fn add_defined<A: Allocator>(
     if let Some(host) = host_of(case.list) {
         add_host_names(text, &host, &asked.name)?;
     }
-    match case.segment {
-        Some(segment) if !matches!(segment.part, Part::Host) => add_own(
-            text,
-            &segment,
-            &asked.name,
-        ),
-        _ => Ok(()),
-    }
+    add_own(text, case, &asked.name)
 }
 
 /// Adds the host's definitions of the name or of nearly the name.
@@ -47,8 +39,7 @@ fn add_host_names<A: Allocator>(
     name: &Name,
 ) -> Result<(), AllocError> {
     for (rec, record) in host.records().records() {
-        let is_definition = matches!(record.body, Body::PublDef(_) | Body::ConstDef(_));
-        if is_definition && (record.name == *name || is_near(&record.name, name)) {
+        if Sort::Definition.has(&record.body) && plain(&record.name) == plain(name) {
             let kind = word_of(&record.body);
             let found = Shown(record.name);
             writeln!(text, "  the host has {kind} {found}, record {rec}")?;
@@ -60,16 +51,17 @@ fn add_host_names<A: Allocator>(
 /// Adds that the unit itself has a definition of the name.
 fn add_own<A: Allocator>(
     text: &mut String<A>,
-    segment: &Segment<'_>,
+    case: &Case<'_, '_>,
     name: &Name,
 ) -> Result<(), AllocError> {
-    for (rec, record) in segment.records().records() {
-        if record.name == *name && matches!(record.body, Body::PublDef(_)) {
-            return writeln!(
+    match &case.segment {
+        Some(unit) if unit.part.is_unit() => match unit.find(name, Sort::Variable) {
+            Some((rec, _)) => writeln!(
                 text,
                 "  the unit itself has a PUBLDEF of it, record {rec}, which is not used: the host program has to define it"
-            );
-        }
+            ),
+            None => Ok(()),
+        },
+        _ => Ok(()),
     }
-    Ok(())
 }

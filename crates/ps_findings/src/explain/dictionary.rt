@@ -1,7 +1,6 @@
 //! What faults of dictionaries say.
 use super::Case;
-use crate::inputs::{FileOrder, Shown};
-use crate::segments::filled_entry;
+use crate::inputs::{Shown, order_words};
 use ps_codefile::dictionary_layout::SLOTS;
 use ps_codefile::{Dict, Role};
 use ps_words::{Name, Reason};
@@ -13,8 +12,8 @@ pub(super) fn add_length<A: Allocator>(
     text: &mut String<A>,
     case: &Case<'_, '_>,
 ) -> Result<(), AllocError> {
-    let length = case.inputs.bytes(case.fault.file).len();
-    writeln!(text, "  it has {length} bytes")
+    let bytes = case.inputs.bytes(case.fault.file);
+    writeln!(text, "  it has {} bytes", bytes.len())
 }
 
 /// Adds the byte orders of the host and of the file.
@@ -22,11 +21,11 @@ pub(super) fn add_orders<A: Allocator>(
     text: &mut String<A>,
     case: &Case<'_, '_>,
 ) -> Result<(), AllocError> {
-    let order = FileOrder::of(case.inputs.bytes(case.fault.file));
+    let order = order_words(case.inputs.bytes(case.fault.file));
     if case.fault.file == 0 {
         return writeln!(text, "  it has: {order}");
     }
-    let host = FileOrder::of(case.inputs.host);
+    let host = order_words(case.inputs.host);
     writeln!(text, "  it has: {order}; the host has: {host}")
 }
 
@@ -72,28 +71,31 @@ pub(super) fn add_kind<A: Allocator>(
     if SLOTS <= slot {
         return Ok(());
     }
-    let kind = dict.entry(slot).kind;
-    writeln!(text, "  its kind is {kind}")
+    writeln!(text, "  its kind is {}", dict.entry(slot).kind)
 }
 
-/// A byte of a name as a careless hand may have written it: small, with its high bit set, or zero
-/// for a blank.
-fn plain(byte: u8) -> u8 {
-    match byte & 0x7F {
-        0 => b' ',
-        low => low.to_ascii_uppercase(),
+/// A name as it ought to be written where a careless hand wrote it in small letters, with high bits
+/// set, or with zeros for blanks.
+pub(crate) fn plain(name: &Name) -> Name {
+    let mut plain = *name;
+    for byte in plain.iter_mut() {
+        *byte = match *byte & 0x7F {
+            0 => b' ',
+            low => low.to_ascii_uppercase(),
+        };
     }
+    plain
 }
 
 /// The names differ, and only in small letters, high bits, or zeros where blanks are expected.
-pub(crate) fn is_near(a: &Name, b: &Name) -> bool {
-    a != b && a.iter().zip(b.iter()).all(|(x, y)| plain(*x) == plain(*y))
+fn is_near(a: &Name, b: &Name) -> bool {
+    a != b && plain(a) == plain(b)
 }
 
 /// The name of the unit that is missing.
 fn missing(case: &Case<'_, '_>) -> Option<Name> {
-    match (case.fault.rec, case.segment) {
-        (Some(_), _) => case.record().map(|record| record.name),
+    match (case.fault.rec, &case.segment) {
+        (Some(_), _) => Some(case.record()?.name),
         (None, Some(segment)) => Some(segment.name),
         (None, None) => None,
     }
@@ -119,17 +121,17 @@ fn add_near_in<A: Allocator>(
     file: usize,
     name: &Name,
 ) -> Result<(), AllocError> {
-    let Some(dict) = case.inputs.dict(file, case.inputs.order()) else {
+    let Some(dict) = case.inputs.dict(file) else {
         return Ok(());
     };
     for slot in 0..SLOTS {
         let found = dict.entry(slot).name;
         if dict.filled(slot) && is_near(&found, name) {
-            let path = case.inputs.path(file);
-            let found = Shown(found);
             writeln!(
                 text,
-                "  {path} entry {slot:02} has {found}, which differs in small letters, high bits or padding alone"
+                "  {} entry {slot:02} has {}, which differs in small letters, high bits or padding alone",
+                case.inputs.path(file),
+                Shown(found)
             )?;
         }
     }
@@ -141,16 +143,17 @@ pub(super) fn add_entries<A: Allocator>(
     text: &mut String<A>,
     case: &Case<'_, '_>,
 ) -> Result<(), AllocError> {
-    let (Some(segment), Some(dict)) = (
-        case.segment,
-        case.inputs.dict(case.fault.file, case.inputs.order()),
-    ) else {
+    let (Some(segment), Some(dict)) = (&case.segment, case.inputs.dict(case.fault.file)) else {
         return Ok(());
     };
     for slot in 0..SLOTS {
-        if filled_entry(&dict, &segment.name, slot) == Some(slot) {
-            let kind = dict.entry(slot).kind;
-            writeln!(text, "  entry {slot:02} has the name, of kind {kind}")?;
+        let entry = dict.entry(slot);
+        if dict.filled(slot) && entry.name == segment.name {
+            writeln!(
+                text,
+                "  entry {slot:02} has the name, of kind {}",
+                entry.kind
+            )?;
         }
     }
     Ok(())

@@ -1,10 +1,11 @@
 //! What is said of an operand that may not be where it is.
 use super::Case;
 use super::code::{Table, table_of};
-use super::references::{Operand, refs_of, told_code, told_operand};
+use super::references::{Operand, refs_of, told_operand};
 use crate::inputs::Shown;
 use ps_codefile::code_layout::{TABLE_NUMBERS, TABLE_WORDS};
 use ps_linkinfo::LinkRecord;
+use ps_words::Fault;
 use std::alloc::{AllocError, Allocator};
 use std::fmt::Write as _;
 
@@ -15,14 +16,12 @@ fn share(a: Operand, b: Operand) -> bool {
 
 /// The first procedure whose table has a byte of the operand.
 fn table_at(case: &Case<'_, '_>, operand: Operand) -> Option<usize> {
-    let source = case.segment?.source?;
-    let code = source.code?;
-    let count = usize::from(code.last().copied()?);
-    for procedure in 1..=count {
-        if let Table::At(place) = table_of(&source, code, procedure) {
-            let start = place.saturating_sub(TABLE_WORDS);
+    let order = case.source()?.order;
+    let code = case.code();
+    for procedure in 1..=usize::from(code.last().copied()?) {
+        if let Table::At(place) = table_of(order, code, procedure) {
             let table = Operand {
-                place: start,
+                place: place.saturating_sub(TABLE_WORDS),
                 width: TABLE_WORDS + TABLE_NUMBERS,
             };
             if share(table, operand) {
@@ -41,7 +40,7 @@ pub(super) fn add_place<A: Allocator>(
     let Some(operand) = told_operand(case) else {
         return Ok(());
     };
-    let length = told_code(case).len();
+    let length = case.code().len();
     if length < operand.place.saturating_add(operand.width) {
         return writeln!(text, "  the code has {length} bytes");
     }
@@ -51,12 +50,16 @@ pub(super) fn add_place<A: Allocator>(
     }
 }
 
-/// The first reference of a record, of those before this one, whose operand shares a byte with it.
-fn sharing(record: &LinkRecord<'_>, end: usize, operand: Operand) -> Option<usize> {
+/// The first reference of a record, of those before that of the fault, whose operand shares a byte
+/// with it.
+fn sharing(fault: Fault, rec: usize, record: &LinkRecord<'_>, operand: Operand) -> Option<usize> {
+    let last = fault.rec.unwrap_or(0);
+    let end = fault.reference.unwrap_or(0);
     let (refs, width) = refs_of(&record.body)?;
     for reference in 0..refs.len() {
         let place = usize::from(refs.get(reference));
-        if reference < end && share(Operand { place, width }, operand) {
+        let is_earlier = rec < last || rec == last && reference < end;
+        if is_earlier && share(Operand { place, width }, operand) {
             return Some(reference);
         }
     }
@@ -68,26 +71,16 @@ pub(super) fn add_covered<A: Allocator>(
     text: &mut String<A>,
     case: &Case<'_, '_>,
 ) -> Result<(), AllocError> {
-    let (Some(operand), Some(segment), Some(last)) = (
-        told_operand(case),
-        case.segment,
-        case.fault.rec,
-    ) else {
+    let (Some(operand), Some(segment)) = (told_operand(case), &case.segment) else {
         return Ok(());
     };
     for (rec, record) in segment.records().records() {
-        let end = match rec == last {
-            true => case.fault.reference.unwrap_or(0),
-            false => usize::MAX,
-        };
-        if rec <= last {
-            if let Some(reference) = sharing(&record, end, operand) {
-                let name = Shown(record.name);
-                return writeln!(
-                    text,
-                    "  the earlier one is reference {reference} of record {rec}, {name}"
-                );
-            }
+        if let Some(reference) = sharing(case.fault, rec, &record, operand) {
+            let name = Shown(record.name);
+            return writeln!(
+                text,
+                "  the earlier one is reference {reference} of record {rec}, {name}"
+            );
         }
     }
     Ok(())

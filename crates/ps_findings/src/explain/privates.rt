@@ -44,7 +44,7 @@ fn words_of(case: &Case<'_, '_>) -> usize {
 pub(crate) fn data_size(host: &Segment<'_>) -> Option<u16> {
     let source = host.source?;
     let code = source.code?;
-    match table_of(&source, code, 1) {
+    match table_of(source.order, code, 1) {
         Table::At(place) => {
             let at = place.checked_sub(DATA_SIZE_BEFORE_TABLE)?;
             match code.get(at..) {
@@ -67,8 +67,7 @@ pub(super) fn offset(case: &Case<'_, '_>) -> usize {
 
 /// The words of the private variable of the record that the fault is reported with.
 fn words_of_record(case: &Case<'_, '_>) -> Option<u16> {
-    let record = case.record()?;
-    match record.body {
+    match case.record()?.body {
         Body::PrivRef { words, .. } => Some(words),
         _ => None,
     }

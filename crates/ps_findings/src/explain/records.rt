@@ -1,10 +1,10 @@
 //! What faults of link information say.
 use super::{Case, word_of};
 use crate::inputs::Shown;
-use crate::segments::Source;
+use crate::segments::Sort;
+use ps_linkinfo::LinkInformation;
 use ps_linkinfo::record_layout::{FORMAT_PLACE, RECORD_LEN, TYPE_PLACE};
-use ps_linkinfo::{Body, LinkInformation};
-use ps_words::{Name, Order, Reason, get};
+use ps_words::{Order, Reason, get};
 use std::alloc::{AllocError, Allocator};
 use std::fmt::Write as _;
 
@@ -17,59 +17,36 @@ pub(crate) fn length_of(records: &LinkInformation<'_>) -> usize {
     length
 }
 
-/// The word at this place, where its two bytes are there.
-fn word_at(order: Order, bytes: &[u8], place: usize) -> Option<u16> {
-    match bytes.get(place..) {
-        Some(rest) if 2 <= rest.len() => Some(get(order, rest, 0)),
-        _ => None,
-    }
+/// The bytes of the file from the first record on that cannot be read, and their order.
+fn unread<'a>(case: &Case<'_, 'a>) -> Option<(Order, &'a [u8])> {
+    let segment = case.segment?;
+    let source = segment.source?;
+    let used = length_of(&segment.records());
+    Some((source.order, source.after.get(used..).unwrap_or(&[])))
 }
 
-/// Adds what the file has where a record cannot be read.
+/// Adds the first words of a record that cannot be read, or how many bytes are left for it.
 pub(super) fn add_unread<A: Allocator>(
     text: &mut String<A>,
     case: &Case<'_, '_>,
     rec: usize,
 ) -> Result<(), AllocError> {
-    let Some(segment) = case.segment else {
+    let Some((order, rest)) = unread(case) else {
         return writeln!(text, "  record {rec}");
     };
-    let Some(source) = segment.source else {
-        return writeln!(text, "  record {rec}");
-    };
-    let used = length_of(&segment.records());
-    let rest = source.after.get(used..).unwrap_or(&[]);
-    add_head(text, &source, rest, rec)
-}
-
-/// Adds the first words of a record, or how many bytes are left for it.
-fn add_head<A: Allocator>(
-    text: &mut String<A>,
-    source: &Source<'_>,
-    rest: &[u8],
-    rec: usize,
-) -> Result<(), AllocError> {
     let left = rest.len();
-    let kind = word_at(source.order, rest, TYPE_PLACE);
-    let format = word_at(source.order, rest, FORMAT_PLACE);
-    match (kind, format) {
-        (Some(kind), Some(format)) if RECORD_LEN <= left => writeln!(
-            text,
-            "  record {rec}: type {kind}, and then the word {format}; {left} bytes of the file are left for it"
-        ),
-        _ => writeln!(
+    if left < RECORD_LEN {
+        return writeln!(
             text,
             "  record {rec}: {left} bytes of the file are left for it"
-        ),
+        );
     }
-}
-
-/// The record is one whose name is to be once, as that of the fault.
-fn is_rival(reason: Reason, body: &Body<'_>) -> bool {
-    match reason {
-        Reason::DoubledPrivate => matches!(body, Body::PrivRef { .. }),
-        _ => matches!(body, Body::PublDef(_) | Body::ConstDef(_)),
-    }
+    let kind = get(order, rest, TYPE_PLACE);
+    let format = get(order, rest, FORMAT_PLACE);
+    writeln!(
+        text,
+        "  record {rec}: type {kind}, and then the word {format}; {left} bytes of the file are left for it"
+    )
 }
 
 /// Adds the earlier record of the name.
@@ -77,16 +54,17 @@ pub(super) fn add_earlier<A: Allocator>(
     text: &mut String<A>,
     case: &Case<'_, '_>,
 ) -> Result<(), AllocError> {
-    let (Some(segment), Some(duplicate)) = (case.segment, case.record()) else {
+    let (Some(segment), Some(duplicate)) = (&case.segment, case.record()) else {
         return Ok(());
     };
-    let name: Name = duplicate.name;
-    for (rec, record) in segment.records().records() {
-        if record.name == name && is_rival(case.fault.reason, &record.body) {
-            let kind = word_of(&record.body);
-            let name = Shown(name);
-            return writeln!(text, "  the earlier one is record {rec}: {kind} {name}");
-        }
-    }
-    Ok(())
+    let sort = match case.fault.reason {
+        Reason::DoubledPrivate => Sort::Private,
+        _ => Sort::Definition,
+    };
+    let Some((rec, record)) = segment.find(&duplicate.name, sort) else {
+        return Ok(());
+    };
+    let kind = word_of(&record.body);
+    let name = Shown(record.name);
+    writeln!(text, "  the earlier one is record {rec}: {kind} {name}")
 }

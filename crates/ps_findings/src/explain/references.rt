@@ -1,8 +1,9 @@
 //! What is said of a reference.
 use super::definitions::host_of;
 use super::{Case, privates};
+use crate::segments::Sort;
 use ps_linkinfo::{Body, LinkRecord, Refs};
-use ps_words::get_big;
+use ps_words::{Name, get_big};
 use std::alloc::{AllocError, Allocator};
 use std::fmt::{self, Formatter, Write as _};
 
@@ -43,7 +44,6 @@ impl fmt::Display for Bytes<'_> {
             return f.write_str(" none");
         }
         for byte in self.0 {
-            let byte = *byte;
             write!(f, " {byte:02X}")?;
         }
         Ok(())
@@ -53,14 +53,6 @@ impl fmt::Display for Bytes<'_> {
 /// The operand that the fault is reported with.
 pub(super) fn told_operand(case: &Case<'_, '_>) -> Option<Operand> {
     operand_of(&case.record()?, case.fault.reference?)
-}
-
-/// The code of the segment that the fault is reported with.
-pub(super) fn told_code<'a>(case: &Case<'_, 'a>) -> &'a [u8] {
-    match case.segment.and_then(|segment| segment.source) {
-        Some(source) => source.code.unwrap_or(&[]),
-        None => &[],
-    }
 }
 
 /// The bytes of an operand, as far as the code has them.
@@ -79,11 +71,11 @@ pub(super) fn add_reference<A: Allocator>(
     };
     match told_operand(case) {
         Some(operand) => {
-            let place = operand.place;
-            let bytes = Bytes(bytes_at(told_code(case), operand));
+            let bytes = Bytes(bytes_at(case.code(), operand));
             writeln!(
                 text,
-                "  reference {reference}: byte {place} of the code, where these bytes stand:{bytes}"
+                "  reference {reference}: byte {} of the code, where these bytes stand:{bytes}",
+                operand.place
             )
         }
         None => writeln!(text, "  reference {reference}"),
@@ -98,7 +90,7 @@ pub(super) fn add_sum<A: Allocator>(
     let (Some(operand), Some(record)) = (told_operand(case), case.record()) else {
         return Ok(());
     };
-    let bytes = bytes_at(told_code(case), operand);
+    let bytes = bytes_at(case.code(), operand);
     let displacement = if 2 <= bytes.len() {
         get_big(bytes, 0)
     } else {
@@ -106,7 +98,7 @@ pub(super) fn add_sum<A: Allocator>(
     };
     let value = match record.body {
         Body::PrivRef { .. } => privates::offset(case),
-        _ => value_of(case, &record),
+        _ => value_of(case, &record.name),
     };
     writeln!(
         text,
@@ -115,16 +107,20 @@ pub(super) fn add_sum<A: Allocator>(
 }
 
 /// The value of the host's definition of the name.
-fn value_of(case: &Case<'_, '_>, asked: &LinkRecord<'_>) -> usize {
+fn value_of(case: &Case<'_, '_>, name: &Name) -> usize {
     let Some(host) = host_of(case.list) else {
         return 0;
     };
-    for (_, record) in host.records().records() {
-        if let Body::PublDef(value) = record.body {
-            if record.name == asked.name {
-                return usize::from(value);
-            }
-        }
+    match host.find(name, Sort::Variable) {
+        Some(
+            (
+                _,
+                LinkRecord {
+                    body: Body::PublDef(value),
+                    ..
+                },
+            ),
+        ) => usize::from(value),
+        _ => 0,
     }
-    0
 }

@@ -1,9 +1,9 @@
 //! Codes that look wrong.
-use super::Looks;
 use crate::explain::code::{Table, table_of};
 use crate::segments::{Segment, Source};
 use crate::warnings::Look;
-use ps_words::{BLOCK_SIZE, Name};
+use crate::words::Words;
+use ps_words::{BLOCK_SIZE, Order};
 use std::alloc::{AllocError, Allocator};
 
 /// What a formatted disk has in a block that was never written.
@@ -13,27 +13,25 @@ const UNWRITTEN: u8 = 0xE5;
 const STRIPPED_LENGTH: usize = 64;
 
 /// Looks at the code of a segment.
-pub(super) fn look_at<'a, A: Allocator>(
-    looks: &mut Looks<'a, A>,
-    path: &'a str,
-    segment: &Segment<'a>,
-    source: &Source<'a>,
+pub(super) fn look_at<A: Allocator>(
+    words: &mut Words<A>,
+    path: &str,
+    segment: &Segment<'_>,
+    source: &Source<'_>,
 ) -> Result<(), AllocError> {
     let Some(code) = source.code else {
         return Ok(());
     };
     let name = segment.name;
     if let Some(byte) = only_byte(code) {
-        return looks.of_segment(path, name, Look::OneByte { byte });
+        return words.warn_of_segment(path, name, Some(Look::OneByte { byte }));
     }
-    if let Some(look) = dead_block(code) {
-        looks.of_segment(path, name, look)?;
-    }
-    if STRIPPED_LENGTH <= code.len() && code.iter().all(|byte| *byte < 0x80) {
-        looks.of_segment(path, name, Look::NoHighBit)?;
+    words.warn_of_segment(path, name, dead_block(code))?;
+    if STRIPPED_LENGTH <= code.len() && code.is_ascii() {
+        words.warn_of_segment(path, name, Some(Look::NoHighBit))?;
     }
     if segment.part.needs_linking() {
-        look_at_numbers(looks, path, segment, source, code)?;
+        look_at_numbers(words, path, segment, source, code)?;
     }
     Ok(())
 }
@@ -65,35 +63,33 @@ fn dead_block(code: &[u8]) -> Option<Look> {
 }
 
 /// Looks at the segment number and the procedure numbers of a code.
-fn look_at_numbers<'a, A: Allocator>(
-    looks: &mut Looks<'a, A>,
-    path: &'a str,
-    segment: &Segment<'a>,
-    source: &Source<'a>,
+fn look_at_numbers<A: Allocator>(
+    words: &mut Words<A>,
+    path: &str,
+    segment: &Segment<'_>,
+    source: &Source<'_>,
     code: &[u8],
 ) -> Result<(), AllocError> {
-    let name: Name = segment.name;
+    let name = segment.name;
     let [.., found, count] = code else {
         return Ok(());
     };
     let slot = source.index;
     if *found != slot {
         let found = *found;
-        looks.of_segment(path, name, Look::OtherNumber { found, slot })?;
+        words.warn_of_segment(path, name, Some(Look::OtherNumber { found, slot }))?;
     }
     if *count == 0 && segment.part.is_unit() {
-        looks.of_segment(path, name, Look::NoProcedures)?;
+        words.warn_of_segment(path, name, Some(Look::NoProcedures))?;
     }
-    match other_procedure(source, code, usize::from(*count)) {
-        Some(look) => looks.of_segment(path, name, look),
-        None => Ok(()),
-    }
+    let other = other_procedure(source.order, code, usize::from(*count));
+    words.warn_of_segment(path, name, other)
 }
 
 /// The first procedure whose table has another number.
-fn other_procedure(source: &Source<'_>, code: &[u8], count: usize) -> Option<Look> {
+fn other_procedure(order: Order, code: &[u8], count: usize) -> Option<Look> {
     for procedure in 1..=count {
-        if let Table::At(place) = table_of(source, code, procedure) {
+        if let Table::At(place) = table_of(order, code, procedure) {
             if let Some(found) = code.get(place).copied() {
                 if usize::from(found) != procedure && found != 0 {
                     return Some(Look::OtherProcedure { procedure, found });

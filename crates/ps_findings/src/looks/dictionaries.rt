@@ -1,15 +1,15 @@
 //! Files and dictionaries that look wrong.
 ghost use Rattle.std.specs.Prelude.{◌<◌};
 
-use super::Looks;
 use super::names::oddity_of;
 use crate::explain::records::length_of;
 use crate::inputs::Inputs;
 use crate::segments::source_of;
 use crate::warnings::Look;
+use crate::words::Words;
+use ps_codefile::Dict;
 use ps_codefile::dictionary_layout::SLOTS;
 use ps_codefile::kinds::{FIRST_INTRINSIC, HOSTSEG, LAST_INTRINSIC, LINKED, UNITSEG};
-use ps_codefile::{Dict, is_nameless};
 use ps_linkinfo::LinkInformation;
 use ps_words::{BLOCK_SIZE, WORD_LEN, blocks_of, get};
 use std::alloc::{AllocError, Allocator};
@@ -31,27 +31,35 @@ struct Extent {
     end: usize,
 }
 
+impl Extent {
+    /// No bytes.
+    const EMPTY: Extent = Extent {
+        slot: 0,
+        start: 0,
+        end: 0,
+    };
+}
+
 /// Looks at a file.
-pub(super) fn look_at<'a, A: Allocator + Copy>(
-    alloc: A,
-    looks: &mut Looks<'a, A>,
-    inputs: &Inputs<'a>,
+pub(super) fn look_at<A: Allocator>(
+    words: &mut Words<A>,
+    inputs: &Inputs<'_>,
     file: usize,
 ) -> Result<(), AllocError> {
     let path = inputs.path(file);
     let bytes = inputs.bytes(file);
     let length = bytes.len();
     if length % BLOCK_SIZE != 0 {
-        looks.of_file(path, Look::OddLength { bytes: length })?;
+        words.warn_of_file(path, Look::OddLength { bytes: length })?;
     }
     let padding = padding_of(bytes);
     if 2 <= padding {
-        looks.of_file(path, Look::Padded { bytes: padding })?;
+        words.warn_of_file(path, Look::Padded { bytes: padding })?;
     }
-    match inputs.dict(file, inputs.order()) {
+    match inputs.dict(file) {
         Some(dict) => {
-            look_at_entries(looks, path, &dict, bytes, file)?;
-            look_at_extents(alloc, looks, path, &dict, file)
+            look_at_entries(words, path, &dict, bytes, file)?;
+            look_at_extents(words, path, &dict, file)
         }
         None => Ok(()),
     }
@@ -70,30 +78,32 @@ fn padding_of(bytes: &[u8]) -> usize {
 }
 
 /// Looks at the entries of a dictionary.
-fn look_at_entries<'a, A: Allocator>(
-    looks: &mut Looks<'a, A>,
-    path: &'a str,
-    dict: &Dict<'a>,
+fn look_at_entries<A: Allocator>(
+    words: &mut Words<A>,
+    path: &str,
+    dict: &Dict<'_>,
     bytes: &[u8],
     file: usize,
 ) -> Result<(), AllocError> {
     let mut is_told = false;
     for slot in 0..SLOTS {
         let entry = dict.entry(slot);
-        let is_wanted = entry.kind == UNITSEG && !is_nameless(&entry.name);
-        if dict.filled(slot) || is_wanted {
+        let is_filled = dict.filled(slot);
+        if is_filled || entry.kind == UNITSEG {
             let name = entry.name;
             if let Some(oddity) = oddity_of(&name) {
-                looks.of_file(path, Look::OddName { name, oddity })?;
+                words.warn_of_file(path, Look::OddName { name, oddity })?;
             }
         }
-        let kind = entry.kind;
-        let is_intrinsic = FIRST_INTRINSIC <= kind && kind <= LAST_INTRINSIC;
-        if file != 0 && dict.filled(slot) && is_intrinsic {
-            looks.of_file(path, Look::IntrinsicKind { slot, kind })?;
+        if !is_filled {
+            continue;
         }
-        if !is_told && dict.filled(slot) && is_of_other_release(dict, bytes, slot) {
-            looks.of_file(path, Look::OtherRelease { slot })?;
+        let kind = entry.kind;
+        if file != 0 && FIRST_INTRINSIC <= kind && kind <= LAST_INTRINSIC {
+            words.warn_of_file(path, Look::IntrinsicKind { slot, kind })?;
+        }
+        if !is_told && is_of_other_release(dict, bytes, slot) {
+            words.warn_of_file(path, Look::OtherRelease { slot })?;
             is_told = true;
         }
     }
@@ -132,21 +142,20 @@ fn extent_of(dict: &Dict<'_>, file: usize, slot: u8) -> Option<Extent>
 }
 
 /// Looks whether entries have bytes in common.
-fn look_at_extents<'a, A: Allocator + Copy>(
-    alloc: A,
-    looks: &mut Looks<'a, A>,
-    path: &'a str,
-    dict: &Dict<'a>,
+fn look_at_extents<A: Allocator>(
+    words: &mut Words<A>,
+    path: &str,
+    dict: &Dict<'_>,
     file: usize,
 ) -> Result<(), AllocError> {
-    let mut earlier: Vec<Extent, A> = Vec::new(alloc);
+    let mut earlier = [Extent::EMPTY; SLOTS as usize];
     for slot in 0..SLOTS {
         if let Some(extent) = extent_of(dict, file, slot) {
-            if let Some(other) = first_shared_extent(earlier.as_slice(), extent) {
+            if let Some(other) = first_shared_extent(&earlier, extent) {
                 let name = dict.entry(slot).name;
-                looks.of_segment(path, name, Look::Overlap { other })?;
+                words.warn_of_segment(path, name, Some(Look::Overlap { other }))?;
             }
-            earlier.push(extent)?;
+            earlier[usize::from(slot)] = extent;
         }
     }
     Ok(())

@@ -2,27 +2,31 @@
 use crate::warnings::Oddity;
 use ps_codefile::is_nameless;
 use ps_words::Name;
+use std::ops::RangeInclusive;
 
-fn is_control(byte: u8) -> bool {
-    byte != 0 && byte.is_ascii_control()
+/// One of these bytes is in the name.
+fn has(name: &Name, bytes: RangeInclusive<u8>) -> bool {
+    for byte in name {
+        if bytes.contains(byte) {
+            return true;
+        }
+    }
+    false
 }
 
 /// How a name is odd; none where it is as a compiler writes it, or no name.
 pub(super) fn oddity_of(name: &Name) -> Option<Oddity> {
     if is_nameless(name) {
-        return None;
+        None
+    } else if has(name, 0x80..=0xFF) {
+        Some(Oddity::HighBytes)
+    } else if has(name, 0x01..=0x1F) || name.contains(&0x7F) {
+        Some(Oddity::ControlBytes)
+    } else if name.contains(&0) {
+        Some(Oddity::Zeros)
+    } else if has(name, b'a'..=b'z') {
+        Some(Oddity::SmallLetters)
+    } else {
+        None
     }
-    if name.iter().any(|byte| 0x80 <= *byte) {
-        return Some(Oddity::HighBytes);
-    }
-    if name.iter().any(|byte| is_control(*byte)) {
-        return Some(Oddity::ControlBytes);
-    }
-    if name.iter().any(|byte| *byte == 0) {
-        return Some(Oddity::Zeros);
-    }
-    if name.iter().any(|byte| byte.is_ascii_lowercase()) {
-        return Some(Oddity::SmallLetters);
-    }
-    None
 }

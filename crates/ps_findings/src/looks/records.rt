@@ -1,49 +1,34 @@
 //! Link information that looks wrong.
-use super::Looks;
 use super::names::oddity_of;
+use crate::explain::definitions::host_of;
 use crate::explain::privates::data_size;
-use crate::segments::{Segment, Source};
+use crate::segments::{Segment, Sort, Source};
 use crate::warnings::Look;
+use crate::words::Words;
 use ps_linkinfo::record_layout::RECORD_LEN;
 use ps_linkinfo::{Body, LinkInformation, LinkRecord, Refs};
 use ps_words::Name;
 use std::alloc::{AllocError, Allocator};
 
 /// Looks at the link information of a segment. Of each kind of look the first record is reported.
-pub(super) fn look_at<'a, A: Allocator>(
-    looks: &mut Looks<'a, A>,
-    path: &'a str,
-    segment: &Segment<'a>,
-    source: &Source<'a>,
-    host: &Option<Segment<'a>>,
+pub(super) fn look_at<A: Allocator>(
+    words: &mut Words<A>,
+    path: &str,
+    segment: &Segment<'_>,
+    source: &Source<'_>,
+    list: &[Segment<'_>],
 ) -> Result<(), AllocError> {
     let name = segment.name;
     let records = segment.records();
-    if records.len() == 1 && is_zero_mark(source.after) {
-        looks.of_segment(path, name, Look::ZeroMark)?;
+    if records.len() == 1 && source.after.starts_with(&[0; RECORD_LEN]) {
+        words.warn_of_segment(path, name, Some(Look::ZeroMark))?;
     }
-    if let Some((rec, look)) = first_odd_name(&records) {
-        looks.of_record(path, name, rec, look)?;
-    }
-    if let Some((rec, look)) = first_clear_mark(&records, source) {
-        looks.of_record(path, name, rec, look)?;
-    }
+    words.warn_of_record(path, name, first_odd_name(&records))?;
+    words.warn_of_record(path, name, first_clear_mark(&records, source))?;
     if segment.part.is_unit() {
-        if let Some((rec, look)) = first_definition(&records, host) {
-            looks.of_record(path, name, rec, look)?;
-        }
-        return Ok(());
-    }
-    match low_mark(segment, &records) {
-        Some(look) => looks.of_segment(path, name, look),
-        None => Ok(()),
-    }
-}
-
-fn is_zero_mark(bytes: &[u8]) -> bool {
-    match bytes.get(..RECORD_LEN) {
-        Some(mark) => mark.iter().all(|byte| *byte == 0),
-        None => false,
+        words.warn_of_record(path, name, first_definition(segment, list))
+    } else {
+        words.warn_of_segment(path, name, low_mark(segment, &records))
     }
 }
 
@@ -91,14 +76,12 @@ fn clear_place(refs: &Refs<'_>, code: &[u8]) -> Option<usize> {
 }
 
 /// The first definition of a unit.
-fn first_definition(
-    records: &LinkInformation<'_>,
-    host: &Option<Segment<'_>>,
-) -> Option<(usize, Look)> {
-    for (rec, record) in records.records() {
+fn first_definition(unit: &Segment<'_>, list: &[Segment<'_>]) -> Option<(usize, Look)> {
+    for (rec, record) in unit.records().records() {
         if let Body::PublDef(_) = record.body {
             let name = record.name;
-            let look = match requests(records, &name) && !is_defined(host, &name) {
+            let is_used = unit.find(&name, Sort::Request).is_some();
+            let look = match is_used && !is_defined(list, &name) {
                 true => Look::UsedUnitDefinition { name },
                 false => Look::UnitDefinition { name },
             };
@@ -108,27 +91,12 @@ fn first_definition(
     None
 }
 
-/// One of the records requests the name.
-fn requests(records: &LinkInformation<'_>, name: &Name) -> bool {
-    for (_, record) in records.records() {
-        if record.name == *name && matches!(record.body, Body::PublRef(_)) {
-            return true;
-        }
-    }
-    false
-}
-
 /// The host program defines the name.
-fn is_defined(host: &Option<Segment<'_>>, name: &Name) -> bool {
-    let Some(host) = host else {
-        return false;
-    };
-    for (_, record) in host.records().records() {
-        if record.name == *name && matches!(record.body, Body::PublDef(_) | Body::ConstDef(_)) {
-            return true;
-        }
+fn is_defined(list: &[Segment<'_>], name: &Name) -> bool {
+    match host_of(list) {
+        Some(host) => host.find(name, Sort::Definition).is_some(),
+        None => false,
     }
-    false
 }
 
 /// The end mark of the host program, where it is below half its data size.

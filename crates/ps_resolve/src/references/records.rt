@@ -1,21 +1,24 @@
-ghost use Rattle.std.specs.Prelude.{◌≡◌, ◌+◌, ◌++◌, List, OnOk, IfOk, IfErr, None, true, ⊤, ◌==◌, ◌&&◌, ◌<◌, false};
+ghost use Rattle.std.specs.Prelude.{◌≡◌, ◌+◌, ◌++◌, List, OnOk, IfOk, IfErr, IsPermutation, [], None, true, ⊤, ◌==◌, ◌&&◌, ◌<◌, false};
 ghost use Rattle.ps_linkinfo.specs.RecordCounts.{privates_in, publics_in, references_in, units_in};
 ghost use Rattle.ps_linkinfo.specs.declared.record.LinkRecord.{LinkRecord as Record};
 ghost use Rattle.ps_codefile.specs.Roles.{needs_linking};
+ghost use Rattle.ps_resolve.specs.EditTables.{IsTableOf, edits_of};
 ghost use Rattle.ps_resolve.specs.Linkable.{IsNext};
 ghost use Rattle.ps_resolve.specs.References.{target_of as target_of_spec, words_taken as words_taken_spec, records_edits};
 ghost use Rattle.ps_resolve.specs.Faults.{segment_fault};
 ghost use Rattle.ps_resolve.specs.Privates.{private_words};
 ghost use Rattle.ps_resolve.specs.Stops.{IsStop};
+ghost use Rattle.ps_resolve.specs.TakenPlaces.{AreTaken};
 ghost use Rattle.ps_resolve.specs.Views.{segment_of, has_records_at, HasRecordsAt};
 
 use crate::definitions::DefKind;
+use crate::edits::table::EditTable;
 use crate::linkage::{RecordPlace, Stop};
 use crate::reading::segment::{Resolvable, Segment};
 use crate::references::names::{Linking, Names};
 use crate::references::{ReferenceEdits, Target};
 use ps_linkinfo::{Body, LinkInformation, LinkRecord};
-use ps_words::{Edit, Reason};
+use ps_words::Reason;
 use std::alloc::Allocator;
 
 /// What the operands of the record's references become.
@@ -95,15 +98,19 @@ pub(crate) fn add_records<'a, A: Allocator + Copy>(
     segment: &Segment<'a>,
     resolvable: &Resolvable<'a>,
     free: u16,
-    edits: Vec<Edit, A>,
-) -> Result<(Vec<Edit, A>, u16), Stop>
+    edits: EditTable<A>,
+) -> Result<(EditTable<A>, u16), Stop>
     requires records { resolvable.now.records ≡ segment.now.records }
     requires tables { Some resolvable.now.procedures ≡ segment.now.tables }
     requires linked { needs_linking segment.now.role ≡ true }
     requires next { IsNext link.now.order link.now.names.now link.now.size
         earlier.now segment.now free }
-    ensures edits { IfOk result (λ all. all.0.items ≡ edits.items
-        ++ records_edits link.now.names.now segment.now.code free segment.now.records) }
+    requires table { IsTableOf segment.now.code edits.states.items }
+    requires taken { AreTaken resolvable.now.procedures edits.states.items [] }
+    ensures edits { IfOk result (λ all. IsPermutation (edits_of edits.states.items
+        ++ records_edits link.now.names.now segment.now.code free segment.now.records)
+        (edits_of all.0.states.items)) }
+    ensures table { IfOk result (λ all. IsTableOf segment.now.code all.0.states.items) }
     ensures end { IfOk result (λ all. all.1 ≡ free + private_words segment.now.records) }
     ensures sound { OnOk result
         (segment_fault link.now.order link.now.names.now free (segment_of segment.now) ≡ None) }
@@ -119,7 +126,6 @@ pub(crate) fn add_records<'a, A: Allocator + Copy>(
     }
     let mut found = ReferenceEdits {
         procedures: resolvable.procedures.copy(),
-        taken: resolvable.procedures.reserved_places(),
         edits,
     };
     let mut next = free;

@@ -249,27 +249,28 @@ fn only_the_plan_grows(
 ///
 /// The table of definitions takes four allocations of 244 bytes, since the kit's has nine places at
 /// least: of 8 bytes for a hash and its place, 8 for a name and 4 for a definition, and a group of
-/// 64. The list of lists of edits takes 64, and each list 16 for each edit that there is room for:
-/// one for each reference and two more. A private variable takes 24 bytes, and its name 8 while
-/// names are compared.
+/// 64. The list of lists of edits takes 64. For each segment to be linked a table takes 4 bytes for
+/// each of its code's 18, 24 or 530, and a list 16 for each edit that there is room for: one for
+/// each reference and two more. A private variable takes 24 bytes, and its name 8 while names are
+/// compared.
 const PLANS: [(Base, &str, &str, (u64, u64)); 3] = [
     (
         Base::Pair,
         "edits 2 3 private words 4",
         "segments 2 private words 4 blocks 3",
-        (9, 436),
+        (11, 604),
     ),
     (
         Base::LongUnit,
         "edits 2 2 private words 0",
         "segments 2 private words 0 blocks 4",
-        (7, 388),
+        (9, 2580),
     ),
     (
         Base::InPlace,
         "edits 2 2 private words 0",
         "segments 2 private words 0 blocks 3",
-        (7, 388),
+        (9, 556),
     ),
 ];
 

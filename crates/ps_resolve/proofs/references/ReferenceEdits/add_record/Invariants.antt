@@ -1,4 +1,6 @@
 use Rattle.std.proofs.Common.{◌≡◌, ℕ, ◌++◌, List, map, take, drop}
+use Rattle.std.specs.Prelude.{IsPermutation}
+use Rattle.ps_resolve.specs.EditTables.{IsTableOf, edits_of}
 use Rattle.ps_resolve.specs.Operands.{edit_of, refs_fault, operands}
 use Rattle.ps_resolve.specs.TakenPlaces.{AreTaken}
 use Rattle.ps_codefile.specs.Procedures.{is_reserved}
@@ -13,8 +15,9 @@ invariant-loop-i g l =
     let fault_from = refs_fault (is_reserved tables.order tables.code) tables.code l.target in
     record {
       same_procedures : tables ≡ old.procedures;
-      edits : l.self.edits.items ≡ old.edits.items ++ map (edit_of tables.code l.target) (take l.i l.refs);
-      fault : (os : List (ℕ × ℕ)) → AreTaken tables old.taken os
+      table : IsTableOf tables.code l.self.edits.states.items;
+      edits : IsPermutation (edits_of old.edits.states.items ++ map (edit_of tables.code l.target) (take l.i l.refs)) (edits_of l.self.edits.states.items);
+      fault : (os : List (ℕ × ℕ)) → AreTaken tables old.edits.states.items os
           → fault_from l.i (os ++ operands l.target (take l.i l.refs)) (drop l.i l.refs) ≡ fault_from 0 os l.refs;
-      taken : (os : List (ℕ × ℕ)) → AreTaken tables old.taken os → AreTaken tables l.self.taken (os ++ operands l.target (take l.i l.refs));
+      taken : (os : List (ℕ × ℕ)) → AreTaken tables old.edits.states.items os → AreTaken tables l.self.edits.states.items (os ++ operands l.target (take l.i l.refs));
     }

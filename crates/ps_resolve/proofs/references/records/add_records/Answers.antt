@@ -1,5 +1,5 @@
-use Rattle.std.proofs.Common.{ℕ, ◌+◌, ◌++◌, ◌∙◌, [], sym, subst, arith, refl, Option, append-nil, List, ap}
-use Rattle.std.specs.Prelude.{⊤}
+use Rattle.std.proofs.Common.{◌≡◌, ℕ, ◌+◌, ◌++◌, ◌∙◌, [], sym, subst, arith, refl, Option, append-nil, List, ap}
+use Rattle.std.specs.Prelude.{⊤, IsPermutation}
 use Rattle.std.proofs.lemmas.Option.{same_Some}
 use Rattle.std.proofs.lemmas.Result.{err_from_is_err_and}
 use Rattle.std.specs.Option.{option_map}
@@ -10,19 +10,20 @@ use Rattle.ps_linkinfo.specs.RecordCounts.{units_in, publics_in, privates_in}
 use Rattle.ps_linkinfo.specs.Numbered.{numbered_records}
 use Rattle.ps_codefile.specs.Procedures.{is_reserved, ProcedureTables}
 use Rattle.ps_linkinfo.specs.declared.record.LinkRecord.{LinkRecord as Record}
+use Rattle.std.proofs.lemmas.List.Sorted.{IsPermutation-refl}
+use Rattle.ps_resolve.specs.EditTables.{IsTableOf, edits_of}
 use Rattle.ps_resolve.specs.Operands.{operands}
 use Rattle.ps_resolve.specs.Edits.{refs_fault_at}
 use Rattle.ps_resolve.specs.Faults.{in_segment, segment_fault}
-use Rattle.ps_resolve.specs.References.{Known, HaveTargets, records_edits, records_fault, words_taken}
+use Rattle.ps_resolve.specs.References.{Known, HaveTargets, records_edits, records_fault}
 use Rattle.ps_resolve.specs.Stops.{IsStop}
 use Rattle.ps_resolve.specs.Views.{segment_of}
 use Rattle.ps_resolve.specs.declared.linkage.RecordPlace.{RecordPlace}
 use Rattle.ps_resolve.specs.declared.linkage.Stop.{Stop}
 use Rattle.ps_resolve.specs.Views.{SegmentView}
 use Rattle.ps_resolve.proofs.Numbers.{one, none}
-use Rattle.ps_resolve.proofs.Once.{map_none}
-use Rattle.ps_resolve.proofs.Takes.{first_taken}
-use Rattle.ps_resolve.proofs.NextRecords.{no_links, record_refused, references_refused, record_stands, edits_more, words_are}
+use Rattle.ps_resolve.proofs.FirstSlots.{none_mapped as map_none}
+use Rattle.ps_resolve.proofs.NextRecords.{no_links, record_refused, references_refused, record_stands, listed_more, words_are}
 use Rattle.ps_resolve.proofs.Sharing.{of_shared, no_references}
 use Rattle.ps_resolve.proofs.references.records.add_records.Goals as goal
 
@@ -38,7 +39,8 @@ returns-then-asks_for_nothing g c =
     let is = c.requires.records in
     let no = no_links c.args.link.now.names.now (is_reserved c.args.link.now.order v.code) v.code v.records 0 c.args.free [] (ap units_in (sym is) ∙ asks.units yes) (ap publics_in (sym is) ∙ asks.publics yes) (ap privates_in (sym is) ∙ asks.privates yes) in
     record {
-      edits = rw no.edits (sym (append-nil c.args.edits.items));
+      edits = rw (no.edits, append-nil) (IsPermutation-refl (edits_of c.args.edits.states.items));
+      table = c.requires.table;
       end = omega (arith, no.words);
       sound = ap (option_map (in_segment v.file v.slot)) no.first;
       stop = tt;
@@ -53,7 +55,8 @@ returns-then-is_resolved g c =
     let named : HaveTargets known v.records = of_shared (λ (rs : List Record). HaveTargets known rs) c.args.earlier.now v has.0 c.requires.linked c.requires.next.alike c.requires.next.named has.1 in
     let no = no_references known (is_reserved c.args.link.now.order v.code) v.code v.records 0 c.args.free [] named (c.is_resolved.ensures.references yes) (c.is_resolved.ensures.privates yes) in
     record {
-      edits = rw no.edits (sym (append-nil c.args.edits.items));
+      edits = rw (no.edits, append-nil) (IsPermutation-refl (edits_of c.args.edits.states.items));
+      table = c.requires.table;
       end = omega (arith, no.words);
       sound = ap (option_map (in_segment v.file v.slot)) no.first;
       stop = tt;
@@ -62,9 +65,11 @@ returns-then-is_resolved g c =
 pub loop-rec-init : goal.loop-rec-init
 loop-rec-init g c =
     let resolvable = c.args.resolvable.now in
+    let is : resolvable.procedures ≡ record { order = c.args.link.now.order; code = c.args.segment.now.code } = same_Some _ _ (c.requires.tables ∙ c.requires.next.sound.kept c.requires.linked) in
+    let table : IsTableOf resolvable.procedures.code c.args.edits.states.items = subst (λ (t : ProcedureTables). IsTableOf t.code c.args.edits.states.items) (sym is) c.requires.table in
     rw c.copy.ensures (record {
-      links = (0, c.args.segment.now.records, c.into_iter-rec-iterator.ensures.into_iter_gives ∙ c.records-rec-items.ensures ∙ ap (numbered_records 0) c.requires.records, record { listed = refl; first = ([], first_taken resolvable.procedures c.reserved_places.result c.reserved_places.ensures, refl); words = refl });
-      procedures = same_Some _ _ (c.requires.tables ∙ c.requires.next.sound.kept c.requires.linked);
+      links = (0, c.args.segment.now.records, c.into_iter-rec-iterator.ensures.into_iter_gives ∙ c.records-rec-items.ensures ∙ ap (numbered_records 0) c.requires.records, record { table = table; listed = IsPermutation-refl _; first = ([], c.requires.taken, refl); words = refl });
+      procedures = is;
     })
 
 pub overflow_add-next : goal.overflow_add-next
@@ -123,8 +128,8 @@ loop-rec-preserved g c =
         rest,
         step.1,
         rw (c.words_taken-next.ensures, added.same_procedures) (record {
-          listed = ap (λ (es : List Edit). es ++ records_edits known tables.code (l.next + words_taken r.body) rest) added.edits
-              ∙ sym (edits_more known R tables.code rec l.next first.0 r rest l.found.edits.items t is_t) ∙ step.2.listed;
+          table = added.table;
+          listed = listed_more known R tables.code rec l.next first.0 r rest _ l.found.edits.states.items c.add_record.new.self.edits.states.items t is_t step.2.listed added.edits;
           first = (first.0 ++ operands t (refs_of r.body), added.taken first.0 first.1, sym stands ∙ first.2);
           words = omega (arith, step.2.words, words_are r rest);
         }),
@@ -139,7 +144,9 @@ returns g c =
     let known : Known = c.args.link.now.names.now in
     let end = none _ l.rec-iterator l.invariant.links c.in-None.ensures.steps.0 in
     record {
-      edits = sym (append-nil l.found.edits.items) ∙ end.1.listed ∙ ap (λ (t : ProcedureTables). c.args.edits.items ++ records_edits known t.code c.args.free s.records) l.invariant.procedures;
+      edits = subst (λ (t : ProcedureTables). IsPermutation (edits_of c.args.edits.states.items ++ records_edits known t.code c.args.free s.records) (edits_of l.found.edits.states.items)) l.invariant.procedures
+          (subst (λ (es : List Edit). IsPermutation (edits_of c.args.edits.states.items ++ records_edits known l.found.procedures.code c.args.free s.records) es) (append-nil (edits_of l.found.edits.states.items)) end.1.listed);
+      table = subst (λ (t : ProcedureTables). IsTableOf t.code l.found.edits.states.items) l.invariant.procedures end.1.table;
       end = omega (arith, end.1.words);
       sound = ap (option_map (in_segment s.file s.slot)) (ap (fault_by known s c.args.free) (sym l.invariant.procedures) ∙ sym end.1.first.2);
       stop = tt;

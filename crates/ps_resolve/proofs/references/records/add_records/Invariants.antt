@@ -1,4 +1,5 @@
 use Rattle.std.proofs.Common.{◌≡◌}
+use Rattle.ps_resolve.specs.EditTables.{edits_of}
 use Rattle.ps_resolve.proofs.Numbers.{IsLeft}
 use Rattle.ps_resolve.proofs.NextRecords.{Links}
 use Rattle.ps_resolve.proofs.references.records.add_records.Given as goal
@@ -7,6 +8,6 @@ use Rattle.ps_resolve.proofs.references.records.add_records.Given as goal
 abbrev pub invariant-loop-rec : goal.invariant-loop-rec
 invariant-loop-rec g l =
     record {
-      links : IsLeft (Links l.link.names.now l.found.procedures l.free l.segment.records l.fn.edits.items l.next l.found.edits.items l.found.taken) l.rec-iterator;
+      links : IsLeft (Links l.link.names.now l.found.procedures l.free l.segment.records (edits_of l.fn.edits.states.items) l.next l.found.edits.states.items) l.rec-iterator;
       procedures : l.found.procedures ≡ record { order = l.link.order; code = l.segment.code };
     }
