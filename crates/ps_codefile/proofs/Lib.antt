@@ -1,3 +1,2 @@
 pub mod Alls
-pub mod Bits
 pub mod Tables

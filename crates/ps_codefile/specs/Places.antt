@@ -1,18 +1,9 @@
--- Sets of places of a code, a bit for each place, and the places of an attribute table.
-use Rattle.std.specs.Prelude.{ℕ, ◌+◌, ◌/◌, ◌%◌, ◌<◌, ◌≤◌, ◌==◌, ◌&&◌, List, slice_index, length, Bool, nat_le, nat_lt, true, false, Option, ◌≡◌}
-use Rattle.std.specs.Int.{bit_at}
+-- The places of an attribute table, and the words of a procedure dictionary.
+use Rattle.std.specs.Prelude.{ℕ, ◌+◌, ◌<◌, ◌≤◌, ◌&&◌, List, length, Bool, nat_le, nat_lt, true, false, Option, ◌≡◌}
 use Rattle.std.specs.List.{list_all}
 use Rattle.std.specs.Option.{option_map_or}
 use Rattle.ps_words.specs.declared.order.Order.{Order}
 use Rattle.ps_codefile.specs.Procedures.{all_words, dictionary_len, dictionary_start, is_placed, numbers}
-
--- how many places a set has room for, 64 to a word
-abbrev pub span : ℕ
-span = 66112
-
--- the bits have this number
-unfoldable pub has : List ℕ → ℕ → Bool
-has words i = bit_at (slice_index words (i / 64)) (i % 64) == 1
 
 -- from `start` on, and before `end`
 abbrev pub is_between : ℕ → ℕ → ℕ → Bool
@@ -26,11 +17,6 @@ passes test table = option_map_or test table false
 pub record IsWhole (code : List ℕ) (t : ℕ) : Type 0 where
   pub low : 8 ≤ t
   pub high : t + 1 < dictionary_start code
-
--- its ten bytes have places in a set
-pub record HasRoom (t : ℕ) : Type 0 where
-  pub low : 8 ≤ t
-  pub below : t + 2 ≤ span
 
 -- These are the words of the procedures of a code: the procedure dictionary is within the code, and
 -- each table lies in the code before it. So no word's content is more than the word's place.

@@ -7,10 +7,8 @@ mod dictionary;
 pub mod dictionary_layout;
 mod entry;
 pub mod kinds;
-mod places;
 mod procedures;
 
 pub use dictionary::Dict;
 pub use entry::{Entry, Role, is_nameless};
-pub use places::Places;
 pub use procedures::Procs;

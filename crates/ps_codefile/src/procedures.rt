@@ -1,12 +1,11 @@
-ghost use Rattle.std.specs.Prelude.{◌≡◌, ℕ, ◌≤◌, ◌-◌, ◌+◌, ◌*◌, ◌==◌, ◌&&◌, ◌||◌, true, false, length, slice_index, IfOk, IfErr, OnOk, OnErr};
+ghost use Rattle.std.specs.Prelude.{◌≡◌, ℕ, ◌≤◌, ◌-◌, ◌+◌, ◌*◌, ◌==◌, ◌&&◌, ◌||◌, true, false, if◌then◌else◌, length, slice_index, slice_index_or, IfOk, IfErr, OnOk, OnErr};
 ghost use Rattle.ps_words.specs.declared.fault.Reason.TheVariants.{BadProcDict};
 ghost use Rattle.std.specs.List.{list_all, list_any};
 ghost use Rattle.std.specs.Option.{ForSome};
 ghost use Rattle.ps_codefile.specs.Procedures.{procedures, dictionary_len, dictionary_start, content_of, table_of as table_of_spec, is_placed as is_placed_spec, numbers, is_in_table as is_in_table_spec, is_reserved as is_reserved_spec, read_tables as read_tables_spec};
-ghost use Rattle.ps_codefile.specs.Places.{span, has, passes, IsWhole, HasRoom, HasWords};
+ghost use Rattle.ps_codefile.specs.Places.{is_between, passes, IsWhole, HasWords};
 
 use crate::code_layout::{NUMBERS, OUTER_BLOCK, TABLE_NUMBERS, TABLE_WORDS};
-use crate::places::Places;
 use arrayvec::ArrayVec;
 use ps_words::{Order, Reason, WORD_LEN, get};
 use std::marker::Model;
@@ -118,15 +117,16 @@ fn is_in_table(code: &[u8], table: Option<usize>, place: usize) -> bool
     }
 }
 
-/// Adds the ten bytes of a table, where there is one.
-fn reserve(places: &mut Places, table: Option<usize>)
-    requires { ForSome table HasRoom }
-    ensures { (q : ℕ) → has places.new q
-        ≡ (has places.old q || passes (is_in_table_spec q) table) }
+/// Sets the elements from `start` on and before `end` to `mark`.
+fn mark_all<T: Copy>(marks: &mut [T], start: usize, end: usize, mark: T)
+    requires ordered { start ≤ end }
+    requires high { end ≤ length marks.old }
+    ensures len { length marks.new ≡ length marks.old }
+    ensures marked { (q : ℕ) (d : T) → slice_index_or marks.new q d
+        ≡ (if is_between start end q then mark else slice_index_or marks.old q d) }
 {
-    match table {
-        Some(t) => places.insert_all(t - TABLE_WORDS, t + TABLE_NUMBERS),
-        None => {}
+    for place in start..end {
+        marks[place] = mark;
     }
 }
 
@@ -261,19 +261,35 @@ impl<'a> Procs<'a> {
         in_dictionary || self.is_in_tables(place)
     }
 
-    /// The reserved places of a code of at most 66112 bytes.
+    /// Sets the elements of the ten bytes of procedure `p`'s table, where it has one, to `mark`.
+    fn mark_table<T: Copy>(&self, p: usize, marks: &mut [T], mark: T)
+        requires low { 1 ≤ p }
+        requires high { p ≤ procedures self.now.code }
+        requires len { length marks.old ≡ length self.now.code }
+        ensures len { length marks.new ≡ length marks.old }
+        ensures marked { (q : ℕ) (d : T) → slice_index_or marks.new q d
+            ≡ (if passes (is_in_table_spec q) (table_of_spec self.now.order self.now.code p)
+            then mark else slice_index_or marks.old q d) }
+    {
+        if let Some(t) = self.table(p) {
+            mark_all(marks, t - TABLE_WORDS, t + TABLE_NUMBERS, mark);
+        }
+    }
+
+    /// Sets the elements of the reserved places to `mark`, in a list that has an element for each
+    /// byte of the code.
     /// Source: this project's profile.
     #[tactic(auto, using(crate::proofs::Tables::any_table))]
-    pub fn reserved_places(&self) -> Places
-        requires { length self.now.code ≤ span }
-        ensures { (place : ℕ) → has result place
-            ≡ is_reserved_spec self.now.order self.now.code place }
+    pub fn mark_reserved<T: Copy>(&self, marks: &mut [T], mark: T)
+        requires { length marks.old ≡ length self.now.code }
+        ensures len { length marks.new ≡ length marks.old }
+        ensures marked { (place : ℕ) (d : T) → slice_index_or marks.new place d
+            ≡ (if is_reserved_spec self.now.order self.now.code place
+            then mark else slice_index_or marks.old place d) }
     {
-        let mut places = Places::new();
-        places.insert_all(self.start(), self.code.len());
+        mark_all(marks, self.start(), self.code.len(), mark);
         for p in self.numbers() {
-            reserve(&mut places, self.table(p));
+            self.mark_table(p, marks, mark);
         }
-        places
     }
 }

@@ -1,6 +1,6 @@
 //! What the arguments of a command line ask the program to do.
 ghost use Rattle.std.specs.Prelude.{◌≡◌, ◌≢◌, ◌⊎◌, IfErr, IfOk, Some, None, codes, map, false};
-ghost use Rattle.clap.specs.Words.{app_of, first_of, found_of, kind_of, rows_of, rule_of, subcommand_rows_of};
+ghost use Rattle.clap.specs.Words.{App, app_of, first_of, found_of, kind_of, rows_of, rule_of, subcommand_rows_of, with_subcommand};
 ghost use Rattle.clap.specs.declared.Command.TheViews.{out-Command};
 ghost use Rattle.ps_linker.specs.CommandLine.{AreAccepted, check_app, file_rule, libraries_rule, link_app, map_app, named_in, pslink_app, show_app, strict_rule, texts};
 ghost use Rattle.ps_linker.specs.Requests.{IsAsked, IsNamedCommand, LeavesOut, NamesInputs, WritesLibrary, is_strict as is_strict_spec, libraries_of};
@@ -324,19 +324,27 @@ fn libraries<'a, A: Allocator + Copy>(
 fn command<'a>(heap: Global) -> Result<Command<'a>, AllocError>
     ensures { IfOk result (λ c. app_of c ≡ pslink_app) }
 {
-    let link = link_command(heap)?;
-    let map = map_command(heap)?;
-    let show = show_command(heap)?;
-    let check = check_command(heap)?;
-    Command::new(heap, "pslink")
+    let app = Command::new(heap, "pslink")
         .version("0.1.0")
         .about("The Linker of UCSD Pascal II.0 for Pascal hosts and units")
         .after_help(ENDING)
-        .subcommand_required(true)
-        .subcommand(link)?
-        .subcommand(map)?
-        .subcommand(show)?
-        .subcommand(check)
+        .subcommand_required(true);
+    let with_link = with_command(app, link_command(heap))?;
+    let with_map = with_command(with_link, map_command(heap))?;
+    let with_show = with_command(with_map, show_command(heap))?;
+    with_command(with_show, check_command(heap))
+}
+
+/// Adds a command, for which there is memory or not.
+fn with_command<'a>(
+    app: Command<'a>,
+    made: Result<Command<'a>, AllocError>,
+) -> Result<Command<'a>, AllocError>
+    ensures { (sub : App)
+        → IfOk made.entry (λ c. (app_of c ≡ sub) × ((out-Command c).has_globals ≡ false))
+        → IfOk result (λ c. app_of c ≡ with_subcommand (app_of app.entry) sub.top) }
+{
+    app.subcommand(made?)
 }
 
 fn link_command<'a>(heap: Global) -> Result<Command<'a>, AllocError>

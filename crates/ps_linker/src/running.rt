@@ -1,5 +1,8 @@
 //! One command, from its arguments to its status.
-ghost use Rattle.std.specs.Prelude.{◌≡◌, ◌≢◌, ◌≤◌, ◌⊎◌, IfErr, IfOk, IsErrAnd, OnOk, map};
+ghost use Rattle.std.specs.Prelude.{◌≡◌, ◌≢◌, ◌≤◌, ◌⊎◌, List, ℕ, IfErr, IfOk, IsErrAnd, OnOk, map};
+ghost use Rattle.std.specs.Io.KnownBytes.{Appends};
+ghost use Rattle.ps_linkfile.specs.LinkedFile.{LinkedFile, summary_of};
+ghost use Rattle.ps_linkfile.specs.MapText.{map_of};
 ghost use Rattle.ps_linkfile.specs.Writing.{summary_in};
 ghost use Rattle.ps_linker.specs.CommandLine.{AreAccepted, named_in, texts};
 ghost use Rattle.ps_linker.specs.Printed.{Prints, PrintsLine, PrintsMap, PrintsReport, PrintsShow};
@@ -143,10 +146,27 @@ fn link<'a, R: CodeFiles, A: Allocator + Copy, O: Write>(
     let mut line = String::with_capacity(alloc, SUMMARY_LENGTH)?;
     let InputBytes { host, libraries } = files::read_inputs(rt, alloc, &inputs)?;
     let views = views(alloc, libraries.as_slice())?;
-    let linked = ps_linkfile::prepare(alloc, host.as_slice(), views.as_slice())?;
-    let summary = write_linked(rt, &linked, path)?;
+    let summary = link_bytes(rt, alloc, host.as_slice(), views.as_slice(), path)?;
     output::add_summary(&mut line, summary)?;
     output::print(out, line.as_bytes())
+}
+
+/// Links a host with libraries, and writes the linked file to `path`, once all is checked.
+fn link_bytes<'a, R: CodeFiles, A: Allocator + Copy>(
+    rt: &R,
+    alloc: A,
+    host: &[u8],
+    libraries: &[&[u8]],
+    path: &'a str,
+) -> Result<Summary, CommandError<'a>>
+    ensures file { IfOk result (λ _. (file : List ℕ)
+        × LinkedFile host.now (map (λ lib. lib.now) libraries.now) file) }
+    ensures summary { IfOk result (λ summary. summary
+        ≡ summary_of host.now (map (λ lib. lib.now) libraries.now)) }
+    ensures usage { IfErr result (λ e. status_of e ≢ 2) }
+{
+    let linked = ps_linkfile::prepare(alloc, host, libraries)?;
+    write_linked(rt, &linked, path)
 }
 
 /// Prints the map of a link. All is read and checked before anything is printed; the text is
@@ -165,7 +185,24 @@ fn map<'a, R: CodeFiles, A: Allocator + Copy, O: Write>(
 {
     let InputBytes { host, libraries } = files::read_inputs(rt, alloc, &inputs)?;
     let views = views(alloc, libraries.as_slice())?;
-    let linked = ps_linkfile::prepare(alloc, host.as_slice(), views.as_slice())?;
+    map_bytes(alloc, host.as_slice(), views.as_slice(), out)
+}
+
+/// Prints the map of a link of a host with libraries, once all is checked.
+fn map_bytes<A: Allocator + Copy, O: Write>(
+    alloc: A,
+    host: &[u8],
+    libraries: &[&[u8]],
+    out: &mut O,
+) -> Result<(), CommandError<'static>>
+    ensures ok { OnOk result ((file : List ℕ)
+        × LinkedFile host.now (map (λ lib. lib.now) libraries.now) file
+        × Appends (O.contents out.old) (O.contents out.new)
+        (map_of host.now (map (λ lib. lib.now) libraries.now))) }
+    ensures err { IfErr result (λ e. status_of e ≢ 3 → out.new ≡ out.old) }
+    ensures usage { IfErr result (λ e. status_of e ≢ 2) }
+{
+    let linked = ps_linkfile::prepare(alloc, host, libraries)?;
     Ok(linked.write_map(out)?)
 }
 

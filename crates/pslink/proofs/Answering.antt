@@ -1,18 +1,18 @@
 -- What the answer of a link says of its linked file.
 use Rattle.std.proofs.Common.{◌≡◌, ℕ, List, Result, Ok, Err, ◌∙◌, ap, arith}
 use Rattle.std.specs.Prelude.{IfOk, IfErr}
-use Rattle.pslink.specs.Answers.{small_answer}
-use Rattle.pslink.specs.Calls.{Links, LinkNeeds}
-use Rattle.pslink.specs.Dones.{IsLinked}
-use Rattle.pslink.specs.Libraries.{split}
-use Rattle.pslink.specs.Outcomes.{answer_of, done_answer}
-use Rattle.pslink.specs.Stops.{StopsCall, StopsLink}
-use Rattle.pslink.specs.declared.answer.Answer.{Answer}
-use Rattle.pslink.specs.declared.answer.TheConstants.{DONE, TOO_SMALL}
-use Rattle.pslink.specs.declared.outcome.Done.{Done}
-use Rattle.pslink.specs.declared.outcome.Done.TheVariants.{Linked, Text}
-use Rattle.pslink.specs.declared.outcome.Stop.{Stop}
-use Rattle.pslink.specs.declared.outcome.Stop.TheVariants.{Refused, WrongLengths, NoMemory, TooSmall}
+use Rattle.ps_calls.specs.Answers.{small_answer}
+use Rattle.ps_calls.specs.Calls.{Links, LinkNeeds}
+use Rattle.ps_calls.specs.Dones.{IsLinked}
+use Rattle.ps_calls.specs.Libraries.{split}
+use Rattle.ps_calls.specs.Outcomes.{answer_of, done_answer}
+use Rattle.ps_calls.specs.Stops.{StopsCall, StopsLink}
+use Rattle.ps_calls.specs.declared.answer.Answer.{Answer}
+use Rattle.ps_calls.specs.declared.answer.TheConstants.{DONE, TOO_SMALL}
+use Rattle.ps_calls.specs.declared.outcome.Done.{Done}
+use Rattle.ps_calls.specs.declared.outcome.Done.TheVariants.{Linked, Text}
+use Rattle.ps_calls.specs.declared.outcome.Stop.{Stop}
+use Rattle.ps_calls.specs.declared.outcome.Stop.TheVariants.{Refused, WrongLengths, NoMemory, TooSmall}
 
 -- it was done
 pub links : (host : List ℕ) (libs : List (List ℕ)) (old new : List ℕ) (a : Answer) (r : Result Done Stop) → a ≡ answer_of r → IfOk r (IsLinked host libs old new) → a.status ≡ DONE → Links host libs old new a

@@ -1,7 +1,0 @@
-pub mod Libraries
-pub mod Rooms
-pub mod Answers
-pub mod Stops
-pub mod Dones
-pub mod Outcomes
-pub mod Calls

@@ -3,16 +3,15 @@
 ghost use Rattle.std.specs.Prelude.{◌≡◌, ◌≢◌, ◌≤◌, ◌<◌, length, sum, None, IfNone, IfSome};
 ghost use Rattle.ps_resolve.specs.Standing.{NoneStandsInReading};
 ghost use Rattle.ps_linkfile.specs.ShowText.{show_fault};
-ghost use Rattle.pslink.specs.Libraries.{split};
-ghost use Rattle.pslink.specs.Answers.{bare, closed_text, refusal_fault, IsStatus};
-ghost use Rattle.pslink.specs.Rooms.{RoomBeginsWith};
-ghost use Rattle.pslink.specs.Calls.{Links, LinkNeeds, Maps, MapNeeds, Refuses, RefusesToShow, Shows, ShowNeeds};
+ghost use Rattle.ps_calls.specs.Libraries.{split};
+ghost use Rattle.ps_calls.specs.Answers.{bare, closed_text, refusal_fault, IsStatus};
+ghost use Rattle.ps_calls.specs.Rooms.{RoomBeginsWith};
+ghost use Rattle.ps_calls.specs.Calls.{Links, LinkNeeds, Maps, MapNeeds, Refuses, RefusesToShow, Shows, ShowNeeds};
 
-use crate::answer::{Answer, DONE, NO_MEMORY, REFUSED, TOO_SMALL, WRONG_LENGTHS};
-use crate::fault_text::put_fault;
-use crate::libraries::LIBRARIES_IN_PLACE;
-use crate::linking::{LINKED_MAX, link};
-use crate::texts::{map, show};
+use ps_calls::{
+    Answer, DONE, LIBRARIES_IN_PLACE, LINKED_MAX, NO_MEMORY, REFUSED, TOO_SMALL, WRONG_LENGTHS,
+    link, map, put_fault, show,
+};
 use std::alloc::Global;
 
 /// Links a host with the units that it uses into `out`, and answers how it went.

@@ -1,10 +1,12 @@
 //! Files that fail.
-use std::alloc::Allocator;
+ghost use Rattle.std.specs.Prelude.{⊤};
+
+use crate::files::CodeFiles;
+use std::alloc::{Alloc, Global};
 use std::cell::Cell;
-use std::fs::{Metadata, OpenFile, OpenOptions};
-use std::io;
-use std::io::{Read, Seek, SeekFrom, Write};
+use std::io::{Read, Write};
 use std::rt::Files;
+use std::{fs, io};
 
 /// The files of `inner`, of which the one that is opened as the `nth`, from 1, fails after so many
 /// reads and writes. A read gives 500 bytes at most, and a write takes so many.
@@ -27,6 +29,21 @@ impl<R: Files> Faulty<R> {
             per_write,
             opened: Cell::new(0),
             created: Cell::new(0),
+        }
+    }
+
+    /// The next file that is opened.
+    fn faulty(&self, inner: R::File) -> FaultyFile<R::File> {
+        self.opened.set(self.opened.get().saturating_add(1));
+        let calls = if self.opened.get() == self.nth {
+            self.calls
+        } else {
+            u64::MAX
+        };
+        FaultyFile {
+            inner,
+            calls,
+            per_write: self.per_write,
         }
     }
 
@@ -87,86 +104,33 @@ impl<F: Write> Write for FaultyFile<F> {
     }
 }
 
-impl<F: Seek> Seek for FaultyFile<F> {
-    fn seek(&mut self, to: SeekFrom) -> io::Result<u64> {
-        self.inner.seek(to)
+impl<R: Files> CodeFiles for Faulty<R> {
+    type Opened = FaultyFile<R::File>;
+
+    type Created = FaultyFile<R::File>;
+
+    ghost opened = { λ rt path file. ⊤ };
+
+    fn open(&self, path: &str) -> io::Result<FaultyFile<R::File>> {
+        let inner = fs::open(&self.inner, path)?;
+        Ok(self.faulty(inner))
+    }
+
+    fn create(&self, path: &str) -> io::Result<FaultyFile<R::File>> {
+        let inner = fs::create(&self.inner, path)?;
+        self.created.set(self.created.get().saturating_add(1));
+        Ok(self.faulty(inner))
+    }
+
+    fn length_hint(file: &FaultyFile<R::File>) -> usize {
+        R::length_hint(&file.inner)
     }
 }
 
-impl<F: OpenFile> OpenFile for FaultyFile<F> {
-    fn metadata(&self) -> io::Result<Metadata> {
-        self.inner.metadata()
-    }
+impl<R: Files + AllocGlobal> Alloc for Faulty<R> {
+    type A = Global;
 
-    fn set_len(&self, size: u64) -> io::Result<()> {
-        self.inner.set_len(size)
-    }
-
-    fn sync_all(&self) -> io::Result<()> {
-        self.inner.sync_all()
-    }
-
-    fn sync_data(&self) -> io::Result<()> {
-        self.inner.sync_data()
-    }
-}
-
-impl<R: Files> Files for Faulty<R> {
-    type File = FaultyFile<R::File>;
-
-    type Dir = R::Dir;
-
-    fn open_file(&self, how: &OpenOptions, path: &str) -> io::Result<FaultyFile<R::File>> {
-        let inner = self.inner.open_file(how, path)?;
-        self.opened.set(self.opened.get().saturating_add(1));
-        if how.asks_write() {
-            self.created.set(self.created.get().saturating_add(1));
-        }
-        let calls = if self.opened.get() == self.nth {
-            self.calls
-        } else {
-            u64::MAX
-        };
-        Ok(FaultyFile {
-            inner,
-            calls,
-            per_write: self.per_write,
-        })
-    }
-
-    fn open_dir(&self, path: &str) -> io::Result<R::Dir> {
-        self.inner.open_dir(path)
-    }
-
-    fn metadata(&self, path: &str) -> io::Result<Metadata> {
-        self.inner.metadata(path)
-    }
-
-    fn symlink_metadata(&self, path: &str) -> io::Result<Metadata> {
-        self.inner.symlink_metadata(path)
-    }
-
-    fn copy(&self, from: &str, to: &str) -> io::Result<u64> {
-        self.inner.copy(from, to)
-    }
-
-    fn rename(&self, from: &str, to: &str) -> io::Result<()> {
-        self.inner.rename(from, to)
-    }
-
-    fn remove_file(&self, path: &str) -> io::Result<()> {
-        self.inner.remove_file(path)
-    }
-
-    fn create_dir(&self, path: &str) -> io::Result<()> {
-        self.inner.create_dir(path)
-    }
-
-    fn remove_dir(&self, path: &str) -> io::Result<()> {
-        self.inner.remove_dir(path)
-    }
-
-    fn remove_dir_all<B: Allocator>(&self, alloc: B, path: &str) -> io::Result<()> {
-        self.inner.remove_dir_all(alloc, path)
+    fn alloc(&self) -> Global {
+        self.inner.alloc()
     }
 }

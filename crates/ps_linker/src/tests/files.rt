@@ -1,8 +1,8 @@
 //! Files that cannot be opened, read or written.
 use super::faulty::Faulty;
 use super::inputs::{
-    HOST, HOST_IN_PLACE, LIBRARY, LINKED_HOST_IN_PLACE, LINKED_PAIR, MAP_OF_PAIR, SHOWN_LIBRARY,
-    SUMMARY_IN_PLACE, SUMMARY_OF_PAIR, save_all,
+    HOST, HOST_IN_PLACE, Image, LIBRARY, LINKED_HOST_IN_PLACE, LINKED_PAIR, MAP_OF_PAIR,
+    SHOWN_LIBRARY, SUMMARY_IN_PLACE, SUMMARY_OF_PAIR, save_all,
 };
 use super::outcome::{clean, done, holds, is_missing};
 use std::fs;
@@ -19,7 +19,7 @@ fn complains<R: Files + AllocGlobal + Abort>(rt: &R, args: &[&str], complaint: &
 fn files_that_cannot_be_opened(rt: HostRuntime) {
     clean(&rt, &["opened-missing", "opened-out"]);
     let _ = fs::create_dir(&rt, "opened-folder");
-    save_all(&rt, &[("opened-host", HOST_IN_PLACE)]);
+    save_all(&rt, &[("opened-host", &HOST_IN_PLACE)]);
     let missing = "pslink: cannot read opened-missing\n";
     let not_read = "pslink: cannot read opened-folder\n";
     let not_written = "pslink: cannot write opened-folder\n";
@@ -63,38 +63,45 @@ fn failing_reads<R: Files + AllocGlobal + Abort>(
     wanted: &str,
 ) -> u64 {
     for reads in 0..100 {
-        let files = (Faulty::taking(rt, nth, reads, 3), rt.alloc());
+        let files = Faulty::taking(rt, nth, reads, 3);
         let run = done(&files, args);
         if run.status == 0 {
             run.is(rt, (nth, reads), 0, wanted, "");
             return reads;
         }
         run.is(rt, (nth, reads), 3, "", complaint);
-        assert!(rt; files.0.created() == 0, "at {nth} {reads}");
+        assert!(rt; files.created() == 0, "at {nth} {reads}");
     }
     100
 }
 
+const NO_HOST: &str = "pslink: cannot read reads-host\n";
+
+const NO_LIBRARY: &str = "pslink: cannot read reads-library\n";
+
+const LINK: &[&str] = &["pslink", "link", "reads-host", "reads-out", "reads-library"];
+
+const MAP: &[&str] = &["pslink", "map", "reads-host", "reads-library"];
+
+const SHOW: &[&str] = &["pslink", "show", "reads-library"];
+
+/// The args, which of the files that are opened fails, what is then said, and what is printed where
+/// no read fails.
+static READS: [(&[&str], u64, &str, &str); 5] = [
+    (LINK, 1, NO_HOST, SUMMARY_OF_PAIR),
+    (LINK, 2, NO_LIBRARY, SUMMARY_OF_PAIR),
+    (MAP, 1, NO_HOST, MAP_OF_PAIR),
+    (MAP, 2, NO_LIBRARY, MAP_OF_PAIR),
+    (SHOW, 1, NO_LIBRARY, SHOWN_LIBRARY),
+];
+
+static READ: [(&str, &Image); 2] = [("reads-host", &HOST), ("reads-library", &LIBRARY)];
+
 #[test]
 fn each_read_fails(rt: HostRuntime) {
-    save_all(&rt, &[("reads-host", HOST), ("reads-library", LIBRARY)]);
-    let link = ["pslink", "link", "reads-host", "reads-out", "reads-library"];
-    let map = ["pslink", "map", "reads-host", "reads-library"];
-    let show = ["pslink", "show", "reads-library"];
-    let (link, map, show) = (link.as_slice(), map.as_slice(), show.as_slice());
-    let no_host = "pslink: cannot read reads-host\n";
-    let no_library = "pslink: cannot read reads-library\n";
-    // The args, which of the files that are opened fails, what is then said, and what is printed
-    // where no read fails.
-    let rows = [
-        (link, 1, no_host, SUMMARY_OF_PAIR),
-        (link, 2, no_library, SUMMARY_OF_PAIR),
-        (map, 1, no_host, MAP_OF_PAIR),
-        (map, 2, no_library, MAP_OF_PAIR),
-        (show, 1, no_library, SHOWN_LIBRARY),
-    ];
-    for (args, nth, complained, wanted) in rows {
-        let failed = failing_reads(&rt, args, nth, complained, wanted);
+    save_all(&rt, READ.as_slice());
+    for (args, nth, complained, wanted) in READS.iter() {
+        let failed = failing_reads(&rt, *args, *nth, *complained, *wanted);
         assert!(rt; failed == 5, "{args:?} {nth}");
     }
     clean(&rt, &["reads-host", "reads-out", "reads-library"]);
@@ -139,9 +146,9 @@ fn failing_writes<R: Files + AllocGlobal + Abort>(
     let mut length = (0, 0);
     for writes in 0..=needed {
         let row = (writes, needed);
-        let files = (Faulty::taking(rt, nth, writes, most), rt.alloc());
+        let files = Faulty::taking(rt, nth, writes, most);
         let run = done(&files, args);
-        assert!(rt; files.0.created() == 1, "{row:?}");
+        assert!(rt; files.created() == 1, "{row:?}");
         if writes == needed {
             run.is(rt, row, 0, printed, "");
             holds(rt, "writes-out", linked, args);
@@ -153,46 +160,46 @@ fn failing_writes<R: Files + AllocGlobal + Abort>(
     }
 }
 
+static WRITTEN: [(&str, &Image); 3] = [
+    ("writes-in-place", &HOST_IN_PLACE),
+    ("writes-host", &HOST),
+    ("writes-library", &LIBRARY),
+];
+
+/// The args, as which file OUT is opened, how much a write takes, in how many writes, what is
+/// printed, and the linked file.
+static WRITES: [(&[&str], (u64, usize, u64), &str, &Image); 2] = [
+    (
+        &["pslink", "link", "writes-in-place", "writes-out"],
+        (2, 3, 513),
+        SUMMARY_IN_PLACE,
+        &LINKED_HOST_IN_PLACE,
+    ),
+    (
+        &[
+            "pslink",
+            "link",
+            "writes-host",
+            "writes-out",
+            "writes-library",
+        ],
+        (3, usize::MAX, 3),
+        SUMMARY_OF_PAIR,
+        &LINKED_PAIR,
+    ),
+];
+
 #[test]
 fn each_write_of_a_link_fails(rt: HostRuntime) {
-    let files = [
-        ("writes-in-place", HOST_IN_PLACE),
-        ("writes-host", HOST),
-        ("writes-library", LIBRARY),
-    ];
-    save_all(&rt, files.as_slice());
-    let link_in_place = ["pslink", "link", "writes-in-place", "writes-out"];
-    let link = [
-        "pslink",
-        "link",
-        "writes-host",
-        "writes-out",
-        "writes-library",
-    ];
-    // The args, as which file OUT is opened, how much a write takes, in how many writes, what is
-    // printed, and the linked file.
-    let rows = [
-        (
-            link_in_place.as_slice(),
-            (2, 3, 513),
-            SUMMARY_IN_PLACE,
-            LINKED_HOST_IN_PLACE,
-        ),
-        (
-            link.as_slice(),
-            (3, usize::MAX, 3),
-            SUMMARY_OF_PAIR,
-            LINKED_PAIR,
-        ),
-    ];
-    for (args, faults, printed, image) in rows {
+    save_all(&rt, WRITTEN.as_slice());
+    for (args, faults, printed, image) in WRITES.iter() {
         match image.bytes(rt.alloc()) {
-            Ok(linked) => failing_writes(&rt, args, faults, printed, linked.as_slice()),
+            Ok(linked) => failing_writes(&rt, *args, *faults, *printed, linked.as_slice()),
             Err(_) => assert!(rt; false, "{args:?}"),
         }
     }
-    for (path, _) in files {
-        clean(&rt, &[path]);
+    for (path, _) in WRITTEN.iter() {
+        clean(&rt, &[*path]);
     }
     clean(&rt, &["writes-out"]);
 }

@@ -188,7 +188,7 @@ impl Image {
 }
 
 /// Writes files.
-pub fn save_all<R: Files + AllocGlobal + Abort>(rt: &R, files: &[(&str, Image)]) {
+pub fn save_all<R: Files + AllocGlobal + Abort>(rt: &R, files: &[(&str, &Image)]) {
     for (path, image) in files {
         assert!(rt; image.save(rt, *path), "{path}");
     }
@@ -200,61 +200,61 @@ pub fn save_text<R: Files + AllocGlobal + Abort>(rt: &R, path: &str, text: &str)
 }
 
 /// A host with its unit in place, and what it is linked to.
-pub static HOST_IN_PLACE: Image = Image(2560, &HOST_PROGRAM, &UNIT_IN_PLACE);
+pub const HOST_IN_PLACE: Image = Image(2560, &HOST_PROGRAM, &UNIT_IN_PLACE);
 
-pub static LINKED_HOST_IN_PLACE: Image = Image(1536, &HOST_PROGRAM, &LINKED_IN_PLACE);
+pub const LINKED_HOST_IN_PLACE: Image = Image(1536, &HOST_PROGRAM, &LINKED_IN_PLACE);
 
 /// A host that wants its unit, a library that has it, and what the two are linked to.
-pub static HOST: Image = Image(1536, &HOST_PROGRAM, &UNIT_WANTED);
+pub const HOST: Image = Image(1536, &HOST_PROGRAM, &UNIT_WANTED);
 
-pub static LIBRARY: Image = Image(1536, &LIBRARY_UNIT, &[]);
+pub const LIBRARY: Image = Image(1536, &LIBRARY_UNIT, &[]);
 
-pub static LINKED_PAIR: Image = Image(1536, &HOST_PROGRAM, &LINKED_FROM_LIBRARY);
+pub const LINKED_PAIR: Image = Image(1536, &HOST_PROGRAM, &LINKED_FROM_LIBRARY);
 
 /// The host and the library truncated after their end marks, and the library truncated before its
 /// last byte and in its unit's code.
-pub static ENDING_HOST: Image = Image(1056, &HOST_PROGRAM, &UNIT_WANTED);
+pub const ENDING_HOST: Image = Image(1056, &HOST_PROGRAM, &UNIT_WANTED);
 
-pub static ENDING_LIBRARY: Image = Image(1104, &LIBRARY_UNIT, &[]);
+pub const ENDING_LIBRARY: Image = Image(1104, &LIBRARY_UNIT, &[]);
 
-pub static CUT_LIBRARY: Image = Image(1103, &LIBRARY_UNIT, &[]);
+pub const CUT_LIBRARY: Image = Image(1103, &LIBRARY_UNIT, &[]);
 
-pub static LIBRARY_CUT_IN_CODE: Image = Image(535, &LIBRARY_UNIT, &[]);
+pub const LIBRARY_CUT_IN_CODE: Image = Image(535, &LIBRARY_UNIT, &[]);
 
 /// The library where two bytes of its unit's code are other ones, and what the host is linked to
 /// with it.
-pub static OTHER_LIBRARY: Image = Image(1536, &LIBRARY_UNIT, &[(518, b"\0\0")]);
+pub const OTHER_LIBRARY: Image = Image(1536, &LIBRARY_UNIT, &[(518, b"\0\0")]);
 
-pub static LINKED_WITH_OTHER: Image = Image(1536, &HOST_PROGRAM, &LINKED_FROM_OTHER);
+pub const LINKED_WITH_OTHER: Image = Image(1536, &HOST_PROGRAM, &LINKED_FROM_OTHER);
 
 /// The library where its unit has another name.
-pub static LIBRARY_WITHOUT_UNIT: Image = Image(1536, &LIBRARY_UNIT, &[(80, b"OTHER   ")]);
+pub const LIBRARY_WITHOUT_UNIT: Image = Image(1536, &LIBRARY_UNIT, &[(80, b"OTHER   ")]);
 
-pub static BIG_ENDIAN_LIBRARY: Image = Image(1536, &BIG_ENDIAN_UNIT, &[]);
+pub const BIG_ENDIAN_LIBRARY: Image = Image(1536, &BIG_ENDIAN_UNIT, &[]);
 
 /// The host with a constant more.
-pub static HOST_WITH_CONSTANT: Image = Image(1536, &HOST_PROGRAM, &CONSTANT_DEFINED);
+pub const HOST_WITH_CONSTANT: Image = Image(1536, &HOST_PROGRAM, &CONSTANT_DEFINED);
 
 /// Libraries with a unit that names a second one: at a place in its code, at none, and where the
 /// second is there too.
-pub static USING_LIBRARY: Image = Image(1536, &USING_UNIT, &USES_A_UNIT);
+pub const USING_LIBRARY: Image = Image(1536, &USING_UNIT, &USES_A_UNIT);
 
-pub static NAMING_LIBRARY: Image = Image(1536, &USING_UNIT, &NAMES_A_UNIT);
+pub const NAMING_LIBRARY: Image = Image(1536, &USING_UNIT, &NAMES_A_UNIT);
 
-pub static LIBRARY_OF_BOTH: Image = Image(2560, &USING_UNIT, &BOTH_UNITS);
+pub const LIBRARY_OF_BOTH: Image = Image(2560, &USING_UNIT, &BOTH_UNITS);
 
 /// Zeros, one byte less than a dictionary; and a dictionary whose kinds are in no byte order.
-pub static SHORT_FILE: Image = Image(511, &[(64, &[0; 128])], &[]);
+pub const SHORT_FILE: Image = Image(511, &[(64, &[0; 128])], &[]);
 
-pub static MIXED_FILE: Image = Image(512, &[(192, b"\x01\x01")], &[]);
+pub const MIXED_FILE: Image = Image(512, &[(192, b"\x01\x01")], &[]);
 
 // What is printed of the links of the two hosts.
-pub static SUMMARY_IN_PLACE: &str = "segments 2 private words 0 blocks 3\n";
+pub const SUMMARY_IN_PLACE: &str = "segments 2 private words 0 blocks 3\n";
 
-pub static SUMMARY_OF_PAIR: &str = "segments 2 private words 4 blocks 3\n";
+pub const SUMMARY_OF_PAIR: &str = "segments 2 private words 4 blocks 3\n";
 
 /// The map of the host and its library.
-pub static MAP_OF_PAIR: &str = "segment 01 DEMO     file 0 entry 01 block 1 length 18
+pub const MAP_OF_PAIR: &str = "segment 01 DEMO     file 0 entry 01 block 1 length 18
 segment 07 UTIL     file 1 entry 02 block 2 length 24
 public COUNT    value 3
 private 07 STATE    offset 8 words 4
@@ -262,7 +262,7 @@ next 12 data 18 blocks 3
 ";
 
 /// The same, where the host has a constant more.
-pub static MAP_WITH_CONSTANT: &str = "segment 01 DEMO     file 0 entry 01 block 1 length 18
+pub const MAP_WITH_CONSTANT: &str = "segment 01 DEMO     file 0 entry 01 block 1 length 18
 segment 07 UTIL     file 1 entry 02 block 2 length 24
 public COUNT    value 3
 constant LIMIT    value 9
@@ -271,7 +271,7 @@ next 12 data 18 blocks 3
 ";
 
 /// The show of the library, up to its link information.
-pub static LIBRARY_SLOTS: &str = "order little
+pub const LIBRARY_SLOTS: &str = "order little
 slot 00          kind 0 address 0 length 0 text 0
 slot 01          kind 0 address 0 length 0 text 0
 slot 02 UTIL     kind 3 address 1 length 24 text 0
@@ -291,7 +291,7 @@ slot 15          kind 0 address 0 length 0 text 0
 ";
 
 /// The show of the library.
-pub static SHOWN_LIBRARY: &str = "order little
+pub const SHOWN_LIBRARY: &str = "order little
 slot 00          kind 0 address 0 length 0 text 0
 slot 01          kind 0 address 0 length 0 text 0
 slot 02 UTIL     kind 3 address 1 length 24 text 0
@@ -315,7 +315,7 @@ links 02
 ";
 
 /// The show of the big-endian library.
-pub static SHOWN_BIG_ENDIAN: &str = "order big
+pub const SHOWN_BIG_ENDIAN: &str = "order big
 slot 00          kind 0 address 0 length 0 text 0
 slot 01          kind 0 address 0 length 0 text 0
 slot 02 UTIL     kind 3 address 1 length 24 text 0
@@ -339,7 +339,7 @@ links 02
 ";
 
 /// The show of the host, up to its link information.
-pub static HOST_SLOTS: &str = "order little
+pub const HOST_SLOTS: &str = "order little
 slot 00          kind 0 address 0 length 0 text 0
 slot 01 DEMO     kind 1 address 1 length 18 text 0
 slot 02          kind 0 address 0 length 0 text 0
@@ -359,7 +359,7 @@ slot 15          kind 0 address 0 length 0 text 0
 ";
 
 /// The show of what the host and its library are linked to.
-pub static SHOWN_LINKED: &str = "order unknown
+pub const SHOWN_LINKED: &str = "order unknown
 slot 00          kind 0 address 0 length 0 text 0
 slot 01 DEMO     kind 0 address 1 length 18 text 0
 slot 02          kind 0 address 0 length 0 text 0
@@ -379,7 +379,7 @@ slot 15          kind 0 address 0 length 0 text 0
 ";
 
 /// The show of zeros alone.
-pub static SHOWN_ZEROS: &str = "order unknown
+pub const SHOWN_ZEROS: &str = "order unknown
 slot 00 ???????? kind 0 address 0 length 0 text 0
 slot 01 ???????? kind 0 address 0 length 0 text 0
 slot 02 ???????? kind 0 address 0 length 0 text 0
@@ -399,7 +399,7 @@ slot 15 ???????? kind 0 address 0 length 0 text 0
 ";
 
 /// The map of the host and the library with both units.
-pub static MAP_OF_AN_ADDED_UNIT: &str = "segment 01 DEMO     file 0 entry 01 block 1 length 18
+pub const MAP_OF_AN_ADDED_UNIT: &str = "segment 01 DEMO     file 0 entry 01 block 1 length 18
 segment 07 UTIL     file 1 entry 02 block 2 length 24
 segment 08 AUX      file 1 entry 03 block 3 length 24 added
 public COUNT    value 3
@@ -408,7 +408,7 @@ next 12 data 18 blocks 4
 ";
 
 /// The show of that library.
-pub static SHOW_OF_BOTH_UNITS: &str = "order little
+pub const SHOW_OF_BOTH_UNITS: &str = "order little
 slot 00          kind 0 address 0 length 0 text 0
 slot 01          kind 0 address 0 length 0 text 0
 slot 02 UTIL     kind 3 address 1 length 24 text 0

@@ -8,10 +8,10 @@ use refusing::Refusing;
 use std::process::Abort;
 use std::rt::Files;
 
-static NO_MEMORY: &str = "pslink: out of memory\n";
+const NO_MEMORY: &str = "pslink: out of memory\n";
 
 /// The report of a check of the pair.
-static REPORT: &str = "file 0 memory-host: 1536 bytes, little-endian
+const REPORT: &str = "file 0 memory-host: 1536 bytes, little-endian
 file 1 memory-library: 1536 bytes, little-endian
 slot 01 DEMO: the host program, from memory-host entry 01, 18 bytes
 slot 07 UTIL: a unit that the host wants, from memory-library entry 02, 24 bytes
@@ -20,7 +20,7 @@ links: segments 2 private words 4 blocks 3
 ";
 
 /// Where a link writes in these tests. The other commands write nothing there.
-static OUT: &str = "memory-out";
+const OUT: &str = "memory-out";
 
 /// Checks that OUT is as it was before the args were run.
 fn is_as_before<R: Files + AllocGlobal + Abort>(rt: &R, args: &[&str], was_there: bool) {
@@ -47,7 +47,7 @@ fn refused_allocations<R: Files + AllocGlobal + Abort>(
     args: &[&str],
     was_there: bool,
     printed: &str,
-    linked: Option<Image>,
+    linked: Option<&Image>,
 ) -> u64 {
     for number in 1..1000 {
         put_out(rt, was_there);
@@ -56,7 +56,7 @@ fn refused_allocations<R: Files + AllocGlobal + Abort>(
         if !heap.has_refused() {
             run.is(rt, (args, number), 0, printed, "");
             match linked {
-                Some(image) => holds_image(rt, OUT, &image, args),
+                Some(image) => holds_image(rt, OUT, image, args),
                 None => is_as_before(rt, args, was_there),
             }
             return number - 1;
@@ -67,44 +67,67 @@ fn refused_allocations<R: Files + AllocGlobal + Abort>(
     1000
 }
 
+static FILES: [(&str, &Image); 3] = [
+    ("memory-in-place", &HOST_IN_PLACE),
+    ("memory-host", &HOST),
+    ("memory-library", &LIBRARY),
+];
+
+const LINK_IN_PLACE: &[&str] = &["pslink", "link", "memory-in-place", OUT];
+
+/// The args, whether OUT is there before, what is printed, what OUT then has, and how many
+/// allocations are refused at least.
+static ROWS: [(&[&str], bool, &str, Option<&Image>, u64); 5] = [
+    (
+        LINK_IN_PLACE,
+        false,
+        SUMMARY_IN_PLACE,
+        Some(&LINKED_HOST_IN_PLACE),
+        5,
+    ),
+    (
+        &["pslink", "link", "memory-host", OUT, "memory-library"],
+        true,
+        SUMMARY_OF_PAIR,
+        Some(&LINKED_PAIR),
+        5,
+    ),
+    (
+        &["pslink", "map", "memory-host", "memory-library"],
+        false,
+        MAP_OF_PAIR,
+        None,
+        5,
+    ),
+    (
+        &["pslink", "show", "memory-library"],
+        false,
+        SHOWN_LIBRARY,
+        None,
+        1,
+    ),
+    (
+        &["pslink", "check", "memory-host", "memory-library"],
+        false,
+        REPORT,
+        None,
+        8,
+    ),
+];
+
 #[test]
 fn each_allocation_is_refused(rt: HostRuntime) {
-    let files = [
-        ("memory-in-place", HOST_IN_PLACE),
-        ("memory-host", HOST),
-        ("memory-library", LIBRARY),
-    ];
-    save_all(&rt, files.as_slice());
-    let link_in_place = ["pslink", "link", "memory-in-place", OUT];
-    let link = ["pslink", "link", "memory-host", OUT, "memory-library"];
-    let map = ["pslink", "map", "memory-host", "memory-library"];
-    let show = ["pslink", "show", "memory-library"];
-    let check = ["pslink", "check", "memory-host", "memory-library"];
-    // The args, whether OUT is there before, what is printed, what OUT then has, and how many
-    // allocations are refused at least.
-    let rows = [
-        (
-            link_in_place.as_slice(),
-            false,
-            SUMMARY_IN_PLACE,
-            Some(LINKED_HOST_IN_PLACE),
-            5,
-        ),
-        (link.as_slice(), true, SUMMARY_OF_PAIR, Some(LINKED_PAIR), 5),
-        (map.as_slice(), false, MAP_OF_PAIR, None, 5),
-        (show.as_slice(), false, SHOWN_LIBRARY, None, 1),
-        (check.as_slice(), false, REPORT, None, 8),
-    ];
-    for (args, was_there, printed, linked, least) in rows {
-        let refused = refused_allocations(&rt, args, was_there, printed, linked);
-        assert!(rt; (least..1000).contains(&refused), "{args:?} {refused}");
+    save_all(&rt, FILES.as_slice());
+    for (args, was_there, printed, linked, least) in ROWS.iter() {
+        let refused = refused_allocations(&rt, *args, *was_there, *printed, *linked);
+        assert!(rt; (*least..1000).contains(&refused), "{args:?} {refused}");
     }
     // An allocator that counts and refuses nothing.
     let heap = Refusing::once(rt.alloc(), 0);
-    let made = done_with(&rt, &heap, link_in_place.as_slice());
+    let made = done_with(&rt, &heap, LINK_IN_PLACE);
     made.is(&rt, "none", 0, SUMMARY_IN_PLACE, "");
     assert!(rt; !heap.has_refused());
-    holds_image(&rt, OUT, &LINKED_HOST_IN_PLACE, link_in_place.as_slice());
+    holds_image(&rt, OUT, &LINKED_HOST_IN_PLACE, LINK_IN_PLACE);
     let files = ["memory-in-place", "memory-host", "memory-library", OUT];
     clean(&rt, files.as_slice());
 }

@@ -1,5 +1,6 @@
 //! What a run returns and writes.
 use super::inputs::Image;
+use crate::files::CodeFiles;
 use crate::running::run;
 use std::alloc::{Allocator, Global};
 use std::fmt::Debug;
@@ -16,12 +17,12 @@ pub struct Outcome {
 }
 
 /// Runs the arguments with ample memory.
-pub fn done<R: Files + AllocGlobal>(rt: &R, args: &[&str]) -> Outcome {
+pub fn done<R: CodeFiles + AllocGlobal>(rt: &R, args: &[&str]) -> Outcome {
     done_with(rt, rt.alloc(), args)
 }
 
 /// Runs the arguments with memory from `alloc`.
-pub fn done_with<R: Files + AllocGlobal, A: Allocator + Copy>(
+pub fn done_with<R: CodeFiles + AllocGlobal, A: Allocator + Copy>(
     rt: &R,
     alloc: A,
     args: &[&str],

@@ -1,7 +1,7 @@
 //! Standard output and standard error that fail, or take little at a time.
 use super::args::{HELP, VERSION};
 use super::inputs::{
-    HOST, HOST_IN_PLACE, LIBRARY, LINKED_HOST_IN_PLACE, MAP_OF_PAIR, SHOWN_LIBRARY,
+    HOST, HOST_IN_PLACE, Image, LIBRARY, LINKED_HOST_IN_PLACE, MAP_OF_PAIR, SHOWN_LIBRARY,
     SUMMARY_IN_PLACE, save_all,
 };
 use super::outcome::{clean, holds_image, text};
@@ -11,49 +11,55 @@ use std::fs;
 use std::process::Abort;
 use std::rt::Files;
 
-static NO_OUTPUT: &str = "pslink: cannot write standard output\n";
+const NO_OUTPUT: &str = "pslink: cannot write standard output\n";
 
 /// The report of a check of a host that has its unit.
-static REPORT: &str = "file 0 prints-in-place: 2560 bytes, little-endian
+const REPORT: &str = "file 0 prints-in-place: 2560 bytes, little-endian
 slot 01 DEMO: the host program, from prints-in-place entry 01, 18 bytes
 slot 07 UTIL: a unit in the host file, from prints-in-place entry 07, 24 bytes
 slots without a segment: 00 02 03 04 05 06 08 09 10 11 12 13 14 15
 links: segments 2 private words 0 blocks 3
 ";
 
+static STUCK: [(&str, &Image); 3] = [
+    ("stuck-in-place", &HOST_IN_PLACE),
+    ("stuck-host", &HOST),
+    ("stuck-library", &LIBRARY),
+];
+
+const STUCK_LINK: &[&str] = &["pslink", "link", "stuck-in-place", "stuck-out"];
+
+static STUCK_COMMANDS: [&[&str]; 5] = [
+    STUCK_LINK,
+    &["pslink", "map", "stuck-host", "stuck-library"],
+    &["pslink", "show", "stuck-library"],
+    &["pslink", "check", "stuck-host"],
+    &["pslink", "--help"],
+];
+
+/// Runs the args with a standard output that does not take what it is given.
+fn cannot_print<R: Files + AllocGlobal + Abort>(rt: &R, args: &[&str], stuck: Stuck) {
+    let mut out = stuck;
+    let mut err = Vec::new(rt.alloc());
+    let status = run(rt, rt.alloc(), args, &mut out, &mut err);
+    assert!(rt; status == 3, "{args:?} {stuck:?}");
+    assert!(rt; text(err.as_slice()) == NO_OUTPUT, "{args:?} {stuck:?}");
+}
+
 #[test]
 fn standard_output_that_fails(rt: HostRuntime) {
-    let files = [
-        ("stuck-in-place", HOST_IN_PLACE),
-        ("stuck-host", HOST),
-        ("stuck-library", LIBRARY),
-    ];
-    save_all(&rt, files.as_slice());
-    let link = ["pslink", "link", "stuck-in-place", "stuck-out"];
-    let map = ["pslink", "map", "stuck-host", "stuck-library"];
-    let show = ["pslink", "show", "stuck-library"];
-    let check = ["pslink", "check", "stuck-host"];
-    let help = ["pslink", "--help"];
-    let commands = [
-        link.as_slice(),
-        map.as_slice(),
-        show.as_slice(),
-        check.as_slice(),
-        help.as_slice(),
-    ];
-    for args in commands {
+    save_all(&rt, STUCK.as_slice());
+    for args in STUCK_COMMANDS.iter() {
         for stuck in [Stuck::Broken, Stuck::TakesNothing, Stuck::Interrupted] {
-            let mut out = stuck;
-            let mut err = Vec::new(rt.alloc());
-            let status = run(&rt, rt.alloc(), args, &mut out, &mut err);
-            assert!(rt; status == 3, "{args:?} {stuck:?}");
-            assert!(rt; text(err.as_slice()) == NO_OUTPUT, "{args:?} {stuck:?}");
+            cannot_print(&rt, *args, stuck);
         }
     }
     // The linked file was written before the line that tells of it.
-    holds_image(&rt, "stuck-out", &LINKED_HOST_IN_PLACE, link.as_slice());
-    let files = ["stuck-in-place", "stuck-host", "stuck-library", "stuck-out"];
-    clean(&rt, files.as_slice());
+    holds_image(&rt, "stuck-out", &LINKED_HOST_IN_PLACE, STUCK_LINK);
+    for (path, _) in STUCK.iter() {
+        clean(&rt, &[*path]);
+    }
+    clean(&rt, &["stuck-out"]);
 }
 
 /// Has each write of the args' text fail in turn, until none fails: how many failed. A write takes
@@ -84,44 +90,42 @@ fn failing_prints<R: Files + AllocGlobal + Abort>(
     1000
 }
 
+static PRINTED: [(&str, &Image); 3] = [
+    ("prints-in-place", &HOST_IN_PLACE),
+    ("prints-host", &HOST),
+    ("prints-library", &LIBRARY),
+];
+
+/// The args, and what they print.
+static TEXTS: [(&[&str], &str); 6] = [
+    (
+        &["pslink", "link", "prints-in-place", "prints-out"],
+        SUMMARY_IN_PLACE,
+    ),
+    (
+        &["pslink", "map", "prints-host", "prints-library"],
+        MAP_OF_PAIR,
+    ),
+    (&["pslink", "show", "prints-library"], SHOWN_LIBRARY),
+    (&["pslink", "check", "prints-in-place"], REPORT),
+    (&["pslink", "--help"], HELP),
+    (&["pslink", "--version"], VERSION),
+];
+
 #[test]
 fn each_write_of_a_text_fails(rt: HostRuntime) {
-    let files = [
-        ("prints-in-place", HOST_IN_PLACE),
-        ("prints-host", HOST),
-        ("prints-library", LIBRARY),
-    ];
-    save_all(&rt, files.as_slice());
-    let link = ["pslink", "link", "prints-in-place", "prints-out"];
-    let map = ["pslink", "map", "prints-host", "prints-library"];
-    let show = ["pslink", "show", "prints-library"];
-    let check = ["pslink", "check", "prints-in-place"];
-    let help = ["pslink", "--help"];
-    let version = ["pslink", "--version"];
-    let texts = [
-        (link.as_slice(), SUMMARY_IN_PLACE),
-        (map.as_slice(), MAP_OF_PAIR),
-        (show.as_slice(), SHOWN_LIBRARY),
-        (check.as_slice(), REPORT),
-        (help.as_slice(), HELP),
-        (version.as_slice(), VERSION),
-    ];
-    for (args, wanted) in texts {
+    save_all(&rt, PRINTED.as_slice());
+    for (args, wanted) in TEXTS.iter() {
         for most in [1, 7, 4096] {
-            let failed = failing_prints(&rt, args, most, wanted);
-            assert!(rt;
-                failed == wanted.len().div_ceil(most) as u64,
-                "{args:?} by {most}"
-            );
+            let failed = failing_prints(&rt, *args, most, *wanted);
+            let writes = wanted.len().div_ceil(most) as u64;
+            assert!(rt; failed == writes, "{args:?} by {most}");
         }
     }
-    let files = [
-        "prints-in-place",
-        "prints-host",
-        "prints-library",
-        "prints-out",
-    ];
-    clean(&rt, files.as_slice());
+    for (path, _) in PRINTED.iter() {
+        clean(&rt, &[*path]);
+    }
+    clean(&rt, &["prints-out"]);
 }
 
 #[test]

@@ -18,11 +18,11 @@ type Mapped<'a> = (&'a [&'a str], u8, &'a str, &'a str);
 #[test]
 fn maps_a_host_with_its_libraries(rt: HostRuntime) {
     let files = [
-        ("map-host", HOST),
-        ("map-library", LIBRARY),
-        ("map-constant", HOST_WITH_CONSTANT),
-        ("map-linked", LINKED_PAIR),
-        ("map-both", LIBRARY_OF_BOTH),
+        ("map-host", &HOST),
+        ("map-library", &LIBRARY),
+        ("map-constant", &HOST_WITH_CONSTANT),
+        ("map-linked", &LINKED_PAIR),
+        ("map-both", &LIBRARY_OF_BOTH),
     ];
     save_all(&rt, files.as_slice());
     let no_unit = "pslink: refused 13 MissingUnit file 0 slot 7\n";
@@ -63,7 +63,7 @@ fn maps_a_host_with_its_libraries(rt: HostRuntime) {
 
 /// Shows a file of these bytes.
 fn shown<R: Files + AllocGlobal + Abort>(rt: &R, image: Image) -> Outcome {
-    save_all(rt, &[("show-file", image)]);
+    save_all(rt, &[("show-file", &image)]);
     done(rt, &["pslink", "show", "show-file"])
 }
 

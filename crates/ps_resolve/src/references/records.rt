@@ -13,7 +13,7 @@ ghost use Rattle.ps_resolve.specs.Views.{segment_of, has_records_at, HasRecordsA
 
 use crate::definitions::DefKind;
 use crate::edits::table::EditTable;
-use crate::linkage::{RecordPlace, Stop};
+use crate::linkage::Stop;
 use crate::reading::segment::{Resolvable, Segment};
 use crate::references::names::{Linking, Names};
 use crate::references::{ReferenceEdits, Target};

@@ -57,6 +57,29 @@ fn procedures_of_the_base_codes(rt: HostRuntime) {
     }
 }
 
+/// Checks which places of a host's little-endian code are marked as reserved, each by a star.
+fn marks(rt: &impl Abort, code: &[u8], wanted: &[u8]) {
+    assert!(rt; code.len() >= 2);
+    let mut marks = [b'-'; 20];
+    match (Procs::read(LITTLE, code, true), marks.get_mut(..code.len())) {
+        (Ok(procedures), Some(marks)) => {
+            procedures.mark_reserved(marks, b'*');
+            assert!(rt; &*marks == wanted);
+        }
+        _ => assert!(rt; false),
+    }
+}
+
+#[test]
+fn reserved_places_are_marked(rt: HostRuntime) {
+    marks(&rt, &demo_code(LITTLE), b"----**************");
+    // the only table is at 9, the dictionary begins at 14, and three bytes are between them
+    let code = [
+        0xD7, 10, 0, 6, 0, 4, 0, 2, 0, 1, 0, 0xAB, 0xAB, 0xAB, 0, 0, 7, 0, 7, 2,
+    ];
+    marks(&rt, &code, b"-**********---******");
+}
+
 /// A little-endian code: an instruction, a table of procedure 1, the words of procedures 2 and 1,
 /// of which the second has this high byte, and the numbers of segment 7. The words stand at 11 and
 /// 13, so that the tables stand at these minus their values.

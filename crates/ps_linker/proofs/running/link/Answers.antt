@@ -1,8 +1,6 @@
 use Rattle.std.proofs.Common.{◌≡◌, ◌∙◌, List, ℕ, ap, map, rules, subst, sym}
 use Rattle.std.proofs.lemmas.Result.{on_ok_weaker}
 use Rattle.std.specs.Io.KnownBytes.{Appends}
-use Rattle.ps_linkfile.specs.LinkedFile.{summary_of}
-use Rattle.ps_linkfile.specs.Writing.{file_in}
 use Rattle.ps_linker.specs.SummaryLine.{summary_line}
 use Rattle.std.specs.List.{AllZip}
 use Rattle.ps_linker.specs.Reading.{Reads}
@@ -18,15 +16,13 @@ returns-clause-ok g c =
     let seen : libs ≡ map (λ library. library.items) c.as_slice.result.now = ap (map (λ lib. lib.now)) c.as_slice-3.ensures.value ∙ c.in_ok-views.ensures in
     let libs_read : AllZip Read paths libs = subst (λ (ls : List (List ℕ)). AllZip Read paths ls) (sym seen) (rw c.as_slice.ensures.value c.in_ok-host.ensures.libraries) in
     let host_read : Read path host = subst (λ (bytes : List ℕ). Read path bytes) (sym c.as_slice-2.ensures.value) c.in_ok-host.ensures.host in
-    let stands = c.in_ok-linked.ensures.linked in
-    let summary : c.in_ok-summary.summary ≡ summary_of host libs = c.in_ok-summary.ensures.ok ∙ stands.summary in
     let line : c.as_bytes.result.now ≡ summary_line c.in_ok-summary.summary = search rules in
     on_ok_weaker c.print.result (λ printed. (
       host,
       libs,
-      file_in c.in_ok-linked.linked,
+      c.in_ok-summary.ensures.file.0,
       host_read,
       libs_read,
-      stands.file,
-      subst (λ (bytes : List ℕ). Appends (g.O.Write.contents c.args.out.now) (g.O.Write.contents c.print.new.out) bytes) (line ∙ ap summary_line summary) printed,
+      c.in_ok-summary.ensures.file.1,
+      subst (λ (bytes : List ℕ). Appends (g.O.Write.contents c.args.out.now) (g.O.Write.contents c.print.new.out) bytes) (line ∙ ap summary_line c.in_ok-summary.ensures.summary) printed,
     )) c.print.ensures.ok

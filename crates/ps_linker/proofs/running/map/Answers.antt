@@ -1,6 +1,5 @@
 use Rattle.std.proofs.Common.{◌≡◌, ◌∙◌, List, ℕ, ap, map, subst, sym}
-use Rattle.std.specs.Io.KnownBytes.{Appends}
-use Rattle.ps_linkfile.specs.Writing.{file_in}
+use Rattle.std.proofs.lemmas.Result.{on_ok_weaker}
 use Rattle.std.specs.List.{AllZip}
 use Rattle.ps_linker.specs.Reading.{Reads}
 use Rattle.ps_linker.proofs.running.map.Goals as goal
@@ -14,12 +13,5 @@ returns-clause-ok g c =
     let paths = map (λ path. path.now) c.args.inputs.libraries.items in
     let seen : libs ≡ map (λ library. library.items) c.as_slice.result.now = ap (map (λ lib. lib.now)) c.as_slice-3.ensures.value ∙ c.in_ok-views.ensures in
     let libs_read : AllZip Read paths libs = subst (λ (ls : List (List ℕ)). AllZip Read paths ls) (sym seen) (rw c.as_slice.ensures.value c.in_ok-host.ensures.libraries) in
-    let host_read : Read path host = subst (λ (bytes : List ℕ). Read path bytes) (sym c.as_slice-2.ensures.value) c.in_ok-host.ensures.host in (
-      host,
-      libs,
-      file_in c.in_ok-linked.linked,
-      host_read,
-      libs_read,
-      c.in_ok-linked.ensures.linked.file,
-      subst (λ (bytes : List ℕ). Appends (g.O.Write.contents c.args.out.now) (g.O.Write.contents c.write_map.new.out) bytes) c.in_ok-linked.ensures.map c.in_ok-write_map.ensures,
-    )
+    let host_read : Read path host = subst (λ (bytes : List ℕ). Read path bytes) (sym c.as_slice-2.ensures.value) c.in_ok-host.ensures.host in
+    on_ok_weaker c.map_bytes.result (λ mapped. (host, libs, mapped.0, host_read, libs_read, mapped.1, mapped.2)) c.map_bytes.ensures.ok

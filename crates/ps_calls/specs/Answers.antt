@@ -1,0 +1,97 @@
+-- What an answer says of a call, and which fault a refusal reports.
+-- Source: this project's profile.
+use Rattle.std.specs.Prelude.{◌≡◌, ℕ, ◌==◌, ◌⊎◌, if◌then◌else◌, List, [], ◌∷◌, ◌++◌, Option, Some, None, option_map, unwrap_or, is_some}
+use Rattle.std.specs.List.{find}
+use Rattle.ps_words.specs.FaultText.{number_of, kind_of, fault_text}
+use Rattle.ps_words.specs.declared.fault.Reason.{Reason}
+use Rattle.ps_words.specs.declared.fault.Reason.TheVariants as reason
+use Rattle.ps_words.specs.declared.fault.Fault.{Fault}
+use Rattle.ps_linkfile.specs.declared.summary.Summary.{Summary}
+use Rattle.ps_calls.specs.declared.answer.Answer.{Answer}
+use Rattle.ps_calls.specs.declared.answer.TheConstants.{DONE, REFUSED, WRONG_LENGTHS, NO_MEMORY, TOO_SMALL}
+
+-- a status, and nothing else
+abbrev pub bare : ℕ → Answer
+bare status = record {
+  status = status;
+  kind = 0;
+  fault = 0;
+  slot = 0;
+  has_kind = 0;
+  has_slot = 0;
+  has_record = 0;
+  has_reference = 0;
+  private_words = 0;
+  file = 0;
+  rec = 0;
+  reference = 0;
+  segments = 0;
+  blocks = 0;
+  written = 0;
+  needed = 0;
+}
+
+-- a linked file of so many bytes, which has this summary, was written
+abbrev pub linked_answer : Summary → ℕ → Answer
+linked_answer s size = record (bare DONE) { private_words = s.private_words; segments = s.segments; blocks = s.blocks; written = size; needed = size }
+
+-- a text of so many bytes was written
+abbrev pub text_answer : ℕ → Answer
+text_answer size = record (bare DONE) { written = size; needed = size }
+
+-- the result has so many bytes, and there was less room
+abbrev pub small_answer : ℕ → Answer
+small_answer size = record (bare TOO_SMALL) { needed = size }
+
+-- 1 where a part is there
+abbrev pub flag : Option ℕ → ℕ
+flag part = if is_some part then 1 else 0
+
+-- the files are refused for this fault
+abbrev pub refusal : Fault → Answer
+refusal f = record (bare REFUSED) {
+  kind = unwrap_or (kind_of f.reason) 0;
+  fault = number_of f.reason;
+  slot = unwrap_or f.slot 0;
+  has_kind = flag (kind_of f.reason);
+  has_slot = flag f.slot;
+  has_record = flag f.rec;
+  has_reference = flag f.reference;
+  file = f.file;
+  rec = unwrap_or f.rec 0;
+  reference = unwrap_or f.reference 0;
+}
+
+-- each reason, in the order of their numbers; an entry that is no unit has this kind word
+abbrev pub reasons : ℕ → List Reason
+reasons kind =
+    reason.ShortFile ∷ reason.NoOrder ∷ reason.OrderMismatch ∷ reason.NoHost ∷ reason.TwoHosts ∷ reason.DoubledSegment ∷ reason.SegmentProcedure
+    ∷ reason.NativeSegment ∷ reason.Intrinsic ∷ reason.UnknownKind ∷ reason.BadLength ∷ reason.BadAddress ∷ reason.MissingUnit ∷ reason.NotAUnit kind
+    ∷ reason.DoubledUnit ∷ reason.Truncated ∷ reason.BadProcDict ∷ reason.NativeProcedure ∷ reason.RecordsTruncated ∷ reason.UnknownRecord
+    ∷ reason.NativeRecord ∷ reason.SeparateRecord ∷ reason.BadFormat ∷ reason.DoubledDefinition ∷ reason.DoubledPrivate ∷ reason.NoRoom
+    ∷ reason.DataTooLarge ∷ reason.MissingDefinition ∷ reason.IllKind ∷ reason.MissingUnitRef ∷ reason.OutsideCode ∷ reason.ReservedPlace
+    ∷ reason.Overlap ∷ reason.OperandTooLarge ∷ reason.NoSlot ∷ []
+
+-- the reason of this number
+abbrev pub reason_of : ℕ → ℕ → Option Reason
+reason_of number kind = find (λ why. number_of why == number) (reasons kind)
+
+-- a part that is there where its flag is not 0
+abbrev pub part : ℕ → ℕ → Option ℕ
+part there value = if there == 0 then None else Some value
+
+-- the fault of this reason that an answer reports
+abbrev pub fault_with : Answer → Reason → Fault
+fault_with a why = record { reason = why; file = a.file; slot = part a.has_slot a.slot; rec = part a.has_record a.rec; reference = part a.has_reference a.reference }
+
+-- the fault that an answer reports, where it is a refusal
+abbrev pub refusal_fault : Answer → Option Fault
+refusal_fault a = if a.status == REFUSED then option_map (fault_with a) (reason_of a.fault a.kind) else None
+
+-- the statuses
+abbrev pub IsStatus : ℕ → Type 0
+IsStatus n = (n ≡ DONE) ⊎ (n ≡ REFUSED) ⊎ (n ≡ WRONG_LENGTHS) ⊎ (n ≡ NO_MEMORY) ⊎ (n ≡ TOO_SMALL)
+
+-- the text of a fault, with a closing 0
+abbrev pub closed_text : Fault → List ℕ
+closed_text f = fault_text f ++ 0 ∷ []

@@ -1,0 +1,64 @@
+-- What the exports leave in the caller's memory.
+-- Source: this project's profile.
+use Rattle.std.specs.Prelude.{◌≡◌, ℕ, ◌<◌, List, length, Some, None}
+use Rattle.ps_resolve.specs.Parts.{HasItsParts}
+use Rattle.ps_resolve.specs.Sources.{order_of}
+use Rattle.ps_words.specs.declared.fault.Fault.{Fault}
+use Rattle.ps_resolve.specs.Standing.{IsFirst, NoneStands}
+use Rattle.ps_linkfile.specs.LinkedFile.{LinkedFile, summary_of}
+use Rattle.ps_linkfile.specs.MapText.{map_of}
+use Rattle.ps_linkfile.specs.ShowText.{show_of, show_fault}
+use Rattle.ps_calls.specs.Rooms.{RoomBeginsWith}
+use Rattle.ps_calls.specs.Answers.{linked_answer, text_answer, small_answer, refusal}
+use Rattle.ps_calls.specs.declared.answer.Answer.{Answer}
+
+-- the room begins with the linked file, and the answer has its summary and its length
+pub record Links (host : List ℕ) (libs : List (List ℕ)) (old new : List ℕ) (answer : Answer) : Type 0 where
+  pub file : List ℕ
+  pub linked : LinkedFile host libs file
+  pub begins : RoomBeginsWith file old new
+  pub told : answer ≡ linked_answer (summary_of host libs) (length file)
+
+-- the answer reports the first fault of all, with just the parts of its number
+pub record Refuses (host : List ℕ) (libs : List (List ℕ)) (answer : Answer) : Type 0 where
+  pub fault : Fault
+  pub first : IsFirst host libs fault
+  pub parts : HasItsParts (order_of host) host libs fault
+  pub told : answer ≡ refusal fault
+
+-- the linked file is longer than the room, and the answer has its length
+pub record LinkNeeds (host : List ℕ) (libs : List (List ℕ)) (room : List ℕ) (answer : Answer) : Type 0 where
+  pub file : List ℕ
+  pub linked : LinkedFile host libs file
+  pub less : length room < length file
+  pub told : answer ≡ small_answer (length file)
+
+-- the room begins with the map of the link, and the answer has its length
+pub record Maps (host : List ℕ) (libs : List (List ℕ)) (old new : List ℕ) (answer : Answer) : Type 0 where
+  pub accepted : NoneStands host libs
+  pub begins : RoomBeginsWith (map_of host libs) old new
+  pub told : answer ≡ text_answer (length (map_of host libs))
+
+-- the map is longer than the room, and the answer has its length
+pub record MapNeeds (host : List ℕ) (libs : List (List ℕ)) (room : List ℕ) (answer : Answer) : Type 0 where
+  pub accepted : NoneStands host libs
+  pub less : length room < length (map_of host libs)
+  pub told : answer ≡ small_answer (length (map_of host libs))
+
+-- the room begins with what the file has, and the answer has the length of that text
+pub record Shows (file old new : List ℕ) (answer : Answer) : Type 0 where
+  pub sound : show_fault file ≡ None
+  pub begins : RoomBeginsWith (show_of file) old new
+  pub told : answer ≡ text_answer (length (show_of file))
+
+-- the answer reports why the file cannot be shown
+pub record RefusesToShow (file : List ℕ) (answer : Answer) : Type 0 where
+  pub fault : Fault
+  pub first : show_fault file ≡ Some fault
+  pub told : answer ≡ refusal fault
+
+-- the text is longer than the room, and the answer has its length
+pub record ShowNeeds (file room : List ℕ) (answer : Answer) : Type 0 where
+  pub sound : show_fault file ≡ None
+  pub less : length room < length (show_of file)
+  pub told : answer ≡ small_answer (length (show_of file))

@@ -1,0 +1,67 @@
+//! The libraries of a call: one after another in one buffer, with their lengths beside.
+ghost use Rattle.std.specs.Prelude.{◌≡◌, ◌≤◌, ◌<◌, ◌↔◌, length, sum, IfOk, IfErr, IsOk, IsTrue, OnErr};
+ghost use Rattle.ps_resolve.specs.Sources.{contents};
+ghost use Rattle.ps_calls.specs.Libraries.{split as split_spec};
+ghost use Rattle.ps_calls.specs.Stops.{IsUnsplit};
+
+use crate::outcome::Stop;
+use smallvec::SmallVec;
+use std::alloc::{AllocError, Global};
+
+/// How many libraries have a place on the stack. More of them request memory before they are read.
+/// Source: this project's profile.
+pub const LIBRARIES_IN_PLACE: usize = 256;
+
+/// The libraries of a call, each as a slice.
+pub(crate) type Libraries<'a> = SmallVec<&'a [u8], LIBRARIES_IN_PLACE>;
+
+/// Whether the lengths add up to this total.
+fn add_up(lengths: &[usize], total: usize) -> bool
+    ensures { IsTrue result ↔ (sum lengths.now ≡ total) }
+{
+    let mut left = total;
+    for length in lengths {
+        if left < *length {
+            return false;
+        }
+        left -= *length;
+    }
+    left == 0
+}
+
+/// The parts of these lengths.
+fn parts<'a>(alloc: Global, libs: &'a [u8], lengths: &[usize]) -> Result<Libraries<'a>, AllocError>
+    requires { sum lengths.now ≡ length libs.now }
+    ensures ok { IfOk result (λ parts. contents parts.items
+        ≡ split_spec libs.now lengths.now) }
+    ensures err { OnErr result (LIBRARIES_IN_PLACE < length lengths.now) }
+{
+    let mut parts = SmallVec::new(alloc);
+    let mut rest = libs;
+    for length in lengths {
+        let (part, behind) = rest.split_at(*length);
+        parts.push(part)?;
+        rest = behind;
+    }
+    Ok(parts)
+}
+
+/// The libraries that are one after another in `libs`, with these lengths.
+pub(crate) fn split<'a>(
+    alloc: Global,
+    libs: &'a [u8],
+    lengths: &[usize],
+) -> Result<Libraries<'a>, Stop>
+    ensures ok { IfOk result (λ views. contents views.items
+        ≡ split_spec libs.now lengths.now) }
+    ensures right { IfOk result (λ _. sum lengths.now ≡ length libs.now) }
+    ensures err { IfErr result (IsUnsplit libs.now lengths.now) }
+{
+    if !add_up(lengths, libs.len()) {
+        return Err(Stop::WrongLengths);
+    }
+    match parts(alloc, libs, lengths) {
+        Ok(parts) => Ok(parts),
+        Err(_) => Err(Stop::NoMemory),
+    }
+}

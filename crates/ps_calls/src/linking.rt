@@ -1,0 +1,62 @@
+//! The linked file, into the caller's room.
+ghost use Rattle.std.specs.Prelude.{◌≡◌, length, sum, IfOk, IfErr, OnErr};
+ghost use Rattle.ps_resolve.specs.Sources.{contents};
+ghost use Rattle.ps_calls.specs.Libraries.{split as split_spec};
+ghost use Rattle.ps_calls.specs.Dones.{IsLinked};
+ghost use Rattle.ps_calls.specs.Stops.{StopsCall, StopsLink};
+
+use crate::libraries::split;
+use crate::outcome::{Done, Stop};
+use crate::room::fill;
+use ps_linkfile::prepare;
+use ps_words::BLOCK_SIZE;
+use std::alloc::Global;
+
+/// How many bytes a linked file has at most: a block for its segment dictionary, and 64 for each of
+/// sixteen codes.
+/// Source: this project's profile.
+pub const LINKED_MAX: usize = 524800;
+
+/// Links a host and these libraries into the room.
+fn link_all(alloc: Global, host: &[u8], libs: &[&[u8]], room: &mut [u8]) -> Result<Done, Stop>
+    ensures linked { IfOk result (IsLinked host.now (contents libs.now) room.old room.new) }
+    ensures stopped { IfErr result (StopsLink room.old host.now (contents libs.now)) }
+    ensures untouched { OnErr result (room.new ≡ room.old) }
+{
+    let linked = prepare(alloc, host, libs)?;
+    let summary = linked.summary();
+    let size = BLOCK_SIZE * summary.blocks;
+    if room.len() < size {
+        return Err(Stop::TooSmall(size));
+    }
+    fill(&linked, &mut room[..size]);
+    Ok(Done::Linked { summary, size })
+}
+
+/// Links a host and the libraries that are one after another in `libs` into the room.
+///
+/// `host` is a whole code file, and so is each part of `libs`, whose length in bytes `lengths` has;
+/// of the libraries that have a unit, the first is used. The room then begins with the linked file.
+/// Else it is as it was: refuses `WrongLengths` where the lengths do not add up to the length of
+/// `libs`; `Refused` with the first fault of all; `NoMemory` where memory was refused, which is
+/// requested only once the files were read and have no fault, unless there are more than
+/// `LIBRARIES_IN_PLACE` libraries; and `TooSmall` where the linked file is longer than the room.
+/// Source: UCSD Pascal II.0 manual, code file format; the published II.0 Linker source; the layout
+/// and the interface are this project's profile.
+pub fn link(
+    alloc: Global,
+    host: &[u8],
+    libs: &[u8],
+    lengths: &[usize],
+    room: &mut [u8],
+) -> Result<Done, Stop>
+    ensures right { IfOk result (λ _. sum lengths.now ≡ length libs.now) }
+    ensures linked { IfOk result (IsLinked host.now (split_spec libs.now lengths.now)
+        room.old room.new) }
+    ensures stopped { IfErr result (StopsCall (StopsLink room.old host.now)
+        libs.now lengths.now) }
+    ensures untouched { OnErr result (room.new ≡ room.old) }
+{
+    let libs = split(alloc, libs, lengths)?;
+    link_all(alloc, host, libs.as_slice(), room)
+}
