@@ -82,10 +82,9 @@ segment_in_slot order host own added slot = option_or (find (is_in_slot slot) ow
 unfoldable pub segments_in_slots : Order → List ℕ → List Segment → List Segment → List Segment
 segments_in_slots order host own added = filter_map (segment_in_slot order host own added) slots
 
--- the length of the code is within its limits, and the procedure tables of a linked segment have no
--- fault and are kept
+-- the code of a linked segment has its number and a procedure word at least, and its procedure
+-- tables have no fault and are kept
 pub record IsSound (order : Order) (s : SegmentView) : Type 0 where
-  pub small : length s.code ≤ 32767
   pub large : needs_linking s.role ≡ true → 4 ≤ length s.code
   pub tables : needs_linking s.role ≡ true → tables_fault order s.code (is_host s.role) ≡ None
   pub kept : needs_linking s.role ≡ true → s.tables ≡ Some (record { order = order; code = s.code })

@@ -43,7 +43,6 @@ fn own_edits<A: Allocator + Copy>(
     size: Edit,
 ) -> Result<EditTable<A>, Stop>
     requires long { 4 ≤ length procedures.now.code }
-    requires small { length procedures.now.code ≤ 32767 }
     requires table { host ≡ true → IsOfTable procedures.now.order procedures.now.code size }
     ensures table { IfOk result (λ edits. IsTableOf procedures.now.code edits.states.items) }
     ensures taken { IfOk result (λ edits. AreTaken procedures.now edits.states.items []) }

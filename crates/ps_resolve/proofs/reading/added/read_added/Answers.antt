@@ -86,6 +86,6 @@ returns-in_ok-segment-in-None-entries_reason c =
           ∙ (ap (λ (o : Order). segment_from o host libs c.args.slot g.name Wanted (c.library_file-file.result, unit.index)) (sym c.in-Some.ensures.order) ∙ read.ensures.segment host libs (file host)));
       read = λ host. record {
         placed = subst (λ (o : Order). IsPlaced o host libs read.segment) c.in-Some.ensures.order (read.ensures.placed host libs (file host));
-        sound = record { small = h.small; large = h.large; tables = h.tables; kept = h.kept; slot = h.slot };
+        sound = record { large = h.large; tables = h.tables; kept = h.kept; slot = h.slot };
       };
     })
