@@ -104,7 +104,6 @@ module _ (order : Order) (host : List ℕ) (libs : List (List ℕ)) where
           let has = find_has P (λ (x : Segment). x.slot == slot) (added_segments order host libs) s found all in
           inr (f, eqb-true s.slot slot has.0, has.1)
 
-
 -- what each slot gives
 pub each_slot : (P : Segment → Type 0) (f : ℕ → Option Segment) → ((x : ℕ) (s : Segment) → x < 16 → f x ≡ Some s → P s) → All P (filter_map f slots)
 each_slot P f h = each slots (All-from_get_or (λ (x : ℕ). x < 16) slots 0 (λ i lt. omega (arith, lt, get_or-range_with_len 0 16 i 0)))
