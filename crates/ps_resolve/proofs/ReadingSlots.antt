@@ -1,19 +1,22 @@
 -- What is read of the slots of a host, where reading has no fault: the segments of the link.
-use Rattle.std.proofs.Common.{◌≡◌, ℕ, List, [], ◌∷◌, ◌++◌, map, take, Option, Some, None, Result, Ok, Err, refl, sym, ◌∙◌, ap}
-use Rattle.std.specs.List.{cons_option, filter_map}
-use Rattle.std.specs.Option.{option_or}
+use Rattle.std.proofs.Common.{◌≡◌, ℕ, List, [], ◌∷◌, ◌++◌, ◌==◌, ◌≢◌, map, take, Bool, false, if◌then◌else◌, Option, Some, None, Result, Ok, Err, refl, sym, ◌∙◌, ap}
+use Rattle.std.specs.List.{cons_option, filter_map, find}
+use Rattle.std.proofs.lemmas.Bool.{eq-eqb, ne_eqb}
+use Rattle.std.specs.Option.{option_and_then, option_map, option_map_or, option_or}
+use Rattle.std.specs.Result.{result_ok}
 use Rattle.ps_words.specs.declared.order.Order.{Order}
 use Rattle.ps_words.specs.FaultPlaces.{in_file}
 use Rattle.ps_words.specs.declared.fault.Fault.{Fault}
 use Rattle.ps_words.specs.declared.fault.Reason.{Reason}
-use Rattle.ps_codefile.specs.Dictionary.{OpenedFile, opened_alone, slots}
+use Rattle.ps_codefile.specs.Dictionary.{OpenedFile, entry_at, opened_alone, role_of, slots}
 use Rattle.ps_resolve.specs.Searches.{first_of}
 use Rattle.ps_resolve.specs.Sources.{Segment, own_segment, own_segments, opened_files, order_of, units_of}
 use Rattle.ps_resolve.specs.Faults.{slots_fault, no_host_fault, libraries_fault, source_fault, sources_fault}
 use Rattle.ps_resolve.specs.Added.{Rounds, added_fault, added_segments, all_unit_references, empty_slots, requested_from, rounds, rounds_in, rounds_of, segments}
 use Rattle.ps_resolve.specs.AllFaults.{reading_fault, reading_rest}
-use Rattle.ps_resolve.specs.Readings.{HostFiles, all_read, host_reading_fault, opened_host, read_requests, read_rounds, read_segment, read_segments}
-use Rattle.ps_resolve.specs.Views.{segments_in_slots}
+use Rattle.ps_resolve.specs.Readings.{HostFiles, all_read, host_reading_fault, opened_host, read_requests, read_rounds, read_segment, read_segments, fault_of_added, queued_request, slot_after, slot_fault, slot_reading, slot_request, wanted_request}
+use Rattle.ps_resolve.specs.declared.reading.request.Request.{Request}
+use Rattle.ps_resolve.specs.Views.{is_in_slot, segments_in_slots}
 use Rattle.ps_resolve.proofs.FirstSlots.{neither_first, neither_second}
 use Rattle.ps_resolve.proofs.InSlots.{in_slots_are}
 use Rattle.ps_resolve.proofs.ReadingHosts.{host_is, host_read, host_refused, rest_of}
@@ -147,3 +150,42 @@ host_of_files host libs v h =
 pub opened_as : (host : List ℕ) (libs : List (List ℕ)) (r : Result OpenedFile Reason) → opened_alone host ≡ r
     → opened_host host libs ≡ (elim r [ Err why ↦ Err why | Ok o ↦ Ok (record { order = o.order; file = o.file; libs = libs }) ])
 opened_as host libs r e = rw (e, opened_host) refl
+
+-- what is read of a slot
+module _ (order : Order) (host : List ℕ) (files : List (List ℕ)) (slot : ℕ) where
+  abbrev added : Rounds
+  added = read_rounds order host files
+
+  pub refused_by : (fault : Fault) → source_fault order host files slot ≡ Some fault → slot_fault order host files slot ≡ Some fault
+  refused_by fault e = rw e refl
+
+  module _ (fine : source_fault order host files slot ≡ None) where
+    at_next : slot_fault order host files slot ≡ fault_of_added added (empty_slots order host) slot
+    at_next = rw fine refl
+
+    pub next_by : (next : ℕ) → slot_after added (empty_slots order host) ≡ Some next → next ≡ slot → slot_fault order host files slot ≡ added.fault
+    next_by next e same = at_next ∙ (ap (λ (o : Option ℕ). if option_map_or (λ (n : ℕ). n == slot) o false then added.fault else None) e ∙ ap (λ (b : Bool). if b then added.fault else None) (eq-eqb next slot same))
+
+    pub other_by : (next : ℕ) → slot_after added (empty_slots order host) ≡ Some next → next ≢ slot → slot_fault order host files slot ≡ None
+    other_by next e differs = at_next ∙ (ap (λ (o : Option ℕ). if option_map_or (λ (n : ℕ). n == slot) o false then added.fault else None) e ∙ ap (λ (b : Bool). if b then added.fault else None) (ne_eqb next slot differs))
+
+    pub none_by : slot_after added (empty_slots order host) ≡ None → slot_fault order host files slot ≡ None
+    none_by e = at_next ∙ ap (λ (o : Option ℕ). if option_map_or (λ (n : ℕ). n == slot) o false then added.fault else None) e
+
+  pub reading_by : (segs : List Segment) (o : Option Segment) → slot_fault order host files slot ≡ None → segs ≡ all_read order host files → o ≡ find (is_in_slot slot) segs → slot_reading order host files slot ≡ option_map Ok o
+  reading_by segs o fine all found =
+      ap (λ (f : Option Fault). elim f [ Some fault ↦ Some (Err fault) | None ↦ option_map Ok (find (is_in_slot slot) (all_read order host files)) ]) fine
+      ∙ ap (option_map (λ (s : Segment). Ok s)) (sym (found ∙ ap (find (is_in_slot slot)) all))
+
+  pub faulty_by : (fault : Fault) → slot_fault order host files slot ≡ Some fault → slot_reading order host files slot ≡ Some (Err fault)
+  faulty_by fault e = ap (λ (f : Option Fault). elim f [ Some fault ↦ Some (Err fault) | None ↦ option_map Ok (find (is_in_slot slot) (all_read order host files)) ]) e
+
+  -- the request of a slot
+  abbrev own : Option Request
+  own = option_and_then (wanted_request order host slot) (result_ok (role_of (entry_at order host slot)))
+
+  pub request_of_slot : (r : Request) → own ≡ Some r → slot_request order host files slot ≡ Some r
+  request_of_slot r e = ap (λ (o : Option Request). option_or o (queued_request (read_requests order host files) (empty_slots order host) slot)) e
+
+  pub request_by : own ≡ None → slot_request order host files slot ≡ queued_request (read_requests order host files) (empty_slots order host) slot
+  request_by e = ap (λ (o : Option Request). option_or o (queued_request (read_requests order host files) (empty_slots order host) slot)) e

@@ -1,7 +1,8 @@
-ghost use Rattle.std.specs.Prelude.{◌≡◌, ◌<◌, ◌≤◌, ◌++◌, [], List, ℕ, length, map, take, slice_get, None, Some, Ok, Err, IfOk, IfErr, IfSome, All};
+ghost use Rattle.std.specs.Prelude.{◌≡◌, ◌<◌, ◌≤◌, ◌++◌, [], List, ℕ, length, map, take, slice_get, None, Some, Ok, Err, IfOk, IfErr, IfSome, All, option_and_then};
 ghost use Rattle.ps_words.specs.declared.order.Order.{Order as ByteOrder};
 ghost use Rattle.std.specs.List.{find};
 ghost use Rattle.std.specs.Option.{option_map, option_or, option_to_list};
+ghost use Rattle.std.specs.Result.{result_ok};
 ghost use Rattle.arrayvec.specs.ArrayVec.{array_vec_len};
 ghost use Rattle.ps_codefile.specs.Dictionary.{entry_at, role_of, opened_beside};
 ghost use Rattle.ps_resolve.specs.Searches.{first_of};
@@ -9,7 +10,7 @@ ghost use Rattle.ps_resolve.specs.Sources.{order_of, contents, opened, opened_fi
 ghost use Rattle.ps_resolve.specs.Added.{request_of, all_unit_references, requested_from, rounds_in, segments as all_segments, slot_name as slot_name_spec, slot_names as slot_names_spec};
 ghost use Rattle.ps_resolve.specs.Faults.{slots_fault as slots_fault_spec, no_host_fault as no_host_fault_spec, libraries_fault as libraries_fault_spec};
 ghost use Rattle.ps_resolve.specs.AllFaults.{reading_fault};
-ghost use Rattle.ps_resolve.specs.Readings.{all_read, host_reading_fault, opened_host, queued_request as queued_request_spec, read_requests, slot_fault, slot_reading, slot_request};
+ghost use Rattle.ps_resolve.specs.Readings.{all_read, host_reading_fault, opened_host, queued_request as queued_request_spec, read_requests, slot_fault, slot_reading, slot_request, wanted_request};
 ghost use Rattle.ps_resolve.specs.Views.{segment_of, AreAlike, IsRead, is_in_slot, segment_in_slot, segments_in_slots};
 
 pub(crate) mod added;
@@ -229,6 +230,26 @@ fn first_fault(
     last
 }
 
+/// The request of a slot that wants a unit.
+fn own_request(host: &HostSlots, slot: u8) -> Option<Request>
+    requires { slot < 16 }
+    ensures { result ≡ option_and_then (wanted_request host.now.order host.now.file slot)
+        (result_ok (role_of (entry_at host.now.order host.now.file slot))) }
+{
+    let name = host.entry(slot).name;
+    match host.role(slot) {
+        Err(_) => None,
+        Ok(role) => match role {
+            Role::Empty | Role::Plain | Role::Host | Role::Unit => None,
+            Role::Wanted => Some(Request {
+                name,
+                slot,
+                requester: Requester::Slot,
+            }),
+        },
+    }
+}
+
 /// The request of a name of the queue that takes this empty slot.
 fn queued_request(queue: &[UnitReference], empty: &[u8], slot: u8) -> Option<Request>
     ensures { result ≡ queued_request_spec queue.now empty.now slot }
@@ -365,12 +386,8 @@ impl<'a> HostReading<'a> {
         ensures { result ≡ slot_request self.now.order self.now.file
             (opened_files self.now.order self.now.libs) slot }
     {
-        if let Ok(Role::Wanted) = self.slots.role(slot) {
-            return Some(Request {
-                name: self.slots.entry(slot).name,
-                slot,
-                requester: Requester::Slot,
-            });
+        if let Some(request) = own_request(&self.slots, slot) {
+            return Some(request);
         }
         queued_request(self.queue.as_slice(), self.empty.as_slice(), slot)
     }
