@@ -82,7 +82,11 @@ def index_text(entries):
 
 
 def write(top):
-    shutil.rmtree(top / "cases", ignore_errors=True)
+    """Writes the index and the cases. A folder of cases without an index is not one that this script made."""
+    if (top / "cases").exists():
+        if not (top / "index.json").exists():
+            sys.exit(f"make_vectors.py: {top} has a folder 'cases' and no index.json")
+        shutil.rmtree(top / "cases")
     entries = [written(top, case) for case in all_cases()]
     names = [entry["name"] for entry in entries]
     assert len(names) == len(set(names)), "two cases have one name"
