@@ -61,9 +61,9 @@ install-texts:
 	install -d $(DESTDIR)$(PREFIX)/include $(DESTDIR)$(PREFIX)/lib/cmake/pslink $(DESTDIR)$(DOC)/vectors
 	install -d $(DESTDIR)$(BASH_FOLDER) $(DESTDIR)$(ZSH_FOLDER) $(DESTDIR)$(FISH_FOLDER)
 	vectors/make_vectors.py $(DESTDIR)$(DOC)/vectors
+	sed -e 's|(\.\./docs/|(../|g' vectors/README.md >$(DESTDIR)$(DOC)/vectors/README.md
 	chmod -R u=rwX,go=rX $(DESTDIR)$(DOC)/vectors
 	install -m 755 vectors/run $(DESTDIR)$(DOC)/vectors/run
-	install -m 644 vectors/README.md $(DESTDIR)$(DOC)/vectors/README.md
 	install -m 644 completions/pslink.bash $(DESTDIR)$(BASH_FOLDER)/pslink
 	install -m 644 completions/_pslink $(DESTDIR)$(ZSH_FOLDER)/_pslink
 	install -m 644 completions/pslink.fish $(DESTDIR)$(FISH_FOLDER)/pslink.fish

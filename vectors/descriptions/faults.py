@@ -157,6 +157,11 @@ for name, number in FILES.items():
         fault(f"3-{name}", f"{about} is big-endian.", setting(file_named(name), order="big"), number)
 
 
+fault("2-big-endian", "The host is big-endian but for byte 192, which is 1.",
+      setting(file_named("host"), order="big", changes={192: "01"}, refused=2), 0)
+fault("3-little-endian", "The host is big-endian, and the first library is not.", setting(file_named("host"), order="big"), 1)
+
+
 def without_kinds(given):
     for segment in given.host.slots.values():
         segment.kind = LINKED
@@ -346,11 +351,25 @@ fault("34-exact", "The PUBLREF's operand has the displacement 32765, and COUNT t
       setting(operand_of("util", PUBLREF), old=32765), 1, 7, 0, 0)
 
 
+# Changes that are made to big-endian files too
+BIG_ENDIAN = """1-first 4-no-segment 5-slot-2 6-wanted 9-slot-5 11-odd-util 12-tools 13-requested 14-kind-5 15-added
+    16-util 17-count-demo 18-util 19-util 20-type-256 21-util 22-util 23-util 24 25-util 26-word 27-exact 28-util 29-util 31-util
+    32-util 33-util 34-exact 35""".split()
+
+
 def cases():
     for name, made in CHANGES.items():
         given = files(made.two_libraries)
         made.change(given)
         yield Case(f"faults/{name}", made.about, given.host, given.libraries(), fault=made.fault)
+    for name in BIG_ENDIAN:
+        made = CHANGES[name]
+        given = files(made.two_libraries)
+        for file in (given.host, *given.libraries()):
+            file.order = "big"
+        made.change(given)
+        about = f"{made.about} The files are big-endian."
+        yield Case(f"faults/{name}-big-endian", about, given.host, given.libraries(), fault=made.fault)
 
 
 def unchanged():
