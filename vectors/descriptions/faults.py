@@ -218,6 +218,20 @@ for name, where, number, slot, first, _ in each("demo util aux"):
           setting(record_at(name, first + UNIT), name="NOBODY"), number, slot, first + UNIT)
 fault("13-blank", "The UNITREF of the wanted unit has a name of eight blanks.",
       setting(record_at("util", UNIT), name=""), 1, 7, UNIT)
+
+
+def requesting(name):
+    """UTIL requests a blank name, and the library has a unit of that name."""
+
+    def change(given):
+        given.segment("util").records[UNIT].name = name
+        given.first.slots[3] = Segment(name, UNITSEG, shares=2)
+
+    return change
+
+
+fault("13-blank-there", "The UNITREF and a unit of the library have a name of eight blanks.", requesting(""), 1, 7, UNIT)
+fault("13-zeros-there", "The UNITREF and a unit of the library have a name of eight zero bytes.", requesting(bytes(8)), 1, 7, UNIT)
 for kind in (0, 4, 5):
     fault(f"14-kind-{kind}", f"The library's UTIL has kind {kind}.", setting(segment_named("util"), kind=kind), 1, 7, kind=kind)
 fault("14-added", "The second library's MORE has kind 4.", setting(segment_named("more"), kind=4), 2, 10, kind=4)
@@ -253,6 +267,27 @@ fault("17-before-demo", "The table of the host program would be before the code.
       setting(segment_named("demo"), changes={22: "FF FF"}), 0, 1)
 fault("17-no-outer-block", "The host program has no procedure 1.",
       setting(segment_named("demo"), changes={22: "00 00"}), 0, 1)
+
+
+
+def with_a_second_procedure(references=(4,), **values):
+    """UTIL has a procedure 2 too: its table is at byte 34, and the dictionary's words of 2 and 1 are at 36 and 38."""
+
+    def change(given):
+        util = given.segment("util")
+        util.procedures.append(Procedure(["D7", "AD 00"], number=2))
+        util.records[PRIVATE].references = list(references)
+        for field, value in values.items():
+            setattr(util, field, value)
+
+    return change
+
+
+fault("17-second", "The second procedure's table would be before the code, and the first procedure has number 0.",
+      with_a_second_procedure(changes={36: "FF FF", 20: "00"}), 1, 7)
+fault("18-second", "The second procedure has number 0.", with_a_second_procedure(changes={34: "00"}), 1, 7)
+fault("32-second", "The PRIVREF refers to byte 26, the data size of the second procedure.",
+      with_a_second_procedure(references=[26]), 1, 7, PRIVATE, 0)
 
 # 19 to 23: records. The words of a record after its type are at its bytes 10, 12 and 14
 
@@ -304,6 +339,14 @@ fault("25-too-large", "A second PRIVREF of the unit in the host has the name STA
 for name, where, number, slot, first, _ in each("demo util more"):
     fault(f"26-{name}", f"The private variable of {where} has 32767 words.",
           setting(record_at(name, first + PRIVATE), words=[2, 1, 32767]), number, slot, first + PRIVATE)
+
+
+def second_private(given):
+    given.segment("util").records[PRIVATE].words = [2, 1, 32757]
+    given.segment("util").records.insert(-1, priv_ref("LAST", 1, []))
+
+
+fault("26-second", "A private variable from 10 on has 32757 words, and one more follows it.", second_private, 1, 7, 3)
 fault("26-word", "The host's end mark is 65535.", setting(record_at("demo", -1), words=[65535]), 0, 1, 5)
 fault("27", "The data size is 65520, and grows by 18 bytes or more.",
       lambda given: setattr(given.segment("demo").procedures[0], "data", 65520), 0, 1)

@@ -64,6 +64,10 @@ def codes():
     unit_of_4 = Segment("UTIL", UNITSEG, code=bytes.fromhex("D7 D7 07 00"), records=[eof_mark(0)])
     yield linked("code-4", "A unit of four bytes, which has no procedure.", wanting("UTIL"),
                  [{7: unit_of_4}], [DEMO, (7, 1, 7)])
+    host = {**wanting("UTIL"), 8: Segment("TOOLS", LINKED, code=b"\xd7" * 512), 9: Segment("LAST", LINKED, code=b"\xd7")}
+    util = unit_of("UTIL", ["A5", public(), "D7" * 493], [publ_ref("COUNT", [1])])
+    yield linked("code-512", "A unit and a plain segment of 512 bytes, which is a whole block.", host, [{2: util}],
+                 [DEMO, UTIL, (8, 0, 8), (9, 0, 9)])
     # the table of procedure 255 is at byte 12, after four bytes of instructions; all others have it too
     many = [Procedure(["D7 D7 AD 00"], number=255), *(Procedure([], number=k, at=12) for k in range(1, 255))]
     yield linked("procedures-255", "A unit of 255 procedures, which have one table.", wanting("UTIL"),
