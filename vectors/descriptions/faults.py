@@ -4,7 +4,7 @@ import dataclasses
 
 from .cases import Case, Fault, Link, Placed, Private
 from .model import (
-    HOSTSEG, LINKED, PRIVREF, PUBLREF, UNITREF, UNITSEG, File, Operand, Procedure, Record, Segment, const_def, eof_mark,
+    HOSTSEG, LINKED, PRIVREF, PUBLREF, UNITREF, UNITSEG, File, Operand, Procedure, Segment, const_def, eof_mark,
     priv_ref, publ_def, publ_ref, unit_ref,
 )
 
@@ -97,7 +97,6 @@ def each(names):
     """Of each of these segments: its name, what it is, and its row of CODES."""
     for name in names.split():
         yield name, WHERE[name], *CODES[name]
-
 
 
 def setting(part, **values):
@@ -267,7 +266,6 @@ fault("17-before-demo", "The table of the host program would be before the code.
       setting(segment_named("demo"), changes={22: "FF FF"}), 0, 1)
 fault("17-no-outer-block", "The host program has no procedure 1.",
       setting(segment_named("demo"), changes={22: "00 00"}), 0, 1)
-
 
 
 def with_a_second_procedure(references=(4,), **values):

@@ -1,6 +1,6 @@
 """Files that are linked and meet a limit exactly, variables of 0 words, and slots, codes and files of special forms."""
 from .links import (
-    DEMO, UTIL, code_of, linked, one_unit, private, program, public, unit, unit_of, using, wanting,
+    DEMO, UTIL, linked, one_unit, private, program, public, unit, unit_of, using, wanting,
 )
 from .model import (
     LINKED, UNITSEG, File, Procedure, Segment, eof_mark, priv_ref, publ_def, publ_ref, unit_ref,

@@ -84,7 +84,7 @@ def kinds(order):
     yield linked(f"unitref{at}", "A UNITREF of AUX, in the host, to UTIL, in slot 7.", host, [{2: unit_of("UTIL")}],
                  [DEMO, UTIL, (8, 0, 8)], order=order)
     yield one_unit(f"publdef-of-a-unit{at}", "A PUBLDEF of a unit is not used.", ["A5", public()],
-                   [publ_def("COUNT", 99), publ_ref("COUNT", [4 - 3]), publ_def("OTHER", 5)], order=order)
+                   [publ_def("COUNT", 99), publ_ref("COUNT", [1]), publ_def("OTHER", 5)], order=order)
     host = program(const_def("LIMIT", 100), publ_def("LAST", 65535), const_def("ZERO", 0))
     yield one_unit(f"definitions{at}", "Constants and variables of the host, in the order of the map.",
                    ["A5", public()], [publ_ref("COUNT", [1])], host=host, order=order)

@@ -6,7 +6,7 @@ import pathlib
 import sys
 
 sys.path.insert(0, str(pathlib.Path(__file__).resolve().parents[2] / "samples"))
-from make_samples import BLOCK, HOSTSEG, LINKED, SEGPROC, SEPRTSEG, UNITSEG, whole
+from make_samples import BLOCK, HOSTSEG, LINKED, UNITSEG, whole
 
 # LINKING.md, When each fault occurs. 30 is no longer used.
 REASONS = {
