@@ -202,6 +202,9 @@ def added():
     host = {**wanting("UTIL"), 9: Segment("MORE", LINKED, code=b"\xd7\xad")}
     yield linked("added-beside-a-plain-one", "A plain segment has the name of the unit: it is not what UTIL uses.", host,
                  [{2: using("UTIL", "MORE"), 3: unit_of("MORE")}], [DEMO, UTIL, (8, 1, 3, True), (9, 0, 9)])
+    host = {1: host_using("MORE", "DEMO"), 9: Segment("MORE", LINKED, code=b"\xd7\xad")}
+    yield linked("added-of-names-of-the-host", "The host uses units of the names of its plain segment and of itself.", host,
+                 [{3: unit_of("MORE"), 4: unit_of("DEMO")}], [DEMO, (7, 1, 3, True), (8, 1, 4, True), (9, 0, 9)])
 
 
 # Names that several things have ---------------------------------------------------------------------------------------
