@@ -291,9 +291,7 @@ impl<'a> Model for HostReading<'a> {
     ghost invariant = { λ r. IsReading r.slots.order r.slots.file (contents r.libs.now) r.empty.items r.segments.items r.queue.items r.next r.last r.fault };
 }
 
-/// Reads a host that was opened, and its libraries. A function by itself, so that a host that cannot
-/// be opened needs no room for it.
-#[inline(never)]
+/// Reads a host that was opened, and its libraries.
 fn read_host<'a>(dict: Dict<'a>, libs: &'a [&'a [u8]]) -> HostReading<'a>
     requires { 512 ≤ length dict.file }
     ensures { result

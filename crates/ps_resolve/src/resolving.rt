@@ -7,6 +7,9 @@ use crate::linkage::Stop;
 use crate::linking::link_segments;
 use crate::plan::Plan;
 use crate::reading::read;
+use crate::reading::slots::HOST_FILE;
+use ps_codefile::Dict;
+use ps_words::Fault;
 use std::alloc::Allocator;
 
 /// Plans the link of a host file with the libraries that have the units it wants, in their order.
@@ -19,6 +22,24 @@ use std::alloc::Allocator;
 /// Source: what a link is, the published II.0 Linker source; the faults and their order, this
 /// project's profile.
 pub fn resolve<'a, A: Allocator + Copy>(
+    alloc: A,
+    host: &'a [u8],
+    libs: &'a [&'a [u8]],
+) -> Result<Plan<'a, A>, Stop>
+    ensures plan { IfOk result (IsPlan host.now (contents libs.now)) }
+    ensures sound { IfOk result (λ _. first_fault host.now (contents libs.now) ≡ None) }
+    ensures stop { IfErr result (IsStopped host.now (contents libs.now)) }
+{
+    match Dict::read(host) {
+        Err(reason) => Err(Stop::Refused(Fault::in_file(HOST_FILE, reason))),
+        Ok(_) => link_reading(alloc, host, libs),
+    }
+}
+
+/// Plans the link of files that are read first. A function by itself, so that a host that cannot be
+/// opened needs no room for a reading.
+#[inline(never)]
+fn link_reading<'a, A: Allocator + Copy>(
     alloc: A,
     host: &'a [u8],
     libs: &'a [&'a [u8]],
