@@ -103,6 +103,10 @@ def publ_def(name, value):
     return record(name, 7, value)
 
 
+def const_def(name, value):
+    return record(name, 8, value)
+
+
 def padded_name(name):
     return name.encode().ljust(8)[:8]
 
@@ -184,6 +188,10 @@ PROCEDURES = [
     Procedure(1, ["CLP 2", "SLDC 1", "CLP 3", "RBP 0"], parameters=4, data=10),
 ]
 
+# A unit that refers to nine words from COUNT on: a list of nine references takes two pieces.
+NINE = [Procedure(1, [f"LAO BIG {displacement}" for displacement in range(9)] + ["RNP 0"])]
+NINE_LINKS = [publ_ref("COUNT", [1 + 3 * k for k in range(9)]), eof_mark(0)]
+
 SAMPLES = {
     # a host that wants UTIL, and a library that has it
     "host.code": code_file(HOST, tail=TAIL),
@@ -200,6 +208,13 @@ SAMPLES = {
             1: DEMO,
             7: Segment("UTIL", UNITSEG, UTIL_IN_PLACE, UNIT_LINKS),
             8: Segment("AUX", UNITSEG, AUX_IN_PLACE, AUX_LINKS),
+        }
+    ),
+    # a host with a constant, and with a unit of nine references
+    "nine.code": code_file(
+        {
+            1: Segment("DEMO", HOSTSEG, PROGRAM, [publ_def("COUNT", 3), const_def("LIMIT", 100), eof_mark(8)]),
+            7: Segment("UTIL", UNITSEG, NINE, NINE_LINKS),
         }
     ),
     # a host with several procedures, and a segment that is linked already

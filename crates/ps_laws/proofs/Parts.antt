@@ -1,5 +1,5 @@
 -- A fault that applies has just the parts of its number.
-use Rattle.std.proofs.Common.{◌≡◌, ℕ, ◌+◌, ◌*◌, List, length, Option, Some, None, Result, Ok, Err, Bool, true, false, refl, sym, subst, ◌∙◌, inl, inr, arith}
+use Rattle.std.proofs.Common.{◌≡◌, ℕ, ◌+◌, ◌*◌, List, length, Option, Some, None, Result, Ok, Err, Bool, true, false, refl, ap, sym, subst, ◌∙◌, inl, inr, arith}
 use Rattle.std.specs.Prelude.{if◌then◌else◌, ◌≢◌, ◌==◌, ◌&&◌, ◌||◌, ◌⊎◌, not, nat_le, nat_lt}
 use Rattle.std.specs.List.{slice_get}
 use Rattle.std.specs.Option.{option_or}
@@ -127,39 +127,54 @@ module _ (order : Order) (host : List ℕ) (libs : List (List ℕ)) (not_wanted 
   not_missing : (why : Reason) → (number_of why == 13) ≡ false → number_of why ≢ 13
   not_missing why e h = false≢true (sym e ∙ (Decides-eqb (number_of why) 13).1 h)
 
+  -- a reason that is not the one that is no longer used: it has no slot, no record or a reference, as
+  -- that one had not, or it has another number
+  used_whole : (why : Reason) → has_slot (number_of why) ≡ false → number_of why ≢ 30
+  used_whole why e h = false≢true (sym e ∙ ap has_slot h)
+
+  used_slot : (why : Reason) → has_record (number_of why) ≡ false → number_of why ≢ 30
+  used_slot why e h = false≢true (sym e ∙ ap has_record h)
+
+  used_reference : (why : Reason) → has_reference (number_of why) ≡ true → number_of why ≢ 30
+  used_reference why e h = false≢true (sym (ap has_reference h) ∙ e)
+
+  used_record : (why : Reason) → (number_of why == 30) ≡ false → number_of why ≢ 30
+  used_record why e h = false≢true (sym e ∙ (Decides-eqb (number_of why) 30).1 h)
+
   -- a fault of the host's file as a whole, and of a library's
   host_file : (why : Reason) → has_slot (number_of why) ≡ false → has_record (number_of why) ≡ false → has_reference (number_of why) ≡ false → is_of_library (number_of why) ≡ false → (number_of why == 13) ≡ false → Told (in_file 0 why)
-  host_file why a b c d n = record { slot = sym a; rec = λ m. sym b; missing = λ h. absurd (not_missing why n h); reference = sym c; of_host = λ e m. refl; of_library = λ e. absurd (cc) }
+  host_file why a b c d n = record { used = used_whole why a; slot = sym a; rec = λ m. sym b; missing = λ h. absurd (not_missing why n h); reference = sym c; of_host = λ e m. refl; of_library = λ e. absurd (cc) }
 
   library_file : (k : ℕ) (why : Reason) → has_slot (number_of why) ≡ false → has_record (number_of why) ≡ false → has_reference (number_of why) ≡ false → is_of_host (number_of why) ≡ false → (number_of why == 13) ≡ false → Told (in_file (k + 1) why)
-  library_file k why a b c d n = record { slot = sym a; rec = λ m. sym b; missing = λ h. absurd (not_missing why n h); reference = sym c; of_host = λ e m. absurd (cc); of_library = λ e. omega arith }
+  library_file k why a b c d n = record { used = used_whole why a; slot = sym a; rec = λ m. sym b; missing = λ h. absurd (not_missing why n h); reference = sym c; of_host = λ e m. absurd (cc); of_library = λ e. omega arith }
 
   -- a fault of the host's file at a slot, of any file, and of a library
   host_slot : (slot : ℕ) (why : Reason) → has_slot (number_of why) ≡ true → has_record (number_of why) ≡ false → has_reference (number_of why) ≡ false → is_of_library (number_of why) ≡ false → (number_of why == 13) ≡ false → Told (in_slot 0 slot why)
-  host_slot slot why a b c d n = record { slot = sym a; rec = λ m. sym b; missing = λ h. absurd (not_missing why n h); reference = sym c; of_host = λ e m. refl; of_library = λ e. absurd (cc) }
+  host_slot slot why a b c d n = record { used = used_slot why b; slot = sym a; rec = λ m. sym b; missing = λ h. absurd (not_missing why n h); reference = sym c; of_host = λ e m. refl; of_library = λ e. absurd (cc) }
 
   any_slot : (file slot : ℕ) (why : Reason) → has_slot (number_of why) ≡ true → has_record (number_of why) ≡ false → has_reference (number_of why) ≡ false → is_of_host (number_of why) ≡ false → is_of_library (number_of why) ≡ false → (number_of why == 13) ≡ false → Told (in_slot file slot why)
-  any_slot file slot why a b c d e n = record { slot = sym a; rec = λ m. sym b; missing = λ h. absurd (not_missing why n h); reference = sym c; of_host = λ g m. absurd (cc); of_library = λ g. absurd (cc) }
+  any_slot file slot why a b c d e n = record { used = used_slot why b; slot = sym a; rec = λ m. sym b; missing = λ h. absurd (not_missing why n h); reference = sym c; of_host = λ g m. absurd (cc); of_library = λ g. absurd (cc) }
 
   library_slot : (k slot : ℕ) (why : Reason) → has_slot (number_of why) ≡ true → has_record (number_of why) ≡ false → has_reference (number_of why) ≡ false → is_of_host (number_of why) ≡ false → (number_of why == 13) ≡ false → Told (in_slot (k + 1) slot why)
-  library_slot k slot why a b c d n = record { slot = sym a; rec = λ m. sym b; missing = λ h. absurd (not_missing why n h); reference = sym c; of_host = λ g m. absurd (cc); of_library = λ g. omega arith }
+  library_slot k slot why a b c d n = record { used = used_slot why b; slot = sym a; rec = λ m. sym b; missing = λ h. absurd (not_missing why n h); reference = sym c; of_host = λ g m. absurd (cc); of_library = λ g. omega arith }
 
   -- a fault of a record of the host, of one of any file, and of a reference
-  host_record : (slot rec : ℕ) (why : Reason) → has_slot (number_of why) ≡ true → has_record (number_of why) ≡ true → has_reference (number_of why) ≡ false → is_of_library (number_of why) ≡ false → (number_of why == 13) ≡ false → Told (in_record 0 slot rec why)
-  host_record slot rec why a b c d n = record { slot = sym a; rec = λ m. sym b; missing = λ h. absurd (not_missing why n h); reference = sym c; of_host = λ g m. refl; of_library = λ g. absurd (cc) }
+  host_record : (slot rec : ℕ) (why : Reason) → has_slot (number_of why) ≡ true → has_record (number_of why) ≡ true → has_reference (number_of why) ≡ false → is_of_library (number_of why) ≡ false → (number_of why == 13) ≡ false → (number_of why == 30) ≡ false → Told (in_record 0 slot rec why)
+  host_record slot rec why a b c d n u = record { used = used_record why u; slot = sym a; rec = λ m. sym b; missing = λ h. absurd (not_missing why n h); reference = sym c; of_host = λ g m. refl; of_library = λ g. absurd (cc) }
 
-  any_record : (file slot rec : ℕ) (why : Reason) → has_slot (number_of why) ≡ true → has_record (number_of why) ≡ true → has_reference (number_of why) ≡ false → is_of_host (number_of why) ≡ false → is_of_library (number_of why) ≡ false → (number_of why == 13) ≡ false → Told (in_record file slot rec why)
-  any_record file slot rec why a b c d e n = record { slot = sym a; rec = λ m. sym b; missing = λ h. absurd (not_missing why n h); reference = sym c; of_host = λ g m. absurd (cc); of_library = λ g. absurd (cc) }
+  any_record : (file slot rec : ℕ) (why : Reason) → has_slot (number_of why) ≡ true → has_record (number_of why) ≡ true → has_reference (number_of why) ≡ false → is_of_host (number_of why) ≡ false → is_of_library (number_of why) ≡ false → (number_of why == 13) ≡ false → (number_of why == 30) ≡ false → Told (in_record file slot rec why)
+  any_record file slot rec why a b c d e n u = record { used = used_record why u; slot = sym a; rec = λ m. sym b; missing = λ h. absurd (not_missing why n h); reference = sym c; of_host = λ g m. absurd (cc); of_library = λ g. absurd (cc) }
 
   any_reference : (file slot rec i : ℕ) (why : Reason) → has_slot (number_of why) ≡ true → has_record (number_of why) ≡ true → has_reference (number_of why) ≡ true → is_of_host (number_of why) ≡ false → is_of_library (number_of why) ≡ false → (number_of why == 13) ≡ false → Told (in_reference file slot rec i why)
-  any_reference file slot rec i why a b c d e n = record { slot = sym a; rec = λ m. sym b; missing = λ h. absurd (not_missing why n h); reference = sym c; of_host = λ g m. absurd (cc); of_library = λ g. absurd (cc) }
+  any_reference file slot rec i why a b c d e n = record { used = used_reference why c; slot = sym a; rec = λ m. sym b; missing = λ h. absurd (not_missing why n h); reference = sym c; of_host = λ g m. absurd (cc); of_library = λ g. absurd (cc) }
 
   -- a missing unit that a slot wants, and one that a record requests whose slot does not
   missing_wanted : (slot : ℕ) → WantsMissing order host libs slot → Told (in_slot 0 slot reason.MissingUnit)
-  missing_wanted slot wants = record { slot = refl; rec = λ n. absurd (n refl); missing = λ e. (λ h. (slot, refl, wants), λ h. refl); reference = refl; of_host = λ e n. refl; of_library = λ e. absurd (cc) }
+  missing_wanted slot wants = record { used = used_record reason.MissingUnit refl; slot = refl; rec = λ n. absurd (n refl); missing = λ e. (λ h. (slot, refl, wants), λ h. refl); reference = refl; of_host = λ e n. refl; of_library = λ e. absurd (cc) }
 
   missing_asked : (file slot rec : ℕ) → (WantsMissing order host libs slot → ⊥) → Told (in_record file slot rec reason.MissingUnit)
   missing_asked file slot rec unwanted = record {
+    used = used_record reason.MissingUnit refl;
     slot = refl;
     rec = λ n. absurd (n refl);
     missing = λ e. (λ h. absurd (cc), λ t. absurd (unwanted (subst (λ (n : ℕ). WantsMissing order host libs n) (sym (same_Some slot t.0 t.1)) t.2)));
@@ -211,8 +226,8 @@ module _ (order : Order) (host : List ℕ) (libs : List (List ℕ)) (not_wanted 
   of_code order file k e slot role f (inr t) = elim t.2.1 [
     | inl b ↦ because_parts (in_slot k slot) at f b
     | inr r ↦ subst Told (sym r.2) (
-        (record_somes (λ why. Told (in_record k slot (length r.0) why)) (any_record k slot (length r.0) reason.RecordsTruncated refl refl refl refl refl refl) (any_record k slot (length r.0) reason.UnknownRecord refl refl refl refl refl refl)
-        (any_record k slot (length r.0) reason.NativeRecord refl refl refl refl refl refl) (any_record k slot (length r.0) reason.SeparateRecord refl refl refl refl refl refl) (any_record k slot (length r.0) reason.BadFormat refl refl refl refl refl refl)
+        (record_somes (λ why. Told (in_record k slot (length r.0) why)) (any_record k slot (length r.0) reason.RecordsTruncated refl refl refl refl refl refl refl) (any_record k slot (length r.0) reason.UnknownRecord refl refl refl refl refl refl refl)
+        (any_record k slot (length r.0) reason.NativeRecord refl refl refl refl refl refl refl) (any_record k slot (length r.0) reason.SeparateRecord refl refl refl refl refl refl refl) (any_record k slot (length r.0) reason.BadFormat refl refl refl refl refl refl refl)
         order _).held r.1 r.3.stops)
   ]
     where
@@ -244,29 +259,29 @@ module _ (order : Order) (host : List ℕ) (libs : List (List ℕ)) (not_wanted 
     where
       go : (g : UnitReference) → (WantsMissing order host libs g.slot → ⊥) → RoundHas order host libs g (slice_get (empty_slots order host) k) f → Told f
       go g unwanted (inl m) = subst Told (sym m.0) (missing_asked g.file g.slot g.rec unwanted)
-      go g unwanted (inr (inl n)) = subst Told (sym n.0) (any_record g.file g.slot g.rec reason.NoSlot refl refl refl refl refl refl)
+      go g unwanted (inr (inl n)) = subst Told (sym n.0) (any_record g.file g.slot g.rec reason.NoSlot refl refl refl refl refl refl refl)
       go g unwanted (inr (inr p)) = elim p.2 [
         | inl e ↦ of_entries order g.name libs p.0 f e
         | inr c ↦ of_code order (file_at host libs c.0.0) c.0.0 (entry_at order (file_at host libs c.0.0) c.0.1) p.0 role.Wanted f c.2
       ]
 
   in_definitions : (order : Order) (host : List ℕ) (libs : List (List ℕ)) (f : Fault) → InDefinitions order host libs f → Told f
-  in_definitions order host libs f t = subst Told (sym t.2.3.0) (host_record _ _ reason.DoubledDefinition refl refl refl refl refl)
+  in_definitions order host libs f t = subst Told (sym t.2.3.0) (host_record _ _ reason.DoubledDefinition refl refl refl refl refl refl)
 
   in_privates : (order : Order) (host : List ℕ) (libs : List (List ℕ)) (f : Fault) → InPrivates order host libs f → Told f
   in_privates order host libs f t = because_parts (in_record t.0.file t.0.slot t.2.0) at f t.2.3
     where
       at : (why : Reason) → PrivateHas (segments order host libs) t.0 t.2.0 t.2.1 why → Told (in_record t.0.file t.0.slot t.2.0 why)
-      at reason.DoubledPrivate h = any_record t.0.file t.0.slot t.2.0 reason.DoubledPrivate refl refl refl refl refl refl
-      at reason.NoRoom h = any_record t.0.file t.0.slot t.2.0 reason.NoRoom refl refl refl refl refl refl
+      at reason.DoubledPrivate h = any_record t.0.file t.0.slot t.2.0 reason.DoubledPrivate refl refl refl refl refl refl refl
+      at reason.NoRoom h = any_record t.0.file t.0.slot t.2.0 reason.NoRoom refl refl refl refl refl refl refl
       at other h = absurd h
 
   in_data_size : (order : Order) (host : List ℕ) (libs : List (List ℕ)) (f : Fault) → InDataSize order host libs f → Told f
   in_data_size order host libs f t = subst Told (sym t.2.2.0) (host_slot t.0.slot reason.DataTooLarge refl refl refl refl refl)
 
   of_record : (segs : List Segment) (file slot rec : ℕ) (name : List ℕ) (body : Body) (why : Reason) → RecordHas segs name body why → Told (in_record file slot rec why)
-  of_record segs file slot rec name (PublRef refs) reason.MissingDefinition h = any_record file slot rec reason.MissingDefinition refl refl refl refl refl refl
-  of_record segs file slot rec name (PublRef refs) reason.IllKind h = any_record file slot rec reason.IllKind refl refl refl refl refl refl
+  of_record segs file slot rec name (PublRef refs) reason.MissingDefinition h = any_record file slot rec reason.MissingDefinition refl refl refl refl refl refl refl
+  of_record segs file slot rec name (PublRef refs) reason.IllKind h = any_record file slot rec reason.IllKind refl refl refl refl refl refl refl
   of_record segs file slot rec name body other h = absurd h
 
   -- a fault of a reference has just the parts of its number

@@ -41,16 +41,16 @@ module _ (known : Known) (R : ℕ → Bool) (code : List ℕ) (rec off : ℕ) (o
 
   -- where a reference of the record has a fault, that is the first of all
   pub references_refused : (file slot : ℕ) (t : Target) (stop : Stop) → target_of known off r ≡ Ok t
-      → IsStop ⊤ (option_map (λ f. in_reference file slot rec f.0 f.1) (refs_fault R code t 0 os (refs_of r.body))) stop
-      → IsStop ⊤ (option_map (in_segment file slot) (records_fault known R code rec off os (r ∷ rs))) stop
+      → IsStop ⊥ (option_map (λ f. in_reference file slot rec f.0 f.1) (refs_fault R code t 0 os (refs_of r.body))) stop
+      → IsStop ⊥ (option_map (in_segment file slot) (records_fault known R code rec off os (r ∷ rs))) stop
   references_refused file slot t stop h k =
       let rest = records_fault known R code (rec + 1) (off + words_taken r.body) (os ++ operands t (refs_of r.body)) rs in
       rw (h, records_fault) (at stop (refs_fault R code t 0 os (refs_of r.body)) rest k)
     where
       at : (stop : Stop) (o : Option (ℕ × Reason)) (rest : Option (ℕ × (Option ℕ × Reason)))
-          → IsStop ⊤ (option_map (λ f. in_reference file slot rec f.0 f.1) o) stop
-          → IsStop ⊤ (option_map (in_segment file slot) (option_or (option_map (λ f. (rec, (Some f.0, f.1))) o) rest)) stop
-      at Memory o rest k = tt
+          → IsStop ⊥ (option_map (λ f. in_reference file slot rec f.0 f.1) o) stop
+          → IsStop ⊥ (option_map (in_segment file slot) (option_or (option_map (λ f. (rec, (Some f.0, f.1))) o) rest)) stop
+      at Memory o rest k = k
       at (Refused fault) (Some f) rest k = k
       at (Refused fault) None rest k = cc
 

@@ -17,8 +17,9 @@ WantsMissing order host libs slot = HasRole order host slot Wanted × NoneHas or
 
 -- A fault has just the parts that its number is reported with. That a unit is missing (13) is
 -- reported of a slot of the host alone where that slot wants the unit, and otherwise of the record
--- that requests it, in the file of that record.
+-- that requests it, in the file of that record. No fault has the number 30, which is no longer used.
 pub record HasItsParts (order : Order) (host : List ℕ) (libs : List (List ℕ)) (f : Fault) : Type 0 where
+  pub used : number_of f.reason ≢ 30
   pub slot : is_some f.slot ≡ has_slot (number_of f.reason)
   pub rec : number_of f.reason ≢ 13 → is_some f.rec ≡ has_record (number_of f.reason)
   pub missing : number_of f.reason ≡ 13 → (f.rec ≡ None) ↔ ((slot : ℕ) × (f.slot ≡ Some slot) × WantsMissing order host libs slot)

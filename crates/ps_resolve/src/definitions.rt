@@ -37,8 +37,8 @@ pub struct Def {
 
 /// The definitions of the host's segment by their names, in the order of their records.
 ///
-/// Names are looked up by hashes that are keyed by the names of the segment's own records, so no
-/// list of names can be prepared for which it takes longer.
+/// Names are looked up by hashes that are keyed by the names of the segment's own records, so names
+/// that collide in one segment do not in another.
 /// Source: the published II.0 Linker source.
 #[derive(Drop)]
 pub struct Definitions<A: Allocator + Copy = Global> {
@@ -71,8 +71,8 @@ fn def_of(entry: &LinkRecord) -> Option<Def>
     }
 }
 
-/// The definitions of a segment's records by hashes that are keyed by these records: so no list of
-/// names can be prepared for them. It is made at its exact size.
+/// The definitions of a segment's records by hashes that are keyed by these records. It is made at
+/// its exact size.
 fn table_of<A: Allocator + Copy>(
     alloc: A,
     file: usize,

@@ -8,8 +8,9 @@ use std::marker::Model;
 /// Hashes each name from a state that has hashed the names of the definitions and the privates of
 /// a segment.
 ///
-/// So names that collide cannot be prepared: each change of a name changes the hashes of all. And
-/// the hashes stay a function of the input.
+/// The state is a function of the names, so it can be computed by who chooses them. But each change
+/// of a name changes the hashes of all, so names that collide have to be searched for as a whole
+/// list. And the hashes stay a function of the input.
 #[derive(Clone, Copy)]
 pub(crate) struct NameHasher {
     from: DefaultHasher,

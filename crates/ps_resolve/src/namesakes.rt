@@ -59,8 +59,7 @@ fn have_distinct_names<A: Allocator + Copy>(
     Ok(ascend(numbers.as_slice()))
 }
 
-/// A set for the names of the privates of these records, by hashes that are keyed by the records:
-/// so no list of names can be prepared for it.
+/// A set for the names of the privates of these records, by hashes that are keyed by the records.
 fn empty_names<A: Allocator + Copy>(
     alloc: A,
     records: &LinkInformation,

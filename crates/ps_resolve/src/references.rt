@@ -164,7 +164,7 @@ impl<A: Allocator + Copy> ReferenceEdits<'_, A> {
             (refs_fault_at place self.old.procedures target os (refs_of body.now) ≡ None) }
         ensures stop { (os : List (ℕ × ℕ))
             → AreTaken self.old.procedures self.old.edits.states.items os → IfErr result
-            (IsStop ⊤ (refs_fault_at place self.old.procedures target os (refs_of body.now))) }
+            (IsStop ⊥ (refs_fault_at place self.old.procedures target os (refs_of body.now))) }
         ensures taken { (os : List (ℕ × ℕ))
             → AreTaken self.old.procedures self.old.edits.states.items os → OnOk result
             (AreTaken self.old.procedures self.new.edits.states.items

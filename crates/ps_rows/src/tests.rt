@@ -1,6 +1,7 @@
 //! The tests, by what they are about.
 mod added_units;
 mod allocations;
+mod amounts;
 mod answers;
 mod changed_bytes;
 mod cuts;
@@ -24,7 +25,6 @@ mod record_kinds;
 mod record_walk;
 mod records;
 mod records_allocations;
-mod refusing_memory;
 mod slots;
 mod tables;
 mod text_writing;

@@ -116,7 +116,7 @@ pub(crate) fn add_records<'a, A: Allocator + Copy>(
     ensures end { IfOk result (λ all. all.1 ≡ free + private_words segment.now.records) }
     ensures sound { OnOk result
         (segment_fault link.now.order link.now.names.now free (segment_of segment.now) ≡ None) }
-    ensures stop { IfErr result (IsStop ⊤
+    ensures stop { IfErr result (IsStop ⊥
         (segment_fault link.now.order link.now.names.now free (segment_of segment.now))) }
 {
     if asks_for_nothing(records) {

@@ -3,7 +3,6 @@ use super::answers::{LITTLE, links};
 use crate::base::{base_host, base_library, linked_base_pair};
 use crate::code_file::Change::{Address, Bytes, CodeWord, Length, Resized};
 use crate::code_file::{Change, CodeFile};
-use ps_words::{Fault, Reason};
 use std::alloc::{AllocError, Global};
 use std::process::Abort;
 
@@ -15,8 +14,8 @@ enum Wanted {
     PairWithByte,
     /// The host segment alone, its unit's slot being empty.
     HostAlone,
-    /// A refusal for the host's dictionary, at the slot if there is one.
-    Refused(Reason, Option<usize>),
+    /// A refusal for the host's dictionary, by its number and name, at the slot if there is one.
+    Refused(&'static str, Option<usize>),
 }
 
 use Wanted::{HostAlone, Pair, PairWithByte, Refused};
@@ -25,35 +24,31 @@ use Wanted::{HostAlone, Pair, PairWithByte, Refused};
 fn expected(place: usize, byte: u8) -> Wanted {
     let slot = Some(place / 4);
     match (place, byte) {
-        (4, 0) => Refused(Reason::BadAddress, slot),
-        (4 | 5, _) => Refused(Reason::Truncated, slot),
-        (6, 0) => Refused(Reason::NoHost, None),
-        (6, 0x80) | (7, 0x01) => Refused(Reason::BadProcDict, slot),
-        (7, 0x7F) => Refused(Reason::Truncated, slot),
-        (6 | 7, _) => Refused(Reason::BadLength, slot),
+        (4, 0) => Refused("12 BadAddress", slot),
+        (4 | 5, _) => Refused("16 Truncated", slot),
+        (6, 0) => Refused("4 NoHost", None),
+        (6, 0x80) | (7, 0x01) => Refused("17 BadProcDict", slot),
+        (7, 0x7F) => Refused("16 Truncated", slot),
+        (6 | 7, _) => Refused("11 BadLength", slot),
         (28..=31, _) => Pair,
-        (..64, 0x80 | 0xFF) if place % 4 == 3 => Refused(Reason::BadLength, slot),
-        (..64, _) if place % 4 >= 2 => Refused(Reason::BadAddress, slot),
-        (120..=127, _) => Refused(Reason::MissingUnit, Some(7)),
+        (..64, 0x80 | 0xFF) if place % 4 == 3 => Refused("11 BadLength", slot),
+        (..64, _) if place % 4 >= 2 => Refused("12 BadAddress", slot),
+        (120..=127, _) => Refused("13 MissingUnit", Some(7)),
         (64..192 | 256.., _) => PairWithByte,
-        (193..224, _) if place % 2 == 1 => Refused(Reason::NoOrder, None),
-        (194, 0) => Refused(Reason::NoHost, None),
-        (194, _) => Refused(Reason::UnknownKind, Some(1)),
+        (193..224, _) if place % 2 == 1 => Refused("2 NoOrder", None),
+        (194, 0) => Refused("4 NoHost", None),
+        (194, _) => Refused("10 UnknownKind", Some(1)),
         (206, _) => HostAlone,
         _ => Pair,
     }
 }
 
 /// The text of a refusal for the host's dictionary.
-fn text(alloc: Global, reason: Reason, slot: Option<usize>) -> Result<String, AllocError> {
-    let fault = Fault {
-        reason,
-        file: 0,
-        slot: slot.and_then(|slot| u8::try_from(slot).ok()),
-        rec: None,
-        reference: None,
-    };
-    format!(in alloc; "{fault}")
+fn text(alloc: Global, fault: &str, slot: Option<usize>) -> Result<String, AllocError> {
+    match slot {
+        Some(slot) => format!(in alloc; "refused {fault} file 0 slot {slot}"),
+        None => format!(in alloc; "refused {fault} file 0"),
+    }
 }
 
 /// The base pair's linked file with these changes.
@@ -85,7 +80,7 @@ fn answer(alloc: Global, place: usize, byte: u8) -> Result<String, AllocError> {
     match expected(place, byte) {
         Pair | PairWithByte => String::from_str(alloc, "segments 2 private words 4 blocks 3"),
         HostAlone => String::from_str(alloc, "segments 1 private words 0 blocks 2"),
-        Refused(reason, slot) => text(alloc, reason, slot),
+        Refused(fault, slot) => text(alloc, fault, slot),
     }
 }
 

@@ -3,15 +3,19 @@ use super::tables::{AMPLE, AMPLE_OR_REFUSED, Base, Row, Table, link_tables};
 use crate::base::{COUNT, LIBRARY_RECORDS, LINKED_UTIL, STATE, WANTED_UTIL};
 use crate::code_file::Change::{Address, Code, CodeWord, Entry, Kind, Length, Records, Resized};
 use crate::code_file::{LINKED, Slot};
-use crate::in_place::linked_unit_in_place;
+use crate::in_place::unit_in_place;
 use crate::information::Record::{End, PrivateReference, PublicDefinition, PublicReference};
+use ps_linkfile::link;
 use ps_words::Order;
 
 const SUMMARY: &str = "segments 2 private words 0 blocks 3";
 
 #[test]
 fn a_linked_dictionary_has_the_host_s_byte_order(rt: HostRuntime) {
-    let linked = linked_unit_in_place(rt.alloc(), Order::Big).expect(&rt, "unexpected error");
+    let alloc = rt.alloc();
+    let host = unit_in_place(alloc, Order::Big).expect(&rt, "unexpected error");
+    let mut linked = Vec::new(alloc);
+    assert!(rt; link(alloc, host.as_slice(), &[], &mut linked).is_ok());
     let bytes = linked.as_slice();
     assert!(rt; bytes.len() == 1536);
     assert!(rt; bytes.get(4..8) == Some([0, 1, 0, 0x12].as_slice()));
@@ -90,7 +94,14 @@ const REFERENCES: [Row<'static>; 4] = [
     },
 ];
 
-const PRIVATE_VARIABLES: [Row<'static>; 8] = [
+const PRIVATE_VARIABLES: [Row<'static>; 9] = [
+    Row {
+        what: "4 words from 8 on, by the library's own records in code of number 7",
+        host: &[Records(4, &LIBRARY_RECORDS)],
+        library: &[],
+        linked: &[CodeWord(1, 4, 18), Code(2, 5, &[10])],
+        summary: "segments 2 private words 4 blocks 3",
+    },
     Row {
         what: "4 words from 8 on, by the library's own code and records",
         host: &[Code(3, 22, &[2]), Records(4, &LIBRARY_RECORDS)],
@@ -184,7 +195,14 @@ const TOOLS: Slot = Slot {
     length: 5,
 };
 
-const SLOT_ROWS: [Row<'static>; 2] = [
+const SLOT_ROWS: [Row<'static>; 3] = [
+    Row {
+        what: "padding of the input is not copied",
+        host: &[Code(1, 18, &[0xD7; 494]), Code(3, 24, &[0xD7; 488])],
+        library: &[],
+        linked: &[],
+        summary: SUMMARY,
+    },
     Row {
         what: "a segment that is linked already is copied",
         host: &[Resized(2565), Entry(8, TOOLS), Code(5, 0, &[1, 2, 3, 4, 5])],

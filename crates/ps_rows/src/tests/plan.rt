@@ -1,17 +1,14 @@
 //! The calls that a plan is made by, each by itself.
 use super::allocations::{Allocating, OUT_OF_MEMORY, refuses_each_allocation};
-use crate::base::{
-    COUNT, DEMO_SLOT, LIBRARY_RECORDS, STATE, UTIL_ENTRY, UTIL_SLOT, base_host, base_library,
-};
+use crate::base::{COUNT, DEMO_SLOT, LIBRARY_RECORDS, STATE, UTIL_SLOT, base_host, base_library};
 use crate::code_file::Change::Records;
 use crate::in_place::unit_in_place;
 use crate::information::Record::{
     ConstantDefinition, End, PrivateReference, PublicDefinition, PublicReference,
 };
 use crate::information::{Name, Record};
-use ps_codefile::Dict;
 use ps_resolve::{Allotment, Def, DefKind, Definitions, Linkage, Plan, Source, Stop, resolve};
-use ps_words::{Edit, Order, Reason};
+use ps_words::{Edit, Order};
 use std::alloc::{AllocError, Allocator, Global};
 use std::process::Abort;
 
@@ -28,25 +25,28 @@ fn text_of(alloc: Global, stop: &Stop) -> Result<String, AllocError> {
     }
 }
 
+/// The block in which the link information of the host segment, and that of the library's unit,
+/// begins: the code is one block, after the segment dictionary.
+const INFORMATION: usize = 2 * 512;
+
 /// The link information of the host segment.
-fn host_linkage(host: &[u8]) -> Result<Linkage<'_>, Reason> {
-    let dictionary = Dict::read(host)?;
-    Ok(Linkage {
+fn host_linkage(host: &[u8], order: Order) -> Linkage<'_> {
+    Linkage {
         file: 0,
         slot: DEMO_SLOT,
-        order: dictionary.order(),
-        bytes: dictionary.after(DEMO_SLOT),
-    })
+        order,
+        bytes: host.get(INFORMATION..).unwrap_or(&[]),
+    }
 }
 
 /// The link information of the unit in the library.
-fn unit_linkage(library: &[u8], order: Order) -> Result<Linkage<'_>, Reason> {
-    Ok(Linkage {
+fn unit_linkage(library: &[u8], order: Order) -> Linkage<'_> {
+    Linkage {
         file: 1,
         slot: UTIL_SLOT,
         order,
-        bytes: Dict::read_beside(library, order)?.after(UTIL_ENTRY),
-    })
+        bytes: library.get(INFORMATION..).unwrap_or(&[]),
+    }
 }
 
 fn describe_definitions<A: Allocator + Copy>(
@@ -160,7 +160,7 @@ fn definitions_by_index_and_by_name(rt: HostRuntime) {
     for order in ORDERS {
         let host = base_host(alloc, order).expect(&rt, "unexpected error");
         let call = BuildDefinitions {
-            host: host_linkage(host.as_slice()).expect(&rt, "unexpected error"),
+            host: host_linkage(host.as_slice(), order),
         };
         refuses_each_allocation(&rt, "the base host", &call, "COUNT    Public 3; ");
         builds_definitions(&rt, &call.host, &[COUNT_IS_3], &STATE);
@@ -175,7 +175,7 @@ fn definitions_by_index_and_by_name(rt: HostRuntime) {
         .expect(&rt, "unexpected error")
         .with(alloc, &[Records(2, &records)])
         .expect(&rt, "unexpected error");
-    let host = host_linkage(host.as_slice()).expect(&rt, "unexpected error");
+    let host = host_linkage(host.as_slice(), Order::Little);
     builds_definitions(&rt, &host, &[COUNT_IS_3, LIMIT_IS_9], &STATE)
 }
 
@@ -205,7 +205,7 @@ fn the_unit_s_private_variable(rt: HostRuntime) {
         let library = base_library(alloc, order).expect(&rt, "unexpected error");
         let call = BuildAllotment {
             next: 8,
-            segment: unit_linkage(library.as_slice(), order).expect(&rt, "unexpected error"),
+            segment: unit_linkage(library.as_slice(), order),
         };
         let answer = "slot 7 record 1 STATE    offset 8 words 4; words 4 next 12";
         refuses_each_allocation(&rt, "the unit", &call, answer);
@@ -229,7 +229,7 @@ fn refuses_definitions(
         .with(alloc, &[Records(2, records)])
         .expect(rt, "unexpected error");
     let call = BuildDefinitions {
-        host: host_linkage(host.as_slice()).expect(rt, "unexpected error"),
+        host: host_linkage(host.as_slice(), Order::Little),
     };
     refuses_each_allocation(rt, what, &call, fault)
 }
@@ -249,7 +249,7 @@ fn refuses_allotment(
         .expect(rt, "unexpected error");
     let call = BuildAllotment {
         next,
-        segment: unit_linkage(library.as_slice(), Order::Little).expect(rt, "unexpected error"),
+        segment: unit_linkage(library.as_slice(), Order::Little),
     };
     refuses_each_allocation(rt, what, &call, fault)
 }

@@ -76,7 +76,7 @@ pub(crate) fn writes_text<T: Writing>(rt: &(impl Abort + AllocGlobal), call: &T,
     }
 }
 
-/// Writes this text of any length, and half of it.
+/// Writes this text of any length.
 pub(crate) fn writes_long_text<T: Writing>(rt: &(impl Abort + AllocGlobal), call: &T, text: &str) {
     let alloc = rt.alloc();
     let mut out = Room::new(alloc, text.len(), usize::MAX, Full::Fails).expect(
@@ -85,10 +85,32 @@ pub(crate) fn writes_long_text<T: Writing>(rt: &(impl Abort + AllocGlobal), call
     );
     assert!(rt; call.write(alloc, &mut out).is_ok());
     assert!(rt; out.written() == text.as_bytes(), "another text");
-    let half = text.len() / 2;
-    let mut out = Room::new(alloc, half, usize::MAX, Full::Fails).expect(rt, "unexpected error");
-    assert!(rt; call.write(alloc, &mut out).is_err());
-    let prefix = text.as_bytes().get(..half).unwrap_or(&[]);
-    assert!(rt; out.written() == prefix, "no prefix");
-    assert!(rt; out.failures() == 1);
+    for room in [0, text.len() / 2] {
+        let fails = (Full::Fails, "device error Interrupted", (1, 0));
+        writes_front(rt, (call, text), room, fails);
+        writes_front(rt, (call, text), room, (Full::Stalls, "stalled", (0, 1)));
+    }
+}
+
+/// Writes this text into a writer with room for less of it. One write fails or stalls, none is made
+/// after it, and the error is that of this write.
+fn writes_front<T: Writing>(
+    rt: &(impl Abort + AllocGlobal),
+    (call, text): (&T, &str),
+    room: usize,
+    (full, answer, counts): (Full, &str, (u64, u64)),
+) {
+    let alloc = rt.alloc();
+    let mut out = Room::new(alloc, room, usize::MAX, full).expect(rt, "unexpected error");
+    let answered = match call.write(alloc, &mut out) {
+        Ok(()) => String::from_str(alloc, "written").expect(rt, "unexpected error"),
+        Err(error) => text_of_error(alloc, error).expect(rt, "unexpected error"),
+    };
+    assert!(rt; answered.as_str() == answer, "{room}: {answered}");
+    let prefix = text.as_bytes().get(..room).unwrap_or(&[]);
+    assert!(rt; out.written() == prefix, "{room}: no prefix");
+    assert!(rt;
+        (out.failures(), out.stalls(), out.flushes()) == (counts.0, counts.1, 0),
+        "{room}"
+    );
 }

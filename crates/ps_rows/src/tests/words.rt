@@ -1,11 +1,11 @@
-//! Words of either byte order, blocks and edits, and faults as text.
-use ps_words::{BLOCK_SIZE, Edit, Fault, Order, Reason, blocks_of, get, get_big, put, put_big};
+//! Words of either byte order, blocks, and faults as text.
+use ps_words::{BLOCK_SIZE, Fault, Order, Reason, blocks_of, get, get_big, put, put_big};
 use std::fmt;
 use std::fmt::Write;
 use std::process::Abort;
 
 #[test]
-fn words_blocks_and_edits(rt: HostRuntime) {
+fn words_and_blocks(rt: HostRuntime) {
     let mut bytes = [0x0A, 0x02, 0x77];
     assert!(rt; get(Order::Little, &bytes, 0) == 522);
     assert!(rt; get(Order::Big, &bytes, 0) == 2562);
@@ -29,16 +29,6 @@ fn words_blocks_and_edits(rt: HostRuntime) {
     ] {
         assert!(rt; blocks_of(len) == wanted, "at {len}");
     }
-
-    let (place, value) = (4, 18);
-    assert!(rt;
-        Edit::Word { place, value }
-            == Edit::Word {
-                place: 4,
-                value: 18
-            }
-    );
-    assert!(rt; Edit::Word { place, value } != Edit::Big { place, value });
 }
 
 /// A fault with every part, the last reference of the last record of a file as long as one can be.

@@ -20,6 +20,7 @@ pub(crate) struct Room {
     full: Full,
     writes: u64,
     failures: u64,
+    stalls: u64,
     flushes: u64,
 }
 
@@ -38,6 +39,7 @@ impl Room {
             full,
             writes: 0,
             failures: 0,
+            stalls: 0,
             flushes: 0,
         })
     }
@@ -57,6 +59,11 @@ impl Room {
         self.failures
     }
 
+    /// How many writes took none of at least one byte, and returned no error.
+    pub(crate) fn stalls(&self) -> u64 {
+        self.stalls
+    }
+
     /// How many flushes there were, each of which failed.
     pub(crate) fn flushes(&self) -> u64 {
         self.flushes
@@ -70,7 +77,10 @@ impl Write for Room {
         let count = buf.len().min(self.per_write).min(left);
         if count == 0 && !buf.is_empty() {
             return match self.full {
-                Full::Stalls => Ok(0),
+                Full::Stalls => {
+                    self.stalls = self.stalls.saturating_add(1);
+                    Ok(0)
+                }
                 Full::Fails => {
                     self.failures = self.failures.saturating_add(1);
                     Err(io::Error::from(io::ErrorKind::Interrupted))

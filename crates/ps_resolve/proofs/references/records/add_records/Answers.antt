@@ -88,7 +88,7 @@ returns-in-Err-clause-stop g c =
     let step = one _ l.rec-iterator c.next.new.self c.in-Some.rec r l.invariant.links c.in-Some.ensures.steps in
     let first = step.2.first in
     let here = record_refused known (is_reserved tables.order tables.code) tables.code c.in-Some.rec l.next first.0 r step.0 c.in-Err.reason (sym c.target_of.ensures ∙ c.in-Err.is) in
-    subst (IsStop ⊤ (segment_fault c.args.link.now.order known c.args.free (segment_of s))) (sym c.stop_for.ensures) (rw (c.record-place.ensures, c.place.ensures)
+    subst (IsStop ⊥ (segment_fault c.args.link.now.order known c.args.free (segment_of s))) (sym c.stop_for.ensures) (rw (c.record-place.ensures, c.place.ensures)
     (ap (option_map (in_segment s.file s.slot)) (ap (fault_by known s c.args.free) (sym l.invariant.procedures) ∙ sym first.2 ∙ here)))
 
 pub returns-in_err-add_record-in-Ok-clause-stop : goal.returns-in_err-add_record-in-Ok-clause-stop
@@ -103,9 +103,9 @@ returns-in_err-add_record-in-Ok-clause-stop g c =
     let fault_is = first.2 ∙ ap (fault_by known s c.args.free) l.invariant.procedures in
     let stop : Stop = c.in_err-add_record-in-Ok.field-0.0 in
     let p = err_from_is_err_and c.from_residual.result c.from_residual.ensures.1 in
-    rw (p.1, p.2) (subst (λ (o : Option (ℕ × (Option ℕ × Reason))). IsStop ⊤ (option_map (in_segment s.file s.slot) o) stop) fault_is
+    rw (p.1, p.2) (subst (λ (o : Option (ℕ × (Option ℕ × Reason))). IsStop ⊥ (option_map (in_segment s.file s.slot) o) stop) fault_is
     (references_refused known (is_reserved tables.order tables.code) tables.code c.in-Some.rec l.next first.0 r step.0 s.file s.slot c.in-Ok.target stop
-    (sym c.target_of.ensures ∙ c.in-Ok.is) (subst (λ (p : RecordPlace). IsStop ⊤ (refs_fault_at p tables c.in-Ok.target first.0 (refs_of r.body)) stop) (rw c.place.ensures at c.record-place.ensures) (c.in_err-add_record-in-Ok.ensures.stop first.0 first.1))))
+    (sym c.target_of.ensures ∙ c.in-Ok.is) (subst (λ (p : RecordPlace). IsStop ⊥ (refs_fault_at p tables c.in-Ok.target first.0 (refs_of r.body)) stop) (rw c.place.ensures at c.record-place.ensures) (c.in_err-add_record-in-Ok.ensures.stop first.0 first.1))))
 
 pub loop-rec-preserved : goal.loop-rec-preserved
 loop-rec-preserved g c =
