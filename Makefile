@@ -1,10 +1,13 @@
 # make demo: proves and builds pslink, and links two samples
 # make test: the gate, which proves and tests everything
 # make lib: proves and builds the library for C
-# make install PREFIX=/opt/pslink: installs the program, the library, their manual pages and the documents; without PREFIX in /usr/local
+# make install PREFIX=/opt/pslink: installs the program, the library, their manual pages, the documents, the samples and the bindings; without PREFIX in /usr/local; the library in LIBDIR, which is PREFIX/lib
+# make uninstall PREFIX=/opt/pslink: removes what that installed
 # make dist: packs the same for people without the kit
 # make bench: times links of large files and of malicious input
 PREFIX ?= /usr/local
+LIBDIR ?= $(PREFIX)/lib
+INCLUDE = $(PREFIX)/include
 MAN = $(PREFIX)/share/man
 DOC = $(PREFIX)/share/doc/pslink
 VERSION = 0.1.0
@@ -12,8 +15,16 @@ LIBRARY = library/out
 DIST = pslink-$(VERSION)-x86_64-linux
 PROGRAM = crates/ps_linker
 BINARY = $(PROGRAM)/out/ps_linker
+CONFIG = $(LIBDIR)/cmake/pslink
+# man NAME finds pslink(3) for each function of the header
+CALLS = pslink_link pslink_map pslink_show pslink_link_files pslink_map_files pslink_fault_text pslink_fault_name \
+	pslink_status_text pslink_release pslink_version
+# what the documents link to, beside them
+BESIDE = README.md LICENSE $(wildcard docs/*.md samples/* man/pslink.*) include/pslink.h \
+	$(addprefix bindings/python/,pyproject.toml build_backend.py LICENSE pslink/__init__.py pslink/py.typed) \
+	$(addprefix bindings/rust/,Cargo.toml build.rs LICENSE src/lib.rs src/raw.rs src/reason.rs tests/calls.rs)
 
-.PHONY: demo build lib test bench install install-built dist
+.PHONY: demo build lib test bench install install-built uninstall dist
 
 demo:
 	cd $(PROGRAM) && rt run -- link ../../samples/host.code out/demo.code ../../samples/library.code
@@ -36,26 +47,39 @@ install: build lib install-built
 
 # what is built already, put in place
 install-built:
-	install -d $(DESTDIR)$(PREFIX)/bin $(DESTDIR)$(PREFIX)/include $(DESTDIR)$(PREFIX)/lib/pkgconfig
-	install -d $(DESTDIR)$(MAN)/man1 $(DESTDIR)$(MAN)/man3 $(DESTDIR)$(MAN)/man5 $(DESTDIR)$(DOC)
+	install -d $(DESTDIR)$(PREFIX)/bin $(DESTDIR)$(INCLUDE) $(DESTDIR)$(LIBDIR)/pkgconfig $(DESTDIR)$(CONFIG)
+	install -d $(DESTDIR)$(MAN)/man1 $(DESTDIR)$(MAN)/man3 $(DESTDIR)$(MAN)/man5
 	install -m 755 $(BINARY) $(DESTDIR)$(PREFIX)/bin/pslink
 	install -m 644 man/pslink.1 $(DESTDIR)$(MAN)/man1/pslink.1
-	install -m 644 man/pslink.5 $(DESTDIR)$(MAN)/man5/pslink.5
-	install -m 644 docs/*.md $(DESTDIR)$(DOC)
 	install -m 644 man/pslink.3 $(DESTDIR)$(MAN)/man3/pslink.3
-	install -m 644 include/pslink.h $(DESTDIR)$(PREFIX)/include/pslink.h
-	install -m 644 $(LIBRARY)/libpslink.a $(DESTDIR)$(PREFIX)/lib/libpslink.a
-	install -m 755 $(LIBRARY)/libpslink.so.1 $(DESTDIR)$(PREFIX)/lib/libpslink.so.1
-	ln -sf libpslink.so.1 $(DESTDIR)$(PREFIX)/lib/libpslink.so
-	sed -e 's|@PREFIX@|$(PREFIX)|' -e 's|@VERSION@|$(VERSION)|' library/pslink.pc.in >$(DESTDIR)$(PREFIX)/lib/pkgconfig/pslink.pc
+	install -m 644 man/pslink.5 $(DESTDIR)$(MAN)/man5/pslink.5
+	for call in $(CALLS); do echo '.so man3/pslink.3' >$(DESTDIR)$(MAN)/man3/$$call.3 && chmod 644 $(DESTDIR)$(MAN)/man3/$$call.3 || exit 1; done
+	for file in $(BESIDE); do install -D -m 644 $$file $(DESTDIR)$(DOC)/$$file || exit 1; done
+	install -m 644 include/pslink.h $(DESTDIR)$(INCLUDE)/pslink.h
+	install -m 644 $(LIBRARY)/libpslink.a $(DESTDIR)$(LIBDIR)/libpslink.a
+	install -m 755 $(LIBRARY)/libpslink.so.1 $(DESTDIR)$(LIBDIR)/libpslink.so.1
+	ln -sf libpslink.so.1 $(DESTDIR)$(LIBDIR)/libpslink.so
+	sed -e 's|@PREFIX@|$(PREFIX)|' -e 's|@LIBDIR@|$(LIBDIR)|' -e 's|@VERSION@|$(VERSION)|' library/pslink.pc.in >$(DESTDIR)$(LIBDIR)/pkgconfig/pslink.pc
+	sed -e 's|@INCLUDE@|$(INCLUDE)|' library/pslinkConfig.cmake.in >$(DESTDIR)$(CONFIG)/pslinkConfig.cmake
+	sed -e 's|@VERSION@|$(VERSION)|' library/pslinkConfigVersion.cmake.in >$(DESTDIR)$(CONFIG)/pslinkConfigVersion.cmake
+	chmod 644 $(DESTDIR)$(LIBDIR)/pkgconfig/pslink.pc $(DESTDIR)$(CONFIG)/*.cmake
 
-# the program, the library and all that is read beside them, in one file, and which C library they need
+# what install-built puts in place, and the folders that are pslink's own
+uninstall:
+	rm -f $(DESTDIR)$(PREFIX)/bin/pslink $(DESTDIR)$(INCLUDE)/pslink.h
+	rm -f $(addprefix $(DESTDIR)$(LIBDIR)/,libpslink.a libpslink.so libpslink.so.1 pkgconfig/pslink.pc)
+	rm -f $(addprefix $(DESTDIR)$(MAN)/,man1/pslink.1 man3/pslink.3 man5/pslink.5 $(CALLS:%=man3/%.3))
+	rm -rf $(DESTDIR)$(DOC) $(DESTDIR)$(CONFIG)
+
+# the program, the library and all that is read beside them, in one file, and what they need
 dist: build lib
 	rm -rf $(LIBRARY)/$(DIST)
-	$(MAKE) --no-print-directory install-built PREFIX=/usr/local DESTDIR=$(LIBRARY)/$(DIST)/root
+	$(MAKE) --no-print-directory install-built PREFIX=/usr/local LIBDIR=/usr/local/lib DESTDIR=$(LIBRARY)/$(DIST)/root
 	mv $(LIBRARY)/$(DIST)/root/usr/local/* $(LIBRARY)/$(DIST)
-	rm -r $(LIBRARY)/$(DIST)/root
-	sed -i 's|^prefix=.*|prefix=$${pcfiledir}/../..|' $(LIBRARY)/$(DIST)/lib/pkgconfig/pslink.pc
-	cp -r LICENSE README.md samples bindings $(LIBRARY)/$(DIST)
+	rm -r $(LIBRARY)/$(DIST)/root $(LIBRARY)/$(DIST)/share/doc/pslink/include
+	mv $(LIBRARY)/$(DIST)/share/doc/pslink/* $(LIBRARY)/$(DIST)
+	rm -r $(LIBRARY)/$(DIST)/share/doc
+	sed -i -e 's|^prefix=.*|prefix=$${pcfiledir}/../..|' -e 's|^libdir=.*|libdir=$${prefix}/lib|' $(LIBRARY)/$(DIST)/lib/pkgconfig/pslink.pc
+	sed -i 's|"/usr/local/include"|"../include"|' $(LIBRARY)/$(DIST)/lib/cmake/pslink/pslinkConfig.cmake
 	library/needs $(LIBRARY)/$(DIST)/bin/pslink $(LIBRARY)/libpslink.so.1 | tee $(LIBRARY)/$(DIST)/NEEDS
 	tar --sort=name --owner=0 --group=0 --numeric-owner --mtime=@0 -C $(LIBRARY) -czf $(DIST).tar.gz $(DIST)

@@ -11,7 +11,7 @@
 struct libraries {
     char *bytes;
     size_t length;
-    size_t lengths[400];
+    size_t lengths[1000];
     size_t count;
 };
 
