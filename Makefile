@@ -13,6 +13,8 @@ DOC = $(PREFIX)/share/doc/pslink
 VERSION = 0.1.0
 LIBRARY = library/out
 DIST = pslink-$(VERSION)-x86_64-linux
+PACKED = $(LIBRARY)/$(DIST)
+TARBALL = $(DIST).tar.gz
 PROGRAM = crates/ps_linker
 BINARY = $(PROGRAM)/out/ps_linker
 CONFIG = $(LIBDIR)/cmake/pslink
@@ -73,13 +75,13 @@ uninstall:
 
 # the program, the library and all that is read beside them, in one file, and what they need
 dist: build lib
-	rm -rf $(LIBRARY)/$(DIST)
-	$(MAKE) --no-print-directory install-built PREFIX=/usr/local LIBDIR=/usr/local/lib DESTDIR=$(LIBRARY)/$(DIST)/root
-	mv $(LIBRARY)/$(DIST)/root/usr/local/* $(LIBRARY)/$(DIST)
-	rm -r $(LIBRARY)/$(DIST)/root $(LIBRARY)/$(DIST)/share/doc/pslink/include
-	mv $(LIBRARY)/$(DIST)/share/doc/pslink/* $(LIBRARY)/$(DIST)
-	rm -r $(LIBRARY)/$(DIST)/share/doc
-	sed -i -e 's|^prefix=.*|prefix=$${pcfiledir}/../..|' -e 's|^libdir=.*|libdir=$${prefix}/lib|' $(LIBRARY)/$(DIST)/lib/pkgconfig/pslink.pc
-	sed -i 's|"/usr/local/include"|"../include"|' $(LIBRARY)/$(DIST)/lib/cmake/pslink/pslinkConfig.cmake
-	library/needs $(LIBRARY)/$(DIST)/bin/pslink $(LIBRARY)/libpslink.so.1 | tee $(LIBRARY)/$(DIST)/NEEDS
-	tar --sort=name --owner=0 --group=0 --numeric-owner --mtime=@0 -C $(LIBRARY) -czf $(DIST).tar.gz $(DIST)
+	rm -rf $(PACKED)
+	$(MAKE) --no-print-directory install-built PREFIX=/usr/local LIBDIR=/usr/local/lib DESTDIR=$(PACKED)/root
+	mv $(PACKED)/root/usr/local/* $(PACKED)
+	rm -r $(PACKED)/root $(PACKED)/share/doc/pslink/include
+	mv $(PACKED)/share/doc/pslink/* $(PACKED)
+	rm -r $(PACKED)/share/doc
+	sed -i -e 's|^prefix=.*|prefix=$${pcfiledir}/../..|' -e 's|^libdir=.*|libdir=$${prefix}/lib|' $(PACKED)/lib/pkgconfig/pslink.pc
+	sed -i 's|"/usr/local/include"|"../include"|' $(PACKED)/lib/cmake/pslink/pslinkConfig.cmake
+	library/needs $(PACKED)/bin/pslink $(PACKED)/lib/libpslink.so.1 | tee $(PACKED)/NEEDS
+	tar --sort=name --owner=0 --group=0 --numeric-owner --mtime=@0 -C $(PACKED) -czf $(TARBALL) --transform='s|^[.]|$(DIST)|' .
