@@ -2,7 +2,7 @@
 """Writes the table 'What to do about each fault' of docs/LINKING.md from the sentences that `pslink check` prints, and the
 constants of the faults in include/pslink.h and bindings/rust/src/reason.rs from the source, so that each has one home.
 man/make_pages.py then copies the table to man/pslink.1.
-Usage: make_fault_table.py [FILE [HEADER REASONS]], which are those three if none is given."""
+Usage: make_fault_table.py [FILE..]: where to write the first, or all three, of these; in their own places if none is given."""
 import pathlib
 import re
 import sys
@@ -65,10 +65,9 @@ def between(file, lines):
 def main():
     before, rest = LINKING.read_text().split(HEAD, 1)
     after = re.sub(r"\A(?:\|.*\n)+", "", rest)
-    linking, header, reasons = map(pathlib.Path, [*sys.argv[1:], *[LINKING, HEADER, REASONS][len(sys.argv) - 1 :]])
-    linking.write_text(before + HEAD + "".join(rows()) + after)
-    header.write_text(between(HEADER, constants()))
-    reasons.write_text(between(REASONS, "".join(variants())))
+    texts = [before + HEAD + "".join(rows()) + after, between(HEADER, constants()), between(REASONS, "".join(variants()))]
+    for target, text in zip(sys.argv[1:] or [LINKING, HEADER, REASONS], texts):
+        pathlib.Path(target).write_text(text)
 
 
 if __name__ == "__main__":
