@@ -20,7 +20,8 @@
  *
  *         if (pslink_link(host, host_length, library, library_length, &library_length, 1, out,
  *                         sizeof out, &answer) == PSLINK_DONE)
- *             return fwrite(out, 1, answer.written, stream) != answer.written || fflush(stream) != 0;
+ *             return fwrite(out, 1, answer.written, stream) != answer.written ||
+ *                    fflush(stream) != 0;
  *         if (pslink_fault_text(&answer, text, sizeof text) != 0 ||
  *             pslink_status_text(answer.status, text, sizeof text) != 0)
  *             fprintf(stderr, "pslink: %s\n", text);
@@ -29,19 +30,19 @@
  *
  * Build it with -lpslink (pkg-config: pslink).
  *
- * Any bytes may be given as a file: one that is no code file is refused. That the result is right is
- * proved: what is in `out` after PSLINK_DONE, and which fault a refusal names. That is proved of the
- * functions that the library exports, whose names end in `_nonnull`, and of pslink_version. The
- * others are inline functions of this header over them, which are tested. What the proof asks of the
- * caller is on this page:
+ * Any bytes may be given as a file: one that is no code file is refused. That the result is right
+ * is proved: what is in `out` after PSLINK_DONE, and which fault a refusal names. It is proved of
+ * the functions that the library exports, whose names end in `_nonnull`, and of pslink_version. The
+ * others are inline functions of this header over them, which are tested. What the proof asks of
+ * the caller is on this page:
  *
- * - A pointer with its length names memory of the caller that is there for the whole call: it may be
- *   read, and for `out` and `answer` also written. A length is at most PTRDIFF_MAX bytes. A pointer
- *   may be NULL where its length is 0. `lengths` is aligned as a size_t is. `answer` is never NULL,
- *   and is aligned as its type is.
- * - `out` and `answer` overlap each other in no byte, and nothing else that the call is given. Inputs
- *   may overlap one another. No thread writes to what is given during the call, and none reads `out`
- *   or `answer`.
+ * - A pointer with its length names memory of the caller that is there for the whole call: it may
+ *   be read, and for `out` and `answer` also written. A length is at most PTRDIFF_MAX bytes. A
+ *   pointer may be NULL where its length is 0. `lengths` is aligned as a size_t is. `answer` is
+ *   never NULL, and is aligned as its type is.
+ * - `out` and `answer` overlap each other in no byte, and nothing else that the call is given.
+ *   Inputs may overlap one another. No thread writes to what is given during the call, and none
+ *   reads `out` or `answer`.
  * - malloc, realloc and free are one allocator, which aligns a block to each power of two up to 16
  *   that divides its size.
  * - `answer` need not be set before a call. Each field of it is written by each call, with 0 where
@@ -66,15 +67,16 @@
 extern "C" {
 #endif
 
-/* The version of this interface. What breaks a caller raises it; functions that are added do not. */
+/* The version of this interface. What breaks a caller raises it; a function that is added does
+   not. */
 #define PSLINK_VERSION 1
 
 /* The release of pslink that this header is of. */
 #define PSLINK_RELEASE "0.1.0"
 
 /*
- * What a function returns, and the field `status`. They are the statuses of the program pslink. Its
- * status 3, of a file that cannot be read or written, is not used: the library reads and writes none.
+ * What a function returns, and the field `status`: the statuses of the program pslink. Its status
+ * 3, of a file that cannot be read or written, is not used: the library reads and writes none.
  */
 #define PSLINK_DONE 0u          /* done: `out` begins with the result */
 #define PSLINK_REFUSED 1u       /* the files are refused, for the fault in `answer` */
@@ -87,8 +89,8 @@ extern "C" {
 /* How many bytes a linked file has at most: with so much room, no link is PSLINK_TOO_SMALL. */
 #define PSLINK_LINKED_MAX 524800u
 
-/* How many bytes the text of a fault, the name of a fault, the text of a status and the release have
-   at most, the closing 0 counted. */
+/* How many bytes the text of a fault, the name of a fault, the text of a status and the release
+   have at most, the closing 0 counted. */
 #define PSLINK_FAULT_TEXT_MAX 160u
 
 /* The faults, by their numbers. pslink(1) says when each is reported, and what to do about it. */
@@ -211,8 +213,8 @@ static inline uint32_t pslink_map(const void *host, size_t host_length, const vo
                                   void *out, size_t out_length, pslink_answer *answer);
 
 /*
- * What a code file has, of any contents, as ASCII text without a closing 0: its slots and the records
- * of its link information. It is refused as 1 ShortFile or 2 NoOrder only.
+ * What a code file has, of any contents, as ASCII text without a closing 0: its slots and the
+ * records of its link information. It is refused as 1 ShortFile or 2 NoOrder only.
  */
 static inline uint32_t pslink_show(const void *file, size_t file_length, void *out,
                                    size_t out_length, pslink_answer *answer);
@@ -237,7 +239,8 @@ static inline size_t pslink_release(char *out, size_t out_length);
 /*
  * The same links and maps, of libraries that are anywhere in memory: `libs` has a pointer and a
  * length for each. It copies them one after another into memory of malloc, and frees that again:
- * where it cannot have that memory, the answer is PSLINK_NO_MEMORY also where the files have a fault.
+ * where it cannot have that memory, the answer is PSLINK_NO_MEMORY, also where the files have a
+ * fault.
  */
 static inline uint32_t pslink_link_files(pslink_file host, const pslink_file *libs, size_t count,
                                          void *out, size_t out_length, pslink_answer *answer);

@@ -1,4 +1,5 @@
-//! Finds `libpslink.a`: in the folder that PSLINK_LIB_DIR names, or else in that of pkg-config, or else in the usual ones.
+//! Finds `libpslink.a`: in the folder that PSLINK_LIB_DIR names, or else in that of pkg-config, or
+//! else in the usual ones.
 
 use std::env;
 use std::path::PathBuf;

@@ -1,5 +1,5 @@
-//! The functions of the archive, as `pslink.h` declares them, over slices: no pointer is null, and each goes with its own
-//! length.
+//! The functions of the archive, as `pslink.h` declares them, over slices: no pointer is null, and
+//! each goes with its own length.
 
 /// What a call answers: `pslink_answer`.
 #[repr(C)]
@@ -80,8 +80,8 @@ fn of_libraries(
     out: &mut [u8],
     answer: &mut Answer,
 ) -> u32 {
-    // SAFETY: each pointer and its length are those of one slice, none of which is null; `out` and `answer` are borrowed
-    // alone.
+    // SAFETY: each pointer and its length are those of one slice, none of which is null; `out` and
+    // `answer` are borrowed alone.
     unsafe {
         call(
             host.as_ptr(),

@@ -5,7 +5,8 @@ use std::fmt;
 /// The enum with a variant for each of these, and what its variants have.
 macro_rules! reasons {
     ($($(#[$words:meta])* $name:ident = $number:literal,)*) => {
-        /// Why files are refused: each reason has a number, 1 to 35, and a name, that of its variant.
+        /// Why files are refused: each reason has a number, 1 to 35, and a name, that of its
+        /// variant.
         ///
         /// Its text is its name. `docs/LINKING.md` says of each what to do about it.
         #[derive(Clone, Copy, Debug, PartialEq, Eq, Hash)]

@@ -1,5 +1,5 @@
-//! The calls over the samples, which lie two folders above this crate in the sources, in the packed archive and where `make
-//! install` puts them.
+//! The calls over the samples, which lie two folders above this crate in the sources, in the packed
+//! archive and where `make install` puts them.
 
 use pslink::{Error, Fault, Reason, Summary, NO_LIBRARIES};
 use std::collections::HashSet;
