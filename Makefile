@@ -4,7 +4,7 @@
 # make install PREFIX=/opt/pslink: installs the program, the library, their manual pages, the documents, the samples and the bindings; without PREFIX in /usr/local; the library in LIBDIR, which is PREFIX/lib
 # make uninstall PREFIX=/opt/pslink: removes what that installed
 # make dist: packs the same for people without the kit
-# make bench: times links of large files and of malicious input
+# make bench: times links of large files, of malicious input, and in one process; with OTHER=ARCHIVE also those of another library with the same header
 PREFIX ?= /usr/local
 LIBDIR ?= $(PREFIX)/lib
 INCLUDE = $(PREFIX)/include
@@ -43,7 +43,7 @@ lib:
 
 bench: build lib
 	python3 bench/large_files.py $(BINARY)
-	python3 bench/in_process.py $(BINARY) $(LIBRARY)
+	python3 bench/in_process.py $(BINARY) $(LIBRARY) $(OTHER)
 
 install: build lib install-built
 

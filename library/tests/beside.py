@@ -2,7 +2,7 @@
 """Answers of the library beside those of the program, through C and through Python: each set of files of .ci/report; and the
 longest linked file, 500 libraries, a fault in library 300, and a map and a show of more than 64 KiB, whose answers are worked
 out here too. Leaves these files in FOLDER, for .ci/library to measure. Prints what is otherwise.
-Usage: beside.py PSLINK PROGRAM FOLDER, the second being program.c, built"""
+Usage: beside.py PSLINK PROGRAM LINKED FOLDER: the program, program.c as it was built, and to what the sample pair is linked"""
 import contextlib
 import io
 import pathlib
@@ -12,7 +12,7 @@ import sys
 ROOT = pathlib.Path(__file__).resolve().parents[2]
 sys.dont_write_bytecode = True
 sys.path[:0] = [str(ROOT / name) for name in ("library/tests", "bench", "samples")]
-PSLINK, PROGRAM, FOLDER = (pathlib.Path(path).resolve() for path in sys.argv[1:4])
+PSLINK, PROGRAM, LINKED, FOLDER = (pathlib.Path(path).resolve() for path in sys.argv[1:5])
 import large_files as large  # noqa: E402
 import make_samples  # noqa: E402
 import program  # noqa: E402
@@ -57,16 +57,10 @@ def long_cases():
     """For each long case: its name, its files, and for each command the status, the output, what is on error output, and the
     linked file, each None where it is compared with the program alone."""
     none = bytes(large.BLOCK)
-    linked = bytearray(HOST)
-    for place, new in [
-        (28, "02 00 18 00"), (194, "00"), (206, "00"), (516, "12"), (1048, "00" * 8),
-        (1024, "A5 80 03 AB 80 0A D7 D7 AD 00 00 00 00 00 06 00 10 00 01 00 02 00 07 01"),
-    ]:
-        linked[place : place + len(bytes.fromhex(new))] = bytes.fromhex(new)
     yield ("the longest linked file", [longest(False)],
            {"link": (0, "segments 16 private words 0 blocks 1025\n", "", longest(True))})
     yield ("500 libraries", [HOST, *[none] * 499, LIBRARY],
-           {"link": (0, "segments 2 private words 4 blocks 3\n", "", bytes(linked))})
+           {"link": (0, "segments 2 private words 4 blocks 3\n", "", LINKED.read_bytes())})
     fault = (1, "", "pslink: refused 1 ShortFile file 300\n", None)
     yield ("a fault in library 300", [HOST, *[none] * 299, none[1:], LIBRARY], {"link": fault, "map": fault})
     # (a line of a public has 24 bytes, and one of a record as many at least)

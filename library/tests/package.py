@@ -6,6 +6,7 @@ new folder"""
 import array
 import concurrent.futures
 import copy
+import importlib.util
 import multiprocessing
 import os
 import pathlib
@@ -14,6 +15,7 @@ import shutil
 import subprocess
 import sys
 import time
+import zipfile
 
 ROOT = pathlib.Path(__file__).resolve().parents[2]
 PACKAGE = ROOT / "bindings/python"
@@ -121,10 +123,15 @@ def imported(**env):
 def of_installing():
     source = FOLDER / "source"
     shutil.copytree(PACKAGE, source, ignore=shutil.ignore_patterns("__pycache__"))
-    pip = [sys.executable, "-m", "pip", "--disable-pip-version-check", "--quiet", "install", "--no-index", "--root-user-action=ignore"]
-    done = subprocess.run([*pip, "--target", FOLDER / "site", source], capture_output=True, text=True)
-    if done.returncode != 0:
-        return check(False, f"pip: {done.stderr[-300:]}")
+    if importlib.util.find_spec("pip"):
+        pip = [sys.executable, "-m", "pip", "--disable-pip-version-check", "--quiet", "install", "--no-index", "--root-user-action=ignore"]
+        done = subprocess.run([*pip, "--target", FOLDER / "site", source], capture_output=True, text=True)
+        check(done.returncode == 0, f"pip: {done.stderr[-300:]}")
+    else:
+        sys.path.insert(0, str(source))
+        import build_backend
+
+        zipfile.ZipFile(FOLDER / build_backend.build_wheel(FOLDER)).extractall(FOLDER / "site")
     there = f"True {FOLDER}/site/pslink/__init__.py"
     config = FOLDER / "pkgconfig"
     config.mkdir()
@@ -143,7 +150,6 @@ def of_installing():
     for what, path in wrong.items():
         said = imported(PSLINK_LIBRARY=path)
         check(said.startswith("ImportError: "), f"a library {what}: {said}")
-    return None
 
 
 def main():
