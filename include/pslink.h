@@ -94,7 +94,7 @@ extern "C" {
 #define PSLINK_FAULT_TEXT_MAX 160u
 
 /* The faults, by their numbers. pslink(1) says when each is reported, and what to do about it. */
-/* made by man/make_fault_table.py from crates/ps_words/src/fault.rt */
+/* made by man/make_constants.py from crates/ps_words/src/fault.rt */
 #define PSLINK_FAULT_SHORT_FILE         1
 #define PSLINK_FAULT_NO_ORDER           2
 #define PSLINK_FAULT_ORDER_MISMATCH     3

@@ -31,7 +31,7 @@ macro_rules! reasons {
 }
 
 reasons! {
-    // made by man/make_fault_table.py from crates/ps_words/src/fault.rt
+    // made by man/make_constants.py from crates/ps_words/src/fault.rt
     /// 1: the file has fewer than 512 bytes, so it has no whole segment dictionary.
     ShortFile = 1,
     /// 2: the kind words of the segment dictionary fit neither byte order.
