@@ -1,11 +1,14 @@
 # make demo: proves and builds pslink, and links two samples
 # make test: the gate, which proves and tests everything
 # make lib: proves and builds the library for C
-# make install PREFIX=/opt/pslink: installs the program, the library, their manual pages and the documents; without PREFIX in /usr/local
+# make install PREFIX=/opt/pslink: installs the program, the library, their manual pages, the documents, the samples, the bindings, the test vectors, completions and rules; without PREFIX in /usr/local; the library in LIBDIR, which is PREFIX/lib
+# make uninstall PREFIX=/opt/pslink: removes what that installed
 # make dist: packs the same for people without the kit
-# make bench: times links of large files and of malicious input
+# make bench: times links of large files, of malicious input, and in one process; with OTHER=ARCHIVE also those of another library with the same header
 # make vectors: writes the cases of vectors/README.md
 PREFIX ?= /usr/local
+LIBDIR ?= $(PREFIX)/lib
+INCLUDE = $(PREFIX)/include
 MAN = $(PREFIX)/share/man
 DOC = $(PREFIX)/share/doc/pslink
 BASH_FOLDER = $(PREFIX)/share/bash-completion/completions
@@ -14,10 +17,20 @@ FISH_FOLDER = $(PREFIX)/share/fish/vendor_completions.d
 VERSION = 0.1.0
 LIBRARY = library/out
 DIST = pslink-$(VERSION)-x86_64-linux
+PACKED = $(LIBRARY)/$(DIST)
+TARBALL = $(DIST).tar.gz
 PROGRAM = crates/ps_linker
 BINARY = $(PROGRAM)/out/ps_linker
+CONFIG = $(LIBDIR)/cmake/pslink
+# man NAME finds pslink(3) for each function of the header
+CALLS = pslink_link pslink_map pslink_show pslink_link_files pslink_map_files pslink_fault_text pslink_fault_name \
+	pslink_status_text pslink_release pslink_version
+# what the documents link to, beside them
+BESIDE = README.md LICENSE $(wildcard docs/*.md samples/* man/pslink.*) include/pslink.h \
+	$(addprefix bindings/python/,pyproject.toml build_backend.py LICENSE pslink/__init__.py pslink/py.typed) \
+	$(addprefix bindings/rust/,Cargo.toml build.rs LICENSE src/lib.rs src/raw.rs src/reason.rs tests/calls.rs)
 
-.PHONY: demo build lib test bench vectors install install-built install-texts dist
+.PHONY: demo build lib test bench vectors install install-built install-texts uninstall dist
 
 demo:
 	cd $(PROGRAM) && rt run -- link ../../samples/host.code out/demo.code ../../samples/library.code
@@ -34,7 +47,7 @@ lib:
 
 bench: build lib
 	python3 bench/large_files.py $(BINARY)
-	python3 bench/in_process.py $(BINARY) $(LIBRARY)
+	python3 bench/in_process.py $(BINARY) $(LIBRARY) $(OTHER)
 
 vectors:
 	vectors/make_vectors.py
@@ -43,22 +56,26 @@ install: build lib install-built
 
 # what is built already, put in place
 install-built: install-texts
-	install -d $(DESTDIR)$(PREFIX)/bin $(DESTDIR)$(PREFIX)/include $(DESTDIR)$(PREFIX)/lib/pkgconfig
-	install -d $(DESTDIR)$(MAN)/man1 $(DESTDIR)$(MAN)/man3 $(DESTDIR)$(MAN)/man5 $(DESTDIR)$(DOC)
+	install -d $(DESTDIR)$(PREFIX)/bin $(DESTDIR)$(INCLUDE) $(DESTDIR)$(LIBDIR)/pkgconfig $(DESTDIR)$(CONFIG)
+	install -d $(DESTDIR)$(MAN)/man1 $(DESTDIR)$(MAN)/man3 $(DESTDIR)$(MAN)/man5
 	install -m 755 $(BINARY) $(DESTDIR)$(PREFIX)/bin/pslink
 	install -m 644 man/pslink.1 $(DESTDIR)$(MAN)/man1/pslink.1
-	install -m 644 man/pslink.5 $(DESTDIR)$(MAN)/man5/pslink.5
-	install -m 644 docs/*.md $(DESTDIR)$(DOC)
 	install -m 644 man/pslink.3 $(DESTDIR)$(MAN)/man3/pslink.3
-	install -m 644 include/pslink.h $(DESTDIR)$(PREFIX)/include/pslink.h
-	install -m 644 $(LIBRARY)/libpslink.a $(DESTDIR)$(PREFIX)/lib/libpslink.a
-	install -m 755 $(LIBRARY)/libpslink.so.1 $(DESTDIR)$(PREFIX)/lib/libpslink.so.1
-	ln -sf libpslink.so.1 $(DESTDIR)$(PREFIX)/lib/libpslink.so
-	sed -e 's|@PREFIX@|$(PREFIX)|' -e 's|@VERSION@|$(VERSION)|' library/pslink.pc.in >$(DESTDIR)$(PREFIX)/lib/pkgconfig/pslink.pc
+	install -m 644 man/pslink.5 $(DESTDIR)$(MAN)/man5/pslink.5
+	for call in $(CALLS); do echo '.so man3/pslink.3' >$(DESTDIR)$(MAN)/man3/$$call.3 && chmod 644 $(DESTDIR)$(MAN)/man3/$$call.3 || exit 1; done
+	for file in $(BESIDE); do install -D -m 644 $$file $(DESTDIR)$(DOC)/$$file || exit 1; done
+	install -m 644 include/pslink.h $(DESTDIR)$(INCLUDE)/pslink.h
+	install -m 644 $(LIBRARY)/libpslink.a $(DESTDIR)$(LIBDIR)/libpslink.a
+	install -m 755 $(LIBRARY)/libpslink.so.1 $(DESTDIR)$(LIBDIR)/libpslink.so.1
+	ln -sf libpslink.so.1 $(DESTDIR)$(LIBDIR)/libpslink.so
+	sed -e 's|@PREFIX@|$(PREFIX)|' -e 's|@LIBDIR@|$(LIBDIR)|' -e 's|@VERSION@|$(VERSION)|' library/pslink.pc.in >$(DESTDIR)$(LIBDIR)/pkgconfig/pslink.pc
+	sed -e 's|@INCLUDE@|$(INCLUDE)|' library/pslinkConfig.cmake.in >$(DESTDIR)$(CONFIG)/pslinkConfig.cmake
+	sed -e 's|@VERSION@|$(VERSION)|' library/pslinkConfigVersion.cmake.in >$(DESTDIR)$(CONFIG)/pslinkConfigVersion.cmake
+	chmod 644 $(DESTDIR)$(LIBDIR)/pkgconfig/pslink.pc $(DESTDIR)$(CONFIG)/*.cmake
 
 # the test vectors, and what shells, make and CMake read
 install-texts:
-	install -d $(DESTDIR)$(PREFIX)/include $(DESTDIR)$(PREFIX)/lib/cmake/pslink $(DESTDIR)$(DOC)/vectors
+	install -d $(DESTDIR)$(INCLUDE) $(DESTDIR)$(CONFIG) $(DESTDIR)$(DOC)/vectors
 	install -d $(DESTDIR)$(BASH_FOLDER) $(DESTDIR)$(ZSH_FOLDER) $(DESTDIR)$(FISH_FOLDER)
 	vectors/make_vectors.py $(DESTDIR)$(DOC)/vectors
 	sed -e 's|(\.\./docs/|(../|g' vectors/README.md >$(DESTDIR)$(DOC)/vectors/README.md
@@ -67,18 +84,27 @@ install-texts:
 	install -m 644 completions/pslink.bash $(DESTDIR)$(BASH_FOLDER)/pslink
 	install -m 644 completions/_pslink $(DESTDIR)$(ZSH_FOLDER)/_pslink
 	install -m 644 completions/pslink.fish $(DESTDIR)$(FISH_FOLDER)/pslink.fish
-	install -m 644 rules/pslink.mk $(DESTDIR)$(PREFIX)/include/pslink.mk
-	install -m 644 rules/pslink-config.cmake $(DESTDIR)$(PREFIX)/lib/cmake/pslink/pslink-config.cmake
-	sed -e 's|@VERSION@|$(VERSION)|' rules/pslink-config-version.cmake.in >$(DESTDIR)$(PREFIX)/lib/cmake/pslink/pslink-config-version.cmake
+	install -m 644 rules/pslink.mk $(DESTDIR)$(INCLUDE)/pslink.mk
+	install -m 644 rules/pslink-config.cmake $(DESTDIR)$(CONFIG)/pslink-config.cmake
+	sed -e 's|@VERSION@|$(VERSION)|' rules/pslink-config-version.cmake.in >$(DESTDIR)$(CONFIG)/pslink-config-version.cmake
 
-# the program, the library and all that is read beside them, in one file, and which C library they need
+# what install-built puts in place, and the folders that are pslink's own
+uninstall:
+	rm -f $(DESTDIR)$(PREFIX)/bin/pslink $(addprefix $(DESTDIR)$(INCLUDE)/,pslink.h pslink.mk)
+	rm -f $(addprefix $(DESTDIR)$(LIBDIR)/,libpslink.a libpslink.so libpslink.so.1 pkgconfig/pslink.pc)
+	rm -f $(addprefix $(DESTDIR)$(MAN)/,man1/pslink.1 man3/pslink.3 man5/pslink.5 $(CALLS:%=man3/%.3))
+	rm -f $(DESTDIR)$(BASH_FOLDER)/pslink $(DESTDIR)$(ZSH_FOLDER)/_pslink $(DESTDIR)$(FISH_FOLDER)/pslink.fish
+	rm -rf $(DESTDIR)$(DOC) $(DESTDIR)$(CONFIG)
+
+# the program, the library and all that is read beside them, in one file, and what they need
 dist: build lib
-	rm -rf $(LIBRARY)/$(DIST)
-	$(MAKE) --no-print-directory install-built PREFIX=/usr/local DESTDIR=$(LIBRARY)/$(DIST)/root
-	mv $(LIBRARY)/$(DIST)/root/usr/local/* $(LIBRARY)/$(DIST)
-	rm -r $(LIBRARY)/$(DIST)/root
-	sed -i 's|^prefix=.*|prefix=$${pcfiledir}/../..|' $(LIBRARY)/$(DIST)/lib/pkgconfig/pslink.pc
-	cp -r LICENSE README.md samples bindings $(LIBRARY)/$(DIST)
-	ln -s share/doc/pslink/vectors $(LIBRARY)/$(DIST)/vectors
-	library/needs $(LIBRARY)/$(DIST)/bin/pslink $(LIBRARY)/libpslink.so.1 | tee $(LIBRARY)/$(DIST)/NEEDS
-	tar --sort=name --owner=0 --group=0 --numeric-owner --mtime=@0 -C $(LIBRARY) -czf $(DIST).tar.gz $(DIST)
+	rm -rf $(PACKED)
+	$(MAKE) --no-print-directory install-built PREFIX=/usr/local LIBDIR=/usr/local/lib DESTDIR=$(PACKED)/root
+	mv $(PACKED)/root/usr/local/* $(PACKED)
+	rm -r $(PACKED)/root $(PACKED)/share/doc/pslink/include
+	mv $(PACKED)/share/doc/pslink/* $(PACKED)
+	rm -r $(PACKED)/share/doc
+	sed -i -e 's|^prefix=.*|prefix=$${pcfiledir}/../..|' -e 's|^libdir=.*|libdir=$${prefix}/lib|' $(PACKED)/lib/pkgconfig/pslink.pc
+	sed -i 's|"/usr/local/include"|"../include"|' $(PACKED)/lib/cmake/pslink/pslinkConfig.cmake
+	library/needs $(PACKED)/bin/pslink $(PACKED)/lib/libpslink.so.1 | tee $(PACKED)/NEEDS
+	tar --sort=name --owner=0 --group=0 --numeric-owner --mtime=@0 -C $(PACKED) -czf $(TARBALL) --transform='s|^[.]|$(DIST)|' .

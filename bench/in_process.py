@@ -1,7 +1,12 @@
 #!/usr/bin/env python3
-"""Times links in one process, through the library for C, beside runs of the program: the sample pair, and sixteen segments
-all of whose bytes are operands. Usage: in_process.py PSLINK FOLDER, the folder with libpslink.a"""
+"""Times links in one process, through the library in C, Python and Rust, beside runs of the program: the sample pair, the same
+host without a library, a file of no bytes, and sixteen segments all of whose bytes are operands. Where valgrind is there, also
+the instructions that a link in C takes; where there is no cargo, Rust is left out. The archive of another library with the
+functions of pslink.h, if one is given, is measured beside, in C.
+Usage: in_process.py PSLINK FOLDER [ARCHIVE]: the program, the folder with libpslink.a and libpslink.so.1, the other archive"""
 import os
+import re
+import shutil
 import subprocess
 import sys
 import tempfile
@@ -12,27 +17,115 @@ from large_files import files_full_of_operands
 
 ROOT = Path(__file__).resolve().parent.parent
 RUNS = 20
+MANIFEST = f"""[package]
+name = "in_process"
+version = "0.0.0"
+edition = "2021"
+[[bin]]
+name = "in_process"
+path = "{ROOT}/bench/in_process.rs"
+[dependencies]
+pslink = {{ path = "{ROOT}/bindings/rust" }}
+"""
+
+
+def cases():
+    """What is linked, how often, and the files by their names, the host first."""
+    host, library = ((ROOT / f"samples/{name}.code").read_bytes() for name in ("host", "library"))
+    yield "the sample pair", 20_000, {"host": host, "library": library}
+    yield "a refused link", 20_000, {"host": host}
+    yield "a file of no bytes", 20_000, {"host": b""}
+    yield "sixteen full segments", 20, files_full_of_operands()
+
+
+def built_in_c(folder, archive):
+    """The program in C over an archive."""
+    timer = Path(tempfile.mkdtemp(dir=folder)) / "in_c"
+    compiler = [os.environ.get("CC", "cc"), "-O2", f"-I{ROOT}/include", f"-I{ROOT}/library/tests"]
+    subprocess.run([*compiler, ROOT / "bench/in_process.c", archive, "-lpthread", "-ldl", "-lm", "-o", timer], check=True)
+    return timer
+
+
+def built_in_rust(folder, archive):
+    """The program in Rust over an archive; None where there is no cargo."""
+    if not shutil.which("cargo"):
+        return None
+    (folder / "rust").mkdir()
+    (folder / "rust/Cargo.toml").write_text(MANIFEST)
+    env = {**os.environ, "PSLINK_LIB_DIR": str(archive.parent), "CARGO_TARGET_DIR": str(folder / "target")}
+    subprocess.run(["cargo", "build", "--release", "--quiet", "--offline"], cwd=folder / "rust", env=env, check=True)
+    return folder / "target/release/in_process"
+
+
+def microseconds(folder, timer, turns, names):
+    ran = subprocess.run([timer, str(turns), *names], cwd=folder, capture_output=True, text=True, check=True)
+    return float(ran.stdout)
+
+
+def instructions(folder, timer, turns, names):
+    """The instructions of a link: what more turns take more."""
+    few, many = 1, 1 + min(turns, 100)
+    counts = []
+    for number in (few, many):
+        words = ["valgrind", "--tool=callgrind", "--callgrind-out-file=/dev/null", timer, str(number), *names]
+        ran = subprocess.run(words, cwd=folder, capture_output=True, text=True, check=True)
+        counts.append(int(re.search(r"Collected : (\d+)", ran.stderr)[1]))
+    return (counts[1] - counts[0]) / (many - few)
+
+
+def of_python(turns, files):
+    """The microseconds of a link in Python, in this process."""
+    import pslink
+
+    host, *libraries = files.values()
+    start = time.perf_counter()
+    for _ in range(turns):
+        try:
+            pslink.link(host, libraries)
+        except pslink.Refused:
+            pass
+    return 1e6 * (time.perf_counter() - start) / turns
+
+
+def of_program(folder, pslink, names):
+    host, *libraries = names
+    start = time.perf_counter()
+    for _ in range(RUNS):
+        subprocess.run([pslink, "link", host, "out", *libraries], cwd=folder, capture_output=True, check=False)
+    return 1e6 * (time.perf_counter() - start) / RUNS
+
+
+def report(folder, pslink, in_c, in_rust, other):
+    for what, turns, files in cases():
+        for name, data in files.items():
+            (folder / name).write_bytes(data)
+        names = list(files)
+        said = [f"C {microseconds(folder, in_c, turns, names):.2f}", f"Python {of_python(min(turns, 5000), files):.2f}"]
+        if in_rust:
+            said.append(f"Rust {microseconds(folder, in_rust, turns, names):.2f}")
+        said.append(f"the program {of_program(folder, pslink, names):.0f}")
+        if other:
+            said.append(f"the other library {microseconds(folder, other, turns, names):.2f}")
+        print(f"{what}, microseconds a link: {', '.join(said)}", flush=True)
+        if shutil.which("valgrind"):
+            counts = [f"{instructions(folder, in_c, turns, names):.0f}"]
+            if other:
+                counts.append(f"of the other library {instructions(folder, other, turns, names):.0f}")
+            print(f"{what}, instructions a link in C: {', '.join(counts)}", flush=True)
 
 
 def main():
-    if len(sys.argv) != 3:
+    if len(sys.argv) not in (3, 4):
         sys.exit(__doc__)
-    pslink, archive = Path(sys.argv[1]).resolve(), Path(sys.argv[2]).resolve() / "libpslink.a"
-    samples = {name: (ROOT / f"samples/{name}.code").read_bytes() for name in ("host", "library")}
-    with tempfile.TemporaryDirectory() as folder:
-        timer = Path(folder) / "in_process"
-        compiler = [os.environ.get("CC", "cc"), "-O2", f"-I{ROOT}/include", f"-I{ROOT}/library/tests"]
-        subprocess.run([*compiler, ROOT / "bench/in_process.c", archive, "-o", timer], check=True)
-        for what, turns, files in (("the sample pair", 20_000, samples), ("sixteen full segments", 20, files_full_of_operands())):
-            for name, data in files.items():
-                (Path(folder) / name).write_bytes(data)
-            host, *libraries = files
-            ran = subprocess.run([timer, str(turns), host, *libraries], cwd=folder, capture_output=True, text=True, check=True)
-            start = time.perf_counter()
-            for _ in range(RUNS):
-                subprocess.run([pslink, "link", host, "out", *libraries], cwd=folder, capture_output=True, check=True)
-            by_program = 1e6 * (time.perf_counter() - start) / RUNS
-            print(f"{what}: {float(ran.stdout):.1f} microseconds a link in process, {by_program:.0f} by the program", flush=True)
+    pslink, built, *others = (Path(path).resolve() for path in sys.argv[1:])
+    os.environ["PSLINK_LIBRARY"] = str(built / "libpslink.so.1")
+    sys.path.insert(0, str(ROOT / "bindings/python"))
+    sys.dont_write_bytecode = True
+    with tempfile.TemporaryDirectory() as name:
+        folder = Path(name)
+        other = built_in_c(folder, others[0]) if others else None
+        archive = built / "libpslink.a"
+        report(folder, pslink, built_in_c(folder, archive), built_in_rust(folder, archive), other)
 
 
 if __name__ == "__main__":

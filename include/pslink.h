@@ -8,45 +8,48 @@
  *
  *     #include <pslink.h>
  *     #include <stdio.h>
- *     #include <stdlib.h>
  *
- *     // host and library are two whole code files that were read before
- *     int link_two(const void *host, size_t host_length, const void *library, size_t library_length)
+ *     // Writes the file to which host and library are linked; both are whole code files that were
+ *     // read before. Returns 0 where that was done.
+ *     int link_two(const void *host, size_t host_length, const void *library,
+ *                  size_t library_length, FILE *stream)
  *     {
- *         unsigned char *out = malloc(PSLINK_LINKED_MAX);
+ *         static unsigned char out[PSLINK_LINKED_MAX];
+ *         char text[PSLINK_FAULT_TEXT_MAX];
  *         pslink_answer answer;
  *
- *         if (out == NULL)
- *             return 1;
- *         if (pslink_link(host, host_length, library, &library_length, 1, out, PSLINK_LINKED_MAX,
- *                         &answer) == PSLINK_DONE)
- *             fwrite(out, 1, answer.written, stdout);
- *         else if (answer.status == PSLINK_REFUSED) {
- *             char text[PSLINK_FAULT_TEXT_MAX];
- *             pslink_fault_text(&answer, text, sizeof text);
+ *         if (pslink_link(host, host_length, library, library_length, &library_length, 1, out,
+ *                         sizeof out, &answer) == PSLINK_DONE)
+ *             return fwrite(out, 1, answer.written, stream) != answer.written ||
+ *                    fflush(stream) != 0;
+ *         if (pslink_fault_text(&answer, text, sizeof text) != 0 ||
+ *             pslink_status_text(answer.status, text, sizeof text) != 0)
  *             fprintf(stderr, "pslink: %s\n", text);
- *         }
- *         free(out);
- *         return answer.status != PSLINK_DONE;
+ *         return 1;
  *     }
  *
  * Build it with -lpslink (pkg-config: pslink).
  *
- * Any bytes may be given as a file: one that is no code file is refused. That the result is right is
- * proved: what is in `out` after PSLINK_DONE, and which fault a refusal names. The proof reaches
- * from these functions down. What it asks of the caller is on this page:
+ * Any bytes may be given as a file: one that is no code file is refused. That the result is right
+ * is proved: what is in `out` after PSLINK_DONE, and which fault a refusal names. It is proved of
+ * the functions that the library exports, whose names end in `_nonnull`, and of pslink_version. The
+ * others are inline functions of this header over them, which are tested. What the proof asks of
+ * the caller is on this page:
  *
- * - A pointer with its length names memory of the caller that is there for the whole call: it may be
- *   read, and for `out` and `answer` also written. A length is at most PTRDIFF_MAX. A pointer may be
- *   NULL where its length is 0. `answer` is never NULL, and is aligned as its type asks.
- * - `out` and `answer` overlap each other in no byte, and nothing else that the call is given. Inputs
- *   may overlap one another. No thread writes to what is given during the call, and none reads `out`
- *   or `answer`.
+ * - A pointer with its length names memory of the caller that is there for the whole call: it may
+ *   be read, and for `out` and `answer` also written. A length is at most PTRDIFF_MAX bytes. A
+ *   pointer may be NULL where its length is 0. `lengths` is aligned as a size_t is. `answer` is
+ *   never NULL, and is aligned as its type is.
+ * - `out` and `answer` overlap each other in no byte, and nothing else that the call is given.
+ *   Inputs may overlap one another. No thread writes to what is given during the call, and none
+ *   reads `out` or `answer`.
+ * - malloc, realloc and free are one allocator, which aligns a block to each power of two up to 16
+ *   that divides its size.
  * - `answer` need not be set before a call. Each field of it is written by each call, with 0 where
  *   only the status is set.
  *
  * Threads: any number of threads may call at once. There is no lock and no state.
- * Allocator: a call takes memory by malloc and realloc of the C library and returns all of it by free
+ * Memory: a call takes memory by malloc and realloc of the C library and returns all of it by free
  * before it ends. A link of up to 256 libraries requests none before it has read the files.
  * Stack: leave a call 128 KB; a link takes about 100.
  * Signals: no function is to be called from a signal handler, nor, where the process has threads,
@@ -64,21 +67,70 @@
 extern "C" {
 #endif
 
-/* The version of this interface. A change that a caller can see raises it. */
+/* The version of this interface. What breaks a caller raises it; a function that is added does
+   not. */
 #define PSLINK_VERSION 1
 
-/* What a function returns, and the field `status`. */
+/* The release of pslink that this header is of. */
+#define PSLINK_RELEASE "0.1.0"
+
+/*
+ * What a function returns, and the field `status`: the statuses of the program pslink. Its status
+ * 3, of a file that cannot be read or written, is not used: the library reads and writes none.
+ */
 #define PSLINK_DONE 0u          /* done: `out` begins with the result */
 #define PSLINK_REFUSED 1u       /* the files are refused, for the fault in `answer` */
 #define PSLINK_WRONG_LENGTHS 2u /* `lengths` do not add up to `libs_length` */
-#define PSLINK_NO_MEMORY 4u     /* malloc or realloc returned NULL */
+#define PSLINK_NO_MEMORY 4u     /* malloc or realloc returned NULL, or the libraries of a function
+                                   whose name ends in `_files` have more than PTRDIFF_MAX bytes
+                                   together with a size_t for each: no block of memory is as long */
 #define PSLINK_TOO_SMALL 5u     /* `out` is shorter than the result, which has `needed` bytes */
 
 /* How many bytes a linked file has at most: with so much room, no link is PSLINK_TOO_SMALL. */
-#define PSLINK_LINKED_MAX ((size_t)524800)
+#define PSLINK_LINKED_MAX 524800u
 
-/* How many bytes the text of a fault has at most, the closing 0 counted. */
-#define PSLINK_FAULT_TEXT_MAX ((size_t)160)
+/* How many bytes the text of a fault, the name of a fault, the text of a status and the release
+   have at most, the closing 0 counted. */
+#define PSLINK_FAULT_TEXT_MAX 160u
+
+/* The faults, by their numbers. pslink(1) says when each is reported, and what to do about it. */
+/* made by man/make_constants.py from crates/ps_words/src/fault.rt */
+#define PSLINK_FAULT_SHORT_FILE         1
+#define PSLINK_FAULT_NO_ORDER           2
+#define PSLINK_FAULT_ORDER_MISMATCH     3
+#define PSLINK_FAULT_NO_HOST            4
+#define PSLINK_FAULT_TWO_HOSTS          5
+#define PSLINK_FAULT_DOUBLED_SEGMENT    6
+#define PSLINK_FAULT_SEGMENT_PROCEDURE  7
+#define PSLINK_FAULT_NATIVE_SEGMENT     8
+#define PSLINK_FAULT_INTRINSIC          9
+#define PSLINK_FAULT_UNKNOWN_KIND       10
+#define PSLINK_FAULT_BAD_LENGTH         11
+#define PSLINK_FAULT_BAD_ADDRESS        12
+#define PSLINK_FAULT_MISSING_UNIT       13
+#define PSLINK_FAULT_NOT_A_UNIT         14
+#define PSLINK_FAULT_DOUBLED_UNIT       15
+#define PSLINK_FAULT_TRUNCATED          16
+#define PSLINK_FAULT_BAD_PROC_DICT      17
+#define PSLINK_FAULT_NATIVE_PROCEDURE   18
+#define PSLINK_FAULT_RECORDS_TRUNCATED  19
+#define PSLINK_FAULT_UNKNOWN_RECORD     20
+#define PSLINK_FAULT_NATIVE_RECORD      21
+#define PSLINK_FAULT_SEPARATE_RECORD    22
+#define PSLINK_FAULT_BAD_FORMAT         23
+#define PSLINK_FAULT_DOUBLED_DEFINITION 24
+#define PSLINK_FAULT_DOUBLED_PRIVATE    25
+#define PSLINK_FAULT_NO_ROOM            26
+#define PSLINK_FAULT_DATA_TOO_LARGE     27
+#define PSLINK_FAULT_MISSING_DEFINITION 28
+#define PSLINK_FAULT_ILL_KIND           29
+#define PSLINK_FAULT_MISSING_UNIT_REF   30
+#define PSLINK_FAULT_OUTSIDE_CODE       31
+#define PSLINK_FAULT_RESERVED_PLACE     32
+#define PSLINK_FAULT_OVERLAP            33
+#define PSLINK_FAULT_OPERAND_TOO_LARGE  34
+#define PSLINK_FAULT_NO_SLOT            35
+/* end */
 
 /*
  * What a call answers.
@@ -117,7 +169,10 @@ typedef struct pslink_file {
     size_t length;
 } pslink_file;
 
-/* The functions of the library under their own names: as those below, but no pointer is NULL. */
+/*
+ * The functions of the library under their own names: as those below, but no pointer is NULL. A
+ * language that loads functions by name finds these, and no others.
+ */
 uint32_t pslink_link_nonnull(const void *host, size_t host_length, const void *libs,
                              size_t libs_length, const size_t *lengths, size_t count, void *out,
                              size_t out_length, pslink_answer *answer);
@@ -127,6 +182,9 @@ uint32_t pslink_map_nonnull(const void *host, size_t host_length, const void *li
 uint32_t pslink_show_nonnull(const void *file, size_t file_length, void *out, size_t out_length,
                              pslink_answer *answer);
 size_t pslink_fault_text_nonnull(const pslink_answer *answer, void *out, size_t out_length);
+size_t pslink_fault_name_nonnull(uint8_t fault, void *out, size_t out_length);
+size_t pslink_status_text_nonnull(uint32_t status, void *out, size_t out_length);
+size_t pslink_release_nonnull(void *out, size_t out_length);
 
 /* The version of the library: PSLINK_VERSION of the header that it was built with. */
 uint32_t pslink_version(void);
@@ -155,23 +213,34 @@ static inline uint32_t pslink_map(const void *host, size_t host_length, const vo
                                   void *out, size_t out_length, pslink_answer *answer);
 
 /*
- * What a code file has, of any contents, as ASCII text without a closing 0: its slots and the records
- * of its link information. It is refused as 1 ShortFile or 2 NoOrder only.
+ * What a code file has, of any contents, as ASCII text without a closing 0: its slots and the
+ * records of its link information. It is refused as 1 ShortFile or 2 NoOrder only.
  */
 static inline uint32_t pslink_show(const void *file, size_t file_length, void *out,
                                    size_t out_length, pslink_answer *answer);
 
 /*
- * The text of the fault in `answer`, as "refused 13 MissingUnit file 0 slot 7", with a
- * closing 0. Returns how many bytes it takes, the closing 0 counted. Where `out_length` is less,
- * nothing is written. Returns 0, and writes nothing, where `answer` is of no refusal.
+ * The text of the fault in `answer`, as "refused 13 MissingUnit file 0 slot 7", with a closing 0.
+ * Returns how many bytes it takes, the closing 0 counted, at most PSLINK_FAULT_TEXT_MAX. Where
+ * `out_length` is less, nothing is written. Returns 0, and writes nothing, where `answer` is of no
+ * refusal.
  */
 static inline size_t pslink_fault_text(const pslink_answer *answer, char *out, size_t out_length);
+
+/* In the same way the name of the fault of this number, as "MissingUnit"; 0 where there is none. */
+static inline size_t pslink_fault_name(uint8_t fault, char *out, size_t out_length);
+
+/* In the same way what a status says, as "out of memory"; 0 where no function returns it. */
+static inline size_t pslink_status_text(uint32_t status, char *out, size_t out_length);
+
+/* In the same way the release of the library, as "0.1.0": PSLINK_RELEASE of its own header. */
+static inline size_t pslink_release(char *out, size_t out_length);
 
 /*
  * The same links and maps, of libraries that are anywhere in memory: `libs` has a pointer and a
  * length for each. It copies them one after another into memory of malloc, and frees that again:
- * where malloc returns NULL, the answer is PSLINK_NO_MEMORY also where the files have a fault.
+ * where it cannot have that memory, the answer is PSLINK_NO_MEMORY, also where the files have a
+ * fault.
  */
 static inline uint32_t pslink_link_files(pslink_file host, const pslink_file *libs, size_t count,
                                          void *out, size_t out_length, pslink_answer *answer);
@@ -180,40 +249,75 @@ static inline uint32_t pslink_map_files(pslink_file host, const pslink_file *lib
 
 /* What follows is of no interest to a caller. */
 
-/* Memory to point to in place of NULL; nothing is read or written there. */
-static inline void *pslink_at(const void *bytes)
+/* A pointer of another type in place of a `void *`, without a cast where none is needed. */
+#ifdef __cplusplus
+#define PSLINK_POINTER(type, pointer) static_cast<type *>(pointer)
+#else
+#define PSLINK_POINTER(type, pointer) (pointer)
+#endif
+
+/* What to point to in place of NULL; nothing is read or written there. */
+static inline const void *pslink_read_at(const void *bytes)
 {
-    static uint64_t nothing;
-    return bytes == NULL ? (void *)&nothing : (void *)(uintptr_t)bytes;
+    static const size_t nothing = 0;
+    return bytes == NULL ? &nothing : bytes;
+}
+
+static inline const size_t *pslink_lengths_at(const size_t *lengths)
+{
+    static const size_t nothing = 0;
+    return lengths == NULL ? &nothing : lengths;
+}
+
+static inline void *pslink_write_at(void *bytes)
+{
+    static size_t nothing;
+    return bytes == NULL ? &nothing : bytes;
 }
 
 static inline uint32_t pslink_link(const void *host, size_t host_length, const void *libs,
                                    size_t libs_length, const size_t *lengths, size_t count,
                                    void *out, size_t out_length, pslink_answer *answer)
 {
-    return pslink_link_nonnull(pslink_at(host), host_length, pslink_at(libs), libs_length,
-                               (const size_t *)pslink_at(lengths), count, pslink_at(out),
-                               out_length, answer);
+    return pslink_link_nonnull(pslink_read_at(host), host_length, pslink_read_at(libs), libs_length,
+                               pslink_lengths_at(lengths), count, pslink_write_at(out), out_length,
+                               answer);
 }
 
 static inline uint32_t pslink_map(const void *host, size_t host_length, const void *libs,
                                   size_t libs_length, const size_t *lengths, size_t count,
                                   void *out, size_t out_length, pslink_answer *answer)
 {
-    return pslink_map_nonnull(pslink_at(host), host_length, pslink_at(libs), libs_length,
-                              (const size_t *)pslink_at(lengths), count, pslink_at(out),
-                              out_length, answer);
+    return pslink_map_nonnull(pslink_read_at(host), host_length, pslink_read_at(libs), libs_length,
+                              pslink_lengths_at(lengths), count, pslink_write_at(out), out_length,
+                              answer);
 }
 
 static inline uint32_t pslink_show(const void *file, size_t file_length, void *out,
                                    size_t out_length, pslink_answer *answer)
 {
-    return pslink_show_nonnull(pslink_at(file), file_length, pslink_at(out), out_length, answer);
+    return pslink_show_nonnull(pslink_read_at(file), file_length, pslink_write_at(out), out_length,
+                               answer);
 }
 
 static inline size_t pslink_fault_text(const pslink_answer *answer, char *out, size_t out_length)
 {
-    return pslink_fault_text_nonnull(answer, pslink_at(out), out_length);
+    return pslink_fault_text_nonnull(answer, pslink_write_at(out), out_length);
+}
+
+static inline size_t pslink_fault_name(uint8_t fault, char *out, size_t out_length)
+{
+    return pslink_fault_name_nonnull(fault, pslink_write_at(out), out_length);
+}
+
+static inline size_t pslink_status_text(uint32_t status, char *out, size_t out_length)
+{
+    return pslink_status_text_nonnull(status, pslink_write_at(out), out_length);
+}
+
+static inline size_t pslink_release(char *out, size_t out_length)
+{
+    return pslink_release_nonnull(pslink_write_at(out), out_length);
 }
 
 /* A status, with every other field 0. */
@@ -234,9 +338,10 @@ static inline uint32_t pslink_call_files(pslink_call *call, pslink_file host,
                                          const pslink_file *libs, size_t count, void *out,
                                          size_t out_length, pslink_answer *answer)
 {
-    const size_t most = (size_t)PTRDIFF_MAX;
+    const size_t most = PTRDIFF_MAX;
     size_t total = 0, at = 0, k;
     size_t *lengths;
+    void *block, *behind;
     char *bytes;
     uint32_t status;
 
@@ -247,19 +352,21 @@ static inline uint32_t pslink_call_files(pslink_call *call, pslink_file host,
             return pslink_bare(PSLINK_NO_MEMORY, answer);
         total += libs[k].length;
     }
-    lengths = (size_t *)malloc(count * sizeof *lengths + total + 1);
-    if (lengths == NULL)
+    block = malloc(count * sizeof *lengths + total + 1);
+    if (block == NULL)
         return pslink_bare(PSLINK_NO_MEMORY, answer);
-    bytes = (char *)(lengths + count);
+    lengths = PSLINK_POINTER(size_t, block);
+    behind = lengths + count;
+    bytes = PSLINK_POINTER(char, behind);
     for (k = 0; k < count; k++) {
         lengths[k] = libs[k].length;
         if (libs[k].length != 0)
             memcpy(bytes + at, libs[k].bytes, libs[k].length);
         at += libs[k].length;
     }
-    status = call(pslink_at(host.bytes), host.length, bytes, total, lengths, count, pslink_at(out),
-                  out_length, answer);
-    free(lengths);
+    status = call(pslink_read_at(host.bytes), host.length, bytes, total, lengths, count,
+                  pslink_write_at(out), out_length, answer);
+    free(block);
     return status;
 }
 
@@ -274,6 +381,8 @@ static inline uint32_t pslink_map_files(pslink_file host, const pslink_file *lib
 {
     return pslink_call_files(pslink_map_nonnull, host, libs, count, out, out_length, answer);
 }
+
+#undef PSLINK_POINTER
 
 #ifdef __cplusplus
 }

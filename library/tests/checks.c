@@ -136,6 +136,8 @@ static void check_memory(enum call call)
             check(status == PSLINK_DONE && memcmp(room, result->bytes, result->length) == 0,
                   "with all memory it is not done", (size_t)turn);
             check(turn > 0, "no memory was asked for", (size_t)call);
+            if (call == LINK)
+                printf("a link requests memory %ld times\n", turn);
             return;
         }
         check(status == PSLINK_NO_MEMORY && is_bare(&answer, status), "memory is refused, and the answer is another",
@@ -232,6 +234,70 @@ static void check_lengths(void)
     check(pslink_version() == PSLINK_VERSION, "the version is another", pslink_version());
 }
 
+/* The text of each fault with the largest numbers, and the names of faults and statuses, in rooms that are just enough. */
+static void check_texts(void)
+{
+    static const char *const statuses[] = {"done", "the files are refused", "the lengths of the libraries do not add up", NULL,
+                                           "out of memory", "the room is shorter than the result", NULL};
+    char text[PSLINK_FAULT_TEXT_MAX], wanted[2 * PSLINK_FAULT_TEXT_MAX], name[PSLINK_FAULT_TEXT_MAX];
+    pslink_answer answer;
+    size_t longest = 0, size;
+    uint32_t number;
+
+    memset(&answer, 0xFF, sizeof answer);
+    answer.status = PSLINK_REFUSED;
+    for (number = 0; number < 256; number++) {
+        answer.fault = (uint8_t)number;
+        size = pslink_fault_name(answer.fault, name, sizeof name);
+        check((size != 0) == (number >= 1 && number <= 35), "a fault has no name, or what is none has one", number);
+        if (size == 0) {
+            check(pslink_fault_text(&answer, text, sizeof text) == 0, "what is no fault has a text", number);
+            continue;
+        }
+        check(size == strlen(name) + 1, "a name is not closed", number);
+        snprintf(wanted, sizeof wanted, "refused %u %s%s file %zu slot 255 record %zu reference %zu", (unsigned)number, name,
+                 number == PSLINK_FAULT_NOT_A_UNIT ? " kind 65535" : "", SIZE_MAX, SIZE_MAX, SIZE_MAX);
+        size = strlen(wanted) + 1;
+        longest = size > longest ? size : longest;
+        memset(text, FILLER, sizeof text);
+        check(pslink_fault_text(&answer, text, size - 1) == size && is_untouched((unsigned char *)text, 0, sizeof text),
+              "a text is written where it does not fit", number);
+        check(pslink_fault_text(&answer, text, size) == size && strcmp(text, wanted) == 0, "a longest text is another", number);
+        check(is_untouched((unsigned char *)text, size, sizeof text), "what is behind a text is written to", number);
+    }
+    check(longest > 100 && longest <= PSLINK_FAULT_TEXT_MAX, "the longest text has another length", longest);
+    check(pslink_fault_name(PSLINK_FAULT_MISSING_UNIT, name, sizeof name) == sizeof "MissingUnit" && strcmp(name, "MissingUnit") == 0,
+          "the name of a fault is another", PSLINK_FAULT_MISSING_UNIT);
+    check(pslink_fault_name(PSLINK_FAULT_MISSING_UNIT, NULL, 0) == sizeof "MissingUnit", "the length of a name is another", 0);
+    for (number = 0; number < sizeof statuses / sizeof *statuses; number++) {
+        size = statuses[number] == NULL ? 0 : strlen(statuses[number]) + 1;
+        memset(text, FILLER, sizeof text);
+        check(pslink_status_text(number, text, sizeof text) == size && (size == 0 || strcmp(text, statuses[number]) == 0),
+              "what a status says is another", number);
+        check(is_untouched((unsigned char *)text, size, sizeof text), "what is behind a status is written to", number);
+        check(size == 0 || (pslink_status_text(number, text + size, size - 1) == size &&
+                            is_untouched((unsigned char *)text, size, sizeof text)),
+              "what a status says is written where it does not fit", number);
+    }
+    check(pslink_release(text, sizeof text) == sizeof PSLINK_RELEASE && strcmp(text, PSLINK_RELEASE) == 0,
+          "the release is another", 0);
+}
+
+/* Lengths that no block of memory can have. */
+static void check_too_long(void)
+{
+    const pslink_file too_long[2] = {{library.bytes, PTRDIFF_MAX}, {library.bytes, SIZE_MAX}};
+    pslink_answer answer;
+
+    check(pslink_link_files(host, too_long, 1, NULL, 0, &answer) == PSLINK_NO_MEMORY && is_bare(&answer, PSLINK_NO_MEMORY),
+          "a library that is too long is taken", 1);
+    check(pslink_map_files(host, too_long, 2, NULL, 0, &answer) == PSLINK_NO_MEMORY, "libraries that are too long are taken", 2);
+    check(pslink_map_files(host, too_long, SIZE_MAX, NULL, 0, &answer) == PSLINK_NO_MEMORY, "too many libraries are taken", 3);
+#if PSLINK_LINKED_MAX != 1025 * 512 || PSLINK_FAULT_TEXT_MAX < 125 || PSLINK_VERSION < 1 || PSLINK_FAULT_NO_SLOT != 35
+    check(0, "the constants are others", 0);
+#endif
+}
+
 static void *link_often(void *is_well)
 {
     static const int turns = 200;
@@ -285,6 +351,8 @@ int main(int argc, char **argv)
     check_refusals();
     check_file_of_a_fault();
     check_lengths();
+    check_texts();
+    check_too_long();
     check_threads();
     return failures != 0;
 }

@@ -7,11 +7,13 @@
 
 #include "read_file.h"
 
+#define LIBRARIES 4096
+
 /* The libraries one after another, as pslink_link and pslink_map take them. */
 struct libraries {
     char *bytes;
     size_t length;
-    size_t lengths[400];
+    size_t lengths[LIBRARIES];
     size_t count;
 };
 
@@ -20,6 +22,8 @@ static struct libraries read_libraries(char **paths, int count)
     struct libraries libs = {NULL, 0, {0}, 0};
     int k;
 
+    if (count > LIBRARIES)
+        exit(2);
     for (k = 0; k < count; k++) {
         pslink_file file = read_file(paths[k]);
         libs.bytes = (char *)realloc(libs.bytes, libs.length + file.length + 1);

@@ -1,38 +1,45 @@
 #!/usr/bin/env python3
-"""The program pslink over the Python binding: as program.c beside."""
+"""The program pslink over the Python package: as program.c beside."""
 import pathlib
 import sys
 
 sys.path.insert(0, str(pathlib.Path(__file__).resolve().parents[2] / "bindings/python"))
 import pslink  # noqa: E402
 
+PARTS = ["kind", "file", "slot", "record", "reference"]
+
+
+def refusal(fault):
+    """The line of a refusal, whose text and parts are one."""
+    parts = [f"refused {fault.number} {fault.name}", *(f"{name} {getattr(fault, name)}" for name in PARTS if getattr(fault, name) is not None)]
+    return f"pslink: {fault}\n" if " ".join(parts) == str(fault) else f"pslink: {parts} is not {fault}\n"
+
+
+def answer(command, host, libs):
+    """What the program answers: its status, its output and its error output, and of a link the file."""
+    try:
+        if command == "map":
+            return 0, pslink.map(host, libs), "", None
+        if command == "show":
+            return 0, pslink.show(host), "", None
+        linked, summary = pslink.link_with_summary(host, libs)
+    except pslink.Refused as fault:
+        return 1, "", refusal(fault), None
+    numbers = f"segments {summary.segments} private words {summary.private_words} blocks {summary.blocks}\n"
+    return 0, numbers, "", linked
+
 
 def main():
     command, *paths = sys.argv[1:]
     out = paths.pop(1) if command == "link" else None
-    host, *libs = (pathlib.Path(path).read_bytes() for path in paths)
-    try:
-        if command == "link":
-            linked = pslink.link(host, libs)
-        else:
-            text = pslink.map(host, libs) if command == "map" else pslink.show(host)
-            sys.stdout.write(text)
-            return 0
-    except pslink.Refused as fault:
-        parts = [f"refused {fault.number}", str(fault).split()[2]]
-        for name in ["kind", "file", "slot", "record", "reference"]:
-            number = getattr(fault, name)
-            if number is not None:
-                parts.append(f"{name} {number}")
-        # (the text of the library, and the parts of the exception, are one)
-        sys.stderr.write(f"pslink: {fault}\n" if " ".join(parts) == str(fault) else f"pslink: {parts} is not {fault}\n")
-        return 1
-    pathlib.Path(out).write_bytes(linked)
-    words = [line.split() for line in pslink.map(host, libs).splitlines()]
-    segments = sum(line[0] == "segment" for line in words)
-    private_words = sum(int(line[-1]) for line in words if line[0] == "private")
-    print(f"segments {segments} private words {private_words} blocks {len(linked) // 512}")
-    return 0
+    # (paths are read by the package)
+    status, printed, error, linked = answer(command, paths[0], paths[1:])
+    if linked is not None:
+        pathlib.Path(out).write_bytes(linked)
+    sys.stdout.write(printed)
+    sys.stderr.write(error)
+    return status
 
 
-sys.exit(main())
+if __name__ == "__main__":
+    sys.exit(main())

@@ -1,99 +1,56 @@
 //! The Linker of UCSD Pascal II.0 for Pascal units, from memory to memory, over `libpslink.a`.
 //!
+//! A host is a whole code file, and so is each library; both are bytes.
+//!
 //! ```no_run
-//! let host = std::fs::read("host.code").unwrap();
-//! let library = std::fs::read("library.code").unwrap();
-//! match pslink::link(&host, &[&library]) {
-//!     Ok(linked) => std::fs::write("linked.code", linked).unwrap(),
-//!     Err(error) => eprintln!("pslink: {error}"),
+//! fn main() -> Result<(), Box<dyn std::error::Error>> {
+//!     let host = std::fs::read("host.code")?;
+//!     let library = std::fs::read("library.code")?;
+//!     std::fs::write("linked.code", pslink::link(host, &[library])?)?;
+//!     Ok(())
 //! }
 //! ```
 
+mod raw;
+mod reason;
+
+pub use reason::Reason;
+
+use raw::Answer;
 use std::fmt;
+
+/// The version of the library's interface that this crate calls.
+pub const VERSION: u32 = 1;
+
+/// How many bytes a linked file has at most.
+pub const LINKED_MAX: usize = 524_800;
+
+/// How many bytes a text of the library has at most, its closing 0 counted.
+const FAULT_TEXT_MAX: usize = 160;
+
+/// Room for a text, at first.
+const TEXT_GUESS: usize = 4096;
 
 const DONE: u32 = 0;
 const REFUSED: u32 = 1;
+const NO_MEMORY: u32 = 4;
 const TOO_SMALL: u32 = 5;
-const LINKED_MAX: usize = 524_800;
-const TEXT_GUESS: usize = 65_536;
-const FAULT_TEXT_MAX: usize = 160;
 
-#[repr(C)]
-#[derive(Clone, Copy, Default)]
-struct Answer {
-    status: u32,
-    kind: u16,
-    fault: u8,
-    slot: u8,
-    has_kind: u8,
-    has_slot: u8,
-    has_record: u8,
-    has_reference: u8,
-    private_words: u32,
-    file: usize,
-    record: usize,
-    reference: usize,
-    segments: usize,
-    blocks: usize,
-    written: usize,
-    needed: usize,
-}
-
-type Call = unsafe extern "C" fn(
-    *const u8,
-    usize,
-    *const u8,
-    usize,
-    *const usize,
-    usize,
-    *mut u8,
-    usize,
-    *mut Answer,
-) -> u32;
-
-extern "C" {
-    fn pslink_link_nonnull(
-        host: *const u8,
-        host_length: usize,
-        libs: *const u8,
-        libs_length: usize,
-        lengths: *const usize,
-        count: usize,
-        out: *mut u8,
-        out_length: usize,
-        answer: *mut Answer,
-    ) -> u32;
-    fn pslink_map_nonnull(
-        host: *const u8,
-        host_length: usize,
-        libs: *const u8,
-        libs_length: usize,
-        lengths: *const usize,
-        count: usize,
-        out: *mut u8,
-        out_length: usize,
-        answer: *mut Answer,
-    ) -> u32;
-    fn pslink_show_nonnull(
-        file: *const u8,
-        file_length: usize,
-        out: *mut u8,
-        out_length: usize,
-        answer: *mut Answer,
-    ) -> u32;
-    fn pslink_fault_text_nonnull(answer: *const Answer, out: *mut u8, out_length: usize) -> usize;
-}
+/// The libraries of a program that uses no unit.
+pub const NO_LIBRARIES: &[&[u8]] = &[];
 
 /// The first fault of the files.
+///
+/// Its text is that which `pslink` prints, as `refused 13 MissingUnit file 0 slot 7`.
 #[derive(Clone, Debug, PartialEq, Eq)]
 pub struct Fault {
-    /// The number of the fault, 1 to 35.
-    pub number: u8,
-    /// The kind word of the library's entry, of fault 14.
+    /// Why the files are refused.
+    pub reason: Reason,
+    /// The kind word of the library's entry, of [`Reason::NotAUnit`].
     pub kind: Option<u16>,
     /// The file at fault: 0 is the host, k the k-th library, from 1.
     pub file: usize,
-    /// The slot of the host's segment dictionary.
+    /// The slot of the host's segment dictionary, 0 to 15.
     pub slot: Option<u8>,
     /// The index of the record in its segment's link information, from 0.
     pub record: Option<usize>,
@@ -102,41 +59,88 @@ pub struct Fault {
     text: String,
 }
 
+impl fmt::Display for Fault {
+    fn fmt(&self, f: &mut fmt::Formatter<'_>) -> fmt::Result {
+        f.write_str(&self.text)
+    }
+}
+
+impl std::error::Error for Fault {}
+
 /// Why there is no result.
 #[derive(Clone, Debug, PartialEq, Eq)]
+#[non_exhaustive]
 pub enum Error {
     /// The files are refused.
     Refused(Fault),
     /// Memory was refused.
     Memory,
+    /// The archive is of another version of the interface than [`VERSION`].
+    Version(u32),
+    /// The archive answered what that version does not.
+    Unknown(u32),
 }
 
 impl fmt::Display for Error {
     fn fmt(&self, f: &mut fmt::Formatter<'_>) -> fmt::Result {
         match self {
-            Error::Refused(fault) => f.write_str(&fault.text),
+            Error::Refused(fault) => fault.fmt(f),
             Error::Memory => f.write_str("out of memory"),
+            Error::Version(found) => {
+                write!(f, "libpslink.a has version {found}, and not {VERSION}")
+            }
+            Error::Unknown(status) => {
+                write!(f, "libpslink.a answered {status}, which is no status")
+            }
         }
     }
 }
 
 impl std::error::Error for Error {}
 
+impl From<Fault> for Error {
+    fn from(fault: Fault) -> Error {
+        Error::Refused(fault)
+    }
+}
+
+/// What a linked file has.
+#[derive(Clone, Copy, Debug, PartialEq, Eq)]
+pub struct Summary {
+    /// How many segments it has, at most 16.
+    pub segments: usize,
+    /// How many words all private variables take, at most 32767.
+    pub private_words: u32,
+    /// How many blocks of 512 bytes it has, at most 1025.
+    pub blocks: usize,
+}
+
+/// The text that a call puts, with a closing 0, in room that is long enough for each.
+fn text_of(call: impl FnOnce(&mut [u8]) -> usize) -> String {
+    let mut text = [0; FAULT_TEXT_MAX];
+    let size = call(&mut text);
+    let text = text.get(..size.saturating_sub(1)).unwrap_or_default();
+    String::from_utf8_lossy(text).into_owned()
+}
+
 impl Fault {
-    fn of(answer: &Answer) -> Fault {
-        let mut text = [0; FAULT_TEXT_MAX];
-        // SAFETY: both are there for the whole call, and `text` is as long as is said.
-        let size = unsafe { pslink_fault_text_nonnull(answer, text.as_mut_ptr(), text.len()) };
-        let text = &text[..size.saturating_sub(1)];
-        Fault {
-            number: answer.fault,
+    /// The fault of a refusal; `None` where its number is none of version 1.
+    fn of(answer: &Answer) -> Option<Fault> {
+        Some(Fault {
+            reason: Reason::of_number(answer.fault)?,
             kind: (answer.has_kind != 0).then_some(answer.kind),
             file: answer.file,
             slot: (answer.has_slot != 0).then_some(answer.slot),
             record: (answer.has_record != 0).then_some(answer.record),
             reference: (answer.has_reference != 0).then_some(answer.reference),
-            text: String::from_utf8_lossy(text).into_owned(),
-        }
+            text: text_of(|room| raw::fault_text(answer, room)),
+        })
+    }
+
+    /// The number of the fault, 1 to 35.
+    #[must_use]
+    pub fn number(&self) -> u8 {
+        self.reason.number()
     }
 }
 
@@ -144,69 +148,126 @@ impl Fault {
 fn result(
     mut size: usize,
     call: impl Fn(&mut [u8], &mut Answer) -> u32,
-) -> Result<Vec<u8>, Error> {
+) -> Result<(Vec<u8>, Answer), Error> {
+    let version = raw::version();
+    if version != VERSION {
+        return Err(Error::Version(version));
+    }
     loop {
-        let mut room = vec![0; size];
+        let mut room = Vec::new();
+        room.try_reserve_exact(size).map_err(|_| Error::Memory)?;
+        room.resize(size, 0);
         let mut answer = Answer::default();
         match call(&mut room, &mut answer) {
             DONE => {
                 room.truncate(answer.written);
-                return Ok(room);
+                room.shrink_to_fit();
+                return Ok((room, answer));
             }
-            REFUSED => return Err(Error::Refused(Fault::of(&answer))),
-            TOO_SMALL => size = answer.needed,
-            _ => return Err(Error::Memory),
+            REFUSED => {
+                let fault = Fault::of(&answer).ok_or(Error::Unknown(REFUSED))?;
+                return Err(Error::Refused(fault));
+            }
+            TOO_SMALL if answer.needed > size => size = answer.needed,
+            NO_MEMORY => return Err(Error::Memory),
+            status => return Err(Error::Unknown(status)),
         }
     }
 }
 
-/// What a call of a host and libraries puts in a room.
-fn result_of(call: Call, host: &[u8], libs: &[&[u8]], size: usize) -> Result<Vec<u8>, Error> {
-    let joined = libs.concat();
-    let lengths: Vec<usize> = libs.iter().map(|lib| lib.len()).collect();
-    result(size, |room, answer| {
-        // SAFETY: each pointer and its length are those of one slice, none of which is null; `room`
-        // and `answer` are borrowed alone.
-        unsafe {
-            call(
-                host.as_ptr(),
-                host.len(),
-                joined.as_ptr(),
-                joined.len(),
-                lengths.as_ptr(),
-                lengths.len(),
-                room.as_mut_ptr(),
-                room.len(),
-                answer,
-            )
+/// Libraries one after another, and their lengths.
+struct Joined {
+    bytes: Vec<u8>,
+    lengths: Vec<usize>,
+}
+
+impl Joined {
+    fn new<L: AsRef<[u8]>>(libs: &[L]) -> Result<Joined, Error> {
+        let lengths: Vec<usize> = libs.iter().map(|lib| lib.as_ref().len()).collect();
+        let total = lengths
+            .iter()
+            .try_fold(0usize, |sum, length| sum.checked_add(*length));
+        let mut bytes = Vec::new();
+        bytes
+            .try_reserve_exact(total.ok_or(Error::Memory)?)
+            .map_err(|_| Error::Memory)?;
+        for lib in libs {
+            bytes.extend_from_slice(lib.as_ref());
         }
-    })
+        Ok(Joined { bytes, lengths })
+    }
 }
 
-/// The linked file of a host and of the units that it uses, which the libraries have.
-pub fn link(host: &[u8], libs: &[&[u8]]) -> Result<Vec<u8>, Error> {
-    result_of(pslink_link_nonnull, host, libs, LINKED_MAX)
+/// The linked file of a host and of the units that it uses, which the libraries have. Of the
+/// libraries that have a unit, the first is used. [`NO_LIBRARIES`] stands for none.
+///
+/// # Errors
+/// [`Error::Refused`] with the first fault, where the files do not link; [`Error::Memory`] where
+/// memory was refused; [`Error::Version`] where the archive is another.
+pub fn link<H: AsRef<[u8]>, L: AsRef<[u8]>>(host: H, libs: &[L]) -> Result<Vec<u8>, Error> {
+    Ok(link_with_summary(host, libs)?.0)
 }
 
-/// The map of that link, as text.
-pub fn map(host: &[u8], libs: &[&[u8]]) -> Result<String, Error> {
-    let text = result_of(pslink_map_nonnull, host, libs, TEXT_GUESS)?;
-    Ok(String::from_utf8_lossy(&text).into_owned())
+/// The linked file as of [`link`], and what it has.
+///
+/// # Errors
+/// Those of [`link`].
+pub fn link_with_summary<H: AsRef<[u8]>, L: AsRef<[u8]>>(
+    host: H,
+    libs: &[L],
+) -> Result<(Vec<u8>, Summary), Error> {
+    let (host, libs) = (host.as_ref(), Joined::new(libs)?);
+    // A linked file is longer than all that is linked only where segments share their code.
+    let size = LINKED_MAX.min(host.len().saturating_add(libs.bytes.len()));
+    let (linked, answer) = result(size, |room, answer| {
+        raw::link(host, &libs.bytes, &libs.lengths, room, answer)
+    })?;
+    let Answer {
+        segments,
+        private_words,
+        blocks,
+        ..
+    } = answer;
+    Ok((
+        linked,
+        Summary {
+            segments,
+            private_words,
+            blocks,
+        },
+    ))
 }
 
-/// What a code file has, as text.
-pub fn show(file: &[u8]) -> Result<String, Error> {
-    let text = result(TEXT_GUESS, |room, answer| {
-        // SAFETY: as in `result_of`.
-        unsafe {
-            pslink_show_nonnull(
-                file.as_ptr(),
-                file.len(),
-                room.as_mut_ptr(),
-                room.len(),
-                answer,
-            )
-        }
+/// The map of that link, as text: what it puts where.
+///
+/// # Errors
+/// Those of [`link`].
+pub fn map<H: AsRef<[u8]>, L: AsRef<[u8]>>(host: H, libs: &[L]) -> Result<String, Error> {
+    let (host, libs) = (host.as_ref(), Joined::new(libs)?);
+    let (text, _) = result(TEXT_GUESS, |room, answer| {
+        raw::map(host, &libs.bytes, &libs.lengths, room, answer)
     })?;
     Ok(String::from_utf8_lossy(&text).into_owned())
+}
+
+/// What a code file has, of any contents, as text.
+///
+/// # Errors
+/// [`Error::Refused`] with [`Reason::ShortFile`] or [`Reason::NoOrder`]; else as of [`link`].
+pub fn show<F: AsRef<[u8]>>(file: F) -> Result<String, Error> {
+    let file = file.as_ref();
+    let (text, _) = result(TEXT_GUESS, |room, answer| raw::show(file, room, answer))?;
+    Ok(String::from_utf8_lossy(&text).into_owned())
+}
+
+/// The release of the archive, as `0.1.0`.
+#[must_use]
+pub fn release() -> String {
+    text_of(raw::release)
+}
+
+/// What the library calls the fault of this number, as `MissingUnit`; empty where there is none.
+#[must_use]
+pub fn fault_name(number: u8) -> String {
+    text_of(|room| raw::fault_name(number, room))
 }

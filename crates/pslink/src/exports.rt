@@ -5,12 +5,13 @@ ghost use Rattle.ps_resolve.specs.Standing.{NoneStandsInReading};
 ghost use Rattle.ps_linkfile.specs.ShowText.{show_fault};
 ghost use Rattle.ps_calls.specs.Libraries.{split};
 ghost use Rattle.ps_calls.specs.Answers.{bare, closed_text, refusal_fault, IsStatus};
+ghost use Rattle.ps_calls.specs.Names.{closed, fault_name, release, status_text};
 ghost use Rattle.ps_calls.specs.Rooms.{RoomBeginsWith};
 ghost use Rattle.ps_calls.specs.Calls.{Links, LinkNeeds, Maps, MapNeeds, Refuses, RefusesToShow, Shows, ShowNeeds};
 
 use ps_calls::{
-    Answer, DONE, LIBRARIES_IN_PLACE, LINKED_MAX, NO_MEMORY, REFUSED, TOO_SMALL, WRONG_LENGTHS,
-    link, map, put_fault, show,
+    Answer, DONE, FAULT_TEXT_MAX, LIBRARIES_IN_PLACE, LINKED_MAX, NO_MEMORY, REFUSED, TOO_SMALL,
+    WRONG_LENGTHS, link, map, put_fault, put_fault_name, put_release, put_status_text, show,
 };
 use std::alloc::Global;
 
@@ -128,17 +129,16 @@ pub extern "C" fn pslink_show_nonnull(
 }
 
 /// Puts the text of the fault that a refusal reports in `out`, with a closing 0, and returns how
-/// many bytes it has.
+/// many bytes it has, at most `FAULT_TEXT_MAX`.
 ///
 /// Where `out` is shorter, nothing is written. Returns 0, and writes nothing, where the answer is
-/// of no refusal. It would also where the text could not be made: no contract of a text says that
-/// it can.
+/// of no refusal.
 /// Source: this project's profile.
 #[unsafe(no_mangle)]
 pub extern "C" fn pslink_fault_text_nonnull(answer: &Answer, out: &mut [u8]) -> usize
-    ensures size { IfSome (refusal_fault answer.now) (λ fault. result ≢ 0
-        → result ≡ length (closed_text fault)) }
-    ensures text { IfSome (refusal_fault answer.now) (λ fault. result ≢ 0 → result ≤ length out.old
+    ensures size { IfSome (refusal_fault answer.now) (λ fault. result ≡ length (closed_text fault)) }
+    ensures most { result ≤ FAULT_TEXT_MAX }
+    ensures text { IfSome (refusal_fault answer.now) (λ fault. result ≤ length out.old
         → RoomBeginsWith (closed_text fault) out.old out.new) }
     ensures short { length out.old < result → out.new ≡ out.old }
     ensures untold { IfNone (refusal_fault answer.now) (result ≡ 0) }
@@ -148,6 +148,49 @@ pub extern "C" fn pslink_fault_text_nonnull(answer: &Answer, out: &mut [u8]) -> 
         Some(fault) => put_fault(fault, out),
         None => 0,
     }
+}
+
+/// Puts the name of the fault of this number in `out`, with a closing 0, and returns how many bytes
+/// it has, at most `FAULT_TEXT_MAX`.
+///
+/// Where `out` is shorter, nothing is written. Returns 0, and writes nothing, where there is no
+/// such fault.
+/// Source: this project's profile.
+#[unsafe(no_mangle)]
+pub extern "C" fn pslink_fault_name_nonnull(fault: u8, out: &mut [u8]) -> usize
+    ensures size { result ≡ length (closed (fault_name fault)) }
+    ensures most { result ≤ FAULT_TEXT_MAX }
+    ensures text { result ≤ length out.old
+        → RoomBeginsWith (closed (fault_name fault)) out.old out.new }
+    ensures short { length out.old < result → out.new ≡ out.old }
+{
+    put_fault_name(fault, out)
+}
+
+/// Puts what a status says in `out`, as `pslink_fault_name_nonnull` a name. Returns 0, and writes
+/// nothing, where no call answers it.
+/// Source: this project's profile.
+#[unsafe(no_mangle)]
+pub extern "C" fn pslink_status_text_nonnull(status: u32, out: &mut [u8]) -> usize
+    ensures size { result ≡ length (closed (status_text status)) }
+    ensures most { result ≤ FAULT_TEXT_MAX }
+    ensures text { result ≤ length out.old
+        → RoomBeginsWith (closed (status_text status)) out.old out.new }
+    ensures short { length out.old < result → out.new ≡ out.old }
+{
+    put_status_text(status, out)
+}
+
+/// Puts the release of pslink in `out`, as `pslink_fault_name_nonnull` a name.
+/// Source: this project's profile.
+#[unsafe(no_mangle)]
+pub extern "C" fn pslink_release_nonnull(out: &mut [u8]) -> usize
+    ensures size { result ≡ length (closed release) }
+    ensures most { result ≤ FAULT_TEXT_MAX }
+    ensures text { result ≤ length out.old → RoomBeginsWith (closed release) out.old out.new }
+    ensures short { length out.old < result → out.new ≡ out.old }
+{
+    put_release(out)
 }
 
 /// The version of the interface.

@@ -8,8 +8,8 @@
 mod exports;
 
 pub use exports::{
-    pslink_fault_text_nonnull, pslink_link_nonnull, pslink_map_nonnull, pslink_show_nonnull,
-    pslink_version,
+    pslink_fault_name_nonnull, pslink_fault_text_nonnull, pslink_link_nonnull, pslink_map_nonnull,
+    pslink_release_nonnull, pslink_show_nonnull, pslink_status_text_nonnull, pslink_version,
 };
 pub use ps_calls::{
     Answer, DONE, FAULT_TEXT_MAX, LIBRARIES_IN_PLACE, LINKED_MAX, NO_MEMORY, REFUSED, TOO_SMALL,

@@ -1,0 +1,271 @@
+"""The Linker of UCSD Pascal II.0 for Pascal units, from memory to memory.
+
+    import pslink
+    linked = pslink.link("host.code", ["library.code"])
+
+A file is bytes, or whatever else has bytes, with a whole code file; or it is the path of one, which is read. The files'
+fault, if they have one, is raised as `Refused`.
+
+The shared object is the file that PSLINK_LIBRARY names, or else libpslink.so.1 where the system's loader finds it, or else
+where pkg-config has it. If there is none, or one of another version, the import of this package is an ImportError.
+"""
+
+import ctypes
+import os
+import subprocess
+from typing import Iterable, NamedTuple, Optional, Tuple, Union
+
+__all__ = ["File", "Refused", "Summary", "fault_name", "link", "link_with_summary", "map", "release", "show"]
+__version__ = "0.1.0"
+
+File = Union[bytes, bytearray, memoryview, str, "os.PathLike[str]"]
+
+_DONE, _REFUSED, _NO_MEMORY, _TOO_SMALL = 0, 1, 4, 5
+_VERSION = 1
+_NAME = "libpslink.so.1"
+
+# A linked file has at most so many bytes. A text that is longer than this guess is made again.
+_LINKED_MAX = 524800
+_TEXT_GUESS = 4096
+_FAULT_TEXT_MAX = 160
+
+
+class _Answer(ctypes.Structure):
+    _fields_ = [
+        ("status", ctypes.c_uint32),
+        ("kind", ctypes.c_uint16),
+        ("fault", ctypes.c_uint8),
+        ("slot", ctypes.c_uint8),
+        ("has_kind", ctypes.c_uint8),
+        ("has_slot", ctypes.c_uint8),
+        ("has_record", ctypes.c_uint8),
+        ("has_reference", ctypes.c_uint8),
+        ("private_words", ctypes.c_uint32),
+        ("file", ctypes.c_size_t),
+        ("record", ctypes.c_size_t),
+        ("reference", ctypes.c_size_t),
+        ("segments", ctypes.c_size_t),
+        ("blocks", ctypes.c_size_t),
+        ("written", ctypes.c_size_t),
+        ("needed", ctypes.c_size_t),
+    ]
+
+
+_BYTES = [ctypes.c_char_p, ctypes.c_size_t]
+_ROOM = [ctypes.c_void_p, ctypes.c_size_t]
+_LENGTHS = [ctypes.POINTER(ctypes.c_size_t), ctypes.c_size_t]
+_ANSWER = [ctypes.POINTER(_Answer)]
+_FUNCTIONS = {
+    "pslink_link_nonnull": ([*_BYTES, *_BYTES, *_LENGTHS, *_ROOM, *_ANSWER], ctypes.c_uint32),
+    "pslink_map_nonnull": ([*_BYTES, *_BYTES, *_LENGTHS, *_ROOM, *_ANSWER], ctypes.c_uint32),
+    "pslink_show_nonnull": ([*_BYTES, *_ROOM, *_ANSWER], ctypes.c_uint32),
+    "pslink_fault_text_nonnull": ([*_ANSWER, *_ROOM], ctypes.c_size_t),
+    "pslink_fault_name_nonnull": ([ctypes.c_uint8, *_ROOM], ctypes.c_size_t),
+    "pslink_release_nonnull": (_ROOM, ctypes.c_size_t),
+}
+
+
+def _candidates():
+    """The paths of the shared object, the likeliest first."""
+    if named := os.environ.get("PSLINK_LIBRARY"):
+        yield named
+        return
+    yield _NAME
+    command = [os.environ.get("PKG_CONFIG", "pkg-config"), "--variable=libdir", "pslink"]
+    try:
+        found = subprocess.run(command, stdout=subprocess.PIPE, stderr=subprocess.DEVNULL, check=True)
+    except (OSError, subprocess.CalledProcessError):
+        return
+    yield os.path.join(os.fsdecode(found.stdout).strip(), _NAME)
+
+
+def _open():
+    why = None
+    for path in _candidates():
+        try:
+            return path, ctypes.CDLL(path)
+        except OSError as error:
+            why = why or error
+    raise ImportError(f"{why}: name the shared object in PSLINK_LIBRARY") from why
+
+
+def _load():
+    path, library = _open()
+    try:
+        library.pslink_version.argtypes, library.pslink_version.restype = [], ctypes.c_uint32
+        if (version := library.pslink_version()) != _VERSION:
+            raise ImportError(f"{path} has version {version}, and not {_VERSION}")
+        for name, (arguments, result) in _FUNCTIONS.items():
+            function = getattr(library, name)
+            function.argtypes, function.restype = arguments, result
+    except AttributeError as error:
+        raise ImportError(f"{path} is no library of pslink: {error}") from error
+    return library
+
+
+_library = _load()
+
+
+def _text(call):
+    """The text that a call puts, with a closing 0, in room that is long enough for each; '' where it puts none."""
+    room = ctypes.create_string_buffer(_FAULT_TEXT_MAX)
+    return ctypes.string_at(room, max(1, call(room, _FAULT_TEXT_MAX)) - 1).decode("ascii")
+
+
+def fault_name(number: int) -> str:
+    """The name of the fault of this number, 1 to 35, as 'MissingUnit'; '' where there is none."""
+    if not 0 <= number <= 255:
+        return ""
+    return _text(lambda room, size: _library.pslink_fault_name_nonnull(number, room, size))
+
+
+def release() -> str:
+    """The release of the library, as '0.1.0'."""
+    return _text(_library.pslink_release_nonnull)
+
+
+class Refused(Exception):
+    """The files are refused. Its text is that of the fault, as 'refused 13 MissingUnit file 0 slot 7'.
+
+    number: the number of the fault, 1 to 35. name: its name. file: the file at fault, 0 for the host, k for the k-th
+    library. kind, slot, record, reference: numbers, each None where the fault has none.
+    """
+
+    def __init__(
+        self,
+        text: str,
+        number: int,
+        name: str,
+        file: int,
+        kind: Optional[int] = None,
+        slot: Optional[int] = None,
+        record: Optional[int] = None,
+        reference: Optional[int] = None,
+    ) -> None:
+        # (these are what is pickled)
+        super().__init__(text, number, name, file, kind, slot, record, reference)
+        self.text = text
+        self.number = number
+        self.name = name
+        self.file = file
+        self.kind = kind
+        self.slot = slot
+        self.record = record
+        self.reference = reference
+
+    def __str__(self) -> str:
+        return self.text
+
+
+def _refusal(answer):
+    return Refused(
+        _text(lambda room, size: _library.pslink_fault_text_nonnull(answer, room, size)),
+        answer.fault,
+        fault_name(answer.fault),
+        answer.file,
+        answer.kind if answer.has_kind else None,
+        answer.slot if answer.has_slot else None,
+        answer.record if answer.has_record else None,
+        answer.reference if answer.has_reference else None,
+    )
+
+
+class Summary(NamedTuple):
+    """What a linked file has: how many segments, words of private variables, and blocks of 512 bytes."""
+
+    segments: int
+    private_words: int
+    blocks: int
+
+
+def _contents(file):
+    """The bytes of a file."""
+    if isinstance(file, bytes):
+        return file
+    if isinstance(file, (str, os.PathLike)):
+        with open(file, "rb") as stream:
+            return stream.read()
+    try:
+        return memoryview(file).tobytes()
+    except TypeError:
+        raise TypeError(f"a file is bytes or a path, and not {type(file).__name__}") from None
+
+
+def _is_one_file(libs):
+    """Whether these libraries are one file in place of a list."""
+    if isinstance(libs, (str, os.PathLike)):
+        return True
+    try:
+        memoryview(libs)
+    except TypeError:
+        return False
+    return True
+
+
+def _all_contents(libs):
+    """The bytes of each library."""
+    if _is_one_file(libs):
+        raise TypeError(f"the libraries are a list of files, and not one {type(libs).__name__}")
+    return [_contents(lib) for lib in libs]
+
+
+def _result(call, size):
+    """What a call puts in a room of so many bytes, or of as many as it then asks for, and its answer."""
+    answer = _Answer()
+    while True:
+        room = ctypes.create_string_buffer(size)
+        status = call(room, size, answer)
+        if status == _DONE:
+            return ctypes.string_at(room, answer.written), answer
+        if status == _REFUSED:
+            raise _refusal(answer)
+        if status == _NO_MEMORY:
+            raise MemoryError("pslink: out of memory")
+        if status != _TOO_SMALL or answer.needed <= size:
+            raise RuntimeError(f"pslink: the library answered {status}")
+        size = answer.needed
+
+
+def _call(function, host, libs, size):
+    lengths = (ctypes.c_size_t * max(1, len(libs)))(*(len(lib) for lib in libs))
+    joined = b"".join(libs)
+    return _result(
+        lambda room, size, answer: function(
+            host, len(host), joined, len(joined), lengths, len(libs), room, size, answer
+        ),
+        size,
+    )
+
+
+def link_with_summary(host: File, libs: Iterable[File] = ()) -> Tuple[bytes, Summary]:
+    """The linked file as of `link`, and what it has."""
+    host, libs = _contents(host), _all_contents(libs)
+    # (a linked file is longer than all that is linked only where segments share their code)
+    size = min(_LINKED_MAX, len(host) + sum(len(lib) for lib in libs))
+    linked, answer = _call(_library.pslink_link_nonnull, host, libs, size)
+    return linked, Summary(answer.segments, answer.private_words, answer.blocks)
+
+
+def link(host: File, libs: Iterable[File] = ()) -> bytes:
+    """The linked file of a host and of the units that it uses, which the libraries have.
+
+    Of the libraries that have a unit, the first is used. Raises Refused, MemoryError, and OSError for a path that cannot
+    be read.
+    """
+    return link_with_summary(host, libs)[0]
+
+
+def map(host: File, libs: Iterable[File] = ()) -> str:
+    """The map of that link, as text: what it puts where. Raises what `link` raises."""
+    text, _ = _call(_library.pslink_map_nonnull, _contents(host), _all_contents(libs), _TEXT_GUESS)
+    return text.decode("ascii")
+
+
+def show(file: File) -> str:
+    """What a code file has, of any contents, as text. Raises Refused with fault 1 or 2 only; else what `link` raises."""
+    file = _contents(file)
+    text, _ = _result(
+        lambda room, size, answer: _library.pslink_show_nonnull(file, len(file), room, size, answer),
+        _TEXT_GUESS,
+    )
+    return text.decode("ascii")

@@ -1,0 +1,128 @@
+//! The calls over the samples, which lie two folders above this crate in the sources, in the packed
+//! archive and where `make install` puts them.
+
+use pslink::{Error, Fault, Reason, Summary, NO_LIBRARIES};
+use std::collections::HashSet;
+
+fn sample(name: &str) -> Vec<u8> {
+    let path = format!("{}/../../samples/{name}", env!("CARGO_MANIFEST_DIR"));
+    std::fs::read(&path).unwrap_or_else(|error| panic!("{path}: {error}"))
+}
+
+fn refused<T: std::fmt::Debug>(result: Result<T, Error>) -> Fault {
+    match result {
+        Err(Error::Refused(fault)) => fault,
+        other => panic!("{other:?}"),
+    }
+}
+
+#[test]
+fn a_link_is_as_long_as_its_result() {
+    let (linked, summary) =
+        pslink::link_with_summary(sample("host.code"), &[sample("library.code")]).unwrap();
+    assert_eq!(
+        summary,
+        Summary {
+            segments: 2,
+            private_words: 4,
+            blocks: 3
+        }
+    );
+    assert_eq!(linked.len(), 3 * 512);
+    assert_eq!(linked.capacity(), linked.len());
+    assert_eq!(
+        linked[512..530],
+        *b"\xD7\xD7\xC1\0\x12\0\x04\0\x06\0\x0A\0\x01\0\x02\0\x01\x01"
+    );
+    assert_eq!(
+        linked[1024..1048],
+        *b"\xA5\x80\x03\xAB\x80\x0A\xD7\xD7\xAD\0\0\0\0\0\x06\0\x10\0\x01\0\x02\0\x07\x01"
+    );
+    assert_eq!(
+        pslink::link(sample("host.code"), &[sample("library.code")]),
+        Ok(linked)
+    );
+}
+
+#[test]
+fn the_map_is_that_of_the_samples() {
+    let map = pslink::map(sample("host.code"), &[sample("library.code")]).unwrap();
+    assert_eq!(map.as_bytes(), sample("host.map"));
+}
+
+#[test]
+fn a_show_has_a_line_for_each_slot() {
+    let show = pslink::show(sample("library.code")).unwrap();
+    assert!(show.starts_with("order little\n"));
+    assert_eq!(
+        show.lines()
+            .filter(|line| line.starts_with("slot "))
+            .count(),
+        16
+    );
+}
+
+#[test]
+fn files_are_anything_with_bytes() {
+    let (host, library) = (sample("host.code"), sample("library.code"));
+    let linked = pslink::link(&host, &[&library]).unwrap();
+    assert_eq!(
+        pslink::link(host.as_slice(), &[library.as_slice()]).unwrap(),
+        linked
+    );
+    assert_eq!(
+        pslink::link(host.into_boxed_slice(), &[library]).unwrap(),
+        linked
+    );
+    assert!(pslink::link(sample("two_units.code"), NO_LIBRARIES).is_ok());
+}
+
+#[test]
+fn a_refusal_has_the_parts_of_its_fault() {
+    let fault = refused(pslink::link(sample("host.code"), NO_LIBRARIES));
+    assert_eq!(
+        (fault.reason, fault.number(), fault.file),
+        (Reason::MissingUnit, 13, 0)
+    );
+    assert_eq!(
+        (fault.kind, fault.slot, fault.record, fault.reference),
+        (None, Some(7), None, None)
+    );
+    assert_eq!(fault.to_string(), "refused 13 MissingUnit file 0 slot 7");
+    let error: Box<dyn std::error::Error> = Error::from(fault).into();
+    assert_eq!(error.to_string(), "refused 13 MissingUnit file 0 slot 7");
+    let short = refused(pslink::show(b""));
+    assert_eq!((short.reason, short.slot), (Reason::ShortFile, None));
+    let mut library = sample("library.code");
+    library[196] = 4;
+    let no_unit = refused(pslink::link(sample("host.code"), &[library]));
+    assert_eq!(
+        (no_unit.reason, no_unit.kind, no_unit.file),
+        (Reason::NotAUnit, Some(4), 1)
+    );
+}
+
+#[test]
+fn the_reasons_are_those_of_the_library() {
+    assert_eq!(Reason::ALL.len(), 35);
+    for number in 0..=255 {
+        let name = Reason::of_number(number).map_or("", Reason::name);
+        assert_eq!(pslink::fault_name(number), name, "{number}");
+    }
+    let names: HashSet<&str> = Reason::ALL.iter().map(|reason| reason.name()).collect();
+    assert_eq!(names.len(), 35);
+}
+
+#[test]
+fn the_release_is_that_of_this_crate() {
+    assert_eq!(pslink::release(), env!("CARGO_PKG_VERSION"));
+}
+
+#[test]
+fn results_take_no_more_memory_than_they_are_long() {
+    let (host, library) = (sample("host.code"), sample("library.code"));
+    let linked: Vec<Vec<u8>> = (0..5000)
+        .map(|_| pslink::link(&host, &[&library]).unwrap())
+        .collect();
+    assert_eq!(linked.iter().map(Vec::capacity).sum::<usize>(), 5000 * 1536);
+}

@@ -1,0 +1,35 @@
+-- The names of faults, what statuses say, and the release.
+-- Source: this project's profile.
+use Rattle.std.specs.Prelude.{ℕ, ◌==◌, if◌then◌else◌, List, [], ◌∷◌, ◌++◌, codes, Option, Some, None}
+use Rattle.ps_words.specs.FaultText.{name_of}
+use Rattle.ps_words.specs.declared.fault.Reason.{Reason}
+use Rattle.ps_calls.specs.Answers.{reason_of}
+use Rattle.ps_calls.specs.declared.answer.TheConstants.{DONE, REFUSED, WRONG_LENGTHS, NO_MEMORY, TOO_SMALL}
+
+-- a text with a closing 0; nothing of one that is empty
+abbrev pub closed : List ℕ → List ℕ
+closed [] = []
+closed (b ∷ bs) = (b ∷ bs) ++ 0 ∷ []
+
+-- the name of a reason, where there is one
+abbrev pub name_or_nothing : Option Reason → List ℕ
+name_or_nothing None = []
+name_or_nothing (Some why) = name_of why
+
+-- the name of the fault of this number
+abbrev pub fault_name : ℕ → List ℕ
+fault_name number = name_or_nothing (reason_of number 0)
+
+-- what a status says
+abbrev pub status_text : ℕ → List ℕ
+status_text status =
+    if status == DONE then codes "done"
+    else if status == REFUSED then codes "the files are refused"
+    else if status == WRONG_LENGTHS then codes "the lengths of the libraries do not add up"
+    else if status == NO_MEMORY then codes "out of memory"
+    else if status == TOO_SMALL then codes "the room is shorter than the result"
+    else []
+
+-- the release of pslink
+abbrev pub release : List ℕ
+release = codes "0.1.0"

@@ -1,0 +1,164 @@
+#!/usr/bin/env python3
+"""The Python package as a caller meets it: what it takes as a file, what it raises, that a refusal comes back from a pool of
+processes, that threads may call at once, that it is installed without a network, and how it finds the shared object.
+Prints what is otherwise. Usage: package.py LIBRARY OTHER FOLDER: the folder of libpslink.so.1, one of another version, and a
+new folder"""
+import array
+import concurrent.futures
+import copy
+import importlib.util
+import multiprocessing
+import os
+import pathlib
+import pickle
+import shutil
+import subprocess
+import sys
+import time
+import zipfile
+
+ROOT = pathlib.Path(__file__).resolve().parents[2]
+PACKAGE = ROOT / "bindings/python"
+sys.dont_write_bytecode = True
+sys.path.insert(0, str(PACKAGE))
+BUILT, OTHER, FOLDER = (pathlib.Path(path).resolve() for path in sys.argv[1:4])
+os.environ["PSLINK_LIBRARY"] = str(BUILT / "libpslink.so.1")
+import pslink  # noqa: E402
+
+HOST, LIBRARY = (ROOT / f"samples/{name}.code" for name in ("host", "library"))
+MISSING = ("refused 13 MissingUnit file 0 slot 7", 13, "MissingUnit", 0, None, 7, None, None)
+found = []
+
+
+def check(is_well, what):
+    if not is_well:
+        found.append(what)
+
+
+def raised(error, call, *arguments):
+    """The error of this type that a call raises, or None."""
+    try:
+        call(*arguments)
+    except error as it:
+        return it
+    return None
+
+
+def parts(fault):
+    return str(fault), fault.number, fault.name, fault.file, fault.kind, fault.slot, fault.record, fault.reference
+
+
+def of_files():
+    host, library = HOST.read_bytes(), LIBRARY.read_bytes()
+    linked = pslink.link(host, [library])
+    check(type(linked) is bytes and len(linked) == 1536, "a linked file is no bytes of its length")
+    same = {
+        "paths": (HOST, [LIBRARY]), "names": (str(HOST), [str(LIBRARY)]), "bytearrays": (bytearray(host), [bytearray(library)]),
+        "views": (memoryview(host), (memoryview(library),)), "arrays": (array.array("H", host), iter([array.array("B", library)])),
+        "every second byte": (memoryview(b"".join(bytes([byte, 0]) for byte in host))[::2], [library]),
+    }  # fmt: skip
+    for what, (one, all_) in same.items():
+        check(pslink.link(one, all_) == linked, f"{what} are linked to another file")
+    check(pslink.link_with_summary(host, [library]) == (linked, (2, 4, 3)), "the summary is another")
+    check(pslink.map(HOST, [LIBRARY]).encode() == (ROOT / "samples/host.map").read_bytes(), "the map is another")
+    check(pslink.show(LIBRARY) == pslink.show(library) and pslink.show(library).startswith("order little\n"), "the show is another")
+    wrong = [
+        (pslink.link, host, library), (pslink.link, host, bytearray(library)), (pslink.link, host, memoryview(library)),
+        (pslink.link, host, str(LIBRARY)), (pslink.link, host, LIBRARY), (pslink.link, host, 5), (pslink.link, host, [5]),
+        (pslink.link, None, []), (pslink.link, 1000, []), (pslink.link, [host], []), (pslink.map, host, library),
+        (pslink.map, host, [None]), (pslink.show, 1000), (pslink.show, None), (pslink.show, [1, 2]),
+    ]  # fmt: skip
+    for call, *arguments in wrong:
+        check(raised(TypeError, call, *arguments), f"{call.__name__}{arguments!r:.60} is no TypeError")
+    check(raised(FileNotFoundError, pslink.link, "not there"), "a path that is not there is no FileNotFoundError")
+    check(raised(IsADirectoryError, pslink.link, "/"), "a folder is no IsADirectoryError")
+
+
+def of_refusals():
+    fault = raised(pslink.Refused, pslink.link, HOST)
+    check(parts(fault) == MISSING, f"the refusal is {parts(fault)}")
+    for how, again in (("pickled", pickle.loads(pickle.dumps(fault))), ("copied", copy.copy(fault)), ("copied", copy.deepcopy(fault))):
+        check(type(again) is pslink.Refused and parts(again) == MISSING, f"{how} it is {parts(again)}")
+    with concurrent.futures.ProcessPoolExecutor(2) as pool:
+        fault = raised(pslink.Refused, pool.submit(pslink.link, HOST).result, 60)
+        check(fault and parts(fault) == MISSING, "a refusal of a process is another")
+    with multiprocessing.Pool(2) as pool:
+        fault = raised(pslink.Refused, pool.apply_async(pslink.link, [HOST]).get, 60)
+        check(fault and parts(fault) == MISSING, "a refusal of a pool is another")
+    check(pslink.fault_name(13) == "MissingUnit" and [pslink.fault_name(n) for n in (-1, 0, 36, 255, 256, 1 << 40)] == [""] * 6, "the name of a fault is another")
+    check(pslink.release() == pslink.__version__, f"the release is {pslink.release()}, and that of the package {pslink.__version__}")
+
+
+def of_threads():
+    linked = pslink.link(HOST, [LIBRARY])
+    with concurrent.futures.ThreadPoolExecutor(8) as pool:
+        results = list(pool.map(lambda turn: pslink.link(HOST, [LIBRARY]) if turn % 2 else pslink.map(HOST, [LIBRARY]), range(400)))
+    check(all(result == linked for result in results[1::2]), "a thread has another result")
+
+
+def of_time():
+    """A small link makes no large room: that took half a millisecond."""
+    host, library = HOST.read_bytes(), LIBRARY.read_bytes()
+    best = min(timed(host, library) for _ in range(7))
+    check(best < 200e-6, f"a link of the sample pair takes {1e6 * best:.0f} microseconds")
+
+
+def timed(host, library, turns=200):
+    start = time.perf_counter()
+    for _ in range(turns):
+        pslink.link(host, [library])
+    return (time.perf_counter() - start) / turns
+
+
+def imported(**env):
+    """What an import of the installed package says, with these variables alone."""
+    env = {"PATH": os.environ["PATH"], "HOME": str(FOLDER), "PYTHONPATH": str(FOLDER / "site"), **env}
+    done = subprocess.run(
+        [sys.executable, "-B", "-c", "import pslink; print(pslink.link(*eval(input())) != b'', pslink.__file__)"],
+        input=repr((str(HOST), [str(LIBRARY)])), capture_output=True, text=True, env=env, cwd=FOLDER,
+    )  # fmt: skip
+    return (done.stdout + done.stderr).strip().splitlines()[-1]
+
+
+def of_installing():
+    source = FOLDER / "source"
+    shutil.copytree(PACKAGE, source, ignore=shutil.ignore_patterns("__pycache__"))
+    if importlib.util.find_spec("pip"):
+        pip = [sys.executable, "-m", "pip", "--disable-pip-version-check", "--quiet", "install", "--no-index", "--root-user-action=ignore"]
+        done = subprocess.run([*pip, "--target", FOLDER / "site", source], capture_output=True, text=True)
+        check(done.returncode == 0, f"pip: {done.stderr[-300:]}")
+    else:
+        sys.path.insert(0, str(source))
+        import build_backend
+
+        zipfile.ZipFile(FOLDER / build_backend.build_wheel(FOLDER)).extractall(FOLDER / "site")
+    there = f"True {FOLDER}/site/pslink/__init__.py"
+    config = FOLDER / "pkgconfig"
+    config.mkdir()
+    (config / "pslink.pc").write_text(f"libdir={BUILT}\nName: pslink\nDescription: pslink\nVersion: 0\nLibs:\n")
+    ways = {
+        "by PSLINK_LIBRARY": {"PSLINK_LIBRARY": str(BUILT / "libpslink.so.1")},
+        "by the loader": {"LD_LIBRARY_PATH": str(BUILT)},
+        **({"by pkg-config": {"PKG_CONFIG_PATH": str(config)}} if shutil.which("pkg-config") else {}),
+    }
+    for what, env in ways.items():
+        check(imported(**env) == there, f"{what}: {imported(**env)}")
+    wrong = {
+        "of another version": str(OTHER / "libpslink.so.1"), "of something else": "libc.so.6",
+        "that is not there": str(FOLDER / "not there"), "that is none": str(HOST),
+    }  # fmt: skip
+    for what, path in wrong.items():
+        said = imported(PSLINK_LIBRARY=path)
+        check(said.startswith("ImportError: "), f"a library {what}: {said}")
+
+
+def main():
+    for part in (of_files, of_refusals, of_threads, of_time, of_installing):
+        part()
+    for line in found:
+        print(line)
+    return 1 if found else 0
+
+
+if __name__ == "__main__":
+    sys.exit(main())

@@ -1,0 +1,77 @@
+/* Prints how many bytes of stack the calls of these files take, at most: they are made on a thread whose stack was filled before.
+ * Usage: stack HOST [LIB]... */
+#define _GNU_SOURCE
+#include <pslink.h>
+#include <pthread.h>
+#include <stdio.h>
+#include <stdlib.h>
+#include <string.h>
+
+#include "read_file.h"
+
+#define STACK (1 << 20)
+#define FILLER 0x5A
+#define FILES 600
+
+static pslink_file host, libs[FILES];
+static size_t count;
+static unsigned char *stack;
+
+/* How many bytes of the stack are no longer as they were filled, from the first of them to its upper end. */
+static size_t taken(void)
+{
+    size_t untouched = 0;
+
+    while (untouched < STACK && stack[untouched] == FILLER)
+        untouched++;
+    return STACK - untouched;
+}
+
+static void *nothing(void *unused)
+{
+    return unused;
+}
+
+static void *all_calls(void *room)
+{
+    pslink_answer answer;
+    char text[PSLINK_FAULT_TEXT_MAX];
+
+    pslink_link_files(host, libs, count, room, PSLINK_LINKED_MAX, &answer);
+    pslink_fault_text(&answer, text, sizeof text);
+    pslink_map_files(host, libs, count, room, PSLINK_LINKED_MAX, &answer);
+    pslink_show(host.bytes, host.length, room, PSLINK_LINKED_MAX, &answer);
+    return room;
+}
+
+/* The bytes of stack that a thread of this takes. */
+static size_t of_thread(void *(*body)(void *), void *room)
+{
+    pthread_attr_t attributes;
+    pthread_t thread;
+
+    memset(stack, FILLER, STACK);
+    if (pthread_attr_init(&attributes) != 0 || pthread_attr_setstack(&attributes, stack, STACK) != 0 ||
+        pthread_create(&thread, &attributes, body, room) != 0)
+        exit(4);
+    pthread_join(thread, NULL);
+    pthread_attr_destroy(&attributes);
+    return taken();
+}
+
+int main(int argc, char **argv)
+{
+    void *room = malloc(PSLINK_LINKED_MAX);
+    size_t of_nothing;
+
+    stack = (unsigned char *)aligned_alloc(4096, STACK);
+    if (argc < 2 || argc > FILES + 2 || room == NULL || stack == NULL)
+        return 2;
+    host = read_file(argv[1]);
+    for (; count + 2 < (size_t)argc; count++)
+        libs[count] = read_file(argv[count + 2]);
+    /* (what a thread itself takes of its stack is counted once more, and taken off) */
+    of_nothing = of_thread(nothing, room);
+    printf("%zu\n", of_thread(all_calls, room) - of_nothing);
+    return 0;
+}

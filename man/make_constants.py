@@ -1,0 +1,49 @@
+#!/usr/bin/env python3
+"""Writes the faults into include/pslink.h and bindings/rust/src/reason.rs, between the comment that names this script and the
+next one, from the variants of `Reason`, so that they have one home.
+Usage: make_constants.py [HEADER REASONS], which are those two if none is given."""
+import pathlib
+import re
+import sys
+
+from make_fault_table import ROOT, numbers
+
+SOURCE = ROOT / "crates/ps_words/src/fault.rt"
+HEADER = ROOT / "include/pslink.h"
+REASONS = ROOT / "bindings/rust/src/reason.rs"
+
+
+def in_order():
+    """The name and the number of each fault, in the order of the numbers."""
+    return sorted(numbers().items(), key=lambda fault: fault[1])
+
+
+def constants():
+    """The faults as C has them, in one column."""
+    words = {name: "PSLINK_FAULT_" + re.sub(r"(?<!^)(?=[A-Z])", "_", name).upper() for name in numbers()}
+    width = max(map(len, words.values()))
+    return "".join(f"#define {words[name]:{width}} {number}\n" for name, number in in_order())
+
+
+def variants():
+    """The faults as Rust has them, each with what the source says of it."""
+    source = SOURCE.read_text()
+    for name, number in in_order():
+        words = re.search(rf"((?:    /// .*\n)+)    {name}\b", source)[1]
+        yield f"{words}    {name} = {number},\n"
+
+
+def between(file, lines):
+    """The file with these lines between the comment that names this script and the next one."""
+    pattern = r"(make_constants\.py from crates/ps_words/src/fault\.rt(?: \*/)?\n).*?(^ *(?:/\*|//) end)"
+    return re.sub(pattern, lambda match: match[1] + lines + match[2], file.read_text(), flags=re.M | re.S)
+
+
+def main():
+    header, reasons = map(pathlib.Path, sys.argv[1:] or [HEADER, REASONS])
+    header.write_text(between(HEADER, constants()))
+    reasons.write_text(between(REASONS, "".join(variants())))
+
+
+if __name__ == "__main__":
+    main()
