@@ -18,7 +18,7 @@ use Rattle.ps_resolve.specs.Faults.{in_segment}
 use Rattle.ps_resolve.specs.Operands.{edit_of, operands, refs_fault}
 use Rattle.ps_resolve.specs.TakenPlaces.{AreTaken}
 use Rattle.ps_resolve.specs.EditTables.{IsTableOf, edits_of}
-use Rattle.ps_resolve.specs.declared.edits.table.PlaceState.{PlaceState}
+use Rattle.ps_resolve.specs.declared.edit_table.PlaceState.{PlaceState}
 use Rattle.ps_resolve.specs.Stops.{IsStop}
 use Rattle.ps_resolve.specs.References.{Known, words_taken, target_in, target_of, records_fault, record_edits, records_edits}
 use Rattle.ps_resolve.specs.declared.references.Target.{Target}

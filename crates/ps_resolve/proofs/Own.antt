@@ -18,9 +18,9 @@ use Rattle.ps_linkinfo.specs.declared.record.LinkRecord.{LinkRecord as Record}
 use Rattle.ps_resolve.specs.References.{Known, records_edits, records_fault}
 use Rattle.ps_resolve.specs.EditTables.{IsTableOf, edits_of, first_state, is_taken, is_wide, put_in}
 use Rattle.ps_resolve.specs.TakenPlaces.{AreTaken}
-use Rattle.ps_resolve.specs.declared.edits.table.PlaceState.{PlaceState}
-use Rattle.ps_resolve.specs.declared.edits.table.PlaceState.TheVariants as stored
-use Rattle.ps_resolve.specs.declared.edits.table.PlaceState.TheVariants.{Free}
+use Rattle.ps_resolve.specs.declared.edit_table.PlaceState.{PlaceState}
+use Rattle.ps_resolve.specs.declared.edit_table.PlaceState.TheVariants as stored
+use Rattle.ps_resolve.specs.declared.edit_table.PlaceState.TheVariants.{Free}
 use Rattle.ps_resolve.proofs.InPlaces.{IsIdle, idle_narrow, table_more, put_more, put_taken, none_listed}
 use Rattle.ps_resolve.proofs.Inside.{records_inside}
 

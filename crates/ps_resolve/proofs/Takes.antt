@@ -15,8 +15,8 @@ use Rattle.ps_resolve.specs.TakenPlaces.{AreTaken}
 use Rattle.ps_words.specs.Edits.{place_of, width, covers}
 use Rattle.ps_words.specs.declared.edit.Edit.{Edit}
 use Rattle.ps_resolve.specs.EditTables.{IsTableOf, edits_of, is_taken, is_taken_at, put_in}
-use Rattle.ps_resolve.specs.declared.edits.table.PlaceState.{PlaceState}
-use Rattle.ps_resolve.specs.declared.edits.table.PlaceState.TheVariants.{Free, Taken}
+use Rattle.ps_resolve.specs.declared.edit_table.PlaceState.{PlaceState}
+use Rattle.ps_resolve.specs.declared.edit_table.PlaceState.TheVariants.{Free, Taken}
 use Rattle.ps_resolve.specs.Operands.{edit_of, is_in, operands, width_of, value_of, refs_fault, reference_reason}
 use Rattle.ps_resolve.specs.Searches.{fault_if}
 use Rattle.ps_resolve.specs.declared.references.Target.{Target}

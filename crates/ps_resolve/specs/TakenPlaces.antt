@@ -5,7 +5,7 @@ use Rattle.std.specs.List.{list_any}
 use Rattle.ps_codefile.specs.Procedures.{is_reserved, ProcedureTables}
 use Rattle.ps_resolve.specs.EditTables.{is_taken_at}
 use Rattle.ps_resolve.specs.Operands.{is_in}
-use Rattle.ps_resolve.specs.declared.edits.table.PlaceState.{PlaceState}
+use Rattle.ps_resolve.specs.declared.edit_table.PlaceState.{PlaceState}
 
 -- of the places of a code those are taken in the table that are reserved and those of these
 -- operands

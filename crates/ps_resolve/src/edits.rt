@@ -15,9 +15,8 @@ ghost use Rattle.ps_resolve.specs.Views.{segment_of};
 ghost use Rattle.ps_resolve.specs.declared.linkage.Stop.TheVariants.{Memory};
 
 pub(crate) mod data_size;
-pub(crate) mod table;
 
-use crate::edits::table::EditTable;
+use crate::edit_table::EditTable;
 use crate::linkage::Stop;
 use crate::reading::segment::Segment;
 use crate::references::names::Linking;

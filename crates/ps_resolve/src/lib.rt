@@ -4,6 +4,7 @@
 
 mod allotment;
 mod definitions;
+mod edit_table;
 mod edits;
 mod linkage;
 mod linking;

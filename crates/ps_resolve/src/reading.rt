@@ -13,12 +13,14 @@ ghost use Rattle.ps_resolve.specs.Readings.{all_read, host_reading_fault, opened
 ghost use Rattle.ps_resolve.specs.Views.{segment_of, AreAlike, IsRead, is_in_slot, segment_in_slot, segments_in_slots};
 
 pub(crate) mod added;
+pub(crate) mod entries;
 pub(crate) mod host;
 pub(crate) mod libraries;
 pub(crate) mod request;
 pub(crate) mod segment;
 pub(crate) mod slots;
 pub(crate) mod sources;
+pub(crate) mod unit_slots;
 pub(crate) mod units;
 
 use crate::reading::added::{UnitReference, add_units, empty_slots, requested_by};
@@ -28,7 +30,7 @@ use crate::reading::request::{Request, Requester};
 use crate::reading::segment::Segment;
 use crate::reading::slots::{HOST_FILE, HostSlots, is_empty, no_host_fault, slots_fault};
 use crate::reading::sources::{read_slot, read_slots};
-use crate::references::names::UnitSlots;
+use crate::reading::unit_slots::UnitSlots;
 use arrayvec::ArrayVec;
 use ps_codefile::dictionary_layout::SLOTS;
 use ps_codefile::{Dict, Entry, Role};

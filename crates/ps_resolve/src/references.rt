@@ -14,7 +14,7 @@ ghost use Rattle.ps_resolve.specs.Stops.{IsStop};
 pub(crate) mod names;
 pub(crate) mod records;
 
-use crate::edits::table::EditTable;
+use crate::edit_table::EditTable;
 use crate::linkage::{RecordPlace, Stop};
 use ps_codefile::Procs;
 use ps_linkinfo::{Body, Refs};

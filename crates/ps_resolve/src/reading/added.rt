@@ -13,7 +13,7 @@ use crate::linkage::{RecordPlace, SegmentPlace};
 use crate::reading::request::{Request, Requester, read_unit, unit_named};
 use crate::reading::segment::Segment;
 use crate::reading::slots::{HostSlots, is_empty};
-use crate::references::names::UnitSlots;
+use crate::reading::unit_slots::UnitSlots;
 use arrayvec::ArrayVec;
 use ps_codefile::dictionary_layout::{FIRST_ADDED, SLOTS};
 use ps_linkinfo::{Body, LinkInformation, LinkRecord};

@@ -7,9 +7,9 @@ ghost use Rattle.ps_resolve.specs.Requests.{is_missing, missing_at, request_faul
 ghost use Rattle.ps_resolve.specs.Views.{segment_of, as_requested_view, IsRead};
 
 use crate::linkage::{RecordPlace, SegmentPlace};
+use crate::reading::entries::{known_records, read_segment};
 use crate::reading::segment::Segment;
 use crate::reading::slots::{HOST_FILE, HostSlots, library_file};
-use crate::reading::sources::{known_records, read_segment};
 use crate::reading::units::{UnitSource, chosen_library, entries_reason};
 use ps_codefile::{Role, is_nameless};
 use ps_words::{Fault, Name, Reason};

@@ -12,7 +12,7 @@ ghost use Rattle.ps_resolve.specs.TakenPlaces.{AreTaken};
 ghost use Rattle.ps_resolve.specs.Views.{segment_of, has_records_at, HasRecordsAt};
 
 use crate::definitions::DefKind;
-use crate::edits::table::EditTable;
+use crate::edit_table::EditTable;
 use crate::linkage::Stop;
 use crate::reading::segment::Segment;
 use crate::references::names::{Linking, Names};

@@ -2,7 +2,7 @@ use Rattle.std.proofs.Common.{ℕ, ◌-◌, ◌∙◌, List, length, ap}
 use Rattle.ps_words.specs.declared.edit.Edit.TheVariants.{Byte}
 use Rattle.ps_codefile.specs.Procedures.{ProcedureTables}
 use Rattle.ps_resolve.specs.EditTables.{put_in}
-use Rattle.ps_resolve.specs.declared.edits.table.PlaceState.{PlaceState}
+use Rattle.ps_resolve.specs.declared.edit_table.PlaceState.{PlaceState}
 use Rattle.ps_resolve.proofs.Own.{number_table, size_table}
 use Rattle.ps_resolve.proofs.edits.own_edits.Goals as goal
 

@@ -7,7 +7,7 @@ use Rattle.ps_words.specs.declared.edit.Edit.{Edit}
 use Rattle.ps_words.specs.declared.edit.Edit.TheVariants.{Byte}
 use Rattle.ps_resolve.specs.Edits.{data_size_edit}
 use Rattle.ps_resolve.specs.EditTables.{edits_of}
-use Rattle.ps_resolve.specs.declared.edits.table.PlaceState.{PlaceState}
+use Rattle.ps_resolve.specs.declared.edit_table.PlaceState.{PlaceState}
 use Rattle.std.proofs.lemmas.Option.{same_Some}
 use Rattle.ps_codefile.specs.Procedures.{ProcedureTables}
 use Rattle.ps_codefile.specs.Roles.{needs_linking, is_host}

@@ -2,7 +2,7 @@ use Rattle.std.proofs.Common.{sym, arith}
 use Rattle.ps_codefile.specs.Dictionary.{entry_at}
 use Rattle.ps_resolve.proofs.FirstSlots.{neither_first, none_mapped}
 use Rattle.ps_resolve.proofs.ReadingCodes.{whole}
-use Rattle.ps_resolve.proofs.reading.sources.read_segment.Goals as goal
+use Rattle.ps_resolve.proofs.reading.entries.read_segment.Goals as goal
 
 pub returns-in_ok-resolvable-in-Ok-clause-sound : goal.returns-in_ok-resolvable-in-Ok-clause-sound
 returns-in_ok-resolvable-in-Ok-clause-sound c =

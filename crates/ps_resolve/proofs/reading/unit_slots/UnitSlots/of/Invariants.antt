@@ -1,7 +1,7 @@
 use Rattle.std.proofs.Common.{◌≡◌, ◌≤◌, ◌++◌, length, map, drop}
 use Rattle.ps_resolve.specs.Sources.{units_of}
 use Rattle.ps_resolve.specs.Views.{segment_of}
-use Rattle.ps_resolve.proofs.references.names.UnitSlots.of.Given as goal
+use Rattle.ps_resolve.proofs.reading.unit_slots.UnitSlots.of.Given as goal
 
 -- the units so far and those that are left are all
 abbrev pub invariant-loop-segment : goal.invariant-loop-segment

@@ -4,7 +4,7 @@ use Rattle.ps_words.specs.declared.fault.Fault.{Fault}
 use Rattle.ps_words.specs.declared.fault.Reason.{Reason}
 use Rattle.ps_codefile.specs.Procedures.{ProcedureTables, tables_fault, unless}
 use Rattle.ps_codefile.specs.Roles.{needs_linking, is_host}
-use Rattle.ps_resolve.proofs.reading.sources.read_resolvable.Goals as goal
+use Rattle.ps_resolve.proofs.reading.entries.read_resolvable.Goals as goal
 
 why_of : (fault : Option Reason) (tables : ProcedureTables) (why : Reason) → ◌≡◌ {A = Result ProcedureTables Reason} (Err why) (unless fault tables) → fault ≡ Some why
 why_of None tables why h = cc

@@ -1,7 +1,7 @@
 use Rattle.std.proofs.Common.{◌≡◌, drop}
 use Rattle.std.specs.Map.{lookup}
 use Rattle.std.specs.Str.{bytes_eq}
-use Rattle.ps_resolve.proofs.references.names.UnitSlots.slot_of.Given as goal
+use Rattle.ps_resolve.proofs.reading.unit_slots.UnitSlots.slot_of.Given as goal
 
 -- the name is looked for in what is left
 abbrev pub invariant-loop-unit : goal.invariant-loop-unit
