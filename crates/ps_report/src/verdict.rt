@@ -7,7 +7,6 @@ use ps_linkfile::{LinkError, Summary, prepare};
 use ps_words::Fault;
 use std::alloc::{AllocError, Allocator};
 use std::fmt::{self, Formatter};
-use std::io::Write;
 
 /// Whether a link of the files is done.
 ///
@@ -55,7 +54,7 @@ impl fmt::Display for Verdict {
     }
 }
 
-/// The verdict on a host and its libraries: they are linked in memory.
+/// The verdict on a host and its libraries, which are prepared and not written.
 pub(crate) fn verdict_of<A: Allocator + Copy>(
     alloc: A,
     host: &[u8],
@@ -64,13 +63,7 @@ pub(crate) fn verdict_of<A: Allocator + Copy>(
     ensures { IfOk result (IsVerdict host.now (contents libs.now)) }
 {
     match prepare(alloc, host, libs) {
-        Ok(linked) => {
-            let mut file = Vec::new(alloc);
-            match linked.write(&mut file) {
-                Ok(summary) => Ok(Verdict::Links(summary)),
-                Err(_) => Err(AllocError),
-            }
-        }
+        Ok(linked) => Ok(Verdict::Links(linked.summary())),
         Err(LinkError::Refused(fault)) => Ok(Verdict::Refused(fault)),
         Err(_) => Err(AllocError),
     }
