@@ -2,6 +2,7 @@
 # make test: the gate, which proves and tests everything
 # make lib: proves and builds the library for C
 # make install PREFIX=/opt/pslink: installs the program, the library, their manual pages and the documents; without PREFIX in /usr/local
+# make install-program PREFIX=..: installs the program and its manual pages alone, without building the library
 # make dist: packs the same for people without the kit
 # make bench: times links of large files and of malicious input
 PREFIX ?= /usr/local
@@ -13,7 +14,7 @@ DIST = pslink-$(VERSION)-x86_64-linux
 PROGRAM = crates/ps_linker
 BINARY = $(PROGRAM)/out/ps_linker
 
-.PHONY: demo build lib test bench install install-built dist
+.PHONY: demo build lib test bench install install-program install-built install-built-program dist
 
 demo:
 	cd $(PROGRAM) && rt run -- link ../../samples/host.code out/demo.code ../../samples/library.code
@@ -34,14 +35,19 @@ bench: build lib
 
 install: build lib install-built
 
-# what is built already, put in place
-install-built:
-	install -d $(DESTDIR)$(PREFIX)/bin $(DESTDIR)$(PREFIX)/include $(DESTDIR)$(PREFIX)/lib/pkgconfig
-	install -d $(DESTDIR)$(MAN)/man1 $(DESTDIR)$(MAN)/man3 $(DESTDIR)$(MAN)/man5 $(DESTDIR)$(DOC)
+install-program: build install-built-program
+
+# what is built already, put in place: the program, its manual pages and the documents
+install-built-program:
+	install -d $(DESTDIR)$(PREFIX)/bin $(DESTDIR)$(MAN)/man1 $(DESTDIR)$(MAN)/man5 $(DESTDIR)$(DOC)
 	install -m 755 $(BINARY) $(DESTDIR)$(PREFIX)/bin/pslink
 	install -m 644 man/pslink.1 $(DESTDIR)$(MAN)/man1/pslink.1
 	install -m 644 man/pslink.5 $(DESTDIR)$(MAN)/man5/pslink.5
 	install -m 644 docs/*.md $(DESTDIR)$(DOC)
+
+# that and the library
+install-built: install-built-program
+	install -d $(DESTDIR)$(PREFIX)/include $(DESTDIR)$(PREFIX)/lib/pkgconfig $(DESTDIR)$(MAN)/man3
 	install -m 644 man/pslink.3 $(DESTDIR)$(MAN)/man3/pslink.3
 	install -m 644 include/pslink.h $(DESTDIR)$(PREFIX)/include/pslink.h
 	install -m 644 $(LIBRARY)/libpslink.a $(DESTDIR)$(PREFIX)/lib/libpslink.a

@@ -1,11 +1,13 @@
 //! The segments of a link as the files have them, also where they are refused.
 ghost use Rattle.std.specs.Prelude.{◌<◌, IfSome};
 
-use crate::inputs::{Inputs, Shown};
+use crate::inputs::Inputs;
 use ps_codefile::dictionary_layout::{FIRST_ADDED, SLOTS};
-use ps_codefile::{Dict, Entry, Role};
+use ps_codefile::kinds::{HOSTSEG, LINKED, UNITSEG};
+use ps_codefile::{Dict, Entry, Role, is_nameless};
 use ps_linkinfo::{Body, LinkInformation, LinkRecord};
-use ps_words::{Name, Order};
+use ps_shown::ShownName;
+use ps_words::{Name, Order, Reason};
 use std::alloc::{AllocError, Allocator};
 use std::fmt::{self, Formatter};
 
@@ -47,7 +49,11 @@ impl fmt::Display for Part {
             Part::Unit => f.write_str("a unit in the host file"),
             Part::Wanted => f.write_str("a unit that the host wants"),
             Part::Added { asker, rec } => {
-                write!(f, "a unit that record {rec} of {} asks for", Shown(asker))
+                write!(
+                    f,
+                    "a unit that record {rec} of {} requests",
+                    ShownName(asker)
+                )
             }
         }
     }
@@ -90,10 +96,24 @@ pub(crate) struct Source<'a> {
     pub(crate) entry: Entry,
     /// The order of the file's words.
     pub(crate) order: Order,
+    /// Its code, or why it can't be read.
+    pub(crate) read_code: Result<&'a [u8], Reason>,
     /// Its code, where it can be read.
     pub(crate) code: Option<&'a [u8]>,
     /// The file from its link information on.
     pub(crate) after: &'a [u8],
+}
+
+/// The entry has a name or a kind, whether it has code or not.
+pub(crate) fn is_named(entry: &Entry) -> bool {
+    entry.kind != LINKED || !is_nameless(&entry.name)
+}
+
+impl Source<'_> {
+    /// A link resolves its references, if it takes it.
+    pub(crate) fn needs_linking(&self) -> bool {
+        matches!(self.entry.kind, HOSTSEG | UNITSEG)
+    }
 }
 
 /// A segment of a link.
@@ -120,25 +140,36 @@ impl<'a> Segment<'a> {
 
     /// Its first record of this name and sort, with its index.
     pub(crate) fn find(&self, name: &Name, sort: Sort) -> Option<(usize, LinkRecord<'a>)> {
-        for (rec, record) in self.records().records() {
-            if record.name == *name && sort.has(&record.body) {
-                return Some((rec, record));
-            }
-        }
-        None
+        find_in(&self.records(), name, sort)
     }
+}
+
+/// The first of the records that has this name and sort, with its index.
+pub(crate) fn find_in<'a>(
+    records: &LinkInformation<'a>,
+    name: &Name,
+    sort: Sort,
+) -> Option<(usize, LinkRecord<'a>)> {
+    for (rec, record) in records.records() {
+        if record.name == *name && sort.has(&record.body) {
+            return Some((rec, record));
+        }
+    }
+    None
 }
 
 /// The segment of this entry of a file.
 pub(crate) fn source_of<'a>(dict: &Dict<'a>, file: usize, index: u8) -> Source<'a>
     requires { index < 16 }
 {
+    let read_code = dict.code(index);
     Source {
         file,
         index,
         entry: dict.entry(index),
         order: dict.order(),
-        code: dict.code(index).ok(),
+        read_code,
+        code: read_code.ok(),
         after: dict.after(index),
     }
 }
@@ -155,8 +186,11 @@ pub(crate) fn filled_entry(dict: &Dict<'_>, name: &Name) -> Option<u8>
     None
 }
 
-/// The first library's segment of the name.
+/// The first library's segment of the name; none of a blank one.
 fn library_source<'a>(inputs: &Inputs<'a>, name: &Name) -> Option<Source<'a>> {
+    if is_nameless(name) {
+        return None;
+    }
     for file in 1..=inputs.libs.len() {
         if let Some(dict) = inputs.dict(file) {
             if let Some(index) = filled_entry(&dict, name) {
