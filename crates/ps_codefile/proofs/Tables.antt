@@ -5,7 +5,7 @@ use Rattle.std.proofs.lemmas.List.FromFn.{get_or-map-range_with_len, length-map-
 use Rattle.std.proofs.lemmas.Bool.Decides.{nat_tests}
 use Rattle.ps_words.specs.declared.order.Order.{Order}
 use Rattle.ps_codefile.specs.Procedures.{content_of, is_placed, numbers, procedures, table_of, tables}
-use Rattle.ps_codefile.specs.Places.{HasWords, IsWhole, passes}
+use Rattle.ps_codefile.specs.Places.{HasTables, HasWords, IsWhole, passes}
 use Rattle.ps_codefile.proofs.Alls.{all_at}
 
 -- one of these numbers has a table whose place passes a test just where one of their tables does
@@ -31,14 +31,20 @@ word_at order code words p d has low high =
     ap (λ (ws : List ℕ). get_or ws (p - 1) d) has.all
     ∙ get_or-map-range_with_len (content_of order code) 1 (procedures code) (p - 1) p d (omega (arith, low, high)) (omega (arith, low))
 
--- whose table lies in the code
+-- the table of procedure p lies in the code
+pub whole_table : (order : Order) (code : List ℕ) (p : ℕ) → HasTables order code → 1 ≤ p → p ≤ procedures code → (content_of order code p == 0) ≡ false → IsWhole code (length code - 2 - 2 * p - content_of order code p)
+whole_table order code p has low high some =
+    let placed = all_at (is_placed order code) (procedures code) has.placed p low high in
+    record { low = grind (arith, nat_tests, placed, some); high = grind (arith, nat_tests, placed, some) }
+
+-- so its word's content is not more than the word's place
+pub below_table : (order : Order) (code : List ℕ) (p : ℕ) → HasTables order code → 1 ≤ p → p ≤ procedures code → (content_of order code p == 0) ≡ false → content_of order code p ≤ length code - 2 - 2 * p
+below_table order code p has low high some = let table = whole_table order code p has low high some in omega (arith, table.low)
+
+-- whose word is in this list
 pub whole_at : (order : Order) (code words : List ℕ) (p d : ℕ) → HasWords order code words → 1 ≤ p → p ≤ procedures code → (get_or words (p - 1) d == 0) ≡ false → IsWhole code (length code - 2 - 2 * p - get_or words (p - 1) d)
 whole_at order code words p d has low high some =
-    let placed = all_at (is_placed order code) (procedures code) has.placed p low high in
-    rw (word_at order code words p d has low high) (whole placed (sym (ap (λ (w : ℕ). w == 0) (word_at order code words p d has low high)) ∙ some))
-  where
-    whole : is_placed order code p ≡ true → (content_of order code p == 0) ≡ false → IsWhole code (length code - 2 - 2 * p - content_of order code p)
-    whole placed some = record { low = grind (arith, nat_tests, placed, some); high = grind (arith, nat_tests, placed, some) }
+    rw (word_at order code words p d has low high) (whole_table order code p has.tables low high (sym (ap (λ (w : ℕ). w == 0) (word_at order code words p d has low high)) ∙ some))
 
 -- so the word's content is not more than the word's place
 pub below_at : (order : Order) (code words : List ℕ) (p d : ℕ) → HasWords order code words → 1 ≤ p → p ≤ procedures code → (get_or words (p - 1) d == 0) ≡ false → get_or words (p - 1) d ≤ length code - 2 - 2 * p

@@ -18,9 +18,13 @@ pub record IsWhole (code : List ℕ) (t : ℕ) : Type 0 where
   pub low : 8 ≤ t
   pub high : t + 1 < dictionary_start code
 
--- These are the words of the procedures of a code: the procedure dictionary is within the code, and
--- each table lies in the code before it. So no word's content is more than the word's place.
-pub record HasWords (order : Order) (code : List ℕ) (words : List ℕ) : Type 0 where
+-- The procedure dictionary of a code is within the code, and each table lies in the code before it.
+-- So no word's content is more than the word's place.
+pub record HasTables (order : Order) (code : List ℕ) : Type 0 where
   pub fits : dictionary_len code ≤ length code
   pub placed : list_all (is_placed order code) (numbers code) ≡ true
+
+-- these are the words of the procedures of such a code
+pub record HasWords (order : Order) (code : List ℕ) (words : List ℕ) : Type 0 where
+  pub tables : HasTables order code
   pub all : words ≡ all_words order code

@@ -11,4 +11,4 @@ mod procedures;
 
 pub use dictionary::Dict;
 pub use entry::{Entry, Role, is_nameless};
-pub use procedures::Procs;
+pub use procedures::{ProcedureDictionary, Procs};

@@ -1,9 +1,8 @@
-ghost use Rattle.std.specs.Prelude.{◌≡◌, ℕ, ◌≤◌, ◌-◌, ◌+◌, ◌*◌, ◌==◌, ◌&&◌, ◌||◌, true, false, if◌then◌else◌, length, slice_index, slice_index_or, IfOk, IfErr, OnOk, OnErr};
-ghost use Rattle.ps_words.specs.declared.fault.Reason.TheVariants.{BadProcDict};
+ghost use Rattle.std.specs.Prelude.{◌≡◌, ℕ, ◌≤◌, ◌-◌, ◌+◌, ◌*◌, ◌==◌, ◌&&◌, ◌||◌, if◌then◌else◌, length, slice_index, slice_index_or};
 ghost use Rattle.std.specs.List.{list_all, list_any};
 ghost use Rattle.std.specs.Option.{ForSome};
 ghost use Rattle.ps_codefile.specs.Procedures.{procedures, dictionary_len, dictionary_start, content_of, table_of as table_of_spec, is_placed as is_placed_spec, numbers, is_in_table as is_in_table_spec, is_reserved as is_reserved_spec, read_tables as read_tables_spec};
-ghost use Rattle.ps_codefile.specs.Places.{is_between, passes, IsWhole, HasWords};
+ghost use Rattle.ps_codefile.specs.Places.{is_between, passes, IsWhole};
 
 use crate::code_layout::{NUMBERS, OUTER_BLOCK, TABLE_NUMBERS, TABLE_WORDS};
 use arrayvec::ArrayVec;
@@ -16,6 +15,28 @@ const MAX_PROCEDURES: usize = 255;
 
 /// The word of each procedure, by the procedures' numbers from 1 on.
 type Words = ArrayVec<u16, MAX_PROCEDURES>;
+
+/// The procedure dictionary at the end of a segment's code, of which no attribute table has a
+/// fault.
+///
+/// A view: it borrows the code, and reads a procedure's word where its table is wanted. The layout
+/// is that of the UCSD Pascal II.0 manual.
+#[derive(Drop)]
+pub struct ProcedureDictionary<'a> {
+    order: Order,
+    code: &'a [u8],
+}
+
+impl<'a> Model for ProcedureDictionary<'a> {
+    ghost use Rattle.ps_codefile.specs.Procedures.{ProcedureTables};
+    ghost use Rattle.ps_codefile.specs.Places.{HasTables};
+
+    ghost Value = { ProcedureTables };
+
+    ghost view = { λ d. record { order = d.order; code = d.code.now } };
+
+    ghost invariant = { λ d. HasTables d.order d.code.now };
+}
 
 /// The procedure tables at the end of a segment's code: the procedure dictionary, and the
 /// attribute table of each procedure.
@@ -50,6 +71,15 @@ fn count_of(code: &[u8]) -> usize
     code[code.len() - 1] as usize
 }
 
+/// The numbers of the procedures of a code, from 1 on.
+fn numbers_of(code: &[u8]) -> Range<usize>
+    requires { 1 ≤ length code.now }
+    ensures start { result.start ≡ 1 }
+    ensures end { result.end ≡ procedures code.now + 1 }
+{
+    1..count_of(code) + 1
+}
+
 /// The place of procedure `p`'s word.
 fn place_of(code: &[u8], p: usize) -> usize
     requires { 2 + 2 * p ≤ length code.now }
@@ -58,41 +88,35 @@ fn place_of(code: &[u8], p: usize) -> usize
     code.len() - NUMBERS - WORD_LEN * p
 }
 
-/// The word of procedure `p`. Refuses one whose attribute table does not lie in the code before
-/// the procedure dictionary.
-fn word_of(order: Order, code: &[u8], p: usize) -> Result<u16, Reason>
+/// The content of procedure `p`'s word.
+fn word_of(order: Order, code: &[u8], p: usize) -> u16
+    requires fits { 2 + 2 * p ≤ length code.now }
+    ensures { result ≡ content_of order code.now p }
+{
+    get(order, code, place_of(code, p))
+}
+
+/// Procedure `p` has no attribute table, or one that lies in the code before the procedure
+/// dictionary.
+fn is_placed(order: Order, code: &[u8], p: usize) -> bool
     requires whole { dictionary_len code.now ≤ length code.now }
     requires low { 1 ≤ p }
     requires high { p ≤ procedures code.now }
-    ensures word { IfOk result (λ word. word ≡ content_of order code.now p) }
-    ensures placed { OnOk result (is_placed_spec order code.now p ≡ true) }
-    ensures reason { IfErr result (λ reason. reason ≡ BadProcDict) }
-    ensures refused { OnErr result (is_placed_spec order code.now p ≡ false) }
+    ensures { result ≡ is_placed_spec order code.now p }
 {
     let place = place_of(code, p);
     let start = place_of(code, count_of(code));
-    let word = get(order, code, place);
-    let content = word as usize;
-    if content != 0 && (place < content + TABLE_WORDS || place - content + TABLE_NUMBERS > start) {
-        return Err(Reason::BadProcDict);
-    }
-    Ok(word)
+    let content = word_of(order, code, p) as usize;
+    content == 0
+        || (content + TABLE_WORDS <= place && place - content + (TABLE_NUMBERS - 1) < start)
 }
 
-/// The words of all procedures. Refuses them where a table does not lie in the code before the
-/// procedure dictionary.
-fn words_of(order: Order, code: &[u8]) -> Result<Words, Reason>
+/// No procedure has a table that does not lie in the code before the procedure dictionary.
+fn are_placed(order: Order, code: &[u8]) -> bool
     requires { dictionary_len code.now ≤ length code.now }
-    ensures words { IfOk result (λ words. HasWords order code.now words.items) }
-    ensures reason { IfErr result (λ reason. reason ≡ BadProcDict) }
-    ensures refused { OnErr result
-        (list_all (is_placed_spec order code.now) (numbers code.now) ≡ false) }
+    ensures { result ≡ list_all (is_placed_spec order code.now) (numbers code.now) }
 {
-    let mut words = ArrayVec::new();
-    for i in 0..count_of(code) {
-        words.push(word_of(order, code, i + 1)?);
-    }
-    Ok(words)
+    numbers_of(code).all(|p| is_placed(order, code, p))
 }
 
 /// The procedure of the table is native.
@@ -130,8 +154,8 @@ fn mark_all<T: Copy>(marks: &mut [T], start: usize, end: usize, mark: T)
     }
 }
 
-impl<'a> Procs<'a> {
-    /// Reads the procedure tables of a code; `host` says that it is the host segment's.
+impl<'a> ProcedureDictionary<'a> {
+    /// Reads the procedure dictionary of a code; `host` says that it is the host segment's.
     ///
     /// Refuses `BadProcDict` where the procedure dictionary is longer than the code, where a
     /// table begins before the code or ends in or past the dictionary, or where the first
@@ -139,49 +163,85 @@ impl<'a> Procs<'a> {
     /// procedure number is 0. The code has at least two bytes.
     /// Source: UCSD Pascal II.0 manual, code file format.
     #[tactic(auto, using(crate::proofs::Tables::any_table))]
-    pub fn read(order: Order, code: &'a [u8], host: bool) -> Result<Procs<'a>, Reason>
+    pub fn read(order: Order, code: &'a [u8], host: bool) -> Result<ProcedureDictionary<'a>, Reason>
         requires { 2 ≤ length code.now }
         ensures { result ≡ read_tables_spec order code.now host }
     {
         if code.len() < NUMBERS + WORD_LEN * count_of(code) {
             return Err(Reason::BadProcDict);
         }
-        let procs = Procs {
-            order,
-            code,
-            words: words_of(order, code)?,
-        };
-        if host && procs.lacks_outer_block() {
+        if !are_placed(order, code) {
             return Err(Reason::BadProcDict);
         }
-        if procs.has_native() {
+        let dictionary = ProcedureDictionary { order, code };
+        if host && dictionary.lacks_outer_block() {
+            return Err(Reason::BadProcDict);
+        }
+        if dictionary.has_native() {
             return Err(Reason::NativeProcedure);
         }
-        Ok(procs)
+        Ok(dictionary)
     }
 
-    /// A copy of the procedure tables, which borrows the same code.
+    /// A copy, which borrows the same code.
     /// Source: this project's profile.
-    pub fn copy(&self) -> Procs<'a>
+    pub fn copy(&self) -> ProcedureDictionary<'a>
+        ensures { result ≡ self.now }
+    {
+        ProcedureDictionary {
+            order: self.order,
+            code: self.code,
+        }
+    }
+
+    /// The code that it is in.
+    /// Source: UCSD Pascal II.0 manual, code file format.
+    pub fn code(&self) -> &'a [u8]
+        ensures { result.now ≡ self.now.code }
+    {
+        self.code
+    }
+
+    /// The number of procedures, 0 to 255.
+    /// Source: UCSD Pascal II.0 manual, code file format.
+    pub fn count(&self) -> usize
+        ensures { result ≡ procedures self.now.code }
+    {
+        count_of(self.code)
+    }
+
+    /// The place in the code of procedure `p`'s attribute table; `None` where it has no body.
+    /// Procedures are numbered from 1 to `count`.
+    /// Source: UCSD Pascal II.0 manual, code file format.
+    #[tactic(auto, using(crate::proofs::Tables::whole_table, crate::proofs::Tables::below_table))]
+    pub fn table(&self, p: usize) -> Option<usize>
+        requires low { 1 ≤ p }
+        requires high { p ≤ procedures self.now.code }
+        ensures table { result ≡ table_of_spec self.now.order self.now.code p }
+        ensures whole { ForSome result (IsWhole self.now.code) }
+    {
+        let place = place_of(self.code, p);
+        let content = word_of(self.order, self.code, p) as usize;
+        if content == 0 {
+            return None;
+        }
+        Some(place - content)
+    }
+
+    /// The procedure tables, with the word of each procedure at hand.
+    /// Source: this project's profile.
+    pub fn procs(&self) -> Procs<'a>
         ensures { result ≡ self.now }
     {
         let mut words = ArrayVec::new();
-        for word in self.words.as_slice() {
-            words.push(*word);
+        for i in 0..count_of(self.code) {
+            words.push(word_of(self.order, self.code, i + 1));
         }
         Procs {
             order: self.order,
             code: self.code,
             words,
         }
-    }
-
-    /// The numbers of the procedures.
-    fn numbers(&self) -> Range<usize>
-        ensures start { result.start ≡ 1 }
-        ensures end { result.end ≡ procedures self.now.code + 1 }
-    {
-        1..count_of(self.code) + 1
     }
 
     /// The outer block has no body.
@@ -197,7 +257,26 @@ impl<'a> Procs<'a> {
         ensures { result ≡ list_any (λ p. passes (λ t. slice_index self.now.code t == 0)
             (table_of_spec self.now.order self.now.code p)) (numbers self.now.code) }
     {
-        self.numbers().any(|p| is_native(self.code, self.table(p)))
+        numbers_of(self.code).any(|p| is_native(self.code, self.table(p)))
+    }
+}
+
+impl<'a> Procs<'a> {
+    /// Reads the procedure tables of a code; `host` says that it is the host segment's.
+    ///
+    /// Refuses `BadProcDict` where the procedure dictionary is longer than the code, where a
+    /// table begins before the code or ends in or past the dictionary, or where the first
+    /// procedure of the host segment has no body; else `NativeProcedure` where a table's
+    /// procedure number is 0. The code has at least two bytes.
+    /// Source: UCSD Pascal II.0 manual, code file format.
+    pub fn read(order: Order, code: &'a [u8], host: bool) -> Result<Procs<'a>, Reason>
+        requires { 2 ≤ length code.now }
+        ensures { result ≡ read_tables_spec order code.now host }
+    {
+        match ProcedureDictionary::read(order, code, host) {
+            Err(reason) => Err(reason),
+            Ok(dictionary) => Ok(dictionary.procs()),
+        }
     }
 
     /// The place is one of the ten bytes of a table.
@@ -205,8 +284,7 @@ impl<'a> Procs<'a> {
         ensures { result ≡ list_any (λ p. passes (is_in_table_spec place)
             (table_of_spec self.now.order self.now.code p)) (numbers self.now.code) }
     {
-        self.numbers()
-            .any(|p| is_in_table(self.code, self.table(p), place))
+        numbers_of(self.code).any(|p| is_in_table(self.code, self.table(p), place))
     }
 
     /// The code that they are in.
@@ -219,10 +297,11 @@ impl<'a> Procs<'a> {
 
     /// The number of procedures, 0 to 255.
     /// Source: UCSD Pascal II.0 manual, code file format.
+    #[tactic(auto, using(crate::proofs::Tables::count))]
     pub fn count(&self) -> usize
         ensures { result ≡ procedures self.now.code }
     {
-        count_of(self.code)
+        self.words.len()
     }
 
     /// The place in the code of procedure `p`'s attribute table; `None` where it has no body.
@@ -288,7 +367,7 @@ impl<'a> Procs<'a> {
             then mark else slice_index_or marks.old place d) }
     {
         mark_all(marks, self.start(), self.code.len(), mark);
-        for p in self.numbers() {
+        for p in numbers_of(self.code) {
             self.mark_table(p, marks, mark);
         }
     }

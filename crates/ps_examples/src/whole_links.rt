@@ -7,26 +7,33 @@ ghost use Rattle.ps_examples.specs.Segments.{aux_segment, past_segment, again_se
 ghost use Rattle.ps_examples.specs.Segments.{tools_segment, pair, three, with_plain};
 ghost use Rattle.ps_resolve.specs.Origins.{HaveOneEach, AreBySlot, AreOwn, AreAdded};
 ghost use Rattle.ps_resolve.specs.Origins.{AreOfRounds, AreInPlace, AreOfLibraries, AreRead};
+ghost use Rattle.ps_resolve.specs.LinkedBytes.{segments_of};
 ghost use Rattle.ps_words.specs.declared.order.Order.TheVariants.{Little, Big};
+
+use ps_laws::{first_of_all, segments_have_origins};
 
 /// What is said of all segments of a link, on a host and its libraries.
 pub fn facts_of_all_segments()
     ensures a_segment_for_each_slot { HaveOneEach host pair }
     ensures by_slot { AreBySlot pair }
-    ensures in_slot_15 { AreBySlot ((record util_segment { slot = 15 }) ∷ []) }
     ensures the_host_s_own { AreOwn host three }
-    ensures the_same_big_endian { AreOwn (host_in Big) pair }
+    ensures the_same_big_endian { AreOwn (host_in Big) (segments_of (host_in Big)
+        (library_in Big ∷ [])) }
     ensures the_added_one { AreAdded host three }
     ensures the_rounds_have_it { AreOfRounds host
         (library_of_used (util_information Little) ∷ []) three }
     ensures two_in_place { AreInPlace with_plain }
     ensures two_of_libraries { AreOfLibraries host
         (library_of_used (util_information Little) ∷ []) three }
-    ensures one_of_a_big_endian_library { AreOfLibraries (host_in Big) (library_in Big ∷ []) pair }
+    ensures one_of_a_big_endian_library { AreOfLibraries (host_in Big) (library_in Big ∷ [])
+        (segments_of (host_in Big) (library_in Big ∷ [])) }
     ensures read_from_two_files { AreRead host (library ∷ []) pair }
     ensures read_from_a_big_endian_library { AreRead (host_in Big) (library_in Big ∷ [])
-        ((record util_segment { code = util_code Big }) ∷ []) }
-{}
+        (segments_of (host_in Big) (library_in Big ∷ [])) }
+{
+    first_of_all();
+    segments_have_origins();
+}
 
 /// Lists of segments that are not those of a link.
 pub fn lists_of_no_link()

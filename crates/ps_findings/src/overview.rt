@@ -62,7 +62,9 @@ fn add_segment<A: Allocator>(
     write!(text, "{slot} {}: {}", ShownName(segment.name), segment.part)?;
     match &segment.source {
         Some(source) => add_source(text, inputs, segment, source),
-        None => text.push_str(", which no library has\n"),
+        None if segment.is_missing => text.push_str(", which no library has\n"),
+        None if segment.slot.is_none() => text.push_str(", for which no slot is left\n"),
+        None => text.push_str(", not looked for after the fault\n"),
     }
 }
 

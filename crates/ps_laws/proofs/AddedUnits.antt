@@ -29,6 +29,8 @@ use Rattle.ps_resolve.specs.RequestedUnits.{Asks, HasSlot, IsGiver, AreGiven, Is
 use Rattle.ps_resolve.specs.declared.reading.added.UnitReference.{UnitReference}
 use Rattle.ps_laws.proofs.Looking.{any_of_items}
 use Rattle.ps_laws.proofs.Items.{In, at_left, at_seam, in_range, of_range, find_passes}
+use Rattle.ps_resolve.proofs.EachSegment.{own_made as made_from}
+pub use Rattle.ps_resolve.proofs.FirstSlots.{or_none as both_none}
 use Rattle.ps_laws.proofs.Segments.{from_slot}
 use Rattle.ps_laws.proofs.Sources.{named, chosen, ok_is}
 use Rattle.ps_laws.proofs.Rounds.{own_units, references_of}
@@ -403,10 +405,7 @@ unit_role other e = absurd (false≢true e)
 
 -- a slot's own segment has the slot's role and its name
 pub own_is : (order : Order) (host : List ℕ) (libs : List (List ℕ)) (slot : ℕ) (s : Segment) → own_segment order host libs slot ≡ Some s → (r : Role) × HasRole order host slot r × (s.role ≡ r) × (s.name ≡ (entry_at order host slot).name)
-own_is order host libs slot s e =
-    option_and_then_some (λ r. option_and_then (segment_from order host libs slot (entry_at order host slot).name r) (source_of order host libs slot r)) (result_ok (role_of (entry_at order host slot))) s e (λ r e1 h.
-    option_and_then_some (segment_from order host libs slot (entry_at order host slot).name r) (source_of order host libs slot r) s h (λ at e2 k.
-    let t = from_slot order host libs slot (entry_at order host slot).name r at s k in (r, ok_is (role_of (entry_at order host slot)) r e1, t.2, t.1)))
+own_is order host libs slot s e = let t = made_from order host libs slot s e in (t.0, ok_is (role_of (entry_at order host slot)) t.0 t.1, ap (λ (q : Segment). q.role) t.3.is, ap (λ (q : Segment). q.name) t.3.is)
 
 -- the name of a unit among the host's own segments is that of a unit slot of the host
 slot_of_unit : (order : Order) (host : List ℕ) (libs : List (List ℕ)) (name : List ℕ) → is_some (lookup (bytes_eq name) (own_units order host libs)) ≡ true → HasSlot order host name
@@ -429,10 +428,6 @@ first_none {A} {X} f (y ∷ xs) i x e u = go (λ n k h. first_none f xs k x n h)
     go later (Some a) is e i u = absurd (cc)
     go later None is e zero u = let same : y ≡ x = cc in sym (ap f same) ∙ is
     go later None is e (suc i) u = later e i u
-
-pub both_none : {X : Type 0} (o p : Option X) → option_or o p ≡ None → (o ≡ None) × (p ≡ None)
-both_none None p e = (refl, e)
-both_none (Some x) p e = absurd (cc)
 
 pub source_none : (order : Order) (host : List ℕ) (libs : List (List ℕ)) → sources_fault order host libs ≡ None → (slot : ℕ) → slot < 16 → source_fault order host libs slot ≡ None
 unfolding sources_fault

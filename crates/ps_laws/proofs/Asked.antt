@@ -11,7 +11,7 @@ use Rattle.std.specs.Str.{bytes_eq}
 use Rattle.std.proofs.lemmas.Bool.{cases_lt, false≢true}
 use Rattle.std.proofs.lemmas.Bool.Decides.{Decides-at, Decides-and, Decides-like, Decides-eqb}
 use Rattle.std.proofs.lemmas.List.Folds.{list_any-append}
-use Rattle.std.proofs.lemmas.Option.{option_and_then_some, slice_get_within}
+use Rattle.std.proofs.lemmas.Option.{slice_get_within}
 use Rattle.std.proofs.lemmas.Slice.Eq.{bytes_eq-Decides}
 use Rattle.ps_codefile.specs.Dictionary.{slots, is_nameless, entry_at, role_of, code_of}
 use Rattle.ps_linkinfo.specs.RecordCounts.{is_unit_reference}
@@ -28,7 +28,9 @@ use Rattle.ps_resolve.specs.declared.reading.added.UnitReference.{UnitReference}
 use Rattle.ps_laws.proofs.Looking.{of_test, any_of_items, none_of_items, find_none}
 use Rattle.ps_laws.proofs.Items.{In, at_left, at_seam, in_left, in_right, some_before, in_flat, in_filter_map, of_filter_map, in_range, of_range, of_filter, filter_ascends, find_passes}
 use Rattle.ps_laws.proofs.Definitions.{take_prefix, longer}
-use Rattle.ps_laws.proofs.Segments.{from_slot, found_in_slot}
+use Rattle.ps_resolve.proofs.EachSegment.{added_made}
+use Rattle.ps_resolve.proofs.FirstSlots.{neither_second}
+use Rattle.ps_laws.proofs.Segments.{found_in_slot}
 use Rattle.ps_laws.proofs.Rounds.{own_units, references_of, requested_rest, rest_of, of_segment, of_fault, of_name, next_slot, first_round}
 use Rattle.ps_words.specs.declared.order.Order.{Order}
 use Rattle.ps_words.specs.declared.fault.Reason.{Reason}
@@ -57,10 +59,6 @@ unit_found order name libs n = go (chosen_library order name libs) refl n
             let b = none_of_items (is_named order name lib.1) slots in
             absurd (false≢true (sym (ap not a) ∙ (sym b ∙ ap is_none is_it)))
 
-option_or_none : {X : Type 0} (o p : Option X) → option_or o p ≡ None → p ≡ None
-option_or_none None p e = e
-option_or_none (Some x) p e = absurd (cc)
-
 -- a name that has no fault in its slot brings its segment there
 brought : (order : Order) (host : List ℕ) (libs : List (List ℕ)) (g : UnitReference) (slot : ℕ) → placed_fault order host libs g slot ≡ None → added_segment order host libs g slot ≡ None → ⊥
 brought order host libs g slot e n = go (is_missing order libs g.name) refl e
@@ -80,20 +78,14 @@ brought order host libs g slot e n = go (is_missing order libs g.name) refl e
     go : (b : Bool) → is_missing order libs g.name ≡ b → placed_fault order host libs g slot ≡ None → ⊥
     go true is e = let a = rw (is, placed_fault) at e in cc
     go false is e =
-        made (unit_source order g.name libs) refl (option_or_none (entry_fault order g.name libs slot) (option_and_then (code_fault order host libs slot role.Wanted) (unit_source order g.name libs)) (rw (is, placed_fault) at e)) n
+        made (unit_source order g.name libs) refl (neither_second (entry_fault order g.name libs slot) (option_and_then (code_fault order host libs slot role.Wanted) (unit_source order g.name libs)) (rw (is, placed_fault) at e)) n
         (or_false (is_nameless g.name) (is_none (chosen_library order g.name libs)) is)
 
 -- an added segment, as it was requested
 pub added_is : (order : Order) (host : List ℕ) (libs : List (List ℕ)) (g : UnitReference) (slot : ℕ) (s : Segment) → added_segment order host libs g slot ≡ Some s → (s.slot ≡ slot) × (s.name ≡ g.name) × (s.role ≡ role.Wanted)
-added_is order host libs g slot s e = go (option_and_then (segment_from order host libs slot g.name role.Wanted) (unit_source order g.name libs)) refl e
-  where
-    go : (o : Option Segment) → option_and_then (segment_from order host libs slot g.name role.Wanted) (unit_source order g.name libs) ≡ o → option_map as_added o ≡ Some s → (s.slot ≡ slot) × (s.name ≡ g.name) × (s.role ≡ role.Wanted)
-    go None is e = absurd (cc)
-    go (Some q) is e =
-        option_and_then_some (segment_from order host libs slot g.name role.Wanted) (unit_source order g.name libs) q is (λ at e1 h.
-        let t = from_slot order host libs slot g.name role.Wanted at q h in
-        let x : as_added q ≡ s = cc in
-        (sym (ap (λ (y : Segment). y.slot) x) ∙ t.0, sym (ap (λ (y : Segment). y.name) x) ∙ t.1, sym (ap (λ (y : Segment). y.role) x) ∙ t.2))
+added_is order host libs g slot s e =
+    let t = added_made order host libs g slot s e in
+    (ap (λ (q : Segment). q.slot) t.2 ∙ ap (λ (q : Segment). q.slot) t.3.is, ap (λ (q : Segment). q.name) t.2 ∙ ap (λ (q : Segment). q.name) t.3.is, ap (λ (q : Segment). q.role) t.2 ∙ ap (λ (q : Segment). q.role) t.3.is)
 
 -- 2. the queue of names grows, and has each name that is requested
 pub queue_grows : (units : List (List ℕ × ℕ)) (queue gs : List UnitReference) → (more : List UnitReference) × (requested_from units queue gs ≡ queue ++ more)

@@ -30,6 +30,7 @@ use Rattle.ps_resolve.specs.Faults.{is_role, slot_reason, slots_fault, code_faul
 use Rattle.ps_resolve.specs.Origins.{IsOwn, IsAddedUnit, IsFile, IsInPlace, IsUnitOf, IsSliceOf, IsRead, HaveOneEach, AreBySlot, AreOwn, AreAdded, AreInPlace, AreOfLibraries, AreRead, AreOfRounds, IsTaken, AsksFor}
 use Rattle.ps_resolve.specs.RequestedUnits.{HasSlot, Asks, IsGiver}
 use Rattle.ps_resolve.specs.declared.reading.added.UnitReference.{UnitReference}
+use Rattle.ps_resolve.proofs.FirstSlots.{none_mapped as map_none}
 use Rattle.ps_laws.proofs.Items.{In, in_range, in_filter, of_take, some_before}
 use Rattle.ps_laws.proofs.Steps.{not_below, step_2}
 use Rattle.ps_laws.proofs.Sources.{OneStop, ok_is}
@@ -53,10 +54,6 @@ OneSpelling = (order : Order) (bytes : List ℕ) (rs : List Record) → Spells o
 -- 1. a segment and its source
 number : (a b : ℕ) → ◌≡◌ {A = Option ℕ} (Some a) (Some b) → a ≡ b
 number a b e = cc
-
-map_none : {X Y : Type 0} (f : X → Y) (o : Option X) → option_map f o ≡ None → o ≡ None
-map_none f None h = refl
-map_none f (Some x) h = absurd (cc)
 
 -- a code with which nothing is wrong is the slice of its file that the entry reports
 slice_of : (file : List ℕ) (e : Entry) (code : List ℕ) → code_of file e ≡ Ok code → IsSliceOf file e code

@@ -23,6 +23,7 @@ use Rattle.ps_codefile.specs.Roles.{needs_linking, is_host, is_empty}
 use Rattle.ps_resolve.specs.Sources.{Segment, file_at, source_of, unit_source, segment_from, own_segment, records_of}
 use Rattle.ps_resolve.specs.Faults.{is_role, code_fault, entry_fault, information_fault, sources_fault}
 use Rattle.ps_resolve.specs.declared.reading.added.UnitReference.{UnitReference}
+use Rattle.ps_resolve.proofs.FirstSlots.{none_mapped as map_none}
 use Rattle.ps_laws.proofs.Sources.{tables_rows, ok_is}
 use Rattle.ps_laws.proofs.Steps.{Ranked}
 use Rattle.ps_laws.proofs.Segments.{found_in_slot}
@@ -71,10 +72,6 @@ not_bad order code host e = go (tables_fault order code host) e (tables_rows ord
     go : (o : Option Reason) → o ≡ None → Least Ranked (TablesHave order code host) o → AreBad order code host → ⊥
     go None e (nothing n) h = n reason.BadProcDict h
     go (Some why) e l h = absurd (cc)
-
-map_none : {X Y : Type 0} (f : X → Y) (o : Option X) → option_map f o ≡ None → o ≡ None
-map_none f None h = refl
-map_none f (Some x) h = absurd (cc)
 
 -- a segment whose source has no fault
 from_sound : (order : Order) (host : List ℕ) (libs : List (List ℕ)) (slot : ℕ) (name : List ℕ) (r : Role) (at : ℕ × ℕ) (s : Segment) → segment_from order host libs slot name r at ≡ Some s → code_fault order host libs slot r at ≡ None → IsSound order s

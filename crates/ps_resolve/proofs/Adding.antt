@@ -6,22 +6,16 @@ use Rattle.std.proofs.lemmas.Bool.{cases_lt}
 use Rattle.std.proofs.lemmas.List.{take-append-le, take_all, length-take, length-take-le}
 use Rattle.std.proofs.lemmas.List.Elements.{All-nil, All-cons, All-append}
 use Rattle.ps_resolve.proofs.FirstSlots.{range_more}
-use Rattle.std.specs.List.{slice_get, find, filter, range_with_len}
-use Rattle.std.specs.Option.{option_map}
-use Rattle.ps_words.specs.FaultPlaces.{in_slot}
+use Rattle.std.specs.List.{slice_get, filter, range_with_len}
 use Rattle.ps_words.specs.declared.order.Order.{Order}
-use Rattle.ps_words.specs.declared.fault.Reason.{Reason}
-use Rattle.ps_codefile.specs.Dictionary.{slots}
 use Rattle.ps_linkinfo.specs.RecordCounts.{is_unit_reference, units_in as units_asked}
-use Rattle.ps_resolve.specs.Added.{is_missing, as_added, is_already_known, unit_references, requested_from, unplaced_fault, placed_fault, added_segment, Rounds, after, rounds_from}
-use Rattle.ps_codefile.specs.declared.entry.Role.TheVariants.{Wanted}
+use Rattle.ps_resolve.specs.Added.{is_already_known, unit_references, all_unit_references, requested_from, unplaced_fault, placed_fault, added_segment, Rounds, after, rounds_from}
 use Rattle.ps_words.specs.declared.fault.Fault.{Fault}
 use Rattle.ps_linkinfo.specs.declared.record.Body.{Body}
 use Rattle.ps_linkinfo.specs.declared.record.Body.TheVariants.{UnitRef, PublRef, PrivRef, PublDef, ConstDef, Eof}
 use Rattle.ps_linkinfo.specs.declared.record.LinkRecord.{LinkRecord as Record}
 use Rattle.ps_resolve.proofs.Apart.{one_more}
-use Rattle.ps_resolve.specs.Sources.{Segment, segment_from, chosen_library, is_named}
-use Rattle.ps_resolve.specs.Faults.{code_fault, entries_reason}
+use Rattle.ps_resolve.specs.Sources.{Segment}
 use Rattle.ps_resolve.specs.declared.reading.added.UnitReference.{UnitReference}
 
 -- with this queue, the names that the records from this index on request make the whole queue:
@@ -54,6 +48,25 @@ no_references file slot n (r ∷ rs) h = at (λ e. no_references file slot (n + 
 pub requested-append : (units : List (List ℕ × ℕ)) (queue xs ys : List UnitReference) → requested_from units queue (xs ++ ys) ≡ requested_from units (requested_from units queue xs) ys
 requested-append units queue [] ys = refl
 requested-append units queue (x ∷ xs) ys = requested-append units (if is_already_known units queue x.name then queue else queue ++ x ∷ []) xs ys
+
+-- one segment more, whose records request names after those of segments before it
+flat_more : (xs : List Segment) (s : Segment) → all_unit_references (xs ++ s ∷ []) ≡ all_unit_references xs ++ unit_references s.file s.slot 0 s.records
+flat_more [] s = append-nil (unit_references s.file s.slot 0 s.records)
+flat_more (x ∷ xs) s =
+    ap (λ (gs : List UnitReference). unit_references x.file x.slot 0 x.records ++ gs) (flat_more xs s)
+    ∙ sym (append_assoc (unit_references x.file x.slot 0 x.records) (all_unit_references xs) (unit_references s.file s.slot 0 s.records))
+
+pub references_more : (units : List (List ℕ × ℕ)) (queue : List UnitReference) (xs : List Segment) (s : Segment)
+    → requested_from units (requested_from units queue (all_unit_references xs)) (unit_references s.file s.slot 0 s.records) ≡ requested_from units queue (all_unit_references (xs ++ s ∷ []))
+references_more units queue xs s =
+    sym (ap (requested_from units queue) (flat_more xs s) ∙ requested-append units queue (all_unit_references xs) (unit_references s.file s.slot 0 s.records))
+
+-- all that two lists of segments request
+pub references_both : (xs ys : List Segment) → all_unit_references (xs ++ ys) ≡ all_unit_references xs ++ all_unit_references ys
+references_both [] ys = refl
+references_both (x ∷ xs) ys =
+    ap (λ (gs : List UnitReference). unit_references x.file x.slot 0 x.records ++ gs) (references_both xs ys)
+    ∙ sym (append_assoc (unit_references x.file x.slot 0 x.records) (all_unit_references xs) (all_unit_references ys))
 
 -- the prefix of a queue stays
 pub queue_prefix : (units : List (List ℕ × ℕ)) (n : ℕ) (queue gs : List UnitReference) → n ≤ length queue → take n (requested_from units queue gs) ≡ take n queue
@@ -130,19 +143,6 @@ module _ (order : Order) (host : List ℕ) (libs : List (List ℕ)) (units : Lis
   pub round_adds : (slot : ℕ) (left : List ℕ) (g : UnitReference) (s : Segment) → slice_get queue k ≡ Some g → placed_fault order host libs g slot ≡ None → added_segment order host libs g slot ≡ Some s
       → rounds_from order host libs units (slot ∷ left) k queue ≡ after s (rounds_from order host libs units left (k + 1) (requested_from units queue (unit_references s.file s.slot 0 s.records)))
   round_adds slot left g s h e f = rw (h, rounds_from) (rw (e, rounds_from) (rw (f, rounds_from) refl))
-
--- the fault and the segment of a name in its slot, by the library's entry
-module _ (order : Order) (host : List ℕ) (libs : List (List ℕ)) (g : UnitReference) (slot : ℕ) where
-  module _ (library : ℕ) (file : List ℕ) (m : is_missing order libs g.name ≡ false) (chosen : chosen_library order g.name libs ≡ Some (library, file)) where
-    pub placed_refused : (why : Reason) → entries_reason order g.name file ≡ Some why → placed_fault order host libs g slot ≡ Some (in_slot (library + 1) slot why)
-    placed_refused why e = rw m (rw chosen (rw e refl))
-
-    pub placed_by : (i : ℕ) → entries_reason order g.name file ≡ None → find (is_named order g.name file) slots ≡ Some i → placed_fault order host libs g slot ≡ code_fault order host libs slot Wanted (library + 1, i)
-    placed_by i e f = rw m (rw chosen (rw (e, f) refl))
-
-  pub added_by : (library : ℕ) (file : List ℕ) (i : ℕ) → chosen_library order g.name libs ≡ Some (library, file) → find (is_named order g.name file) slots ≡ Some i
-      → added_segment order host libs g slot ≡ option_map as_added (segment_from order host libs slot g.name Wanted (library + 1, i))
-  added_by library file i chosen f = rw chosen (rw f refl)
 
 -- segments that were added before the rounds that are left
 abbrev pub joined : List Segment → Rounds → Rounds

@@ -1,13 +1,11 @@
 -- What is known of the segments of a link once the files were read without a fault: they rise by
 -- slot, and one of them is the host's own.
-use Rattle.std.proofs.Common.{◌≡◌, ℕ, zero, suc, ◌+◌, ◌≤◌, List, [], ◌∷◌, map, Bool, true, false, ◌||◌, ◌&&◌, not, Option, Some, None, is_some, Result, Ok, Err, refl, sym, ◌∙◌, ap, subst, ◌==◌, arith, add-zero}
-use Rattle.std.specs.List.{range_with_len, filter_map, find, list_any, slice_get}
-use Rattle.std.specs.Prelude.{All}
-use Rattle.std.specs.Option.{option_or, option_map, option_and_then, option_map_or}
+use Rattle.std.proofs.Common.{◌≡◌, ℕ, zero, suc, ◌+◌, ◌≤◌, List, [], ◌∷◌, map, Bool, true, false, ◌||◌, ◌&&◌, not, Option, Some, None, is_some, Result, Ok, Err, refl, sym, ◌∙◌, ap, inl, inr, arith, add-zero}
+use Rattle.std.specs.List.{range_with_len, filter_map, find, list_any}
+use Rattle.std.specs.Prelude.{All, ⊤}
+use Rattle.std.specs.Option.{option_or, option_map, option_map_or}
 use Rattle.std.specs.Result.{result_ok}
-use Rattle.std.proofs.lemmas.Bool.{eqb-true}
-use Rattle.std.proofs.lemmas.Option.{option_and_then_some, same_Some}
-use Rattle.std.proofs.lemmas.List.Elements.{All-nil, All-cons, All-tail, All-weaker}
+use Rattle.std.proofs.lemmas.List.Elements.{All-nil, All-cons, All-weaker}
 use Rattle.ps_words.specs.FaultPlaces.{in_slot}
 use Rattle.ps_words.specs.declared.order.Order.{Order}
 use Rattle.ps_words.specs.declared.fault.Reason.{Reason}
@@ -17,85 +15,29 @@ use Rattle.ps_codefile.specs.declared.entry.Role.TheVariants as role
 use Rattle.ps_codefile.specs.declared.entry.Entry.{Entry}
 use Rattle.ps_codefile.specs.Dictionary.{entry_at, role_of, code_of, slots}
 use Rattle.ps_codefile.specs.Procedures.{tables_fault}
-use Rattle.ps_resolve.specs.Added.{segment_at, segments, added_segments, rounds, rounds_from, added_segment, as_added, placed_fault, requested_from, unit_references, all_unit_references, empty_slots}
+use Rattle.ps_resolve.specs.Added.{segment_at, segments, added_segments}
 use Rattle.ps_resolve.specs.Searches.{first_of, fault_if}
-use Rattle.ps_codefile.specs.Roles.{is_host, is_empty, needs_linking}
-use Rattle.ps_resolve.specs.Sources.{Segment, own_segment, segment_from, source_of, unit_source, units_of, own_segments, host_of, records_of, file_at}
-use Rattle.ps_resolve.specs.declared.reading.added.UnitReference.{UnitReference}
+use Rattle.ps_codefile.specs.Roles.{is_host, is_empty}
+use Rattle.ps_resolve.specs.Sources.{Segment, own_segment, host_of}
 use Rattle.ps_resolve.specs.Faults.{is_role, slot_reason, slots_fault, no_host_fault, sources_fault, source_fault, information_fault}
 use Rattle.ps_resolve.specs.Linkable.{AscendFrom, HasOneHost}
+use Rattle.ps_resolve.proofs.EachSegment.{added_made, at_slot, each_added, own_made, segment_with}
 use Rattle.ps_resolve.proofs.FirstSlots.{neither_first, neither_second, none_mapped}
 use Rattle.ps_resolve.proofs.ReadingSources.{own_fault, read_from_host, is_own_host}
 
--- a segment that is read has the slot and the role that it was read for
-abbrev segment_with : Order → List ℕ → List (List ℕ) → ℕ → List ℕ → Role → ℕ × ℕ → List ℕ → Segment
-segment_with order host libs slot name r place code =
-    let file = file_at host libs place.0 in
-    let e = entry_at order file place.1 in
-    record { slot = slot; name = name; role = r; added = false; file = place.0; index = place.1; code = code; records = records_of order file e (needs_linking r) }
-
--- so it is with whatever code, where one is given
-made : (order : Order) (host : List ℕ) (libs : List (List ℕ)) (slot : ℕ) (name : List ℕ) (r : Role) (place : ℕ × ℕ) (q : Result (List ℕ) Reason) (s : Segment) → option_map (segment_with order host libs slot name r place) (result_ok q) ≡ Some s → (s.slot ≡ slot) × (r ≡ s.role)
-made order host libs slot name r place (Err why) s h = cc
-made order host libs slot name r place (Ok code) s h =
-    let same : segment_with order host libs slot name r place code ≡ s = same_Some _ _ h in
-    (ap (λ (x : Segment). x.slot) (sym same), ap (λ (x : Segment). x.role) same)
-
 -- the own segment of a slot is in the slot and has the role of it
 pub own_parts : (order : Order) (host : List ℕ) (libs : List (List ℕ)) (slot : ℕ) (s : Segment) → own_segment order host libs slot ≡ Some s → (s.slot ≡ slot) × (result_ok (role_of (entry_at order host slot)) ≡ Some s.role)
-own_parts order host libs slot s h =
-    let name = (entry_at order host slot).name in
-    option_and_then_some (λ (r : Role). option_and_then (segment_from order host libs slot name r) (source_of order host libs slot r)) (result_ok (role_of (entry_at order host slot))) s h (λ r is rest.
-    option_and_then_some (segment_from order host libs slot name r) (source_of order host libs slot r) s rest (λ place there from.
-    let parts = made order host libs slot name r place (code_of (file_at host libs place.0) (entry_at order (file_at host libs place.0) place.1)) s from in
-    (parts.0, is ∙ ap (λ (x : Role). Some x) parts.1)))
+own_parts order host libs slot s h = let t = own_made order host libs slot s h in (ap (λ (x : Segment). x.slot) t.3.is, t.1 ∙ ap (λ (x : Segment). Some x.role) (sym t.3.is))
 
--- an added segment is in its slot, with the role of a wanted unit
-pub of_added : (order : Order) (host : List ℕ) (libs : List (List ℕ)) (g : UnitReference) (slot : ℕ) (s : Segment) → added_segment order host libs g slot ≡ Some s → (s.slot ≡ slot) × (s.role ≡ role.Wanted)
-of_added order host libs g slot s h = by (option_and_then (segment_from order host libs slot g.name role.Wanted) (unit_source order g.name libs)) refl h
-  where
-    by : (o : Option Segment) → option_and_then (segment_from order host libs slot g.name role.Wanted) (unit_source order g.name libs) ≡ o → option_map as_added o ≡ Some s → (s.slot ≡ slot) × (s.role ≡ role.Wanted)
-    by None e k = cc
-    by (Some t) e k =
-        let same : as_added t ≡ s = same_Some _ _ k in
-        let parts : (t.slot ≡ slot) × (role.Wanted ≡ t.role) =
-        option_and_then_some (segment_from order host libs slot g.name role.Wanted) (unit_source order g.name libs) t e (λ place there from.
-        made order host libs slot g.name role.Wanted place (code_of (file_at host libs place.0) (entry_at order (file_at host libs place.0) place.1)) t from) in
-        (ap (λ (x : Segment). x.slot) (sym same) ∙ parts.0, ap (λ (x : Segment). x.role) (sym same) ∙ sym parts.1)
-
-abbrev pub IsWanted : Segment → Type 0
+abbrev IsWanted : Segment → Type 0
 IsWanted s = s.role ≡ role.Wanted
-
--- each segment that the rounds add has the role of a wanted unit
-rounds_wanted : (order : Order) (host : List ℕ) (libs : List (List ℕ)) (units : List (List ℕ × ℕ)) (left : List ℕ) (k : ℕ) (queue : List UnitReference) → All IsWanted (rounds_from order host libs units left k queue).added
-rounds_wanted order host libs units [] k queue = All-nil IsWanted
-rounds_wanted order host libs units (slot ∷ left) k queue = by (λ next. rounds_wanted order host libs units left (k + 1) next) (slice_get queue k) refl
-  where
-    at : ((next : List UnitReference) → All IsWanted (rounds_from order host libs units left (k + 1) next).added) → (g : UnitReference) (p : Option Fault) → placed_fault order host libs g slot ≡ p → (o : Option Segment) → added_segment order host libs g slot ≡ o → slice_get queue k ≡ Some g → All IsWanted (rounds_from order host libs units (slot ∷ left) k queue).added
-    at rest g (Some fault) e o f h = rw (h, rounds_from) (rw (e, rounds_from) (All-nil IsWanted))
-    at rest g None e None f h = rw (h, rounds_from) (rw (e, rounds_from) (rw (f, rounds_from) (All-nil IsWanted)))
-    at rest g None e (Some s) f h =
-        let next = requested_from units queue (unit_references s.file s.slot 0 s.records) in
-        rw (h, rounds_from) (rw (e, rounds_from) (rw (f, rounds_from) (All-cons IsWanted s (rounds_from order host libs units left (k + 1) next).added (of_added order host libs g slot s f).1 (rest next))))
-
-    by : ((next : List UnitReference) → All IsWanted (rounds_from order host libs units left (k + 1) next).added) → (o : Option UnitReference) → slice_get queue k ≡ o → All IsWanted (rounds_from order host libs units (slot ∷ left) k queue).added
-    by rest None h = rw (h, rounds_from) (All-nil IsWanted)
-    by rest (Some g) h = at rest g (placed_fault order host libs g slot) refl (added_segment order host libs g slot) refl h
 
 -- each added segment has the role of a wanted unit
 added_wanted : (order : Order) (host : List ℕ) (libs : List (List ℕ)) → All IsWanted (added_segments order host libs)
-unfolding rounds
 added_wanted order host libs =
-    let own = own_segments order host libs in rounds_wanted order host libs (units_of own) (empty_slots order host) 0 (requested_from (units_of own) [] (all_unit_references own))
-
--- what is found passes the test, and has what all have
-pub find_has : {X : Type 0} (P : X → Type 0) (test : X → Bool) (xs : List X) (x : X) → find test xs ≡ Some x → All P xs → (test x ≡ true) × P x
-find_has P test [] x h all = cc
-find_has {X} P test (y ∷ ys) x h all = by (λ e. find_has P test ys x e (All-tail P y ys all)) (test y) refl
-  where
-    by : (find test ys ≡ Some x → (test x ≡ true) × P x) → (b : Bool) → test y ≡ b → (test x ≡ true) × P x
-    by rest true e = let same : y ≡ x = same_Some _ _ (rw e at h) in (subst (λ (z : X). test z ≡ true) same e, subst P same (all 0 y (omega arith)))
-    by rest false e = rest (rw e at h)
+    each_added order host libs IsWanted (λ g. ⊤)
+    (λ g slot s _ h. let t = added_made order host libs g slot s h in ap (λ (x : Segment). x.role) t.2 ∙ ap (λ (x : Segment). x.role) t.3.is)
+    (λ units queue s all h i g lt. tt) (λ i g lt. tt)
 
 -- a slot whose role is Empty has not that of the host
 empty_role : (q : Result Role Reason) → option_map_or is_empty (result_ok q) false ≡ true → option_map_or is_host (result_ok q) false ≡ false
@@ -109,18 +51,10 @@ empty_role (Ok role.Unit) h = cc
 -- the segment of a slot, its own or one that was added there, is in the slot and is the host's just
 -- where the slot's role is
 pub slot_parts : (order : Order) (host : List ℕ) (libs : List (List ℕ)) (slot : ℕ) (s : Segment) → segment_at order host libs slot ≡ Some s → (s.slot ≡ slot) × (is_role is_host order host slot ≡ is_host s.role)
-slot_parts order host libs slot s h = by (own_segment order host libs slot) refl (is_role is_empty order host slot) refl
-  where
-    by : (o : Option Segment) → own_segment order host libs slot ≡ o → (b : Bool) → is_role is_empty order host slot ≡ b → (s.slot ≡ slot) × (is_role is_host order host slot ≡ is_host s.role)
-    by (Some t) e b f =
-        let same : t ≡ s = same_Some _ _ (rw e at h) in
-        let parts = own_parts order host libs slot s (e ∙ ap (λ (x : Segment). Some x) same) in
-        (parts.0, ap (λ (o : Option Role). option_map_or is_host o false) parts.1)
-    by None e false f = let none : None ≡ Some s = rw (e, f) at h in cc
-    by None e true f =
-        let found : find (λ (x : Segment). x.slot == slot) (added_segments order host libs) ≡ Some s = rw (e, f) at h in
-        let has = find_has IsWanted (λ (x : Segment). x.slot == slot) (added_segments order host libs) s found (added_wanted order host libs) in
-        (eqb-true s.slot slot has.0, empty_role (role_of (entry_at order host slot)) f ∙ sym (ap is_host has.1))
+slot_parts order host libs slot s h = elim (at_slot order host libs IsWanted (added_wanted order host libs) slot s h) [
+  | inl own ↦ (let parts = own_parts order host libs slot s own in (parts.0, ap (λ (o : Option Role). option_map_or is_host o false) parts.1))
+  | inr t ↦ (t.1, empty_role (role_of (entry_at order host slot)) t.0 ∙ sym (ap is_host t.2))
+]
 
 host_role : (order : Order) (host : List ℕ) (libs : List (List ℕ)) (slot : ℕ) (s : Segment) → segment_at order host libs slot ≡ Some s → is_role is_host order host slot ≡ is_host s.role
 host_role order host libs slot s h = (slot_parts order host libs slot s h).1

@@ -1,5 +1,5 @@
 -- The libraries of a link, from one of them on.
-use Rattle.std.proofs.Common.{◌≡◌, ℕ, suc, ◌+◌, ◌<◌, List, [], ◌∷◌, length, get_or, drop, map, Bool, true, false, if◌then◌else◌, Option, Some, None, Ok, Err, Bor, inl, inr, sym, ◌∙◌, ap, arith, add-one}
+use Rattle.std.proofs.Common.{◌≡◌, ℕ, suc, ◌+◌, ◌<◌, List, [], ◌∷◌, length, get_or, drop, map, Bool, true, false, if◌then◌else◌, Option, Some, None, Ok, Err, Bor, inl, inr, refl, sym, ◌∙◌, ap, arith, add-one}
 use Rattle.std.proofs.Math.Dec.{ltb}
 use Rattle.std.proofs.lemmas.List.{drop_more, drop-map}
 use Rattle.std.proofs.lemmas.Bool.{cases_Bool}
@@ -9,11 +9,13 @@ use Rattle.std.specs.Option.{option_or, unwrap_or}
 use Rattle.std.specs.Result.{result_err}
 use Rattle.ps_words.specs.FaultPlaces.{in_file}
 use Rattle.ps_words.specs.declared.order.Order.{Order}
+use Rattle.ps_words.specs.declared.order.Order.TheVariants.{Little, Big}
+use Rattle.ps_words.specs.declared.fault.Reason.{Reason}
 use Rattle.ps_words.specs.declared.fault.Reason.TheVariants as reason
 use Rattle.ps_words.specs.declared.fault.Fault.{Fault}
-use Rattle.ps_codefile.specs.Dictionary.{FileOrder, file_order, opened_beside, opened_beside_as}
+use Rattle.ps_codefile.specs.Dictionary.{OpenedFile, FileOrder, Zero, Ordered, Mixed, file_order, opened_beside, opened_beside_as, same_order, slots}
 use Rattle.ps_resolve.specs.Searches.{first_of}
-use Rattle.ps_resolve.specs.Sources.{has_entry, chosen_library, file_at}
+use Rattle.ps_resolve.specs.Sources.{is_named, has_entry, chosen_library, file_at, opened, opened_file, opened_files}
 use Rattle.ps_resolve.specs.Faults.{library_fault, library_reason}
 use Rattle.ps_resolve.proofs.FirstSlots.{neither_first, neither_second, none_mapped}
 
@@ -24,6 +26,43 @@ read_as short of order file h = grind arith
 
 pub read_beside : (order : Order) (file : List ℕ) → library_reason order file ≡ None → opened_beside order file ≡ Ok (record { order = order; file = file })
 read_beside order file h = read_as (ltb (length file) 512) (file_order file) order file h
+
+-- so it is opened as it is
+pub opened_whole : (order : Order) (file : List ℕ) → library_reason order file ≡ None → opened_file order file ≡ file
+opened_whole order file h = rw (read_beside order file h) refl
+
+-- a library that is opened is read in the order of the host
+order_as : (short : Bool) (of : FileOrder) (order : Order) (file : List ℕ) (o : OpenedFile) → (if short then Err reason.ShortFile else opened_beside_as order file of) ≡ Ok o → o.order ≡ order
+order_as true of order file o h = cc
+order_as false Zero order file o h = cc
+order_as false Mixed order file o h = cc
+order_as false (Ordered other) order file o h = by (same_order other order) h
+  where
+    by : (same : Bool) → (if same then Ok (record { order = order; file = file }) else Err reason.OrderMismatch) ≡ Ok o → o.order ≡ order
+    by true h = cc
+    by false h = cc
+
+pub opened_is : (order : Order) (file : List ℕ) (o : OpenedFile) → opened_beside order file ≡ Ok o → o ≡ record { order = order; file = opened_file order file }
+opened_is order file o h =
+    let file_is : opened_file order file ≡ o.file = rw h refl in
+    ap (λ (p : Order). record { order = p; file = o.file }) (order_as (ltb (length file) 512) (file_order file) order file o h)
+    ∙ ap (λ (xs : List ℕ). record { order = order; file = xs }) (sym file_is)
+
+-- one that is refused has no entries
+pub refused_is : (order : Order) (file : List ℕ) (why : Reason) → opened_beside order file ≡ Err why → opened_file order file ≡ []
+refused_is order file why h = rw h refl
+
+pub no_entries : (order : Order) (name : List ℕ) → find (is_named order name []) slots ≡ None
+no_entries Little name = refl
+no_entries Big name = refl
+
+-- where no library has a fault, each is opened as it is
+pub all_opened : (order : Order) (libs : List (List ℕ)) (n : ℕ) → first_of (library_fault order) (enumerate_from n libs) ≡ None → opened_files order libs ≡ libs
+all_opened order [] n h = refl
+all_opened order (lib ∷ libs) n h =
+    let here = opened_whole order lib (none_mapped (in_file n) (library_reason order lib) (neither_first _ _ h)) in
+    let rest = all_opened order libs (n + 1) (neither_second (library_fault order (n, lib)) _ h) in
+    ap (λ (x : List ℕ). x ∷ opened_files order libs) here ∙ ap (λ (xs : List (List ℕ)). lib ∷ xs) rest
 
 -- what a list of references stands for
 abbrev pub files : List (Bor (List ℕ)) → List (List ℕ)
@@ -45,21 +84,22 @@ rest_of order libs i = first_of (library_fault order) (enumerate_from (i + 1) (d
 pub rest_at : (order : Order) (libs : List (Bor (List ℕ))) (i : ℕ) → i < length libs → rest_of order libs i ≡ option_or (library_fault order (i + 1, (get_or libs i no_file).now)) (rest_of order libs (i + 1))
 rest_at order libs i lt = ap (λ (xs : List (ℕ × List ℕ)). first_of (library_fault order) xs) (files_more libs i (i + 1) lt)
 
-pub no_reason : (order : Order) (libs : List (Bor (List ℕ))) (i : ℕ) → i < length libs → rest_of order libs i ≡ None → library_reason order (get_or libs i no_file).now ≡ None
-no_reason order libs i lt h = none_mapped (in_file (i + 1)) _ (neither_first _ _ (sym (rest_at order libs i lt) ∙ h))
-
-pub no_more : (order : Order) (libs : List (Bor (List ℕ))) (i : ℕ) → i < length libs → rest_of order libs i ≡ None → rest_of order libs (i + 1) ≡ None
-no_more order libs i lt h = neither_second (library_fault order (i + 1, (get_or libs i no_file).now)) _ (sym (rest_at order libs i lt) ∙ h)
+-- the libraries that are opened, from i on
+pub opened_more : (order : Order) (libs : List (Bor (List ℕ))) (i n : ℕ) → i < length libs → enumerate_from n (drop i (opened order libs)) ≡ (n, opened_file order (get_or libs i no_file).now) ∷ enumerate_from (n + 1) (drop (i + 1) (opened order libs))
+opened_more order libs i n lt =
+    let now = λ (lib : Bor (List ℕ)). lib.now in
+    let opens = opened_file order in
+    grind (arith, drop-map now i libs, drop-map now (i + 1) libs, drop-map opens i (files libs), drop-map opens (i + 1) (files libs), drop_more libs i no_file lt)
 
 -- the first library from i on that has an entry of the name
 abbrev pub chosen_from : Order → List ℕ → List (Bor (List ℕ)) → ℕ → Option (ℕ × List ℕ)
-chosen_from order name libs i = find (λ (lib : ℕ × List ℕ). has_entry order name lib.1) (enumerate_from i (drop i (files libs)))
+chosen_from order name libs i = find (λ (lib : ℕ × List ℕ). has_entry order name lib.1) (enumerate_from i (drop i (opened order libs)))
 
-pub chosen_here : (order : Order) (name : List ℕ) (libs : List (Bor (List ℕ))) (i : ℕ) → i < length libs → has_entry order name (get_or libs i no_file).now ≡ true → chosen_from order name libs i ≡ Some (i, (get_or libs i no_file).now)
-chosen_here order name libs i lt h = ap (λ (xs : List (ℕ × List ℕ)). find (λ (lib : ℕ × List ℕ). has_entry order name lib.1) xs) (files_more libs i i lt) ∙ rw h
+pub chosen_here : (order : Order) (name : List ℕ) (libs : List (Bor (List ℕ))) (i : ℕ) → i < length libs → has_entry order name (opened_file order (get_or libs i no_file).now) ≡ true → chosen_from order name libs i ≡ Some (i, opened_file order (get_or libs i no_file).now)
+chosen_here order name libs i lt h = ap (λ (xs : List (ℕ × List ℕ)). find (λ (lib : ℕ × List ℕ). has_entry order name lib.1) xs) (opened_more order libs i i lt) ∙ rw h
 
-pub chosen_later : (order : Order) (name : List ℕ) (libs : List (Bor (List ℕ))) (i : ℕ) → i < length libs → has_entry order name (get_or libs i no_file).now ≡ false → chosen_from order name libs i ≡ chosen_from order name libs (i + 1)
-chosen_later order name libs i lt h = ap (λ (xs : List (ℕ × List ℕ)). find (λ (lib : ℕ × List ℕ). has_entry order name lib.1) xs) (files_more libs i i lt) ∙ rw h
+pub chosen_later : (order : Order) (name : List ℕ) (libs : List (Bor (List ℕ))) (i : ℕ) → i < length libs → has_entry order name (opened_file order (get_or libs i no_file).now) ≡ false → chosen_from order name libs i ≡ chosen_from order name libs (i + 1)
+chosen_later order name libs i lt h = ap (λ (xs : List (ℕ × List ℕ)). find (λ (lib : ℕ × List ℕ). has_entry order name lib.1) xs) (opened_more order libs i i lt) ∙ rw h
 
 -- a file that is found among numbered files is at its number
 at_number : (p : ℕ × List ℕ → Bool) (files : List (List ℕ)) (n k : ℕ) (file : List ℕ) → find p (enumerate_from n files) ≡ Some (k, file) → (j : ℕ) × (k ≡ n + j) × (slice_get files j ≡ Some file)

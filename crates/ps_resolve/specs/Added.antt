@@ -10,18 +10,21 @@ use Rattle.ps_words.specs.FaultPlaces.{in_record}
 use Rattle.ps_words.specs.declared.order.Order.{Order}
 use Rattle.ps_words.specs.declared.fault.Reason.TheVariants as reason
 use Rattle.ps_words.specs.declared.fault.Fault.{Fault}
-use Rattle.ps_codefile.specs.Dictionary.{slots, name_at, is_nameless}
+use Rattle.ps_codefile.specs.Dictionary.{slots, name_at}
 use Rattle.ps_linkinfo.specs.RecordCounts.{is_unit_reference}
-use Rattle.ps_codefile.specs.declared.entry.Role.TheVariants.{Wanted}
-use Rattle.ps_linkinfo.specs.declared.record.LinkRecord.{LinkRecord as Record}
+use Rattle.ps_linkinfo.specs.declared.record.LinkRecord.{LinkRecord}
 use Rattle.ps_codefile.specs.Roles.{is_empty}
-use Rattle.ps_resolve.specs.Sources.{Segment, own_segment, own_segments, segment_from, unit_source, chosen_library, units_of}
-use Rattle.ps_resolve.specs.Faults.{is_role, entry_fault, code_fault}
+use Rattle.ps_resolve.specs.Sources.{Segment, own_segment, own_segments, units_of}
+use Rattle.ps_resolve.specs.Faults.{is_role}
+pub use Rattle.ps_resolve.specs.Requests.{is_missing, as_added}
+use Rattle.ps_resolve.specs.Requests.{request_fault, requested_segment}
+use Rattle.ps_resolve.specs.declared.reading.request.Request.{Request}
+use Rattle.ps_resolve.specs.declared.reading.request.Requester.TheVariants.{Record}
 use Rattle.ps_resolve.specs.declared.reading.added.UnitReference.{UnitReference}
 
 -- the UNITREF records of a segment from this file in this slot, the first of whose records has
 -- number `rec`
-abbrev pub unit_references : ℕ → ℕ → ℕ → List Record → List UnitReference
+abbrev pub unit_references : ℕ → ℕ → ℕ → List LinkRecord → List UnitReference
 unit_references file slot rec [] = []
 unit_references file slot rec (r ∷ rs) =
     if is_unit_reference r.body
@@ -44,39 +47,32 @@ requested_from units queue (g ∷ gs) = requested_from units (if is_already_know
 
 -- a unit in a slot of the host has the name that the record requests, or it is in the queue, where
 -- the record is a UNITREF
-abbrev pub IsAlreadyKnown : List (List ℕ × ℕ) → List UnitReference → Record → Type 0
+abbrev pub IsAlreadyKnown : List (List ℕ × ℕ) → List UnitReference → LinkRecord → Type 0
 IsAlreadyKnown units queue r = is_unit_reference r.body ≡ true → is_already_known units queue r.name ≡ true
 
 -- so it is with all of the records, or the queue has ten names, of which no more are kept
-abbrev pub AreAlreadyKnown : List (List ℕ × ℕ) → List UnitReference → List Record → Type 0
+abbrev pub AreAlreadyKnown : List (List ℕ × ℕ) → List UnitReference → List LinkRecord → Type 0
 AreAlreadyKnown units queue rs = (10 ≤ length queue) ⊎ All (IsAlreadyKnown units queue) rs
 
 -- the slots that units may be added in, ascending
 unfoldable pub empty_slots : Order → List ℕ → List ℕ
 empty_slots order host = filter (is_role is_empty order host) (range_with_len 7 9)
 
--- nothing has this name, or no library has a filled entry of it
-abbrev pub is_missing : Order → List (List ℕ) → List ℕ → Bool
-is_missing order libs name = is_nameless name || is_none (chosen_library order name libs)
-
 -- the fault of a name for which no slot is left
 abbrev pub unplaced_fault : Order → List (List ℕ) → UnitReference → Fault
 unplaced_fault order libs g = in_record g.file g.slot g.rec (if is_missing order libs g.name then reason.MissingUnit else reason.NoSlot)
 
--- the first fault of a name that takes this slot: of the name, of the library's entries, then of
--- the code, its tables and its records
-abbrev pub placed_fault : Order → List ℕ → List (List ℕ) → UnitReference → ℕ → Option Fault
-placed_fault order host libs g slot =
-    if is_missing order libs g.name then Some (in_record g.file g.slot g.rec reason.MissingUnit)
-    else option_or (entry_fault order g.name libs slot) (option_and_then (code_fault order host libs slot Wanted) (unit_source order g.name libs))
+-- the request of a name that takes this slot
+abbrev pub request_of : UnitReference → ℕ → Request
+request_of g slot = record { name = g.name; slot = slot; requester = Record (record { file = g.file; slot = g.slot; rec = g.rec }) }
 
--- the segment, marked as added
-abbrev pub as_added : Segment → Segment
-as_added s = record s { added = true }
+-- the first fault of a name that takes this slot
+abbrev pub placed_fault : Order → List ℕ → List (List ℕ) → UnitReference → ℕ → Option Fault
+placed_fault order host libs g slot = request_fault order host libs (request_of g slot)
 
 -- the segment that the name brings into this slot
 abbrev pub added_segment : Order → List ℕ → List (List ℕ) → UnitReference → ℕ → Option Segment
-added_segment order host libs g slot = option_map as_added (option_and_then (segment_from order host libs slot g.name Wanted) (unit_source order g.name libs))
+added_segment order host libs g slot = requested_segment order host libs (request_of g slot)
 
 -- what the rounds from one on come to: the segments that they add, and the fault that ends them
 pub record Rounds : Type 0 where

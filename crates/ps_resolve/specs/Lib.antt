@@ -10,7 +10,9 @@ pub mod Privates
 pub mod Offsets
 pub mod Linking
 pub mod Faults
+pub mod Requests
 pub mod Added
+pub mod Readings
 pub mod AllFaults
 pub mod Plans
 pub mod Views

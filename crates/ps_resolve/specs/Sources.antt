@@ -7,7 +7,7 @@ use Rattle.std.specs.List.{list_any, filter_map, find, enumerate_from}
 use Rattle.std.specs.Option.{option_map, option_map_or}
 use Rattle.std.specs.Result.{result_ok}
 use Rattle.std.specs.Str.{bytes_eq}
-use Rattle.ps_codefile.specs.Dictionary.{slots, FileOrder, Zero, Ordered, Mixed, file_order, entry_at, role_of, is_filled, code_of, information_of}
+use Rattle.ps_codefile.specs.Dictionary.{slots, FileOrder, Zero, Ordered, Mixed, file_order, opened_beside, entry_at, role_of, is_filled, code_of, information_of}
 use Rattle.ps_codefile.specs.Roles.{needs_linking, is_host, is_unit}
 use Rattle.ps_codefile.specs.declared.entry.Role.{Role}
 use Rattle.ps_codefile.specs.declared.entry.Role.TheVariants.{Empty, Wanted, Plain, Host, Unit}
@@ -30,6 +30,18 @@ known_order Mixed = Little
 -- the byte order of a host
 abbrev pub order_of : List ℕ → Order
 order_of host = known_order (file_order host)
+
+-- what a library holds that is read beside the host; one that is refused holds nothing
+abbrev pub opened_file : Order → List ℕ → List ℕ
+opened_file order lib = option_map_or (λ opened. opened.file) (result_ok (opened_beside order lib)) []
+
+-- so of all libraries
+abbrev pub opened_files : Order → List (List ℕ) → List (List ℕ)
+opened_files order libs = map (opened_file order) libs
+
+-- the libraries that are lent, each as it is opened
+abbrev pub opened : Order → List (Bor (List ℕ)) → List (List ℕ)
+opened order libs = opened_files order (contents libs)
 
 -- the file's entry is filled, and has this name
 abbrev pub is_named : Order → List ℕ → List ℕ → ℕ → Bool

@@ -9,11 +9,13 @@ use Rattle.ps_codefile.specs.Dictionary.{slots, block_len, information_of}
 use Rattle.ps_codefile.specs.declared.entry.Entry.{Entry}
 use Rattle.ps_codefile.specs.declared.entry.Role.{Role}
 use Rattle.ps_linkinfo.specs.Records.{reading}
-use Rattle.ps_linkinfo.specs.declared.record.LinkRecord.{LinkRecord as Record}
+use Rattle.ps_linkinfo.specs.declared.record.LinkRecord.{LinkRecord}
 use Rattle.ps_codefile.specs.Procedures.{ProcedureTables, tables_fault}
 use Rattle.ps_codefile.specs.Roles.{needs_linking, is_host, is_empty}
 use Rattle.ps_resolve.specs.Sources.{Segment, file_at}
 use Rattle.ps_resolve.specs.Faults.{is_role}
+use Rattle.ps_resolve.specs.declared.reading.request.Requester.{Requester}
+use Rattle.ps_resolve.specs.declared.reading.request.Requester.TheVariants.{Slot, Record}
 
 -- A segment of the files: as a segment of the link, and where its references are resolved its
 -- procedure tables, and the block of its file, from 0, in which its link information begins.
@@ -27,7 +29,7 @@ pub record SegmentView : Type 0 where
   pub code : List ℕ
   pub tables : Option ProcedureTables
   pub block : ℕ
-  pub records : List Record
+  pub records : List LinkRecord
 
 -- a segment of the files, seen as a segment of the link
 abbrev pub segment_of : SegmentView → Segment
@@ -42,8 +44,13 @@ segment_of s = record {
   records = s.records;
 }
 
+-- the segment, as it is requested: one that a record requests is added
+abbrev pub as_requested_view : Requester → SegmentView → SegmentView
+as_requested_view Slot s = s
+as_requested_view (Record place) s = record s { added = true }
+
 -- the records of an entry's link information, which has no fault
-abbrev pub AreRecordsOf : Order → List ℕ → Entry → List Record → Type 0
+abbrev pub AreRecordsOf : Order → List ℕ → Entry → List LinkRecord → Type 0
 AreRecordsOf order file e rs = reading order (information_of file e) ≡ (rs, None)
 
 -- the link information of the segment, where its references are resolved, begins in its block of
@@ -62,7 +69,7 @@ AreAlike segs = All (λ s. All (IsLike s) segs) segs
 
 -- one of the segments has these records, which are resolved, and its link information begins in
 -- this block of this file
-abbrev pub HasRecordsAt : List SegmentView → ℕ → ℕ → List Record → Type 0
+abbrev pub HasRecordsAt : List SegmentView → ℕ → ℕ → List LinkRecord → Type 0
 HasRecordsAt segs file block rs =
     (s : SegmentView) × Contains segs s × (needs_linking s.role ≡ true) × (s.file ≡ file) × (s.block ≡ block) × (s.records ≡ rs)
 
@@ -82,10 +89,9 @@ segment_in_slot order host own added slot = option_or (find (is_in_slot slot) ow
 unfoldable pub segments_in_slots : Order → List ℕ → List Segment → List Segment → List Segment
 segments_in_slots order host own added = filter_map (segment_in_slot order host own added) slots
 
--- the length of the code is within its limits, and the procedure tables of a linked segment have no
--- fault and are kept
+-- the code of a linked segment has its number and a procedure word at least, and its procedure
+-- tables have no fault and are kept
 pub record IsSound (order : Order) (s : SegmentView) : Type 0 where
-  pub small : length s.code ≤ 32767
   pub large : needs_linking s.role ≡ true → 4 ≤ length s.code
   pub tables : needs_linking s.role ≡ true → tables_fault order s.code (is_host s.role) ≡ None
   pub kept : needs_linking s.role ≡ true → s.tables ≡ Some (record { order = order; code = s.code })

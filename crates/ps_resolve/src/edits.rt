@@ -43,7 +43,6 @@ fn own_edits<A: Allocator + Copy>(
     size: Edit,
 ) -> Result<EditTable<A>, Stop>
     requires long { 4 ≤ length procedures.now.code }
-    requires small { length procedures.now.code ≤ 32767 }
     requires table { host ≡ true → IsOfTable procedures.now.order procedures.now.code size }
     ensures table { IfOk result (λ edits. IsTableOf procedures.now.code edits.states.items) }
     ensures taken { IfOk result (λ edits. AreTaken procedures.now edits.states.items []) }
@@ -96,10 +95,11 @@ pub(crate) fn segment_edits<'a, A: Allocator + Copy>(
         Some(resolvable) => {
             edits_patch_alike_in_any_order();
             let host = segment.role.is_host();
-            let procedures = &resolvable.procedures;
-            let own = own_edits(alloc, procedures, segment.slot, host, link.size)?;
-            let (table, end) = add_records(link, earlier, segment, resolvable, free, own)?;
-            let references = resolvable.records.references();
+            let procedures = resolvable.procedures.procs();
+            let records = &resolvable.records;
+            let own = own_edits(alloc, &procedures, segment.slot, host, link.size)?;
+            let (table, end) = add_records(link, earlier, segment, records, procedures, free, own)?;
+            let references = records.references();
             let count = references.saturating_add(MOST_EDITS_BESIDE_REFERENCES);
             let edits = table.edits(alloc, count)?;
             Ok((edits, end))

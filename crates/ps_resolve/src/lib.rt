@@ -17,7 +17,11 @@ mod slot_name_law;
 
 pub use allotment::{Allotment, Private};
 pub use definitions::{Def, DefKind, Definitions};
-pub use linkage::{Linkage, Stop};
+pub use linkage::{Linkage, RecordPlace, Stop};
 pub use plan::{Plan, Source};
+pub use reading::added::UnitReference;
+pub use reading::request::{Request, Requester};
+pub use reading::segment::Segment;
+pub use reading::{HostReading, Reading, read};
 pub use resolving::resolve;
 pub use slot_name_law::slot_names_are_whole;

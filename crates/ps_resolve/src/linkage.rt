@@ -42,14 +42,15 @@ impl SegmentPlace {
 }
 
 /// Where a record is.
+/// Source: this project's profile.
 #[derive(Clone, Copy)]
-pub(crate) struct RecordPlace {
+pub struct RecordPlace {
     /// The file that its segment comes from: 0 is the host file, k the k-th library, from 1.
-    pub(crate) file: usize,
+    pub file: usize,
     /// The segment's slot in the host's segment dictionary, 0 to 15.
-    pub(crate) slot: u8,
+    pub slot: u8,
     /// The record's index, from 0, in the segment's link information.
-    pub(crate) rec: usize,
+    pub rec: usize,
 }
 
 impl RecordPlace {

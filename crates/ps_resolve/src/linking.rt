@@ -76,7 +76,7 @@ fn sources_of<'a>(segments: &[Segment<'a>]) -> ArrayVec<Source<'a>, 16>
 /// definitions, their privates, the host's data size and their references.
 pub(crate) fn link_segments<'a, A: Allocator + Copy>(
     alloc: A,
-    segments: &Segments<'a>,
+    segments: &Segments<'_, 'a>,
 ) -> Result<Plan<'a, A>, Stop>
     ensures plan { IfOk result (IsPlanOf segments.now.order segments.now.host
         (map segment_of segments.now.items)) }

@@ -1,32 +1,38 @@
-ghost use Rattle.std.specs.Prelude.{◌≡◌, ◌<◌, ◌++◌, [], List, ℕ, map, Some, None, IfOk, IfErr, IfSome, All};
+ghost use Rattle.std.specs.Prelude.{◌≡◌, ◌<◌, ◌≤◌, ◌++◌, [], List, ℕ, length, map, take, slice_get, None, Some, Ok, Err, IfOk, IfErr, IfSome, All, option_and_then};
 ghost use Rattle.ps_words.specs.declared.order.Order.{Order as ByteOrder};
 ghost use Rattle.std.specs.List.{find};
 ghost use Rattle.std.specs.Option.{option_map, option_or, option_to_list};
+ghost use Rattle.std.specs.Result.{result_ok};
 ghost use Rattle.arrayvec.specs.ArrayVec.{array_vec_len};
-ghost use Rattle.std.specs.Result.{result_err};
-ghost use Rattle.ps_resolve.specs.Sources.{order_of, contents};
-ghost use Rattle.ps_resolve.specs.Added.{segments as all_segments, slot_name as slot_name_spec, slot_names as slot_names_spec};
+ghost use Rattle.ps_codefile.specs.Dictionary.{entry_at, role_of, opened_beside};
+ghost use Rattle.ps_resolve.specs.Searches.{first_of};
+ghost use Rattle.ps_resolve.specs.Sources.{order_of, contents, opened, opened_files, units_of};
+ghost use Rattle.ps_resolve.specs.Added.{request_of, all_unit_references, requested_from, rounds_in, segments as all_segments, slot_name as slot_name_spec, slot_names as slot_names_spec};
 ghost use Rattle.ps_resolve.specs.Faults.{slots_fault as slots_fault_spec, no_host_fault as no_host_fault_spec, libraries_fault as libraries_fault_spec};
-ghost use Rattle.ps_resolve.specs.AllFaults.{reading_fault, reading_rest};
-ghost use Rattle.ps_resolve.specs.Views.{segment_of, IsRead, is_in_slot, segment_in_slot, segments_in_slots};
+ghost use Rattle.ps_resolve.specs.AllFaults.{reading_fault};
+ghost use Rattle.ps_resolve.specs.Readings.{all_read, host_reading_fault, opened_host, queued_request as queued_request_spec, read_requests, slot_fault, slot_reading, slot_request, wanted_request};
+ghost use Rattle.ps_resolve.specs.Views.{segment_of, AreAlike, IsRead, is_in_slot, segment_in_slot, segments_in_slots};
 
 pub(crate) mod added;
 pub(crate) mod host;
 pub(crate) mod libraries;
+pub(crate) mod request;
 pub(crate) mod segment;
 pub(crate) mod slots;
 pub(crate) mod sources;
 pub(crate) mod units;
 
-use crate::reading::added::{add_units, empty_slots};
+use crate::reading::added::{UnitReference, add_units, empty_slots, requested_by};
 use crate::reading::host::{HostSegment, host_of};
 use crate::reading::libraries::libraries_fault;
+use crate::reading::request::{Request, Requester};
 use crate::reading::segment::Segment;
 use crate::reading::slots::{HOST_FILE, HostSlots, is_empty, no_host_fault, slots_fault};
 use crate::reading::sources::read_slots;
+use crate::references::names::UnitSlots;
 use arrayvec::ArrayVec;
-use ps_codefile::Dict;
 use ps_codefile::dictionary_layout::SLOTS;
+use ps_codefile::{Dict, Entry, Role};
 use ps_words::{Fault, Name, Order, Reason};
 use std::marker::Model;
 
@@ -125,37 +131,6 @@ fn slot_names(host: &HostSlots, segments: &[Segment]) -> [Name; 16]
     names
 }
 
-/// Fills the table with the segments of a host whose slots and libraries have no fault of their
-/// own, or answers the first fault of their sources.
-fn read_all<'a>(
-    host: &HostSlots<'a>,
-    libs: &'a [&'a [u8]],
-    segments: &mut ArrayVec<Segment<'a>, 16>,
-) -> Result<(), Fault>
-    requires empty { segments.old.items ≡ [] }
-    requires libraries { libraries_fault_spec host.now.order (contents libs.now) ≡ None }
-    ensures fault { result_err result ≡ reading_rest host.now.order host.now.file
-        (contents libs.now) }
-    ensures segments { IfOk result (λ _. map segment_of segments.new.items
-        ≡ all_segments host.now.order host.now.file (contents libs.now)) }
-    ensures read { IfOk result (λ _. All
-        (IsRead host.now.order host.now.file (contents libs.now)) segments.new.items) }
-{
-    let mut own = ArrayVec::new();
-    read_slots(host, libs, &mut own)?;
-    let slots = empty_slots(host);
-    let mut added = ArrayVec::new();
-    add_units(
-        host.order(),
-        libs,
-        own.as_slice(),
-        slots.as_slice(),
-        &mut added,
-    )?;
-    by_slot(host, own.as_slice(), added.as_slice(), segments);
-    Ok(())
-}
-
 /// The first fault of the slots of the host, of its want of a host segment, or of the libraries.
 fn files_fault(host: &HostSlots, libs: &[&[u8]]) -> Option<Fault>
     ensures { result ≡ option_or (slots_fault_spec host.now.order host.now.file)
@@ -171,32 +146,452 @@ fn files_fault(host: &HostSlots, libs: &[&[u8]]) -> Option<Fault>
     libraries_fault(host.order(), libs)
 }
 
-/// Fills the table with the segments of a host that is read in its own byte order, or answers the
-/// first fault after that of its order.
-fn read_sources<'a>(
+/// The units that are added to the own segments of a host.
+#[derive(Drop)]
+struct AddedUnits<'a> {
+    /// Their segments, by slot ascending.
+    segments: ArrayVec<Segment<'a>, 9>,
+    /// The names that are requested, each with the record that first gave it, ten at most.
+    queue: ArrayVec<UnitReference, 10>,
+    /// The empty slot that is next, if one is left.
+    next: Option<u8>,
+    /// The first fault, which ends the rounds.
+    fault: Option<Fault>,
+}
+
+/// Adds units to the own segments of a host, in its empty slots.
+fn add_to<'a>(
     host: &HostSlots<'a>,
     libs: &'a [&'a [u8]],
-    segments: &mut ArrayVec<Segment<'a>, 16>,
-) -> Result<(), Fault>
-    requires { segments.old.items ≡ [] }
-    ensures fault { result_err result ≡ option_or (slots_fault_spec host.now.order host.now.file)
+    own: &[Segment<'a>],
+    empty: &[u8],
+) -> AddedUnits<'a>
+    requires alike { AreAlike own.now }
+    requires most { length own.now ≤ 16 }
+    requires few { length empty.now ≤ 9 }
+    requires in_range { All (λ slot. slot < 16) empty.now }
+    ensures segments { map segment_of result.segments.items
+        ≡ (rounds_in host.now.order host.now.file (opened host.now.order libs.now)
+        (map segment_of own.now) empty.now).added }
+    ensures fault { result.fault
+        ≡ (rounds_in host.now.order host.now.file (opened host.now.order libs.now)
+        (map segment_of own.now) empty.now).fault }
+    ensures queue { result.queue.items ≡ take 10 (requested_from
+        (units_of (map segment_of own.now)) [] (all_unit_references
+        (map segment_of own.now ++ map segment_of result.segments.items))) }
+    ensures next { result.next ≡ slice_get empty.now (length result.segments.items) }
+    ensures read { All (IsRead host.now.order host.now.file (opened host.now.order libs.now))
+        result.segments.items }
+{
+    let units = UnitSlots::of(own);
+    let mut queue = requested_by(&units, own);
+    let mut segments = ArrayVec::new();
+    let rounds = add_units(host, libs, &units, empty, &mut queue, &mut segments);
+    let next = empty.get(segments.len()).copied();
+    AddedUnits {
+        segments,
+        queue,
+        next,
+        fault: rounds.err(),
+    }
+}
+
+/// The first fault of these.
+fn first_refused(refused: &[Option<Fault>; 16]) -> Option<Fault>
+    ensures { result ≡ first_of (λ fault. fault) refused.now }
+{
+    for fault in refused {
+        if let Some(fault) = fault {
+            return Some(*fault);
+        }
+    }
+    None
+}
+
+/// The first fault of a host and its libraries: of the host's slots, of its want of a host segment,
+/// of the libraries, of the sources of its slots, which are these, and of the units that are added.
+fn first_fault(
+    host: &HostSlots,
+    libs: &[&[u8]],
+    refused: &[Option<Fault>; 16],
+    last: Option<Fault>,
+) -> Option<Fault>
+    ensures { result ≡ option_or (slots_fault_spec host.now.order host.now.file)
         (option_or (no_host_fault_spec host.now.order host.now.file)
         (option_or (libraries_fault_spec host.now.order (contents libs.now))
-        (reading_rest host.now.order host.now.file (contents libs.now)))) }
-    ensures segments { IfOk result (λ _. map segment_of segments.new.items
-        ≡ all_segments host.now.order host.now.file (contents libs.now)) }
-    ensures read { IfOk result (λ _. All
-        (IsRead host.now.order host.now.file (contents libs.now)) segments.new.items) }
+        (option_or (first_of (λ fault. fault) refused.now) last))) }
 {
-    match files_fault(host, libs) {
-        Some(fault) => Err(fault),
-        None => read_all(host, libs, segments),
+    if let Some(fault) = files_fault(host, libs) {
+        return Some(fault);
+    }
+    if let Some(fault) = first_refused(refused) {
+        return Some(fault);
+    }
+    last
+}
+
+/// The request of a slot that wants a unit.
+fn own_request(host: &HostSlots, slot: u8) -> Option<Request>
+    requires { slot < 16 }
+    ensures { result ≡ option_and_then (wanted_request host.now.order host.now.file slot)
+        (result_ok (role_of (entry_at host.now.order host.now.file slot))) }
+{
+    let name = host.entry(slot).name;
+    match host.role(slot) {
+        Err(_) => None,
+        Ok(role) => match role {
+            Role::Empty | Role::Plain | Role::Host | Role::Unit => None,
+            Role::Wanted => Some(Request {
+                name,
+                slot,
+                requester: Requester::Slot,
+            }),
+        },
+    }
+}
+
+/// The request of a name of the queue that takes this empty slot.
+fn queued_request(queue: &[UnitReference], empty: &[u8], slot: u8) -> Option<Request>
+    ensures { result ≡ queued_request_spec queue.now empty.now slot }
+{
+    for (k, other) in empty.iter().enumerate() {
+        if *other == slot {
+            return requested_from_queue(queue, k, slot);
+        }
+    }
+    None
+}
+
+/// The request of the k-th name of the queue, which takes this slot, where there are so many.
+fn requested_from_queue(queue: &[UnitReference], k: usize, slot: u8) -> Option<Request>
+    ensures { result ≡ option_map (λ g. request_of g slot) (slice_get queue.now k) }
+{
+    match queue.get(k) {
+        None => None,
+        Some(requested) => Some(requested.in_slot(slot)),
+    }
+}
+
+/// What was read of a host that can be opened, and of its libraries: of each slot its segment or
+/// its fault, also after the first fault.
+///
+/// It borrows the files and copies none of them.
+/// Source: the segment dictionary, UCSD Pascal II.0 manual, code file format; which units are added,
+/// and which fault is first, this project's profile.
+#[derive(Drop)]
+pub struct HostReading<'a> {
+    slots: HostSlots<'a>,
+    libs: &'a [&'a [u8]],
+    /// Why the source of each slot is refused.
+    refused: [Option<Fault>; 16],
+    /// The empty slots that a unit may be added in, ascending.
+    empty: ArrayVec<u8, 9>,
+    /// The segments that have no fault, by slot ascending.
+    segments: ArrayVec<Segment<'a>, 16>,
+    /// The names that are requested.
+    queue: ArrayVec<UnitReference, 10>,
+    /// The empty slot after those that were given.
+    next: Option<u8>,
+    /// The fault of the first unit that could not be added.
+    last: Option<Fault>,
+    /// The first fault.
+    fault: Option<Fault>,
+}
+
+impl<'a> Model for HostReading<'a> {
+    ghost use Rattle.ps_resolve.specs.Sources.{contents};
+    ghost use Rattle.ps_resolve.specs.Readings.{HostFiles, IsReading};
+
+    ghost Value = { HostFiles };
+
+    ghost view = { λ r. record { order = r.slots.order; file = r.slots.file; libs = contents r.libs.now } };
+
+    ghost invariant = { λ r. IsReading r.slots.order r.slots.file (contents r.libs.now) r.refused r.empty.items r.segments.items r.queue.items r.next r.last r.fault };
+}
+
+/// Reads a host that was opened, and its libraries.
+fn read_host<'a>(dict: Dict<'a>, libs: &'a [&'a [u8]]) -> HostReading<'a>
+    requires { 512 ≤ length dict.file }
+    ensures { result
+        ≡ record { order = dict.entry.order; file = dict.entry.file; libs = contents libs.now } }
+{
+    let slots = HostSlots::of(dict);
+    let mut own = ArrayVec::new();
+    let refused = read_slots(&slots, libs, &mut own);
+    let empty = empty_slots(&slots);
+    let added = add_to(&slots, libs, own.as_slice(), empty.as_slice());
+    let mut segments = ArrayVec::new();
+    by_slot(
+        &slots,
+        own.as_slice(),
+        added.segments.as_slice(),
+        &mut segments,
+    );
+    let fault = first_fault(&slots, libs, &refused, added.fault);
+    HostReading {
+        slots,
+        libs,
+        refused,
+        empty,
+        segments,
+        queue: added.queue,
+        next: added.next,
+        last: added.fault,
+        fault,
+    }
+}
+
+impl<'a> HostReading<'a> {
+    /// The first fault of the host and its libraries, in their order: of the host's slots, of its
+    /// want of a host segment, of the libraries, of the sources of its slots, and of the units that
+    /// are added.
+    /// Source: this project's profile.
+    pub fn fault(&self) -> Option<Fault>
+        ensures { result ≡ host_reading_fault self.now.order self.now.file self.now.libs }
+    {
+        self.fault
+    }
+
+    /// The byte order of the host.
+    /// Source: UCSD Pascal II.0 manual, code file format.
+    pub fn order(&self) -> Order
+        ensures { result ≡ self.now.order }
+    {
+        self.slots.order()
+    }
+
+    /// What the host's dictionary says of a slot, 0 to 15.
+    /// Source: UCSD Pascal II.0 manual, code file format.
+    pub fn entry(&self, slot: u8) -> Entry
+        requires { slot < 16 }
+        ensures { result ≡ entry_at self.now.order self.now.file slot }
+    {
+        self.slots.entry(slot)
+    }
+
+    /// What a slot of the host, 0 to 15, is for, or why its kind is refused.
+    /// Source: this project's profile.
+    pub fn role(&self, slot: u8) -> Result<Role, Reason>
+        requires { slot < 16 }
+        ensures { result ≡ role_of (entry_at self.now.order self.now.file slot) }
+    {
+        self.slots.role(slot)
+    }
+
+    /// The request for a unit that a slot, 0 to 15, has, if it has one: its own, where it wants a unit,
+    /// or that of a name that is requested, which takes the slot if it is empty.
+    /// Source: this project's profile.
+    pub fn request(&self, slot: u8) -> Option<Request>
+        requires { slot < 16 }
+        ensures { result ≡ slot_request self.now.order self.now.file
+            (opened_files self.now.order self.now.libs) slot }
+    {
+        if let Some(request) = own_request(&self.slots, slot) {
+            return Some(request);
+        }
+        queued_request(self.queue.as_slice(), self.empty.as_slice(), slot)
+    }
+
+    /// Why a slot has no segment.
+    fn fault_in(&self, slot: u8) -> Option<Fault>
+        requires { slot < 16 }
+        ensures { result ≡ slot_fault self.now.order self.now.file
+            (opened_files self.now.order self.now.libs) slot }
+    {
+        if let Some(fault) = self.refused[slot as usize] {
+            return Some(fault);
+        }
+        match self.next {
+            Some(next) if next == slot => self.last,
+            _ => None,
+        }
+    }
+
+    /// What was read of a slot, 0 to 15: its segment, or the first fault of its source or of the
+    /// unit that would be added there; `None` where it has none of its own and no unit is added.
+    /// Source: this project's profile.
+    pub fn segment(&self, slot: u8) -> Option<Result<&Segment<'a>, Fault>>
+        requires { slot < 16 }
+        ensures read { IfSome result (λ r. IfOk r (λ s. slot_reading self.now.order self.now.file
+            (opened_files self.now.order self.now.libs) slot ≡ Some (Ok (segment_of s.now)))) }
+        ensures refused { IfSome result (λ r. IfErr r (λ f. slot_reading self.now.order
+            self.now.file (opened_files self.now.order self.now.libs) slot ≡ Some (Err f))) }
+        ensures none { result ≡ None → slot_reading self.now.order self.now.file
+            (opened_files self.now.order self.now.libs) slot ≡ None }
+    {
+        if let Some(fault) = self.fault_in(slot) {
+            return Some(Err(fault));
+        }
+        match segment_in(self.segments.as_slice(), slot) {
+            None => None,
+            Some(segment) => Some(Ok(segment)),
+        }
+    }
+
+    /// The library of this index, from 0, read beside the host, or why it cannot be opened; `None`
+    /// where there are not so many.
+    /// Source: this project's profile.
+    pub fn library(&self, index: usize) -> Option<Result<Dict<'a>, Reason>>
+        ensures { result
+            ≡ option_map (opened_beside self.now.order) (slice_get self.now.libs index) }
+    {
+        match self.libs.get(index) {
+            None => None,
+            Some(lib) => Some(Dict::read_beside(lib, self.slots.order())),
+        }
+    }
+
+    /// The names that are requested and that no unit of the host has, each with the UNITREF record
+    /// that first gave it, in that order; of more than ten the first ten.
+    /// Source: this project's profile.
+    pub fn requested(&self) -> &[UnitReference]
+        ensures { result.now
+            ≡ read_requests self.now.order self.now.file (opened_files self.now.order self.now.libs) }
+    {
+        self.queue.as_slice()
+    }
+
+    /// The segments that have no fault, by slot ascending.
+    /// Source: this project's profile.
+    pub fn segments(&self) -> &[Segment<'a>]
+        ensures { map segment_of result.now
+            ≡ all_read self.now.order self.now.file (opened_files self.now.order self.now.libs) }
+    {
+        self.segments.as_slice()
+    }
+}
+
+/// What was read of the files of a link.
+/// Source: this project's profile.
+#[derive(Drop)]
+pub struct Reading<'a> {
+    file: &'a [u8],
+    libs: &'a [&'a [u8]],
+    host: Result<HostReading<'a>, Reason>,
+}
+
+impl<'a> Model for Reading<'a> {
+    ghost use Rattle.std.specs.Prelude.{◌≡◌};
+    ghost use Rattle.ps_resolve.specs.Sources.{contents};
+    ghost use Rattle.ps_resolve.specs.Readings.{ReadFiles, opened_host};
+
+    ghost Value = { ReadFiles };
+
+    ghost view = { λ r. record { host = r.file.now; libs = contents r.libs.now } };
+
+    ghost invariant = { λ r. r.host ≡ opened_host r.file.now (contents r.libs.now) };
+}
+
+/// Reads a host file and the libraries that have the units it wants, in their order. It takes no
+/// memory, and refuses nothing: what is wrong with the files is in what it returns.
+///
+/// Source: this project's profile.
+pub fn read<'a>(host: &'a [u8], libs: &'a [&'a [u8]]) -> Reading<'a>
+    ensures { result ≡ record { host = host.now; libs = contents libs.now } }
+{
+    let read = match Dict::read(host) {
+        Err(reason) => Err(reason),
+        Ok(dict) => Ok(read_host(dict, libs)),
+    };
+    Reading {
+        file: host,
+        libs,
+        host: read,
+    }
+}
+
+impl<'a> Reading<'a> {
+    /// The host as it was read, or why it cannot be opened: `ShortFile`, `NoOrder`, or `NoHost`
+    /// where all its kinds are 0.
+    /// Source: this project's profile.
+    pub fn host(&self) -> Result<&HostReading<'a>, Reason>
+        ensures opened { IfOk result (λ host. opened_host self.now.host self.now.libs
+            ≡ Ok host.now) }
+        ensures refused { IfErr result (λ reason. opened_host self.now.host self.now.libs
+            ≡ Err reason) }
+    {
+        match &self.host {
+            Err(reason) => Err(*reason),
+            Ok(host) => Ok(host),
+        }
+    }
+
+    /// The first fault of reading the files: of the host, its slots, the want of a host segment,
+    /// the libraries, the sources of the slots, and the units that are added.
+    /// Source: this project's profile.
+    pub fn fault(&self) -> Option<Fault>
+        ensures { result ≡ reading_fault self.now.host self.now.libs }
+    {
+        match &self.host {
+            Err(reason) => Some(Fault::in_file(HOST_FILE, *reason)),
+            Ok(host) => host.fault(),
+        }
+    }
+
+    /// The segments that have no fault, by slot ascending: those of the link, where reading has no
+    /// fault.
+    /// Source: this project's profile.
+    pub fn segments(&self) -> &[Segment<'a>]
+        ensures { reading_fault self.now.host self.now.libs ≡ None → map segment_of result.now
+            ≡ all_segments (order_of self.now.host) self.now.host self.now.libs }
+    {
+        match &self.host {
+            Err(_) => &[],
+            Ok(host) => host.segments(),
+        }
+    }
+
+    /// The segments to be linked, or the first fault of reading.
+    pub(crate) fn linkable(&self) -> Result<Segments<'_, 'a>, Fault>
+        ensures order { IfOk result (λ r. r.order ≡ order_of self.now.host) }
+        ensures host { IfOk result (λ r. r.host ≡ self.now.host) }
+        ensures segments { IfOk result (λ r. map segment_of r.items
+            ≡ all_segments (order_of self.now.host) self.now.host self.now.libs) }
+        ensures faultless { IfOk result (λ _. reading_fault self.now.host self.now.libs ≡ None) }
+        ensures fault { IfErr result (λ f. reading_fault self.now.host self.now.libs ≡ Some f) }
+    {
+        match &self.host {
+            Err(reason) => Err(Fault::in_file(HOST_FILE, *reason)),
+            Ok(host) => host.linkable(self.file),
+        }
+    }
+}
+
+impl<'a> HostReading<'a> {
+    /// The segments to be linked, or the first fault of reading; `file` is the host.
+    fn linkable<'r>(&'r self, file: &'a [u8]) -> Result<Segments<'r, 'a>, Fault>
+        requires { file.now ≡ self.now.file }
+        ensures order { IfOk result (λ r. r.order ≡ self.now.order) }
+        ensures host { IfOk result (λ r. r.host ≡ self.now.file) }
+        ensures segments { IfOk result (λ r. map segment_of r.items
+            ≡ all_segments self.now.order self.now.file self.now.libs) }
+        ensures faultless { IfOk result (λ _.
+            host_reading_fault self.now.order self.now.file self.now.libs ≡ None) }
+        ensures fault { IfErr result (λ f.
+            host_reading_fault self.now.order self.now.file self.now.libs ≡ Some f) }
+    {
+        if let Some(fault) = self.fault {
+            return Err(fault);
+        }
+        let order = self.slots.order();
+        let all = self.segments.as_slice();
+        let names = slot_names(&self.slots, all);
+        match host_of(order, all) {
+            None => Err(Fault::in_file(HOST_FILE, Reason::NoHost)),
+            Some(own) => Ok(Segments {
+                order,
+                host: file,
+                names,
+                own,
+                items: &self.segments,
+            }),
+        }
     }
 }
 
 /// The segments of a link, as its files have them, where reading found no fault.
 #[derive(Drop)]
-pub(crate) struct Segments<'a> {
+pub(crate) struct Segments<'r, 'a> {
     /// The byte order of the host.
     pub(crate) order: Order,
     /// The host file.
@@ -206,47 +601,15 @@ pub(crate) struct Segments<'a> {
     /// The host's own segment.
     pub(crate) own: HostSegment<'a>,
     /// All segments by slot ascending.
-    pub(crate) items: ArrayVec<Segment<'a>, 16>,
+    pub(crate) items: &'r ArrayVec<Segment<'a>, 16>,
 }
 
-impl<'a> Model for Segments<'a> {
+impl<'r, 'a> Model for Segments<'r, 'a> {
     ghost use Rattle.ps_resolve.specs.Linkable.{AreSegments, ReadSegments};
 
     ghost Value = { ReadSegments };
 
-    ghost view = { λ s. record { order = s.order; host = s.host.now; names = s.names; own = s.own; items = s.items.items } };
+    ghost view = { λ s. record { order = s.order; host = s.host.now; names = s.names; own = s.own; items = s.items.now.items } };
 
-    ghost invariant = { λ s. AreSegments s.order s.host.now s.names s.own s.items.items };
-}
-
-/// The segments of a link, or the first fault of reading the files.
-pub(crate) fn read_segments<'a>(host: &'a [u8], libs: &'a [&'a [u8]]) -> Result<Segments<'a>, Fault>
-    ensures order { IfOk result (λ r. r.order ≡ order_of host.now) }
-    ensures host { IfOk result (λ r. r.host ≡ host.now) }
-    ensures segments { IfOk result (λ r. map segment_of r.items
-        ≡ all_segments (order_of host.now) host.now (contents libs.now)) }
-    ensures faultless { IfOk result (λ _. reading_fault host.now (contents libs.now) ≡ None) }
-    ensures fault { IfErr result (λ f. reading_fault host.now (contents libs.now) ≡ Some f) }
-{
-    match Dict::read(host) {
-        Err(reason) => Err(Fault::in_file(HOST_FILE, reason)),
-        Ok(dict) => {
-            let slots = HostSlots::of(dict);
-            let order = slots.order();
-            let mut items = ArrayVec::new();
-            read_sources(&slots, libs, &mut items)?;
-            let all = items.as_slice();
-            let names = slot_names(&slots, all);
-            match host_of(order, all) {
-                None => Err(Fault::in_file(HOST_FILE, Reason::NoHost)),
-                Some(own) => Ok(Segments {
-                    order,
-                    host,
-                    names,
-                    own,
-                    items,
-                }),
-            }
-        }
-    }
+    ghost invariant = { λ s. AreSegments s.order s.host.now s.names s.own s.items.now.items };
 }

@@ -58,7 +58,7 @@ fn is_any_taken<A: Allocator + Copy>(edits: &EditTable<A>, target: Target, x: us
 
 /// Whether one of the places of the operand is reserved.
 fn is_any_reserved(procedures: &Procs, target: Target, x: usize) -> bool
-    requires { x + width_of_spec target ≤ 32768 }
+    requires { x < 65536 }
     ensures { result ≡ list_any (is_reserved procedures.now.order procedures.now.code)
         (range_with_len x (width_of_spec target)) }
 {
@@ -113,7 +113,6 @@ pub(crate) struct ReferenceEdits<'a, A: Allocator> {
     /// The edits so far, and others. The places of the operands so far are taken, and those that
     /// are reserved.
     pub(crate) edits: EditTable<A>,
-    ghost small: { length procedures.code ≤ 32767 },
 }
 
 impl<A: Allocator + Copy> ReferenceEdits<'_, A> {

@@ -6,7 +6,7 @@ ghost use Rattle.ps_resolve.specs.AllFaults.{first_fault};
 use crate::linkage::Stop;
 use crate::linking::link_segments;
 use crate::plan::Plan;
-use crate::reading::read_segments;
+use crate::reading::read;
 use std::alloc::Allocator;
 
 /// Plans the link of a host file with the libraries that have the units it wants, in their order.
@@ -27,7 +27,8 @@ pub fn resolve<'a, A: Allocator + Copy>(
     ensures sound { IfOk result (λ _. first_fault host.now (contents libs.now) ≡ None) }
     ensures stop { IfErr result (IsStopped host.now (contents libs.now)) }
 {
-    match read_segments(host, libs) {
+    let reading = read(host, libs);
+    match reading.linkable() {
         Err(fault) => Err(Stop::Refused(fault)),
         Ok(segments) => link_segments(alloc, &segments),
     }

@@ -1,27 +1,23 @@
-ghost use Rattle.std.specs.Prelude.{◌≡◌, ◌<◌, ◌≤◌, ◌+◌, ◌++◌, ◌∷◌, [], List, ℕ, All, if◌then◌else◌, length, map, take, true, None, Some, IfOk, IfSome, is_none, slice_get};
-ghost use Rattle.std.specs.List.{find, list_any};
+ghost use Rattle.std.specs.Prelude.{◌≡◌, ◌<◌, ◌≤◌, ◌++◌, ◌∷◌, [], List, All, if◌then◌else◌, length, map, take, slice_get};
+ghost use Rattle.std.specs.List.{list_any};
 ghost use Rattle.std.specs.Result.{result_err};
 ghost use Rattle.std.specs.Str.{bytes_eq};
 ghost use Rattle.arrayvec.specs.ArrayVec.{array_vec_len};
-ghost use Rattle.ps_codefile.specs.Dictionary.{slots};
 ghost use Rattle.ps_codefile.specs.Roles.{is_empty as is_empty_role};
-ghost use Rattle.ps_resolve.specs.Sources.{is_named, chosen_library as chosen_library_spec, contents};
-ghost use Rattle.ps_resolve.specs.Added.{AreAlreadyKnown, unit_references, all_unit_references, is_already_known as is_already_known_spec, is_missing, requested_from, empty_slots as empty_slots_spec, unplaced_fault, placed_fault, added_segment, rounds_in};
-ghost use Rattle.ps_resolve.specs.Faults.{is_role, libraries_fault};
-ghost use Rattle.ps_resolve.specs.Linkable.{MayBeAddedTo};
+ghost use Rattle.ps_resolve.specs.Sources.{opened};
+ghost use Rattle.ps_resolve.specs.Added.{AreAlreadyKnown, unit_references, all_unit_references, is_already_known as is_already_known_spec, requested_from, request_of, empty_slots as empty_slots_spec, unplaced_fault, rounds_from};
+ghost use Rattle.ps_resolve.specs.Faults.{is_role};
 ghost use Rattle.ps_resolve.specs.Views.{segment_of, IsRead, IsLike, AreAlike};
 
 use crate::linkage::{RecordPlace, SegmentPlace};
+use crate::reading::request::{Request, Requester, read_unit, unit_named};
 use crate::reading::segment::Segment;
-use crate::reading::slots::{HostSlots, is_empty, library_file};
-use crate::reading::sources::{known_records, read_segment};
-use crate::reading::units::{UnitSource, chosen_library, entries_reason};
+use crate::reading::slots::{HostSlots, is_empty};
 use crate::references::names::UnitSlots;
 use arrayvec::ArrayVec;
 use ps_codefile::dictionary_layout::{FIRST_ADDED, SLOTS};
-use ps_codefile::{Role, is_nameless};
 use ps_linkinfo::{Body, LinkInformation, LinkRecord};
-use ps_words::{Fault, Name, Order, Reason};
+use ps_words::{Fault, Name, Reason};
 
 /// How many units may be added: one in each slot from the first on.
 const MAX_ADDED: usize = 9;
@@ -50,6 +46,24 @@ impl Default for UnitReference {
             file: 0,
             slot: 0,
             rec: 0,
+        }
+    }
+}
+
+impl UnitReference {
+    /// The request for the unit, which takes this slot.
+    pub(crate) fn in_slot(&self, slot: u8) -> Request
+        ensures { result ≡ request_of self.now slot }
+    {
+        let place = RecordPlace {
+            file: self.file,
+            slot: self.slot,
+            rec: self.rec,
+        };
+        Request {
+            name: self.name,
+            slot,
+            requester: Requester::Record(place),
         }
     }
 }
@@ -192,7 +206,10 @@ fn enqueue_unshared<'a>(
 }
 
 /// The queue of the unit names that the host's own segments request.
-fn requested_by<'a>(units: &UnitSlots, own: &[Segment<'a>]) -> ArrayVec<UnitReference, 10>
+pub(crate) fn requested_by<'a>(
+    units: &UnitSlots,
+    own: &[Segment<'a>],
+) -> ArrayVec<UnitReference, 10>
     requires { AreAlike own.now }
     ensures { result.items ≡ take 10 (requested_from units.now []
         (all_unit_references (map segment_of own.now))) }
@@ -204,78 +221,16 @@ fn requested_by<'a>(units: &UnitSlots, own: &[Segment<'a>]) -> ArrayVec<UnitRefe
     queue
 }
 
-/// The first library that has a filled entry of this name, and the first such entry in it.
-fn unit_named<'a>(order: Order, name: Name, libs: &'a [&'a [u8]]) -> Option<UnitSource<'a>>
-    requires { libraries_fault order (contents libs.now) ≡ None }
-    ensures missing { is_none result ≡ is_missing order (contents libs.now) name }
-    ensures library { IfSome result (λ u. chosen_library_spec order name (contents libs.now)
-        ≡ Some (u.library, u.dict.file)) }
-    ensures entry { IfSome result (λ u. find (is_named order name u.dict.file) slots
-        ≡ Some u.index) }
-    ensures order { IfSome result (λ u. u.dict.order ≡ order) }
-    ensures in_range { IfSome result (λ u. u.index < 16) }
-    ensures number { IfSome result (λ u. u.library < length libs.now) }
-{
-    if is_nameless(&name) {
-        return None;
-    }
-    chosen_library(order, name, libs)
-}
-
 /// The fault of a requested name for which no slot is left.
-fn no_slot(order: Order, libs: &[&[u8]], requested: &UnitReference) -> Fault
-    requires { libraries_fault order (contents libs.now) ≡ None }
-    ensures { result ≡ unplaced_fault order (contents libs.now) requested.now }
+fn no_slot<'a>(host: &HostSlots<'a>, libs: &'a [&'a [u8]], requested: &UnitReference) -> Fault
+    ensures { result ≡ unplaced_fault host.now.order (opened host.now.order libs.now)
+        requested.now }
 {
-    let reason = match unit_named(order, requested.name, libs) {
+    let reason = match unit_named(host, requested.name, libs) {
         None => Reason::MissingUnit,
         Some(_) => Reason::NoSlot,
     };
     Fault::in_record(requested.file, requested.slot, requested.rec, reason)
-}
-
-/// The segment of a requested unit, which is added in this slot, or the first fault of the unit.
-/// `known` are the segments that were added before.
-fn read_added<'a>(
-    order: Order,
-    libs: &'a [&'a [u8]],
-    requested: &UnitReference,
-    slot: u8,
-    known: &[Segment<'a>],
-) -> Result<Segment<'a>, Fault>
-    requires slots { slot < 16 }
-    requires libraries { libraries_fault order (contents libs.now) ≡ None }
-    requires read { (host : List ℕ) → All (IsRead order host (contents libs.now)) known.now }
-    ensures fault { (host : List ℕ)
-        → result_err result ≡ placed_fault order host (contents libs.now) requested.now slot }
-    ensures segment { (host : List ℕ)
-        → IfOk result (λ s. added_segment order host (contents libs.now) requested.now slot
-        ≡ Some (segment_of s)) }
-    ensures read { (host : List ℕ) → IfOk result (IsRead order host (contents libs.now)) }
-{
-    match unit_named(order, requested.name, libs) {
-        None => Err(Fault::in_record(
-            requested.file,
-            requested.slot,
-            requested.rec,
-            Reason::MissingUnit,
-        )),
-        Some(unit) => match entries_reason(&unit.dict, requested.name, unit.index) {
-            Some(reason) => Err(Fault::in_slot(library_file(unit.library), slot, reason)),
-            None => {
-                let file = library_file(unit.library);
-                let segment = read_segment(
-                    SegmentPlace { file, slot },
-                    requested.name,
-                    Role::Wanted,
-                    &unit.dict,
-                    unit.index,
-                    known_records(known, &unit.dict, file, unit.index),
-                )?;
-                Ok(segment.into_added())
-            }
-        },
-    }
 }
 
 /// The k-th request of the queue, from 0; `None` if the queue is shorter.
@@ -285,45 +240,49 @@ fn requested_at(queue: &ArrayVec<UnitReference, 10>, k: usize) -> Option<UnitRef
     queue.get(k).copied()
 }
 
-/// Fills the table with the segments that are added to the host's own in these slots, in order, or
-/// answers their first fault.
+/// Fills the table with the segments that are added in these slots, in order, or answers their
+/// first fault, with those before it in the table.
 ///
-/// Each name that a UNITREF record requests and that no unit of the host has gets the next empty
-/// slot from 7 to 15, and in it the unit of that name of the first library that has one. The names
-/// that an added unit requests are appended to the queue.
+/// Each name of the queue gets the next of the slots, and in it the unit of that name of the first
+/// library that has one. The names that an added unit requests are appended to the queue.
 pub(crate) fn add_units<'a>(
-    order: Order,
+    host: &HostSlots<'a>,
     libs: &'a [&'a [u8]],
-    own: &[Segment<'a>],
+    units: &UnitSlots,
     slots: &[u8],
+    queue: &mut ArrayVec<UnitReference, 10>,
     added: &mut ArrayVec<Segment<'a>, 9>,
 ) -> Result<(), Fault>
     requires empty { added.old.items ≡ [] }
-    requires addable { MayBeAddedTo order (contents libs.now) own.now slots.now }
-    ensures fault { (host : List ℕ)
-        → result_err result ≡ (rounds_in order host (contents libs.now) (map segment_of own.now)
-        slots.now).fault }
-    ensures added { (host : List ℕ)
-        → IfOk result (λ _. map segment_of added.new.items
-        ≡ (rounds_in order host (contents libs.now) (map segment_of own.now) slots.now).added) }
-    ensures read { (host : List ℕ)
-        → IfOk result (λ _. All (IsRead order host (contents libs.now)) added.new.items) }
+    requires few { length slots.now ≤ 9 }
+    requires short { length queue.old.items ≤ 10 }
+    requires in_range { All (λ slot. slot < 16) slots.now }
+    ensures fault { (whole : List UnitReference) → queue.old.items ≡ take 10 whole
+        → result_err result ≡ (rounds_from host.now.order host.now.file
+        (opened host.now.order libs.now) units.now slots.now 0 whole).fault }
+    ensures added { (whole : List UnitReference) → queue.old.items ≡ take 10 whole
+        → map segment_of added.new.items ≡ (rounds_from host.now.order host.now.file
+        (opened host.now.order libs.now) units.now slots.now 0 whole).added }
+    ensures requested { (whole : List UnitReference) → queue.old.items ≡ take 10 whole
+        → queue.new.items ≡ take 10 (requested_from units.now whole
+        (all_unit_references (map segment_of added.new.items))) }
+    ensures read { All (IsRead host.now.order host.now.file (opened host.now.order libs.now))
+        added.new.items }
 {
-    let units = UnitSlots::of(own);
-    let mut queue = requested_by(&units, own);
     for slot in slots {
-        match requested_at(&queue, added.len()) {
+        match requested_at(queue, added.len()) {
             None => return Ok(()),
             Some(requested) => {
-                let segment = read_added(order, libs, &requested, *slot, added.as_slice())?;
-                enqueue_segment(&units, &mut queue, &segment);
+                let request = requested.in_slot(*slot);
+                let segment = read_unit(host, libs, &request, added.as_slice())?;
+                enqueue_segment(units, queue, &segment);
                 added.push(segment);
             }
         }
     }
     let placed = added.len();
-    match requested_at(&queue, placed) {
+    match requested_at(queue, placed) {
         None => Ok(()),
-        Some(requested) => Err(no_slot(order, libs, &requested)),
+        Some(requested) => Err(no_slot(host, libs, &requested)),
     }
 }

@@ -5,7 +5,7 @@ ghost use Rattle.ps_codefile.specs.Roles.{needs_linking as needs_linking_spec};
 ghost use Rattle.ps_resolve.specs.Views.{has_records_at, HasRecordsAt};
 
 use crate::linkage::SegmentPlace;
-use ps_codefile::{Procs, Role};
+use ps_codefile::{ProcedureDictionary, Role};
 use ps_linkinfo::LinkInformation;
 use ps_words::Name;
 use std::marker::Model;
@@ -13,17 +13,18 @@ use std::marker::Model;
 /// What only a segment has whose references are resolved.
 #[derive(Drop)]
 pub(crate) struct Resolvable<'a> {
-    /// The procedure tables of its code.
-    pub(crate) procedures: Procs<'a>,
+    /// The procedure dictionary of its code.
+    pub(crate) procedures: ProcedureDictionary<'a>,
     /// The block of its file, from 0, in which its link information begins.
     pub(crate) block: usize,
     /// Its link information, read whole.
     pub(crate) records: LinkInformation<'a>,
 }
 
-/// A segment of the linked file, as the files have it.
+/// A segment of the linked file, as the files have it: views of them, and no copy.
+/// Source: UCSD Pascal II.0 manual, code file format, and the published II.0 Linker source.
 #[derive(Drop)]
-pub(crate) struct Segment<'a> {
+pub struct Segment<'a> {
     /// Its slot in the host, 0 to 15.
     pub(crate) slot: u8,
     /// The host's name of that slot, or that of the unit that was added there.
@@ -69,6 +70,85 @@ impl<'a> Resolvable<'a> {
 }
 
 impl<'a> Segment<'a> {
+    /// Its slot in the host, 0 to 15.
+    /// Source: UCSD Pascal II.0 manual, code file format.
+    pub fn slot(&self) -> u8
+        ensures { result ≡ self.now.slot }
+    {
+        self.slot
+    }
+
+    /// The host's name of its slot, or that of the unit that was added there.
+    /// Source: UCSD Pascal II.0 manual, code file format.
+    pub fn name(&self) -> Name
+        ensures { result ≡ self.now.name }
+    {
+        self.name
+    }
+
+    /// What its slot is for; never `Empty`. An added unit has the role of a wanted one.
+    /// Source: this project's profile.
+    pub fn role(&self) -> Role
+        ensures { result ≡ self.now.role }
+    {
+        self.role
+    }
+
+    /// It was added in an empty slot, for a UNITREF.
+    /// Source: this project's profile.
+    pub fn added(&self) -> bool
+        ensures { result ≡ self.now.added }
+    {
+        self.added
+    }
+
+    /// The file that its code comes from: 0 for the host, k for the k-th library, from 1.
+    /// Source: this project's profile.
+    pub fn file(&self) -> usize
+        ensures { result ≡ self.now.file }
+    {
+        self.file
+    }
+
+    /// The slot of its entry in that file, 0 to 15.
+    /// Source: this project's profile.
+    pub fn index(&self) -> u8
+        ensures { result ≡ self.now.index }
+    {
+        self.index
+    }
+
+    /// Its code, as the file has it.
+    /// Source: UCSD Pascal II.0 manual, code file format.
+    pub fn code(&self) -> &'a [u8]
+        ensures { result.now ≡ self.now.code }
+    {
+        self.code
+    }
+
+    /// Its procedure tables, which have no fault; `None` for a segment that is linked already.
+    /// Source: UCSD Pascal II.0 manual, code file format.
+    pub fn tables(&self) -> Option<&ProcedureDictionary<'a>>
+        ensures { option_map (λ t. t.now) result ≡ self.now.tables }
+    {
+        match &self.resolvable {
+            None => None,
+            Some(resolvable) => Some(&resolvable.procedures),
+        }
+    }
+
+    /// Its link information; `None` for a segment that is linked already, which has none.
+    /// Source: the published II.0 Linker source.
+    pub fn records(&self) -> Option<&LinkInformation<'a>>
+        ensures linked { is_some result ≡ needs_linking_spec self.now.role }
+        ensures records { option_map_or (λ r. r.now) result [] ≡ self.now.records }
+    {
+        match &self.resolvable {
+            None => None,
+            Some(resolvable) => Some(&resolvable.records),
+        }
+    }
+
     /// A copy of the segment, which borrows the same bytes.
     pub(crate) fn copy(&self) -> Segment<'a>
         ensures { result ≡ self.now }

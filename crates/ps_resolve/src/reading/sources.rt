@@ -1,23 +1,24 @@
-ghost use Rattle.std.specs.Prelude.{◌≡◌, ◌<◌, ◌≤◌, ◌+◌, ◌*◌, ◌++◌, [], List, ℕ, length, map, drop, true, Some, None, Ok, IfOk, IfSome, All, if◌then◌else◌, is_some};
+ghost use Rattle.std.specs.Prelude.{◌≡◌, ◌<◌, ◌≤◌, ◌+◌, ◌*◌, ◌++◌, [], List, ℕ, length, map, drop, true, Some, None, Ok, IfOk, IfSome, All, if◌then◌else◌, is_some, option_and_then, slice_set};
 ghost use Rattle.std.specs.Option.{option_map, option_map_or, option_or, option_to_list};
 ghost use Rattle.arrayvec.specs.ArrayVec.{array_vec_len};
-ghost use Rattle.std.specs.Result.{result_err};
+ghost use Rattle.std.specs.Result.{result_err, result_ok};
 ghost use Rattle.ps_words.specs.FaultPlaces.{in_record, in_slot as in_slot_spec};
-ghost use Rattle.ps_codefile.specs.Dictionary.{entry_at, kind_needs_linking, information_of};
+ghost use Rattle.ps_codefile.specs.Dictionary.{entry_at, kind_needs_linking, information_of, slots};
 ghost use Rattle.ps_codefile.specs.Procedures.{tables_fault as tables_fault_spec};
 ghost use Rattle.ps_linkinfo.specs.Records.{reading};
 ghost use Rattle.ps_codefile.specs.Roles.{needs_linking as needs_linking_spec, is_host as is_host_spec};
-ghost use Rattle.ps_resolve.specs.Sources.{own_segment, own_segments, file_at, segment_from, contents, records_of};
-ghost use Rattle.ps_resolve.specs.Faults.{code_fault, information_fault, libraries_fault as libraries_fault_spec, source_fault, sources_fault};
+ghost use Rattle.ps_resolve.specs.Sources.{own_segment, file_at, opened, segment_from, records_of};
+ghost use Rattle.ps_resolve.specs.Faults.{code_fault, information_fault, source_fault};
+ghost use Rattle.ps_resolve.specs.Readings.{read_segments};
 ghost use Rattle.ps_resolve.specs.Views.{segment_of, IsPlaced, IsRead, AreRecordsOf, IsSound};
 
 use crate::linkage::SegmentPlace;
+use crate::reading::request::{Request, Requester, read_unit};
 use crate::reading::segment::{Resolvable, Segment, records_at};
-use crate::reading::slots::{HOST_FILE, HostSlots, library_file};
-use crate::reading::units::unit_source;
+use crate::reading::slots::{HOST_FILE, HostSlots};
 use arrayvec::ArrayVec;
 use ps_codefile::dictionary_layout::SLOTS;
-use ps_codefile::{Dict, Procs, Role};
+use ps_codefile::{Dict, ProcedureDictionary, Role};
 use ps_linkinfo::LinkInformation;
 use ps_words::{Fault, Name, Order, blocks_of};
 
@@ -114,7 +115,7 @@ fn read_resolvable<'a>(
     if !role.needs_linking() {
         return Ok(None);
     }
-    match Procs::read(from.order(), code, role.is_host()) {
+    match ProcedureDictionary::read(from.order(), code, role.is_host()) {
         Err(reason) => Err(Fault::in_slot(place.file, place.slot, reason)),
         Ok(procedures) => {
             let records = match known {
@@ -186,14 +187,14 @@ fn read_slot<'a>(
     known: &[Segment<'a>],
 ) -> Result<Option<Segment<'a>>, Fault>
     requires slots { slot < 16 }
-    requires libraries { libraries_fault_spec host.now.order (contents libs.now) ≡ None }
-    requires read { All (IsRead host.now.order host.now.file (contents libs.now)) known.now }
+    requires read { All (IsRead host.now.order host.now.file (opened host.now.order libs.now))
+        known.now }
     ensures fault { result_err result ≡ source_fault host.now.order host.now.file
-        (contents libs.now) slot }
+        (opened host.now.order libs.now) slot }
     ensures segment { IfOk result (λ s. option_map segment_of s
-        ≡ own_segment host.now.order host.now.file (contents libs.now) slot) }
+        ≡ own_segment host.now.order host.now.file (opened host.now.order libs.now) slot) }
     ensures read { IfOk result (λ s. IfSome s
-        (IsRead host.now.order host.now.file (contents libs.now))) }
+        (IsRead host.now.order host.now.file (opened host.now.order libs.now))) }
 {
     let name = host.entry(slot).name;
     match host.role(slot) {
@@ -210,46 +211,61 @@ fn read_slot<'a>(
                 Ok(Some(own))
             }
             Role::Wanted => {
-                let unit = unit_source(host.order(), name, libs, slot)?;
-                let file = library_file(unit.library);
-                let place = SegmentPlace { file, slot };
-                let records = known_records(known, &unit.dict, file, unit.index);
-                let wanted = read_segment(place, name, role, &unit.dict, unit.index, records)?;
+                let request = Request {
+                    name,
+                    slot,
+                    requester: Requester::Slot,
+                };
+                let wanted = read_unit(host, libs, &request, known)?;
                 Ok(Some(wanted))
             }
         },
     }
 }
 
-/// Adds the segment of a slot, where it has one.
-pub(crate) fn add<'a>(segments: &mut ArrayVec<Segment<'a>, 16>, segment: Option<Segment<'a>>)
-    requires { array_vec_len segments.old < 16 }
-    ensures { segments.new.items ≡ segments.old.items ++ option_to_list segment.entry }
+/// Adds the segment of a slot, where it has one, or keeps its fault.
+fn keep<'a>(
+    segments: &mut ArrayVec<Segment<'a>, 16>,
+    refused: &mut [Option<Fault>; 16],
+    slot: u8,
+    read: Result<Option<Segment<'a>>, Fault>,
+)
+    requires slots { slot < 16 }
+    requires room { array_vec_len segments.old < 16 }
+    ensures segments { segments.new.items ≡ segments.old.items
+        ++ option_to_list (option_and_then (λ s. s) (result_ok read.entry)) }
+    ensures refused { refused.new ≡ slice_set refused.old slot (result_err read.entry) }
 {
-    if let Some(segment) = segment {
-        segments.push(segment);
+    match read {
+        Err(fault) => refused[slot as usize] = Some(fault),
+        Ok(segment) => {
+            refused[slot as usize] = None;
+            if let Some(segment) = segment {
+                segments.push(segment);
+            }
+        }
     }
 }
 
-/// Fills the table with the segments of the host's own slots by slot ascending, or answers the
-/// first fault of a slot's source.
+/// Reads the host's own slots: fills the table with their segments, by slot ascending, and answers
+/// for each slot the first fault of its source.
 pub(crate) fn read_slots<'a>(
     host: &HostSlots<'a>,
     libs: &'a [&'a [u8]],
     segments: &mut ArrayVec<Segment<'a>, 16>,
-) -> Result<(), Fault>
+) -> [Option<Fault>; 16]
     requires empty { segments.old.items ≡ [] }
-    requires libraries { libraries_fault_spec host.now.order (contents libs.now) ≡ None }
-    ensures fault { result_err result ≡ sources_fault host.now.order host.now.file
-        (contents libs.now) }
-    ensures segments { IfOk result (λ _. map segment_of segments.new.items
-        ≡ own_segments host.now.order host.now.file (contents libs.now)) }
-    ensures read { IfOk result (λ _. All
-        (IsRead host.now.order host.now.file (contents libs.now)) segments.new.items) }
+    ensures refused { result ≡ map (source_fault host.now.order host.now.file
+        (opened host.now.order libs.now)) slots }
+    ensures segments { map segment_of segments.new.items
+        ≡ read_segments host.now.order host.now.file (opened host.now.order libs.now) }
+    ensures read { All (IsRead host.now.order host.now.file (opened host.now.order libs.now))
+        segments.new.items }
 {
+    let mut refused = [None; SLOTS as usize];
     for slot in 0..SLOTS {
-        let segment = read_slot(host, libs, slot, segments.as_slice())?;
-        add(segments, segment);
+        let read = read_slot(host, libs, slot, segments.as_slice());
+        keep(segments, &mut refused, slot, read);
     }
-    Ok(())
+    refused
 }

@@ -1,18 +1,16 @@
-ghost use Rattle.std.specs.Prelude.{◌≡◌, ◌<◌, ◌≤◌, ◌+◌, ◌&&◌, List, ℕ, length, Some, None, IfOk, IfSome};
+ghost use Rattle.std.specs.Prelude.{◌≡◌, ◌<◌, ◌≤◌, ◌&&◌, length, Some, IfSome};
 ghost use Rattle.std.specs.List.{find, list_any, range_with_len};
 ghost use Rattle.std.specs.Option.{option_map};
-ghost use Rattle.std.specs.Result.{result_err};
-ghost use Rattle.ps_codefile.specs.Dictionary.{slots, entry_at};
-ghost use Rattle.ps_resolve.specs.Sources.{is_named as is_named_spec, chosen_library as chosen_library_spec, unit_source as unit_source_spec, file_at, contents, library_file as library_file_spec};
-ghost use Rattle.ps_resolve.specs.Faults.{library_reason, libraries_fault, entries_reason as entries_reason_spec, unit_fault};
+ghost use Rattle.ps_codefile.specs.Dictionary.{slots};
+ghost use Rattle.ps_resolve.specs.Sources.{is_named as is_named_spec, chosen_library as chosen_library_spec, opened, opened_file};
+ghost use Rattle.ps_resolve.specs.Faults.{entries_reason as entries_reason_spec};
 
-use crate::reading::slots::{HOST_FILE, library_file};
 use ps_codefile::Dict;
 use ps_codefile::dictionary_layout::SLOTS;
 use ps_codefile::kinds::UNITSEG;
-use ps_words::{Fault, Name, Order, Reason};
+use ps_words::{Name, Order, Reason};
 
-/// The entry of a library that a wanted unit comes from.
+/// The entry of a library that a unit comes from.
 #[derive(Drop)]
 pub(crate) struct UnitSource<'a> {
     /// The number of the library, from 0.
@@ -62,11 +60,13 @@ fn entry_named(dict: &Dict, name: Name) -> Option<u8>
     None
 }
 
-/// A library's dictionary and the first entry of this name, where the library has one.
+/// A library's dictionary and the first entry of this name, where the library is opened and has
+/// one.
 fn entry_in<'a>(order: Order, name: Name, lib: &'a [u8]) -> Option<(Dict<'a>, u8)>
-    requires { library_reason order lib.now ≡ None }
-    ensures entry { option_map (λ e. e.1) result ≡ find (is_named_spec order name lib.now) slots }
-    ensures dict { IfSome result (λ e. e.0 ≡ record { order = order; file = lib.now }) }
+    ensures entry { option_map (λ e. e.1) result
+        ≡ find (is_named_spec order name (opened_file order lib.now)) slots }
+    ensures dict { IfSome result (λ e. e.0
+        ≡ record { order = order; file = opened_file order lib.now }) }
     ensures in_range { IfSome result (λ e. e.1 < 16) }
 {
     match Dict::read_beside(lib, order) {
@@ -78,15 +78,15 @@ fn entry_in<'a>(order: Order, name: Name, lib: &'a [u8]) -> Option<(Dict<'a>, u8
     }
 }
 
-/// The first entry of this name of the first library that has one.
+/// The first entry of this name of the first library that has one. A library that cannot be opened
+/// has none.
 pub(crate) fn chosen_library<'a>(
     order: Order,
     name: Name,
     libs: &'a [&'a [u8]],
 ) -> Option<UnitSource<'a>>
-    requires { libraries_fault order (contents libs.now) ≡ None }
     ensures library { option_map (λ u. (u.library, u.dict.file)) result
-        ≡ chosen_library_spec order name (contents libs.now) }
+        ≡ chosen_library_spec order name (opened order libs.now) }
     ensures entry { IfSome result (λ u. find (is_named_spec order name u.dict.file) slots
         ≡ Some u.index) }
     ensures order { IfSome result (λ u. u.dict.order ≡ order) }
@@ -120,32 +120,4 @@ pub(crate) fn entries_reason(dict: &Dict, name: Name, index: u8) -> Option<Reaso
         return Some(Reason::NotAUnit { kind });
     }
     None
-}
-
-/// The library entry that the unit wanted at a slot comes from, or why there is none.
-pub(crate) fn unit_source<'a>(
-    order: Order,
-    name: Name,
-    libs: &'a [&'a [u8]],
-    slot: u8,
-) -> Result<UnitSource<'a>, Fault>
-    requires { libraries_fault order (contents libs.now) ≡ None }
-    ensures fault { result_err result ≡ unit_fault order name (contents libs.now) slot }
-    ensures source { IfOk result (λ u. unit_source_spec order name (contents libs.now)
-        ≡ Some (library_file_spec u.library, u.index)) }
-    ensures file { (host : List ℕ)
-        → IfOk result (λ u. file_at host (contents libs.now) (library_file_spec u.library)
-        ≡ u.dict.file) }
-    ensures order { IfOk result (λ u. u.dict.order ≡ order) }
-    ensures unit { IfOk result (λ u. (entry_at order u.dict.file u.index).kind ≡ 3) }
-    ensures in_range { IfOk result (λ u. u.index < 16) }
-    ensures number { IfOk result (λ u. u.library < length libs.now) }
-{
-    match chosen_library(order, name, libs) {
-        None => Err(Fault::in_slot(HOST_FILE, slot, Reason::MissingUnit)),
-        Some(source) => match entries_reason(&source.dict, name, source.index) {
-            Some(reason) => Err(Fault::in_slot(library_file(source.library), slot, reason)),
-            None => Ok(source),
-        },
-    }
 }

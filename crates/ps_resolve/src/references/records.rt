@@ -14,9 +14,10 @@ ghost use Rattle.ps_resolve.specs.Views.{segment_of, has_records_at, HasRecordsA
 use crate::definitions::DefKind;
 use crate::edits::table::EditTable;
 use crate::linkage::Stop;
-use crate::reading::segment::{Resolvable, Segment};
+use crate::reading::segment::Segment;
 use crate::references::names::{Linking, Names};
 use crate::references::{ReferenceEdits, Target};
+use ps_codefile::Procs;
 use ps_linkinfo::{Body, LinkInformation, LinkRecord};
 use ps_words::Reason;
 use std::alloc::Allocator;
@@ -96,17 +97,18 @@ pub(crate) fn add_records<'a, A: Allocator + Copy>(
     link: &Linking<A>,
     earlier: &[Segment<'a>],
     segment: &Segment<'a>,
-    resolvable: &Resolvable<'a>,
+    records: &LinkInformation<'a>,
+    procedures: Procs<'a>,
     free: u16,
     edits: EditTable<A>,
 ) -> Result<(EditTable<A>, u16), Stop>
-    requires records { resolvable.now.records ≡ segment.now.records }
-    requires tables { Some resolvable.now.procedures ≡ segment.now.tables }
+    requires records { records.now ≡ segment.now.records }
+    requires tables { Some procedures ≡ segment.now.tables }
     requires linked { needs_linking segment.now.role ≡ true }
     requires next { IsNext link.now.order link.now.names.now link.now.size
         earlier.now segment.now free }
     requires table { IsTableOf segment.now.code edits.states.items }
-    requires taken { AreTaken resolvable.now.procedures edits.states.items [] }
+    requires taken { AreTaken procedures edits.states.items [] }
     ensures edits { IfOk result (λ all. IsPermutation (edits_of edits.states.items
         ++ records_edits link.now.names.now segment.now.code free segment.now.records)
         (edits_of all.0.states.items)) }
@@ -117,17 +119,13 @@ pub(crate) fn add_records<'a, A: Allocator + Copy>(
     ensures stop { IfErr result (IsStop ⊤
         (segment_fault link.now.order link.now.names.now free (segment_of segment.now))) }
 {
-    let records = &resolvable.records;
     if asks_for_nothing(records) {
         return Ok((edits, free));
     }
     if is_resolved(earlier, segment, records) {
         return Ok((edits, free));
     }
-    let mut found = ReferenceEdits {
-        procedures: resolvable.procedures.copy(),
-        edits,
-    };
+    let mut found = ReferenceEdits { procedures, edits };
     let mut next = free;
     for (rec, record) in records.records() {
         let place = segment.place().record(rec);

@@ -9,7 +9,6 @@ returns-in_ok-resolvable-in-Ok-clause-sound c =
     let from = c.args.from.now in
     let is = whole from.file (entry_at from.order from.file c.args.index) c.in-Ok.code.now c.in-Ok.ensures in
     record {
-      small = omega (arith, is.len, is.small);
       large = λ linked. omega (arith, is.len, is.large (c.requires.kind linked));
       tables = λ linked.
           let none = sym c.in_ok-resolvable-in-Ok.ensures.fault in

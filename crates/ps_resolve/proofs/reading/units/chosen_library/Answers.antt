@@ -1,25 +1,20 @@
 use Rattle.std.proofs.Common.{◌≡◌, ◌∙◌, Some, true, false, is_some, get_or, refl, sym, ap}
 use Rattle.std.specs.List.{find}
 use Rattle.ps_codefile.specs.Dictionary.{OpenedFile, slots}
-use Rattle.ps_resolve.specs.Sources.{is_named, has_entry}
-use Rattle.ps_resolve.specs.Faults.{libraries_fault}
+use Rattle.ps_resolve.specs.Sources.{is_named, has_entry, opened_file}
 use Rattle.ps_resolve.proofs.FirstSlots.{any_found}
-use Rattle.ps_resolve.proofs.ReadingLibraries.{no_file, no_reason, no_more, chosen_here, chosen_later}
+use Rattle.ps_resolve.proofs.ReadingLibraries.{no_file, chosen_here, chosen_later}
 use Rattle.ps_resolve.proofs.reading.units.chosen_library.Goals as goal
 
 pub loop-library-init : goal.loop-library-init
-unfolding libraries_fault
-loop-library-init c = record { chosen = refl; faultless = c.requires }
-
-pub entry_in-requires : goal.entry_in-requires
-entry_in-requires c = no_reason c.args.order c.args.libs.now c.loop-library.library c.loop-library-test.true c.loop-library.invariant.faultless
+loop-library-init c = refl
 
 pub returns-in-Some-clause-library : goal.returns-in-Some-clause-library
 returns-in-Some-clause-library c =
-    let lib = (get_or c.args.libs.now c.loop-library.library no_file).now in
+    let lib = opened_file c.args.order (get_or c.args.libs.now c.loop-library.library no_file).now in
     let has : has_entry c.args.order c.args.name lib ≡ true = any_found (is_named c.args.order c.args.name lib) slots ∙ ap is_some (sym c.in-Some.ensures.entry) in
     ap (λ (o : OpenedFile). Some (c.loop-library.library, o.file)) c.in-Some.ensures.dict
-    ∙ sym (c.loop-library.invariant.chosen ∙ chosen_here c.args.order c.args.name c.args.libs.now c.loop-library.library c.loop-library-test.true has)
+    ∙ sym (c.loop-library.invariant ∙ chosen_here c.args.order c.args.name c.args.libs.now c.loop-library.library c.loop-library-test.true has)
 
 pub returns-in-Some-clause-entry : goal.returns-in-Some-clause-entry
 returns-in-Some-clause-entry c =
@@ -27,9 +22,6 @@ returns-in-Some-clause-entry c =
 
 pub loop-library-preserved : goal.loop-library-preserved
 loop-library-preserved c =
-    let lib = (get_or c.args.libs.now c.loop-library.library no_file).now in
+    let lib = opened_file c.args.order (get_or c.args.libs.now c.loop-library.library no_file).now in
     let has : has_entry c.args.order c.args.name lib ≡ false = any_found (is_named c.args.order c.args.name lib) slots ∙ ap is_some (sym c.in_default.ensures.entry) in
-    record {
-      chosen = c.loop-library.invariant.chosen ∙ chosen_later c.args.order c.args.name c.args.libs.now c.loop-library.library c.loop-library-test.true has;
-      faultless = no_more c.args.order c.args.libs.now c.loop-library.library c.loop-library-test.true c.loop-library.invariant.faultless;
-    }
+    c.loop-library.invariant ∙ chosen_later c.args.order c.args.name c.args.libs.now c.loop-library.library c.loop-library-test.true has

@@ -64,13 +64,13 @@ returns-then-is_resolved g c =
 
 pub loop-rec-init : goal.loop-rec-init
 loop-rec-init g c =
-    let resolvable = c.args.resolvable.now in
-    let is : resolvable.procedures ≡ record { order = c.args.link.now.order; code = c.args.segment.now.code } = same_Some _ _ (c.requires.tables ∙ c.requires.next.sound.kept c.requires.linked) in
-    let table : IsTableOf resolvable.procedures.code c.args.edits.states.items = subst (λ (t : ProcedureTables). IsTableOf t.code c.args.edits.states.items) (sym is) c.requires.table in
-    rw c.copy.ensures (record {
+    let procedures = c.args.procedures in
+    let is : procedures ≡ record { order = c.args.link.now.order; code = c.args.segment.now.code } = same_Some _ _ (c.requires.tables ∙ c.requires.next.sound.kept c.requires.linked) in
+    let table : IsTableOf procedures.code c.args.edits.states.items = subst (λ (t : ProcedureTables). IsTableOf t.code c.args.edits.states.items) (sym is) c.requires.table in
+    record {
       links = (0, c.args.segment.now.records, c.into_iter-rec-iterator.ensures.into_iter_gives ∙ c.records-rec-items.ensures ∙ ap (numbered_records 0) c.requires.records, record { table = table; listed = IsPermutation-refl _; first = ([], c.requires.taken, refl); words = refl });
       procedures = is;
-    })
+    }
 
 pub overflow_add-next : goal.overflow_add-next
 overflow_add-next g c =

@@ -1,0 +1,24 @@
+use Rattle.std.proofs.Common.{◌≡◌, ◌∙◌, List, None, sym, ap, map}
+use Rattle.ps_resolve.specs.Sources.{Segment, contents, opened_files, order_of}
+use Rattle.ps_resolve.specs.Added.{segments}
+use Rattle.ps_resolve.specs.AllFaults.{reading_fault}
+use Rattle.ps_resolve.specs.Readings.{HostFiles, ReadFiles, host_reading_fault}
+use Rattle.ps_resolve.proofs.ReadingSlots.{fault_of_host, fault_of_none, host_of_files, segments_are}
+use Rattle.ps_resolve.proofs.reading.Reading.segments.Goals as goal
+
+pub returns-in-Err : goal.returns-in-Err
+returns-in-Err c = λ none.
+    let some = ap (λ (v : ReadFiles). reading_fault v.host v.libs) (sym c.self.view_is) ∙ fault_of_none c.self.inside.file.now (contents c.self.inside.libs.now) _ (sym c.self.invariant ∙ c.in-Err.is) in
+    let both = sym none ∙ some in
+    cc
+
+pub returns-in-Ok : goal.returns-in-Ok
+returns-in-Ok c = λ none.
+    let file = c.self.inside.file.now in
+    let libs = contents c.self.inside.libs.now in
+    let v : HostFiles = c.in-Ok.host in
+    let is = sym c.self.invariant ∙ c.in-Ok.is in
+    let here : host_reading_fault v.order v.file v.libs ≡ None = fault_of_host file libs v is ∙ (ap (λ (f : ReadFiles). reading_fault f.host f.libs) c.self.view_is ∙ none) in
+    c.segments.ensures
+    ∙ (segments_are v.order v.file v.libs here
+    ∙ (ap (λ (x : HostFiles). segments x.order x.file x.libs) (host_of_files file libs v is) ∙ ap (λ (f : ReadFiles). segments (order_of f.host) f.host f.libs) c.self.view_is))

@@ -1,0 +1,12 @@
+use Rattle.std.proofs.Common.{◌≡◌, ◌==◌, drop}
+use Rattle.std.specs.Prelude.{option_and_then}
+use Rattle.std.specs.List.{enumerate_from, find, slice_get}
+use Rattle.std.specs.Option.{option_map}
+use Rattle.ps_resolve.specs.Added.{request_of}
+use Rattle.ps_resolve.specs.Readings.{queued_request}
+use Rattle.ps_resolve.proofs.reading.queued_request.Given as goal
+
+-- the slot is the first of those that are left, where it is one of all
+abbrev pub invariant-loop-k : goal.invariant-loop-k
+invariant-loop-k l =
+    queued_request l.queue l.empty l.slot ≡ option_and_then (λ k. option_map (λ g. request_of g l.slot) (slice_get l.queue k.0)) (find (λ k. k.1 == l.slot) (enumerate_from l.k (drop l.k l.empty)))
