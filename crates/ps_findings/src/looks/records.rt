@@ -9,8 +9,8 @@ use crate::warnings::{Look, Place};
 use ps_codefile::kinds::HOSTSEG;
 use ps_filetype::only_byte;
 use ps_linkinfo::record_layout::{RECORD_LEN, TYPE_PLACE};
-use ps_linkinfo::{Body, LinkInformation, LinkRecord, Records, Refs};
-use ps_words::{Name, get_big};
+use ps_linkinfo::{Body, LinkInformation, LinkRecord, Refs};
+use ps_words::{Name, Order, get_big};
 use std::alloc::{AllocError, Allocator};
 
 /// Where an end mark has no value, after its name, its type and the next free base offset.
@@ -57,11 +57,20 @@ fn mark_look(source: &Source<'_>, code: &[u8]) -> Option<Look> {
     if !are_unused(mark.get(..TYPE_PLACE)?) || !are_unused(mark.get(UNUSED..)?) {
         return Some(Look::OddMark);
     }
-    match Records::new(source.order, source.after.get(end..)?).next() {
-        Some(Ok(record)) if !record.is_eof() && is_printed(&record.name) => {
-            Some(Look::RecordsAfterMark)
-        }
-        _ => None,
+    let rest = source.after.get(end..)?;
+    if begins_with_record(source.order, rest) {
+        Some(Look::RecordsAfterMark)
+    } else {
+        None
+    }
+}
+
+/// The bytes begin with a record that is no end mark and has a name that ASCII prints.
+fn begins_with_record(order: Order, bytes: &[u8]) -> bool {
+    let first = LinkInformation::up_to_fault(order, bytes).records().next();
+    match &first {
+        Some((_, record)) => !record.is_eof() && is_printed(&record.name),
+        None => false,
     }
 }
 
