@@ -22,11 +22,6 @@ use Rattle.ps_resolve.proofs.InSlots.{in_slots_are}
 use Rattle.ps_resolve.proofs.ReadingHosts.{host_is, host_read, host_refused, rest_of}
 use Rattle.ps_resolve.proofs.ReadingLibraries.{all_opened}
 
--- the first of faults that are listed
-pub first_listed : {X : Type 0} (f : X → Option Fault) (xs : List X) → first_of (λ fault. fault) (map f xs) ≡ first_of f xs
-first_listed f [] = refl
-first_listed f (x ∷ xs) = ap (option_or (f x)) (first_listed f xs)
-
 module _ (order : Order) (host : List ℕ) (libs : List (List ℕ)) where
   -- where no source has a fault, the segments that were read are all own ones
   read_from : (xs : List ℕ) → first_of (source_fault order host libs) xs ≡ None → filter_map (read_segment order host libs) xs ≡ filter_map (own_segment order host libs) xs
@@ -89,13 +84,12 @@ module _ (order : Order) (host : List ℕ) (libs : List (List ℕ)) where
   abbrev files : List (List ℕ)
   files = opened_files order libs
 
-  pub faults_are : (refused : List (Option Fault)) (last : Option Fault) → refused ≡ map (source_fault order host files) slots → last ≡ (read_rounds order host files).fault
-      → option_or (slots_fault order host) (option_or (no_host_fault order host) (option_or (libraries_fault order libs) (option_or (first_of (λ fault. fault) refused) last))) ≡ host_reading_fault order host libs
-  unfolding host_reading_fault sources_fault
-  faults_are refused last each ends =
-      ap (λ (o : Option Fault). option_or (slots_fault order host) (option_or (no_host_fault order host) (option_or (libraries_fault order libs) (option_or o last))))
-      (ap (λ (faults : List (Option Fault)). first_of (λ fault. fault) faults) each ∙ first_listed (source_fault order host files) slots)
-      ∙ ap (λ (o : Option Fault). option_or (slots_fault order host) (option_or (no_host_fault order host) (option_or (libraries_fault order libs) (option_or (first_of (source_fault order host files) slots) o)))) ends
+  pub faults_are : (sources last : Option Fault) → sources ≡ sources_fault order host files → last ≡ (read_rounds order host files).fault
+      → option_or (slots_fault order host) (option_or (no_host_fault order host) (option_or (libraries_fault order libs) (option_or sources last))) ≡ host_reading_fault order host libs
+  unfolding host_reading_fault
+  faults_are sources last each ends =
+      ap (λ (o : Option Fault). option_or (slots_fault order host) (option_or (no_host_fault order host) (option_or (libraries_fault order libs) (option_or o last)))) each
+      ∙ ap (λ (o : Option Fault). option_or (slots_fault order host) (option_or (no_host_fault order host) (option_or (libraries_fault order libs) (option_or (sources_fault order host files) o)))) ends
 
   module _ (own : List Segment) (is : own ≡ read_segments order host files) where
     pub in_rounds : (empty : List ℕ) → empty ≡ empty_slots order host → rounds_in order host files own empty ≡ read_rounds order host files

@@ -92,9 +92,8 @@ pub record HostFiles : Type 0 where
   pub libs : List (List ℕ)
 
 -- what was read of such files
-pub record IsReading (order : Order) (host : List ℕ) (libs : List (List ℕ)) (refused : List (Option Fault)) (empty : List ℕ) (segments : List SegmentView) (queue : List UnitReference) (next : Option ℕ) (last : Option Fault) (fault : Option Fault) : Type 0 where
+pub record IsReading (order : Order) (host : List ℕ) (libs : List (List ℕ)) (empty : List ℕ) (segments : List SegmentView) (queue : List UnitReference) (next : Option ℕ) (last : Option Fault) (fault : Option Fault) : Type 0 where
   pub whole : 512 ≤ length host
-  pub each : refused ≡ map (source_fault order host (opened_files order libs)) slots
   pub slots_left : empty ≡ empty_slots order host
   pub all : map segment_of segments ≡ all_read order host (opened_files order libs)
   pub read : All (IsRead order host (opened_files order libs)) segments

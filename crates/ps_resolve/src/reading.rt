@@ -5,7 +5,6 @@ ghost use Rattle.std.specs.Option.{option_map, option_or, option_to_list};
 ghost use Rattle.std.specs.Result.{result_ok};
 ghost use Rattle.arrayvec.specs.ArrayVec.{array_vec_len};
 ghost use Rattle.ps_codefile.specs.Dictionary.{entry_at, role_of, opened_beside};
-ghost use Rattle.ps_resolve.specs.Searches.{first_of};
 ghost use Rattle.ps_resolve.specs.Sources.{order_of, contents, opened, opened_files, units_of};
 ghost use Rattle.ps_resolve.specs.Added.{request_of, all_unit_references, requested_from, rounds_in, segments as all_segments, slot_name as slot_name_spec, slot_names as slot_names_spec};
 ghost use Rattle.ps_resolve.specs.Faults.{slots_fault as slots_fault_spec, no_host_fault as no_host_fault_spec, libraries_fault as libraries_fault_spec};
@@ -28,7 +27,7 @@ use crate::reading::libraries::libraries_fault;
 use crate::reading::request::{Request, Requester};
 use crate::reading::segment::Segment;
 use crate::reading::slots::{HOST_FILE, HostSlots, is_empty, no_host_fault, slots_fault};
-use crate::reading::sources::read_slots;
+use crate::reading::sources::{read_slot, read_slots};
 use crate::references::names::UnitSlots;
 use arrayvec::ArrayVec;
 use ps_codefile::dictionary_layout::SLOTS;
@@ -196,38 +195,23 @@ fn add_to<'a>(
     }
 }
 
-/// The first fault of these.
-fn first_refused(refused: &[Option<Fault>; 16]) -> Option<Fault>
-    ensures { result ≡ first_of (λ fault. fault) refused.now }
-{
-    for fault in refused {
-        if let Some(fault) = fault {
-            return Some(*fault);
-        }
-    }
-    None
-}
-
 /// The first fault of a host and its libraries: of the host's slots, of its want of a host segment,
-/// of the libraries, of the sources of its slots, which are these, and of the units that are added.
+/// of the libraries, of the sources of its slots, and of the units that are added.
 fn first_fault(
     host: &HostSlots,
     libs: &[&[u8]],
-    refused: &[Option<Fault>; 16],
+    sources: Option<Fault>,
     last: Option<Fault>,
 ) -> Option<Fault>
     ensures { result ≡ option_or (slots_fault_spec host.now.order host.now.file)
         (option_or (no_host_fault_spec host.now.order host.now.file)
         (option_or (libraries_fault_spec host.now.order (contents libs.now))
-        (option_or (first_of (λ fault. fault) refused.now) last))) }
+        (option_or sources last))) }
 {
     if let Some(fault) = files_fault(host, libs) {
         return Some(fault);
     }
-    if let Some(fault) = first_refused(refused) {
-        return Some(fault);
-    }
-    last
+    sources.or(last)
 }
 
 /// The request of a slot that wants a unit.
@@ -282,8 +266,6 @@ fn requested_from_queue(queue: &[UnitReference], k: usize, slot: u8) -> Option<R
 pub struct HostReading<'a> {
     slots: HostSlots<'a>,
     libs: &'a [&'a [u8]],
-    /// Why the source of each slot is refused.
-    refused: [Option<Fault>; 16],
     /// The empty slots that a unit may be added in, ascending.
     empty: ArrayVec<u8, 9>,
     /// The segments that have no fault, by slot ascending.
@@ -306,10 +288,12 @@ impl<'a> Model for HostReading<'a> {
 
     ghost view = { λ r. record { order = r.slots.order; file = r.slots.file; libs = contents r.libs.now } };
 
-    ghost invariant = { λ r. IsReading r.slots.order r.slots.file (contents r.libs.now) r.refused r.empty.items r.segments.items r.queue.items r.next r.last r.fault };
+    ghost invariant = { λ r. IsReading r.slots.order r.slots.file (contents r.libs.now) r.empty.items r.segments.items r.queue.items r.next r.last r.fault };
 }
 
-/// Reads a host that was opened, and its libraries.
+/// Reads a host that was opened, and its libraries. A function by itself, so that a host that cannot
+/// be opened needs no room for it.
+#[inline(never)]
 fn read_host<'a>(dict: Dict<'a>, libs: &'a [&'a [u8]]) -> HostReading<'a>
     requires { 512 ≤ length dict.file }
     ensures { result
@@ -317,7 +301,7 @@ fn read_host<'a>(dict: Dict<'a>, libs: &'a [&'a [u8]]) -> HostReading<'a>
 {
     let slots = HostSlots::of(dict);
     let mut own = ArrayVec::new();
-    let refused = read_slots(&slots, libs, &mut own);
+    let sources = read_slots(&slots, libs, &mut own);
     let empty = empty_slots(&slots);
     let added = add_to(&slots, libs, own.as_slice(), empty.as_slice());
     let mut segments = ArrayVec::new();
@@ -327,11 +311,10 @@ fn read_host<'a>(dict: Dict<'a>, libs: &'a [&'a [u8]]) -> HostReading<'a>
         added.segments.as_slice(),
         &mut segments,
     );
-    let fault = first_fault(&slots, libs, &refused, added.fault);
+    let fault = first_fault(&slots, libs, sources, added.fault);
     HostReading {
         slots,
         libs,
-        refused,
         empty,
         segments,
         queue: added.queue,
@@ -398,7 +381,7 @@ impl<'a> HostReading<'a> {
         ensures { result ≡ slot_fault self.now.order self.now.file
             (opened_files self.now.order self.now.libs) slot }
     {
-        if let Some(fault) = self.refused[slot as usize] {
+        if let Err(fault) = read_slot(&self.slots, self.libs, slot, self.segments.as_slice()) {
             return Some(fault);
         }
         match self.next {

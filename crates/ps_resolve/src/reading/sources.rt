@@ -1,14 +1,14 @@
-ghost use Rattle.std.specs.Prelude.{◌≡◌, ◌<◌, ◌≤◌, ◌+◌, ◌*◌, ◌++◌, [], List, ℕ, length, map, drop, true, Some, None, Ok, IfOk, IfSome, All, if◌then◌else◌, is_some, option_and_then, slice_set};
+ghost use Rattle.std.specs.Prelude.{◌≡◌, ◌<◌, ◌≤◌, ◌+◌, ◌*◌, ◌++◌, [], List, ℕ, length, map, drop, true, Some, None, Ok, IfOk, IfSome, All, if◌then◌else◌, is_some, option_and_then};
 ghost use Rattle.std.specs.Option.{option_map, option_map_or, option_or, option_to_list};
 ghost use Rattle.arrayvec.specs.ArrayVec.{array_vec_len};
 ghost use Rattle.std.specs.Result.{result_err, result_ok};
 ghost use Rattle.ps_words.specs.FaultPlaces.{in_record, in_slot as in_slot_spec};
-ghost use Rattle.ps_codefile.specs.Dictionary.{entry_at, kind_needs_linking, information_of, slots};
+ghost use Rattle.ps_codefile.specs.Dictionary.{entry_at, kind_needs_linking, information_of};
 ghost use Rattle.ps_codefile.specs.Procedures.{tables_fault as tables_fault_spec};
 ghost use Rattle.ps_linkinfo.specs.Records.{reading};
 ghost use Rattle.ps_codefile.specs.Roles.{needs_linking as needs_linking_spec, is_host as is_host_spec};
 ghost use Rattle.ps_resolve.specs.Sources.{own_segment, file_at, opened, segment_from, records_of};
-ghost use Rattle.ps_resolve.specs.Faults.{code_fault, information_fault, source_fault};
+ghost use Rattle.ps_resolve.specs.Faults.{code_fault, information_fault, source_fault, sources_fault};
 ghost use Rattle.ps_resolve.specs.Readings.{read_segments};
 ghost use Rattle.ps_resolve.specs.Views.{segment_of, IsPlaced, IsRead, AreRecordsOf, IsSound};
 
@@ -180,7 +180,7 @@ pub(crate) fn read_segment<'a>(
 
 /// The segment of a slot, or None where the slot is empty or has a kind that was refused. `known`
 /// are segments that were read before.
-fn read_slot<'a>(
+pub(crate) fn read_slot<'a>(
     host: &HostSlots<'a>,
     libs: &'a [&'a [u8]],
     slot: u8,
@@ -223,23 +223,20 @@ fn read_slot<'a>(
     }
 }
 
-/// Adds the segment of a slot, where it has one, or keeps its fault.
+/// Adds the segment of a slot, where it has one, or keeps its fault, if it is the first.
 fn keep<'a>(
     segments: &mut ArrayVec<Segment<'a>, 16>,
-    refused: &mut [Option<Fault>; 16],
-    slot: u8,
+    first: &mut Option<Fault>,
     read: Result<Option<Segment<'a>>, Fault>,
 )
-    requires slots { slot < 16 }
-    requires room { array_vec_len segments.old < 16 }
+    requires { array_vec_len segments.old < 16 }
     ensures segments { segments.new.items ≡ segments.old.items
         ++ option_to_list (option_and_then (λ s. s) (result_ok read.entry)) }
-    ensures refused { refused.new ≡ slice_set refused.old slot (result_err read.entry) }
+    ensures first { first.new ≡ option_or first.old (result_err read.entry) }
 {
     match read {
-        Err(fault) => refused[slot as usize] = Some(fault),
+        Err(fault) => *first = first.or(Some(fault)),
         Ok(segment) => {
-            refused[slot as usize] = None;
             if let Some(segment) = segment {
                 segments.push(segment);
             }
@@ -248,24 +245,24 @@ fn keep<'a>(
 }
 
 /// Reads the host's own slots: fills the table with their segments, by slot ascending, and answers
-/// for each slot the first fault of its source.
+/// the first fault of their sources.
 pub(crate) fn read_slots<'a>(
     host: &HostSlots<'a>,
     libs: &'a [&'a [u8]],
     segments: &mut ArrayVec<Segment<'a>, 16>,
-) -> [Option<Fault>; 16]
-    requires empty { segments.old.items ≡ [] }
-    ensures refused { result ≡ map (source_fault host.now.order host.now.file
-        (opened host.now.order libs.now)) slots }
+) -> Option<Fault>
+    requires { segments.old.items ≡ [] }
+    ensures first { result ≡ sources_fault host.now.order host.now.file
+        (opened host.now.order libs.now) }
     ensures segments { map segment_of segments.new.items
         ≡ read_segments host.now.order host.now.file (opened host.now.order libs.now) }
     ensures read { All (IsRead host.now.order host.now.file (opened host.now.order libs.now))
         segments.new.items }
 {
-    let mut refused = [None; SLOTS as usize];
+    let mut first = None;
     for slot in 0..SLOTS {
         let read = read_slot(host, libs, slot, segments.as_slice());
-        keep(segments, &mut refused, slot, read);
+        keep(segments, &mut first, read);
     }
-    refused
+    first
 }

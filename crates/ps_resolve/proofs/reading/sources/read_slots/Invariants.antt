@@ -1,21 +1,22 @@
-use Rattle.std.proofs.Common.{◌≡◌, ◌≤◌, ◌-◌, ◌++◌, length, map, take}
+use Rattle.std.proofs.Common.{◌≡◌, ◌≤◌, ◌-◌, ◌++◌, length, map}
 use Rattle.std.specs.Prelude.{All}
 use Rattle.std.specs.List.{filter_map, range_with_len}
+use Rattle.std.specs.Option.{option_or}
+use Rattle.ps_resolve.specs.Searches.{first_of}
 use Rattle.ps_resolve.specs.Sources.{opened}
-use Rattle.ps_resolve.specs.Faults.{source_fault}
+use Rattle.ps_resolve.specs.Faults.{source_fault, sources_fault}
 use Rattle.ps_resolve.specs.Readings.{read_segment, read_segments}
 use Rattle.ps_resolve.specs.Views.{segment_of, IsRead}
 use Rattle.ps_resolve.proofs.reading.sources.read_slots.Given as goal
 
--- the segments so far and those of the slots that are left are all, and the faults so far
+-- the segments so far and those of the slots that are left are all, and so is the first fault
 abbrev pub invariant-loop-slot : goal.invariant-loop-slot
 invariant-loop-slot l =
     let order = l.host.order in
     let host = l.host.file in
     let libs = opened order l.libs in
     record {
-      sixteen : length l.refused ≡ 16;
-      faults : take l.slot l.refused ≡ map (source_fault order host libs) (range_with_len 0 l.slot);
+      faults : sources_fault order host libs ≡ option_or l.first (first_of (source_fault order host libs) (range_with_len l.slot (16 - l.slot)));
       all : read_segments order host libs ≡ map segment_of l.segments.items ++ filter_map (read_segment order host libs) (range_with_len l.slot (16 - l.slot));
       read : All (IsRead order host libs) l.segments.items;
       few : length l.segments.items ≤ l.slot;

@@ -1,0 +1,36 @@
+# Completion of pslink for bash. .ci/completions compares it with the help of the program.
+
+_pslink() {
+    local current=${COMP_WORDS[COMP_CWORD]} command="" only_files="" files=0 word options
+    COMPREPLY=()
+    for word in "${COMP_WORDS[@]:1:COMP_CWORD-1}"; do
+        if [[ -z $command ]]; then
+            [[ $word == -* ]] || command=$word
+        elif [[ -z $only_files && $word == -- ]]; then
+            only_files=yes
+        elif [[ -n $only_files || $word != -* ]]; then
+            files=$((files + 1))
+        fi
+    done
+    case $command in
+        '') options='link map show check help --help --version' ;;
+        link | map | show) options='--help' ;;
+        check) options='--help --strict' ;;
+        help) options='link map show check help' ;;
+        *) options='' ;;
+    esac
+    case $command,$files in
+        link,* | map,* | check,* | show,0)
+            # readline completes the names of files where no word is given
+            if [[ -n $only_files || $current != -* ]]; then
+                return
+            fi
+            ;;
+        ,* | help,0) ;;
+        *) options='' ;;
+    esac
+    compopt +o default
+    mapfile -t COMPREPLY < <(compgen -W "$options" -- "$current")
+}
+
+complete -o default -F _pslink pslink

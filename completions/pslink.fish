@@ -1,0 +1,16 @@
+# Completion of pslink for fish. .ci/completions compares it with the help of the program.
+
+set -l commands link map show check help
+
+# no names of files before the command
+complete -c pslink -f
+complete -c pslink -n "not __fish_seen_subcommand_from $commands" -a link -d 'Links a host with the units that it names, and writes the linked file'
+complete -c pslink -n "not __fish_seen_subcommand_from $commands" -a map -d 'Prints where a link would put each segment and private, and writes no file'
+complete -c pslink -n "not __fish_seen_subcommand_from $commands" -a show -d 'Prints the segments of one code file and the link information of each'
+complete -c pslink -n "not __fish_seen_subcommand_from $commands" -a check -d 'Says in words what is wrong with the files and what only looks right'
+complete -c pslink -n "not __fish_seen_subcommand_from $commands" -a help -d 'Print this message or the help of the given subcommand(s)'
+complete -c pslink -n "not __fish_seen_subcommand_from $commands" -s V -l version -d 'Print version'
+complete -c pslink -n "not __fish_seen_subcommand_from help" -s h -l help -d 'Print help'
+complete -c pslink -n "__fish_seen_subcommand_from help" -a 'link map show check help'
+complete -c pslink -n "__fish_seen_subcommand_from link map show check" -F
+complete -c pslink -n "__fish_seen_subcommand_from check" -l strict -d 'Ends with status 1 on a warning too'

@@ -1,0 +1,104 @@
+#!/usr/bin/env python3
+"""Writes the cases and their index from the descriptions in the folder descriptions. What is expected is described there,
+and no linker is run. Usage: make_vectors.py [FOLDER]. Without FOLDER it writes to the folder of this script."""
+import hashlib
+import json
+import pathlib
+import shutil
+import sys
+
+sys.dont_write_bytecode = True
+from descriptions import faults, limits, links, pairs
+from descriptions.cases import described, linked_file, map_of, summary
+from descriptions.model import REASONS, file_bytes, show_of
+
+FORMAT = 1  # of the index
+
+
+def all_cases():
+    yield from faults.unchanged()
+    yield from links.cases()
+    yield from limits.cases()
+    yield from faults.cases()
+    yield from pairs.cases()
+
+
+def text(lines):
+    return "".join(f"{line}\n" for line in lines).encode()
+
+
+class Folder:
+    """The folder of a case."""
+
+    def __init__(self, path):
+        self.path = path
+        path.mkdir(parents=True)
+
+    def write(self, name, content):
+        (self.path / name).write_bytes(content)
+        return name
+
+    def write_file(self, stem, file):
+        """Writes a code file and its show, and gives what show answers."""
+        self.write(f"{stem}.code", file_bytes(file))
+        if file.refused:
+            line = f"pslink: refused {file.refused} {REASONS[file.refused]} file 0\n"
+            return {"status": 1, "stdout": None, "stderr": line}
+        return {"status": 0, "stdout": self.write(f"{stem}.show", text(show_of(file))), "stderr": ""}
+
+    def digest(self):
+        """The SHA-256 of all files of the case, one after another by name."""
+        content = b"".join(path.read_bytes() for path in sorted(self.path.iterdir()))
+        return hashlib.sha256(content).hexdigest()
+
+
+def written(top, case):
+    """Writes the files of a case, and gives its entry of the index."""
+    folder = Folder(top / "cases" / case.name)
+    stems = ["host", *(f"library-{k}" for k in range(1, len(case.libraries) + 1))]
+    shows = {f"{stem}.code": folder.write_file(stem, file) for stem, file in zip(stems, case.files())}
+    entry = {
+        "name": case.name, "about": case.about, "folder": f"cases/{case.name}",
+        "host": "host.code", "libraries": [f"library-{k}.code" for k in case.order_given()],
+        "status": 1 if case.fault else 0, "stdout": "", "stderr": "", "linked": None, "map": None, "shows": shows,
+        "fault": case.fault and case.fault.described(), "later": case.later and case.later.described(), "link": None,
+    }
+    if case.fault:
+        entry["stderr"] = f"pslink: {case.fault.line()}\n"
+    else:
+        shows["linked.code"] = folder.write_file("linked", linked_file(case))
+        entry |= {"stdout": f"{summary(case)}\n", "linked": "linked.code", "link": described(case),
+                  "map": folder.write("linked.map", text(map_of(case)))}
+    entry["sha256"] = folder.digest()
+    return entry
+
+
+def index_text(entries):
+    """The index, with one line for each field of a case."""
+    cases = ",\n".join(
+        "{\n" + ",\n".join(f' "{field}": {json.dumps(value)}' for field, value in entry.items()) + "\n}" for entry in entries
+    )
+    return f'{{"format": {FORMAT}, "cases": [\n{cases}\n]}}\n'
+
+
+def write(top):
+    """Writes the index and the cases. A folder of cases without an index is not one that this script made."""
+    if (top / "cases").exists():
+        if not (top / "index.json").exists():
+            sys.exit(f"make_vectors.py: {top} has a folder 'cases' and no index.json")
+        shutil.rmtree(top / "cases")
+    entries = [written(top, case) for case in all_cases()]
+    names = [entry["name"] for entry in entries]
+    assert len(names) == len(set(names)), "two cases have one name"
+    (top / "index.json").write_text(index_text(entries))
+
+
+def main():
+    here = pathlib.Path(__file__).resolve().parent
+    folder = pathlib.Path(sys.argv[1]) if len(sys.argv) > 1 else here
+    folder.mkdir(parents=True, exist_ok=True)
+    write(folder)
+
+
+if __name__ == "__main__":
+    main()
