@@ -1,7 +1,7 @@
 //! Which code file a file is.
 use ps_codefile::dictionary_layout::SLOTS;
 use ps_codefile::kinds::{HOSTSEG, LINKED, UNITSEG};
-use ps_codefile::{Dict, Entry, is_nameless};
+use ps_codefile::{Dict, Entry};
 use ps_words::{Order, Reason, WORD_LEN, get};
 use std::fmt::{self, Formatter};
 
@@ -77,8 +77,7 @@ fn by_kinds(dict: &Dict<'_>) -> Option<CodeFile> {
     let mut kinds = Kinds::NONE;
     for slot in 0..SLOTS {
         let entry = dict.entry(slot);
-        let is_used = dict.filled(slot) || entry.kind == UNITSEG;
-        if is_used && (is_named(&entry) || is_nameless(&entry.name)) {
+        if dict.filled(slot) || entry.kind == UNITSEG {
             kinds = kinds.with(entry.kind);
         }
     }
