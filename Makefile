@@ -1,11 +1,12 @@
 # make demo: proves and builds pslink, and links two samples
 # make test: the gate, which proves and tests everything
 # make lib: proves and builds the library for C
-# make install PREFIX=/opt/pslink: installs the program, the library, their manual pages, the documents, the samples, the bindings, the test vectors, completions and rules; without PREFIX in /usr/local; the library in LIBDIR, which is PREFIX/lib
+# make install PREFIX=/opt/pslink: installs the program, the library, their manual pages, the documents, the samples and the bindings; without PREFIX in /usr/local; the library in LIBDIR, which is PREFIX/lib
+# make install-program PREFIX=..: installs the program, its manual pages, the documents, the test vectors, and what shells, make and CMake read, without building the library
 # make uninstall PREFIX=/opt/pslink: removes what that installed
 # make dist: packs the same for people without the kit
-# make bench: times links of large files, of malicious input, and in one process; with OTHER=ARCHIVE also those of another library with the same header
 # make vectors: writes the cases of vectors/README.md
+# make bench: times links of large files, of malicious input, and in one process; with OTHER=ARCHIVE also those of another library with the same header
 PREFIX ?= /usr/local
 LIBDIR ?= $(PREFIX)/lib
 INCLUDE = $(PREFIX)/include
@@ -30,7 +31,7 @@ BESIDE = README.md LICENSE $(wildcard docs/*.md samples/* man/pslink.*) include/
 	$(addprefix bindings/python/,pyproject.toml build_backend.py LICENSE pslink/__init__.py pslink/py.typed) \
 	$(addprefix bindings/rust/,Cargo.toml build.rs LICENSE src/lib.rs src/raw.rs src/reason.rs tests/calls.rs)
 
-.PHONY: demo build lib test bench vectors install install-built install-texts uninstall dist
+.PHONY: demo build lib test bench vectors install install-program install-built install-built-program install-texts uninstall dist
 
 demo:
 	cd $(PROGRAM) && rt run -- link ../../samples/host.code out/demo.code ../../samples/library.code
@@ -54,16 +55,37 @@ vectors:
 
 install: build lib install-built
 
-# what is built already, put in place
-install-built: install-texts
-	install -d $(DESTDIR)$(PREFIX)/bin $(DESTDIR)$(INCLUDE) $(DESTDIR)$(LIBDIR)/pkgconfig $(DESTDIR)$(CONFIG)
-	install -d $(DESTDIR)$(MAN)/man1 $(DESTDIR)$(MAN)/man3 $(DESTDIR)$(MAN)/man5
+install-program: build install-built-program
+
+# what is built already, put in place: the program, its manual pages and the documents
+install-built-program: install-texts
+	install -d $(DESTDIR)$(PREFIX)/bin $(DESTDIR)$(MAN)/man1 $(DESTDIR)$(MAN)/man5
 	install -m 755 $(BINARY) $(DESTDIR)$(PREFIX)/bin/pslink
 	install -m 644 man/pslink.1 $(DESTDIR)$(MAN)/man1/pslink.1
-	install -m 644 man/pslink.3 $(DESTDIR)$(MAN)/man3/pslink.3
 	install -m 644 man/pslink.5 $(DESTDIR)$(MAN)/man5/pslink.5
-	for call in $(CALLS); do echo '.so man3/pslink.3' >$(DESTDIR)$(MAN)/man3/$$call.3 && chmod 644 $(DESTDIR)$(MAN)/man3/$$call.3 || exit 1; done
 	for file in $(BESIDE); do install -D -m 644 $$file $(DESTDIR)$(DOC)/$$file || exit 1; done
+
+# the test vectors, and what shells, make and CMake read
+install-texts:
+	install -d $(DESTDIR)$(INCLUDE) $(DESTDIR)$(CONFIG) $(DESTDIR)$(DOC)/vectors
+	install -d $(DESTDIR)$(BASH_FOLDER) $(DESTDIR)$(ZSH_FOLDER) $(DESTDIR)$(FISH_FOLDER)
+	vectors/make_vectors.py $(DESTDIR)$(DOC)/vectors
+	install -m 644 vectors/README.md $(DESTDIR)$(DOC)/vectors/README.md
+	chmod -R u=rwX,go=rX $(DESTDIR)$(DOC)/vectors
+	install -m 755 vectors/run $(DESTDIR)$(DOC)/vectors/run
+	install -m 644 completions/pslink.bash $(DESTDIR)$(BASH_FOLDER)/pslink
+	install -m 644 completions/_pslink $(DESTDIR)$(ZSH_FOLDER)/_pslink
+	install -m 644 completions/pslink.fish $(DESTDIR)$(FISH_FOLDER)/pslink.fish
+	install -m 644 rules/pslink.mk $(DESTDIR)$(INCLUDE)/pslink.mk
+	install -m 644 rules/pslink-config.cmake $(DESTDIR)$(CONFIG)/pslink-config.cmake
+	sed -e 's|@VERSION@|$(VERSION)|' rules/pslink-config-version.cmake.in >$(DESTDIR)$(CONFIG)/pslink-config-version.cmake
+	chmod 644 $(DESTDIR)$(CONFIG)/pslink-config-version.cmake
+
+# that and the library
+install-built: install-built-program
+	install -d $(DESTDIR)$(INCLUDE) $(DESTDIR)$(LIBDIR)/pkgconfig $(DESTDIR)$(CONFIG) $(DESTDIR)$(MAN)/man3
+	install -m 644 man/pslink.3 $(DESTDIR)$(MAN)/man3/pslink.3
+	for call in $(CALLS); do echo '.so man3/pslink.3' >$(DESTDIR)$(MAN)/man3/$$call.3 && chmod 644 $(DESTDIR)$(MAN)/man3/$$call.3 || exit 1; done
 	install -m 644 include/pslink.h $(DESTDIR)$(INCLUDE)/pslink.h
 	install -m 644 $(LIBRARY)/libpslink.a $(DESTDIR)$(LIBDIR)/libpslink.a
 	install -m 755 $(LIBRARY)/libpslink.so.1 $(DESTDIR)$(LIBDIR)/libpslink.so.1
@@ -73,27 +95,12 @@ install-built: install-texts
 	sed -e 's|@VERSION@|$(VERSION)|' library/pslinkConfigVersion.cmake.in >$(DESTDIR)$(CONFIG)/pslinkConfigVersion.cmake
 	chmod 644 $(DESTDIR)$(LIBDIR)/pkgconfig/pslink.pc $(DESTDIR)$(CONFIG)/*.cmake
 
-# the test vectors, and what shells, make and CMake read
-install-texts:
-	install -d $(DESTDIR)$(INCLUDE) $(DESTDIR)$(CONFIG) $(DESTDIR)$(DOC)/vectors
-	install -d $(DESTDIR)$(BASH_FOLDER) $(DESTDIR)$(ZSH_FOLDER) $(DESTDIR)$(FISH_FOLDER)
-	vectors/make_vectors.py $(DESTDIR)$(DOC)/vectors
-	sed -e 's|(\.\./docs/|(../|g' vectors/README.md >$(DESTDIR)$(DOC)/vectors/README.md
-	chmod -R u=rwX,go=rX $(DESTDIR)$(DOC)/vectors
-	install -m 755 vectors/run $(DESTDIR)$(DOC)/vectors/run
-	install -m 644 completions/pslink.bash $(DESTDIR)$(BASH_FOLDER)/pslink
-	install -m 644 completions/_pslink $(DESTDIR)$(ZSH_FOLDER)/_pslink
-	install -m 644 completions/pslink.fish $(DESTDIR)$(FISH_FOLDER)/pslink.fish
-	install -m 644 rules/pslink.mk $(DESTDIR)$(INCLUDE)/pslink.mk
-	install -m 644 rules/pslink-config.cmake $(DESTDIR)$(CONFIG)/pslink-config.cmake
-	sed -e 's|@VERSION@|$(VERSION)|' rules/pslink-config-version.cmake.in >$(DESTDIR)$(CONFIG)/pslink-config-version.cmake
-
 # what install-built puts in place, and the folders that are pslink's own
 uninstall:
-	rm -f $(DESTDIR)$(PREFIX)/bin/pslink $(addprefix $(DESTDIR)$(INCLUDE)/,pslink.h pslink.mk)
+	rm -f $(DESTDIR)$(PREFIX)/bin/pslink $(DESTDIR)$(INCLUDE)/pslink.h $(DESTDIR)$(INCLUDE)/pslink.mk
+	rm -f $(DESTDIR)$(BASH_FOLDER)/pslink $(DESTDIR)$(ZSH_FOLDER)/_pslink $(DESTDIR)$(FISH_FOLDER)/pslink.fish
 	rm -f $(addprefix $(DESTDIR)$(LIBDIR)/,libpslink.a libpslink.so libpslink.so.1 pkgconfig/pslink.pc)
 	rm -f $(addprefix $(DESTDIR)$(MAN)/,man1/pslink.1 man3/pslink.3 man5/pslink.5 $(CALLS:%=man3/%.3))
-	rm -f $(DESTDIR)$(BASH_FOLDER)/pslink $(DESTDIR)$(ZSH_FOLDER)/_pslink $(DESTDIR)$(FISH_FOLDER)/pslink.fish
 	rm -rf $(DESTDIR)$(DOC) $(DESTDIR)$(CONFIG)
 
 # the program, the library and all that is read beside them, in one file, and what they need

@@ -177,7 +177,16 @@ def damage():
     yield from table([["Fault", "What may have happened"], *([fault, "; ".join(all_)] for fault, all_ in ordered)])
 
 
+def warnings():
+    """What each warning says, what it means and what to do."""
+    for text, meaning in USING.tables("Warnings")[0]:
+        yield ".TP"
+        yield inline(text)
+        yield from lines_of(meaning)
+
+
 PARTS = {
+    "the warnings": warnings,
     "the lines of map": lambda: texts("Map"),
     "the lines of show": lambda: texts("Show"),
     "the faults": faults,

@@ -1,19 +1,21 @@
 //! A refusal in words: the file, the segment, the record and the reference by their names, what the
 //! number says of them, and what to do.
+mod advice;
 pub(crate) mod code;
 pub(crate) mod definitions;
-mod dictionary;
+pub(crate) mod dictionary;
 mod places;
 pub(crate) mod privates;
 pub(crate) mod records;
 mod references;
 
-use crate::inputs::{Inputs, Shown};
+use crate::inputs::Inputs;
 use crate::segments::{Segment, Source, in_slot};
-use crate::sentences::{remedy_of, wrong_of};
 use ps_codefile::Dict;
 use ps_codefile::dictionary_layout::SLOTS;
+use ps_filetype::{CodeFile, FileType};
 use ps_linkinfo::{Body, LinkRecord};
+use ps_shown::ShownName;
 use ps_words::{Fault, Reason};
 use std::alloc::{AllocError, Allocator};
 use std::fmt::Write as _;
@@ -55,6 +57,16 @@ impl<'c, 'a> Case<'c, 'a> {
         None
     }
 
+    /// The first library that has a host program.
+    pub(crate) fn host_among_libraries(&self) -> Option<usize> {
+        for file in 1..=self.inputs.libs.len() {
+            if self.inputs.file_type(file) == FileType::Code(CodeFile::Host) {
+                return Some(file);
+            }
+        }
+        None
+    }
+
     /// Where its segment comes from.
     pub(crate) fn source(&self) -> Option<Source<'a>> {
         self.segment?.source
@@ -77,13 +89,13 @@ pub(crate) fn add_explanation<'c, 'a, A: Allocator>(
     fault: Fault,
 ) -> Result<(), AllocError> {
     let case = Case::new(inputs, list, fault);
-    writeln!(text, "  file {}", inputs.path(fault.file))?;
+    writeln!(text, "  file {}", inputs.shown(fault.file))?;
     add_slot(text, &case)?;
     add_record(text, &case)?;
     references::add_reference(text, &case)?;
     add_details(text, &case)?;
-    let wrong = wrong_of(fault.reason);
-    let remedy = remedy_of(fault.reason);
+    let wrong = advice::wrong_in(&case);
+    let remedy = advice::remedy_in(&case);
     writeln!(text, "  {wrong}\n  {remedy}")
 }
 
@@ -93,12 +105,12 @@ fn add_slot<A: Allocator>(text: &mut String<A>, case: &Case<'_, '_>) -> Result<(
         return Ok(());
     };
     if let Some(segment) = case.segment {
-        let name = Shown(segment.name);
+        let name = ShownName(segment.name);
         return writeln!(text, "  segment {name}, of slot {slot:02} of the host");
     }
     if let Ok(dict) = Dict::read(case.inputs.host) {
         if slot < SLOTS {
-            let name = Shown(dict.entry(slot).name);
+            let name = ShownName(dict.entry(slot).name);
             return writeln!(text, "  segment {name}, of slot {slot:02} of the host");
         }
     }
@@ -125,7 +137,7 @@ fn add_record<A: Allocator>(text: &mut String<A>, case: &Case<'_, '_>) -> Result
     match case.record() {
         Some(record) => {
             let kind = word_of(&record.body);
-            writeln!(text, "  record {rec}: {kind} {}", Shown(record.name))
+            writeln!(text, "  record {rec}: {kind} {}", ShownName(record.name))
         }
         None => records::add_unread(text, case, rec),
     }
@@ -136,9 +148,10 @@ fn add_details<A: Allocator>(text: &mut String<A>, case: &Case<'_, '_>) -> Resul
     match case.fault.reason {
         Reason::ShortFile => dictionary::add_length(text, case),
         Reason::NoOrder | Reason::OrderMismatch => dictionary::add_orders(text, case),
+        Reason::NoHost => dictionary::add_host(text, case),
         Reason::TwoHosts | Reason::DoubledSegment => dictionary::add_earlier(text, case),
         Reason::UnknownKind | Reason::Intrinsic => dictionary::add_kind(text, case),
-        Reason::MissingUnit => dictionary::add_near(text, case),
+        Reason::MissingUnit => dictionary::add_libraries(text, case),
         Reason::NotAUnit { .. } | Reason::DoubledUnit => dictionary::add_entries(text, case),
         Reason::BadLength | Reason::BadAddress | Reason::Truncated => code::add_extent(text, case),
         Reason::BadProcDict | Reason::NativeProcedure => code::add_procedure(text, case),

@@ -1,6 +1,8 @@
 //! The files that are checked, and how they are named in the report.
 use ps_codefile::Dict;
-use ps_words::{Name, Order, Reason};
+use ps_filetype::FileType;
+use ps_shown::ShownPath;
+use ps_words::{Order, Reason};
 use std::fmt::{self, Formatter};
 
 /// The files of a check, each with its path: 0 is the host, k the k-th library.
@@ -22,6 +24,16 @@ impl<'a> Inputs<'a> {
                 None => "",
             },
         }
+    }
+
+    /// The path of a file as it is shown.
+    pub(crate) fn shown(&self, file: usize) -> ShownPath<'a> {
+        ShownPath(self.path(file))
+    }
+
+    /// What a file is.
+    pub(crate) fn file_type(&self, file: usize) -> FileType {
+        FileType::of(self.bytes(file))
     }
 
     /// The bytes of a file; none where there is no such file.
@@ -49,46 +61,22 @@ impl<'a> Inputs<'a> {
     }
 }
 
-/// What the kind words of a file say of its byte order.
-pub(crate) fn order_words(bytes: &[u8]) -> &'static str {
-    match Dict::read(bytes) {
-        Ok(dict) => match dict.order() {
-            Order::Little => "little-endian",
-            Order::Big => "big-endian",
-        },
-        Err(Reason::NoHost) => "no byte order (no segment has a kind)",
-        Err(Reason::NoOrder) => "mixed byte order (no code file)",
-        Err(_) => "no segment dictionary (under 512 bytes)",
-    }
-}
-
-/// A name as the report shows it: without the blanks that fill it up, and a byte that ASCII does
-/// not print as a question mark.
+/// What a file says of its byte order, or what it is where it is no code file.
 #[derive(Clone, Copy)]
-pub(crate) struct Shown(pub(crate) Name);
+pub(crate) struct OrderOf<'a>(pub(crate) &'a [u8]);
 
-fn shown_char(byte: u8) -> char {
-    if byte == b' ' || byte.is_ascii_graphic() {
-        char::from(byte)
-    } else {
-        '?'
-    }
-}
-
-impl fmt::Display for Shown {
+impl fmt::Display for OrderOf<'_> {
     fn fmt<W: fmt::Write>(&self, f: &mut Formatter<W>) -> fmt::Result {
-        let mut blanks = 0usize;
-        for byte in self.0 {
-            if byte == b' ' {
-                blanks = blanks.saturating_add(1);
-            } else {
-                for _ in 0..blanks {
-                    f.write_char(' ')?;
-                }
-                blanks = 0;
-                f.write_char(shown_char(byte))?;
-            }
+        let file_type = FileType::of(self.0);
+        match Dict::read(self.0) {
+            Ok(dict) => match dict.order() {
+                Order::Little => f.write_str("little-endian"),
+                Order::Big => f.write_str("big-endian"),
+            },
+            Err(Reason::NoHost) if file_type.is_code() => f.write_str(
+                "no byte order, since no segment has a kind",
+            ),
+            Err(_) => write!(f, "{file_type}"),
         }
-        Ok(())
     }
 }

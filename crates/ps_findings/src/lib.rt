@@ -1,15 +1,16 @@
-//! What is found in a host and its libraries, in words for a person: the files, the segments with
-//! where each comes from, what a fault means in these files, and what looks wrong and is no fault.
-//! Nothing is linked here.
+//! What is found in a host and its libraries: in words for a person the files, the segments with
+//! where each comes from, and what a fault means in these files; and what looks wrong and is no
+//! fault, as values. Nothing is linked here.
 #![tactic(auto)]
 
 mod explain;
+mod findings;
 mod inputs;
 mod looks;
 mod overview;
 mod segments;
 mod sentences;
 mod warnings;
-mod words;
 
-pub use words::{Words, words_of};
+pub use findings::{Findings, findings_of};
+pub use warnings::{Look, Oddity, Place, Warning};

@@ -1,16 +1,16 @@
 //! The segments of a link as the files have them, also where they are refused.
 ghost use Rattle.std.specs.Prelude.{◌<◌, IfSome};
 
-use crate::inputs::{Inputs, Shown};
-use ps_codefile::dictionary_layout::{FIRST_ADDED, SLOTS};
-use ps_codefile::{Dict, Entry, Role};
+use crate::inputs::Inputs;
+use ps_codefile::dictionary_layout::SLOTS;
+use ps_codefile::kinds::{HOSTSEG, LINKED, UNITSEG};
+use ps_codefile::{Dict, Entry, Role, is_nameless};
 use ps_linkinfo::{Body, LinkInformation, LinkRecord};
-use ps_words::{Name, Order};
+use ps_resolve::{HostReading, Request, Requester, read};
+use ps_shown::ShownName;
+use ps_words::{Name, Order, Reason};
 use std::alloc::{AllocError, Allocator};
 use std::fmt::{self, Formatter};
-
-/// More segments than a link has: those of sixteen slots, and one that has none.
-const MANY: usize = 32;
 
 /// What a segment of a link is.
 #[derive(Clone, Copy)]
@@ -47,7 +47,11 @@ impl fmt::Display for Part {
             Part::Unit => f.write_str("a unit in the host file"),
             Part::Wanted => f.write_str("a unit that the host wants"),
             Part::Added { asker, rec } => {
-                write!(f, "a unit that record {rec} of {} asks for", Shown(asker))
+                write!(
+                    f,
+                    "a unit that record {rec} of {} requests",
+                    ShownName(asker)
+                )
             }
         }
     }
@@ -90,10 +94,24 @@ pub(crate) struct Source<'a> {
     pub(crate) entry: Entry,
     /// The order of the file's words.
     pub(crate) order: Order,
+    /// Its code, or why it can't be read.
+    pub(crate) read_code: Result<&'a [u8], Reason>,
     /// Its code, where it can be read.
     pub(crate) code: Option<&'a [u8]>,
     /// The file from its link information on.
     pub(crate) after: &'a [u8],
+}
+
+/// The entry has a name or a kind, whether it has code or not.
+pub(crate) fn is_named(entry: &Entry) -> bool {
+    entry.kind != LINKED || !is_nameless(&entry.name)
+}
+
+impl Source<'_> {
+    /// A link resolves its references, if it takes it.
+    pub(crate) fn needs_linking(&self) -> bool {
+        matches!(self.entry.kind, HOSTSEG | UNITSEG)
+    }
 }
 
 /// A segment of a link.
@@ -103,8 +121,10 @@ pub(crate) struct Segment<'a> {
     pub(crate) slot: Option<u8>,
     pub(crate) name: Name,
     pub(crate) part: Part,
-    /// Where it comes from; none where no library has it.
+    /// Where it comes from; none where no library has it, or where it was not read.
     pub(crate) source: Option<Source<'a>>,
+    /// No library has it.
+    pub(crate) is_missing: bool,
 }
 
 impl<'a> Segment<'a> {
@@ -120,25 +140,36 @@ impl<'a> Segment<'a> {
 
     /// Its first record of this name and sort, with its index.
     pub(crate) fn find(&self, name: &Name, sort: Sort) -> Option<(usize, LinkRecord<'a>)> {
-        for (rec, record) in self.records().records() {
-            if record.name == *name && sort.has(&record.body) {
-                return Some((rec, record));
-            }
-        }
-        None
+        find_in(&self.records(), name, sort)
     }
+}
+
+/// The first of the records that has this name and sort, with its index.
+pub(crate) fn find_in<'a>(
+    records: &LinkInformation<'a>,
+    name: &Name,
+    sort: Sort,
+) -> Option<(usize, LinkRecord<'a>)> {
+    for (rec, record) in records.records() {
+        if record.name == *name && sort.has(&record.body) {
+            return Some((rec, record));
+        }
+    }
+    None
 }
 
 /// The segment of this entry of a file.
 pub(crate) fn source_of<'a>(dict: &Dict<'a>, file: usize, index: u8) -> Source<'a>
     requires { index < 16 }
 {
+    let read_code = dict.code(index);
     Source {
         file,
         index,
         entry: dict.entry(index),
         order: dict.order(),
-        code: dict.code(index).ok(),
+        read_code,
+        code: read_code.ok(),
         after: dict.after(index),
     }
 }
@@ -155,50 +186,114 @@ pub(crate) fn filled_entry(dict: &Dict<'_>, name: &Name) -> Option<u8>
     None
 }
 
-/// The first library's segment of the name.
-fn library_source<'a>(inputs: &Inputs<'a>, name: &Name) -> Option<Source<'a>> {
-    for file in 1..=inputs.libs.len() {
-        if let Some(dict) = inputs.dict(file) {
-            if let Some(index) = filled_entry(&dict, name) {
-                return Some(source_of(&dict, file, index));
-            }
-        }
-    }
-    None
-}
-
-/// The segment of a slot of the host, where it has or wants one.
-fn host_segment<'a>(inputs: &Inputs<'a>, dict: &Dict<'a>, slot: u8) -> Option<Segment<'a>>
+/// Where the segment of a slot comes from, also where it is refused; none where no library has the
+/// unit, or where it was not read.
+fn source_in<'a>(
+    inputs: &Inputs<'a>,
+    host: &HostReading<'a>,
+    slot: u8,
+    name: &Name,
+) -> Option<Source<'a>>
     requires { slot < 16 }
 {
-    let name = dict.entry(slot).name;
-    let part = match dict.role(slot) {
-        Err(_) | Ok(Role::Empty) => return None,
-        Ok(Role::Plain) => Part::Plain,
-        Ok(Role::Host) => Part::Host,
-        Ok(Role::Unit) => Part::Unit,
-        Ok(Role::Wanted) => Part::Wanted,
+    let (file, index) = match host.segment(slot)? {
+        Ok(segment) => (segment.file(), segment.index()),
+        Err(fault) if fault.reason == Reason::MissingUnit => return None,
+        Err(fault) if fault.file == 0 => (0, slot),
+        Err(fault) => (fault.file, filled_entry(&inputs.dict(fault.file)?, name)?),
     };
-    let source = match part {
-        Part::Wanted => library_source(inputs, &name),
-        _ => Some(source_of(dict, 0, slot)),
-    };
-    Some(Segment {
-        slot: Some(slot),
-        name,
-        part,
-        source,
-    })
+    if SLOTS <= index {
+        return None;
+    }
+    Some(source_of(&inputs.dict(file)?, file, index))
 }
 
-/// A unit of the list has the name.
-fn is_already_known(list: &[Segment<'_>], name: &Name) -> bool {
-    for segment in list {
-        if segment.part.is_unit() && segment.name == *name {
+/// No library has the unit of a slot.
+fn is_missing(host: &HostReading<'_>, slot: u8) -> bool
+    requires { slot < 16 }
+{
+    match host.segment(slot) {
+        Some(Err(fault)) => fault.reason == Reason::MissingUnit,
+        _ => false,
+    }
+}
+
+/// The name of the segment of a slot.
+fn name_in(host: &HostReading<'_>, slot: u8) -> Name {
+    if SLOTS <= slot {
+        return [b' '; 8];
+    }
+    match host.request(slot) {
+        Some(request) => request.name,
+        None => host.entry(slot).name,
+    }
+}
+
+/// A slot of the host has or wants a unit of the name. Where that unit is refused, the reading takes
+/// a record's request for it as one for another unit.
+fn is_of_host(host: &HostReading<'_>, name: &Name) -> bool {
+    for slot in 0..SLOTS {
+        let is_unit = matches!(host.role(slot), Ok(Role::Unit | Role::Wanted));
+        if is_unit && host.entry(slot).name == *name {
             return true;
         }
     }
     false
+}
+
+/// What the unit is that is requested; none where it is one of the host's that is refused.
+fn requested_part(host: &HostReading<'_>, request: Request) -> Option<Part> {
+    match request.requester {
+        Requester::Slot => Some(Part::Wanted),
+        Requester::Record(_) if is_of_host(host, &request.name) => None,
+        Requester::Record(place) => Some(Part::Added {
+            asker: name_in(host, place.slot),
+            rec: place.rec,
+        }),
+    }
+}
+
+/// What the segment of a slot is; none where there is none.
+fn part_in(host: &HostReading<'_>, slot: u8) -> Option<Part>
+    requires { slot < 16 }
+{
+    if let Some(request) = host.request(slot) {
+        return requested_part(host, request);
+    }
+    match host.role(slot) {
+        Ok(Role::Plain) => Some(Part::Plain),
+        Ok(Role::Host) => Some(Part::Host),
+        Ok(Role::Unit) => Some(Part::Unit),
+        _ => None,
+    }
+}
+
+/// A record requests the unit that takes the slot.
+fn is_added(host: &HostReading<'_>, slot: u8) -> bool
+    requires { slot < 16 }
+{
+    match host.request(slot) {
+        Some(request) => matches!(request.requester, Requester::Record(_)),
+        None => false,
+    }
+}
+
+/// The unit that is requested and for which no slot is left.
+fn unit_without_slot<'a>(host: &HostReading<'a>, added: usize) -> Option<Segment<'a>> {
+    let unit = host.requested().get(added)?;
+    if is_of_host(host, &unit.name) {
+        return None;
+    }
+    Some(Segment {
+        slot: None,
+        name: unit.name,
+        part: Part::Added {
+            asker: name_in(host, unit.slot),
+            rec: unit.rec,
+        },
+        source: None,
+        is_missing: false,
+    })
 }
 
 /// A segment of the list has the slot.
@@ -211,79 +306,33 @@ pub(crate) fn in_slot<'a>(list: &[Segment<'a>], slot: u8) -> Option<Segment<'a>>
     None
 }
 
-/// The next empty slot for a unit that is added.
-fn next_slot(dict: &Dict<'_>, list: &[Segment<'_>]) -> Option<u8> {
-    for slot in 0..SLOTS {
-        if FIRST_ADDED <= slot
-            && matches!(dict.role(slot), Ok(Role::Empty))
-            && in_slot(list, slot).is_none()
-        {
-            return Some(slot);
-        }
-    }
-    None
-}
-
-/// Adds the units that the records of this segment of the list request and that it does not have.
-/// The answer is false where there is no such segment, or no slot was left for a unit.
-fn add_asked<'a, A: Allocator + Copy>(
-    inputs: &Inputs<'a>,
-    dict: &Dict<'a>,
-    list: &mut Vec<Segment<'a>, A>,
-    asker: usize,
-) -> Result<bool, AllocError> {
-    let Some(asking) = list.as_slice().get(asker).copied() else {
-        return Ok(false);
-    };
-    for (rec, record) in asking.records().records() {
-        let is_asking = matches!(record.body, Body::UnitRef(_));
-        if is_asking && !is_already_known(list.as_slice(), &record.name) {
-            let slot = next_slot(dict, list.as_slice());
-            list.push(Segment {
-                slot,
-                name: record.name,
-                part: Part::Added {
-                    asker: asking.name,
-                    rec,
-                },
-                source: library_source(inputs, &record.name),
-            })?;
-            if slot.is_none() {
-                return Ok(false);
-            }
-        }
-    }
-    Ok(true)
-}
-
-/// Adds the units that are requested, each after the segment that requests it first.
-fn add_units<'a, A: Allocator + Copy>(
-    inputs: &Inputs<'a>,
-    dict: &Dict<'a>,
-    list: &mut Vec<Segment<'a>, A>,
-) -> Result<(), AllocError> {
-    for asker in 0..MANY {
-        if !add_asked(inputs, dict, list, asker)? {
-            return Ok(());
-        }
-    }
-    Ok(())
-}
-
-/// The segments of a link: those of the host's slots, ascending, then those that are added, each
-/// after the one that requests for it. None where the host cannot be read.
+/// The segments of a link as they were read, by slot, and the first unit for which no slot is left.
+/// None where the host cannot be read.
 pub(crate) fn segments_of<'a, A: Allocator + Copy>(
     alloc: A,
     inputs: &Inputs<'a>,
 ) -> Result<Vec<Segment<'a>, A>, AllocError> {
     let mut list = Vec::new(alloc);
-    if let Ok(dict) = Dict::read(inputs.host) {
-        for slot in 0..SLOTS {
-            if let Some(segment) = host_segment(inputs, &dict, slot) {
-                list.push(segment)?;
-            }
+    let reading = read(inputs.host, inputs.libs);
+    let Ok(host) = reading.host() else {
+        return Ok(list);
+    };
+    let mut added = 0usize;
+    for slot in 0..SLOTS {
+        if let Some(part) = part_in(host, slot) {
+            let name = name_in(host, slot);
+            list.push(Segment {
+                slot: Some(slot),
+                name,
+                part,
+                source: source_in(inputs, host, slot, &name),
+                is_missing: is_missing(host, slot),
+            })?;
         }
-        add_units(inputs, &dict, &mut list)?;
+        added = added.saturating_add(usize::from(is_added(host, slot)));
+    }
+    if let Some(unit) = unit_without_slot(host, added) {
+        list.push(unit)?;
     }
     Ok(list)
 }

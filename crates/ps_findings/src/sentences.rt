@@ -1,5 +1,6 @@
-//! What each fault is, and what to do about it: the one home of these sentences.
-//! `man/make_fault_table.py` makes the table in LINKING.md from the two lists here.
+//! What each fault is, and what to do about it: the one home of these sentences. An `@` in a remedy
+//! stands for the path of the file. `man/make_fault_table.py` makes the table in LINKING.md from the
+//! two lists here.
 use ps_words::Reason;
 
 /// What is wrong where files are refused for this reason.
@@ -23,8 +24,8 @@ pub(crate) fn wrong_of(reason: Reason) -> &'static str {
         Reason::MissingUnit =>
             "No library has the unit that the slot wants or, if a record is reported, that the UNITREF in this record requests.",
         Reason::NotAUnit { .. } =>
-            "The first library that has the name has it for a segment of another kind, which is reported.",
-        Reason::DoubledUnit => "The library has the name twice.",
+            "The first library that has a segment of the name has no unit there: the segment is of the kind that is reported.",
+        Reason::DoubledUnit => "The library has two segments of the name.",
         Reason::Truncated => "The file ends before the code does.",
         Reason::BadProcDict =>
             "The procedure dictionary or a procedure's table is outside the code, or the host program has no outer block.",
@@ -59,58 +60,64 @@ pub(crate) fn wrong_of(reason: Reason) -> &'static str {
 pub(crate) fn remedy_of(reason: Reason) -> &'static str {
     match reason {
         Reason::ShortFile =>
-            "It is truncated, or no code file. Copy it again, as binary, or give the code file.",
+            "@ is truncated, or no code file. Copy it again, as binary, or give the code file.",
         Reason::NoOrder =>
-            "The file is damaged, or no code file: see DAMAGED FILES in pslink(1). Give the code file, or compile it again.",
+            "@ is damaged, or no code file: see DAMAGED FILES in pslink(1). Give the code file, or compile it again.",
         Reason::OrderMismatch =>
-            "Compile it for the machine of the host. If it was, the bytes of one of the two files are swapped: see DAMAGED FILES in pslink(1).",
+            "Compile @ for the machine of the host. If it was, the bytes of one of the two files are swapped: see DAMAGED FILES in pslink(1).",
         Reason::NoHost =>
-            "The file may be a library, or linked already. Give the compiled program as HOST. If it is one, see DAMAGED FILES in pslink(1).",
-        Reason::TwoHosts => "Keep one of them in the file.",
-        Reason::DoubledSegment => "Keep one of them.",
-        Reason::SegmentProcedure => "Make it a procedure of the program or of a unit.",
-        Reason::NativeSegment => "Put what it does into a Pascal unit.",
-        Reason::Intrinsic => "Compile it as a unit of II.0.",
+            "@ may be a library, or linked already. Give the compiled program as HOST. If it is one, see DAMAGED FILES in pslink(1).",
+        Reason::TwoHosts => "Keep one of them in @.",
+        Reason::DoubledSegment => "Keep one of them in @.",
+        Reason::SegmentProcedure =>
+            "Make it a procedure of the program or of a unit, and compile @ again.",
+        Reason::NativeSegment => "Put what it does into a Pascal unit, and compile @ again.",
+        Reason::Intrinsic => "Compile it as a unit of II.0, and then @ again.",
         Reason::UnknownKind =>
-            "The dictionary is damaged, or of another release. Copy the file again, or compile the program again.",
+            "The dictionary of @ is damaged, or of another release. Copy the file again, or compile the program again.",
         Reason::BadLength =>
-            "Split a unit that is too long. Otherwise the dictionary is damaged: copy the file again, or compile it again.",
+            "Split a unit that is too long. Otherwise the dictionary of @ is damaged: copy the file again, or compile it again.",
         Reason::BadAddress =>
-            "The dictionary is damaged. Copy the file again, or compile it again.",
+            "The dictionary of @ is damaged. Copy the file again, or compile it again.",
         Reason::MissingUnit =>
             "Give the library that has it. If you gave it, see DAMAGED FILES in pslink(1).",
         Reason::NotAUnit { .. } =>
-            "Give the unit's library before that one, or remove that segment from it. Kind 0 is a linked file: leave it out.",
-        Reason::DoubledUnit => "Remove one of the two from it.",
-        Reason::Truncated => "Copy it again, as binary.",
+            "Give the unit's library before @, or remove that segment from @. Kind 0 is a linked file: leave it out.",
+        Reason::DoubledUnit => "Remove one of the two from @.",
+        Reason::Truncated => "Copy @ again, as binary.",
         Reason::BadProcDict =>
-            "The code is damaged, as by a conversion of line ends or a lost block: see DAMAGED FILES in pslink(1). Copy the file again, or compile it again.",
+            "The code is damaged, as by a conversion of line ends or a lost block: see DAMAGED FILES in pslink(1). Copy @ again, or compile it again.",
         Reason::NativeProcedure =>
-            "Use the procedure as the compiler left it, in P-code. If it is P-code, the bytes of all files are swapped: see DAMAGED FILES in pslink(1).",
+            "Use the procedure as the compiler left it, in P-code. If it is P-code, the bytes of @ are swapped: see DAMAGED FILES in pslink(1).",
         Reason::RecordsTruncated =>
-            "Copy it again, as binary. If it is whole, it was made without link information: compile it again.",
+            "Copy @ again, as binary. If it is whole, it was made without link information: compile it again.",
         Reason::UnknownRecord =>
-            "The link information is damaged, as by a lost, repeated or exchanged block, or of another release: see DAMAGED FILES in pslink(1). Copy the file again, or compile it again.",
-        Reason::NativeRecord => "Write the external procedure in Pascal, in a unit.",
-        Reason::SeparateRecord => "Put the procedure into a unit.",
-        Reason::BadFormat =>
-            "The link information is damaged. Copy the file again, or compile it again.",
-        Reason::DoubledDefinition => "Rename one of the two. A name has eight characters.",
-        Reason::DoubledPrivate => "Rename one of the two. A name has eight characters.",
-        Reason::NoRoom => "Make one of them smaller.",
-        Reason::DataTooLarge => "Make the variables of the host program or of its units smaller.",
+            "The link information is damaged, as by a lost, repeated or exchanged block, or of another release: see DAMAGED FILES in pslink(1). Copy @ again, or compile it again.",
+        Reason::NativeRecord =>
+            "Write the external procedure in Pascal, in a unit, and compile @ again.",
+        Reason::SeparateRecord => "Put the procedure into a unit, and compile @ again.",
+        Reason::BadFormat => "The link information is damaged. Copy @ again, or compile it again.",
+        Reason::DoubledDefinition =>
+            "Rename one of the two, and compile @ again. A name has eight characters.",
+        Reason::DoubledPrivate =>
+            "Rename one of the two, and compile @ again. A name has eight characters.",
+        Reason::NoRoom => "Make one of them smaller, and compile @ again.",
+        Reason::DataTooLarge =>
+            "Make the variables of @ or of its units smaller, and compile it again.",
         Reason::MissingDefinition =>
-            "Compile the unit and the host program against the same declarations. An older library may come before the one that you meant: see DAMAGED FILES in pslink(1).",
-        Reason::IllKind => "Compile both against the same declarations.",
+            "Compile the unit in @ and the host program against the same declarations. An older library may come before the one that you meant: see DAMAGED FILES in pslink(1).",
+        Reason::IllKind =>
+            "Compile the unit in @ and the host program against the same declarations.",
         Reason::MissingUnitRef =>
             "A unit for which the host has no slot is looked for in the libraries: see 13 and 35.",
         Reason::OutsideCode =>
-            "The link information does not belong to this code. Copy the file again, or compile it again.",
+            "The link information does not belong to this code. Copy @ again, or compile it again.",
         Reason::ReservedPlace =>
-            "The link information does not belong to this code. Copy the file again, or compile it again.",
+            "The link information does not belong to this code. Copy @ again, or compile it again.",
         Reason::Overlap =>
-            "The link information does not belong to this code. Copy the file again, or compile it again.",
-        Reason::OperandTooLarge => "Make the host program's data before this variable smaller.",
+            "The link information does not belong to this code. Copy @ again, or compile it again.",
+        Reason::OperandTooLarge =>
+            "Make the host program's data before this variable smaller, and compile the program and @ again.",
         Reason::NoSlot => "Join two units into one, or take linked segments out of the host.",
     }
 }

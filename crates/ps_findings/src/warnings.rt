@@ -1,11 +1,16 @@
-//! What looks wrong in files and is no fault.
-use crate::inputs::Shown;
-use ps_words::Name;
+//! What looks wrong in files and is no fault: the one home of these sentences.
+//! `man/make_fault_table.py` makes the table of warnings in USING.md from the list here: what each
+//! means and what to do about it is above it.
+use ps_filetype::{FileType, LineEnds};
+use ps_shown::{ShownName, ShownPath};
+use ps_words::{Name, Reason};
 use std::fmt::{self, Formatter};
 
 /// How a name is odd.
+///
+/// Source: this project's profile.
 #[derive(Clone, Copy)]
-pub(crate) enum Oddity {
+pub enum Oddity {
     HighBytes,
     ControlBytes,
     Zeros,
@@ -18,105 +23,332 @@ impl fmt::Display for Oddity {
             Oddity::HighBytes => "has bytes above 127",
             Oddity::ControlBytes => "has control bytes",
             Oddity::Zeros => "is padded with zeros where blanks are expected",
-            Oddity::SmallLetters => "has small letters",
+            Oddity::SmallLetters => "has small letters, and other names have capitals",
         })
     }
 }
 
 /// What looks wrong.
+///
+/// Source: this project's profile.
 #[derive(Clone, Copy)]
-pub(crate) enum Look {
-    /// The file's length is no multiple of 512.
-    OddLength { bytes: usize },
-    /// The file ends with so many bytes 1A.
-    Padded { bytes: usize },
-    /// The dictionary has machine types or versions, as II.1 and Apple files have.
-    OtherRelease { slot: u8 },
-    /// The entry of a library is of kind 5 to 7.
-    IntrinsicKind { slot: u8, kind: u16 },
-    /// A name of the dictionary or of a record is odd.
-    OddName { name: Name, oddity: Oddity },
-    /// The code or the link information has bytes of another entry's.
-    Overlap { other: u8 },
-    /// The code is this byte throughout.
-    OneByte { byte: u8 },
-    /// A block of the code, counted from 0, is this byte throughout.
-    DeadBlock { block: usize, byte: u8 },
-    /// No byte of the code has bit 7 set.
+pub enum Look {
+    /// A library that is no code file gives no unit. Give the code file.
+    NoCodeFile {
+        file_type: FileType,
+    },
+    /// A transfer padded the file. The link does not read these bytes.
+    Padded {
+        bytes: usize,
+    },
+    /// A part of the medium may have been read twice, in place of another part. Copy the file again.
+    Doubled {
+        start: usize,
+        end: usize,
+    },
+    /// A transfer may have converted the file as if it were a text. Copy it again, as binary.
+    Converted {
+        line_ends: LineEnds,
+    },
+    /// The dictionary is damaged, or the compiler wrote no names. Compile it again.
+    NoNames,
+    /// The segment can't be found by its name. Compile it again, or copy the file again.
+    NoName {
+        slot: u8,
+    },
+    /// Names are compared byte for byte, so it may not be found. Correct what made the file.
+    OddName {
+        name: Name,
+        oddity: Oddity,
+    },
+    /// A part of the dictionary was not read, which a link copies. Copy the file again.
+    DeadTail {
+        start: usize,
+        end: usize,
+        byte: u8,
+    },
+    /// The segment was compiled for another machine. Compile it again.
+    MachineType {
+        slot: u8,
+        machine: u8,
+        version: u8,
+    },
+    /// The segment was compiled by another release than the host. Compile both by one release.
+    OtherMachine {
+        slot: u8,
+        machine: u8,
+        version: u8,
+    },
+    /// Apple Pascal's intrinsic units are not linked. Compile it as a regular unit.
+    IntrinsicKind {
+        slot: u8,
+        kind: u16,
+    },
+    /// Its kind or its length was lost, so nothing is linked into the slot. Compile the host again.
+    EmptySlot {
+        slot: u8,
+        name: Name,
+        kind: u16,
+    },
+    /// The length or the address of a unit's code was lost, so a library gives the unit. Compile
+    /// the host again.
+    HalfEntry {
+        slot: u8,
+        address: u16,
+        length: u16,
+    },
+    /// Both segments are taken from the same bytes. One of the entries is damaged: copy it again.
+    Overlap {
+        other: u8,
+    },
+    /// A link that takes the segment is refused. The fault is in the table of LINKING.md.
+    Refused {
+        reason: Reason,
+        rec: Option<usize>,
+    },
+    /// The code was never written, or was lost. Copy the file again.
+    OneByte {
+        byte: u8,
+    },
+    /// A part of the medium was not read, or never written. Copy the file again.
+    DeadRun {
+        start: usize,
+        end: usize,
+        byte: u8,
+    },
+    /// A transfer may have cleared bit 7 of each byte. Copy the file again, as binary.
     NoHighBit,
-    /// The unit has no procedure.
-    NoProcedures,
-    /// The code has another segment number than its entry.
-    OtherNumber { found: u8, slot: u8 },
-    /// A table has another procedure number than the procedure dictionary.
-    OtherProcedure { procedure: usize, found: u8 },
-    /// The link information is one end mark of zeros.
+    /// The end of the code was lost. Copy the file again.
+    ZeroEnd,
+    /// The code may be that of another slot. Compile the host again.
+    OtherNumber {
+        found: u8,
+        slot: u8,
+    },
+    /// The code is damaged, or another file's. Copy the file again, or compile it again.
+    OtherProcedure {
+        procedure: usize,
+        found: u8,
+    },
+    /// The table of the procedure is damaged. Copy the file again, or compile it again.
+    OutsideCode {
+        procedure: usize,
+    },
+    /// The link information was lost, so nothing in the code is linked. Copy the file again.
     ZeroMark,
-    /// The BIG operand at this place has bit 7 clear.
-    ClearMark { place: usize },
-    /// A unit has a definition.
-    UnitDefinition { name: Name },
-    /// A unit requests a name that it alone defines.
-    UsedUnitDefinition { name: Name },
-    /// The end mark of the host is below half its data size.
-    LowMark { next: u16, data: u16 },
+    /// What is read as the end of the link information may be something else. Copy the file again.
+    OddMark,
+    /// A part of the link information was lost, and the records after it are not read. Copy the
+    /// file again.
+    RecordsAfterMark,
+    /// A compiler sets the bit. The code may be damaged. Copy the file again, as binary.
+    ClearMark {
+        place: usize,
+    },
+    /// The operand is outside the variable. Compile the unit again.
+    PastPrivate {
+        place: usize,
+        displacement: u16,
+        words: u16,
+    },
+    /// Only the host program's definitions count. Remove it, or put it into the host program.
+    UnitDefinition {
+        name: Name,
+    },
+    /// Only the host program's definitions count. Define the name there.
+    OwnDefinition {
+        name: Name,
+    },
+    /// The private variables of units may overlap the program's own. Compile the host again.
+    LowMark {
+        next: u16,
+        data: u16,
+    },
+    /// The variable may overlap a private variable of a unit. Compile the host again.
+    HighDefinition {
+        name: Name,
+        value: u16,
+        next: u16,
+    },
+    /// The unit takes a slot that the host has for another one, whose calls go to it. Compile the
+    /// host again.
+    TakenSlot {
+        slot: u8,
+        name: Name,
+    },
+    /// Both may mean one unit. Write its name in one way.
+    OtherSpelling {
+        name: Name,
+    },
 }
 
 impl Look {
-    /// Looks of a file or of an entry.
+    /// Looks of a file.
     fn fmt_file<W: fmt::Write>(&self, f: &mut Formatter<W>) -> fmt::Result {
         match *self {
-            Look::OddLength { bytes } => {
-                write!(
-                    f,
-                    "its length of {bytes} bytes is no multiple of 512: it may have been cut or converted"
-                )
-            }
+            Look::NoCodeFile { file_type } => write!(f, "it is {file_type}"),
             Look::Padded { bytes } => {
                 write!(
                     f,
                     "its last {bytes} bytes are 1A: it was padded, as by CP/M"
                 )
             }
-            Look::OtherRelease { slot } => {
+            Look::Doubled { start, end } => {
                 write!(
                     f,
-                    "slot {slot:02} has a machine type or a version, as files of II.1 and of Apple Pascal have"
+                    "bytes {start} to {end} are there twice, one after the other"
                 )
             }
-            Look::IntrinsicKind { slot, kind } => {
-                write!(f, "entry {slot:02} is of kind {kind}, of Apple Pascal")
+            Look::Converted { line_ends } => {
+                write!(f, "{line_ends}: its line ends may have been converted")
             }
-            Look::OddName { name, oddity } => { write!(f, "the name {} {oddity}", Shown(name)) }
-            Look::Overlap { other } => { write!(f, "it has bytes in common with entry {other:02}") }
+            Look::DeadTail { start, end, byte } => {
+                write!(
+                    f,
+                    "bytes {start} to {end} of its dictionary are all {byte:02X}"
+                )
+            }
+            Look::NoNames => f.write_str("no segment has a name"),
+            Look::MachineType {
+                slot,
+                machine,
+                version,
+            } => {
+                write!(
+                    f,
+                    "slot {slot:02} has machine type {machine}, which is no P-code of its byte order, and version {version}"
+                )
+            }
+            Look::OtherMachine {
+                slot,
+                machine,
+                version,
+            } => {
+                write!(
+                    f,
+                    "slot {slot:02} has machine type {machine} and version {version}, and the host has others"
+                )
+            }
             _ => Ok(()),
+        }
+    }
+
+    /// Looks of an entry.
+    fn fmt_entry<W: fmt::Write>(&self, f: &mut Formatter<W>) -> fmt::Result {
+        match *self {
+            Look::NoName { slot } => write!(f, "the segment in slot {slot:02} has no name"),
+            Look::OddName { name, oddity } => {
+                let name = ShownName(name);
+                write!(f, "the name {name} {oddity}")
+            }
+            Look::IntrinsicKind { slot, kind } => {
+                write!(
+                    f,
+                    "slot {slot:02} is of kind {kind}, an intrinsic unit of Apple Pascal or its data"
+                )
+            }
+            Look::EmptySlot { slot, name, kind } => {
+                let name = ShownName(name);
+                write!(
+                    f,
+                    "slot {slot:02} has the name {name}, kind {kind} and no code: no segment is linked there"
+                )
+            }
+            Look::HalfEntry {
+                slot,
+                address,
+                length,
+            } => {
+                write!(
+                    f,
+                    "slot {slot:02} wants a unit, and has address {address} and length {length}: one of them may be lost"
+                )
+            }
+            Look::Overlap { other } => {
+                write!(f, "its bytes in the file overlap those of slot {other:02}")
+            }
+            Look::Refused { reason, rec: None } => {
+                let (number, name) = (reason.number(), reason.name());
+                write!(f, "a link that takes it is refused with {number} {name}")
+            }
+            Look::Refused {
+                reason,
+                rec: Some(rec),
+            } => {
+                let (number, name) = (reason.number(), reason.name());
+                write!(
+                    f,
+                    "a link that takes it is refused with {number} {name} at record {rec}"
+                )
+            }
+            _ => self.fmt_file(f),
         }
     }
 
     /// Looks of a code.
     fn fmt_code<W: fmt::Write>(&self, f: &mut Formatter<W>) -> fmt::Result {
         match *self {
-            Look::OneByte { byte } => write!(f, "its code is {byte:02X} throughout"),
-            Look::DeadBlock { block, byte } => {
-                write!(f, "block {block} of its code is {byte:02X} throughout")
+            Look::OneByte { byte } => write!(f, "each byte of its code is {byte:02X}"),
+            Look::DeadRun { start, end, byte } => {
+                write!(f, "bytes {start} to {end} of its code are all {byte:02X}")
             }
             Look::NoHighBit => {
                 f.write_str("no byte of its code is above 127: bit 7 may have been stripped")
             }
-            Look::NoProcedures => f.write_str("the unit has no procedure"),
+            Look::ZeroEnd => f.write_str(
+                "its code ends with zeros, so it has no procedure and no segment number",
+            ),
             Look::OtherNumber { found, slot } => {
                 write!(
                     f,
-                    "its code has the segment number {found}, and its entry is {slot}"
+                    "its code has segment number {found}, and its slot is {slot}"
                 )
             }
             Look::OtherProcedure { procedure, found } => {
                 write!(
                     f,
-                    "the table of procedure {procedure} has the number {found}"
+                    "the attribute table of procedure {procedure} says that it is procedure {found}"
                 )
             }
-            _ => self.fmt_file(f),
+            Look::OutsideCode { procedure } => {
+                write!(
+                    f,
+                    "procedure {procedure} is entered or left at a place before the code"
+                )
+            }
+            _ => self.fmt_entry(f),
+        }
+    }
+
+    /// Looks of link information.
+    fn fmt_records<W: fmt::Write>(&self, f: &mut Formatter<W>) -> fmt::Result {
+        match *self {
+            Look::ZeroMark => f.write_str(
+                "its link information is zeros, and its code has operands to be linked",
+            ),
+            Look::OddMark => f.write_str(
+                "its end mark has bytes that are neither blanks nor zeros where no value is",
+            ),
+            Look::RecordsAfterMark => f.write_str(
+                "after its end mark there are records, which are not read",
+            ),
+            Look::ClearMark { place } => {
+                write!(
+                    f,
+                    "bit 7 of the operand at byte {place} is clear, and a compiler sets it"
+                )
+            }
+            Look::PastPrivate {
+                place,
+                displacement,
+                words,
+            } => {
+                write!(
+                    f,
+                    "the operand at byte {place} is word {displacement} of a variable of {words} words"
+                )
+            }
+            _ => self.fmt_code(f),
         }
     }
 }
@@ -124,25 +356,18 @@ impl Look {
 impl fmt::Display for Look {
     fn fmt<W: fmt::Write>(&self, f: &mut Formatter<W>) -> fmt::Result {
         match *self {
-            Look::ZeroMark => f.write_str("its link information is one end mark of zeros"),
-            Look::ClearMark { place } => {
-                write!(
-                    f,
-                    "the operand at byte {place} has bit 7 clear: a compiler sets it"
-                )
-            }
             Look::UnitDefinition { name } => {
+                let name = ShownName(name);
                 write!(
                     f,
-                    "a unit's PUBLDEF of {} is not used: the host program's count",
-                    Shown(name)
+                    "the unit defines {name}, which has no effect: only the host program defines variables"
                 )
             }
-            Look::UsedUnitDefinition { name } => {
+            Look::OwnDefinition { name } => {
+                let name = ShownName(name);
                 write!(
                     f,
-                    "it asks for {}, which it alone defines: the host program has to define it",
-                    Shown(name)
+                    "the unit refers to {name} and defines it itself: only the host program defines variables"
                 )
             }
             Look::LowMark { next, data } => {
@@ -151,7 +376,68 @@ impl fmt::Display for Look {
                     "the end mark {next} is below half the data size of {data} bytes"
                 )
             }
-            _ => self.fmt_code(f),
+            Look::HighDefinition { name, value, next } => {
+                let name = ShownName(name);
+                write!(
+                    f,
+                    "{name} has base offset {value}, and the end mark says that {next} is free"
+                )
+            }
+            Look::TakenSlot { slot, name } => {
+                let name = ShownName(name);
+                write!(
+                    f,
+                    "it is added in slot {slot:02}, which the host has for {name}: calls of {name} go to it"
+                )
+            }
+            Look::OtherSpelling { name } => {
+                let name = ShownName(name);
+                write!(
+                    f,
+                    "another unit of the link is {name}, nearly the same name"
+                )
+            }
+            _ => self.fmt_records(f),
         }
+    }
+}
+
+/// Where something looks wrong: in a file, in a segment of it, or in a record of that.
+///
+/// Source: this project's profile.
+#[derive(Clone, Copy)]
+pub struct Place<'a> {
+    pub path: &'a str,
+    pub segment: Option<Name>,
+    /// The record's index in the link information of the segment, from 0.
+    pub rec: Option<usize>,
+}
+
+impl fmt::Display for Place<'_> {
+    fn fmt<W: fmt::Write>(&self, f: &mut Formatter<W>) -> fmt::Result {
+        write!(f, "{}", ShownPath(self.path))?;
+        if let Some(name) = self.segment {
+            write!(f, ", segment {}", ShownName(name))?;
+        }
+        match self.rec {
+            Some(rec) => write!(f, ", record {rec}"),
+            None => Ok(()),
+        }
+    }
+}
+
+/// What looks wrong in the files and is no fault, and where. Its text is the line of a report.
+///
+/// Source: this project's profile.
+#[derive(Clone, Copy)]
+pub struct Warning<'a> {
+    pub place: Place<'a>,
+    pub look: Look,
+}
+
+impl fmt::Display for Warning<'_> {
+    fn fmt<W: fmt::Write>(&self, f: &mut Formatter<W>) -> fmt::Result {
+        let (place, look) = (self.place, self.look);
+        write!(f, "warning: {place}: {look}")
     }
 }

@@ -18,7 +18,7 @@ IsTooLong remaining = IfSome remaining (λ left. 67108864 < length left)
 
 -- what is reported of a file at this path that was not read whole
 abbrev pub read_error : Bor (List ℕ) → FileFault → CommandError
-read_error path fault.Device = error.Read path
+read_error path (fault.Device cause) = error.Read path cause
 read_error path fault.TooLong = error.TooLong path
 read_error path fault.Memory = error.Memory
 
@@ -28,7 +28,8 @@ abbrev pub IsReadError : {F : Type 0} → (List ℕ → F → Type 0) → (F →
 IsReadError {F} opened remaining path (error.Refused at) = ⊥
 IsReadError {F} opened remaining path (error.Usage text) = ⊥
 IsReadError {F} opened remaining path error.NotText = ⊥
-IsReadError {F} opened remaining path (error.Read at) = at ≡ path
+IsReadError {F} opened remaining path (error.Read at cause) = at ≡ path
+IsReadError {F} opened remaining path (error.Unreadable at cause) = ⊥
 IsReadError {F} opened remaining path (error.TooLong at) = (at ≡ path) × (file : F) × opened path.now file × IsTooLong (remaining file)
 IsReadError {F} opened remaining path (error.Write at) = ⊥
 IsReadError {F} opened remaining path error.StandardOutput = ⊥

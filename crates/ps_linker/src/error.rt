@@ -9,10 +9,46 @@ ghost use Rattle.ps_linker.specs.Statuses.{command_error_of, status_of};
 
 use clap::error::ErrorKind;
 use ps_linkfile::{LinkError, WriteFault};
+use ps_shown::ShownPath;
 use ps_words::Fault;
 use std::alloc::{AllocError, AllocFailed};
-use std::io::Write;
+use std::fmt::{self, Formatter};
+use std::io::{self, Write};
 use thiserror::Error;
+
+/// Why a file cannot be read, as far as the system says.
+/// Source: this project's profile.
+#[derive(Clone, Copy, Debug, PartialEq, Eq)]
+pub enum Cause {
+    Missing,
+    Folder,
+    Forbidden,
+    Other,
+}
+
+impl Cause {
+    /// The cause that is of this kind of the system's errors.
+    /// Source: this project's profile.
+    pub fn of(kind: io::ErrorKind) -> Cause {
+        match kind {
+            io::ErrorKind::NotFound | io::ErrorKind::NotADirectory => Cause::Missing,
+            io::ErrorKind::IsADirectory => Cause::Folder,
+            io::ErrorKind::PermissionDenied => Cause::Forbidden,
+            _ => Cause::Other,
+        }
+    }
+}
+
+impl fmt::Display for Cause {
+    fn fmt<W: fmt::Write>(&self, f: &mut Formatter<W>) -> fmt::Result {
+        f.write_str(match self {
+            Cause::Missing => "no such file",
+            Cause::Folder => "a folder",
+            Cause::Forbidden => "no permission",
+            Cause::Other => "the system gives another reason",
+        })
+    }
+}
 
 /// Each text that the program writes to standard error, with what the text names.
 /// Source: this project's profile.
@@ -27,11 +63,14 @@ pub enum CommandError<'a> {
     /// An argument of the command line is not UTF-8.
     #[error("pslink: the arguments of a command are UTF-8")]
     NotText,
-    #[error("pslink: cannot read {path}")]
-    Read { path: &'a str },
-    #[error("pslink: {path} is longer than 67108864 bytes")]
+    #[error("pslink: cannot read {}", ShownPath(.path))]
+    Read { path: &'a str, cause: Cause },
+    /// The same where the cause is named too.
+    #[error("pslink: cannot read {} ({cause})", ShownPath(.path))]
+    Unreadable { path: &'a str, cause: Cause },
+    #[error("pslink: {} is longer than 67108864 bytes", ShownPath(.path))]
     TooLong { path: &'a str },
-    #[error("pslink: cannot write {path}")]
+    #[error("pslink: cannot write {}", ShownPath(.path))]
     Write { path: &'a str },
     #[error("pslink: cannot write standard output")]
     StandardOutput,
@@ -88,7 +127,18 @@ impl From<LinkError> for CommandError<'_> {
     }
 }
 
-impl CommandError<'_> {
+impl<'a> CommandError<'a> {
+    /// The same with the cause for which a file cannot be read, where that is why.
+    /// Source: this project's profile.
+    pub fn with_cause(self) -> CommandError<'a>
+        ensures { status_of result ≡ status_of self }
+    {
+        match self {
+            CommandError::Read { path, cause } => CommandError::Unreadable { path, cause },
+            error => error,
+        }
+    }
+
     /// What the process ends with.
     /// Source: this project's profile.
     pub fn status(&self) -> u8
@@ -98,6 +148,7 @@ impl CommandError<'_> {
             CommandError::Refused(_) => 1,
             CommandError::Usage(_) | CommandError::NotText => 2,
             CommandError::Read { .. }
+            | CommandError::Unreadable { .. }
             | CommandError::TooLong { .. }
             | CommandError::Write { .. }
             | CommandError::StandardOutput => 3,

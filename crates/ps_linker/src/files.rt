@@ -3,9 +3,9 @@ ghost use Rattle.std.specs.Prelude.{◌≡◌, ◌≢◌, ◌≤◌, ℕ, List, 
 ghost use Rattle.std.specs.List.{AllZip};
 ghost use Rattle.ps_linker.specs.Reading.{IsReadError, IsTooLong, Reads, read_error};
 ghost use Rattle.ps_linker.specs.Statuses.{status_of};
-ghost use Rattle.ps_linker.specs.declared.files.FileFault.TheVariants.{Device, Memory};
+ghost use Rattle.ps_linker.specs.declared.files.FileFault.TheVariants.{Memory};
 
-use crate::error::CommandError;
+use crate::error::{Cause, CommandError};
 use crate::request::Inputs;
 use std::alloc::{AllocError, AllocFailed, Allocator};
 use std::fs::OpenFile;
@@ -22,17 +22,9 @@ const CHUNK: usize = 65_536;
 /// Why a file was not read whole.
 #[derive(Clone, Copy, Debug, PartialEq, Eq)]
 enum FileFault {
-    Device,
+    Device(Cause),
     TooLong,
     Memory,
-}
-
-impl From<io::Error> for FileFault {
-    ghost from_gives = { λ _ fault. fault ≡ Device };
-
-    fn from(_error: io::Error) -> FileFault {
-        FileFault::Device
-    }
 }
 
 impl<T: Drop> From<AllocFailed<T>> for FileFault {
@@ -57,7 +49,7 @@ impl FileFault {
         ensures { result ≡ read_error path.entry self }
     {
         match self {
-            FileFault::Device => CommandError::Read { path },
+            FileFault::Device(cause) => CommandError::Read { path, cause },
             FileFault::TooLong => CommandError::TooLong { path },
             FileFault::Memory => CommandError::Memory,
         }
@@ -164,7 +156,7 @@ pub fn read<'a, R: CodeFiles, A: Allocator + Copy>(
 {
     let mut file = match rt.open(path) {
         Ok(file) => file,
-        Err(error) => return Err(FileFault::from(error).at(path)),
+        Err(error) => return Err(FileFault::Device(Cause::of(error.kind())).at(path)),
     };
     let hint = R::length_hint(&file);
     match read_to_end(&mut file, alloc, hint) {
@@ -190,8 +182,9 @@ fn read_to_end<F: Read, A: Allocator + Copy>(
     let mut all = Vec::with_capacity(alloc, hint.min(LONGEST))?;
     let mut chunk = [0u8; CHUNK];
     'read: for _ in 0..=LONGEST {
-        let Ok(n) = file.read(&mut chunk) else {
-            return Err(FileFault::Device);
+        let n = match file.read(&mut chunk) {
+            Ok(n) => n,
+            Err(error) => return Err(FileFault::Device(Cause::of(error.kind()))),
         };
         if n == 0 {
             return Ok(all);
@@ -201,5 +194,5 @@ fn read_to_end<F: Read, A: Allocator + Copy>(
         }
         all.extend_from_slice(&chunk[..n])?;
     }
-    Err(FileFault::Device)
+    Err(FileFault::Device(Cause::Other))
 }

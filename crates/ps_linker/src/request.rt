@@ -81,7 +81,7 @@ are linked, and if not what is wrong and what to do. A line that begins with
 'warning: ' reports what looks wrong and is no fault. No file is written.
 
 Exit status:
-  0  the files are linked
+  0  the files link, and there may be warnings
   1  the files are refused; with --strict, or there is a warning
   2  wrong usage
   3  a file could not be read, or standard output failed

@@ -238,7 +238,10 @@ fn check<'a, R: CodeFiles, A: Allocator + Copy, O: Write>(
     ensures err { IfErr result (λ e. status_of e ≢ 3 → out.new ≡ out.old) }
     ensures usage { IfErr result (λ e. status_of e ≢ 2) }
 {
-    let InputBytes { host, libraries } = files::read_inputs(rt, alloc, &inputs)?;
+    let InputBytes { host, libraries } = match files::read_inputs(rt, alloc, &inputs) {
+        Ok(contents) => contents,
+        Err(error) => return Err(error.with_cause()),
+    };
     let views = views(alloc, libraries.as_slice())?;
     let paths = inputs.libraries.as_slice();
     let report = ps_report::check(alloc, inputs.host, paths, host.as_slice(), views.as_slice())?;

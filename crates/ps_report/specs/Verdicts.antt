@@ -39,9 +39,9 @@ abbrev pub check_status : Bool → ℕ → Verdict → ℕ
 check_status strict warnings (Links s) = if strict && not (warnings == 0) then 1 else 0
 check_status strict warnings (Refused f) = 1
 
--- the text has the line of the verdict
+-- the text has the line of the verdict, which begins a line of it
 abbrev pub Tells : List ℕ → Verdict → Type 0
-Tells text verdict = (before : List ℕ) × (after : List ℕ) × (text ≡ before ++ (verdict_line verdict ++ after))
+Tells text verdict = (before : List ℕ) × (after : List ℕ) × (text ≡ before ++ (codes "\n" ++ (verdict_line verdict ++ after)))
 
 -- a text and a status that a check of these files may give
 abbrev pub IsReported : List ℕ → List (List ℕ) → Bool → ℕ → List ℕ → Type 0

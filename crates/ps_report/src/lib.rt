@@ -5,5 +5,6 @@
 mod report;
 mod verdict;
 
+pub use ps_findings::{Look, Oddity, Place, Warning};
 pub use report::{Report, check};
 pub use verdict::Verdict;

@@ -1,11 +1,11 @@
 //! The report of a check.
-ghost use Rattle.std.specs.Prelude.{◌≡◌, ◌↔◌, ◌++◌, IfOk, false, string_bytes};
+ghost use Rattle.std.specs.Prelude.{◌≡◌, ◌↔◌, ◌⊎◌, ◌<◌, ◌++◌, IfOk, codes, false, true, string_bytes, vec_len};
 ghost use Rattle.ps_resolve.specs.Sources.{contents};
 ghost use Rattle.ps_resolve.specs.Standing.{NoneStands};
 ghost use Rattle.ps_report.specs.Verdicts.{IsRefused, IsVerdict, Tells, check_status, verdict_line};
 
 use crate::verdict::{Verdict, verdict_of};
-use ps_findings::words_of;
+use ps_findings::{Findings, Warning, findings_of};
 use std::alloc::{AllocError, Allocator};
 use std::fmt::Write as _;
 
@@ -13,26 +13,26 @@ use std::fmt::Write as _;
 ///
 /// Source: this project's profile.
 #[derive(Drop)]
-pub struct Report<A: Allocator> {
+pub struct Report<'a, A: Allocator> {
     /// Whether the files are linked.
     pub verdict: Verdict,
-    /// How many things look wrong and are no fault.
-    pub warnings: usize,
+    /// What looks wrong and is no fault.
+    pub warnings: Vec<Warning<'a>, A>,
     /// The whole text, for a person: the files, the segments, the line of the verdict, what it
     /// means, and the warnings.
     pub text: String<A>,
 }
 
-impl<A: Allocator> Report<A> {
+impl<A: Allocator> Report<'_, A> {
     /// What a process that prints the report ends with: 0 where the files are linked, 1 where they
     /// are refused, and, if it is to be `strict`, 1 on a warning too.
     /// Source: this project's profile.
     pub fn status(&self, strict: bool) -> u8
-        ensures { result ≡ check_status strict self.now.warnings self.now.verdict }
+        ensures { result ≡ check_status strict (vec_len self.now.warnings) self.now.verdict }
     {
         match self.verdict {
             Verdict::Refused(_) => 1,
-            Verdict::Links(_) => u8::from(strict && self.warnings != 0),
+            Verdict::Links(_) => u8::from(strict && !self.warnings.is_empty()),
         }
     }
 }
@@ -51,25 +51,47 @@ pub fn check<'a, A: Allocator + Copy>(
     paths: &'a [&'a str],
     host: &'a [u8],
     libs: &'a [&'a [u8]],
-) -> Result<Report<A>, AllocError>
+) -> Result<Report<'a, A>, AllocError>
     ensures verdict { IfOk result (λ r. IsVerdict host.now (contents libs.now) r.verdict) }
-    ensures links { IfOk result (λ r. (check_status false r.warnings r.verdict ≡ 0)
+    ensures links { IfOk result (λ r. (check_status false (vec_len r.warnings) r.verdict ≡ 0)
         ↔ NoneStands host.now (contents libs.now)) }
-    ensures refused { IfOk result (λ r. (check_status false r.warnings r.verdict ≡ 1)
+    ensures refused { IfOk result (λ r. (check_status false (vec_len r.warnings) r.verdict ≡ 1)
         ↔ IsRefused host.now (contents libs.now)) }
+    ensures warned { IfOk result (λ r. (check_status true (vec_len r.warnings) r.verdict ≡ 1)
+        ↔ ((0 < vec_len r.warnings) ⊎ IsRefused host.now (contents libs.now))) }
+
+    // The line of the verdict begins a line of the text.
     ensures line { IfOk result (λ r. Tells (string_bytes r.text) r.verdict) }
 {
     let verdict = verdict_of(alloc, host, libs)?;
-    let words = words_of(alloc, host_path, paths, host, libs, verdict.fault())?;
-    let text = with_verdict_line(words.before, verdict, words.after.as_str())?;
+    let fault = verdict.fault();
+    let findings = findings_of(alloc, host_path, paths, host, libs, fault)?;
+    let Findings {
+        overview,
+        explanation,
+        warnings,
+    } = findings;
+    let after = with_warnings(explanation, warnings.as_slice())?;
+    let text = with_verdict_line(overview, verdict, after.as_str())?;
     Ok(Report {
         verdict,
-        warnings: words.warnings,
+        warnings,
         text,
     })
 }
 
-/// The line of the verdict between what is before it and after it.
+/// The line of each warning after a text.
+fn with_warnings<A: Allocator>(
+    mut text: String<A>,
+    warnings: &[Warning<'_>],
+) -> Result<String<A>, AllocError> {
+    for warning in warnings {
+        writeln!(text, "{warning}")?;
+    }
+    Ok(text)
+}
+
+/// The line of the verdict between what is before it, whose last line has no end, and after it.
 fn with_verdict_line<A: Allocator>(
     mut text: String<A>,
     verdict: Verdict,
@@ -77,7 +99,7 @@ fn with_verdict_line<A: Allocator>(
 ) -> Result<String<A>, AllocError>
     ensures { IfOk result (λ text. Tells (string_bytes text) verdict) }
 {
-    write!(text, "{verdict}")?;
+    write!(text, "\n{verdict}")?;
     text.push_str(after)?;
     Ok(text)
 }

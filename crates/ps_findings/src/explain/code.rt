@@ -1,5 +1,6 @@
 //! What faults of a code say.
 use super::Case;
+use crate::looks::codes::dead_look;
 use crate::segments::{Part, Source};
 use ps_codefile::code_layout::{NUMBERS, TABLE_NUMBERS, TABLE_WORDS};
 use ps_words::{BLOCK_SIZE, Order, WORD_LEN, get};
@@ -131,7 +132,7 @@ fn procedure_fault(source: &Source<'_>, is_host: bool) -> Option<Procedure> {
     Some(Procedure::Native { procedure })
 }
 
-/// Adds which procedure it is, and which of the causes.
+/// Adds which procedure it is, which of the causes, and what of the code was not read.
 pub(super) fn add_procedure<A: Allocator>(
     text: &mut String<A>,
     case: &Case<'_, '_>,
@@ -142,8 +143,11 @@ pub(super) fn add_procedure<A: Allocator>(
     let Some(source) = segment.source else {
         return Ok(());
     };
-    match procedure_fault(&source, matches!(segment.part, Part::Host)) {
-        Some(fault) => writeln!(text, "  {fault}"),
+    if let Some(fault) = procedure_fault(&source, matches!(segment.part, Part::Host)) {
+        writeln!(text, "  {fault}")?;
+    }
+    match dead_look(case.code()) {
+        Some(look) => writeln!(text, "  {look}"),
         None => Ok(()),
     }
 }

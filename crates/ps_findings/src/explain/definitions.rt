@@ -1,8 +1,8 @@
 //! What is said of a name that the host program does not define as it is requested.
 use super::dictionary::plain;
 use super::{Case, word_of};
-use crate::inputs::Shown;
 use crate::segments::{Part, Segment, Sort};
+use ps_shown::ShownName;
 use ps_words::Name;
 use std::alloc::{AllocError, Allocator};
 use std::fmt::Write as _;
@@ -41,7 +41,7 @@ fn add_host_names<A: Allocator>(
     for (rec, record) in host.records().records() {
         if Sort::Definition.has(&record.body) && plain(&record.name) == plain(name) {
             let kind = word_of(&record.body);
-            let found = Shown(record.name);
+            let found = ShownName(record.name);
             writeln!(text, "  the host has {kind} {found}, record {rec}")?;
         }
     }

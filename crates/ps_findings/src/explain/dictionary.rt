@@ -1,32 +1,57 @@
 //! What faults of dictionaries say.
 use super::Case;
-use crate::inputs::{Shown, order_words};
+use crate::inputs::OrderOf;
 use ps_codefile::dictionary_layout::SLOTS;
+use ps_codefile::kinds::{
+    FIRST_INTRINSIC, HOSTSEG, LAST_INTRINSIC, LINKED, SEGPROC, SEPRTSEG, UNITSEG,
+};
 use ps_codefile::{Dict, Role};
+use ps_filetype::{CodeFile, FileType};
+use ps_shown::ShownName;
 use ps_words::{Name, Reason};
 use std::alloc::{AllocError, Allocator};
 use std::fmt::Write as _;
 
-/// Adds the length of the file.
+/// Of so many libraries a report says what units they have.
+const MOST_LIBRARIES: usize = 16;
+
+/// Adds the length of the file, and what it is.
 pub(super) fn add_length<A: Allocator>(
     text: &mut String<A>,
     case: &Case<'_, '_>,
 ) -> Result<(), AllocError> {
     let bytes = case.inputs.bytes(case.fault.file);
-    writeln!(text, "  it has {} bytes", bytes.len())
+    let file_type = FileType::of(bytes);
+    writeln!(text, "  it has {} bytes, and is {file_type}", bytes.len())
 }
 
-/// Adds the byte orders of the host and of the file.
+/// Adds the byte order of the file, or what it is, and the byte order of the host.
 pub(super) fn add_orders<A: Allocator>(
     text: &mut String<A>,
     case: &Case<'_, '_>,
 ) -> Result<(), AllocError> {
-    let order = order_words(case.inputs.bytes(case.fault.file));
+    let order = OrderOf(case.inputs.bytes(case.fault.file));
     if case.fault.file == 0 {
-        return writeln!(text, "  it has: {order}");
+        return writeln!(text, "  it is {order}");
     }
-    let host = order_words(case.inputs.host);
-    writeln!(text, "  it has: {order}; the host has: {host}")
+    let host = OrderOf(case.inputs.host);
+    writeln!(text, "  it is {order}; the host is {host}")
+}
+
+/// Adds what the host is, and the first library that has a host program.
+pub(super) fn add_host<A: Allocator>(
+    text: &mut String<A>,
+    case: &Case<'_, '_>,
+) -> Result<(), AllocError> {
+    match case.inputs.file_type(0) {
+        FileType::Code(CodeFile::Linked) => text.push_str("  all of its segments are linked\n"),
+        FileType::Code(_) => text.push_str("  it has units, and no host program\n"),
+        file_type => writeln!(text, "  it is {file_type}"),
+    }?;
+    match case.host_among_libraries() {
+        Some(file) => writeln!(text, "  {} has a host program", case.inputs.shown(file)),
+        None => Ok(()),
+    }
 }
 
 /// Adds the earlier slot that has a host program, or a unit of the name.
@@ -39,7 +64,7 @@ pub(super) fn add_earlier<A: Allocator>(
     };
     for earlier in 0..SLOTS {
         if earlier < slot && is_like(&dict, case, earlier, slot) {
-            let name = Shown(dict.entry(earlier).name);
+            let name = ShownName(dict.entry(earlier).name);
             return writeln!(text, "  the earlier one is slot {earlier:02}, {name}");
         }
     }
@@ -88,7 +113,7 @@ pub(crate) fn plain(name: &Name) -> Name {
 }
 
 /// The names differ, and only in small letters, high bits, or zeros where blanks are expected.
-fn is_near(a: &Name, b: &Name) -> bool {
+pub(crate) fn is_near(a: &Name, b: &Name) -> bool {
     a != b && plain(a) == plain(b)
 }
 
@@ -101,41 +126,62 @@ fn missing(case: &Case<'_, '_>) -> Option<Name> {
     }
 }
 
-/// Adds each library's name that differs from the wanted one in its letters or its padding alone.
-pub(super) fn add_near<A: Allocator>(
+/// Adds what each library has in place of the unit that is missing.
+pub(super) fn add_libraries<A: Allocator>(
     text: &mut String<A>,
     case: &Case<'_, '_>,
 ) -> Result<(), AllocError> {
     let Some(name) = missing(case) else {
         return Ok(());
     };
-    for file in 1..=case.inputs.libs.len() {
-        add_near_in(text, case, file, &name)?;
+    let count = case.inputs.libs.len();
+    if count == 0 {
+        return text.push_str("  no library is given\n");
     }
-    Ok(())
+    for file in 1..=count.min(MOST_LIBRARIES) {
+        add_units(text, case, file, &name)?;
+    }
+    match count.checked_sub(MOST_LIBRARIES) {
+        None | Some(0) => Ok(()),
+        Some(more) => writeln!(text, "  there are {more} more libraries"),
+    }
 }
 
-fn add_near_in<A: Allocator>(
+/// Adds the units of a library, or what it is where it is no code file.
+fn add_units<A: Allocator>(
     text: &mut String<A>,
     case: &Case<'_, '_>,
     file: usize,
-    name: &Name,
+    wanted: &Name,
 ) -> Result<(), AllocError> {
-    let Some(dict) = case.inputs.dict(file) else {
-        return Ok(());
+    let path = case.inputs.shown(file);
+    let file_type = case.inputs.file_type(file);
+    let dict = match case.inputs.dict(file) {
+        Some(dict) if file_type.is_code() => dict,
+        _ => return writeln!(text, "  {path} is {file_type}"),
     };
+    let mut before = " has ";
+    write!(text, "  {path}")?;
     for slot in 0..SLOTS {
-        let found = dict.entry(slot).name;
-        if dict.filled(slot) && is_near(&found, name) {
-            writeln!(
-                text,
-                "  {} entry {slot:02} has {}, which differs in small letters, high bits or padding alone",
-                case.inputs.path(file),
-                Shown(found)
-            )?;
+        let entry = dict.entry(slot);
+        if dict.filled(slot) && entry.kind == UNITSEG {
+            let name = ShownName(entry.name);
+            write!(text, "{before}{name}")?;
+            if is_near(&entry.name, wanted) {
+                let wanted = ShownName(*wanted);
+                write!(
+                    text,
+                    " (which differs from {wanted} in small letters, high bits or padding alone)"
+                )?;
+            }
+            before = ", ";
         }
     }
-    Ok(())
+    text.push_str(if before == ", " {
+        "\n"
+    } else {
+        " has no unit\n"
+    })
 }
 
 /// Adds the entries of the unit's name in the library that was chosen.
@@ -149,12 +195,26 @@ pub(super) fn add_entries<A: Allocator>(
     for slot in 0..SLOTS {
         let entry = dict.entry(slot);
         if dict.filled(slot) && entry.name == segment.name {
+            let kind = entry.kind;
+            let word = kind_word(kind);
             writeln!(
                 text,
-                "  entry {slot:02} has the name, of kind {}",
-                entry.kind
+                "  entry {slot:02} has the name, of kind {kind}: {word}"
             )?;
         }
     }
     Ok(())
+}
+
+/// What a segment of this kind is.
+fn kind_word(kind: u16) -> &'static str {
+    match kind {
+        LINKED => "a linked segment",
+        HOSTSEG => "a host program",
+        SEGPROC => "a segment procedure",
+        UNITSEG => "a unit",
+        SEPRTSEG => "a separate segment",
+        FIRST_INTRINSIC..=LAST_INTRINSIC => "an intrinsic unit of Apple Pascal, or its data",
+        _ => "no kind of II.0",
+    }
 }

@@ -2,9 +2,9 @@
 use super::Case;
 use super::code::{Table, table_of};
 use super::references::{Operand, refs_of, told_operand};
-use crate::inputs::Shown;
 use ps_codefile::code_layout::{TABLE_NUMBERS, TABLE_WORDS};
 use ps_linkinfo::LinkRecord;
+use ps_shown::ShownName;
 use ps_words::Fault;
 use std::alloc::{AllocError, Allocator};
 use std::fmt::Write as _;
@@ -76,7 +76,7 @@ pub(super) fn add_covered<A: Allocator>(
     };
     for (rec, record) in segment.records().records() {
         if let Some(reference) = sharing(case.fault, rec, &record, operand) {
-            let name = Shown(record.name);
+            let name = ShownName(record.name);
             return writeln!(
                 text,
                 "  the earlier one is reference {reference} of record {rec}, {name}"

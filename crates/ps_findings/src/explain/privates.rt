@@ -3,9 +3,9 @@ use super::Case;
 use super::code::{Table, table_of};
 use super::definitions::host_of;
 use crate::segments::Segment;
-use ps_codefile::code_layout::DATA_SIZE_BEFORE_TABLE;
+use ps_codefile::code_layout::{DATA_SIZE_BEFORE_TABLE, OUTER_BLOCK};
 use ps_linkinfo::Body;
-use ps_words::get;
+use ps_words::{Order, WORD_LEN, get};
 use std::alloc::{AllocError, Allocator};
 use std::fmt::Write as _;
 
@@ -40,20 +40,24 @@ fn words_of(case: &Case<'_, '_>) -> usize {
     words
 }
 
-/// The data size of the host program's outer block, in bytes.
-pub(crate) fn data_size(host: &Segment<'_>) -> Option<u16> {
-    let source = host.source?;
-    let code = source.code?;
-    match table_of(source.order, code, 1) {
+/// The data size of the outer block of a host program, in bytes.
+pub(crate) fn data_size(order: Order, code: &[u8]) -> Option<u16> {
+    match table_of(order, code, OUTER_BLOCK) {
         Table::At(place) => {
             let at = place.checked_sub(DATA_SIZE_BEFORE_TABLE)?;
             match code.get(at..) {
-                Some(rest) if 2 <= rest.len() => Some(get(source.order, rest, 0)),
+                Some(rest) if WORD_LEN <= rest.len() => Some(get(order, rest, 0)),
                 _ => None,
             }
         }
         _ => None,
     }
+}
+
+/// That of the host program.
+fn own_size(host: &Segment<'_>) -> Option<u16> {
+    let source = host.source?;
+    data_size(source.order, source.code?)
 }
 
 /// The base offset of the private variable of the record that the fault is reported with.
@@ -88,7 +92,7 @@ pub(super) fn add_words<A: Allocator>(
             writeln!(text, "  it takes {own} words from base offset {first} on")
         }
         None => {
-            let size = data_size(&host).unwrap_or(0);
+            let size = own_size(&host).unwrap_or(0);
             let bytes = words_of(case).saturating_mul(2);
             writeln!(
                 text,

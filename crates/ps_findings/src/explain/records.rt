@@ -1,9 +1,9 @@
 //! What faults of link information say.
 use super::{Case, word_of};
-use crate::inputs::Shown;
 use crate::segments::Sort;
 use ps_linkinfo::LinkInformation;
 use ps_linkinfo::record_layout::{FORMAT_PLACE, RECORD_LEN, TYPE_PLACE};
+use ps_shown::ShownName;
 use ps_words::{Order, Reason, get};
 use std::alloc::{AllocError, Allocator};
 use std::fmt::Write as _;
@@ -65,6 +65,6 @@ pub(super) fn add_earlier<A: Allocator>(
         return Ok(());
     };
     let kind = word_of(&record.body);
-    let name = Shown(record.name);
+    let name = ShownName(record.name);
     writeln!(text, "  the earlier one is record {rec}: {kind} {name}")
 }

@@ -1,101 +1,129 @@
 //! Codes that look wrong.
-use crate::explain::code::{Table, table_of};
-use crate::segments::{Segment, Source};
-use crate::warnings::Look;
-use crate::words::Words;
-use ps_words::{BLOCK_SIZE, Order};
+use super::{Sight, Warnings};
+use crate::segments::Source;
+use crate::warnings::{Look, Place};
+use ps_codefile::Procs;
+use ps_codefile::kinds::HOSTSEG;
+use ps_filetype::only_byte;
+use ps_words::{Order, get};
 use std::alloc::{AllocError, Allocator};
 
-/// What a formatted disk has in a block that was never written.
-const UNWRITTEN: u8 = 0xE5;
+/// What is where nothing was written or read: zeros, what a disk is formatted with, what CP/M pads
+/// with, and what a memory has that is erased.
+const DEAD: [u8; 5] = [0, 0xE5, 0xF6, 0x1A, 0xFF];
+
+/// So many of these bytes are the shortest sector of a disk.
+pub(super) const SECTOR: usize = 128;
 
 /// From this length on a code without a byte above 127 looks wrong.
 const STRIPPED_LENGTH: usize = 64;
 
 /// Looks at the code of a segment.
-pub(super) fn look_at<A: Allocator>(
-    words: &mut Words<A>,
-    path: &str,
-    segment: &Segment<'_>,
+pub(super) fn look_at<'a, A: Allocator>(
+    warnings: &mut Warnings<'a, A>,
+    sight: &Sight<'_, '_>,
+    place: Place<'a>,
     source: &Source<'_>,
+    code: &[u8],
 ) -> Result<(), AllocError> {
-    let Some(code) = source.code else {
-        return Ok(());
-    };
-    let name = segment.name;
     if let Some(byte) = only_byte(code) {
-        return words.warn_of_segment(path, name, Some(Look::OneByte { byte }));
+        return warnings.add(place, Some(Look::OneByte { byte }));
     }
-    words.warn_of_segment(path, name, dead_block(code))?;
+    if !sight.is_refused(source) {
+        warnings.add(place, dead_look(code))?;
+    }
     if STRIPPED_LENGTH <= code.len() && code.is_ascii() {
-        words.warn_of_segment(path, name, Some(Look::NoHighBit))?;
+        warnings.add(place, Some(Look::NoHighBit))?;
     }
-    if segment.part.needs_linking() {
-        look_at_numbers(words, path, segment, source, code)?;
+    if source.needs_linking() {
+        warnings.add(place, number_look(source, code))?;
+        warnings.add(place, table_look(source.order, code))?;
     }
     Ok(())
 }
 
-/// The byte that a code is throughout.
-fn only_byte(code: &[u8]) -> Option<u8> {
-    let first = code.first().copied()?;
-    for byte in code {
-        if *byte != first {
-            return None;
-        }
-    }
-    Some(first)
+/// Bytes that are all the same, from the first to the last.
+#[derive(Clone, Copy)]
+pub(crate) struct Run {
+    pub(crate) start: usize,
+    pub(crate) end: usize,
+    pub(crate) byte: u8,
 }
 
-/// The first whole block of a code that is zeros or what no one has written.
-fn dead_block(code: &[u8]) -> Option<Look> {
-    for (block, bytes) in code.chunks(BLOCK_SIZE).enumerate() {
-        if bytes.len() == BLOCK_SIZE {
-            match only_byte(bytes) {
-                Some(byte) if byte == 0 || byte == UNWRITTEN => {
-                    return Some(Look::DeadBlock { block, byte });
-                }
-                _ => {}
+/// The first bytes that are as many as a sector and as if nothing was read.
+pub(crate) fn first_dead(bytes: &[u8]) -> Option<Run> {
+    let (mut start, mut last) = (0usize, 0u8);
+    for (place, byte) in bytes.iter().enumerate() {
+        if *byte != last {
+            if let Some(run) = dead_run(start, place, last) {
+                return Some(run);
             }
+            start = place;
+            last = *byte;
         }
     }
-    None
+    dead_run(start, bytes.len(), last)
 }
 
-/// Looks at the segment number and the procedure numbers of a code.
-fn look_at_numbers<A: Allocator>(
-    words: &mut Words<A>,
-    path: &str,
-    segment: &Segment<'_>,
-    source: &Source<'_>,
-    code: &[u8],
-) -> Result<(), AllocError> {
-    let name = segment.name;
-    let [.., found, count] = code else {
-        return Ok(());
-    };
+fn dead_run(start: usize, end: usize, byte: u8) -> Option<Run> {
+    if SECTOR <= end.saturating_sub(start) && DEAD.contains(&byte) {
+        let end = end.saturating_sub(1);
+        Some(Run { start, end, byte })
+    } else {
+        None
+    }
+}
+
+/// What looks wrong where a part of a code was not read.
+pub(crate) fn dead_look(code: &[u8]) -> Option<Look> {
+    let Run { start, end, byte } = first_dead(code)?;
+    Some(Look::DeadRun { start, end, byte })
+}
+
+/// The numbers at the end of a code.
+fn number_look(source: &Source<'_>, code: &[u8]) -> Option<Look> {
     let slot = source.index;
-    if *found != slot {
-        let found = *found;
-        words.warn_of_segment(path, name, Some(Look::OtherNumber { found, slot }))?;
+    match code {
+        [.., 0, 0] if slot != 0 => Some(Look::ZeroEnd),
+        [.., found, _] if source.entry.kind == HOSTSEG && *found != slot => {
+            let found = *found;
+            Some(Look::OtherNumber { found, slot })
+        }
+        _ => None,
     }
-    if *count == 0 && segment.part.is_unit() {
-        words.warn_of_segment(path, name, Some(Look::NoProcedures))?;
-    }
-    let other = other_procedure(source.order, code, usize::from(*count));
-    words.warn_of_segment(path, name, other)
 }
 
-/// The first procedure whose table has another number.
-fn other_procedure(order: Order, code: &[u8], count: usize) -> Option<Look> {
-    for procedure in 1..=count {
-        if let Table::At(place) = table_of(order, code, procedure) {
-            if let Some(found) = code.get(place).copied() {
-                if usize::from(found) != procedure && found != 0 {
-                    return Some(Look::OtherProcedure { procedure, found });
-                }
+/// The first procedure whose table has another number, or says that it is entered or left before
+/// the code.
+fn table_look(order: Order, code: &[u8]) -> Option<Look> {
+    if code.len() < 2 {
+        return None;
+    }
+    let procs = Procs::read(order, code, false).ok()?;
+    for procedure in 1..=procs.count() {
+        if let Some(place) = procs.table(procedure) {
+            let found = code.get(place).copied().unwrap_or(0);
+            if usize::from(found) != procedure {
+                return Some(Look::OtherProcedure { procedure, found });
+            }
+            if is_outside(order, code, place) {
+                return Some(Look::OutsideCode { procedure });
             }
         }
     }
     None
+}
+
+/// The table at this place says that its procedure is entered or left before the code.
+fn is_outside(order: Order, code: &[u8], place: usize) -> bool {
+    let (Some(enter_at), Some(leave_at)) = (place.checked_sub(2), place.checked_sub(4)) else {
+        return false;
+    };
+    match code.get(leave_at..) {
+        Some(words) if 4 <= words.len() => {
+            leave_at < usize::from(get(order, words, 0))
+                || enter_at < usize::from(get(order, words, 2))
+        }
+        _ => false,
+    }
 }

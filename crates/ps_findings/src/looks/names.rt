@@ -1,5 +1,7 @@
 //! Names that look wrong.
+use crate::inputs::Inputs;
 use crate::warnings::Oddity;
+use ps_codefile::dictionary_layout::SLOTS;
 use ps_codefile::is_nameless;
 use ps_words::Name;
 use std::ops::RangeInclusive;
@@ -14,8 +16,23 @@ fn has(name: &Name, bytes: RangeInclusive<u8>) -> bool {
     false
 }
 
-/// How a name is odd; none where it is as a compiler writes it, or no name.
-pub(super) fn oddity_of(name: &Name) -> Option<Oddity> {
+/// No name of an entry that is filled has a capital letter.
+pub(super) fn are_small(inputs: &Inputs<'_>) -> bool {
+    for file in 0..=inputs.libs.len() {
+        if let Some(dict) = inputs.dict(file) {
+            for slot in 0..SLOTS {
+                if dict.filled(slot) && has(&dict.entry(slot).name, b'A'..=b'Z') {
+                    return false;
+                }
+            }
+        }
+    }
+    true
+}
+
+/// How a name is odd; none where it is as a compiler writes it, or no name. Small letters are odd
+/// only where other names have capitals.
+pub(super) fn oddity_of(name: &Name, are_small: bool) -> Option<Oddity> {
     if is_nameless(name) {
         None
     } else if has(name, 0x80..=0xFF) {
@@ -24,7 +41,7 @@ pub(super) fn oddity_of(name: &Name) -> Option<Oddity> {
         Some(Oddity::ControlBytes)
     } else if name.contains(&0) {
         Some(Oddity::Zeros)
-    } else if has(name, b'a'..=b'z') {
+    } else if !are_small && has(name, b'a'..=b'z') {
         Some(Oddity::SmallLetters)
     } else {
         None

@@ -1,43 +1,106 @@
 //! Link information that looks wrong.
 use super::names::oddity_of;
+use super::{Sight, Warnings};
 use crate::explain::definitions::host_of;
 use crate::explain::privates::data_size;
-use crate::segments::{Segment, Sort, Source};
-use crate::warnings::Look;
-use crate::words::Words;
-use ps_linkinfo::record_layout::RECORD_LEN;
+use crate::explain::records::length_of;
+use crate::segments::{Sort, Source, find_in};
+use crate::warnings::{Look, Place};
+use ps_codefile::kinds::HOSTSEG;
+use ps_filetype::only_byte;
+use ps_linkinfo::record_layout::{RECORD_LEN, TYPE_PLACE};
 use ps_linkinfo::{Body, LinkInformation, LinkRecord, Refs};
-use ps_words::Name;
+use ps_words::{Name, Order, get_big};
 use std::alloc::{AllocError, Allocator};
 
+/// Where an end mark has no value, after its name, its type and the next free base offset.
+const UNUSED: usize = 12;
+
 /// Looks at the link information of a segment. Of each kind of look the first record is reported.
-pub(super) fn look_at<A: Allocator>(
-    words: &mut Words<A>,
-    path: &str,
-    segment: &Segment<'_>,
+pub(super) fn look_at<'a, A: Allocator>(
+    warnings: &mut Warnings<'a, A>,
+    sight: &Sight<'_, '_>,
+    place: Place<'a>,
     source: &Source<'_>,
-    list: &[Segment<'_>],
+    code: &[u8],
 ) -> Result<(), AllocError> {
-    let name = segment.name;
-    let records = segment.records();
-    if records.len() == 1 && source.after.starts_with(&[0; RECORD_LEN]) {
-        words.warn_of_segment(path, name, Some(Look::ZeroMark))?;
-    }
-    words.warn_of_record(path, name, first_odd_name(&records))?;
-    words.warn_of_record(path, name, first_clear_mark(&records, source))?;
-    if segment.part.is_unit() {
-        words.warn_of_record(path, name, first_definition(segment, list))
+    let records = LinkInformation::up_to_fault(source.order, source.after);
+    warnings.add(place, mark_look(source, code))?;
+    warnings.add_of_record(place, first_odd_name(&records, sight.are_small))?;
+    warnings.add_of_record(place, first_odd_operand(&records, code))?;
+    if source.entry.kind == HOSTSEG {
+        warnings.add(place, low_mark(&records, source, code))?;
+        warnings.add_of_record(place, first_high_definition(&records))
     } else {
-        words.warn_of_segment(path, name, low_mark(segment, &records))
+        warnings.add_of_record(place, first_definition(&records, sight))
     }
 }
 
+/// Each of these bytes is a blank or zero.
+fn are_unused(bytes: &[u8]) -> bool {
+    for byte in bytes {
+        if *byte != 0 && *byte != b' ' {
+            return false;
+        }
+    }
+    true
+}
+
+/// What looks wrong in an end mark, or after it.
+fn mark_look(source: &Source<'_>, code: &[u8]) -> Option<Look> {
+    let records = LinkInformation::read(source.order, source.after).ok()?;
+    let end = length_of(&records);
+    let mark = source.after.get(end.checked_sub(RECORD_LEN)?..end)?;
+    if records.len() == 1 && only_byte(mark) == Some(0) && has_global_operand(code) {
+        return Some(Look::ZeroMark);
+    }
+    if !are_unused(mark.get(..TYPE_PLACE)?) || !are_unused(mark.get(UNUSED..)?) {
+        return Some(Look::OddMark);
+    }
+    let rest = source.after.get(end..)?;
+    if begins_with_record(source.order, rest) {
+        Some(Look::RecordsAfterMark)
+    } else {
+        None
+    }
+}
+
+/// The bytes begin with a record that is no end mark and has a name that ASCII prints.
+fn begins_with_record(order: Order, bytes: &[u8]) -> bool {
+    let first = LinkInformation::up_to_fault(order, bytes).records().next();
+    match &first {
+        Some((_, record)) => !record.is_eof() && is_printed(&record.name),
+        None => false,
+    }
+}
+
+/// ASCII prints the name, and it does not begin with a blank.
+fn is_printed(name: &Name) -> bool {
+    for byte in name {
+        if *byte != b' ' && !byte.is_ascii_graphic() {
+            return false;
+        }
+    }
+    name[0] != b' '
+}
+
+/// The code has an instruction LDO, LAO or SRO of P-code, for the host program's data, whose
+/// operand has two bytes and is below 256, as a compiler writes it where it is to be linked.
+fn has_global_operand(code: &[u8]) -> bool {
+    for window in code.windows(2) {
+        if matches!(window, [0xA9 | 0xA5 | 0xAB, 0x80]) {
+            return true;
+        }
+    }
+    false
+}
+
 /// The first record with an odd name.
-fn first_odd_name(records: &LinkInformation<'_>) -> Option<(usize, Look)> {
+fn first_odd_name(records: &LinkInformation<'_>, are_small: bool) -> Option<(usize, Look)> {
     for (rec, record) in records.records() {
         if !record.is_eof() {
             let name = record.name;
-            if let Some(oddity) = oddity_of(&name) {
+            if let Some(oddity) = oddity_of(&name, are_small) {
                 return Some((rec, Look::OddName { name, oddity }));
             }
         }
@@ -45,30 +108,45 @@ fn first_odd_name(records: &LinkInformation<'_>) -> Option<(usize, Look)> {
     None
 }
 
-/// The first BIG operand whose bit 7 is clear.
-fn first_clear_mark(records: &LinkInformation<'_>, source: &Source<'_>) -> Option<(usize, Look)> {
-    let code = source.code?;
+/// The first record with a BIG operand that looks wrong.
+fn first_odd_operand(records: &LinkInformation<'_>, code: &[u8]) -> Option<(usize, Look)> {
     for (rec, record) in records.records() {
-        if let Some(place) = clear_in(&record, code) {
-            return Some((rec, Look::ClearMark { place }));
+        if let Some(look) = operand_look(&record, code) {
+            return Some((rec, look));
         }
     }
     None
 }
 
-/// The first place of a record's BIG operands where bit 7 is clear.
-fn clear_in(record: &LinkRecord<'_>, code: &[u8]) -> Option<usize> {
+/// What looks wrong in the BIG operands of a record.
+fn operand_look(record: &LinkRecord<'_>, code: &[u8]) -> Option<Look> {
     match &record.body {
-        Body::PublRef(refs) | Body::PrivRef { refs, .. } => clear_place(refs, code),
+        Body::PublRef(refs) => operands_look(refs, code, None),
+        Body::PrivRef { words, refs } => operands_look(refs, code, Some(*words)),
         _ => None,
     }
 }
 
-fn clear_place(refs: &Refs<'_>, code: &[u8]) -> Option<usize> {
+/// The first BIG operand whose bit 7 is clear, or that is past the words of its variable.
+fn operands_look(refs: &Refs<'_>, code: &[u8], words: Option<u16>) -> Option<Look> {
     for reference in 0..refs.len() {
         let place = usize::from(refs.get(reference));
-        match code.get(place).copied() {
-            Some(byte) if byte < 0x80 => return Some(place),
+        match code.get(place..) {
+            Some(rest) if 2 <= rest.len() => {
+                if rest[0] < 0x80 {
+                    return Some(Look::ClearMark { place });
+                }
+                let displacement = get_big(rest, 0);
+                if let Some(words) = words {
+                    if words <= displacement {
+                        return Some(Look::PastPrivate {
+                            place,
+                            displacement,
+                            words,
+                        });
+                    }
+                }
+            }
             _ => {}
         }
     }
@@ -76,13 +154,17 @@ fn clear_place(refs: &Refs<'_>, code: &[u8]) -> Option<usize> {
 }
 
 /// The first definition of a unit.
-fn first_definition(unit: &Segment<'_>, list: &[Segment<'_>]) -> Option<(usize, Look)> {
-    for (rec, record) in unit.records().records() {
+fn first_definition(records: &LinkInformation<'_>, sight: &Sight<'_, '_>) -> Option<(usize, Look)> {
+    for (rec, record) in records.records() {
         if let Body::PublDef(_) = record.body {
             let name = record.name;
-            let is_used = unit.find(&name, Sort::Request).is_some();
-            let look = match is_used && !is_defined(list, &name) {
-                true => Look::UsedUnitDefinition { name },
+            let is_used = find_in(records, &name, Sort::Request).is_some();
+            let is_defined = match host_of(sight.list) {
+                Some(host) => host.find(&name, Sort::Definition).is_some(),
+                None => true,
+            };
+            let look = match is_used && !is_defined {
+                true => Look::OwnDefinition { name },
                 false => Look::UnitDefinition { name },
             };
             return Some((rec, look));
@@ -91,24 +173,30 @@ fn first_definition(unit: &Segment<'_>, list: &[Segment<'_>]) -> Option<(usize, 
     None
 }
 
-/// The host program defines the name.
-fn is_defined(list: &[Segment<'_>], name: &Name) -> bool {
-    match host_of(list) {
-        Some(host) => host.find(name, Sort::Definition).is_some(),
-        None => false,
-    }
-}
-
 /// The end mark of the host program, where it is below half its data size.
-fn low_mark(host: &Segment<'_>, records: &LinkInformation<'_>) -> Option<Look> {
+fn low_mark(records: &LinkInformation<'_>, source: &Source<'_>, code: &[u8]) -> Option<Look> {
     if records.is_empty() {
         return None;
     }
     let next = records.next();
-    let data = data_size(host)?;
+    let data = data_size(source.order, code)?;
     if next < data / 2 {
         Some(Look::LowMark { next, data })
     } else {
         None
     }
+}
+
+/// The first definition of the host program that is at its end mark or above it.
+fn first_high_definition(records: &LinkInformation<'_>) -> Option<(usize, Look)> {
+    let next = records.next();
+    for (rec, record) in records.records() {
+        if let Body::PublDef(value) = record.body {
+            if next <= value {
+                let name = record.name;
+                return Some((rec, Look::HighDefinition { name, value, next }));
+            }
+        }
+    }
+    None
 }

@@ -132,7 +132,7 @@ are linked, and if not what is wrong and what to do. A line that begins with
 'warning: ' reports what looks wrong and is no fault. No file is written.
 
 Exit status:
-  0  the files are linked
+  0  the files link, and there may be warnings
   1  the files are refused; with --strict, or there is a warning
   2  wrong usage
   3  a file could not be read, or standard output failed
@@ -204,6 +204,8 @@ For more information, try '--help'.
 
 const NOT_THERE: &str = "pslink: cannot read not-there\n";
 
+const NOT_THERE_TO_CHECK: &str = "pslink: cannot read not-there (no such file)\n";
+
 /// Args, and the status and the two texts that they give. HOST may be OUT or a library, and no file
 /// of these is there.
 static ROWS: [(&[&str], u8, &str, &str); 28] = [
@@ -231,7 +233,7 @@ static ROWS: [(&[&str], u8, &str, &str); 28] = [
         &["pslink", "check", "not-there", "--strict"],
         3,
         "",
-        NOT_THERE,
+        NOT_THERE_TO_CHECK,
     ),
     (&["pslink", "show", "a", "b"], 2, "", TWO_FILES),
     (&["pslink", "link", "a", "b", "b"], 2, "", OUT_IS_LIBRARY),

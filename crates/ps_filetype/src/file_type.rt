@@ -1,0 +1,129 @@
+//! What a file is.
+use crate::bytes::only_byte;
+use crate::code_file::{CodeFile, code_file_of, is_swapped_file};
+use crate::line_ends::LineEnds;
+use crate::signatures::{behind_header, by_first_bytes, volume_name};
+use crate::texts::{is_system_text, text_type};
+use ps_shown::ShownName;
+use ps_words::Name;
+use std::fmt::{self, Formatter};
+
+/// What a file is, as far as a few of its bytes say. Its text is a phrase, as `a gzip file`.
+///
+/// Source: this project's profile.
+#[derive(Clone, Copy, Debug, PartialEq, Eq)]
+pub enum FileType {
+    /// A code file.
+    Code(CodeFile),
+    /// A code file whose bytes are exchanged in pairs.
+    Swapped,
+    /// A code file with a header of MacBinary before it.
+    MacBinary,
+    /// A code file with so many other bytes before it.
+    Header { bytes: usize },
+    Gzip,
+    Zip,
+    /// A program of this machine.
+    Elf,
+    AppleSingle,
+    AppleDouble,
+    /// The image of a disk, whose volume has this name.
+    Volume { name: Name },
+    /// A text of a p-System.
+    SystemText,
+    Text,
+    Base64,
+    Uuencode,
+    HexDump,
+    /// A file without a byte.
+    Empty,
+    /// A file that is one byte throughout.
+    OneByte { byte: u8 },
+    /// Its line ends were converted, so that its dictionary can't be read.
+    Converted(LineEnds),
+    Unknown,
+}
+
+impl FileType {
+    /// What the file with these bytes is.
+    /// Source: this project's profile.
+    pub fn of(bytes: &[u8]) -> FileType {
+        if bytes.is_empty() {
+            return FileType::Empty;
+        }
+        if let Some(byte) = only_byte(bytes) {
+            return FileType::OneByte { byte };
+        }
+        match code_file_of(bytes) {
+            Some(_) if is_swapped_file(bytes) => FileType::Swapped,
+            Some(code_file) => FileType::Code(code_file),
+            None => other_type(bytes),
+        }
+    }
+
+    /// The file is a code file as it ought to be.
+    /// Source: this project's profile.
+    pub fn is_code(&self) -> bool {
+        matches!(self, FileType::Code(_))
+    }
+
+    /// The phrase of a type that has no part.
+    fn phrase(&self) -> &'static str {
+        match self {
+            FileType::Swapped => "a code file whose bytes are exchanged in pairs",
+            FileType::MacBinary => "a code file behind the 128 bytes of a MacBinary header",
+            FileType::Gzip => "a gzip file",
+            FileType::Zip => "a zip file",
+            FileType::Elf => "an ELF file, of another system",
+            FileType::AppleSingle => "an AppleSingle file",
+            FileType::AppleDouble => "an AppleDouble file, which has no byte of the code file",
+            FileType::SystemText => "a text of a p-System",
+            FileType::Text => "a text",
+            FileType::Base64 => "a text in base64",
+            FileType::Uuencode => "a uuencoded text",
+            FileType::HexDump => "a dump in hexadecimal digits",
+            FileType::Empty => "an empty file",
+            _ => "no code file of a known form",
+        }
+    }
+}
+
+/// What a file is that is no code file.
+fn other_type(bytes: &[u8]) -> FileType {
+    if let Some(file_type) = by_first_bytes(bytes) {
+        return file_type;
+    }
+    if let Some(name) = volume_name(bytes) {
+        return FileType::Volume { name };
+    }
+    if let Some(file_type) = behind_header(bytes) {
+        return file_type;
+    }
+    if let Some(file_type) = text_type(bytes) {
+        return file_type;
+    }
+    match LineEnds::of(bytes) {
+        _ if is_system_text(bytes) => FileType::SystemText,
+        Some(line_ends) => FileType::Converted(line_ends),
+        None => FileType::Unknown,
+    }
+}
+
+impl fmt::Display for FileType {
+    fn fmt<W: fmt::Write>(&self, f: &mut Formatter<W>) -> fmt::Result {
+        match *self {
+            FileType::Code(code_file) => write!(f, "{code_file}"),
+            FileType::Header { bytes } => {
+                write!(f, "a code file behind a header of {bytes} bytes")
+            }
+            FileType::Volume { name } => {
+                write!(f, "a disk image, of the volume {}", ShownName(name))
+            }
+            FileType::OneByte { byte } => write!(f, "a file of the byte {byte:02X} alone"),
+            FileType::Converted(line_ends) => {
+                write!(f, "a file whose line ends were converted: {line_ends}")
+            }
+            _ => f.write_str(self.phrase()),
+        }
+    }
+}

@@ -1,0 +1,88 @@
+//! Texts that are given in place of a code file.
+use crate::file_type::FileType;
+
+/// How many bytes of a text are looked at.
+const SAMPLE: usize = 512;
+
+/// What the editor of a p-System keeps before a text.
+const EDITOR: usize = 1024;
+
+/// What begins an indented line of a p-System text.
+const INDENT: u8 = 0x10;
+
+/// What each byte of a sample is.
+#[derive(Clone, Copy)]
+struct Letters {
+    /// A byte of a text.
+    are_text: bool,
+    /// A letter of base64, or the end of a line.
+    are_base64: bool,
+    /// A hexadecimal digit, a blank or the end of a line.
+    are_hex: bool,
+}
+
+/// The byte is one of a text.
+fn is_text(byte: u8) -> bool {
+    matches!(byte, b'\t' | b'\n' | b'\r' | 0x0C | 0x1A | b' '..=b'~' | 0x80..=0xFF)
+}
+
+impl Letters {
+    fn of(sample: &[u8]) -> Letters {
+        let has_any = !sample.is_empty();
+        let (mut are_text, mut are_base64, mut are_hex) = (has_any, has_any, has_any);
+        for byte in sample {
+            let is_end = matches!(*byte, b'\r' | b'\n');
+            let is_sign = matches!(*byte, b'+' | b'/' | b'=');
+            are_text = are_text && is_text(*byte);
+            are_base64 = are_base64 && (is_end || is_sign || byte.is_ascii_alphanumeric());
+            are_hex = are_hex && (is_end || *byte == b' ' || byte.is_ascii_hexdigit());
+        }
+        Letters {
+            are_text,
+            are_base64,
+            are_hex,
+        }
+    }
+}
+
+/// A dump begins with the place of its first byte, and what ends that.
+fn is_dump(sample: &[u8]) -> bool {
+    match sample {
+        [b'0', b'0', b'0', b'0', b'0', b'0', b'0', rest @ ..] => {
+            matches!(rest, [b':' | b' ', ..] | [b'0', b':' | b' ', ..])
+        }
+        _ => false,
+    }
+}
+
+/// The kind of text of a file that is one.
+pub(crate) fn text_type(bytes: &[u8]) -> Option<FileType> {
+    let sample = bytes.get(..SAMPLE).unwrap_or(bytes);
+    let letters = Letters::of(sample);
+    if !letters.are_text {
+        None
+    } else if sample.starts_with(b"begin ") {
+        Some(FileType::Uuencode)
+    } else if letters.are_hex || is_dump(sample) {
+        Some(FileType::HexDump)
+    } else if letters.are_base64 {
+        Some(FileType::Base64)
+    } else {
+        Some(FileType::Text)
+    }
+}
+
+/// The file has the two blocks of an editor and then lines of a p-System text.
+pub(crate) fn is_system_text(bytes: &[u8]) -> bool {
+    let (mut has_end, mut last) = (false, 0u8);
+    let rest = bytes.get(EDITOR..).unwrap_or(&[]);
+    for byte in rest.get(..SAMPLE).unwrap_or(rest) {
+        let is_indent = *byte == INDENT || last == INDENT;
+        if !is_indent && *byte != 0 && !(is_text(*byte) && *byte < 0x80 && *byte != b'\n') {
+            return false;
+        }
+        has_end = has_end || *byte == b'\r';
+        last = *byte;
+    }
+    has_end
+}

@@ -1,0 +1,150 @@
+//! What a fault is in these files, and what to do about it: the sentences of the fault, or others
+//! where the files say more.
+use super::Case;
+use crate::looks::codes::dead_look;
+use crate::sentences::{remedy_of, wrong_of};
+use ps_codefile::kinds::{FIRST_INTRINSIC, LAST_INTRINSIC, LINKED};
+use ps_filetype::{FileType, Remedy, is_swapped};
+use ps_shown::ShownPath;
+use ps_words::Reason;
+use std::fmt::{self, Formatter};
+
+/// What is wrong.
+pub(super) fn wrong_in(case: &Case<'_, '_>) -> &'static str {
+    match case.fault.reason {
+        Reason::MissingUnit if case.fault.rec.is_some() => {
+            "No library has the unit that the UNITREF in this record requests."
+        }
+        Reason::MissingUnit => "No library has the unit that the slot wants.",
+        Reason::NativeProcedure if is_dead(case) => {
+            "The code is damaged: a part of it was not read, or never written."
+        }
+        Reason::NativeProcedure if is_exchanged(case) => {
+            "The bytes of the code are exchanged in pairs."
+        }
+        reason => wrong_of(reason),
+    }
+}
+
+/// A part of the code of the fault's segment was not read.
+pub(super) fn is_dead(case: &Case<'_, '_>) -> bool {
+    dead_look(case.code()).is_some()
+}
+
+/// The bytes of the code of the fault's segment are exchanged in pairs.
+fn is_exchanged(case: &Case<'_, '_>) -> bool {
+    match case.source() {
+        Some(source) => is_swapped(source.order, case.code()),
+        None => false,
+    }
+}
+
+/// What to do. Its text is a line.
+#[derive(Clone, Copy)]
+pub(super) enum Advice<'a> {
+    /// A sentence, in which an `@` stands for the path.
+    Sentence { text: &'static str, path: &'a str },
+    /// What to do with the file that is no code file.
+    OfType(Remedy<'a>),
+    /// The host is to be exchanged with a library.
+    Exchange { host: &'a str, library: &'a str },
+}
+
+impl fmt::Display for Advice<'_> {
+    fn fmt<W: fmt::Write>(&self, f: &mut Formatter<W>) -> fmt::Result {
+        match *self {
+            Advice::Sentence { text, path } => {
+                for c in text.chars() {
+                    if c == '@' {
+                        write!(f, "{}", ShownPath(path))?;
+                    } else {
+                        f.write_char(c)?;
+                    }
+                }
+                Ok(())
+            }
+            Advice::OfType(remedy) => write!(f, "{remedy}"),
+            Advice::Exchange { host, library } => {
+                let (host, library) = (ShownPath(host), ShownPath(library));
+                write!(
+                    f,
+                    "Exchange the two: give {library} as HOST, and {host} after it."
+                )
+            }
+        }
+    }
+}
+
+/// What to do about the fault.
+pub(super) fn remedy_in<'a>(case: &Case<'_, 'a>) -> Advice<'a> {
+    let inputs = case.inputs;
+    let path = inputs.path(case.fault.file);
+    let text = match case.fault.reason {
+        Reason::ShortFile | Reason::NoOrder | Reason::OrderMismatch | Reason::NoHost => {
+            return remedy_of_file(case);
+        }
+        Reason::MissingUnit => {
+            return remedy_of_missing(case);
+        }
+        Reason::NativeProcedure if is_dead(case) => remedy_of(Reason::Truncated),
+        Reason::NativeProcedure if is_exchanged(case) => {
+            let file_type = FileType::Swapped;
+            return Advice::OfType(Remedy { file_type, path });
+        }
+        Reason::NotAUnit { kind: LINKED } => "@ is linked already: leave it out.",
+        Reason::NotAUnit {
+            kind: FIRST_INTRINSIC..=LAST_INTRINSIC,
+        } => "Compile it as a regular unit of II.0, or give the library of such a unit before @.",
+        Reason::NotAUnit { .. } => {
+            "Give the unit's library before @, or remove that segment from @."
+        }
+        reason => remedy_of(reason),
+    };
+    Advice::Sentence { text, path }
+}
+
+/// What to do about a file that is no code file, or not the one that is needed.
+fn remedy_of_file<'a>(case: &Case<'_, 'a>) -> Advice<'a> {
+    let (inputs, reason) = (case.inputs, case.fault.reason);
+    let path = inputs.path(case.fault.file);
+    let file_type = inputs.file_type(case.fault.file);
+    match (reason, case.host_among_libraries()) {
+        (Reason::NoHost, Some(file)) => Advice::Exchange {
+            host: path,
+            library: inputs.path(file),
+        },
+        (Reason::OrderMismatch, _) if file_type.is_code() => remedy_of_order(case),
+        _ => Advice::OfType(Remedy { file_type, path }),
+    }
+}
+
+/// What to do about files of two byte orders, of which the host may be the one that is exchanged.
+fn remedy_of_order<'a>(case: &Case<'_, 'a>) -> Advice<'a> {
+    let inputs = case.inputs;
+    match inputs.file_type(0) {
+        FileType::Swapped => Advice::OfType(Remedy {
+            file_type: FileType::Swapped,
+            path: inputs.path(0),
+        }),
+        _ => Advice::Sentence {
+            text: "Compile @ for the machine of the host.",
+            path: inputs.path(case.fault.file),
+        },
+    }
+}
+
+/// What to do where a unit is missing: the first library that is no code file may have it.
+fn remedy_of_missing<'a>(case: &Case<'_, 'a>) -> Advice<'a> {
+    let inputs = case.inputs;
+    for file in 1..=inputs.libs.len() {
+        let file_type = inputs.file_type(file);
+        if !file_type.is_code() {
+            let path = inputs.path(file);
+            return Advice::OfType(Remedy { file_type, path });
+        }
+    }
+    Advice::Sentence {
+        text: "Give a library that has it, after @.",
+        path: inputs.path(0),
+    }
+}

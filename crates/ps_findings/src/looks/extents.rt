@@ -1,0 +1,82 @@
+//! Entries that overlap in their file.
+ghost use Rattle.std.specs.Prelude.{◌<◌};
+
+use super::Warnings;
+use crate::explain::records::length_of;
+use crate::segments::source_of;
+use crate::warnings::{Look, Place};
+use ps_codefile::Dict;
+use ps_codefile::dictionary_layout::SLOTS;
+use ps_codefile::kinds::{HOSTSEG, LINKED, UNITSEG};
+use ps_linkinfo::LinkInformation;
+use ps_words::{BLOCK_SIZE, blocks_of};
+use std::alloc::{AllocError, Allocator};
+
+/// The bytes of a file that an entry has, from `start` on and before `end`.
+#[derive(Clone, Copy)]
+struct Extent {
+    slot: u8,
+    start: usize,
+    end: usize,
+}
+
+impl Extent {
+    /// No bytes.
+    const EMPTY: Extent = Extent {
+        slot: 0,
+        start: 0,
+        end: 0,
+    };
+}
+
+/// The bytes that an entry has: its code, and the link information after it if that is read.
+fn extent_of(dict: &Dict<'_>, file: usize, slot: u8) -> Option<Extent>
+    requires { slot < 16 }
+{
+    if !dict.filled(slot) {
+        return None;
+    }
+    let source = source_of(dict, file, slot);
+    source.code?;
+    let start = BLOCK_SIZE * usize::from(source.entry.address);
+    let length = usize::from(source.entry.length);
+    let end = match source.entry.kind {
+        LINKED => start + length,
+        HOSTSEG | UNITSEG => {
+            let records = LinkInformation::up_to_fault(source.order, source.after);
+            let information = start + BLOCK_SIZE * blocks_of(length);
+            information.saturating_add(length_of(&records))
+        }
+        _ => return None,
+    };
+    Some(Extent { slot, start, end })
+}
+
+/// Looks whether entries have bytes in common.
+pub(super) fn look_at<'a, A: Allocator>(
+    warnings: &mut Warnings<'a, A>,
+    place: Place<'a>,
+    dict: &Dict<'_>,
+    file: usize,
+) -> Result<(), AllocError> {
+    let mut earlier = [Extent::EMPTY; SLOTS as usize];
+    for slot in 0..SLOTS {
+        if let Some(extent) = extent_of(dict, file, slot) {
+            let segment = Some(dict.entry(slot).name);
+            let look = first_shared_extent(&earlier, extent);
+            warnings.add(Place { segment, ..place }, look)?;
+            earlier[usize::from(slot)] = extent;
+        }
+    }
+    Ok(())
+}
+
+/// The first of these extents that has bytes in common with another one.
+fn first_shared_extent(earlier: &[Extent], extent: Extent) -> Option<Look> {
+    for other in earlier {
+        if other.start < extent.end && extent.start < other.end {
+            return Some(Look::Overlap { other: other.slot });
+        }
+    }
+    None
+}
