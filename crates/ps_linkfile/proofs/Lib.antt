@@ -12,4 +12,5 @@ pub mod Shows
 pub mod InPieces
 pub mod ReferenceText
 pub mod Written
+pub mod Sending
 pub mod ShownNames

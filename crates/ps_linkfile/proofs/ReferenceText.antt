@@ -2,18 +2,13 @@
 use Rattle.std.proofs.Common.{◌≡◌, ℕ, ◌+◌, ◌-◌, ◌<◌, ◌≤◌, ◌++◌, List, ◌∷◌, length, take, drop, get_or, sym, ◌∙◌, ap, arith, add-one, refl}
 use Rattle.std.specs.Prelude.{decimal, min}
 use Rattle.std.specs.List.{flat_map}
-use Rattle.std.specs.Str.{IsAscii}
 use Rattle.std.proofs.Math.Seq.{drop-cons}
-use Rattle.std.proofs.lemmas.Fmt.{IsAscii-decimal, length-decimal-le}
+use Rattle.std.proofs.lemmas.Fmt.{length-decimal-le}
 use Rattle.std.proofs.lemmas.List.{length-drop, take_min}
-use Rattle.std.proofs.lemmas.Str.Ascii.{IsAscii-cons}
 use Rattle.ps_linkfile.specs.ShowText.{reference}
 
 pub digits_few : (n : ℕ) → n < 65536 → length (decimal n) ≤ 5
 digits_few n h = length-decimal-le 5 n (omega arith) (omega (arith, h)) (omega (arith, h))
-
-pub reference_ascii : (n : ℕ) → n < 65536 → IsAscii (reference n)
-reference_ascii n h = IsAscii-cons 32 (decimal n) (omega arith) (IsAscii-decimal n (omega (arith, h)))
 
 -- the references from i on are the one there and those after it
 drop_one : (xs : List ℕ) (i : ℕ) → i < length xs → drop i xs ≡ get_or xs i 0 ∷ drop (i + 1) xs

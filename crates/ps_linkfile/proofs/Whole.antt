@@ -19,7 +19,12 @@ use Rattle.ps_codefile.specs.Dictionary.{slots, OpenedFile, file_order, opened_a
 use Rattle.ps_linkinfo.specs.RecordCounts.{next_of}
 use Rattle.ps_resolve.specs.Privates.{total_words}
 use Rattle.ps_resolve.specs.LinkedBytes.{IsLinkedByte, segments_of, HaveLinkedBytes, HaveOneLinkedByte}
-use Rattle.ps_resolve.specs.Standing.{NoneStands, IsFirst}
+use Rattle.ps_resolve.specs.Standing.{NoneStands, NoneStandsInReading, FaultAt, IsFirst}
+use Rattle.ps_resolve.specs.Standing.Keys.{Step}
+use Rattle.ps_resolve.specs.Parts.{HasItsParts}
+use Rattle.ps_resolve.specs.Plans.{IsStopped}
+use Rattle.ps_resolve.specs.declared.linkage.Stop.{Stop}
+use Rattle.ps_resolve.specs.declared.linkage.Stop.TheVariants as stop
 use Rattle.ps_resolve.specs.Added.{segments, slot_names}
 use Rattle.ps_resolve.specs.Sources.{Segment, order_of, host_records}
 use Rattle.ps_resolve.specs.Linking.{Edited, known_of, linked_byte}
@@ -28,6 +33,7 @@ use Rattle.ps_resolve.specs.AllFaults.{first_fault, reading_fault}
 use Rattle.ps_patch.specs.Patched.{patched_or_zero}
 use Rattle.ps_linkfile.specs.LinkedFile.{Extent, all_blocks, block_of, pair_of, linked_segments, extents, LinkedFile, all_pairs, dictionary, padded_segment, linked_file}
 use Rattle.ps_linkfile.specs.Writing.{Ascend}
+use Rattle.ps_linkfile.specs.Outcomes.{NamesFirst, error_of}
 use Rattle.ps_linkfile.proofs.Extents.{Left, left_start, left_more, first_block, all_blocks-cons}
 use Rattle.ps_linkfile.proofs.Pairs.{pair_four, pairs_at, pairs_len, pairs_are}
 use Rattle.ps_linkfile.proofs.Prefixes.{image_is}
@@ -443,3 +449,12 @@ module _ (host : List ℕ) (libs : List (List ℕ)) where
   one made single file h =
       file_one (order_of host) (slot_names host (segments (order_of host) host libs)) host (extents host libs) (linked_segments host libs) file (edited_extents host libs) (extents_ascend host libs)
       (record { size = h.size; pairs = h.pairs; names_are = h.names; zeros = h.kinds_and_texts; tail = h.tail; codes = linked_codes file (made host libs h.accepted) (single host libs h.accepted) h.codes; padding = to_all (IsPadded file) h.padding })
+
+-- why no plan was made says the first fault with its parts, or that none applies in the steps of
+-- reading
+pub names_first : ((host : List ℕ) (libs : List (List ℕ)) (f : Fault) → first_fault host libs ≡ Some f → IsFirst host libs f)
+    → ((host : List ℕ) (libs : List (List ℕ)) (step : Step) (f : Fault) → FaultAt host libs step f → HasItsParts (order_of host) host libs f)
+    → ((host : List ℕ) (libs : List (List ℕ)) → reading_fault host libs ≡ None → NoneStandsInReading host libs)
+    → (host : List ℕ) (libs : List (List ℕ)) (why : Stop) → IsStopped host libs why → NamesFirst host libs (error_of why)
+names_first some parts read host libs (stop.Refused f) h = let first = some host libs f h in (first, parts host libs first.step f first.stands)
+names_first some parts read host libs stop.Memory h = read host libs h

@@ -1,34 +1,50 @@
--- Text that a loop writes: what was written so far, and what is left of all.
-use Rattle.std.proofs.Common.{◌≡◌, ℕ, suc, ◌+◌, ◌-◌, ◌<◌, ◌≤◌, List, [], ◌∷◌, ◌++◌, length, drop, append_assoc, append-nil, refl, sym, ◌∙◌, ap, arith}
-use Rattle.std.specs.Fmt.{HasWritten, IsPlainFormatter}
-use Rattle.std.specs.declared.fmt.Formatter.{Formatter}
+-- Text that is added piece by piece: what was added so far, and what is left of all.
+use Rattle.std.proofs.Common.{◌≡◌, ℕ, suc, ◌+◌, ◌-◌, ◌<◌, ◌≤◌, List, [], ◌∷◌, ◌++◌, length, drop, append_assoc, append-nil, refl, sym, subst, ◌∙◌, ap, arith}
 use Rattle.std.specs.List.{flat_map, range_with_len}
 use Rattle.std.proofs.lemmas.List.{drop_all}
-use Rattle.std.proofs.Output.{has_written_append, has_written_of_eq}
+use Rattle.ps_linkfile.specs.Adding.{Adds}
 
--- of the text all, the rest is still to be written
-pub record Written {W : Type 0} (gives : W → List ℕ → W → Type 0) (f : Formatter W) (all rest : List ℕ) (g : Formatter W) : Type 0 where
+module _ {S : Type 0} (added : S → List ℕ → S → Type 0) where
+  -- nothing, one text after another, and a text that is another one by its bytes
+  pub adds_none : (a : S) → Adds added a [] a
+  adds_none a = record { after = λ first before h. subst (λ (bs : List ℕ). added first bs a) (sym (append-nil before)) h }
+
+  pub adds_then : (a b c : S) (xs ys : List ℕ) → Adds added a xs b → Adds added b ys c → Adds added a (xs ++ ys) c
+  adds_then a b c xs ys h k = record { after = λ first before e. subst (λ (bs : List ℕ). added first bs c) (append_assoc before xs ys) (k.after first (before ++ xs) (h.after first before e)) }
+
+  pub adds_is : (a b : S) (xs ys : List ℕ) → xs ≡ ys → Adds added a xs b → Adds added a ys b
+  adds_is a b xs ys e h = subst (λ (bs : List ℕ). Adds added a bs b) e h
+
+  -- what was added to a writer that is as it was at first
+  pub adds_first : (a b : S) (xs : List ℕ) → Adds added a xs b → added a [] a → added a xs b
+  adds_first a b xs h e = h.after a [] e
+
+-- of the text all, the rest is still to be added
+pub record Written {S : Type 0} (added : S → List ℕ → S → Type 0) (f : S) (all rest : List ℕ) (g : S) : Type 0 where
   pub done : List ℕ
   pub split : done ++ rest ≡ all
-  pub wrote : IsPlainFormatter f → HasWritten gives f done g
+  pub wrote : Adds added f done g
 
-module _ {W : Type 0} (gives : W → List ℕ → W → Type 0) (f : Formatter W) (all : List ℕ) where
-  pub none_yet : (rest : List ℕ) → rest ≡ all → Written gives f all rest f
-  none_yet rest e = record { done = []; split = e; wrote = λ plain. record { wrote = record { parts = []; calls = refl; whole = refl }; plain = plain } }
+module _ {S : Type 0} (added : S → List ℕ → S → Type 0) (f : S) (all : List ℕ) where
+  pub none_yet : (rest : List ℕ) → rest ≡ all → Written added f all rest f
+  none_yet rest e = record { done = []; split = e; wrote = adds_none added f }
 
-  -- where the text that is left begins with a part and this part is written, what is after it is
+  -- where the text that is left begins with a part and this part is added, what is after it is
   -- left
-  pub some_more : (g h : Formatter W) (here left rest : List ℕ) → left ≡ here ++ rest → Written gives f all left g → (IsPlainFormatter g → HasWritten gives g here h) → Written gives f all rest h
+  pub some_more : (g h : S) (here left rest : List ℕ) → left ≡ here ++ rest → Written added f all left g → Adds added g here h → Written added f all rest h
   some_more g h here left rest e w more = record {
     done = w.done ++ here;
     split = append_assoc w.done here rest ∙ (ap (λ (bs : List ℕ). w.done ++ bs) (sym e) ∙ w.split);
-    wrote = λ plain. let before = w.wrote plain in has_written_append gives f w.done g here h before (more before.plain);
+    wrote = adds_then added f g h w.done here w.wrote more;
   }
 
-  -- where nothing is left, all was written
-  pub all_written : (g : Formatter W) (rest : List ℕ) → rest ≡ [] → Written gives f all rest g → IsPlainFormatter f → HasWritten gives f all g
-  all_written g rest e w plain =
-      has_written_of_eq gives f w.done all g (sym (append-nil w.done) ∙ (ap (λ (bs : List ℕ). w.done ++ bs) (sym e) ∙ w.split)) (w.wrote plain)
+  -- where nothing is left, all was added
+  pub all_written : (g : S) (rest : List ℕ) → rest ≡ [] → Written added f all rest g → Adds added f all g
+  all_written g rest e w = adds_is added f g w.done all (sym (append-nil w.done) ∙ (ap (λ (bs : List ℕ). w.done ++ bs) (sym e) ∙ w.split)) w.wrote
+
+  -- a writer that takes no more has taken what is left as well
+  pub all_stopped : (g : S) (rest : List ℕ) → Written added f all rest g → Adds added g rest g → Adds added f all g
+  all_stopped g rest w stays = adds_is added f g (w.done ++ rest) all w.split (adds_then added f g g w.done rest w.wrote stays)
 
 module _ (line_of : ℕ → List ℕ) (i n : ℕ) where
   -- the lines of the slots from i on

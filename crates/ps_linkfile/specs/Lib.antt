@@ -6,3 +6,4 @@ pub mod Told
 pub mod Lines
 pub mod MapText
 pub mod ShowText
+pub mod Adding

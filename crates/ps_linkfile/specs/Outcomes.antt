@@ -1,7 +1,8 @@
 -- What a link leaves in its writer, and what each of its errors says.
 -- Source: this project's profile.
-use Rattle.std.specs.Prelude.{◌≡◌, ℕ, List, Option, Some, None, take, ⊤}
+use Rattle.std.specs.Prelude.{◌≡◌, ◌≢◌, ℕ, List, Option, Some, None, take, ⊤}
 use Rattle.std.specs.Io.KnownBytes.{Appends}
+use Rattle.ps_words.specs.FaultText.{number_of}
 use Rattle.ps_resolve.specs.AllFaults.{first_fault, reading_fault}
 use Rattle.ps_resolve.specs.Parts.{HasItsParts}
 use Rattle.ps_resolve.specs.Sources.{order_of}
@@ -46,6 +47,12 @@ NamesFirst host libs (Refused fault) = IsFirst host libs fault × HasItsParts (o
 NamesFirst host libs Memory = NoneStandsInReading host libs
 NamesFirst host libs (Write fault) = NoneStands host libs
 
+-- a refusal has a number that is still used: 30 no longer is
+abbrev pub HasUsedNumber : LinkError → Type 0
+HasUsedNumber (Refused fault) = number_of fault.reason ≢ 30
+HasUsedNumber Memory = ⊤
+HasUsedNumber (Write fault) = ⊤
+
 -- the writer is as it was, unless a write failed
 abbrev pub LeavesUntouched : {W : Type 0} → LinkError → W → W → Type 0
 LeavesUntouched (Refused fault) old new = new ≡ old
@@ -57,3 +64,9 @@ abbrev pub LeavesPrefix : List ℕ → List (List ℕ) → LinkError → Option 
 LeavesPrefix host libs (Refused fault) old new = ⊤
 LeavesPrefix host libs Memory old new = ⊤
 LeavesPrefix host libs (Write fault) old new = (file : List ℕ) × (LinkedFile host libs file × AppendsPrefix old new file)
+
+-- where a write failed, a known writer took a prefix of the text
+abbrev pub LeavesTextPrefix : List ℕ → LinkError → Option (List ℕ) → Option (List ℕ) → Type 0
+LeavesTextPrefix text (Refused fault) old new = ⊤
+LeavesTextPrefix text Memory old new = ⊤
+LeavesTextPrefix text (Write fault) old new = AppendsPrefix old new text

@@ -1,23 +1,19 @@
 //! What the lines of text that map and show print are made of.
 ghost use Rattle.std.specs.Prelude.{◌≡◌, ◌++◌, ◌∷◌, []};
-ghost use Rattle.std.specs.Fmt.{WritesOnOk};
-ghost use Rattle.ps_linkfile.specs.Lines.{shown_name, shown_byte, two_digits};
+ghost use Rattle.ps_linkfile.specs.Adding.{Adds};
+ghost use Rattle.ps_linkfile.specs.Lines.{fault_words, shown_name, shown_byte, two_digits as two_digits_spec};
 
+use crate::text_writer::TextWriter;
 use itoa::{Buffer, Integer};
 use ps_words::{Name, Reason};
-use std::fmt::{self, Display, Formatter};
 
-/// Writes a number after this text.
+/// Adds a number after this text.
 #[inline(always)]
-pub(crate) fn write_number<W: fmt::Write, I: Integer>(
-    text: &mut Formatter<W>,
-    before: &str,
-    number: I,
-) -> fmt::Result
-    ensures { WritesOnOk W.write_str_gives text.old result (before.now ++ I.text number) text.new }
+pub(crate) fn add_number<S: TextWriter, I: Integer>(text: &mut S, before: &[u8], number: I)
+    ensures { Adds S.added text.old (before.now ++ I.text number) text.new }
 {
-    text.write_str(before)?;
-    text.write_str(Buffer::new().format(number))
+    text.add(before);
+    text.add(Buffer::new().format(number).as_bytes());
 }
 
 /// A byte of a name as a line shows it: itself where ASCII prints it, and otherwise a question
@@ -31,8 +27,8 @@ fn shown_code(byte: u8) -> u8
     }
 }
 
-/// A name as a line shows it, all of it at once.
-fn shown_codes(name: Name) -> [u8; 8]
+/// A name as a line shows it, in eight characters.
+pub(crate) fn shown_codes(name: Name) -> [u8; 8]
     ensures { result ≡ shown_name name }
 {
     let [a, b, c, d, e, f, g, h] = name;
@@ -48,70 +44,29 @@ fn shown_codes(name: Name) -> [u8; 8]
     ]
 }
 
-/// Writes a slot, which is below 100, and a name after this text.
-pub(crate) fn write_slot_name<W: fmt::Write>(
-    text: &mut Formatter<W>,
-    before: &str,
-    slot: u8,
-    name: Name,
-) -> fmt::Result
-    ensures { WritesOnOk W.write_str_gives text.old result
-        (before.now ++ two_digits slot ++ (32 ∷ []) ++ shown_name name) text.new }
-{
-    text.write_str(before)?;
-    TwoDigits(slot).fmt(text)?;
-    text.write_str(" ")?;
-    Shown(name).fmt(text)
-}
-
-/// A name as a line shows it, in eight characters.
-#[derive(Clone, Copy)]
-pub(crate) struct Shown(pub(crate) Name);
-
-impl fmt::Display for Shown {
-    ghost use Rattle.std.specs.Prelude.{Some};
-    ghost use Rattle.ps_linkfile.specs.Lines.{shown_name};
-
-    ghost output = { λ name. Some (shown_name name.0) };
-
-    fn fmt<W: fmt::Write>(&self, f: &mut fmt::Formatter<W>) -> fmt::Result {
-        let codes = shown_codes(self.0);
-        match str::from_utf8(&codes) {
-            Err(_) => unreachable!(),
-            Ok(text) => f.write_str(text),
-        }
-    }
-}
-
 /// A number below 100, as that of a slot, in two digits.
-#[derive(Clone, Copy)]
-pub(crate) struct TwoDigits(pub(crate) u8);
-
-impl fmt::Display for TwoDigits {
-    ghost use Rattle.std.specs.Prelude.{Some};
-    ghost use Rattle.ps_linkfile.specs.Lines.{two_digits};
-
-    ghost output = { λ number. Some (two_digits number.0) };
-
-    fn fmt<W: fmt::Write>(&self, f: &mut fmt::Formatter<W>) -> fmt::Result {
-        f.write_char((b'0' + self.0 / 10) as char)?;
-        f.write_char((b'0' + self.0 % 10) as char)
-    }
+pub(crate) fn two_digits(number: u8) -> [u8; 2]
+    ensures { result ≡ two_digits_spec number }
+{
+    [b'0' + number / 10, b'0' + number % 10]
 }
 
-/// A fault of a code or of a record: its number and its name.
-#[derive(Clone, Copy)]
-pub(crate) struct FaultWords(pub(crate) Reason);
+/// Adds a slot, which is below 100, and a name after this text.
+pub(crate) fn add_slot_name<S: TextWriter>(text: &mut S, before: &[u8], slot: u8, name: Name)
+    ensures { Adds S.added text.old
+        (before.now ++ two_digits_spec slot ++ (32 ∷ []) ++ shown_name name) text.new }
+{
+    text.add(before);
+    text.add(&two_digits(slot));
+    text.add(b" ");
+    text.add(&shown_codes(name));
+}
 
-impl fmt::Display for FaultWords {
-    ghost use Rattle.std.specs.Prelude.{Some};
-    ghost use Rattle.ps_linkfile.specs.Lines.{fault_words};
-
-    ghost output = { λ fault. Some (fault_words fault.0) };
-
-    fn fmt<W: fmt::Write>(&self, f: &mut fmt::Formatter<W>) -> fmt::Result {
-        let reason = self.0;
-        let number = reason.number();
-        write!(f, "fault {number} {reason}")
-    }
+/// Adds a fault of a code or of a record: its number and its name.
+pub(crate) fn add_fault<S: TextWriter>(text: &mut S, reason: Reason)
+    ensures { Adds S.added text.old (fault_words reason) text.new }
+{
+    add_number(text, b"fault ", reason.number());
+    text.add(b" ");
+    text.add(reason.name().as_bytes());
 }

@@ -1,12 +1,12 @@
 ghost use Rattle.std.specs.Prelude.{◌≡◌, ◌≤◌, ◌+◌, ◌*◌, length, IfOk, IfErr, OnOk, OnErr};
 ghost use Rattle.ps_resolve.specs.Sources.{contents};
-ghost use Rattle.std.specs.Fmt.{WritesOnOk};
 ghost use Rattle.std.specs.Io.KnownBytes.{Appends};
 ghost use Rattle.ps_resolve.specs.Standing.{NoneStands};
+ghost use Rattle.ps_linkfile.specs.Adding.{Adds};
 ghost use Rattle.ps_linkfile.specs.LinkedFile.{summary_of};
 ghost use Rattle.ps_linkfile.specs.MapText.{map_in, map_of};
 ghost use Rattle.ps_linkfile.specs.Writing.{file_in, summary_in, StandsFor};
-ghost use Rattle.ps_linkfile.specs.Outcomes.{AppendsPrefix, AppendsLinkedFile, NamesFirst, IsUnprepared, IsUnlinked, LeavesUntouched, LeavesPrefix};
+ghost use Rattle.ps_linkfile.specs.Outcomes.{AppendsPrefix, AppendsLinkedFile, HasUsedNumber, NamesFirst, IsUnprepared, IsUnlinked, LeavesUntouched, LeavesPrefix};
 ghost use Rattle.ps_linkfile.specs.Counts.{AreAtMost, IfDevice, IfStalled, NoneFailed, OneError, OneStall, RisesByBytes, RisesByPieces};
 
 use crate::block_layout::lay_out;
@@ -15,13 +15,13 @@ use crate::error::{LinkError, WriteFault};
 use crate::map::{LinkMap, add_map};
 use crate::stream::write_text;
 use crate::summary::Summary;
+use crate::text_writer::TextWriter;
 use crate::told::ToldWriter;
 use crate::write_counter::ByWriter;
 use crate::writing::write_file;
 use ps_laws::{bytes_are_linked, first_of_all};
 use ps_resolve::{Plan, resolve, slot_names_are_whole};
 use std::alloc::{Allocator, Global};
-use std::fmt::{self, Formatter};
 use std::io::Write;
 use std::marker::Model;
 
@@ -107,10 +107,10 @@ impl<'a, A: Allocator + Copy> Linked<'a, A> {
     }
 
     /// Adds the map of the link.
-    pub(crate) fn add_map<W: fmt::Write>(&self, text: &mut Formatter<W>) -> fmt::Result
-        ensures { WritesOnOk W.write_str_gives text.old result (map_in self.now) text.new }
+    pub(crate) fn add_map<S: TextWriter>(&self, text: &mut S)
+        ensures { Adds S.added text.old (map_in self.now) text.new }
     {
-        add_map(text, &self.plan)
+        add_map(text, &self.plan);
     }
 
     /// Writes the map of the link, the text that `map_text` returns, in pieces. It takes no memory.
@@ -119,10 +119,12 @@ impl<'a, A: Allocator + Copy> Linked<'a, A> {
     /// a write of at least one byte took none. The writer then has a prefix of the map.
     /// Source: this project's profile.
     pub fn write_map<W: Write>(&self, out: &mut W) -> Result<(), WriteFault>
-        ensures { OnOk result (Appends (W.contents out.old) (W.contents out.new)
+        ensures map { OnOk result (Appends (W.contents out.old) (W.contents out.new)
+            (map_in self.now)) }
+        ensures prefix { OnErr result (AppendsPrefix (W.contents out.old) (W.contents out.new)
             (map_in self.now)) }
     {
-        write_text(LinkMap(self), out)
+        write_text(&LinkMap(self), out)
     }
 }
 
@@ -143,6 +145,7 @@ pub fn prepare<'a, A: Allocator + Copy>(
     ensures accepted { IfOk result (λ _. NoneStands host.now (contents libs.now)) }
     ensures error { IfErr result (IsUnprepared host.now (contents libs.now)) }
     ensures first { IfErr result (NamesFirst host.now (contents libs.now)) }
+    ensures used { IfErr result HasUsedNumber }
 {
     first_of_all();
     let plan = resolve(alloc, host, libs)?;
@@ -176,6 +179,7 @@ pub fn link<'a, A: Allocator + Copy, W: Write>(
     ensures accepted { IfOk result (λ _. NoneStands host.now (contents libs.now)) }
     ensures error { IfErr result (IsUnlinked host.now (contents libs.now)) }
     ensures first { IfErr result (NamesFirst host.now (contents libs.now)) }
+    ensures used { IfErr result HasUsedNumber }
     ensures untouched { IfErr result (λ e. LeavesUntouched e out.old out.new) }
     ensures prefix { IfErr result (λ e. LeavesPrefix host.now (contents libs.now) e
         (W.contents out.old) (W.contents out.new)) }

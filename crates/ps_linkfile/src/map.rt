@@ -1,170 +1,157 @@
 //! The map of a link, as text.
 ghost use Rattle.std.specs.Prelude.{◌≡◌, None, IfOk, IfErr, length};
-ghost use Rattle.std.specs.Fmt.{WritesOnOk};
+ghost use Rattle.ps_linkfile.specs.Adding.{Adds};
 ghost use Rattle.std.specs.List.{flat_map};
 ghost use Rattle.ps_resolve.specs.AllFaults.{first_fault};
 ghost use Rattle.ps_resolve.specs.Sources.{contents};
 ghost use Rattle.ps_resolve.specs.Standing.{NoneStands};
 ghost use Rattle.ps_linkfile.specs.Writing.{extents_in, starts_of, IsReady};
-ghost use Rattle.ps_linkfile.specs.Outcomes.{IsUnprepared, NamesFirst};
+ghost use Rattle.ps_linkfile.specs.Outcomes.{HasUsedNumber, IsUnprepared, NamesFirst};
 ghost use Rattle.ps_linkfile.specs.MapText.{added_word as added_word_spec, code_line, source_line, kind_word as kind_word_spec, definition_line, private_line, last_line, map_in, map_of};
 
 use crate::block_layout::lay_out;
 use crate::error::LinkError;
-use crate::lines::{Shown, TwoDigits, write_number, write_slot_name};
+use crate::in_memory::in_memory;
+use crate::lines::{add_number, add_slot_name, shown_codes, two_digits};
 use crate::linked::{Linked, prepare};
+use crate::text_writer::{Text, TextWriter};
 use ps_laws::first_of_all;
 use ps_resolve::{Def, DefKind, Definitions, Plan, Private, Source};
 use ps_words::Name;
 use std::alloc::Allocator;
-use std::fmt::{self, Display, Formatter};
 
 /// What ends the line of a segment, where it was added for a UNITREF record.
-fn added_word(added: bool) -> &'static str
+fn added_word(added: bool) -> &'static [u8]
     ensures { result.now ≡ added_word_spec added }
 {
-    if added { " added" } else { "" }
+    if added { b" added" } else { b"" }
 }
 
 /// Adds the line of a segment of this name, whose code begins in this block.
-fn add_segment<W: fmt::Write>(
-    text: &mut Formatter<W>,
-    source: &Source,
-    name: Name,
-    block: u16,
-) -> fmt::Result
-    ensures { WritesOnOk W.write_str_gives text.old result
+fn add_segment<S: TextWriter>(text: &mut S, source: &Source, name: Name, block: u16)
+    ensures { Adds S.added text.old
         (code_line source.now.slot name source.now.file source.now.index block
         (length source.now.code.now) source.now.added) text.new }
 {
-    writeln!(
-        text,
-        "segment {} {} file {} entry {} block {block} length {}{}",
-        TwoDigits(source.slot),
-        Shown(name),
-        source.file,
-        TwoDigits(source.index),
-        source.code.len(),
-        added_word(source.added),
-    )
+    add_slot_name(text, b"segment ", source.slot, name);
+    add_number(text, b" file ", source.file);
+    text.add(b" entry ");
+    text.add(&two_digits(source.index));
+    add_number(text, b" block ", block);
+    add_number(text, b" length ", source.code.len());
+    text.add(added_word(source.added));
+    text.add(b"\n");
 }
 
 /// Adds a line for each segment, by slot. Their codes begin in these blocks.
-fn add_segments<A: Allocator + Copy, W: fmt::Write>(
-    text: &mut Formatter<W>,
+fn add_segments<A: Allocator + Copy, S: TextWriter>(
+    text: &mut S,
     plan: &Plan<'_, A>,
     starts: &[u16],
-) -> fmt::Result
+)
     requires ready { IsReady plan.now }
     requires starts { starts.now ≡ starts_of (extents_in plan.now) }
-    ensures { WritesOnOk W.write_str_gives text.old result
+    ensures { Adds S.added text.old
         (flat_map (source_line plan.now.names (extents_in plan.now)) plan.now.origins) text.new }
 {
     let names = plan.names();
     for (k, source) in plan.sources().iter().enumerate() {
-        add_segment(text, source, names[source.slot as usize], starts[k])?;
+        add_segment(text, source, names[source.slot as usize], starts[k]);
     }
-    Ok(())
 }
 
 /// What the map calls a definition.
-fn kind_word(kind: DefKind) -> &'static str
+fn kind_word(kind: DefKind) -> &'static [u8]
     ensures { result.now ≡ kind_word_spec kind }
 {
     match kind {
-        DefKind::Public => "public",
-        DefKind::Constant => "constant",
+        DefKind::Public => b"public",
+        DefKind::Constant => b"constant",
     }
 }
 
 /// Adds the line of a definition.
-fn add_definition<W: fmt::Write>(text: &mut Formatter<W>, name: Name, def: Def) -> fmt::Result
-    ensures { WritesOnOk W.write_str_gives text.old result (definition_line (name, def)) text.new }
+fn add_definition<S: TextWriter>(text: &mut S, name: Name, def: Def)
+    ensures { Adds S.added text.old (definition_line (name, def)) text.new }
 {
-    text.write_str(kind_word(def.kind))?;
-    text.write_str(" ")?;
-    Shown(name).fmt(text)?;
-    write_number(text, " value ", def.value)?;
-    text.write_str("\n")
+    text.add(kind_word(def.kind));
+    text.add(b" ");
+    text.add(&shown_codes(name));
+    add_number(text, b" value ", def.value);
+    text.add(b"\n");
 }
 
 /// Adds a line for each definition, in record order.
-fn add_definitions<A: Allocator + Copy, W: fmt::Write>(
-    text: &mut Formatter<W>,
-    definitions: &Definitions<A>,
-) -> fmt::Result
-    ensures { WritesOnOk W.write_str_gives text.old result
+fn add_definitions<A: Allocator + Copy, S: TextWriter>(text: &mut S, definitions: &Definitions<A>)
+    ensures { Adds S.added text.old
         (flat_map definition_line definitions.now) text.new }
 {
     for i in 0..definitions.len() {
+        if text.has_failed() {
+            return;
+        }
         let (name, def) = definitions.at(i);
-        add_definition(text, name, def)?;
+        add_definition(text, name, def);
     }
-    Ok(())
 }
 
 /// Adds the line of a private variable.
-fn add_private<W: fmt::Write>(text: &mut Formatter<W>, private: &Private) -> fmt::Result
-    ensures { WritesOnOk W.write_str_gives text.old result (private_line private.now) text.new }
+fn add_private<S: TextWriter>(text: &mut S, private: &Private)
+    ensures { Adds S.added text.old (private_line private.now) text.new }
 {
-    write_slot_name(text, "private ", private.slot, private.name)?;
-    write_number(text, " offset ", private.offset)?;
-    write_number(text, " words ", private.words)?;
-    text.write_str("\n")
+    add_slot_name(text, b"private ", private.slot, private.name);
+    add_number(text, b" offset ", private.offset);
+    add_number(text, b" words ", private.words);
+    text.add(b"\n");
 }
 
 /// Adds a line for each private variable, by slot and then by record.
-fn add_privates<W: fmt::Write>(text: &mut Formatter<W>, privates: &[Private]) -> fmt::Result
-    ensures { WritesOnOk W.write_str_gives text.old result (flat_map private_line privates.now)
+fn add_privates<S: TextWriter>(text: &mut S, privates: &[Private])
+    ensures { Adds S.added text.old (flat_map private_line privates.now)
         text.new }
 {
     for private in privates {
-        add_private(text, private)?;
+        if text.has_failed() {
+            return;
+        }
+        add_private(text, private);
     }
-    Ok(())
 }
 
 /// Adds the last line: what is free after the private variables, the data size, and the blocks.
-fn add_last<A: Allocator + Copy, W: fmt::Write>(
-    text: &mut Formatter<W>,
-    plan: &Plan<'_, A>,
-    blocks: usize,
-) -> fmt::Result
-    ensures { WritesOnOk W.write_str_gives text.old result
+fn add_last<A: Allocator + Copy, S: TextWriter>(text: &mut S, plan: &Plan<'_, A>, blocks: usize)
+    ensures { Adds S.added text.old
         (last_line plan.now.next_free plan.now.data_size blocks) text.new }
 {
-    let next_free = plan.next_free();
-    let data_size = plan.data_size();
-    writeln!(text, "next {next_free} data {data_size} blocks {blocks}")
+    add_number(text, b"next ", plan.next_free());
+    add_number(text, b" data ", plan.data_size());
+    add_number(text, b" blocks ", blocks);
+    text.add(b"\n");
 }
 
 /// Adds the map of a plan that can be written.
-pub(crate) fn add_map<A: Allocator + Copy, W: fmt::Write>(
-    text: &mut Formatter<W>,
-    plan: &Plan<'_, A>,
-) -> fmt::Result
+pub(crate) fn add_map<A: Allocator + Copy, S: TextWriter>(text: &mut S, plan: &Plan<'_, A>)
     requires { IsReady plan.now }
-    ensures { WritesOnOk W.write_str_gives text.old result (map_in plan.now) text.new }
+    ensures { Adds S.added text.old (map_in plan.now) text.new }
 {
     let layout = lay_out(plan);
-    add_segments(text, plan, layout.starts.as_slice())?;
-    add_definitions(text, plan.definitions())?;
-    add_privates(text, plan.allotment().privates())?;
-    add_last(text, plan, layout.blocks)
+    add_segments(text, plan, layout.starts.as_slice());
+    add_definitions(text, plan.definitions());
+    add_privates(text, plan.allotment().privates());
+    add_last(text, plan, layout.blocks);
 }
 
 /// The map of a link that was checked.
 #[derive(Clone, Copy)]
 pub(crate) struct LinkMap<'l, 'a, A: Allocator + Copy>(pub(crate) &'l Linked<'a, A>);
 
-impl<A: Allocator + Copy> fmt::Display for LinkMap<'_, '_, A> {
-    ghost use Rattle.std.specs.Prelude.{Some};
+impl<A: Allocator + Copy> Text for LinkMap<'_, '_, A> {
     ghost use Rattle.ps_linkfile.specs.MapText.{map_in};
 
-    ghost output = { λ m. Some (map_in m.0.now) };
+    ghost bytes = { λ m. map_in m.0.now };
 
-    fn fmt<W: fmt::Write>(&self, f: &mut Formatter<W>) -> fmt::Result {
-        self.0.add_map(f)
+    fn add_to<S: TextWriter>(&self, text: &mut S) {
+        self.0.add_map(text);
     }
 }
 
@@ -194,8 +181,9 @@ pub fn map_text<'a, A: Allocator + Copy>(
     ensures accepted { IfOk result (λ _. NoneStands host.now (contents libs.now)) }
     ensures error { IfErr result (IsUnprepared host.now (contents libs.now)) }
     ensures first { IfErr result (NamesFirst host.now (contents libs.now)) }
+    ensures used { IfErr result HasUsedNumber }
 {
     first_of_all();
     let linked = prepare(alloc, host, libs)?;
-    Ok(LinkMap(&linked).to_string(alloc)?.into_bytes())
+    Ok(in_memory(alloc, &LinkMap(&linked))?)
 }

@@ -1,13 +1,12 @@
 //! The text of a record's references, which is made a piece at a time.
 ghost use Rattle.std.specs.Prelude.{◌≡◌, ◌<◌, ◌≤◌, ◌+◌, ◌-◌, ◌++◌, drop, length, take};
-ghost use Rattle.std.specs.Fmt.{WritesOnOk};
 ghost use Rattle.std.specs.List.{flat_map};
-ghost use Rattle.std.specs.Str.{IsAscii};
+ghost use Rattle.ps_linkfile.specs.Adding.{Adds};
 ghost use Rattle.ps_linkfile.specs.ShowText.{reference};
 
+use crate::text_writer::TextWriter;
 use itoa::write_digits;
 use ps_linkinfo::Refs;
-use std::fmt::{self, Formatter};
 
 /// How many references a piece has, but for the last.
 pub(crate) const PIECE_REFERENCES: usize = 64;
@@ -22,7 +21,6 @@ fn write_reference(place: u16, piece: &mut [u8; PIECE_TEXT_LEN], end: usize) -> 
     ensures begins { end ≤ result + 6 }
     ensures before { result < end }
     ensures text { drop result piece.new ≡ reference place ++ drop end piece.old }
-    ensures ascii { IsAscii (reference place) }
 {
     let digits = write_digits(place as u64, piece, end);
     let blank = digits - 1;
@@ -39,7 +37,6 @@ fn write_piece(refs: &Refs, from: usize, end: usize, piece: &mut [u8; PIECE_TEXT
     ensures inside { result ≤ 384 }
     ensures text { drop result piece.new
         ≡ flat_map reference (take (end - from) (drop from refs.now)) }
-    ensures ascii { IsAscii (drop result piece.new) }
 {
     let mut start = PIECE_TEXT_LEN;
     for step in 0..end - from {
@@ -49,20 +46,13 @@ fn write_piece(refs: &Refs, from: usize, end: usize, piece: &mut [u8; PIECE_TEXT
 }
 
 /// Adds the text of the references from the index `from` on, of 64 at most.
-pub(crate) fn add_piece<W: fmt::Write>(
-    text: &mut Formatter<W>,
-    refs: &Refs,
-    from: usize,
-) -> fmt::Result
+pub(crate) fn add_piece<S: TextWriter>(text: &mut S, refs: &Refs, from: usize)
     requires { from ≤ length refs.now }
-    ensures { WritesOnOk W.write_str_gives text.old result
+    ensures { Adds S.added text.old
         (flat_map reference (take 64 (drop from refs.now))) text.new }
 {
     let mut piece = [0; PIECE_TEXT_LEN];
     let end = refs.len().min(from + PIECE_REFERENCES);
     let start = write_piece(refs, from, end, &mut piece);
-    match str::from_utf8(&piece[start..]) {
-        Err(_) => unreachable!(),
-        Ok(words) => text.write_str(words),
-    }
+    text.add(&piece[start..]);
 }

@@ -1,6 +1,5 @@
 //! What a code file has, as text.
 ghost use Rattle.std.specs.Prelude.{◌≡◌, ◌<◌, ◌++◌, ◌∷◌, [], if◌then◌else◌, None, Some, IfOk, IfErr, OnOk, decimal};
-ghost use Rattle.std.specs.Fmt.{WritesOnOk};
 ghost use Rattle.std.specs.Io.KnownBytes.{Appends};
 ghost use Rattle.std.specs.List.{flat_map};
 ghost use Rattle.ps_words.specs.FaultPlaces.{in_file};
@@ -10,22 +9,23 @@ ghost use Rattle.arrayvec.specs.ArrayVec.{array_vec_len};
 ghost use Rattle.ps_resolve.specs.Faults.{is_role};
 ghost use Rattle.ps_codefile.specs.Roles.{is_unit as is_unit_role};
 ghost use Rattle.ps_resolve.specs.Sources.{known_order};
+ghost use Rattle.ps_linkfile.specs.Adding.{Adds};
 ghost use Rattle.ps_linkfile.specs.Lines.{line, shown_name};
-ghost use Rattle.ps_linkfile.specs.Outcomes.{LeavesUntouched};
+ghost use Rattle.ps_linkfile.specs.Outcomes.{LeavesTextPrefix, LeavesUntouched};
 ghost use Rattle.ps_linkfile.specs.ShowText.{order_words, slot_line, references, unit_names as unit_names_spec, is_listed as is_listed_spec, unlisted_word as unlisted_word_spec, record_line, fault_line, record_lines, has_links as has_links_spec, links_lines, show_of, order_shown, show_fault, IsUnshown, IsUnwritten};
 
 use crate::error::LinkError;
-use crate::lines::{FaultWords, Shown, TwoDigits, write_number};
+use crate::in_memory::in_memory;
+use crate::lines::{add_fault, add_number, add_slot_name, shown_codes, two_digits};
 use crate::pieces::{PIECE_REFERENCES, add_piece};
 use crate::stream::write_text;
+use crate::text_writer::{Text, TextWriter};
 use arrayvec::ArrayVec;
-use itoa::Buffer;
 use ps_codefile::dictionary_layout::{SLOT_COUNT, SLOTS};
 use ps_codefile::{Dict, Entry, Role};
 use ps_linkinfo::{Body, LinkRecord, Records, Refs, walk_from_start};
 use ps_words::{Fault, Name, Order, Reason};
 use std::alloc::Allocator;
-use std::fmt::{self, Display, Formatter};
 use std::io::Write;
 
 /// A fault of the file as a whole.
@@ -42,16 +42,15 @@ struct ShownFile<'a> {
     order: Option<Order>,
 }
 
-impl fmt::Display for ShownFile<'_> {
-    ghost use Rattle.std.specs.Prelude.{Some};
+impl Text for ShownFile<'_> {
     ghost use Rattle.ps_linkfile.specs.ShowText.{order_shown, shown_file};
 
-    ghost output = { λ f. Some (shown_file (order_shown f.order) f.dict.order f.dict.file) };
+    ghost bytes = { λ f. shown_file (order_shown f.order) f.dict.order f.dict.file };
 
-    fn fmt<W: fmt::Write>(&self, f: &mut Formatter<W>) -> fmt::Result {
-        add_order(f, self.order)?;
-        add_slots(f, &self.dict)?;
-        add_all_links(f, &self.dict)
+    fn add_to<S: TextWriter>(&self, text: &mut S) {
+        add_order(text, self.order);
+        add_slots(text, &self.dict);
+        add_all_links(text, &self.dict);
     }
 }
 
@@ -77,23 +76,22 @@ fn read(file: &[u8]) -> Result<ShownFile<'_>, Fault>
 }
 
 /// Adds the line of the byte order.
-fn add_order<W: fmt::Write>(text: &mut Formatter<W>, order: Option<Order>) -> fmt::Result
-    ensures { WritesOnOk W.write_str_gives text.old result (line (order_words (order_shown order)))
+fn add_order<S: TextWriter>(text: &mut S, order: Option<Order>)
+    ensures { Adds S.added text.old (line (order_words (order_shown order)))
         text.new }
 {
-    let order = match order {
-        None => "unknown",
-        Some(Order::Little) => "little",
-        Some(Order::Big) => "big",
-    };
-    writeln!(text, "order {order}")
+    match order {
+        None => text.add(b"order unknown\n"),
+        Some(Order::Little) => text.add(b"order little\n"),
+        Some(Order::Big) => text.add(b"order big\n"),
+    }
 }
 
 /// Adds the line of a slot.
 #[tactic(auto, unfolding(crate::specs::ShowText::slot_line))]
-fn add_slot<W: fmt::Write>(text: &mut Formatter<W>, dict: &Dict, slot: u8) -> fmt::Result
+fn add_slot<S: TextWriter>(text: &mut S, dict: &Dict, slot: u8)
     requires { slot < 16 }
-    ensures { WritesOnOk W.write_str_gives text.old result
+    ensures { Adds S.added text.old
         (slot_line dict.now.order dict.now.file slot) text.new }
 {
     let Entry {
@@ -103,23 +101,22 @@ fn add_slot<W: fmt::Write>(text: &mut Formatter<W>, dict: &Dict, slot: u8) -> fm
         kind,
         text: block,
     } = dict.entry(slot);
-    let number = TwoDigits(slot);
-    let name = Shown(name);
-    writeln!(
-        text,
-        "slot {number} {name} kind {kind} address {address} length {length} text {block}"
-    )
+    add_slot_name(text, b"slot ", slot, name);
+    add_number(text, b" kind ", kind);
+    add_number(text, b" address ", address);
+    add_number(text, b" length ", length);
+    add_number(text, b" text ", block);
+    text.add(b"\n");
 }
 
 /// Adds the line of each slot.
-fn add_slots<W: fmt::Write>(text: &mut Formatter<W>, dict: &Dict) -> fmt::Result
-    ensures { WritesOnOk W.write_str_gives text.old result
+fn add_slots<S: TextWriter>(text: &mut S, dict: &Dict)
+    ensures { Adds S.added text.old
         (flat_map (slot_line dict.now.order dict.now.file) slots) text.new }
 {
     for slot in 0..SLOTS {
-        add_slot(text, dict, slot)?;
+        add_slot(text, dict, slot);
     }
-    Ok(())
 }
 
 /// The slot has a unit, in place or wanted.
@@ -162,121 +159,109 @@ fn is_listed(units: &[Name], name: Name) -> bool
 }
 
 /// What ends the line of a UNITREF record, where none of these units has its name.
-fn unlisted_word(units: &[Name], name: Name) -> &'static str
+fn unlisted_word(units: &[Name], name: Name) -> &'static [u8]
     ensures { result.now ≡ unlisted_word_spec units.now name }
 {
     if is_listed(units, name) {
-        ""
+        b""
     } else {
-        " unlisted"
+        b" unlisted"
     }
 }
 
 /// Adds the references of a record.
-fn add_references<W: fmt::Write>(text: &mut Formatter<W>, refs: &Refs) -> fmt::Result
-    ensures { WritesOnOk W.write_str_gives text.old result (references refs.now) text.new }
+fn add_references<S: TextWriter>(text: &mut S, refs: &Refs)
+    ensures { Adds S.added text.old (references refs.now) text.new }
 {
-    text.write_str(" at")?;
+    text.add(b" at");
     for index in 0..refs.len().div_ceil(PIECE_REFERENCES) {
-        add_piece(text, refs, PIECE_REFERENCES * index)?;
+        add_piece(text, refs, PIECE_REFERENCES * index);
     }
-    Ok(())
 }
 
 /// Adds what the line of a record begins with: its index, the word of its kind and its name.
-fn add_head<W: fmt::Write>(
-    text: &mut Formatter<W>,
-    rec: usize,
-    kind: &str,
-    name: Name,
-) -> fmt::Result
-    ensures { WritesOnOk W.write_str_gives text.old result (decimal rec ++ kind.now ++ shown_name name)
+fn add_head<S: TextWriter>(text: &mut S, rec: usize, kind: &[u8], name: Name)
+    ensures { Adds S.added text.old (decimal rec ++ kind.now ++ shown_name name)
         text.new }
 {
-    text.write_str(Buffer::new().format(rec))?;
-    text.write_str(kind)?;
-    Shown(name).fmt(text)
+    add_number(text, b"", rec);
+    text.add(kind);
+    text.add(&shown_codes(name));
 }
 
 /// Adds the line of a record, which has the index `rec` in its segment's link information, in a
 /// file with these units.
-fn add_record<W: fmt::Write>(
-    text: &mut Formatter<W>,
-    units: &[Name],
-    rec: usize,
-    entry: &LinkRecord,
-) -> fmt::Result
-    ensures { WritesOnOk W.write_str_gives text.old result (record_line units.now (rec, entry.now))
+fn add_record<S: TextWriter>(text: &mut S, units: &[Name], rec: usize, entry: &LinkRecord)
+    ensures { Adds S.added text.old (record_line units.now (rec, entry.now))
         text.new }
 {
     match &entry.body {
         Body::UnitRef(refs) => {
-            add_head(text, rec, " UNITREF ", entry.name)?;
-            add_references(text, refs)?;
-            text.write_str(unlisted_word(units, entry.name))?;
-            text.write_str("\n")
+            add_head(text, rec, b" UNITREF ", entry.name);
+            add_references(text, refs);
+            text.add(unlisted_word(units, entry.name));
+            text.add(b"\n");
         }
         Body::PublRef(refs) => {
-            add_head(text, rec, " PUBLREF ", entry.name)?;
-            add_references(text, refs)?;
-            text.write_str("\n")
+            add_head(text, rec, b" PUBLREF ", entry.name);
+            add_references(text, refs);
+            text.add(b"\n");
         }
         Body::PrivRef { words, refs } => {
-            add_head(text, rec, " PRIVREF ", entry.name)?;
-            write_number(text, " words ", *words)?;
-            add_references(text, refs)?;
-            text.write_str("\n")
+            add_head(text, rec, b" PRIVREF ", entry.name);
+            add_number(text, b" words ", *words);
+            add_references(text, refs);
+            text.add(b"\n");
         }
         Body::PublDef(value) => {
-            add_head(text, rec, " PUBLDEF ", entry.name)?;
-            write_number(text, " value ", *value)?;
-            text.write_str("\n")
+            add_head(text, rec, b" PUBLDEF ", entry.name);
+            add_number(text, b" value ", *value);
+            text.add(b"\n");
         }
         Body::ConstDef(value) => {
-            add_head(text, rec, " CONSTDEF ", entry.name)?;
-            write_number(text, " value ", *value)?;
-            text.write_str("\n")
+            add_head(text, rec, b" CONSTDEF ", entry.name);
+            add_number(text, b" value ", *value);
+            text.add(b"\n");
         }
-        Body::Eof(next) => writeln!(text, "{rec} EOFMARK next {next}"),
+        Body::Eof(next) => {
+            add_number(text, b"", rec);
+            add_number(text, b" EOFMARK next ", *next);
+            text.add(b"\n");
+        }
     }
 }
 
 /// Adds the line of a fault that occurs in place of the record of index `rec`.
-fn add_record_fault<W: fmt::Write>(
-    text: &mut Formatter<W>,
-    rec: usize,
-    reason: Reason,
-) -> fmt::Result
-    ensures { WritesOnOk W.write_str_gives text.old result
+fn add_record_fault<S: TextWriter>(text: &mut S, rec: usize, reason: Reason)
+    ensures { Adds S.added text.old
         (fault_line rec (Some reason)) text.new }
 {
-    let fault = FaultWords(reason);
-    writeln!(text, "{rec} {fault}")
+    add_number(text, b"", rec);
+    text.add(b" ");
+    add_fault(text, reason);
+    text.add(b"\n");
 }
 
 /// Adds the lines of link information in a file with these units: of each record up to its end, or
 /// up to the first fault and that fault.
-fn add_records<W: fmt::Write>(
-    text: &mut Formatter<W>,
-    units: &[Name],
-    order: Order,
-    information: &[u8],
-) -> fmt::Result
-    ensures { WritesOnOk W.write_str_gives text.old result
+fn add_records<S: TextWriter>(text: &mut S, units: &[Name], order: Order, information: &[u8])
+    ensures { Adds S.added text.old
         (record_lines units.now (reading order information.now)) text.new }
 {
     walk_from_start();
     let mut rec = 0;
     for item in Records::new(order, information) {
+        if text.has_failed() {
+            return;
+        }
         match item {
             Ok(entry) => {
-                add_record(text, units, rec, &entry)?;
+                add_record(text, units, rec, &entry);
                 rec += 1;
             }
-            Err(reason) => add_record_fault(text, rec, reason)?,
+            Err(reason) => add_record_fault(text, rec, reason),
         }
     }
-    Ok(())
 }
 
 /// The slot has a host segment or a unit, with a code in this file.
@@ -290,37 +275,36 @@ fn has_links(dict: &Dict, slot: u8) -> bool
 /// Adds the link information of a slot, where it has a segment with one, in a file with these
 /// units.
 #[tactic(auto, unfolding(crate::specs::ShowText::links_lines))]
-fn add_links<W: fmt::Write>(
-    text: &mut Formatter<W>,
-    dict: &Dict,
-    units: &[Name],
-    slot: u8,
-) -> fmt::Result
+fn add_links<S: TextWriter>(text: &mut S, dict: &Dict, units: &[Name], slot: u8)
     requires in_range { slot < 16 }
     requires units { units.now ≡ unit_names_spec dict.now.order dict.now.file }
-    ensures { WritesOnOk W.write_str_gives text.old result
+    ensures { Adds S.added text.old
         (links_lines dict.now.order dict.now.file slot) text.new }
 {
     if !has_links(dict, slot) {
-        return Ok(());
+        return;
     }
-    writeln!(text, "links {}", TwoDigits(slot))?;
+    text.add(b"links ");
+    text.add(&two_digits(slot));
+    text.add(b"\n");
     match dict.code(slot) {
-        Err(reason) => writeln!(text, "{}", FaultWords(reason)),
+        Err(reason) => {
+            add_fault(text, reason);
+            text.add(b"\n");
+        }
         Ok(_) => add_records(text, units, dict.order(), dict.after(slot)),
     }
 }
 
 /// Adds the link information of each slot.
-fn add_all_links<W: fmt::Write>(text: &mut Formatter<W>, dict: &Dict) -> fmt::Result
-    ensures { WritesOnOk W.write_str_gives text.old result
+fn add_all_links<S: TextWriter>(text: &mut S, dict: &Dict)
+    ensures { Adds S.added text.old
         (flat_map (links_lines dict.now.order dict.now.file) slots) text.new }
 {
     let units = unit_names(dict);
     for slot in 0..SLOTS {
-        add_links(text, dict, units.as_slice(), slot)?;
+        add_links(text, dict, units.as_slice(), slot);
     }
-    Ok(())
 }
 
 /// What a code file has, as ASCII lines: its byte order; its sixteen slots; and for each slot with
@@ -344,7 +328,7 @@ pub fn show_text<A: Allocator + Copy>(alloc: A, file: &[u8]) -> Result<Vec<u8, A
     ensures sound { IfOk result (λ _. show_fault file.now ≡ None) }
     ensures error { IfErr result (IsUnshown file.now) }
 {
-    Ok(read(file)?.to_string(alloc)?.into_bytes())
+    Ok(in_memory(alloc, &read(file)?)?)
 }
 
 /// Writes the text that `show_text` returns, in pieces. It takes no memory.
@@ -359,6 +343,8 @@ pub fn write_show<W: Write>(file: &[u8], out: &mut W) -> Result<(), LinkError>
     ensures sound { OnOk result (show_fault file.now ≡ None) }
     ensures error { IfErr result (IsUnwritten file.now) }
     ensures untouched { IfErr result (λ e. LeavesUntouched e out.old out.new) }
+    ensures prefix { IfErr result (λ e. LeavesTextPrefix (show_of file.now) e
+        (W.contents out.old) (W.contents out.new)) }
 {
-    Ok(write_text(read(file)?, out)?)
+    Ok(write_text(&read(file)?, out)?)
 }

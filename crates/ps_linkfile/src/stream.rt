@@ -1,13 +1,14 @@
 //! Text that is written to a writer in pieces.
-ghost use Rattle.std.specs.Prelude.{◌≡◌, [], IfSome, OnOk};
-ghost use Rattle.std.specs.Io.KnownBytes.{Appends, append_known};
+ghost use Rattle.std.specs.Prelude.{◌≡◌, ◌++◌, [], List, ℕ, OnOk, OnErr};
+ghost use Rattle.std.specs.Io.KnownBytes.{Appends};
+ghost use Rattle.ps_linkfile.specs.Outcomes.{AppendsPrefix};
 
 use crate::counts::Counts;
 use crate::error::WriteFault;
+use crate::text_writer::{Text, TextWriter};
 use crate::writing::write_all_of;
 use arrayvec::ArrayVec;
-use std::fmt::{self, Display, Formatter};
-use std::io::{self, Write};
+use std::io::Write;
 
 /// How many bytes are gathered before they are written.
 const BUFFER_LEN: usize = 16384;
@@ -20,6 +21,8 @@ fn flush<W: Write>(out: &mut W, gathered: &mut Gathered) -> Result<(), WriteFaul
     ensures bytes { OnOk result (Appends (W.contents out.old) (W.contents out.new)
         gathered.old.items) }
     ensures empty { OnOk result (gathered.new.items ≡ []) }
+    ensures prefix { OnErr result (AppendsPrefix (W.contents out.old) (W.contents out.new)
+        gathered.old.items) }
 {
     write_all_of(out, &mut Counts::new(), gathered.as_slice())?;
     gathered.clear();
@@ -28,8 +31,11 @@ fn flush<W: Write>(out: &mut W, gathered: &mut Gathered) -> Result<(), WriteFaul
 
 /// Gathers these bytes, and writes what was gathered before where there is no room for them.
 fn gather<W: Write>(out: &mut W, gathered: &mut Gathered, bytes: &[u8]) -> Result<(), WriteFault>
-    ensures { OnOk result (Appends (append_known (W.contents out.old) gathered.old.items)
-        (append_known (W.contents out.new) gathered.new.items) bytes.now) }
+    ensures sent { OnOk result ((sent : List ℕ)
+        × Appends (W.contents out.old) (W.contents out.new) sent
+        × (sent ++ gathered.new.items ≡ gathered.old.items ++ bytes.now)) }
+    ensures prefix { OnErr result (AppendsPrefix (W.contents out.old) (W.contents out.new)
+        (gathered.old.items ++ bytes.now)) }
 {
     if gathered.try_extend_from_slice(bytes).is_ok() {
         return Ok(());
@@ -41,52 +47,54 @@ fn gather<W: Write>(out: &mut W, gathered: &mut Gathered, bytes: &[u8]) -> Resul
     write_all_of(out, &mut Counts::new(), bytes)
 }
 
-/// A writer of text in front of a writer of bytes.
+/// A writer of text in front of a writer of bytes, which is not called again once it failed.
 struct Stream<'w, W: Write> {
     out: &'w mut W,
     gathered: Gathered,
     fault: Option<WriteFault>,
 }
 
-impl<W: Write> fmt::Write for Stream<'_, W> {
+impl<W: Write> TextWriter for Stream<'_, W> {
     ghost use Rattle.std.specs.Prelude.{◌≡◌};
-    ghost use Rattle.std.specs.Io.KnownBytes.{Appends, append_known};
+    ghost use Rattle.ps_linkfile.specs.Adding.{IsSent};
 
-    ghost write_str_gives = { λ old bytes new. (new.out.ghost_name ≡ old.out.ghost_name) × Appends (append_known (W.contents old.out.now) old.gathered.items) (append_known (W.contents new.out.now) new.gathered.items) bytes };
+    ghost added = { λ first text now. (now.out.ghost_name ≡ first.out.ghost_name) × IsSent (W.contents first.out.now) text (W.contents now.out.now) now.gathered.items now.fault };
 
-    fn write_str(&mut self, words: &str) -> fmt::Result {
-        match gather(self.out, &mut self.gathered, words.as_bytes()) {
-            Ok(()) => Ok(()),
-            Err(fault) => {
-                self.fault = Some(fault);
-                Err(fmt::Error)
-            }
+    fn add(&mut self, bytes: &[u8]) {
+        if self.fault.is_some() {
+            return;
         }
+        match gather(self.out, &mut self.gathered, bytes) {
+            Ok(()) => {}
+            Err(fault) => self.fault = Some(fault),
+        }
+    }
+
+    fn has_failed(&self) -> bool {
+        self.fault.is_some()
     }
 }
 
 /// Writes the text, in pieces.
-pub(crate) fn write_text<W: Write, D: Display + Drop>(
-    text: D,
-    out: &mut W,
-) -> Result<(), WriteFault>
-    ensures { OnOk result (IfSome (D.output text)
-        (Appends (W.contents out.old) (W.contents out.new))) }
+pub(crate) fn write_text<W: Write, T: Text>(text: &T, out: &mut W) -> Result<(), WriteFault>
+    ensures all { OnOk result (Appends (W.contents out.old) (W.contents out.new)
+        (T.bytes text.now)) }
+    ensures prefix { OnErr result (AppendsPrefix (W.contents out.old) (W.contents out.new)
+        (T.bytes text.now)) }
 {
-    let mut formatter = Formatter::new(Stream {
+    let mut stream = Stream {
         out,
         gathered: ArrayVec::new(),
         fault: None,
-    });
-    let written = formatter.write(text);
+    };
+    text.add_to(&mut stream);
     let Stream {
         out,
         mut gathered,
         fault,
-    } = formatter.into_inner();
-    match (fault, written) {
-        (Some(fault), _) => Err(fault),
-        (None, Err(error)) => Err(WriteFault::Device(io::Error::from(error))),
-        (None, Ok(())) => flush(out, &mut gathered),
+    } = stream;
+    match fault {
+        Some(fault) => Err(fault),
+        None => flush(out, &mut gathered),
     }
 }

@@ -1,8 +1,9 @@
+use Rattle.std.proofs.lemmas.Result.{err_from_is_err_and}
 use Rattle.std.proofs.Common.{◌≤◌, List, ℕ, length, map, sym, subst}
 use Rattle.ps_linkfile.specs.LinkedFile.{LinkedFile}
 use Rattle.ps_linkfile.proofs.Plans.{plan_ready, plan_file, plan_summary}
 use Rattle.ps_linkfile.proofs.Maps.{plan_map}
-use Rattle.ps_linkfile.proofs.Whole.{there, long_host}
+use Rattle.ps_linkfile.proofs.Whole.{names_first, there, long_host}
 use Rattle.ps_linkfile.proofs.linked.prepare.Goals as goal
 
 pub invariant_of-result : goal.invariant_of-result
@@ -25,3 +26,8 @@ returns-clause-map g c = plan_map _ _ c.in_ok-plan.plan c.in_ok-plan.ensures.pla
 
 pub returns-clause-accepted : goal.returns-clause-accepted
 returns-clause-accepted g c = c.first_of_all.ensures.none _ _ c.in_ok-plan.ensures.sound
+
+pub returns-in_err-plan-clause-first : goal.returns-in_err-plan-clause-first
+returns-in_err-plan-clause-first g c =
+    let p = err_from_is_err_and c.from_residual.result c.from_residual.ensures.1 in
+    rw (p.1, p.2) (names_first c.first_of_all.ensures.some c.first_of_all.ensures.parts c.first_of_all.ensures.read _ _ _ c.in_err-plan.ensures.stop)

@@ -38,11 +38,11 @@ loop-k-preserved g c =
     let written : List (List ℕ) → List ℕ = λ names. code_line o.slot (get_or names o.slot []) o.file o.index (get_or c.args.starts.now k 0) (length o.code) o.added in
     let line : written c.names-names.result.now ≡ line_of o = ap written c.names-names.ensures ∙ line_at plan.names c.args.starts.now ss plan.origins k origins c.requires.starts c.loop-k-test.true in
     let left = items_left line_of plan.origins k o (source_at ss plan.origins k origins c.loop-k-test.true) in
-    some_more _ _ _ c.loop-k.text _ _ _ _ (left ∙ ap (λ (bs : List ℕ). bs ++ rest) (sym line)) c.loop-k.invariant (λ plain. c.in_ok-add_segment.ensures plain (search rules))
+    some_more _ _ _ c.loop-k.text _ _ _ _ (left ∙ ap (λ (bs : List ℕ). bs ++ rest) (sym line)) c.loop-k.invariant c.add_segment.ensures
 
 pub returns : goal.returns
-returns g c plain ok =
+returns g c =
     let plan = c.args.plan.now in
     let ss = c.sources-source-items.result.now in
     let long : length plan.origins ≡ length ss = ap (λ (ps : List Origin). length ps) (sym c.sources-source-items.ensures.origins) ∙ length-map ss origin_of_source in
-    all_written _ _ _ c.loop-k.text _ (items_over (source_line plan.names (extents_in plan)) plan.origins c.loop-k.k (omega (arith, long, c.loop-k-test.false))) c.loop-k.invariant plain
+    all_written _ _ _ c.loop-k.text _ (items_over (source_line plan.names (extents_in plan)) plan.origins c.loop-k.k (omega (arith, long, c.loop-k-test.false))) c.loop-k.invariant

@@ -1,9 +1,6 @@
-use Rattle.std.proofs.Common.{◌≡◌, ◌≤◌, ◌+◌, ◌-◌, ◌++◌, [], ◌∙◌, ℕ, List, drop, take, length, get_or, ap, sym, subst, arith}
+use Rattle.std.proofs.Common.{◌≡◌, ◌≤◌, ◌+◌, ◌-◌, ◌++◌, [], ◌∙◌, ℕ, List, drop, take, length, get_or, ap, sym, arith}
 use Rattle.std.specs.List.{flat_map}
-use Rattle.std.specs.Str.{IsAscii}
 use Rattle.std.proofs.Math.ListN.{drop_of_length-le}
-use Rattle.std.proofs.lemmas.Str.{IsAscii-append}
-use Rattle.std.proofs.lemmas.Str.Ascii.{IsAscii-nil}
 use Rattle.ps_linkfile.specs.ShowText.{reference}
 use Rattle.ps_linkfile.proofs.ReferenceText.{one_more}
 use Rattle.ps_linkfile.proofs.pieces.write_piece.Goals as goal
@@ -16,7 +13,6 @@ loop-step-init c =
       begins = omega arith;
       inside = omega arith;
       text = none;
-      ascii = subst (λ (bs : List ℕ). IsAscii bs) (sym none) IsAscii-nil;
     }
 
 pub loop-step-preserved : goal.loop-step-preserved
@@ -37,5 +33,4 @@ loop-step-preserved c =
           ∙ (ap (λ (ys : List ℕ). reference (get_or refs i 0) ++ ys) (inv.text ∙ ap (λ (n : ℕ). flat_map reference (take step (drop n refs))) (sym behind))
           ∙ (one_more refs i step (omega arith)
           ∙ ap (λ (n : ℕ). flat_map reference (take (step + 1) (drop n refs))) next)));
-      ascii = subst (λ (bs : List ℕ). IsAscii bs) (sym written.text) (IsAscii-append (reference c.get.result) old written.ascii inv.ascii);
     }

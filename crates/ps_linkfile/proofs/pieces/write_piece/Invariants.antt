@@ -1,6 +1,5 @@
 use Rattle.std.proofs.Common.{◌≡◌, ◌≤◌, ◌+◌, ◌-◌, ◌*◌, drop, take}
 use Rattle.std.specs.List.{flat_map}
-use Rattle.std.specs.Str.{IsAscii}
 use Rattle.ps_linkfile.specs.ShowText.{reference}
 use Rattle.ps_linkfile.proofs.pieces.write_piece.Given as goal
 
@@ -10,5 +9,4 @@ invariant-loop-step l = record {
   begins : 384 ≤ l.start + 6 * l.step;
   inside : l.start ≤ 384;
   text : drop l.start l.piece ≡ flat_map reference (take l.step (drop (l.end - l.step) l.refs));
-  ascii : IsAscii (drop l.start l.piece);
 }

@@ -1,6 +1,6 @@
 use Rattle.std.proofs.Common.{◌≡◌, ◌-◌, ◌+◌, ◌∷◌, ◌∙◌, ℕ, List, drop, ap, arith}
 use Rattle.std.proofs.lemmas.Grind.{drop-set_at}
-use Rattle.ps_linkfile.proofs.ReferenceText.{digits_few, reference_ascii}
+use Rattle.ps_linkfile.proofs.ReferenceText.{digits_few}
 use Rattle.ps_linkfile.proofs.pieces.write_reference.Goals as goal
 
 pub write_digits-digits-requires : goal.write_digits-digits-requires
@@ -21,6 +21,3 @@ returns-clause-text c =
     drop-set_at bytes (digits - 1) (digits - 1) 32 (omega arith) (omega (arith, few, c.write_digits-digits.ensures.start))
     ∙ ap (λ (n : ℕ). 32 ∷ drop n bytes) at
     ∙ ap (λ (xs : List ℕ). 32 ∷ xs) c.write_digits-digits.ensures.written
-
-pub returns-clause-ascii : goal.returns-clause-ascii
-returns-clause-ascii c = reference_ascii c.args.place (omega arith)

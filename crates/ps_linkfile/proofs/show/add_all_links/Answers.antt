@@ -1,4 +1,4 @@
-use Rattle.std.proofs.Common.{refl, rules}
+use Rattle.std.proofs.Common.{refl}
 use Rattle.ps_linkfile.specs.ShowText.{links_lines}
 use Rattle.ps_linkfile.proofs.Written.{none_yet, some_more, all_written, slots_left, slots_over}
 use Rattle.ps_linkfile.proofs.show.add_all_links.Goals as goal
@@ -8,8 +8,8 @@ loop-slot-init g c = none_yet _ c.args.text.now _ _ refl
 
 pub loop-slot-preserved : goal.loop-slot-preserved
 loop-slot-preserved g c =
-    some_more _ _ _ c.loop-slot.text _ _ _ _ (slots_left (links_lines c.args.dict.now.order c.args.dict.now.file) c.loop-slot.slot 16 c.loop-slot-test.true) c.loop-slot.invariant (λ plain. c.in_ok-add_links.ensures plain (search rules))
+    some_more _ _ _ c.loop-slot.text _ _ _ _ (slots_left (links_lines c.args.dict.now.order c.args.dict.now.file) c.loop-slot.slot 16 c.loop-slot-test.true) c.loop-slot.invariant c.add_links.ensures
 
 pub returns : goal.returns
-returns g c plain ok =
-    all_written _ _ _ c.loop-slot.text _ (slots_over (links_lines c.args.dict.now.order c.args.dict.now.file) c.loop-slot.slot 16 c.loop-slot-test.false) c.loop-slot.invariant plain
+returns g c =
+    all_written _ _ _ c.loop-slot.text _ (slots_over (links_lines c.args.dict.now.order c.args.dict.now.file) c.loop-slot.slot 16 c.loop-slot-test.false) c.loop-slot.invariant

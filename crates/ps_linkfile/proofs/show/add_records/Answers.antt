@@ -3,7 +3,7 @@ use Rattle.ps_linkinfo.specs.Records.{reading}
 use Rattle.ps_linkinfo.specs.Walk.{whole_walk}
 use Rattle.ps_linkinfo.specs.Left.{items_left}
 use Rattle.ps_linkfile.proofs.Shows.{item_lines, lines_of_reading, record_next, fault_next}
-use Rattle.ps_linkfile.proofs.Written.{none_yet, some_more, all_written}
+use Rattle.ps_linkfile.proofs.Written.{none_yet, some_more, all_stopped, all_written}
 use Rattle.ps_linkfile.proofs.show.add_records.Goals as goal
 
 pub loop-item-init : goal.loop-item-init
@@ -26,7 +26,7 @@ loop-item-preserved-in-Ok g c =
     record {
       can = tt;
       finite = tt;
-      lines = some_more _ _ _ c.loop-item.text _ _ _ _ (record_next c.args.units.now c.loop-item.rec _ _ (items_left c.next.new.self) c.in-Ok.entry more c.in-Ok.is) inv.lines (λ plain. c.in_ok-add_record-in-Ok.ensures plain (search rules));
+      lines = some_more _ _ _ c.loop-item.text _ _ _ _ (record_next c.args.units.now c.loop-item.rec _ _ (items_left c.next.new.self) c.in-Ok.entry more c.in-Ok.is) inv.lines c.add_record.ensures;
       few = omega (arith, inv.few, ap length more);
     }
 
@@ -37,10 +37,13 @@ loop-item-preserved g c =
     record {
       can = tt;
       finite = tt;
-      lines = some_more _ _ _ c.loop-item.text _ _ _ _ (fault_next c.args.units.now c.loop-item.rec _ _ (items_left c.next.new.self) c.in-Err.reason more c.in-Err.is) inv.lines (λ plain. c.in_ok-add_record_fault-in-Err.ensures plain (search rules));
+      lines = some_more _ _ _ c.loop-item.text _ _ _ _ (fault_next c.args.units.now c.loop-item.rec _ _ (items_left c.next.new.self) c.in-Err.reason more c.in-Err.is) inv.lines c.add_record_fault.ensures;
       few = omega (arith, inv.few, ap length more);
     }
 
 pub returns : goal.returns
-returns g c plain ok =
-    all_written _ _ _ c.loop-item.text _ (ap (item_lines c.args.units.now c.loop-item.rec) c.in-None.ensures.steps.1.0) c.loop-item.invariant.lines plain
+returns g c =
+    all_written _ _ _ c.loop-item.text _ (ap (item_lines c.args.units.now c.loop-item.rec) c.in-None.ensures.steps.1.0) c.loop-item.invariant.lines
+
+pub returns-then-has_failed : goal.returns-then-has_failed
+returns-then-has_failed g c = all_stopped _ _ _ c.loop-item.text _ c.loop-item.invariant.lines (c.has_failed.ensures c.if-has_failed.true _)

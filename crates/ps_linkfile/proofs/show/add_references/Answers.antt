@@ -8,7 +8,7 @@ use Rattle.ps_linkfile.proofs.show.add_references.Goals as goal
 pub loop-index-init : goal.loop-index-init
 loop-index-init g c =
     let refs : List ℕ = c.args.refs.now in
-    some_more _ _ _ c.args.text.now _ _ (references refs) (flat_map reference refs) refl (none_yet _ c.args.text.now (references refs) (references refs) refl) (λ plain. c.in_ok-write_str.ensures.writes plain (search rules))
+    some_more _ _ _ c.args.text.now _ _ (references refs) (flat_map reference refs) refl (none_yet _ c.args.text.now (references refs) (references refs) refl) c.add.ensures
 
 pub loop-index-preserved : goal.loop-index-preserved
 loop-index-preserved g c =
@@ -16,4 +16,4 @@ loop-index-preserved g c =
     let i : ℕ = c.loop-index.index in
     let next : 64 * (i + 1) ≡ 64 * i + 64 = omega arith in
     let split = ap (λ (n : ℕ). flat_map reference (take 64 (drop (64 * i) refs)) ++ flat_map reference (drop n refs)) next ∙ one_piece reference refs (64 * i) 64 in
-    some_more _ _ _ c.loop-index.text _ _ _ _ (sym split) c.loop-index.invariant (λ plain. c.in_ok-add_piece.ensures plain (search rules))
+    some_more _ _ _ c.loop-index.text _ _ _ _ (sym split) c.loop-index.invariant c.add_piece.ensures
