@@ -21,6 +21,7 @@ mod pairs;
 mod patches;
 mod plan;
 mod procedures;
+mod readings;
 mod record_kinds;
 mod record_walk;
 mod records;
