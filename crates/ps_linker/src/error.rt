@@ -131,7 +131,7 @@ impl<'a> CommandError<'a> {
     /// The same with the cause for which a file cannot be read, where that is why.
     /// Source: this project's profile.
     pub fn with_cause(self) -> CommandError<'a>
-        ensures { status_of result ≡ status_of self }
+        ensures { status_of result ≡ status_of self.entry }
     {
         match self {
             CommandError::Read { path, cause } => CommandError::Unreadable { path, cause },
