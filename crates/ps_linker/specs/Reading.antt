@@ -1,7 +1,8 @@
--- Files that are read: what a program that opens paths got of them.
+-- Files that are read and written: what a program that opens paths got of them, and what it wrote.
 -- Source: this project's profile.
 use Rattle.std.specs.Prelude.{◌≡◌, ◌<◌, ℕ, List, Option, IfSome, length}
 use Rattle.std.specs.Borrow.{Bor}
+use Rattle.std.specs.Io.KnownBytes.{Appends}
 use Rattle.ps_linker.specs.declared.error.CommandError.{CommandError}
 use Rattle.ps_linker.specs.declared.error.CommandError.TheVariants as error
 use Rattle.ps_linker.specs.declared.files.FileFault.{FileFault}
@@ -11,6 +12,11 @@ use Rattle.ps_linker.specs.declared.files.FileFault.TheVariants as fault
 -- has left to give, if that is known
 abbrev pub Reads : {F : Type 0} → (List ℕ → F → Type 0) → (F → Option (List ℕ)) → List ℕ → List ℕ → Type 0
 Reads {F} opened remaining path bytes = (file : F) × opened path file × IfSome (remaining file) (λ left. bytes ≡ left)
+
+-- a file was created at the path, and was closed there once it had taken these bytes and no others;
+-- `contents` says what a file has taken, if that is known
+abbrev pub Writes : {F : Type 0} → (List ℕ → F → Type 0) → (List ℕ → F → Type 0) → (F → Option (List ℕ)) → List ℕ → List ℕ → Type 0
+Writes {F} created closed contents path bytes = (first : F) × (last : F) × created path first × closed path last × Appends (contents first) (contents last) bytes
 
 -- a file has more to give, if that is known, than a program reads of it
 abbrev pub IsTooLong : Option (List ℕ) → Type 0

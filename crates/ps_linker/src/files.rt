@@ -1,5 +1,5 @@
 //! Files that are read whole.
-ghost use Rattle.std.specs.Prelude.{◌≡◌, ◌≢◌, ◌≤◌, ℕ, List, length, map, IfErr, IfOk, IfSome, ⊤};
+ghost use Rattle.std.specs.Prelude.{◌≡◌, ◌≢◌, ◌≤◌, ℕ, List, length, map, IfErr, IfOk, IfSome, OnOk, ⊤};
 ghost use Rattle.std.specs.List.{AllZip};
 ghost use Rattle.ps_linker.specs.Reading.{IsReadError, IsTooLong, Reads, read_error};
 ghost use Rattle.ps_linker.specs.Statuses.{status_of};
@@ -57,7 +57,7 @@ impl FileFault {
 }
 
 /// Opens the files of a command. What runs a command is generic over it, so that contracts say of
-/// bytes at which path they were read: no contract says what a file of the system holds.
+/// bytes at which path they were read or written: no contract says what a file of the system holds.
 /// Source: this project's profile.
 pub trait CodeFiles {
     /// A file that is read.
@@ -69,12 +69,23 @@ pub trait CodeFiles {
     // Holds of a path and of what opening it gave.
     ghost opened: { Self → List ℕ → Self.Opened → Type 0 };
 
+    // Holds of a path and of what creating it gave, before anything was written.
+    ghost created: { Self → List ℕ → Self.Created → Type 0 };
+
+    // Holds of a path and of what was created there, as it was when it was closed.
+    ghost closed: { Self → List ℕ → Self.Created → Type 0 };
+
     /// Opens the file at `path` to be read.
     fn open(&self, path: &str) -> io::Result<Self::Opened>
         ensures { IfOk result (opened self.now path.now) };
 
     /// Creates or empties the file at `path`.
-    fn create(&self, path: &str) -> io::Result<Self::Created>;
+    fn create(&self, path: &str) -> io::Result<Self::Created>
+        ensures { IfOk result (λ file. created self.now path.now file) };
+
+    /// Closes the file that was created at `path`: no more is written to it.
+    fn close(&self, path: &str, file: Self::Created) -> io::Result<()>
+        ensures { OnOk result (closed self.now path.now file) };
 
     /// How many bytes `file` is said to have, and 0 where nothing is said of it. A read may give
     /// more bytes than that, or less.
@@ -88,12 +99,21 @@ impl<R: Files> CodeFiles for R {
 
     ghost opened = { λ rt path file. ⊤ };
 
+    ghost created = { λ rt path file. ⊤ };
+
+    ghost closed = { λ rt path file. ⊤ };
+
     fn open(&self, path: &str) -> io::Result<R::File> {
         fs::open(self, path)
     }
 
     fn create(&self, path: &str) -> io::Result<R::File> {
         fs::create(self, path)
+    }
+
+    fn close(&self, _path: &str, file: R::File) -> io::Result<()> {
+        let mut file = file;
+        file.flush()
     }
 
     // The length of what is no regular file says nothing of what it gives.

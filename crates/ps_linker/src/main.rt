@@ -7,7 +7,7 @@ ghost use Rattle.std.specs.Prelude.{◌≡◌, ◌≢◌, ◌≤◌, ◌⊎◌, 
 ghost use Rattle.std.specs.Process.{exit_status};
 ghost use Rattle.ps_linker.specs.CommandLine.{AreAccepted, named_in};
 ghost use Rattle.ps_linker.specs.Printed.{Prints};
-ghost use Rattle.ps_linker.specs.Reading.{Reads};
+ghost use Rattle.ps_linker.specs.Reading.{Reads, Writes};
 ghost use Rattle.ps_linker.specs.Requests.{NamesCheck, WritesLibrary};
 
 mod error;
@@ -77,9 +77,11 @@ fn run_args<R: CodeFiles + AllocGlobal, O: Write, E: Write>(
     ensures silent { exit_status result ≡ 0 → err.new ≡ err.old }
     ensures printed { AreAccepted (map string_bytes given.now) → exit_status result ≡ 0
         → Prints (Reads (R.opened rt.now) R.Opened.remaining)
+        (Writes (R.created rt.now) (R.closed rt.now) R.Created.contents)
         (named_in (map string_bytes given.now)) 0 (O.contents out.old) (O.contents out.new) }
     ensures reported { AreAccepted (map string_bytes given.now) → exit_status result ≡ 1
         → (out.new ≡ out.old) ⊎ Prints (Reads (R.opened rt.now) R.Opened.remaining)
+        (Writes (R.created rt.now) (R.closed rt.now) R.Created.contents)
         (named_in (map string_bytes given.now)) 1 (O.contents out.old) (O.contents out.new) }
     ensures misused { AreAccepted (map string_bytes given.now)
         → WritesLibrary (named_in (map string_bytes given.now)) → exit_status result ≢ 4

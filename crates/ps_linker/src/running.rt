@@ -3,10 +3,10 @@ ghost use Rattle.std.specs.Prelude.{◌≡◌, ◌≢◌, ◌≤◌, ◌⊎◌, 
 ghost use Rattle.std.specs.Io.KnownBytes.{Appends};
 ghost use Rattle.ps_linkfile.specs.LinkedFile.{LinkedFile, summary_of};
 ghost use Rattle.ps_linkfile.specs.MapText.{map_of};
-ghost use Rattle.ps_linkfile.specs.Writing.{summary_in};
+ghost use Rattle.ps_linkfile.specs.Writing.{file_in, summary_in};
 ghost use Rattle.ps_linker.specs.CommandLine.{AreAccepted, named_in, texts};
 ghost use Rattle.ps_linker.specs.Printed.{Prints, PrintsLine, PrintsMap, PrintsReport, PrintsShow};
-ghost use Rattle.ps_linker.specs.Reading.{Reads};
+ghost use Rattle.ps_linker.specs.Reading.{Reads, Writes};
 ghost use Rattle.ps_linker.specs.Requests.{NamesCheck, WritesLibrary};
 ghost use Rattle.ps_linker.specs.Statuses.{status_of};
 
@@ -48,16 +48,19 @@ pub fn run<R: CodeFiles + AllocGlobal, A: Allocator + Copy, O: Write, E: Write>(
     ensures known { result ≤ 4 }
     ensures silent { result ≡ 0 → err.new ≡ err.old }
 
-    // What was done printed what its command prints, and nothing else.
+    // What was done printed what its command prints, and nothing else; the file that a link created
+    // at OUT took the linked file, and nothing else.
     ensures printed { AreAccepted (texts args.now) → result ≡ 0
-        → Prints (Reads (R.opened rt.now) R.Opened.remaining) (named_in (texts args.now)) 0
-        (O.contents out.old) (O.contents out.new) }
+        → Prints (Reads (R.opened rt.now) R.Opened.remaining)
+        (Writes (R.created rt.now) (R.closed rt.now) R.Created.contents)
+        (named_in (texts args.now)) 0 (O.contents out.old) (O.contents out.new) }
 
     // Where files are refused nothing is printed but the report of a check, which names the
     // refusal.
     ensures reported { AreAccepted (texts args.now) → result ≡ 1 → (out.new ≡ out.old)
-        ⊎ Prints (Reads (R.opened rt.now) R.Opened.remaining) (named_in (texts args.now)) 1
-        (O.contents out.old) (O.contents out.new) }
+        ⊎ Prints (Reads (R.opened rt.now) R.Opened.remaining)
+        (Writes (R.created rt.now) (R.closed rt.now) R.Created.contents)
+        (named_in (texts args.now)) 1 (O.contents out.old) (O.contents out.new) }
 
     // Of arguments that clap accepts, those that name OUT as a library too are wrong usage, unless
     // memory runs out, and no others.
@@ -77,7 +80,6 @@ pub fn run<R: CodeFiles + AllocGlobal, A: Allocator + Copy, O: Write, E: Write>(
 }
 
 /// Does the command that `args` name, and returns its status, which is 0 where that is no check.
-
 fn carry_out<'a, R: CodeFiles + AllocGlobal, A: Allocator + Copy, O: Write>(
     rt: &R,
     alloc: A,
@@ -86,6 +88,7 @@ fn carry_out<'a, R: CodeFiles + AllocGlobal, A: Allocator + Copy, O: Write>(
 ) -> Result<u8, CommandError<'a>>
     ensures ok { AreAccepted (texts args.now)
         → IfOk result (λ status. Prints (Reads (R.opened rt.now) R.Opened.remaining)
+        (Writes (R.created rt.now) (R.closed rt.now) R.Created.contents)
         (named_in (texts args.now)) status (O.contents out.old) (O.contents out.new)) }
     ensures few { IfOk result (λ status. status ≤ 1) }
     ensures checked { IfOk result (λ status. status ≢ 0 → NamesCheck (named_in (texts args.now))) }
@@ -138,8 +141,9 @@ fn link<'a, R: CodeFiles, A: Allocator + Copy, O: Write>(
     out: &mut O,
 ) -> Result<(), CommandError<'a>>
     ensures ok { OnOk result (PrintsLine (Reads (R.opened rt.now) R.Opened.remaining)
+        (Writes (R.created rt.now) (R.closed rt.now) R.Created.contents)
         inputs.entry.host.now (map (λ path. path.now) inputs.entry.libraries.items)
-        (O.contents out.old) (O.contents out.new)) }
+        path.entry.now (O.contents out.old) (O.contents out.new)) }
     ensures err { IfErr result (λ e. status_of e ≢ 3 → out.new ≡ out.old) }
     ensures usage { IfErr result (λ e. status_of e ≢ 2) }
 {
@@ -160,7 +164,8 @@ fn link_bytes<'a, R: CodeFiles, A: Allocator + Copy>(
     path: &'a str,
 ) -> Result<Summary, CommandError<'a>>
     ensures file { IfOk result (λ _. (file : List ℕ)
-        × LinkedFile host.now (map (λ lib. lib.now) libraries.now) file) }
+        × LinkedFile host.now (map (λ lib. lib.now) libraries.now) file
+        × Writes (R.created rt.now) (R.closed rt.now) R.Created.contents path.entry.now file) }
     ensures summary { IfOk result (λ summary. summary
         ≡ summary_of host.now (map (λ lib. lib.now) libraries.now)) }
     ensures usage { IfErr result (λ e. status_of e ≢ 2) }
@@ -249,20 +254,26 @@ fn check<'a, R: CodeFiles, A: Allocator + Copy, O: Write>(
     Ok(report.status(strict))
 }
 
-/// Creates or empties the file at `path`, and writes the linked file to it.
+/// Creates or empties the file at `path`, writes the linked file to it, and closes it.
 fn write_linked<'a, R: CodeFiles, A: Allocator + Copy>(
     rt: &R,
     linked: &Linked<'_, A>,
     path: &'a str,
 ) -> Result<Summary, CommandError<'a>>
     ensures ok { IfOk result (λ summary. summary ≡ summary_in linked.now) }
-    ensures err { IfErr result (λ e. status_of e ≢ 2) }
+    ensures file { IfOk result (λ _. Writes (R.created rt.now) (R.closed rt.now)
+        R.Created.contents path.entry.now (file_in linked.now)) }
+    ensures err { IfErr result (λ e. status_of e ≡ 3) }
 {
     let Ok(file) = rt.create(path) else {
         return Err(CommandError::Write { path });
     };
-    match linked.write_told(&mut Counting::new(file)) {
-        Ok(summary) => Ok(summary),
+    let mut told = Counting::new(file);
+    let Ok(summary) = linked.write_told(&mut told) else {
+        return Err(CommandError::Write { path });
+    };
+    match rt.close(path, told.into_inner()) {
+        Ok(()) => Ok(summary),
         Err(_) => Err(CommandError::Write { path }),
     }
 }

@@ -47,7 +47,12 @@ impl<R: Files> Faulty<R> {
         }
     }
 
-    /// How many files were opened to be written.
+    /// The files of `inner`, none of which fails.
+    pub fn counting(inner: R) -> Faulty<R> {
+        Faulty::taking(inner, 0, 0, usize::MAX)
+    }
+
+    /// How many files a program tried to open to be written.
     pub fn created(&self) -> u64 {
         self.created.get()
     }
@@ -111,15 +116,24 @@ impl<R: Files> CodeFiles for Faulty<R> {
 
     ghost opened = { λ rt path file. ⊤ };
 
+    ghost created = { λ rt path file. ⊤ };
+
+    ghost closed = { λ rt path file. ⊤ };
+
     fn open(&self, path: &str) -> io::Result<FaultyFile<R::File>> {
         let inner = fs::open(&self.inner, path)?;
         Ok(self.faulty(inner))
     }
 
     fn create(&self, path: &str) -> io::Result<FaultyFile<R::File>> {
-        let inner = fs::create(&self.inner, path)?;
         self.created.set(self.created.get().saturating_add(1));
+        let inner = fs::create(&self.inner, path)?;
         Ok(self.faulty(inner))
+    }
+
+    fn close(&self, path: &str, file: FaultyFile<R::File>) -> io::Result<()> {
+        let FaultyFile { inner, .. } = file;
+        self.inner.close(path, inner)
     }
 
     fn length_hint(file: &FaultyFile<R::File>) -> usize {

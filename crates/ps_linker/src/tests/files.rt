@@ -4,15 +4,17 @@ use super::inputs::{
     HOST, HOST_IN_PLACE, Image, LIBRARY, LINKED_HOST_IN_PLACE, LINKED_PAIR, MAP_OF_PAIR,
     SHOWN_LIBRARY, SUMMARY_IN_PLACE, SUMMARY_OF_PAIR, save_all,
 };
-use super::outcome::{clean, done, holds, is_missing};
+use super::outcome::{clean, done, holds};
 use std::fs;
 use std::process::Abort;
 use std::rt::Files;
 
-/// Runs these args: what is said is that a file cannot be opened, and OUT is not made.
-fn complains<R: Files + AllocGlobal + Abort>(rt: &R, args: &[&str], complaint: &str) {
-    done(rt, args).is(rt, args, 3, "", complaint);
-    is_missing(rt, "opened-out", args);
+/// Runs these args: what is said is that a file cannot be opened, and so many are opened to be
+/// written.
+fn complains<R: Files + AllocGlobal + Abort>(rt: &R, args: &[&str], complaint: &str, created: u64) {
+    let files = Faulty::counting(rt);
+    done(&files, args).is(rt, args, 3, "", complaint);
+    assert!(rt; files.created() == created, "{args:?}");
 }
 
 #[test]
@@ -24,7 +26,7 @@ fn files_that_cannot_be_opened(rt: HostRuntime) {
     let not_read = "pslink: cannot read opened-folder\n";
     let not_written = "pslink: cannot write opened-folder\n";
     let no_host = ["pslink", "link", "opened-missing", "opened-out"];
-    complains(&rt, &no_host, missing);
+    complains(&rt, &no_host, missing, 0);
     let no_library = [
         "pslink",
         "link",
@@ -32,29 +34,32 @@ fn files_that_cannot_be_opened(rt: HostRuntime) {
         "opened-out",
         "opened-missing",
     ];
-    complains(&rt, &no_library, missing);
+    complains(&rt, &no_library, missing, 0);
     complains(
         &rt,
         &["pslink", "map", "opened-host", "opened-missing"],
         missing,
+        0,
     );
-    complains(&rt, &["pslink", "show", "opened-missing"], missing);
+    complains(&rt, &["pslink", "show", "opened-missing"], missing, 0);
     complains(
         &rt,
         &["pslink", "link", "opened-host", "opened-folder"],
         not_written,
+        1,
     );
     complains(
         &rt,
         &["pslink", "link", "opened-folder", "opened-out"],
         not_read,
+        0,
     );
     clean(&rt, &["opened-host"]);
     let _ = fs::remove_dir(&rt, "opened-folder");
 }
 
 /// Has each read of the file that is opened as the `nth` fail in turn, until none fails: how many
-/// failed. Until then nothing is printed, and no file is opened to be written.
+/// failed. Until then nothing is printed, and the program tries to open no file to be written.
 fn failing_reads<R: Files + AllocGlobal + Abort>(
     rt: &R,
     args: &[&str],
@@ -188,6 +193,17 @@ static WRITES: [(&[&str], (u64, usize, u64), &str, &Image); 2] = [
         &LINKED_PAIR,
     ),
 ];
+
+#[test]
+fn a_file_that_takes_no_bytes(rt: HostRuntime) {
+    save_all(&rt, &[("stalls-host", &HOST_IN_PLACE)]);
+    let args = ["pslink", "link", "stalls-host", "stalls-out"];
+    let files = Faulty::taking(&rt, 0, 0, 0);
+    let run = done(&files, &args);
+    run.is(&rt, "stalls", 3, "", "pslink: cannot write stalls-out\n");
+    holds(&rt, "stalls-out", &[], &args);
+    clean(&rt, &["stalls-host", "stalls-out"]);
+}
 
 #[test]
 fn each_write_of_a_link_fails(rt: HostRuntime) {

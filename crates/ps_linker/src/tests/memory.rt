@@ -1,9 +1,11 @@
 //! Memory that is refused.
+use super::args::HELP;
+use super::faulty::Faulty;
 use super::inputs::{
     HOST, HOST_IN_PLACE, Image, LIBRARY, LINKED_HOST_IN_PLACE, LINKED_PAIR, MAP_OF_PAIR,
     SHOWN_LIBRARY, SUMMARY_IN_PLACE, SUMMARY_OF_PAIR, save_all, save_text,
 };
-use super::outcome::{clean, done_with, holds, holds_image, is_missing};
+use super::outcome::{clean, done_with, holds, holds_image};
 use refusing::Refusing;
 use std::process::Abort;
 use std::rt::Files;
@@ -22,15 +24,6 @@ links: segments 2 private words 4 blocks 3
 /// Where a link writes in these tests. The other commands write nothing there.
 const OUT: &str = "memory-out";
 
-/// Checks that OUT is as it was before the args were run.
-fn is_as_before<R: Files + AllocGlobal + Abort>(rt: &R, args: &[&str], was_there: bool) {
-    if was_there {
-        holds(rt, OUT, b"as before", args);
-    } else {
-        is_missing(rt, OUT, args);
-    }
-}
-
 /// Has OUT as it is before a run.
 fn put_out<R: Files + AllocGlobal + Abort>(rt: &R, is_there: bool) {
     clean(rt, &[OUT]);
@@ -40,8 +33,8 @@ fn put_out<R: Files + AllocGlobal + Abort>(rt: &R, is_there: bool) {
 }
 
 /// Has each allocation of the args' run refused in turn, until none is: how many were. Until then
-/// nothing is printed, and OUT stays as it was; then it is the linked file, where the command
-/// links.
+/// nothing is printed, and no file is opened to be written; then OUT is the linked file, where the
+/// command links, and no other command opens a file to be written.
 fn refused_allocations<R: Files + AllocGlobal + Abort>(
     rt: &R,
     args: &[&str],
@@ -52,17 +45,21 @@ fn refused_allocations<R: Files + AllocGlobal + Abort>(
     for number in 1..1000 {
         put_out(rt, was_there);
         let heap = Refusing::once(rt.alloc(), number);
-        let run = done_with(rt, &heap, args);
+        let files = Faulty::counting(rt);
+        let run = done_with(&files, &heap, args);
         if !heap.has_refused() {
             run.is(rt, (args, number), 0, printed, "");
             match linked {
                 Some(image) => holds_image(rt, OUT, image, args),
-                None => is_as_before(rt, args, was_there),
+                None => assert!(rt; files.created() == 0, "{args:?}"),
             }
             return number - 1;
         }
         run.is(rt, (args, number), 4, "", NO_MEMORY);
-        is_as_before(rt, args, was_there);
+        assert!(rt; files.created() == 0, "{args:?} {number}");
+        if was_there {
+            holds(rt, OUT, b"as before", args);
+        }
     }
     1000
 }
@@ -122,12 +119,14 @@ fn each_allocation_is_refused(rt: HostRuntime) {
         let refused = refused_allocations(&rt, *args, *was_there, *printed, *linked);
         assert!(rt; (*least..1000).contains(&refused), "{args:?} {refused}");
     }
-    // An allocator that counts and refuses nothing.
-    let heap = Refusing::once(rt.alloc(), 0);
-    let made = done_with(&rt, &heap, LINK_IN_PLACE);
-    made.is(&rt, "none", 0, SUMMARY_IN_PLACE, "");
-    assert!(rt; !heap.has_refused());
-    holds_image(&rt, OUT, &LINKED_HOST_IN_PLACE, LINK_IN_PLACE);
     let files = ["memory-in-place", "memory-host", "memory-library", OUT];
     clean(&rt, files.as_slice());
+}
+
+#[test]
+fn help_without_memory(rt: HostRuntime) {
+    let heap = Refusing::from(rt.alloc(), 1);
+    let help = done_with(&rt, &heap, &["pslink", "--help"]);
+    help.is(&rt, "help", 0, HELP, "");
+    assert!(rt; heap.allocations() == 0);
 }

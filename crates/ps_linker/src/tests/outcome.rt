@@ -81,14 +81,6 @@ pub fn holds_image<R: Files + AllocGlobal + Abort>(
     }
 }
 
-/// Checks that there is no such file.
-pub fn is_missing<R: Files + Abort>(rt: &R, path: &str, row: &[&str]) {
-    match fs::exists(rt, path) {
-        Ok(is_there) => assert!(rt; !is_there, "{path}: {row:?}"),
-        Err(_) => assert!(rt; false, "{path}: {row:?}"),
-    }
-}
-
 /// Removes files of a test.
 pub fn clean<R: Files>(rt: &R, paths: &[&str]) {
     for path in paths {

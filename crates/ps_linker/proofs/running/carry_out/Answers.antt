@@ -2,7 +2,7 @@ use Rattle.std.proofs.Common.{ℕ, Bool, List, map, refl, subst, inl, inr}
 use Rattle.std.proofs.lemmas.Result.{IfOk-weaker}
 use Rattle.clap.specs.Words.{Text}
 use Rattle.ps_linker.specs.Printed.{PrintsLine, PrintsMap, PrintsReport}
-use Rattle.ps_linker.specs.Reading.{Reads}
+use Rattle.ps_linker.specs.Reading.{Reads, Writes}
 use Rattle.ps_linker.specs.Requests.{libraries_of}
 use Rattle.ps_linker.proofs.running.carry_out.Goals as goal
 
@@ -10,10 +10,12 @@ pub returns-in_ok-link-in-Link-clause-ok : goal.returns-in_ok-link-in-Link-claus
 returns-in_ok-link-in-Link-clause-ok g c taken =
     let named = rw c.in-Link.is at (c.in_ok-text.ensures.named taken) in
     let Read : List ℕ → List ℕ → Type 0 = Reads (g.R.CodeFiles.opened c.args.rt.now) g.R.Opened.Read.remaining in
+    let Written : List ℕ → List ℕ → Type 0 = Writes (g.R.CodeFiles.created c.args.rt.now) (g.R.CodeFiles.closed c.args.rt.now) g.R.Created.Write.contents in
     let path = c.in-Link.inputs.host.now in
+    let out = c.in-Link.path.now in
     let old = g.O.Write.contents c.args.out.now in
     let new = g.O.Write.contents c.link.new.out in
-    (named.0, path, inl (named.1, refl, named.2.0, subst (λ (paths : List Text). PrintsLine Read path paths old new) named.2.1 c.in_ok-link-in-Link.ensures.ok))
+    (named.0, path, inl (named.1, refl, named.2.0, out, named.3, subst (λ (paths : List Text). PrintsLine Read Written path paths out old new) named.2.1 c.in_ok-link-in-Link.ensures.ok))
 
 pub returns-in_ok-map-in-Map-clause-ok : goal.returns-in_ok-map-in-Map-clause-ok
 returns-in_ok-map-in-Map-clause-ok g c taken =

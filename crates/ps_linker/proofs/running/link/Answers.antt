@@ -24,5 +24,8 @@ returns-clause-ok g c =
       host_read,
       libs_read,
       c.in_ok-summary.ensures.file.1,
-      subst (λ (bytes : List ℕ). Appends (g.O.Write.contents c.args.out.now) (g.O.Write.contents c.print.new.out) bytes) (line ∙ ap summary_line c.in_ok-summary.ensures.summary) printed,
+      (
+        c.in_ok-summary.ensures.file.2,
+        subst (λ (bytes : List ℕ). Appends (g.O.Write.contents c.args.out.now) (g.O.Write.contents c.print.new.out) bytes) (line ∙ ap summary_line c.in_ok-summary.ensures.summary) printed,
+      ),
     )) c.print.ensures.ok
