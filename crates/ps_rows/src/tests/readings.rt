@@ -1,4 +1,6 @@
 //! What is read of each slot of a host, also after the first fault.
+ghost use Rattle.std.specs.Prelude.{◌<◌};
+
 use crate::added::library_of_a_used_unit;
 use crate::base::{base_host, base_library};
 use crate::code_file::Change::{Entry, Length, Records, Resized};
@@ -77,7 +79,9 @@ refused 13 MissingUnit file 1 slot 7 record 0",
 ];
 
 /// Adds what was read of a slot to the text.
-fn add_slot(text: &mut String, host: &HostReading, slot: u8) -> Result<(), AllocError> {
+fn add_slot(text: &mut String, host: &HostReading, slot: u8) -> Result<(), AllocError>
+    requires { slot < 16 }
+{
     let request = host.request(slot);
     let read = host.segment(slot);
     if request.is_none() && read.is_none() {
