@@ -116,28 +116,34 @@ fn host_of_segments(alloc: Global, count: u8) -> Result<CodeFile, AllocError> {
     Ok(host)
 }
 
+/// With the code of a slot in the block after that of the slot before it.
+fn placed(
+    alloc: Global,
+    linked: CodeFile,
+    slot: u8,
+    entry: Slot,
+    code: &[u8],
+) -> Result<CodeFile, AllocError> {
+    let block = u16::from(slot).saturating_add(1);
+    let changes = [
+        Entry(slot, entry),
+        Address(slot, block),
+        Code(block, 0, code),
+    ];
+    linked.with(alloc, &changes)
+}
+
 /// What it is linked to: a block for each segment, by slot.
 fn linked_segments_of(alloc: Global, count: u8) -> Result<CodeFile, AllocError> {
     let length = 512 * usize::from(count).saturating_add(1);
-    let mut linked = CodeFile::new(alloc, LITTLE, length)?.with(
-        alloc,
-        &[Change::Bytes(300, &[0x2A])],
-    )?;
+    let tail = [Change::Bytes(300, &[0x2A])];
+    let empty = CodeFile::new(alloc, LITTLE, length)?.with(alloc, &tail)?;
+    let demo = demo_code(LITTLE);
+    let mut linked = placed(alloc, empty, 1, LINKED_DEMO, &demo)?;
     for slot in 0..count {
-        let block = u16::from(slot).saturating_add(1);
-        let changes = match slot {
-            1 => [
-                Entry(slot, LINKED_DEMO),
-                Address(slot, block),
-                Code(block, 0, &demo_code(LITTLE)),
-            ],
-            _ => [
-                Entry(slot, TOOLS),
-                Address(slot, block),
-                Code(block, 0, &TOOLS_CODE),
-            ],
-        };
-        linked = linked.with(alloc, &changes)?;
+        if slot != 1 {
+            linked = placed(alloc, linked, slot, TOOLS, &TOOLS_CODE)?;
+        }
     }
     Ok(linked)
 }
