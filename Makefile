@@ -24,10 +24,10 @@ PROGRAM = crates/ps_linker
 BINARY = $(PROGRAM)/out/ps_linker
 CONFIG = $(LIBDIR)/cmake/pslink
 # man NAME finds pslink(3) for each function of the header
-CALLS = pslink_link pslink_map pslink_show pslink_link_files pslink_map_files pslink_fault_text pslink_fault_name \
+CALLS = pslink_link pslink_map pslink_check pslink_show pslink_link_files pslink_map_files pslink_check_files pslink_fault_text pslink_fault_name \
 	pslink_status_text pslink_release pslink_version
 # what the documents link to, beside them
-BESIDE = README.md LICENSE $(wildcard docs/*.md samples/* man/pslink.*) include/pslink.h \
+BESIDE = README.md LICENSE $(wildcard docs/*.md docs/*.json samples/* man/pslink.*) include/pslink.h \
 	$(addprefix bindings/python/,pyproject.toml build_backend.py LICENSE pslink/__init__.py pslink/py.typed) \
 	$(addprefix bindings/rust/,Cargo.toml build.rs LICENSE src/lib.rs src/raw.rs src/reason.rs tests/calls.rs)
 

@@ -1,11 +1,19 @@
-/* Times links in one process: prints the microseconds that a link takes, over many. Usage: in_process TURNS HOST [LIB]... */
+/* Times links or checks in one process: prints the microseconds that one takes, over many.
+ * Usage: in_process TURNS link|check HOST [LIB]... */
 #define _POSIX_C_SOURCE 200809L
 #include <pslink.h>
 #include <stdio.h>
 #include <stdlib.h>
+#include <string.h>
 #include <time.h>
 
 #include "read_file.h"
+
+#define LIBRARIES 100
+
+static pslink_file host, libs[LIBRARIES];
+static pslink_named_file named_host, named_libs[LIBRARIES];
+static unsigned char out[PSLINK_LINKED_MAX];
 
 static double microseconds(void)
 {
@@ -15,24 +23,46 @@ static double microseconds(void)
     return 1e6 * (double)now.tv_sec + 1e-3 * (double)now.tv_nsec;
 }
 
+static pslink_named_file named(const char *path, pslink_file file)
+{
+    const pslink_named_file it = {path, file.bytes, file.length};
+
+    return it;
+}
+
+static uint32_t link_once(size_t count)
+{
+    pslink_answer answer;
+
+    return pslink_link_files(host, libs, count, out, sizeof out, &answer);
+}
+
+static uint32_t check_once(size_t count)
+{
+    pslink_check_answer answer;
+
+    return pslink_check_files(named_host, named_libs, count, 0, out, sizeof out, &answer);
+}
+
 int main(int argc, char **argv)
 {
-    static unsigned char out[PSLINK_LINKED_MAX];
-    static pslink_file libs[100];
-    int turns = argc > 2 ? atoi(argv[1]) : 0, turn;
+    int turns = argc > 3 ? atoi(argv[1]) : 0, turn;
+    uint32_t (*call)(size_t count), status = PSLINK_DONE;
     size_t count = 0;
-    pslink_answer answer;
-    pslink_file host;
     double start;
 
-    if (turns < 1 || argc > 102)
+    if (turns < 1 || argc > LIBRARIES + 4)
         return 2;
-    host = read_file(argv[2]);
-    for (; count + 3 < (size_t)argc; count++)
-        libs[count] = read_file(argv[count + 3]);
+    call = strcmp(argv[2], "check") == 0 ? check_once : link_once;
+    host = read_file(argv[3]);
+    named_host = named(argv[3], host);
+    for (; count + 4 < (size_t)argc; count++) {
+        libs[count] = read_file(argv[count + 4]);
+        named_libs[count] = named(argv[count + 4], libs[count]);
+    }
     start = microseconds();
     for (turn = 0; turn < turns; turn++)
-        pslink_link_files(host, libs, count, out, sizeof out, &answer);
+        status = call(count);
     printf("%.2f\n", (microseconds() - start) / turns);
-    return answer.status == PSLINK_DONE || answer.status == PSLINK_REFUSED ? 0 : 1;
+    return status == PSLINK_DONE || status == PSLINK_REFUSED ? 0 : 1;
 }

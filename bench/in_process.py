@@ -1,8 +1,8 @@
 #!/usr/bin/env python3
 """Times links in one process, through the library in C, Python and Rust, beside runs of the program: the sample pair, the same
-host without a library, a file of no bytes, and sixteen segments all of whose bytes are operands. Where valgrind is there, also
-the instructions that a link in C takes; where there is no cargo, Rust is left out. The archive of another library with the
-functions of pslink.h, if one is given, is measured beside, in C.
+host without a library, a file of no bytes, and sixteen segments all of whose bytes are operands; and checks of the first two.
+Where valgrind is there, also the instructions that a call in C takes; where there is no cargo, Rust is left out. The archive of
+another library with the functions of pslink.h, if one is given, is measured beside, in C.
 Usage: in_process.py PSLINK FOLDER [ARCHIVE]: the program, the folder with libpslink.a and libpslink.so.1, the other archive"""
 import os
 import re
@@ -30,12 +30,14 @@ pslink = {{ path = "{ROOT}/bindings/rust" }}
 
 
 def cases():
-    """What is linked, how often, and the files by their names, the host first."""
+    """What is linked or checked, how often, and the files by their names, the host first."""
     host, library = ((ROOT / f"samples/{name}.code").read_bytes() for name in ("host", "library"))
-    yield "the sample pair", 20_000, {"host": host, "library": library}
-    yield "a refused link", 20_000, {"host": host}
-    yield "a file of no bytes", 20_000, {"host": b""}
-    yield "sixteen full segments", 20, files_full_of_operands()
+    yield "the sample pair", "link", 20_000, {"host": host, "library": library}
+    yield "a refused link", "link", 20_000, {"host": host}
+    yield "a file of no bytes", "link", 20_000, {"host": b""}
+    yield "sixteen full segments", "link", 20, files_full_of_operands()
+    yield "the sample pair", "check", 20_000, {"host": host, "library": library}
+    yield "files that are refused", "check", 20_000, {"host": host}
 
 
 def built_in_c(folder, archive):
@@ -57,61 +59,63 @@ def built_in_rust(folder, archive):
     return folder / "target/release/in_process"
 
 
-def microseconds(folder, timer, turns, names):
-    ran = subprocess.run([timer, str(turns), *names], cwd=folder, capture_output=True, text=True, check=True)
+def microseconds(folder, timer, command, turns, names):
+    ran = subprocess.run([timer, str(turns), command, *names], cwd=folder, capture_output=True, text=True, check=True)
     return float(ran.stdout)
 
 
-def instructions(folder, timer, turns, names):
-    """The instructions of a link: what more turns take more."""
+def instructions(folder, timer, command, turns, names):
+    """The instructions of a call: what more turns take more."""
     few, many = 1, 1 + min(turns, 100)
     counts = []
     for number in (few, many):
-        words = ["valgrind", "--tool=callgrind", "--callgrind-out-file=/dev/null", timer, str(number), *names]
+        words = ["valgrind", "--tool=callgrind", "--callgrind-out-file=/dev/null", timer, str(number), command, *names]
         ran = subprocess.run(words, cwd=folder, capture_output=True, text=True, check=True)
         counts.append(int(re.search(r"Collected : (\d+)", ran.stderr)[1]))
     return (counts[1] - counts[0]) / (many - few)
 
 
-def of_python(turns, files):
-    """The microseconds of a link in Python, in this process."""
+def of_python(command, turns, files):
+    """The microseconds of a call in Python, in this process."""
     import pslink
 
+    call = getattr(pslink, command)
     host, *libraries = files.values()
     start = time.perf_counter()
     for _ in range(turns):
         try:
-            pslink.link(host, libraries)
+            call(host, libraries)
         except pslink.Refused:
             pass
     return 1e6 * (time.perf_counter() - start) / turns
 
 
-def of_program(folder, pslink, names):
+def of_program(folder, pslink, command, names):
     host, *libraries = names
+    words = [pslink, command, host, *(["out"] if command == "link" else []), *libraries]
     start = time.perf_counter()
     for _ in range(RUNS):
-        subprocess.run([pslink, "link", host, "out", *libraries], cwd=folder, capture_output=True, check=False)
+        subprocess.run(words, cwd=folder, capture_output=True, check=False)
     return 1e6 * (time.perf_counter() - start) / RUNS
 
 
 def report(folder, pslink, in_c, in_rust, other):
-    for what, turns, files in cases():
+    for what, command, turns, files in cases():
         for name, data in files.items():
             (folder / name).write_bytes(data)
-        names = list(files)
-        said = [f"C {microseconds(folder, in_c, turns, names):.2f}", f"Python {of_python(min(turns, 5000), files):.2f}"]
+        call = [command, turns, list(files)]
+        said = [f"C {microseconds(folder, in_c, *call):.2f}", f"Python {of_python(command, min(turns, 5000), files):.2f}"]
         if in_rust:
-            said.append(f"Rust {microseconds(folder, in_rust, turns, names):.2f}")
-        said.append(f"the program {of_program(folder, pslink, names):.0f}")
+            said.append(f"Rust {microseconds(folder, in_rust, *call):.2f}")
+        said.append(f"the program {of_program(folder, pslink, command, list(files)):.0f}")
         if other:
-            said.append(f"the other library {microseconds(folder, other, turns, names):.2f}")
-        print(f"{what}, microseconds a link: {', '.join(said)}", flush=True)
+            said.append(f"the other library {microseconds(folder, other, *call):.2f}")
+        print(f"{what}, microseconds a {command}: {', '.join(said)}", flush=True)
         if shutil.which("valgrind"):
-            counts = [f"{instructions(folder, in_c, turns, names):.0f}"]
+            counts = [f"{instructions(folder, in_c, *call):.0f}"]
             if other:
-                counts.append(f"of the other library {instructions(folder, other, turns, names):.0f}")
-            print(f"{what}, instructions a link in C: {', '.join(counts)}", flush=True)
+                counts.append(f"of the other library {instructions(folder, other, *call):.0f}")
+            print(f"{what}, instructions a {command} in C: {', '.join(counts)}", flush=True)
 
 
 def main():

@@ -13,14 +13,16 @@ _pslink() {
         fi
     done
     case $command in
-        '') options='link map show check help --help --version' ;;
-        link | map | show) options='--help' ;;
-        check) options='--help --strict' ;;
-        help) options='link map show check help' ;;
+        '') options='link map show check list help --help --version' ;;
+        link) options='--help' ;;
+        map) options='--help --json --references' ;;
+        show | list) options='--help --json' ;;
+        check) options='--help --json --strict --unit' ;;
+        help) options='link map show check list help' ;;
         *) options='' ;;
     esac
     case $command,$files in
-        link,* | map,* | check,* | show,0)
+        link,* | map,* | check,* | list,* | show,0)
             # readline completes the names of files where no word is given
             if [[ -n $only_files || $current != -* ]]; then
                 return

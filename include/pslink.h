@@ -31,10 +31,11 @@
  * Build it with -lpslink (pkg-config: pslink).
  *
  * Any bytes may be given as a file: one that is no code file is refused. That the result is right
- * is proved: what is in `out` after PSLINK_DONE, and which fault a refusal names. It is proved of
- * the functions that the library exports, whose names end in `_nonnull`, and of pslink_version. The
- * others are inline functions of this header over them, which are tested. What the proof asks of
- * the caller is on this page:
+ * is proved: what is in `out` after PSLINK_DONE, and which fault a refusal names; of a report, its
+ * verdict and the line of it, and not its other lines. It is proved of the functions that the
+ * library exports, whose names end in `_nonnull`, and of pslink_version. The others are inline
+ * functions of this header over them, which are tested. What the proof asks of the caller is on
+ * this page:
  *
  * - A pointer with its length names memory of the caller that is there for the whole call: it may
  *   be read, and for `out` and `answer` also written. A length is at most PTRDIFF_MAX bytes. A
@@ -51,7 +52,8 @@
  * Threads: any number of threads may call at once. There is no lock and no state.
  * Memory: a call takes memory by malloc and realloc of the C library and returns all of it by free
  * before it ends. A link of up to 256 libraries requests none before it has read the files.
- * Stack: leave a call 64 KB; a link takes about 45.
+ * Stack: leave a call 64 KB; a link of up to 16 libraries takes about 28, one of more about 50, and a
+ * check about 50.
  * Signals: no function is to be called from a signal handler, nor, where the process has threads,
  * in a child between fork and exec. pslink_version is not concerned.
  */
@@ -80,7 +82,8 @@ extern "C" {
  */
 #define PSLINK_DONE 0u          /* done: `out` begins with the result */
 #define PSLINK_REFUSED 1u       /* the files are refused, for the fault in `answer` */
-#define PSLINK_WRONG_LENGTHS 2u /* `lengths` do not add up to `libs_length` */
+#define PSLINK_WRONG_LENGTHS 2u /* `lengths` do not add up to `libs_length`; or the names of a
+                                   check are wrong */
 #define PSLINK_NO_MEMORY 4u     /* malloc or realloc returned NULL, or the libraries of a function
                                    whose name ends in `_files` have more than PTRDIFF_MAX bytes
                                    together with a size_t for each: no block of memory is as long */
@@ -163,11 +166,39 @@ typedef struct pslink_answer {
     size_t needed;          /* how many bytes the result has */
 } pslink_answer;
 
+/*
+ * What a check answers.
+ *
+ * Where the status is PSLINK_DONE: `written` bytes of `out` are the report; `needed` is the same
+ * number. `warnings` is how many warnings it has. `verdict` is what a link of the same files
+ * answers: its status is PSLINK_DONE, with `segments`, `private_words` and `blocks`, or
+ * PSLINK_REFUSED, with the fault; its `written` and `needed` are 0. `ends_with` is 1 where the
+ * files are refused, and where the check is strict on a warning too; else it is 0.
+ * Where it is PSLINK_TOO_SMALL: `needed` is how many bytes the report has.
+ * All other fields are 0, but the status of `verdict`: it is that of the check where the check is
+ * not PSLINK_DONE.
+ */
+typedef struct pslink_check_answer {
+    uint32_t status;       /* what the function returned: never PSLINK_REFUSED */
+    uint32_t ends_with;    /* 0 or 1: what the program's command `check` ends with */
+    size_t warnings;       /* how many warnings the report has */
+    size_t written;        /* how many bytes of `out` are the report */
+    size_t needed;         /* how many bytes the report has */
+    pslink_answer verdict; /* whether the files are linked, and why not */
+} pslink_check_answer;
+
 /* A file in memory, for the functions whose names end in `_files`. */
 typedef struct pslink_file {
     const void *bytes;
     size_t length;
 } pslink_file;
+
+/* The same with the name that a report has for it, UTF-8 with a closing 0, never NULL. */
+typedef struct pslink_named_file {
+    const char *name;
+    const void *bytes;
+    size_t length;
+} pslink_named_file;
 
 /*
  * The functions of the library under their own names: as those below, but no pointer is NULL. A
@@ -179,6 +210,11 @@ uint32_t pslink_link_nonnull(const void *host, size_t host_length, const void *l
 uint32_t pslink_map_nonnull(const void *host, size_t host_length, const void *libs,
                             size_t libs_length, const size_t *lengths, size_t count, void *out,
                             size_t out_length, pslink_answer *answer);
+uint32_t pslink_check_nonnull(const void *host, size_t host_length, const void *libs,
+                              size_t libs_length, const size_t *lengths, size_t count,
+                              const void *names, size_t names_length, const size_t *name_lengths,
+                              size_t name_count, uint32_t strict, void *out, size_t out_length,
+                              pslink_check_answer *answer);
 uint32_t pslink_show_nonnull(const void *file, size_t file_length, void *out, size_t out_length,
                              pslink_answer *answer);
 size_t pslink_fault_text_nonnull(const pslink_answer *answer, void *out, size_t out_length);
@@ -213,6 +249,24 @@ static inline uint32_t pslink_map(const void *host, size_t host_length, const vo
                                   void *out, size_t out_length, pslink_answer *answer);
 
 /*
+ * The report on the same files, as UTF-8 text without a closing 0, for a person: the files, where
+ * each segment comes from, whether they are linked, what a fault means in these files and what to
+ * do about it, and what looks wrong. It is the text of the program's command `check`. Files that
+ * are refused have one too: PSLINK_DONE says only that `out` begins with it, and `verdict` in the
+ * answer says whether the files are linked. Its length is found as that of a map.
+ *
+ * `names`: what the report calls the files, UTF-8, one name after another with nothing between, and
+ * `name_lengths`: the length of each, that of the host first, `count + 1` in number; they add up to
+ * `names_length`. Where they do not, or a name is no UTF-8, the answer is PSLINK_WRONG_LENGTHS.
+ * `strict`: where it is not 0, a warning too makes `ends_with` 1.
+ */
+static inline uint32_t pslink_check(const void *host, size_t host_length, const void *libs,
+                                    size_t libs_length, const size_t *lengths, size_t count,
+                                    const char *names, size_t names_length,
+                                    const size_t *name_lengths, int strict, void *out,
+                                    size_t out_length, pslink_check_answer *answer);
+
+/*
  * What a code file has, of any contents, as ASCII text without a closing 0: its slots and the
  * records of its link information. It is refused as 1 ShortFile or 2 NoOrder only.
  */
@@ -237,15 +291,18 @@ static inline size_t pslink_status_text(uint32_t status, char *out, size_t out_l
 static inline size_t pslink_release(char *out, size_t out_length);
 
 /*
- * The same links and maps, of libraries that are anywhere in memory: `libs` has a pointer and a
- * length for each. It copies them one after another into memory of malloc, and frees that again:
- * where it cannot have that memory, the answer is PSLINK_NO_MEMORY, also where the files have a
- * fault.
+ * The same links, maps and reports, of libraries that are anywhere in memory: `libs` has a pointer
+ * and a length for each. It copies them one after another into memory of malloc, and frees that
+ * again: where it cannot have that memory, the answer is PSLINK_NO_MEMORY, also where the files
+ * have a fault.
  */
 static inline uint32_t pslink_link_files(pslink_file host, const pslink_file *libs, size_t count,
                                          void *out, size_t out_length, pslink_answer *answer);
 static inline uint32_t pslink_map_files(pslink_file host, const pslink_file *libs, size_t count,
                                         void *out, size_t out_length, pslink_answer *answer);
+static inline uint32_t pslink_check_files(pslink_named_file host, const pslink_named_file *libs,
+                                          size_t count, int strict, void *out, size_t out_length,
+                                          pslink_check_answer *answer);
 
 /* What follows is of no interest to a caller. */
 
@@ -291,6 +348,18 @@ static inline uint32_t pslink_map(const void *host, size_t host_length, const vo
     return pslink_map_nonnull(pslink_read_at(host), host_length, pslink_read_at(libs), libs_length,
                               pslink_lengths_at(lengths), count, pslink_write_at(out), out_length,
                               answer);
+}
+
+static inline uint32_t pslink_check(const void *host, size_t host_length, const void *libs,
+                                    size_t libs_length, const size_t *lengths, size_t count,
+                                    const char *names, size_t names_length,
+                                    const size_t *name_lengths, int strict, void *out,
+                                    size_t out_length, pslink_check_answer *answer)
+{
+    return pslink_check_nonnull(pslink_read_at(host), host_length, pslink_read_at(libs),
+                                libs_length, pslink_lengths_at(lengths), count,
+                                pslink_read_at(names), names_length, name_lengths, count + 1,
+                                strict != 0, pslink_write_at(out), out_length, answer);
 }
 
 static inline uint32_t pslink_show(const void *file, size_t file_length, void *out,
@@ -380,6 +449,81 @@ static inline uint32_t pslink_map_files(pslink_file host, const pslink_file *lib
                                         void *out, size_t out_length, pslink_answer *answer)
 {
     return pslink_call_files(pslink_map_nonnull, host, libs, count, out, out_length, answer);
+}
+
+/* A status, with every other field 0 but that of the verdict. */
+static inline uint32_t pslink_bare_check(uint32_t status, pslink_check_answer *answer)
+{
+    memset(answer, 0, sizeof *answer);
+    answer->verdict.status = status;
+    answer->status = status;
+    return status;
+}
+
+/* Adds a length to a total of at most PTRDIFF_MAX. Returns 0 where it would be more. */
+static inline int pslink_add_length(size_t length, size_t *total)
+{
+    const size_t most = PTRDIFF_MAX;
+
+    if (length > most - *total)
+        return 0;
+    *total += length;
+    return 1;
+}
+
+/* The bytes and the name of a file, put where the next ones go, and their lengths. */
+static inline void pslink_put_file(const pslink_named_file *file, char **bytes, size_t *length,
+                                   char **name, size_t *name_length)
+{
+    *name_length = strlen(file->name);
+    memcpy(*name, file->name, *name_length);
+    *name += *name_length;
+    if (bytes == NULL)
+        return;
+    *length = file->length;
+    if (file->length != 0)
+        memcpy(*bytes, file->bytes, file->length);
+    *bytes += file->length;
+}
+
+/* In one block: the lengths of libraries and names, and then the bytes of both. */
+static inline uint32_t pslink_check_files(pslink_named_file host, const pslink_named_file *libs,
+                                          size_t count, int strict, void *out, size_t out_length,
+                                          pslink_check_answer *answer)
+{
+    const size_t most = PTRDIFF_MAX, each = 2 * sizeof(size_t);
+    size_t libs_length = 0, names_length = 0, total, k;
+    size_t *lengths, *name_lengths;
+    void *block, *behind;
+    char *bytes, *name;
+    uint32_t status;
+    int fits;
+
+    if (count >= most / each)
+        return pslink_bare_check(PSLINK_NO_MEMORY, answer);
+    total = (count + 1) * each;
+    fits = pslink_add_length(strlen(host.name), &names_length);
+    for (k = 0; k < count && fits; k++)
+        fits = pslink_add_length(libs[k].length, &libs_length) &&
+               pslink_add_length(strlen(libs[k].name), &names_length);
+    fits = fits && pslink_add_length(libs_length, &total) &&
+           pslink_add_length(names_length, &total);
+    block = fits ? malloc(total) : NULL;
+    if (block == NULL)
+        return pslink_bare_check(PSLINK_NO_MEMORY, answer);
+    lengths = PSLINK_POINTER(size_t, block);
+    name_lengths = lengths + count;
+    behind = name_lengths + count + 1;
+    bytes = PSLINK_POINTER(char, behind);
+    name = bytes + libs_length;
+    pslink_put_file(&host, NULL, NULL, &name, name_lengths);
+    for (k = 0; k < count; k++)
+        pslink_put_file(&libs[k], &bytes, &lengths[k], &name, &name_lengths[k + 1]);
+    status = pslink_check(host.bytes, host.length, bytes - libs_length, libs_length, lengths, count,
+                          name - names_length, names_length, name_lengths, strict, out, out_length,
+                          answer);
+    free(block);
+    return status;
 }
 
 #undef PSLINK_POINTER

@@ -169,10 +169,15 @@ def order():
 
 def damage():
     """What may have happened, by what is reported."""
+    counted, given = USING.tables("Damaged files")
+    found = [(happened, "".join(report)) for happened, reported, _ in given for report in re.findall(r"refused (\d+)|(nothing)", reported)]
     causes = {}
-    for happened, reported, _ in USING.tables("Damaged files")[0]:
-        for report in dict.fromkeys(re.findall(r"refused (\d+)|(nothing)", reported)):
-            causes.setdefault("".join(report), []).append(happened)
+    for happened, _, refused, _, warned, silent, _ in counted:
+        faults = re.findall(r"\d+", refused.partition(":")[2])
+        for report in faults if (warned, silent) == ("0", "0") else [*faults, "nothing"]:
+            causes.setdefault(report, []).append(happened)
+    for happened, report in found:
+        causes.setdefault(report, []).append(happened)
     ordered = sorted(causes.items(), key=lambda item: int(item[0]) if item[0].isdigit() else 99)
     yield from table([["Fault", "What may have happened"], *([fault, "; ".join(all_)] for fault, all_ in ordered)])
 
@@ -189,6 +194,7 @@ PARTS = {
     "the warnings": warnings,
     "the lines of map": lambda: texts("Map"),
     "the lines of show": lambda: texts("Show"),
+    "the lines of list": lambda: texts("List"),
     "the faults": faults,
     "the order of faults": order,
     "damaged files": damage,

@@ -1,6 +1,6 @@
 #!/usr/bin/env python3
-"""Answers of the library beside those of the program, through C and through Python: each set of files of .ci/report; and the
-longest linked file, 500 libraries, a fault in library 300, and a map and a show of more than 64 KiB, whose answers are worked
+"""Answers of the library beside those of the program, through C and through Python: each set of files of .ci/report, with its
+report; and the longest linked file, 500 libraries, a fault in library 300, and a map and a show of more than 64 KiB, whose answers are worked
 out here too. Leaves these files in FOLDER, for .ci/library to measure. Prints what is otherwise.
 Usage: beside.py PSLINK PROGRAM LINKED FOLDER: the program, program.c as it was built, and to what the sample pair is linked"""
 import contextlib
@@ -77,7 +77,7 @@ def by_program(command, files, program_file):
     out = folder / "out"
     out.unlink(missing_ok=True)
     arguments = [names[0], "out", *names[1:]] if command == "link" else names[:1] if command == "show" else names
-    done = subprocess.run([program_file, command, *arguments], cwd=folder, capture_output=True)
+    done = subprocess.run([program_file, *command.split(), *arguments], cwd=folder, capture_output=True)
     return done.returncode, done.stdout.decode(), done.stderr.decode(), out.read_bytes() if out.exists() else None
 
 
@@ -87,7 +87,8 @@ def differences(what, command, files, wanted=None):
         yield f"{what}: {command}: the program answers {str(answer)[:300]}"
     if (found := by_program(command, files, PROGRAM)) != answer:
         yield f"{what}: {command}: C answers {str(found)[:300]}, and the program {str(answer)[:300]}"
-    if (found := program.answer(command, files[0], files[1:])) != answer:
+    names = [f"file{k}" for k in range(len(files))]
+    if (found := program.answer(command.split()[0], files[0], files[1:], names, "--strict" in command)) != answer:
         yield f"{what}: {command}: Python answers {str(found)[:300]}, and the program {str(answer)[:300]}"
 
 
@@ -97,12 +98,12 @@ def main():
     if len(sets) < 60:
         found.append(f".ci/report has {len(sets)} sets of files")
     for number, (host, libraries) in enumerate(sets):
-        for command in ("link", "map"):
+        for command in ("link", "map", "check --strict"):
             found += differences(f"files {number} of .ci/report", command, [host, *libraries])
     for file in {file for host, libraries in sets for file in [host, *libraries]}:
         found += differences("a file of .ci/report", "show", [file])
     for what, files, wanted in long_cases():
-        for command in ("link", "map", "show"):
+        for command in ("link", "map", "check", "show"):
             found += differences(what, command, files, wanted.get(command))
         for k, file in enumerate(files):
             (FOLDER / f"{what.replace(' ', '_')}.{k:03}").write_bytes(file)

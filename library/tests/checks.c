@@ -1,5 +1,5 @@
 /* What a C caller may rely on, of a host that its library completes: prints what is otherwise, and is then not 0. malloc and
- * realloc are those below (-Wl,--wrap=malloc,--wrap=realloc). Usage: checks HOST LIBRARY LINKED MAP SHOW */
+ * realloc are those of refusing_heap.h (-Wl,--wrap=malloc,--wrap=realloc). Usage: checks HOST LIBRARY LINKED MAP SHOW */
 #include <pslink.h>
 #include <pthread.h>
 #include <stdio.h>
@@ -7,41 +7,10 @@
 #include <string.h>
 
 #include "read_file.h"
+#include "refusing_heap.h"
 
 #define ROOM 70000
 #define FILLER 0x5A
-
-void *__real_malloc(size_t size);
-void *__real_realloc(void *block, size_t size);
-
-/* Which allocation from now on is refused: 0 for the first, -1 for none; and how many were requested. */
-static long refused_at = -1;
-static long asked;
-
-static int is_refused(void)
-{
-    return refused_at >= 0 && asked++ == refused_at;
-}
-
-void *__wrap_malloc(size_t size)
-{
-    return is_refused() ? NULL : __real_malloc(size);
-}
-
-void *__wrap_realloc(void *block, size_t size)
-{
-    return is_refused() ? NULL : __real_realloc(block, size);
-}
-
-static int failures;
-
-static void check(int is_well, const char *what, size_t number)
-{
-    if (!is_well) {
-        failures++;
-        printf("library: %s, at %zu\n", what, number);
-    }
-}
 
 static pslink_file host, library, linked, map, show;
 
@@ -237,7 +206,7 @@ static void check_lengths(void)
 /* The text of each fault with the largest numbers, and the names of faults and statuses, in rooms that are just enough. */
 static void check_texts(void)
 {
-    static const char *const statuses[] = {"done", "the files are refused", "the lengths of the libraries do not add up", NULL,
+    static const char *const statuses[] = {"done", "the files are refused", "the lengths do not add up, or the names are wrong", NULL,
                                            "out of memory", "the room is shorter than the result", NULL};
     char text[PSLINK_FAULT_TEXT_MAX], wanted[2 * PSLINK_FAULT_TEXT_MAX], name[PSLINK_FAULT_TEXT_MAX];
     pslink_answer answer;

@@ -1,7 +1,7 @@
 #!/usr/bin/env python3
 """Writes the examples of programs to a folder, for .ci/library to compile and run: header.c of include/pslink.h, whose function
-gets a main; embedding.c, embedding.py and embedding.rs of docs/EMBEDDING.md, and its CMakeLists.txt; manual.c of man/pslink.3;
-and declarations.c, the declarations of that page. Prints where the page's types are not those of the header.
+gets a main; embedding.c, embedding.py and embedding.rs of docs/EMBEDDING.md, its CMakeLists.txt, and report.c, whose function gets a
+main too; manual.c of man/pslink.3; and declarations.c, the declarations of that page. Prints where the page's types are not those of the header.
 Usage: examples.py FOLDER"""
 import pathlib
 import re
@@ -49,7 +49,10 @@ def main():
     (folder / "declarations.c").write_text("\n".join(declarations()) + "\nint main(void) { return 0; }\n")
     embedding = (ROOT / "docs/EMBEDDING.md").read_text()
     for language, text in re.findall(r"^```(\w+)\n(.*?)^```$", embedding, re.M | re.S):
-        (folder / LANGUAGES[language]).write_text(text)
+        if "show_report(" in text:
+            (folder / "report.c").write_text(text + (ROOT / "library/tests/show_report_main.c").read_text())
+        else:
+            (folder / LANGUAGES[language]).write_text(text)
     if not types(HEADER) or types(HEADER) != types(PAGE):
         print(f"the types of pslink(3) are {types(PAGE)}, and those of the header {types(HEADER)}")
         return 1

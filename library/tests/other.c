@@ -19,6 +19,15 @@ uint32_t pslink_map_nonnull(const void *host, size_t host_length, const void *li
     return pslink_link_nonnull(host, host_length, libs, libs_length, lengths, count, out, out_length, answer);
 }
 
+uint32_t pslink_check_nonnull(const void *host, size_t host_length, const void *libs, size_t libs_length,
+                              const size_t *lengths, size_t count, const void *names, size_t names_length,
+                              const size_t *name_lengths, size_t name_count, uint32_t strict, void *out, size_t out_length,
+                              pslink_check_answer *answer)
+{
+    (void)names, (void)names_length, (void)name_lengths, (void)name_count, (void)strict;
+    return pslink_link_nonnull(host, host_length, libs, libs_length, lengths, count, out, out_length, &answer->verdict);
+}
+
 uint32_t pslink_show_nonnull(const void *file, size_t file_length, void *out, size_t out_length, pslink_answer *answer)
 {
     return pslink_link_nonnull(file, file_length, NULL, 0, NULL, 0, out, out_length, answer);

@@ -74,6 +74,30 @@ def of_files():
     check(raised(IsADirectoryError, pslink.link, "/"), "a folder is no IsADirectoryError")
 
 
+def of_reports():
+    host, library = HOST.read_bytes(), LIBRARY.read_bytes()
+    report = pslink.check(host, [library])
+    check(report.text.startswith("file 0 HOST: 1536 bytes, little-endian\nfile 1 LIB1: 1536 bytes"), f"a report is {report.text}")
+    check("\nlinks: segments 2 private words 4 blocks 3\n" in report.text, "the report has no line of the verdict")
+    check(report[1:] == (0, None, (2, 4, 3), True), f"what goes with a report is {report[1:]}")
+    report = pslink.check(HOST)
+    check(report.text.startswith(f"file 0 {HOST}: ") and parts(report.fault) == MISSING, f"the report of a path is {report}")
+    check((report.warnings, report.summary, report.ok) == (0, None, False), f"what goes with a refusal is {report[1:]}")
+    check(parts(pickle.loads(pickle.dumps(report)).fault) == MISSING, "a report that was pickled is another")
+    # (bit 7 of the operand of COUNT is clear)
+    warned = library[:513] + b"\0" + library[514:]
+    for strict in (False, True):
+        report = pslink.check(host, [warned], ["\N{FLOPPY DISK}", "two"], strict)
+        check((report.warnings, report.fault, report.ok) == (1, None, not strict), f"a warning is {report[1:]}")
+        check("file 0 \N{FLOPPY DISK}: " in report.text and "\nwarning: two, segment UTIL" in report.text, f"its text is {report.text}")
+    check(raised(ValueError, pslink.check, host, [library], ["one"]), "a name too few is no ValueError")
+    check(raised(TypeError, pslink.check, host, library), "one library is a list for a report")
+    for names in ("12", b"12", 2, [b"one", b"two"], [1, 2]):
+        check(raised(TypeError, pslink.check, host, [library], names), f"names that are {names!r} are no TypeError")
+    undecoded = pslink.check(host, [library], ["\udcff", "two"])
+    check(undecoded.text.startswith("file 0 \\udcff: "), f"a name that no text is has the report {undecoded.text:.40}")
+
+
 def of_refusals():
     fault = raised(pslink.Refused, pslink.link, HOST)
     check(parts(fault) == MISSING, f"the refusal is {parts(fault)}")
@@ -153,7 +177,7 @@ def of_installing():
 
 
 def main():
-    for part in (of_files, of_refusals, of_threads, of_time, of_installing):
+    for part in (of_files, of_reports, of_refusals, of_threads, of_time, of_installing):
         part()
     for line in found:
         print(line)

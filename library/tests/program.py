@@ -15,9 +15,27 @@ def refusal(fault):
     return f"pslink: {fault}\n" if " ".join(parts) == str(fault) else f"pslink: {parts} is not {fault}\n"
 
 
-def answer(command, host, libs):
+def of_link(host, libs):
+    """The fault of a link, as text, or its summary."""
+    try:
+        return pslink.link_with_summary(host, libs)[1]
+    except pslink.Refused as fault:
+        return str(fault)
+
+
+def checked(host, libs, names, strict):
+    """What the program's check answers, whose verdict is that of a link."""
+    report = pslink.check(host, libs, names, strict)
+    verdict = report.summary if report.fault is None else str(report.fault)
+    wrong = "" if verdict == of_link(host, libs) else f"pslink: {verdict} is not the verdict of a link\n"
+    return 0 if report.ok else 1, report.text, wrong, None
+
+
+def answer(command, host, libs, names=None, strict=False):
     """What the program answers: its status, its output and its error output, and of a link the file."""
     try:
+        if command == "check":
+            return checked(host, libs, names, strict)
         if command == "map":
             return 0, pslink.map(host, libs), "", None
         if command == "show":
@@ -31,9 +49,11 @@ def answer(command, host, libs):
 
 def main():
     command, *paths = sys.argv[1:]
+    strict = "--strict" in paths
+    paths = [path for path in paths if path != "--strict"]
     out = paths.pop(1) if command == "link" else None
-    # (paths are read by the package)
-    status, printed, error, linked = answer(command, paths[0], paths[1:])
+    # (paths are read by the package, and are the names in a report)
+    status, printed, error, linked = answer(command, paths[0], paths[1:], None, strict)
     if linked is not None:
         pathlib.Path(out).write_bytes(linked)
     sys.stdout.write(printed)

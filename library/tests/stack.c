@@ -1,5 +1,5 @@
-/* Prints how many bytes of stack the calls of these files take, at most: they are made on a thread whose stack was filled before.
- * Usage: stack HOST [LIB]... */
+/* Prints how many bytes of stack the calls of these files take, at most, and then how many a check takes: they are made on a thread
+ * whose stack was filled before. Usage: stack HOST [LIB]... */
 #define _GNU_SOURCE
 #include <pslink.h>
 #include <pthread.h>
@@ -44,6 +44,22 @@ static void *all_calls(void *room)
     return room;
 }
 
+static void *a_check(void *room)
+{
+    static pslink_named_file named[FILES];
+    const pslink_named_file of_host = {"HOST", host.bytes, host.length};
+    pslink_check_answer answer;
+    size_t k;
+
+    for (k = 0; k < count; k++) {
+        named[k].name = "LIBRARY";
+        named[k].bytes = libs[k].bytes;
+        named[k].length = libs[k].length;
+    }
+    pslink_check_files(of_host, named, count, 1, room, PSLINK_LINKED_MAX, &answer);
+    return room;
+}
+
 /* The bytes of stack that a thread of this takes. */
 static size_t of_thread(void *(*body)(void *), void *room)
 {
@@ -72,6 +88,6 @@ int main(int argc, char **argv)
         libs[count] = read_file(argv[count + 2]);
     /* (what a thread itself takes of its stack is counted once more, and taken off) */
     of_nothing = of_thread(nothing, room);
-    printf("%zu\n", of_thread(all_calls, room) - of_nothing);
+    printf("%zu %zu\n", of_thread(all_calls, room) - of_nothing, of_thread(a_check, room) - of_nothing);
     return 0;
 }

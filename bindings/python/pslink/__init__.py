@@ -15,7 +15,7 @@ import os
 import subprocess
 from typing import Iterable, NamedTuple, Optional, Tuple, Union
 
-__all__ = ["File", "Refused", "Summary", "fault_name", "link", "link_with_summary", "map", "release", "show"]
+__all__ = ["File", "Refused", "Report", "Summary", "check", "fault_name", "link", "link_with_summary", "map", "release", "show"]
 __version__ = "0.1.0"
 
 File = Union[bytes, bytearray, memoryview, str, "os.PathLike[str]"]
@@ -51,6 +51,17 @@ class _Answer(ctypes.Structure):
     ]
 
 
+class _CheckAnswer(ctypes.Structure):
+    _fields_ = [
+        ("status", ctypes.c_uint32),
+        ("ends_with", ctypes.c_uint32),
+        ("warnings", ctypes.c_size_t),
+        ("written", ctypes.c_size_t),
+        ("needed", ctypes.c_size_t),
+        ("verdict", _Answer),
+    ]
+
+
 _BYTES = [ctypes.c_char_p, ctypes.c_size_t]
 _ROOM = [ctypes.c_void_p, ctypes.c_size_t]
 _LENGTHS = [ctypes.POINTER(ctypes.c_size_t), ctypes.c_size_t]
@@ -58,6 +69,10 @@ _ANSWER = [ctypes.POINTER(_Answer)]
 _FUNCTIONS = {
     "pslink_link_nonnull": ([*_BYTES, *_BYTES, *_LENGTHS, *_ROOM, *_ANSWER], ctypes.c_uint32),
     "pslink_map_nonnull": ([*_BYTES, *_BYTES, *_LENGTHS, *_ROOM, *_ANSWER], ctypes.c_uint32),
+    "pslink_check_nonnull": (
+        [*_BYTES, *_BYTES, *_LENGTHS, *_BYTES, *_LENGTHS, ctypes.c_uint32, *_ROOM, ctypes.POINTER(_CheckAnswer)],
+        ctypes.c_uint32,
+    ),
     "pslink_show_nonnull": ([*_BYTES, *_ROOM, *_ANSWER], ctypes.c_uint32),
     "pslink_fault_text_nonnull": ([*_ANSWER, *_ROOM], ctypes.c_size_t),
     "pslink_fault_name_nonnull": ([ctypes.c_uint8, *_ROOM], ctypes.c_size_t),
@@ -209,9 +224,8 @@ def _all_contents(libs):
     return [_contents(lib) for lib in libs]
 
 
-def _result(call, size):
+def _result(call, size, answer):
     """What a call puts in a room of so many bytes, or of as many as it then asks for, and its answer."""
-    answer = _Answer()
     while True:
         room = ctypes.create_string_buffer(size)
         status = call(room, size, answer)
@@ -226,15 +240,22 @@ def _result(call, size):
         size = answer.needed
 
 
+def _joined(parts):
+    """Parts one after another, as arguments of a call: the bytes, and the length of each."""
+    joined = b"".join(parts)
+    lengths = (ctypes.c_size_t * max(1, len(parts)))(*(len(part) for part in parts))
+    return joined, len(joined), lengths, len(parts)
+
+
 def _call(function, host, libs, size):
-    lengths = (ctypes.c_size_t * max(1, len(libs)))(*(len(lib) for lib in libs))
-    joined = b"".join(libs)
+    joined = _joined(libs)
     return _result(
-        lambda room, size, answer: function(
-            host, len(host), joined, len(joined), lengths, len(libs), room, size, answer
-        ),
-        size,
+        lambda room, size, answer: function(host, len(host), *joined, room, size, answer), size, _Answer()
     )
+
+
+def _summary(answer):
+    return Summary(answer.segments, answer.private_words, answer.blocks)
 
 
 def link_with_summary(host: File, libs: Iterable[File] = ()) -> Tuple[bytes, Summary]:
@@ -243,7 +264,7 @@ def link_with_summary(host: File, libs: Iterable[File] = ()) -> Tuple[bytes, Sum
     # (a linked file is longer than all that is linked only where segments share their code)
     size = min(_LINKED_MAX, len(host) + sum(len(lib) for lib in libs))
     linked, answer = _call(_library.pslink_link_nonnull, host, libs, size)
-    return linked, Summary(answer.segments, answer.private_words, answer.blocks)
+    return linked, _summary(answer)
 
 
 def link(host: File, libs: Iterable[File] = ()) -> bytes:
@@ -261,11 +282,72 @@ def map(host: File, libs: Iterable[File] = ()) -> str:
     return text.decode("ascii")
 
 
+class Report(NamedTuple):
+    """What a check says of files.
+
+    text: the report, for a person. warnings: how many warnings it has. fault: why the files are refused, not raised here, or
+    None. summary: what their linked file would have, or None where they are refused. ok: whether the files are linked, and,
+    of a strict check, without a warning.
+    """
+
+    text: str
+    warnings: int
+    fault: Optional[Refused]
+    summary: Optional[Summary]
+    ok: bool
+
+
+def _name(file, number):
+    """What a report calls a file: its path, or else HOST or LIB1 and so on."""
+    if isinstance(file, (str, os.PathLike)):
+        return os.fsdecode(os.fspath(file))
+    return f"LIB{number}" if number else "HOST"
+
+
+def _names(files, names):
+    """What a report calls these files, in UTF-8: by these names, one for each, where they are given."""
+    if names is None:
+        names = [_name(file, number) for number, file in enumerate(files)]
+    elif isinstance(names, str):
+        raise TypeError("the names are a list, and not one str")
+    names = list(names)
+    if len(names) != len(files):
+        raise ValueError(f"{len(files)} files have {len(names)} names")
+    for name in names:
+        if not isinstance(name, str):
+            raise TypeError(f"a name is str, and not {type(name).__name__}")
+    return [name.encode("utf-8", "backslashreplace") for name in names]
+
+
+def check(host: File, libs: Iterable[File] = (), names: Optional[Iterable[str]] = None, strict: bool = False) -> Report:
+    """The report on a host and its libraries: whether they are linked, and what is wrong with them.
+
+    names: what the report calls each file, the host first; where they are not given, a file that is a path is called so, and
+    another HOST or LIB1 and so on. Raises what `link` raises but Refused, and ValueError where there is not one name for each
+    file.
+    """
+    if _is_one_file(libs):
+        raise TypeError(f"the libraries are a list of files, and not one {type(libs).__name__}")
+    files = [host, *libs]
+    names = _names(files, names)
+    host, *libs = [_contents(file) for file in files]
+    joined = *_joined(libs), *_joined(names), bool(strict)
+    text, answer = _result(
+        lambda room, size, answer: _library.pslink_check_nonnull(host, len(host), *joined, room, size, answer),
+        _TEXT_GUESS,
+        _CheckAnswer(),
+    )
+    verdict = answer.verdict
+    fault = _refusal(verdict) if verdict.status == _REFUSED else None
+    return Report(text.decode("utf-8"), answer.warnings, fault, None if fault else _summary(verdict), not answer.ends_with)
+
+
 def show(file: File) -> str:
     """What a code file has, of any contents, as text. Raises Refused with fault 1 or 2 only; else what `link` raises."""
     file = _contents(file)
     text, _ = _result(
         lambda room, size, answer: _library.pslink_show_nonnull(file, len(file), room, size, answer),
         _TEXT_GUESS,
+        _Answer(),
     )
     return text.decode("ascii")

@@ -16,7 +16,7 @@ mod reason;
 
 pub use reason::Reason;
 
-use raw::Answer;
+use raw::{Answer, CheckAnswer, Joined};
 use std::fmt;
 
 /// The version of the library's interface that this crate calls.
@@ -115,6 +115,16 @@ pub struct Summary {
     pub blocks: usize,
 }
 
+impl Summary {
+    fn of(answer: &Answer) -> Summary {
+        Summary {
+            segments: answer.segments,
+            private_words: answer.private_words,
+            blocks: answer.blocks,
+        }
+    }
+}
+
 /// The text that a call puts, with a closing 0, in room that is long enough for each.
 fn text_of(call: impl FnOnce(&mut [u8]) -> usize) -> String {
     let mut text = [0; FAULT_TEXT_MAX];
@@ -144,11 +154,47 @@ impl Fault {
     }
 }
 
+/// An answer: how many bytes were written, how many the result has, and the fault of a refusal.
+trait Told: Default {
+    fn written(&self) -> usize;
+    fn needed(&self) -> usize;
+    fn fault(&self) -> Option<Fault>;
+}
+
+impl Told for Answer {
+    fn written(&self) -> usize {
+        self.written
+    }
+
+    fn needed(&self) -> usize {
+        self.needed
+    }
+
+    fn fault(&self) -> Option<Fault> {
+        Fault::of(self)
+    }
+}
+
+impl Told for CheckAnswer {
+    fn written(&self) -> usize {
+        self.written
+    }
+
+    fn needed(&self) -> usize {
+        self.needed
+    }
+
+    // A check refuses nothing: its verdict has the fault.
+    fn fault(&self) -> Option<Fault> {
+        None
+    }
+}
+
 /// What a call puts in a room of so many bytes, or of as many as it then asks for.
-fn result(
+fn result<T: Told>(
     mut size: usize,
-    call: impl Fn(&mut [u8], &mut Answer) -> u32,
-) -> Result<(Vec<u8>, Answer), Error> {
+    call: impl Fn(&mut [u8], &mut T) -> u32,
+) -> Result<(Vec<u8>, T), Error> {
     let version = raw::version();
     if version != VERSION {
         return Err(Error::Version(version));
@@ -157,28 +203,22 @@ fn result(
         let mut room = Vec::new();
         room.try_reserve_exact(size).map_err(|_| Error::Memory)?;
         room.resize(size, 0);
-        let mut answer = Answer::default();
+        let mut answer = T::default();
         match call(&mut room, &mut answer) {
             DONE => {
-                room.truncate(answer.written);
+                room.truncate(answer.written());
                 room.shrink_to_fit();
                 return Ok((room, answer));
             }
             REFUSED => {
-                let fault = Fault::of(&answer).ok_or(Error::Unknown(REFUSED))?;
+                let fault = answer.fault().ok_or(Error::Unknown(REFUSED))?;
                 return Err(Error::Refused(fault));
             }
-            TOO_SMALL if answer.needed > size => size = answer.needed,
+            TOO_SMALL if answer.needed() > size => size = answer.needed(),
             NO_MEMORY => return Err(Error::Memory),
             status => return Err(Error::Unknown(status)),
         }
     }
-}
-
-/// Libraries one after another, and their lengths.
-struct Joined {
-    bytes: Vec<u8>,
-    lengths: Vec<usize>,
 }
 
 impl Joined {
@@ -219,23 +259,10 @@ pub fn link_with_summary<H: AsRef<[u8]>, L: AsRef<[u8]>>(
     let (host, libs) = (host.as_ref(), Joined::new(libs)?);
     // A linked file is longer than all that is linked only where segments share their code.
     let size = LINKED_MAX.min(host.len().saturating_add(libs.bytes.len()));
-    let (linked, answer) = result(size, |room, answer| {
+    let (linked, answer) = result(size, |room, answer: &mut Answer| {
         raw::link(host, &libs.bytes, &libs.lengths, room, answer)
     })?;
-    let Answer {
-        segments,
-        private_words,
-        blocks,
-        ..
-    } = answer;
-    Ok((
-        linked,
-        Summary {
-            segments,
-            private_words,
-            blocks,
-        },
-    ))
+    Ok((linked, Summary::of(&answer)))
 }
 
 /// The map of that link, as text: what it puts where.
@@ -244,10 +271,54 @@ pub fn link_with_summary<H: AsRef<[u8]>, L: AsRef<[u8]>>(
 /// Those of [`link`].
 pub fn map<H: AsRef<[u8]>, L: AsRef<[u8]>>(host: H, libs: &[L]) -> Result<String, Error> {
     let (host, libs) = (host.as_ref(), Joined::new(libs)?);
-    let (text, _) = result(TEXT_GUESS, |room, answer| {
+    let (text, _) = result(TEXT_GUESS, |room, answer: &mut Answer| {
         raw::map(host, &libs.bytes, &libs.lengths, room, answer)
     })?;
     Ok(String::from_utf8_lossy(&text).into_owned())
+}
+
+/// What a check says of files.
+#[derive(Clone, Debug, PartialEq, Eq)]
+pub struct Report {
+    /// The report, for a person.
+    pub text: String,
+    /// How many warnings it has.
+    pub warnings: usize,
+    /// What the linked file has, or why the files are refused.
+    pub verdict: Result<Summary, Fault>,
+    /// Whether the files are linked, and, of a strict check, without a warning.
+    pub ok: bool,
+}
+
+/// The report on a host and its libraries: whether they are linked, and what is wrong with them.
+/// Each file goes with the name that the report has for it.
+///
+/// # Errors
+/// Those of [`link`], but [`Error::Refused`]: a report is of files that are refused too.
+pub fn check<H: AsRef<[u8]>, L: AsRef<[u8]>>(
+    host: (&str, H),
+    libs: &[(&str, L)],
+    strict: bool,
+) -> Result<Report, Error> {
+    let names: Vec<&str> = std::iter::once(host.0)
+        .chain(libs.iter().map(|lib| lib.0))
+        .collect();
+    let files: Vec<&[u8]> = libs.iter().map(|lib| lib.1.as_ref()).collect();
+    let (names, files) = (Joined::new(&names)?, Joined::new(&files)?);
+    let host = host.1.as_ref();
+    let (text, answer) = result(TEXT_GUESS, |room, answer: &mut CheckAnswer| {
+        raw::check(host, &files, &names, strict, room, answer)
+    })?;
+    let verdict = match answer.verdict.status {
+        REFUSED => Err(Fault::of(&answer.verdict).ok_or(Error::Unknown(REFUSED))?),
+        _ => Ok(Summary::of(&answer.verdict)),
+    };
+    Ok(Report {
+        text: String::from_utf8_lossy(&text).into_owned(),
+        warnings: answer.warnings,
+        verdict,
+        ok: answer.ends_with == 0,
+    })
 }
 
 /// What a code file has, of any contents, as text.
@@ -256,7 +327,9 @@ pub fn map<H: AsRef<[u8]>, L: AsRef<[u8]>>(host: H, libs: &[L]) -> Result<String
 /// [`Error::Refused`] with [`Reason::ShortFile`] or [`Reason::NoOrder`]; else as of [`link`].
 pub fn show<F: AsRef<[u8]>>(file: F) -> Result<String, Error> {
     let file = file.as_ref();
-    let (text, _) = result(TEXT_GUESS, |room, answer| raw::show(file, room, answer))?;
+    let (text, _) = result(TEXT_GUESS, |room, answer: &mut Answer| {
+        raw::show(file, room, answer)
+    })?;
     Ok(String::from_utf8_lossy(&text).into_owned())
 }
 

@@ -23,6 +23,18 @@ pub struct Answer {
     pub needed: usize,
 }
 
+/// What a check answers: `pslink_check_answer`.
+#[repr(C)]
+#[derive(Clone, Copy, Default)]
+pub struct CheckAnswer {
+    pub status: u32,
+    pub ends_with: u32,
+    pub warnings: usize,
+    pub written: usize,
+    pub needed: usize,
+    pub verdict: Answer,
+}
+
 /// A link or a map.
 type Call = unsafe extern "C" fn(
     host: *const u8,
@@ -58,6 +70,22 @@ extern "C" {
         out: *mut u8,
         out_length: usize,
         answer: *mut Answer,
+    ) -> u32;
+    fn pslink_check_nonnull(
+        host: *const u8,
+        host_length: usize,
+        libs: *const u8,
+        libs_length: usize,
+        lengths: *const usize,
+        count: usize,
+        names: *const u8,
+        names_length: usize,
+        name_lengths: *const usize,
+        name_count: usize,
+        strict: u32,
+        out: *mut u8,
+        out_length: usize,
+        answer: *mut CheckAnswer,
     ) -> u32;
     fn pslink_show_nonnull(
         file: *const u8,
@@ -115,6 +143,41 @@ pub fn map(
     answer: &mut Answer,
 ) -> u32 {
     of_libraries(pslink_map_nonnull, host, libs, lengths, out, answer)
+}
+
+/// Parts one after another, and their lengths.
+pub struct Joined {
+    pub bytes: Vec<u8>,
+    pub lengths: Vec<usize>,
+}
+
+pub fn check(
+    host: &[u8],
+    libs: &Joined,
+    names: &Joined,
+    strict: bool,
+    out: &mut [u8],
+    answer: &mut CheckAnswer,
+) -> u32 {
+    // SAFETY: as in `of_libraries`.
+    unsafe {
+        pslink_check_nonnull(
+            host.as_ptr(),
+            host.len(),
+            libs.bytes.as_ptr(),
+            libs.bytes.len(),
+            libs.lengths.as_ptr(),
+            libs.lengths.len(),
+            names.bytes.as_ptr(),
+            names.bytes.len(),
+            names.lengths.as_ptr(),
+            names.lengths.len(),
+            strict.into(),
+            out.as_mut_ptr(),
+            out.len(),
+            answer,
+        )
+    }
 }
 
 pub fn show(file: &[u8], out: &mut [u8], answer: &mut Answer) -> u32 {

@@ -63,6 +63,41 @@ fn a_show_has_a_line_for_each_slot() {
 }
 
 #[test]
+fn a_report_names_the_files_and_has_the_verdict() {
+    let (host, mut library) = (sample("host.code"), sample("library.code"));
+    let report = pslink::check(("HOST", &host), &[("LIB1", &library)], true).unwrap();
+    assert!(report
+        .text
+        .starts_with("file 0 HOST: 1536 bytes, little-endian\n"));
+    assert!(report
+        .text
+        .ends_with("\nlinks: segments 2 private words 4 blocks 3\n"));
+    let summary = Summary {
+        segments: 2,
+        private_words: 4,
+        blocks: 3,
+    };
+    assert_eq!(
+        (report.warnings, report.verdict, report.ok),
+        (0, Ok(summary), true)
+    );
+    // Bit 7 of the operand of COUNT is clear.
+    library[513] = 0;
+    for strict in [false, true] {
+        let report = pslink::check(("one", &host), &[("two", &library)], strict).unwrap();
+        assert_eq!((report.warnings, report.ok), (1, !strict));
+        assert!(report.text.contains("\nwarning: two, segment UTIL"));
+    }
+    let none: &[(&str, &[u8])] = &[];
+    let report = pslink::check(("HOST", &host), none, false).unwrap();
+    let fault = report.verdict.unwrap_err();
+    assert_eq!((fault.reason, report.ok), (Reason::MissingUnit, false));
+    assert!(report
+        .text
+        .contains("\npslink: refused 13 MissingUnit file 0 slot 7\n"));
+}
+
+#[test]
 fn files_are_anything_with_bytes() {
     let (host, library) = (sample("host.code"), sample("library.code"));
     let linked = pslink::link(&host, &[&library]).unwrap();

@@ -1,6 +1,6 @@
 -- What the exports leave in the caller's memory.
 -- Source: this project's profile.
-use Rattle.std.specs.Prelude.{◌≡◌, ℕ, ◌<◌, List, length, Some, None}
+use Rattle.std.specs.Prelude.{◌≡◌, ℕ, ◌<◌, Bool, List, length, Some, None}
 use Rattle.ps_resolve.specs.Parts.{HasItsParts}
 use Rattle.ps_resolve.specs.Sources.{order_of}
 use Rattle.ps_words.specs.declared.fault.Fault.{Fault}
@@ -10,7 +10,11 @@ use Rattle.ps_linkfile.specs.MapText.{map_of}
 use Rattle.ps_linkfile.specs.ShowText.{show_of, show_fault}
 use Rattle.ps_calls.specs.Rooms.{RoomBeginsWith}
 use Rattle.ps_calls.specs.Answers.{linked_answer, text_answer, small_answer, refusal}
+use Rattle.ps_calls.specs.CheckAnswers.{found_answer, small_check_answer}
+use Rattle.ps_calls.specs.Checks.{IsFound, IsLongReport}
 use Rattle.ps_calls.specs.declared.answer.Answer.{Answer}
+use Rattle.ps_calls.specs.declared.check_answer.CheckAnswer.{CheckAnswer}
+use Rattle.ps_calls.specs.declared.checking.Found.{Found}
 
 -- the room begins with the linked file, and the answer has its summary and its length
 pub record Links (host : List ℕ) (libs : List (List ℕ)) (old new : List ℕ) (answer : Answer) : Type 0 where
@@ -62,3 +66,15 @@ pub record ShowNeeds (file room : List ℕ) (answer : Answer) : Type 0 where
   pub sound : show_fault file ≡ None
   pub less : length room < length (show_of file)
   pub told : answer ≡ small_answer (length (show_of file))
+
+-- the room begins with the text of a report, and the answer has what was found
+pub record Reports (host : List ℕ) (libs : List (List ℕ)) (strict : Bool) (old new : List ℕ) (answer : CheckAnswer) : Type 0 where
+  pub found : Found
+  pub is : IsFound host libs strict old new found
+  pub told : answer ≡ found_answer found
+
+-- the text of a report is longer than the room, and the answer has its length
+pub record ReportNeeds (host : List ℕ) (libs : List (List ℕ)) (room : List ℕ) (answer : CheckAnswer) : Type 0 where
+  pub size : ℕ
+  pub long : IsLongReport room host libs size
+  pub told : answer ≡ small_check_answer size

@@ -5,4 +5,6 @@ pub mod Names
 pub mod Stops
 pub mod Dones
 pub mod Outcomes
+pub mod Checks
+pub mod CheckAnswers
 pub mod Calls

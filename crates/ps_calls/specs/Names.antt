@@ -25,7 +25,7 @@ abbrev pub status_text : ℕ → List ℕ
 status_text status =
     if status == DONE then codes "done"
     else if status == REFUSED then codes "the files are refused"
-    else if status == WRONG_LENGTHS then codes "the lengths of the libraries do not add up"
+    else if status == WRONG_LENGTHS then codes "the lengths do not add up, or the names are wrong"
     else if status == NO_MEMORY then codes "out of memory"
     else if status == TOO_SMALL then codes "the room is shorter than the result"
     else []

@@ -13,7 +13,7 @@ pub const DONE: u32 = 0;
 /// Source: this project's profile.
 pub const REFUSED: u32 = 1;
 
-/// The status of a call whose lengths of libraries do not add up to what is given.
+/// The status of a call whose lengths do not add up to what is given, or whose names are wrong.
 /// Source: this project's profile.
 pub const WRONG_LENGTHS: u32 = 2;
 

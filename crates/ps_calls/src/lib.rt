@@ -5,7 +5,10 @@
 #![tactic(auto)]
 
 mod answer;
+mod check_answer;
+mod checking;
 mod fault_text;
+mod file_names;
 mod libraries;
 mod linking;
 mod names;
@@ -16,6 +19,8 @@ mod room;
 mod texts;
 
 pub use answer::{Answer, DONE, NO_MEMORY, REFUSED, TOO_SMALL, WRONG_LENGTHS};
+pub use check_answer::CheckAnswer;
+pub use checking::{Found, check};
 pub use fault_text::{FAULT_TEXT_MAX, put_fault};
 pub use libraries::LIBRARIES_IN_PLACE;
 pub use linking::{LINKED_MAX, link};

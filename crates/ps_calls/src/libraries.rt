@@ -12,8 +12,11 @@ use std::alloc::{AllocError, Global};
 /// Source: this project's profile.
 pub const LIBRARIES_IN_PLACE: usize = 256;
 
-/// The libraries of a call, each as a slice.
-pub(crate) type Libraries<'a> = SmallVec<&'a [u8], LIBRARIES_IN_PLACE>;
+/// How many libraries are few: a call with no more of them has a smaller table of them.
+pub(crate) const FEW_LIBRARIES: usize = 16;
+
+/// The libraries of a call, each as a slice, of which so many have a place on the stack.
+pub(crate) type Libraries<'a, const N: usize> = SmallVec<&'a [u8], N>;
 
 /// Whether the lengths add up to this total.
 fn add_up(lengths: &[usize], total: usize) -> bool
@@ -30,8 +33,13 @@ fn add_up(lengths: &[usize], total: usize) -> bool
 }
 
 /// The parts of these lengths.
-fn parts<'a>(alloc: Global, libs: &'a [u8], lengths: &[usize]) -> Result<Libraries<'a>, AllocError>
-    requires { sum lengths.now ≡ length libs.now }
+fn parts<'a, const N: usize>(
+    alloc: Global,
+    libs: &'a [u8],
+    lengths: &[usize],
+) -> Result<Libraries<'a, N>, AllocError>
+    requires whole { sum lengths.now ≡ length libs.now }
+    requires room { length lengths.now ≤ LIBRARIES_IN_PLACE → length lengths.now ≤ N }
     ensures ok { IfOk result (λ parts. contents parts.items
         ≡ split_spec libs.now lengths.now) }
     ensures err { OnErr result (LIBRARIES_IN_PLACE < length lengths.now) }
@@ -47,11 +55,12 @@ fn parts<'a>(alloc: Global, libs: &'a [u8], lengths: &[usize]) -> Result<Librari
 }
 
 /// The libraries that are one after another in `libs`, with these lengths.
-pub(crate) fn split<'a>(
+pub(crate) fn split<'a, const N: usize>(
     alloc: Global,
     libs: &'a [u8],
     lengths: &[usize],
-) -> Result<Libraries<'a>, Stop>
+) -> Result<Libraries<'a, N>, Stop>
+    requires { length lengths.now ≤ LIBRARIES_IN_PLACE → length lengths.now ≤ N }
     ensures ok { IfOk result (λ views. contents views.items
         ≡ split_spec libs.now lengths.now) }
     ensures right { IfOk result (λ _. sum lengths.now ≡ length libs.now) }

@@ -1,11 +1,11 @@
 //! The linked file, into the caller's room.
-ghost use Rattle.std.specs.Prelude.{◌≡◌, length, sum, IfOk, IfErr, OnErr};
+ghost use Rattle.std.specs.Prelude.{◌≡◌, ◌≤◌, length, sum, IfOk, IfErr, OnErr};
 ghost use Rattle.ps_resolve.specs.Sources.{contents};
 ghost use Rattle.ps_calls.specs.Libraries.{split as split_spec};
 ghost use Rattle.ps_calls.specs.Dones.{IsLinked};
 ghost use Rattle.ps_calls.specs.Stops.{StopsCall, StopsLink};
 
-use crate::libraries::split;
+use crate::libraries::{FEW_LIBRARIES, LIBRARIES_IN_PLACE, split};
 use crate::outcome::{Done, Stop};
 use crate::room::fill;
 use ps_linkfile::prepare;
@@ -33,6 +33,49 @@ fn link_all(alloc: Global, host: &[u8], libs: &[&[u8]], room: &mut [u8]) -> Resu
     Ok(Done::Linked { summary, size })
 }
 
+/// Links as `link` does, with few libraries. A function by itself, so that it takes no more of the
+/// stack than few libraries need.
+#[inline(never)]
+fn link_few(
+    alloc: Global,
+    host: &[u8],
+    libs: &[u8],
+    lengths: &[usize],
+    room: &mut [u8],
+) -> Result<Done, Stop>
+    requires { length lengths.now ≤ FEW_LIBRARIES }
+    ensures right { IfOk result (λ _. sum lengths.now ≡ length libs.now) }
+    ensures linked { IfOk result (IsLinked host.now (split_spec libs.now lengths.now)
+        room.old room.new) }
+    ensures stopped { IfErr result (StopsCall (StopsLink room.old host.now)
+        libs.now lengths.now) }
+    ensures untouched { OnErr result (room.new ≡ room.old) }
+{
+    let libs = split::<FEW_LIBRARIES>(alloc, libs, lengths)?;
+    link_all(alloc, host, libs.as_slice(), room)
+}
+
+/// Links as `link` does, with any number of libraries. A function by itself, so
+/// that only a link with many takes so much of the stack.
+#[inline(never)]
+fn link_many(
+    alloc: Global,
+    host: &[u8],
+    libs: &[u8],
+    lengths: &[usize],
+    room: &mut [u8],
+) -> Result<Done, Stop>
+    ensures right { IfOk result (λ _. sum lengths.now ≡ length libs.now) }
+    ensures linked { IfOk result (IsLinked host.now (split_spec libs.now lengths.now)
+        room.old room.new) }
+    ensures stopped { IfErr result (StopsCall (StopsLink room.old host.now)
+        libs.now lengths.now) }
+    ensures untouched { OnErr result (room.new ≡ room.old) }
+{
+    let libs = split::<LIBRARIES_IN_PLACE>(alloc, libs, lengths)?;
+    link_all(alloc, host, libs.as_slice(), room)
+}
+
 /// Links a host and the libraries that are one after another in `libs` into the room.
 ///
 /// `host` is a whole code file, and so is each part of `libs`, whose length in bytes `lengths` has;
@@ -57,6 +100,9 @@ pub fn link(
         libs.now lengths.now) }
     ensures untouched { OnErr result (room.new ≡ room.old) }
 {
-    let libs = split(alloc, libs, lengths)?;
-    link_all(alloc, host, libs.as_slice(), room)
+    if lengths.len() <= FEW_LIBRARIES {
+        link_few(alloc, host, libs, lengths, room)
+    } else {
+        link_many(alloc, host, libs, lengths, room)
+    }
 }

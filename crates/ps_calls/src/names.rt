@@ -25,12 +25,12 @@ fn name_of_fault(number: u8) -> &'static str
 /// What a status says; nothing where no call answers it.
 fn status_text(status: u32) -> &'static str
     ensures text { result.now ≡ status_text_spec status }
-    ensures short { length result.now ≤ 42 }
+    ensures short { length result.now ≤ 49 }
 {
     match status {
         DONE => "done",
         REFUSED => "the files are refused",
-        WRONG_LENGTHS => "the lengths of the libraries do not add up",
+        WRONG_LENGTHS => "the lengths do not add up, or the names are wrong",
         NO_MEMORY => "out of memory",
         TOO_SMALL => "the room is shorter than the result",
         _ => "",

@@ -21,7 +21,7 @@ pub enum Done {
 pub enum Stop {
     /// The files are refused for this fault.
     Refused(Fault),
-    /// The lengths of the libraries do not add up to what is given.
+    /// The lengths do not add up to what is given, or the names of a check are wrong.
     WrongLengths,
     /// Memory was refused.
     NoMemory,

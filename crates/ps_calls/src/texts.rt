@@ -1,5 +1,5 @@
 //! Texts, into the caller's room.
-ghost use Rattle.std.specs.Prelude.{◌≡◌, ◌<◌, length, sum, IfOk, IfErr, OnErr, None};
+ghost use Rattle.std.specs.Prelude.{◌≡◌, ◌<◌, ◌≤◌, length, sum, IfOk, IfErr, OnErr, None};
 ghost use Rattle.ps_resolve.specs.Sources.{contents};
 ghost use Rattle.ps_resolve.specs.Standing.{NoneStands};
 ghost use Rattle.ps_linkfile.specs.MapText.{map_of};
@@ -8,7 +8,7 @@ ghost use Rattle.ps_calls.specs.Libraries.{split as split_spec};
 ghost use Rattle.ps_calls.specs.Dones.{IsText};
 ghost use Rattle.ps_calls.specs.Stops.{IsOnlyAbove, StopsCall, StopsMap, StopsShow};
 
-use crate::libraries::split;
+use crate::libraries::{FEW_LIBRARIES, LIBRARIES_IN_PLACE, split};
 use crate::outcome::{Done, Stop};
 use ps_linkfile::{map_text, show_text};
 use std::alloc::Global;
@@ -38,6 +38,51 @@ fn map_all(alloc: Global, host: &[u8], libs: &[&[u8]], room: &mut [u8]) -> Resul
     put(text.as_slice(), room)
 }
 
+/// Puts the map of a link in the room as `map` does, with few libraries. A function by itself, so
+/// that it takes no more of the stack than few libraries need.
+#[inline(never)]
+fn map_few(
+    alloc: Global,
+    host: &[u8],
+    libs: &[u8],
+    lengths: &[usize],
+    room: &mut [u8],
+) -> Result<Done, Stop>
+    requires { length lengths.now ≤ FEW_LIBRARIES }
+    ensures right { IfOk result (λ _. sum lengths.now ≡ length libs.now) }
+    ensures accepted { IfOk result (λ _. NoneStands host.now (split_spec libs.now lengths.now)) }
+    ensures text { IfOk result (IsText (map_of host.now (split_spec libs.now lengths.now))
+        room.old room.new) }
+    ensures stopped { IfErr result (StopsCall (StopsMap room.old host.now)
+        libs.now lengths.now) }
+    ensures untouched { OnErr result (room.new ≡ room.old) }
+{
+    let libs = split::<FEW_LIBRARIES>(alloc, libs, lengths)?;
+    map_all(alloc, host, libs.as_slice(), room)
+}
+
+/// Puts the map of a link in the room as `map` does, with any number of libraries. A function by
+/// itself, so that only a link with many takes so much of the stack.
+#[inline(never)]
+fn map_many(
+    alloc: Global,
+    host: &[u8],
+    libs: &[u8],
+    lengths: &[usize],
+    room: &mut [u8],
+) -> Result<Done, Stop>
+    ensures right { IfOk result (λ _. sum lengths.now ≡ length libs.now) }
+    ensures accepted { IfOk result (λ _. NoneStands host.now (split_spec libs.now lengths.now)) }
+    ensures text { IfOk result (IsText (map_of host.now (split_spec libs.now lengths.now))
+        room.old room.new) }
+    ensures stopped { IfErr result (StopsCall (StopsMap room.old host.now)
+        libs.now lengths.now) }
+    ensures untouched { OnErr result (room.new ≡ room.old) }
+{
+    let libs = split::<LIBRARIES_IN_PLACE>(alloc, libs, lengths)?;
+    map_all(alloc, host, libs.as_slice(), room)
+}
+
 /// Puts the map of a link in the room, as text. The inputs are those of `link`, and so are the
 /// refusals, each said of the map in place of the linked file.
 /// Source: this project's profile.
@@ -56,8 +101,11 @@ pub fn map(
         libs.now lengths.now) }
     ensures untouched { OnErr result (room.new ≡ room.old) }
 {
-    let libs = split(alloc, libs, lengths)?;
-    map_all(alloc, host, libs.as_slice(), room)
+    if lengths.len() <= FEW_LIBRARIES {
+        map_few(alloc, host, libs, lengths, room)
+    } else {
+        map_many(alloc, host, libs, lengths, room)
+    }
 }
 
 /// Puts what a code file has in the room, as text.

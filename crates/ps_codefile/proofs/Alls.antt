@@ -1,6 +1,6 @@
 -- Tests of a list of numbers.
-use Rattle.std.proofs.Common.{◌≡◌, ℕ, zero, suc, ◌+◌, ◌<◌, ◌≤◌, ◌-◌, Bool, true, false, true≢false, ◌&&◌, refl, sym, ◌∙◌, subst, arith, add-zero}
-use Rattle.std.specs.List.{list_all, range_with_len}
+use Rattle.std.proofs.Common.{◌≡◌, ℕ, zero, suc, ◌+◌, ◌<◌, ◌≤◌, ◌-◌, Bool, true, false, true≢false, ◌&&◌, ◌||◌, refl, sym, ◌∙◌, subst, arith, add-zero}
+use Rattle.std.specs.List.{list_all, list_any, range_with_len}
 
 -- where each number of a list passes a test, all pass
 pub all_from : (p : ℕ → Bool) (a n : ℕ) → ((k : ℕ) → k < n → p (a + k) ≡ true) → list_all p (range_with_len a n) ≡ true
@@ -26,3 +26,20 @@ all_at p n all j low high = at (p j) refl
     at : (b : Bool) → p j ≡ b → p j ≡ true
     at true e = e
     at false e = absurd (true≢false (sym all ∙ not_all p 1 n (j - 1) j (omega arith) (omega arith) e))
+
+-- where no number of a list passes a test, none does
+pub none_from : (p : ℕ → Bool) (a n : ℕ) → ((k : ℕ) → k < n → p (a + k) ≡ false) → list_any p (range_with_len a n) ≡ false
+none_from p a zero h = refl
+none_from p a (suc n) h =
+    let first : p a ≡ false = subst (λ (m : ℕ). p m ≡ false) (add-zero a) (h 0 (omega arith)) in
+    rw first (none_from p (a + 1) n (λ k lt. subst (λ (m : ℕ). p m ≡ false) (let e : a + (k + 1) ≡ (a + 1) + k = omega arith in e) (h (k + 1) (omega arith))))
+
+-- where one number of a list passes a test, some do
+pub some_at : (p : ℕ → Bool) (a n i j : ℕ) → i < n → j ≡ a + i → p j ≡ true → list_any p (range_with_len a n) ≡ true
+some_at p a zero i j lt e h = absurd (omega arith)
+some_at p a (suc n) zero j lt e h = let x : j ≡ a = omega arith in let g = subst (λ (m : ℕ). p m ≡ true) x h in rw g refl
+some_at p a (suc n) (suc i) j lt e h = rw (some_at p (a + 1) n i j (omega arith) (omega arith) h) (or_true (p a))
+  where
+    or_true : (b : Bool) → (b || true) ≡ true
+    or_true true = refl
+    or_true false = refl

@@ -1,2 +1,3 @@
 pub mod Alls
 pub mod Tables
+pub mod FirstFaults

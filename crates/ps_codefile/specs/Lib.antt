@@ -2,3 +2,4 @@ pub mod Dictionary
 pub mod Procedures
 pub mod Places
 pub mod Roles
+pub mod ProcedureFaults

@@ -3,7 +3,7 @@ use Rattle.std.specs.Prelude.{ℕ, ◌+◌, ◌<◌, ◌≤◌, ◌&&◌, List, 
 use Rattle.std.specs.List.{list_all}
 use Rattle.std.specs.Option.{option_map_or}
 use Rattle.ps_words.specs.declared.order.Order.{Order}
-use Rattle.ps_codefile.specs.Procedures.{all_words, dictionary_len, dictionary_start, is_placed, numbers}
+use Rattle.ps_codefile.specs.Procedures.{procedure_words, dictionary_len, dictionary_start, is_placed, numbers}
 
 -- from `start` on, and before `end`
 abbrev pub is_between : ℕ → ℕ → ℕ → Bool
@@ -27,4 +27,4 @@ pub record HasTables (order : Order) (code : List ℕ) : Type 0 where
 -- these are the words of the procedures of such a code
 pub record HasWords (order : Order) (code : List ℕ) (words : List ℕ) : Type 0 where
   pub tables : HasTables order code
-  pub all : words ≡ all_words order code
+  pub all : words ≡ procedure_words order code

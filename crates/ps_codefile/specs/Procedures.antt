@@ -4,6 +4,7 @@
 -- profile.
 use Rattle.std.specs.Prelude.{ℕ, ◌+◌, ◌-◌, ◌*◌, ◌==◌, ◌&&◌, ◌||◌, not, if◌then◌else◌, List, length, slice_index, map, nat_le, nat_lt, Bool, Option, Some, None, Result, Ok, Err}
 use Rattle.std.specs.List.{list_all, list_any, range_with_len, filter_map}
+use Rattle.std.specs.Option.{option_map}
 use Rattle.ps_words.specs.Words.{word_at}
 use Rattle.ps_words.specs.declared.order.Order.{Order}
 use Rattle.ps_words.specs.declared.fault.Reason.{Reason}
@@ -33,6 +34,10 @@ table_of order code p =
     let content = content_of order code p in
     if content == 0 then None else Some (length code - 2 - 2 * p - content)
 
+-- the data size of the outer block, procedure 1, in bytes: four words before its table's number
+abbrev pub outer_data_size : Order → List ℕ → Option ℕ
+outer_data_size order code = if procedures code == 0 then None else option_map (λ t. word_at order code (t - 8)) (table_of order code 1)
+
 -- procedure p has no table, or one that begins in the code, eight bytes before its place, and ends
 -- before the dictionary
 abbrev pub is_placed : Order → List ℕ → ℕ → Bool
@@ -46,8 +51,8 @@ abbrev pub numbers : List ℕ → List ℕ
 numbers code = range_with_len 1 (procedures code)
 
 -- the content of each procedure's word
-abbrev pub all_words : Order → List ℕ → List ℕ
-all_words order code = map (content_of order code) (numbers code)
+abbrev pub procedure_words : Order → List ℕ → List ℕ
+procedure_words order code = map (content_of order code) (numbers code)
 
 -- the places of all tables
 abbrev pub tables : Order → List ℕ → List ℕ

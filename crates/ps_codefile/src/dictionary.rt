@@ -109,6 +109,17 @@ impl<'a> Dict<'a> {
         }
     }
 
+    /// A copy, which borrows the same file.
+    /// Source: this project's profile.
+    pub fn copy(&self) -> Dict<'a>
+        ensures { result ≡ self.now }
+    {
+        Dict {
+            order: self.order,
+            file: self.file,
+        }
+    }
+
     /// The byte order in which the file's words are read.
     /// Source: UCSD Pascal II.0 manual, code file format.
     pub fn order(&self) -> Order

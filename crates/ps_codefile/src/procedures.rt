@@ -1,10 +1,14 @@
-ghost use Rattle.std.specs.Prelude.{◌≡◌, ℕ, ◌≤◌, ◌-◌, ◌+◌, ◌*◌, ◌==◌, ◌&&◌, ◌||◌, if◌then◌else◌, length, slice_index, slice_index_or};
+ghost use Rattle.std.specs.Prelude.{◌≡◌, ℕ, IfErr, IfOk, IfSome, None, Ok, Err, false, ◌<◌, ◌≤◌, ◌-◌, ◌+◌, ◌*◌, ◌==◌, ◌&&◌, ◌||◌, if◌then◌else◌, length, slice_index, slice_index_or};
 ghost use Rattle.std.specs.List.{list_all, list_any};
 ghost use Rattle.std.specs.Option.{ForSome};
-ghost use Rattle.ps_codefile.specs.Procedures.{procedures, dictionary_len, dictionary_start, content_of, table_of as table_of_spec, is_placed as is_placed_spec, numbers, is_in_table as is_in_table_spec, is_reserved as is_reserved_spec, read_tables as read_tables_spec};
-ghost use Rattle.ps_codefile.specs.Places.{is_between, passes, IsWhole};
+ghost use Rattle.ps_codefile.specs.Procedures.{procedures, dictionary_len, dictionary_start, content_of, outer_data_size, table_of as table_of_spec, is_placed as is_placed_spec, numbers, is_in_table as is_in_table_spec, is_reserved as is_reserved_spec, read_tables as read_tables_spec};
+ghost use Rattle.ps_codefile.specs.Places.{is_between, passes, HasTables, IsWhole};
+ghost use Rattle.ps_codefile.specs.ProcedureFaults.{IsFirstProcedure, IsProcedureFault, is_native as is_native_spec, is_outside, lacks_outer_block as lacks_outer_block_spec, reason_of};
 
-use crate::code_layout::{NUMBERS, OUTER_BLOCK, TABLE_NUMBERS, TABLE_WORDS};
+use crate::code_layout::{
+    DATA_SIZE_BEFORE_TABLE, NUMBERS, OUTER_BLOCK, TABLE_NUMBERS, TABLE_WORDS,
+};
+use crate::procedure_fault::ProcedureFault;
 use arrayvec::ArrayVec;
 use ps_words::{Order, Reason, WORD_LEN, get};
 use std::marker::Model;
@@ -111,12 +115,19 @@ fn is_placed(order: Order, code: &[u8], p: usize) -> bool
         || (content + TABLE_WORDS <= place && place - content + (TABLE_NUMBERS - 1) < start)
 }
 
-/// No procedure has a table that does not lie in the code before the procedure dictionary.
-fn are_placed(order: Order, code: &[u8]) -> bool
+/// The first procedure with a table that does not lie in the code before the procedure dictionary.
+#[tactic(auto, using(crate::proofs::FirstFaults::none_outside))]
+fn first_outside(order: Order, code: &[u8]) -> Option<usize>
     requires { dictionary_len code.now ≤ length code.now }
-    ensures { result ≡ list_all (is_placed_spec order code.now) (numbers code.now) }
+    ensures found { IfSome result (IsFirstProcedure code.now (is_outside order code.now)) }
+    ensures none { result ≡ None → HasTables order code.now }
 {
-    numbers_of(code).all(|p| is_placed(order, code, p))
+    for p in 1..count_of(code) + 1 {
+        if !is_placed(order, code, p) {
+            return Some(p);
+        }
+    }
+    None
 }
 
 /// The procedure of the table is native.
@@ -162,23 +173,44 @@ impl<'a> ProcedureDictionary<'a> {
     /// procedure of the host segment has no body; else `NativeProcedure` where a table's
     /// procedure number is 0. The code has at least two bytes.
     /// Source: UCSD Pascal II.0 manual, code file format.
-    #[tactic(auto, using(crate::proofs::Tables::any_table))]
     pub fn read(order: Order, code: &'a [u8], host: bool) -> Result<ProcedureDictionary<'a>, Reason>
         requires { 2 ≤ length code.now }
         ensures { result ≡ read_tables_spec order code.now host }
     {
-        if code.len() < NUMBERS + WORD_LEN * count_of(code) {
-            return Err(Reason::BadProcDict);
+        match ProcedureDictionary::read_or_fault(order, code, host) {
+            Ok(dictionary) => Ok(dictionary),
+            Err(fault) => Err(fault.reason()),
         }
-        if !are_placed(order, code) {
-            return Err(Reason::BadProcDict);
+    }
+
+    /// Reads the procedure dictionary of a code as `read` does, or says what is wrong with it, and
+    /// of which procedure: the first of several. The code has at least two bytes.
+    /// Source: UCSD Pascal II.0 manual, code file format.
+    #[tactic(auto, using(crate::proofs::FirstFaults::refused_outside, crate::proofs::FirstFaults::refused_native, crate::proofs::FirstFaults::read_whole))]
+    pub fn read_or_fault(
+        order: Order,
+        code: &'a [u8],
+        host: bool,
+    ) -> Result<ProcedureDictionary<'a>, ProcedureFault>
+        requires { 2 ≤ length code.now }
+        ensures read { IfOk result (λ d. read_tables_spec order code.now host ≡ Ok d) }
+        ensures reason { IfErr result (λ f. read_tables_spec order code.now host
+            ≡ Err (reason_of f)) }
+        ensures fault { IfErr result (IsProcedureFault order code.now host) }
+    {
+        let bytes = NUMBERS + WORD_LEN * count_of(code);
+        if code.len() < bytes {
+            return Err(ProcedureFault::LongDictionary { bytes });
+        }
+        if let Some(procedure) = first_outside(order, code) {
+            return Err(ProcedureFault::Outside { procedure });
         }
         let dictionary = ProcedureDictionary { order, code };
         if host && dictionary.lacks_outer_block() {
-            return Err(Reason::BadProcDict);
+            return Err(ProcedureFault::NoOuterBlock);
         }
-        if dictionary.has_native() {
-            return Err(Reason::NativeProcedure);
+        if let Some(procedure) = dictionary.first_native() {
+            return Err(ProcedureFault::Native { procedure });
         }
         Ok(dictionary)
     }
@@ -246,18 +278,56 @@ impl<'a> ProcedureDictionary<'a> {
 
     /// The outer block has no body.
     fn lacks_outer_block(&self) -> bool
-        ensures { result ≡ (procedures self.now.code == 0
-            || content_of self.now.order self.now.code 1 == 0) }
+        ensures { result ≡ lacks_outer_block_spec self.now.order self.now.code }
     {
         self.count() == 0 || self.table(OUTER_BLOCK).is_none()
     }
 
-    /// One of the procedures is native.
-    fn has_native(&self) -> bool
-        ensures { result ≡ list_any (λ p. passes (λ t. slice_index self.now.code t == 0)
-            (table_of_spec self.now.order self.now.code p)) (numbers self.now.code) }
+    /// The first procedure that is native.
+    #[tactic(auto, using(crate::proofs::FirstFaults::none_passes))]
+    fn first_native(&self) -> Option<usize>
+        ensures found { IfSome result (IsFirstProcedure self.now.code
+            (is_native_spec self.now.order self.now.code)) }
+        ensures none { result ≡ None → list_any (is_native_spec self.now.order self.now.code)
+            (numbers self.now.code) ≡ false }
     {
-        numbers_of(self.code).any(|p| is_native(self.code, self.table(p)))
+        for p in 1..count_of(self.code) + 1 {
+            if is_native(self.code, self.table(p)) {
+                return Some(p);
+            }
+        }
+        None
+    }
+
+    /// The data size of the outer block, procedure 1, in bytes; `None` where it has no body.
+    /// Source: UCSD Pascal II.0 manual, code file format.
+    pub fn data_size(&self) -> Option<u16>
+        ensures { result ≡ outer_data_size self.now.order self.now.code }
+    {
+        if self.count() == 0 {
+            return None;
+        }
+        match self.table(OUTER_BLOCK) {
+            None => None,
+            Some(place) => Some(get(self.order, self.code, place - DATA_SIZE_BEFORE_TABLE)),
+        }
+    }
+
+    /// The first procedure, from 1, whose attribute table has the place; `None` where none has it.
+    /// Source: UCSD Pascal II.0 manual, code file format.
+    #[tactic(auto, using(crate::proofs::FirstFaults::none_passes))]
+    pub fn table_with(&self, place: usize) -> Option<usize>
+        ensures found { IfSome result (IsFirstProcedure self.now.code (λ p. passes
+            (is_in_table_spec place) (table_of_spec self.now.order self.now.code p))) }
+        ensures none { result ≡ None → list_any (λ p. passes (is_in_table_spec place)
+            (table_of_spec self.now.order self.now.code p)) (numbers self.now.code) ≡ false }
+    {
+        for p in 1..count_of(self.code) + 1 {
+            if is_in_table(self.code, self.table(p), place) {
+                return Some(p);
+            }
+        }
+        None
     }
 }
 

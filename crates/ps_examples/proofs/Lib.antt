@@ -1,12 +1,6 @@
-pub mod LinkedBytes
-pub mod MapTexts
-pub mod ShowTexts
-pub mod ByteFacts
 pub mod SegmentOrigins
 pub mod NotLinked
 pub mod NotOrigins
-pub mod WholeLinks
 pub mod NotWholeLinks
 pub mod NotAddedUnits
-pub mod BuilderFacts
 pub mod NotBuilt

@@ -1,18 +1,13 @@
--- Rows of names and lists of segments that are not those that a link adds, computed.
+-- Queues of names and lists of segments that are not those that a link adds, computed.
 use Rattle.std.proofs.Common.{◌≡◌, ℕ, zero, suc, ◌+◌, ◌<◌, List, [], ◌∷◌, ◌++◌, length, refl, sym, subst, inl, inr, ◌∙◌, arith}
-use Rattle.std.specs.Str.{bytes_eq}
-use Rattle.std.proofs.lemmas.Bool.{false≢true}
-use Rattle.std.proofs.lemmas.Slice.Eq.{bytes_eq-Decides}
-use Rattle.ps_codefile.specs.Dictionary.{entry_at}
 use Rattle.ps_examples.specs.Files.{host, library_naming_itself, library_of_used, util_information, aux}
-use Rattle.ps_examples.specs.Segments.{demo_segment, util_segment, using_segment, past_segment, aux_reference}
-use Rattle.ps_examples.proofs.ByteFacts.{same}
+use Rattle.ps_examples.specs.Segments.{demo_segment, util_segment, using_segment, aux_reference}
+use Rattle.ps_examples.proofs.NotLinked.{same}
 use Rattle.ps_examples.proofs.NotOrigins.{no_name, count_aux, state_aux, blank_aux}
-use Rattle.ps_examples.proofs.SegmentOrigins.{fails}
-use Rattle.ps_resolve.specs.Added.{empty_slots}
+use Rattle.ps_examples.proofs.SegmentOrigins.{no_slot_has}
 use Rattle.ps_resolve.specs.Origins.{AsksFor}
 use Rattle.ps_resolve.specs.Sources.{Segment, own_segments}
-use Rattle.ps_resolve.specs.RequestedUnits.{Asks, HasSlot, AddedUnits}
+use Rattle.ps_resolve.specs.RequestedUnits.{Asks, AddedUnits}
 use Rattle.ps_resolve.specs.declared.reading.added.UnitReference.{UnitReference}
 use Rattle.ps_words.specs.declared.order.Order.TheVariants.{Little}
 
@@ -36,18 +31,9 @@ its_own_record_alone g s name h =
     go (suc zero) l a = no_name util_segment aux (count_aux, (state_aux, (blank_aux, tt))) (subst (λ (q : Segment). AsksFor q aux) (sym (same util_segment a.0 a.1)) (g.rec, a.2, a.3, (a.4, a.5 ∙ name)))
     go (suc (suc i)) l a = omega (arith, l)
 
--- no slot of the host has the name AUX
-no_slot : HasSlot Little host aux → ⊥
-no_slot t = false≢true (sym (fails 16 (λ k. bytes_eq (entry_at Little host k).name aux) refl t.0 t.1) ∙ (bytes_eq-Decides (entry_at Little host t.0).name aux).1 t.2.1)
-
 -- the queue is not empty where UTIL requests AUX
 pub no_name_is_requested : AddedUnits Little host (library_of_used (util_information Little) ∷ []) [] [] → ⊥
-no_name_is_requested h = elim (h.complete 1 0 aux asks) [ inl has ↦ no_slot has | inr t ↦ (let e = t.2 in cc) ]
+no_name_is_requested h = elim (h.complete 1 0 aux asks) [ inl has ↦ no_slot_has host aux refl has | inr t ↦ (let e = t.2 in cc) ]
   where
     asks : Asks (own_segments Little host (library_of_used (util_information Little) ∷ []) ++ []) 1 0 aux
     asks = subst (λ (own : List Segment). Asks (own ++ []) 1 0 aux) (sym own_of_used) (using_segment, refl, aux_reference, refl, refl, refl)
-
--- AUX does not take slot 9 where slot 8 is empty
-pub in_a_later_slot : (g : UnitReference) → AddedUnits Little host (library_of_used (util_information Little) ∷ []) (g ∷ []) (past_segment ∷ []) → ⊥
-unfolding empty_slots
-in_a_later_slot g h = let e = h.slots 0 past_segment refl in let n : 8 ≡ 9 = same 8 9 e in omega (arith, n)

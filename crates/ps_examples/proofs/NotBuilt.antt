@@ -1,19 +1,17 @@
 -- What the builders of definitions and of allotments do not do, computed.
-use Rattle.std.proofs.Common.{◌≡◌, ℕ, zero, suc, ◌<◌, ◌≤◌, List, [], ◌∷◌, Some, true, refl, sym, ap, subst, ◌∙◌, inl, inr, arith}
+use Rattle.std.proofs.Common.{◌≡◌, ℕ, zero, suc, ◌<◌, List, [], ◌∷◌, Some, true, refl, sym, ap, subst, ◌∙◌, inl, inr, arith}
 use Rattle.std.specs.Prelude.{slice_get}
 use Rattle.std.proofs.lemmas.Bool.{false≢true}
 use Rattle.ps_examples.specs.Files.{count, state}
 use Rattle.ps_examples.specs.Segments.{count_reference, state_reference, end_mark}
-use Rattle.ps_examples.specs.Owners.{defined_again, util_owner, aux_owner, duplicate_owner, plain_owner, first_private, second_private, third_private}
-use Rattle.ps_examples.proofs.ByteFacts.{same}
-use Rattle.ps_examples.proofs.NotLinked.{count_state}
+use Rattle.ps_examples.specs.Owners.{defined_again, util_owner, aux_owner, duplicate_owner, plain_owner, first_private, second_private}
+use Rattle.ps_examples.proofs.NotLinked.{same, count_state}
 use Rattle.ps_examples.proofs.NotOrigins.{none_passes}
 use Rattle.ps_linkinfo.specs.RecordCounts.{is_definition, is_private_reference}
 use Rattle.ps_linkinfo.specs.declared.record.Body.TheVariants.{PublDef, ConstDef}
 use Rattle.ps_linkinfo.specs.declared.record.LinkRecord.{LinkRecord as Record}
-use Rattle.ps_resolve.specs.Builders.{HaveNoNamesakes, IsFirstNamesake, StopsDefinitions, HaveDistinctPrivates, HaveRoom, IsUnfit, StopsPrivates, AreByRecord}
+use Rattle.ps_resolve.specs.Builders.{IsFirstNamesake, StopsDefinitions, IsUnfit, StopsPrivates, AreByRecord}
 use Rattle.ps_resolve.specs.First.{Before}
-use Rattle.ps_resolve.specs.Offsets.{FollowOn}
 use Rattle.ps_resolve.specs.Privates.{Owner}
 use Rattle.ps_resolve.specs.Standing.Phrases.{SomeItem}
 use Rattle.ps_resolve.specs.Standing.Definitions.{HasEarlierNamesake}
@@ -24,18 +22,12 @@ use Rattle.ps_words.specs.declared.fault.Reason.{Reason}
 use Rattle.ps_words.specs.declared.fault.Reason.TheVariants as reason
 
 -- definitions
-again : HasEarlierNamesake is_definition defined_again 2 (record { name = count; body = ConstDef 4 })
+pub again : HasEarlierNamesake is_definition defined_again 2 (record { name = count; body = ConstDef 4 })
 again = (refl, (0, omega arith, (record { name = count; body = PublDef 3 }, refl, (refl, refl))))
 
-pub a_name_is_defined_twice : HaveNoNamesakes is_definition defined_again → ⊥
-a_name_is_defined_twice h = h 2 (record { name = count; body = ConstDef 4 }) refl again
-
 -- the record of a fault
-record_of_fault : (a b : ℕ) (why other : Reason) → in_record 0 1 a why ≡ in_record 0 1 b other → a ≡ b
+pub record_of_fault : (a b : ℕ) (why other : Reason) → in_record 0 1 a why ≡ in_record 0 1 b other → a ≡ b
 record_of_fault a b why other e = same a b (ap (λ (f : Fault). f.rec) e)
-
-pub not_the_later_definition : StopsDefinitions 0 1 defined_again (Refused (in_record 0 1 3 reason.DoubledDefinition)) → ⊥
-not_the_later_definition t = let h : 3 ≡ t.0 = record_of_fault 3 t.0 reason.DoubledDefinition reason.DoubledDefinition t.2 in let f = t.1 in f.first 2 (record { name = count; body = ConstDef 4 }) (omega (arith, h)) refl again
 
 -- a definition whose name no earlier one has is not refused
 pub not_the_definition_of_a_new_name : StopsDefinitions 0 1 defined_again (Refused (in_record 0 1 1 reason.DoubledDefinition)) → ⊥
@@ -51,18 +43,9 @@ not_the_definition_of_a_new_name t = go t.0 (record_of_fault 1 t.0 reason.Double
     go (suc zero) h f = let a = f.again in other f.item (same (record { name = state; body = PublDef 9 }) f.item f.there) a.1.0 a.1.2.0 a.1.1 a.1.2.1 a.1.2.2.1
     go (suc (suc k)) h f = omega (arith, h)
 
-pub no_memory_without_a_definition : StopsDefinitions 0 1 (count_reference ∷ []) Memory → ⊥
-no_memory_without_a_definition t = none_passes (λ (r : Record). is_definition r.body ≡ true) (count_reference ∷ []) (λ e. false≢true e, tt) t.0 t.1 t.2 t.3
-
 -- names and room
-duplicate : HasEarlierNamesake is_private_reference duplicate_owner.records 2 state_reference
+pub duplicate : HasEarlierNamesake is_private_reference duplicate_owner.records 2 state_reference
 duplicate = (refl, (1, omega arith, (state_reference, refl, (refl, refl))))
-
-pub a_name_twice_in_a_segment : HaveDistinctPrivates (util_owner ∷ duplicate_owner ∷ []) → ⊥
-a_name_twice_in_a_segment h = h 1 duplicate_owner refl 2 state_reference refl duplicate
-
-pub no_room_for_the_last_word : HaveRoom 32764 (util_owner ∷ []) → ⊥
-no_room_for_the_last_word h = let le : 32768 ≤ 32767 = h 0 1 util_owner state_reference refl refl refl in omega (arith, le)
 
 -- the first private that is unfit
 of_a_private : (base : ℕ) (ss : List Owner) (k : ℕ) (s : Owner) (n : ℕ) (r : Record) (why : Reason) → IsUnfit base ss k s n r why → is_private_reference r.body ≡ true
@@ -152,6 +135,3 @@ not_one_of_a_record_twice h = go (h 0 1 first_private first_private (omega arith
     go (inl lt) = omega (arith, lt)
     go (inr (e, inl lt)) = omega (arith, lt)
     go (inr (e, inr t)) = t.1
-
-pub not_with_a_gap : FollowOn 8 (first_private ∷ third_private ∷ []) → ⊥
-not_with_a_gap h = let e : 18 ≡ 12 = h 1 first_private (omega arith) in omega (arith, e)

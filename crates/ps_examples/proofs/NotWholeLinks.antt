@@ -1,41 +1,25 @@
 -- Lists of segments that are not those of the small links, computed.
-use Rattle.std.proofs.Common.{◌≡◌, ℕ, ◌<◌, List, [], ◌∷◌, Result, Ok, false, refl, sym, ap, subst, ◌∙◌, inr, arith}
+use Rattle.std.proofs.Common.{◌≡◌, ℕ, List, [], ◌∷◌, Result, Ok, false, refl, ap, subst, ◌∙◌, arith}
 use Rattle.std.specs.Prelude.{slice_get, All}
 use Rattle.std.proofs.lemmas.Bool.{false≢true}
-use Rattle.ps_codefile.specs.Dictionary.{entry_at}
 use Rattle.ps_codefile.specs.declared.entry.Role.{Role}
 use Rattle.ps_codefile.specs.declared.entry.Role.TheVariants as role
-use Rattle.ps_examples.specs.Files.{host, library, host_in, library_of_used, library_of_used_big, util_information, put_at, with_slot, util, aux, tools, util_code}
-use Rattle.ps_examples.specs.Segments.{demo_segment, util_segment, using_segment, aux_segment, past_segment, again_segment, tools_segment}
-use Rattle.ps_examples.proofs.ByteFacts.{same}
-use Rattle.ps_examples.proofs.NotLinked.{util_aux}
-use Rattle.ps_examples.proofs.NotOrigins.{a_slot_without_one, not_without_its_records, none_passes, no_name, count_aux, state_aux, blank_aux}
-use Rattle.ps_examples.proofs.WholeLinks.{used, added_is}
+use Rattle.ps_examples.specs.Files.{host, host_in, library_of_used, library_of_used_big, util_information, put_at, aux, util_code}
+use Rattle.ps_examples.specs.Segments.{demo_segment, util_segment, using_segment, aux_segment, past_segment}
+use Rattle.ps_examples.proofs.NotOrigins.{none_passes, no_name, count_aux, state_aux, blank_aux}
 use Rattle.ps_resolve.specs.Added.{empty_slots, rounds, added_segments}
-use Rattle.ps_resolve.specs.Origins.{HasOne, AsksFor, HaveOneEach, AreBySlot, AreOwn, AreAdded, AreOfRounds, AreInPlace, AreOfLibraries, AreRead}
+use Rattle.ps_resolve.specs.Origins.{HasOne, AsksFor, HaveOneEach, AreAdded, AreOfRounds}
 use Rattle.ps_resolve.specs.Sources.{Segment, own_segments}
 use Rattle.ps_resolve.specs.Standing.Phrases.{SomeItem}
 use Rattle.ps_words.specs.declared.fault.Reason.{Reason}
 use Rattle.ps_words.specs.declared.order.Order.TheVariants.{Little, Big}
 
 -- the host's slot 7 is not empty
-filled : ◌≡◌ {A = Result Role Reason} (Ok role.Wanted) (Ok role.Empty) → ⊥
+pub filled : ◌≡◌ {A = Result Role Reason} (Ok role.Wanted) (Ok role.Empty) → ⊥
 filled e = cc
 
-pub a_segment_is_missing : HaveOneEach host (demo_segment ∷ []) → ⊥
-a_segment_is_missing h = a_slot_without_one (h 7 (omega arith) (λ e. filled e))
-
-pub a_big_endian_one_is_missing : HaveOneEach (host_in Big) (demo_segment ∷ []) → ⊥
-a_big_endian_one_is_missing h = a_slot_without_one (h 7 (omega arith) (λ e. filled e))
-
-plain : ◌≡◌ {A = Result Role Reason} (Ok role.Plain) (Ok role.Empty) → ⊥
+pub plain : ◌≡◌ {A = Result Role Reason} (Ok role.Plain) (Ok role.Empty) → ⊥
 plain e = cc
-
-pub the_first_slot_s_is_missing : HaveOneEach (with_slot Little 0 tools 0 1 18 host) (demo_segment ∷ util_segment ∷ []) → ⊥
-the_first_slot_s_is_missing h = let t = h 0 (omega arith) (λ e. plain e) in none_passes (λ (s : Segment). s.slot ≡ 0) (demo_segment ∷ util_segment ∷ []) (λ e. let n : 1 ≡ 0 = e in omega (arith, n), (λ e. let n : 7 ≡ 0 = e in omega (arith, n), tt)) t.0 t.1 t.2 t.3.0
-
-pub the_last_slot_s_is_missing : HaveOneEach (with_slot Little 15 tools 0 1 18 host) (demo_segment ∷ util_segment ∷ []) → ⊥
-the_last_slot_s_is_missing h = let t = h 15 (omega arith) (λ e. plain e) in none_passes (λ (s : Segment). s.slot ≡ 15) (demo_segment ∷ util_segment ∷ []) (λ e. let n : 1 ≡ 15 = e in omega (arith, n), (λ e. let n : 7 ≡ 15 = e in omega (arith, n), tt)) t.0 t.1 t.2 t.3.0
 
 -- where UTIL is listed twice, its slot does not have just one segment
 pub a_segment_is_there_twice : HaveOneEach host (demo_segment ∷ util_segment ∷ util_segment ∷ []) → ⊥
@@ -44,22 +28,9 @@ a_segment_is_there_twice h = go (h 7 (omega arith) (λ e. filled e))
     go : HasOne (demo_segment ∷ util_segment ∷ util_segment ∷ []) 7 → ⊥
     go t = let a : 1 ≡ t.0 = t.3.1 1 util_segment refl refl in let b : 2 ≡ t.0 = t.3.1 2 util_segment refl refl in omega (arith, a, b)
 
--- by slot
-pub turned_round : AreBySlot (util_segment ∷ demo_segment ∷ []) → ⊥
-turned_round t = let h : 7 < 1 = t.0 0 1 util_segment demo_segment (omega arith) refl refl in omega (arith, h)
-
-pub two_of_one_slot : AreBySlot (util_segment ∷ util_segment ∷ []) → ⊥
-two_of_one_slot t = let h : 7 < 7 = t.0 0 1 util_segment util_segment (omega arith) refl refl in omega (arith, h)
-
-pub in_slot_16 : AreBySlot (demo_segment ∷ (record util_segment { slot = 16 }) ∷ []) → ⊥
-in_slot_16 t = let h : 16 < 16 = t.1 1 demo_segment (omega arith) in omega (arith, h)
-
 -- the host's own, and those that were added
-other_role : ◌≡◌ {A = Result Role Reason} (Ok role.Empty) (Ok role.Wanted) → ⊥
+pub other_role : ◌≡◌ {A = Result Role Reason} (Ok role.Empty) (Ok role.Wanted) → ⊥
 other_role e = cc
-
-pub one_of_its_own_in_an_empty_slot : AreOwn host (demo_segment ∷ util_segment ∷ (record aux_segment { added = false }) ∷ []) → ⊥
-one_of_its_own_in_an_empty_slot h = let o = h 2 demo_segment (omega arith) refl in other_role o.role
 
 -- AUX is no added unit where no segment has a UNITREF record of that name
 pub one_is_added_that_nothing_names : AreAdded host (demo_segment ∷ util_segment ∷ aux_segment ∷ []) → ⊥
@@ -71,8 +42,14 @@ one_is_added_that_nothing_names h = let u = h 2 demo_segment (omega arith) refl 
     of_unit : (s : Segment) → util_segment.records ≡ s.records → AsksFor s aux → ⊥
     of_unit s e t = no_name util_segment aux (count_aux, (state_aux, (blank_aux, tt))) (t.0, t.1, ap (λ rs. slice_get rs t.0) e ∙ t.2, t.3)
 
-pub one_is_added_of_a_name_that_the_host_has : AreAdded (host_in Big) (again_segment ∷ (record aux_segment { name = util }) ∷ []) → ⊥
-one_is_added_of_a_name_that_the_host_has h = let u = h 1 demo_segment (omega arith) refl in u.free (7, omega arith, (inr refl, refl))
+-- the libraries of the added unit
+abbrev pub used : List (List ℕ)
+used = library_of_used (util_information Little) ∷ []
+
+-- what the rounds add
+added_is : added_segments Little host used ≡ aux_segment ∷ []
+unfolding own_segments empty_slots rounds
+added_is = refl
 
 -- the rounds
 slot_of : (a b : Segment) → a ≡ b → a.slot ≡ b.slot
@@ -103,13 +80,3 @@ the_big_endian_one_is_missing h = let t = (subst Missing big_is h.1) 0 demo_segm
   where
     Missing : List Segment → Type 0
     Missing more = All (λ s. SomeItem (demo_segment ∷ using_segment ∷ []) (λ k q. q ≡ s)) more
-
--- files
-pub a_plain_one_of_a_library : AreInPlace (demo_segment ∷ util_segment ∷ (record tools_segment { file = 1 }) ∷ []) → ⊥
-a_plain_one_of_a_library h = let t = h 2 demo_segment (omega arith) (λ e. cc) in let f : 1 ≡ 0 = t.0 in omega (arith, f)
-
-pub an_added_one_of_another_entry : AreOfLibraries host used (demo_segment ∷ using_segment ∷ (record aux_segment { index = 2 }) ∷ []) → ⊥
-an_added_one_of_another_entry h = let u = h 2 demo_segment (omega arith) refl in util_aux (subst (λ (f : List ℕ). (entry_at Little f 2).name ≡ aux) (sym (same (library_of_used (util_information Little)) u.library u.file)) u.entry.1)
-
-pub one_without_its_records : AreRead host (library ∷ []) (demo_segment ∷ (record util_segment { records = [] }) ∷ []) → ⊥
-one_without_its_records h = not_without_its_records (h 1 demo_segment (omega arith))

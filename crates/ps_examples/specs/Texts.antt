@@ -1,6 +1,7 @@
 -- What map and show print of the small files, line by line.
 -- Source: this project's examples.
-use Rattle.std.specs.Prelude.{ℕ, List, ◌++◌, codes}
+use Rattle.std.specs.Prelude.{ℕ, ◌+◌, ◌/◌, ◌%◌, ◌==◌, if◌then◌else◌, List, ◌∷◌, ◌++◌, codes}
+use Rattle.std.specs.List.{flat_map, range_with_len}
 
 -- the map of the host and its library
 abbrev pub map_of_the_pair : List ℕ
@@ -50,25 +51,17 @@ map_of_an_added_unit =
     ++ codes "private 08 STATE    offset 8 words 4\n"
     ++ codes "next 12 data 18 blocks 4\n"
 
+-- the lines of the sixteen slots of a show, each with its number and what is said of it
+abbrev pub slots_with : (ℕ → List ℕ) → List ℕ
+slots_with said = flat_map (λ n. codes "slot " ++ ((48 + n / 10) ∷ (48 + n % 10) ∷ codes " ") ++ said n) (range_with_len 0 16)
+
+-- what is said of an empty slot
+abbrev pub empty_slot : List ℕ
+empty_slot = codes "         kind 0 address 0 length 0 text 0\n"
+
 -- the slots of the library
 abbrev pub slots_of_the_library : List ℕ
-slots_of_the_library =
-    codes "slot 00          kind 0 address 0 length 0 text 0\n"
-    ++ codes "slot 01          kind 0 address 0 length 0 text 0\n"
-    ++ codes "slot 02 UTIL     kind 3 address 1 length 24 text 0\n"
-    ++ codes "slot 03          kind 0 address 0 length 0 text 0\n"
-    ++ codes "slot 04          kind 0 address 0 length 0 text 0\n"
-    ++ codes "slot 05          kind 0 address 0 length 0 text 0\n"
-    ++ codes "slot 06          kind 0 address 0 length 0 text 0\n"
-    ++ codes "slot 07          kind 0 address 0 length 0 text 0\n"
-    ++ codes "slot 08          kind 0 address 0 length 0 text 0\n"
-    ++ codes "slot 09          kind 0 address 0 length 0 text 0\n"
-    ++ codes "slot 10          kind 0 address 0 length 0 text 0\n"
-    ++ codes "slot 11          kind 0 address 0 length 0 text 0\n"
-    ++ codes "slot 12          kind 0 address 0 length 0 text 0\n"
-    ++ codes "slot 13          kind 0 address 0 length 0 text 0\n"
-    ++ codes "slot 14          kind 0 address 0 length 0 text 0\n"
-    ++ codes "slot 15          kind 0 address 0 length 0 text 0\n"
+slots_of_the_library = slots_with (λ n. if n == 2 then codes "UTIL     kind 3 address 1 length 24 text 0\n" else empty_slot)
 
 -- the link information of the library's unit
 abbrev pub links_of_the_library : List ℕ
@@ -104,25 +97,14 @@ show_without_an_end = codes "order little\n" ++ slots_of_the_library ++ links_wi
 abbrev pub show_without_a_code : List ℕ
 show_without_a_code = codes "order little\n" ++ slots_of_the_library ++ links_without_a_code
 
+-- the slots of a host with these lines of DEMO and UTIL
+abbrev pub slots_of_two : List ℕ → List ℕ → List ℕ
+slots_of_two first second = slots_with (λ n. if n == 1 then first else (if n == 7 then second else empty_slot))
+
 -- the slots of the linked file of the host and its library: each is linked, and none has links
 abbrev pub slots_of_the_linked_file : List ℕ
 slots_of_the_linked_file =
-    codes "slot 00          kind 0 address 0 length 0 text 0\n"
-    ++ codes "slot 01 DEMO     kind 0 address 1 length 18 text 0\n"
-    ++ codes "slot 02          kind 0 address 0 length 0 text 0\n"
-    ++ codes "slot 03          kind 0 address 0 length 0 text 0\n"
-    ++ codes "slot 04          kind 0 address 0 length 0 text 0\n"
-    ++ codes "slot 05          kind 0 address 0 length 0 text 0\n"
-    ++ codes "slot 06          kind 0 address 0 length 0 text 0\n"
-    ++ codes "slot 07 UTIL     kind 0 address 2 length 24 text 0\n"
-    ++ codes "slot 08          kind 0 address 0 length 0 text 0\n"
-    ++ codes "slot 09          kind 0 address 0 length 0 text 0\n"
-    ++ codes "slot 10          kind 0 address 0 length 0 text 0\n"
-    ++ codes "slot 11          kind 0 address 0 length 0 text 0\n"
-    ++ codes "slot 12          kind 0 address 0 length 0 text 0\n"
-    ++ codes "slot 13          kind 0 address 0 length 0 text 0\n"
-    ++ codes "slot 14          kind 0 address 0 length 0 text 0\n"
-    ++ codes "slot 15          kind 0 address 0 length 0 text 0\n"
+    slots_of_two (codes "DEMO     kind 0 address 1 length 18 text 0\n") (codes "UTIL     kind 0 address 2 length 24 text 0\n")
 
 -- the show of the linked file of the host and its library
 abbrev pub show_of_the_linked_file : List ℕ
@@ -130,23 +112,7 @@ show_of_the_linked_file = codes "order unknown\n" ++ slots_of_the_linked_file
 
 -- the host, which wants the unit in slot 7
 abbrev pub slots_of_the_host : List ℕ
-slots_of_the_host =
-    codes "slot 00          kind 0 address 0 length 0 text 0\n"
-    ++ codes "slot 01 DEMO     kind 1 address 1 length 18 text 0\n"
-    ++ codes "slot 02          kind 0 address 0 length 0 text 0\n"
-    ++ codes "slot 03          kind 0 address 0 length 0 text 0\n"
-    ++ codes "slot 04          kind 0 address 0 length 0 text 0\n"
-    ++ codes "slot 05          kind 0 address 0 length 0 text 0\n"
-    ++ codes "slot 06          kind 0 address 0 length 0 text 0\n"
-    ++ codes "slot 07 UTIL     kind 3 address 0 length 0 text 0\n"
-    ++ codes "slot 08          kind 0 address 0 length 0 text 0\n"
-    ++ codes "slot 09          kind 0 address 0 length 0 text 0\n"
-    ++ codes "slot 10          kind 0 address 0 length 0 text 0\n"
-    ++ codes "slot 11          kind 0 address 0 length 0 text 0\n"
-    ++ codes "slot 12          kind 0 address 0 length 0 text 0\n"
-    ++ codes "slot 13          kind 0 address 0 length 0 text 0\n"
-    ++ codes "slot 14          kind 0 address 0 length 0 text 0\n"
-    ++ codes "slot 15          kind 0 address 0 length 0 text 0\n"
+slots_of_the_host = slots_of_two (codes "DEMO     kind 1 address 1 length 18 text 0\n") (codes "UTIL     kind 3 address 0 length 0 text 0\n")
 
 -- the link information of the host's segment
 abbrev pub links_of_the_host : List ℕ

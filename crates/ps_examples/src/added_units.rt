@@ -90,7 +90,7 @@ pub fn order_of_added_units()
         ++ eof_mark Little 0)) ∷ []) ≡ Some (in_record 1 7 0 reason.MissingDefinition) }
 {}
 
-/// Rows of names and lists of segments that are not those that a link adds.
+/// Queues of names and lists of segments that are not those that a link adds.
 pub fn rows_of_no_link()
     // AUX, which its own record alone requests
     ensures its_own_record_alone { (g : UnitReference) (s : Segment) → g.name ≡ aux

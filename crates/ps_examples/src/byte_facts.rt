@@ -1,6 +1,6 @@
 ghost use Rattle.std.specs.Prelude.{◌≡◌, ℕ, List, [], ◌∷◌};
 ghost use Rattle.ps_examples.specs.Files.{blank_name, util, aux, tools, count, state, nobody};
-ghost use Rattle.ps_examples.specs.Files.{demo_code};
+ghost use Rattle.ps_examples.specs.Files.{demo_code, host_in, library_in};
 ghost use Rattle.ps_examples.specs.Segments.{state_reference, demo_segment, util_segment};
 ghost use Rattle.ps_examples.specs.Segments.{using_segment, tools_segment, displaced_segment};
 ghost use Rattle.ps_examples.specs.Segments.{pair, three, with_plain, with_two_privates};
@@ -13,8 +13,10 @@ ghost use Rattle.ps_resolve.specs.Standing.Privates.{private_offset};
 ghost use Rattle.ps_resolve.specs.LinkedBytes.{Reaches, Becomes};
 ghost use Rattle.ps_resolve.specs.LinkedBytes.{IsSlotOf, IsPublic, IsBase, all_private_words};
 ghost use Rattle.ps_resolve.specs.LinkedBytes.{IsNumberPlace, IsSizePlace};
-ghost use Rattle.ps_resolve.specs.LinkedBytes.{IsLinkedByte, IsOnePlace};
+ghost use Rattle.ps_resolve.specs.LinkedBytes.{IsLinkedByte, IsOnePlace, segments_of};
 ghost use Rattle.ps_words.specs.declared.order.Order.TheVariants.{Little, Big};
+
+use ps_laws::{bytes_are_linked, first_of_all};
 
 /// The facts of linked bytes on a host and its library: which segments there are, what their
 /// references become, and of each kind of place a byte: of a reference's operand, of the number
@@ -45,10 +47,14 @@ pub fn facts_of_bytes()
     ensures a_size_byte { IsLinkedByte Little pair demo_segment 4 18 }
     ensures its_second_byte { IsLinkedByte Little pair demo_segment 5 0 }
     ensures a_size_byte_of_a_big_endian_host { IsLinkedByte Big
-        pair (record demo_segment { code = demo_code Big }) 5 18 }
+        (segments_of (host_in Big) (library_in Big ∷ []))
+        (record demo_segment { code = demo_code Big }) 5 18 }
     ensures a_kept_byte { IsLinkedByte Little pair util_segment 0 165 }
     ensures a_place_of_one_reference { IsOnePlace Little util_segment 2 }
-{}
+{
+    first_of_all();
+    bytes_are_linked();
+}
 
 /// What is not said of linked bytes: no other byte is at a place of each kind, and what is no
 /// number's place, no data size, no base offset, no unit of a name, no value of one, and no place
@@ -83,4 +89,7 @@ pub fn bytes_that_are_not_linked()
     ensures a_place_twice_of_a_record { IsOnePlace Little twice_segment 2 → ⊥ }
     ensures a_reference_at_the_number { IsOnePlace Little numbered_segment 22 → ⊥ }
     ensures a_reference_at_the_data_size { IsOnePlace Little sized_segment 4 → ⊥ }
-{}
+{
+    first_of_all();
+    bytes_are_linked();
+}

@@ -1,6 +1,6 @@
 //! The definitions of a link, computed on small files: what is refused there, which fault is
 //! reported if several apply, what is written, and what map and show print. Each function's
-//! contract states examples, and its body is empty.
+//! contract states examples. Its body is empty, or calls the laws of which they are instances.
 #![tactic(auto)]
 
 mod added_units;

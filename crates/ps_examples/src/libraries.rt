@@ -1,5 +1,5 @@
 ghost use Rattle.std.specs.Prelude.{◌≡◌, [], ◌∷◌, Some, None};
-ghost use Rattle.ps_examples.specs.Files.{host, library, put_at, with_slot, util, aux, count};
+ghost use Rattle.ps_examples.specs.Files.{host, library, put_at, with_slot, util, aux};
 ghost use Rattle.ps_resolve.specs.AllFaults.{first_fault};
 ghost use Rattle.ps_words.specs.FaultPlaces.{in_slot};
 ghost use Rattle.ps_words.specs.declared.fault.Reason.TheVariants as reason;

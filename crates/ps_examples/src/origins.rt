@@ -10,9 +10,11 @@ ghost use Rattle.ps_examples.specs.Segments.{past_segment, tools_segment, nobody
 ghost use Rattle.ps_examples.specs.Segments.{naming_segment, named_segment};
 ghost use Rattle.ps_examples.specs.Segments.{count_reference, pair, three, with_plain};
 ghost use Rattle.ps_resolve.specs.Origins.{HasOne, IsOwn, IsAddedUnit, IsFile, IsInPlace};
-ghost use Rattle.ps_resolve.specs.Origins.{IsUnitOf, IsSliceOf, IsRead};
+ghost use Rattle.ps_resolve.specs.Origins.{IsUnitOf, IsSliceOf, IsReadFrom};
 ghost use Rattle.ps_resolve.specs.Sources.{Segment};
 ghost use Rattle.ps_words.specs.declared.order.Order.TheVariants.{Little};
+
+use ps_laws::{first_of_all, segments_have_origins};
 
 /// Where the segments of a host and its libraries come from: the host's own, a unit of the first
 /// library that has it, one that is added for another, and a plain segment.
@@ -39,12 +41,16 @@ pub fn origins_of_segments()
         host (put_at 200 util library ∷ []) util 1 2 }
     ensures in_the_last_entry { IsUnitOf Little host (library_of_the_last ∷ []) util 1 15 }
     ensures its_slice { IsSliceOf library (entry_at Little library 2) (util_code Little) }
-    ensures read_from_the_host { IsRead Little host (library ∷ []) demo_segment }
-    ensures read_from_the_library { IsRead Little host (library ∷ []) util_segment }
-    ensures read_from_the_last_entry { IsRead Little host (library_of_the_last ∷ [])
+    ensures read_from_the_host { IsReadFrom Little host (library ∷ []) demo_segment }
+    ensures read_from_the_library { IsReadFrom Little host (library ∷ []) util_segment }
+    ensures read_from_the_last_entry { IsReadFrom Little host (library_of_the_last ∷ [])
         (record util_segment { index = 15 }) }
-    ensures a_plain_one_is_not_read { IsRead Little host_with_tools (library ∷ []) tools_segment }
-{}
+    ensures a_plain_one_is_not_read { IsReadFrom Little
+        host_with_tools (library ∷ []) tools_segment }
+{
+    first_of_all();
+    segments_have_origins();
+}
 
 /// Where segments do not come from: each clause has one that looks like one of a link and lacks one
 /// fact of it.
@@ -95,14 +101,15 @@ pub fn segments_of_no_link()
         (take 530 library) (entry_at Little library 2) (take 18 (util_code Little)) → ⊥ }
     ensures not_other_bytes { IsSliceOf library
         (entry_at Little library 2) (put_at 5 (3 ∷ []) (util_code Little)) → ⊥ }
-    ensures not_of_an_odd_length { IsRead Little host (with_slot Little 2 util 3 1 23 library ∷ [])
+    ensures not_of_an_odd_length { IsReadFrom Little host
+        (with_slot Little 2 util 3 1 23 library ∷ [])
         (record util_segment { code = take 23 (util_code Little) }) → ⊥ }
-    ensures not_of_another_file { IsRead Little host (library ∷ [])
+    ensures not_of_another_file { IsReadFrom Little host (library ∷ [])
         (record util_segment { file = 0 }) → ⊥ }
-    ensures not_read_past_the_last_entry { IsRead Little host (library_past_the_last ∷ [])
+    ensures not_read_past_the_last_entry { IsReadFrom Little host (library_past_the_last ∷ [])
         (record util_segment { index = 16 }) → ⊥ }
-    ensures not_without_its_records { IsRead Little host (library ∷ [])
+    ensures not_without_its_records { IsReadFrom Little host (library ∷ [])
         (record util_segment { records = [] }) → ⊥ }
-    ensures not_with_records_of_its_own { (libs : List (List ℕ)) → IsRead Little
+    ensures not_with_records_of_its_own { (libs : List (List ℕ)) → IsReadFrom Little
         host_with_tools libs (record tools_segment { records = count_reference ∷ [] }) → ⊥ }
 {}

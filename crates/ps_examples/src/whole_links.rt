@@ -1,7 +1,7 @@
 ghost use Rattle.std.specs.Prelude.{[], ◌∷◌, false};
 ghost use Rattle.ps_examples.specs.Files.{host, library, host_in, library_in, library_of_used};
 ghost use Rattle.ps_examples.specs.Files.{library_of_used_big, util_information, with_slot};
-ghost use Rattle.ps_examples.specs.Files.{util, tools, util_code};
+ghost use Rattle.ps_examples.specs.Files.{util, tools};
 ghost use Rattle.ps_examples.specs.Segments.{demo_segment, util_segment, using_segment};
 ghost use Rattle.ps_examples.specs.Segments.{aux_segment, past_segment, again_segment};
 ghost use Rattle.ps_examples.specs.Segments.{tools_segment, pair, three, with_plain};

@@ -1,4 +1,10 @@
 //! Which code file a file is.
+ghost use Rattle.std.specs.Prelude.{◌≡◌, ◌<◌, ◌≤◌};
+ghost use Rattle.std.specs.List.{list_any, range_with_len};
+ghost use Rattle.std.specs.Result.{is_ok};
+ghost use Rattle.ps_codefile.specs.Dictionary.{code_of, entry_at};
+ghost use Rattle.ps_filetype.specs.CodeFiles.{code_file, code_file_word, has_code as has_code_spec, has_code_beside, has_kind as has_kind_spec, has_other as has_other_spec, is_kind as is_kind_spec, is_named as is_named_spec, is_other as is_other_spec, is_whole as is_whole_spec, opened, order_by_codes as order_by_codes_spec, tells as tells_spec};
+
 use ps_codefile::dictionary_layout::SLOTS;
 use ps_codefile::kinds::{HOSTSEG, LINKED, UNITSEG};
 use ps_codefile::{Dict, Entry};
@@ -22,42 +28,86 @@ pub enum CodeFile {
 
 impl fmt::Display for CodeFile {
     fn fmt<W: fmt::Write>(&self, f: &mut Formatter<W>) -> fmt::Result {
-        f.write_str(match self {
-            CodeFile::Host => "host",
-            CodeFile::Library => "library",
-            CodeFile::Linked => "linked",
-            CodeFile::Mixed => "mixed",
-        })
+        f.write_str(self.word())
     }
 }
 
-/// Which kinds the entries of a dictionary have.
-#[derive(Clone, Copy)]
-struct Kinds {
-    has_host: bool,
-    has_linked: bool,
-    has_other: bool,
+/// The name begins as a name does.
+fn is_named(entry: &Entry) -> bool
+    ensures { result ≡ is_named_spec entry.now.name }
+{
+    matches!(entry.name[0], b'!'..=b'~')
 }
 
-impl Kinds {
-    const NONE: Kinds = Kinds {
-        has_host: false,
-        has_linked: false,
-        has_other: false,
-    };
+/// The entry says what its file is for: it is filled, or of a unit that may be wanted.
+fn tells(dict: &Dict<'_>, slot: u8) -> bool
+    requires { slot < 16 }
+    ensures { result ≡ tells_spec (entry_at dict.now.order dict.now.file slot) }
+{
+    dict.filled(slot) || dict.entry(slot).kind == UNITSEG
+}
 
-    /// With an entry of this kind too.
-    fn with(self, kind: u16) -> Kinds {
-        Kinds {
-            has_host: self.has_host || kind == HOSTSEG,
-            has_linked: self.has_linked || kind == LINKED,
-            has_other: self.has_other || (kind != HOSTSEG && kind != LINKED),
-        }
-    }
+/// The entry says what its file is for, and is of this kind.
+fn is_kind(dict: &Dict<'_>, kind: u16, slot: u8) -> bool
+    requires { slot < 16 }
+    ensures { result ≡ is_kind_spec kind dict.now.order dict.now.file slot }
+{
+    tells(dict, slot) && dict.entry(slot).kind == kind
+}
 
-    /// What the file is for; none where it has no entry.
-    fn code_file(self) -> Option<CodeFile> {
-        match (self.has_host, self.has_linked, self.has_other) {
+/// One of the entries below `end` says what its file is for, and is of this kind.
+fn has_kind_below(dict: &Dict<'_>, kind: u16, end: u8) -> bool
+    requires { end ≤ 16 }
+    ensures { result ≡ list_any (is_kind_spec kind dict.now.order dict.now.file)
+        (range_with_len 0 end) }
+{
+    (0..end).any(|slot| is_kind(dict, kind, slot))
+}
+
+/// Some entry says what its file is for, and is of this kind.
+fn has_kind(dict: &Dict<'_>, kind: u16) -> bool
+    ensures { result ≡ has_kind_spec kind dict.now.order dict.now.file }
+{
+    has_kind_below(dict, kind, SLOTS)
+}
+
+/// The entry says what its file is for, and is neither of a host program nor of a linked segment.
+fn is_other(dict: &Dict<'_>, slot: u8) -> bool
+    requires { slot < 16 }
+    ensures { result ≡ is_other_spec dict.now.order dict.now.file slot }
+{
+    tells(dict, slot) && !is_kind(dict, HOSTSEG, slot) && !is_kind(dict, LINKED, slot)
+}
+
+/// One of the entries below `end` says what its file is for, and is of another kind than these.
+fn has_other_below(dict: &Dict<'_>, end: u8) -> bool
+    requires { end ≤ 16 }
+    ensures { result ≡ list_any (is_other_spec dict.now.order dict.now.file)
+        (range_with_len 0 end) }
+{
+    (0..end).any(|slot| is_other(dict, slot))
+}
+
+/// Some entry says what its file is for, and is of another kind than these.
+fn has_other(dict: &Dict<'_>) -> bool
+    ensures { result ≡ has_other_spec dict.now.order dict.now.file }
+{
+    has_other_below(dict, SLOTS)
+}
+
+impl CodeFile {
+    /// What the file with this dictionary is for; none where no entry says it. An entry does that
+    /// is filled, and one of kind 3 (UNITSEG).
+    /// Source: this project's profile.
+    #[tactic(auto, unfolding(crate::specs::CodeFiles::code_file))]
+    pub fn of(dict: &Dict<'_>) -> Option<CodeFile>
+        ensures { result ≡ code_file dict.now.order dict.now.file }
+    {
+        match (
+            has_kind(dict, HOSTSEG),
+            has_kind(dict, LINKED),
+            has_other(dict),
+        ) {
             (true, _, _) => Some(CodeFile::Host),
             (false, true, true) => Some(CodeFile::Mixed),
             (false, true, false) => Some(CodeFile::Linked),
@@ -65,44 +115,103 @@ impl Kinds {
             (false, false, false) => None,
         }
     }
-}
 
-/// The name begins as a name does.
-fn is_named(entry: &Entry) -> bool {
-    entry.name[0].is_ascii_graphic()
-}
-
-/// What a file is for whose dictionary is this.
-fn by_kinds(dict: &Dict<'_>) -> Option<CodeFile> {
-    let mut kinds = Kinds::NONE;
-    for slot in 0..SLOTS {
-        let entry = dict.entry(slot);
-        if dict.filled(slot) || entry.kind == UNITSEG {
-            kinds = kinds.with(entry.kind);
+    /// The word for it: `host`, `library`, `linked` or `mixed`.
+    /// Source: this project's profile.
+    pub fn word(self) -> &'static str
+        ensures { result.now ≡ code_file_word self }
+    {
+        match self {
+            CodeFile::Host => "host",
+            CodeFile::Library => "library",
+            CodeFile::Linked => "linked",
+            CodeFile::Mixed => "mixed",
         }
     }
-    kinds.code_file()
 }
 
-/// What a file is for whose kind words are all zero, where an entry has its code in the file.
-fn by_codes(bytes: &[u8], order: Order) -> Option<CodeFile> {
-    let dict = Dict::read_beside(bytes, order).ok()?;
-    for slot in 0..SLOTS {
-        if dict.filled(slot) && is_named(&dict.entry(slot)) && dict.code(slot).is_ok() {
-            return Some(CodeFile::Linked);
-        }
+/// The code of a slot is in the file.
+fn is_in_file(dict: &Dict<'_>, slot: u8) -> bool
+    requires { slot < 16 }
+    ensures { result ≡ is_ok (code_of dict.now.file
+        (entry_at dict.now.order dict.now.file slot)) }
+{
+    match dict.code(slot) {
+        Ok(_) => true,
+        Err(_) => false,
     }
-    None
+}
+
+/// The entry has a name, and its code is in the file.
+fn is_whole(dict: &Dict<'_>, slot: u8) -> bool
+    requires { slot < 16 }
+    ensures { result ≡ is_whole_spec dict.now.order dict.now.file slot }
+{
+    dict.filled(slot) && is_named(&dict.entry(slot)) && is_in_file(dict, slot)
+}
+
+/// One of the entries below `end` has a name, and its code is in the file.
+fn has_code_below(dict: &Dict<'_>, end: u8) -> bool
+    requires { end ≤ 16 }
+    ensures { result ≡ list_any (is_whole_spec dict.now.order dict.now.file)
+        (range_with_len 0 end) }
+{
+    (0..end).any(|slot| is_whole(dict, slot))
+}
+
+/// Some entry has a name, and its code is in the file.
+fn has_code(dict: &Dict<'_>) -> bool
+    ensures { result ≡ has_code_spec dict.now.order dict.now.file }
+{
+    has_code_below(dict, SLOTS)
+}
+
+/// An entry with a name has its code in the file, whose words are read in this order.
+fn has_code_in(bytes: &[u8], order: Order) -> bool
+    ensures { result ≡ has_code_beside order bytes.now }
+{
+    match Dict::read_beside(bytes, order) {
+        Ok(dict) => has_code(&dict),
+        Err(_) => false,
+    }
+}
+
+/// The order in which an entry with a name has its code in the file.
+fn order_by_codes(file: &[u8]) -> Order
+    ensures { result ≡ order_by_codes_spec file.now }
+{
+    if !has_code_in(file, Order::Little) && has_code_in(file, Order::Big) {
+        Order::Big
+    } else {
+        Order::Little
+    }
+}
+
+/// Reads a code file by itself: in the byte order that its kind words show, or, where all of these
+/// are 0, in the order in which an entry with a name has its code in the file, which is
+/// little-endian if both have one or none has.
+///
+/// Refuses `ShortFile` under 512 bytes, and `NoOrder` where the kind words show both orders.
+/// Source: this project's profile.
+#[tactic(auto, unfolding(crate::specs::CodeFiles::opened))]
+pub fn open(file: &[u8]) -> Result<Dict<'_>, Reason>
+    ensures { result ≡ opened file.now }
+{
+    match Dict::read(file) {
+        Ok(dict) => Ok(dict),
+        Err(Reason::NoHost) => Dict::read_beside(file, order_by_codes(file)),
+        Err(reason) => Err(reason),
+    }
 }
 
 /// What a code file is for; none where the file is no code file.
 pub(crate) fn code_file_of(bytes: &[u8]) -> Option<CodeFile> {
     match Dict::read(bytes) {
-        Ok(dict) => by_kinds(&dict),
-        Err(Reason::NoHost) => match by_codes(bytes, Order::Little) {
-            None => by_codes(bytes, Order::Big),
-            found => found,
-        },
+        Ok(dict) => CodeFile::of(&dict),
+        Err(Reason::NoHost)
+            if has_code_in(bytes, Order::Little) || has_code_in(bytes, Order::Big) => {
+            Some(CodeFile::Linked)
+        }
         Err(_) => None,
     }
 }

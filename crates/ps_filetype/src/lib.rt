@@ -11,7 +11,7 @@ mod signatures;
 mod texts;
 
 pub use bytes::only_byte;
-pub use code_file::{CodeFile, is_swapped};
+pub use code_file::{CodeFile, is_swapped, open};
 pub use file_type::FileType;
 pub use line_ends::LineEnds;
 pub use remedy::Remedy;

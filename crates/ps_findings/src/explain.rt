@@ -15,6 +15,7 @@ use ps_codefile::Dict;
 use ps_codefile::dictionary_layout::SLOTS;
 use ps_filetype::{CodeFile, FileType};
 use ps_linkinfo::{Body, LinkRecord};
+use ps_resolve::Reading;
 use ps_shown::ShownName;
 use ps_words::{Fault, Reason};
 use std::alloc::{AllocError, Allocator};
@@ -24,6 +25,7 @@ use std::fmt::Write as _;
 #[derive(Clone, Copy)]
 pub(crate) struct Case<'c, 'a> {
     pub(crate) inputs: &'c Inputs<'a>,
+    pub(crate) reading: &'c Reading<'a>,
     pub(crate) list: &'c [Segment<'a>],
     pub(crate) fault: Fault,
     /// The segment of its slot.
@@ -31,13 +33,19 @@ pub(crate) struct Case<'c, 'a> {
 }
 
 impl<'c, 'a> Case<'c, 'a> {
-    pub(crate) fn new(inputs: &'c Inputs<'a>, list: &'c [Segment<'a>], fault: Fault) -> Self {
+    pub(crate) fn new(
+        inputs: &'c Inputs<'a>,
+        reading: &'c Reading<'a>,
+        list: &'c [Segment<'a>],
+        fault: Fault,
+    ) -> Self {
         let segment = match fault.slot {
             Some(slot) => in_slot(list, slot),
             None => None,
         };
         Case {
             inputs,
+            reading,
             list,
             fault,
             segment,
@@ -49,12 +57,7 @@ impl<'c, 'a> Case<'c, 'a> {
         let (Some(segment), Some(wanted)) = (self.segment, self.fault.rec) else {
             return None;
         };
-        for (rec, record) in segment.records().records() {
-            if rec == wanted {
-                return Some(record);
-            }
-        }
-        None
+        segment.records().record(wanted)
     }
 
     /// The first library that has a host program.
@@ -82,20 +85,17 @@ impl<'c, 'a> Case<'c, 'a> {
 }
 
 /// Adds the refusal in words.
-pub(crate) fn add_explanation<'c, 'a, A: Allocator>(
+pub(crate) fn add_explanation<A: Allocator>(
     text: &mut String<A>,
-    inputs: &'c Inputs<'a>,
-    list: &'c [Segment<'a>],
-    fault: Fault,
+    case: &Case<'_, '_>,
 ) -> Result<(), AllocError> {
-    let case = Case::new(inputs, list, fault);
-    writeln!(text, "  file {}", inputs.shown(fault.file))?;
-    add_slot(text, &case)?;
-    add_record(text, &case)?;
-    references::add_reference(text, &case)?;
-    add_details(text, &case)?;
-    let wrong = advice::wrong_in(&case);
-    let remedy = advice::remedy_in(&case);
+    writeln!(text, "  file {}", case.inputs.shown(case.fault.file))?;
+    add_slot(text, case)?;
+    add_record(text, case)?;
+    references::add_reference(text, case)?;
+    add_details(text, case)?;
+    let wrong = advice::wrong_in(case);
+    let remedy = advice::remedy_in(case);
     writeln!(text, "  {wrong}\n  {remedy}")
 }
 

@@ -1,10 +1,11 @@
 //! What is found in a host and its libraries.
-use crate::explain::add_explanation;
+use crate::explain::{Case, add_explanation};
 use crate::inputs::Inputs;
 use crate::looks::{Sight, Warnings, add_looks};
 use crate::overview::{add_files, add_segments};
 use crate::segments::segments_of;
 use crate::warnings::Warning;
+use ps_resolve::read;
 use ps_words::Fault;
 use std::alloc::{AllocError, Allocator};
 
@@ -43,14 +44,16 @@ pub fn findings_of<'a, A: Allocator + Copy>(
         host,
         libs,
     };
-    let list = segments_of(alloc, &inputs)?;
+    let reading = read(host, libs);
+    let list = segments_of(alloc, &inputs, &reading)?;
     let mut overview = String::new(alloc);
     add_files(&mut overview, &inputs)?;
     add_segments(&mut overview, &inputs, list.as_slice())?;
     let _ = overview.pop();
     let mut explanation = String::new(alloc);
     if let Some(fault) = fault {
-        add_explanation(&mut explanation, &inputs, list.as_slice(), fault)?;
+        let case = Case::new(&inputs, &reading, list.as_slice(), fault);
+        add_explanation(&mut explanation, &case)?;
     }
     let mut warnings = Warnings {
         list: Vec::new(alloc),

@@ -1,8 +1,10 @@
 //! The search for what looks wrong.
 pub(crate) mod codes;
+mod doubled;
 mod entries;
 mod extents;
 mod files;
+mod instructions;
 mod links;
 mod names;
 mod records;
@@ -22,6 +24,8 @@ pub(crate) struct Sight<'c, 'a> {
     pub(crate) fault: Option<Fault>,
     /// No name of an entry has a capital letter.
     pub(crate) are_small: bool,
+    /// The codes are P-code, as far as their instructions say.
+    pub(crate) are_p_code: bool,
 }
 
 impl<'c, 'a> Sight<'c, 'a> {
@@ -35,6 +39,7 @@ impl<'c, 'a> Sight<'c, 'a> {
             list,
             fault,
             are_small: names::are_small(inputs),
+            are_p_code: instructions::are_p_code(inputs),
         }
     }
 

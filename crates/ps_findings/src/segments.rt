@@ -5,8 +5,8 @@ use crate::inputs::Inputs;
 use ps_codefile::dictionary_layout::SLOTS;
 use ps_codefile::kinds::{HOSTSEG, LINKED, UNITSEG};
 use ps_codefile::{Dict, Entry, Role, is_nameless};
-use ps_linkinfo::{Body, LinkInformation, LinkRecord};
-use ps_resolve::{HostReading, Request, Requester, read};
+use ps_linkinfo::LinkInformation;
+use ps_resolve::{EntryPlace, HostReading, Reading, Request, Requester};
 use ps_shown::ShownName;
 use ps_words::{Name, Order, Reason};
 use std::alloc::{AllocError, Allocator};
@@ -53,32 +53,6 @@ impl fmt::Display for Part {
                     ShownName(asker)
                 )
             }
-        }
-    }
-}
-
-/// What a record may say that is looked for by its name.
-#[derive(Clone, Copy)]
-pub(crate) enum Sort {
-    /// It requests a public variable or a constant.
-    Request,
-    /// It defines a public variable.
-    Variable,
-    /// It defines a public variable or a constant.
-    Definition,
-    /// It has a private variable.
-    Private,
-}
-
-impl Sort {
-    /// The record is of this sort.
-    pub(crate) fn has(self, body: &Body<'_>) -> bool {
-        match body {
-            Body::PublRef(_) => matches!(self, Sort::Request),
-            Body::PrivRef { .. } => matches!(self, Sort::Private),
-            Body::PublDef(_) => matches!(self, Sort::Variable | Sort::Definition),
-            Body::ConstDef(_) => matches!(self, Sort::Definition),
-            Body::UnitRef(_) | Body::Eof(_) => false,
         }
     }
 }
@@ -137,25 +111,6 @@ impl<'a> Segment<'a> {
             _ => LinkInformation::none(),
         }
     }
-
-    /// Its first record of this name and sort, with its index.
-    pub(crate) fn find(&self, name: &Name, sort: Sort) -> Option<(usize, LinkRecord<'a>)> {
-        find_in(&self.records(), name, sort)
-    }
-}
-
-/// The first of the records that has this name and sort, with its index.
-pub(crate) fn find_in<'a>(
-    records: &LinkInformation<'a>,
-    name: &Name,
-    sort: Sort,
-) -> Option<(usize, LinkRecord<'a>)> {
-    for (rec, record) in records.records() {
-        if record.name == *name && sort.has(&record.body) {
-            return Some((rec, record));
-        }
-    }
-    None
 }
 
 /// The segment of this entry of a file.
@@ -188,20 +143,11 @@ pub(crate) fn filled_entry(dict: &Dict<'_>, name: &Name) -> Option<u8>
 
 /// Where the segment of a slot comes from, also where it is refused; none where no library has the
 /// unit, or where it was not read.
-fn source_in<'a>(
-    inputs: &Inputs<'a>,
-    host: &HostReading<'a>,
-    slot: u8,
-    name: &Name,
-) -> Option<Source<'a>>
+fn source_in<'a>(inputs: &Inputs<'a>, host: &HostReading<'a>, slot: u8) -> Option<Source<'a>>
     requires { slot < 16 }
 {
-    let (file, index) = match host.segment(slot)? {
-        Ok(segment) => (segment.file(), segment.index()),
-        Err(fault) if fault.reason == Reason::MissingUnit => return None,
-        Err(fault) if fault.file == 0 => (0, slot),
-        Err(fault) => (fault.file, filled_entry(&inputs.dict(fault.file)?, name)?),
-    };
+    let _ = host.segment(slot)?;
+    let EntryPlace { file, index } = host.source(slot)?;
     if SLOTS <= index {
         return None;
     }
@@ -311,9 +257,9 @@ pub(crate) fn in_slot<'a>(list: &[Segment<'a>], slot: u8) -> Option<Segment<'a>>
 pub(crate) fn segments_of<'a, A: Allocator + Copy>(
     alloc: A,
     inputs: &Inputs<'a>,
+    reading: &Reading<'a>,
 ) -> Result<Vec<Segment<'a>, A>, AllocError> {
     let mut list = Vec::new(alloc);
-    let reading = read(inputs.host, inputs.libs);
     let Ok(host) = reading.host() else {
         return Ok(list);
     };
@@ -325,7 +271,7 @@ pub(crate) fn segments_of<'a, A: Allocator + Copy>(
                 slot: Some(slot),
                 name,
                 part,
-                source: source_in(inputs, host, slot, &name),
+                source: source_in(inputs, host, slot),
                 is_missing: is_missing(host, slot),
             })?;
         }

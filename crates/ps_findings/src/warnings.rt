@@ -134,6 +134,12 @@ pub enum Look {
     OutsideCode {
         procedure: usize,
     },
+    /// The segment is linked already, and its code is damaged. Copy the file again.
+    LostTables,
+    /// A part of the code may stand in another place, or be another's. Copy the file again.
+    Misfit {
+        procedure: usize,
+    },
     /// The link information was lost, so nothing in the code is linked. Copy the file again.
     ZeroMark,
     /// What is read as the end of the link information may be something else. Copy the file again.
@@ -314,6 +320,13 @@ impl Look {
                 write!(
                     f,
                     "procedure {procedure} is entered or left at a place before the code"
+                )
+            }
+            Look::LostTables => f.write_str("it ends with no whole procedure dictionary"),
+            Look::Misfit { procedure } => {
+                write!(
+                    f,
+                    "the instructions of procedure {procedure} do not fit together, and most of the others do"
                 )
             }
             _ => self.fmt_entry(f),

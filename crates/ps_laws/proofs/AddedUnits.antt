@@ -21,12 +21,13 @@ use Rattle.ps_codefile.specs.declared.entry.Role.TheVariants as role
 use Rattle.ps_linkinfo.specs.Records.{reading}
 use Rattle.ps_linkinfo.specs.declared.record.LinkRecord.{LinkRecord as Record}
 use Rattle.ps_resolve.specs.Faults.{sources_fault, source_fault, unit_fault, wanted_fault, code_fault}
-use Rattle.ps_resolve.specs.First.{Before, Least, this}
+use Rattle.ps_resolve.specs.First.{Before}
 use Rattle.ps_resolve.specs.Searches.{first_of}
 use Rattle.ps_codefile.specs.Roles.{is_unit}
 use Rattle.ps_resolve.specs.Sources.{Segment, is_named, chosen_library, unit_source, source_of, file_at, segment_from, own_segment, own_segments}
 use Rattle.ps_resolve.specs.RequestedUnits.{Asks, HasSlot, IsGiver, AreGiven, IsOfFirstLibrary, AddedUnits}
 use Rattle.ps_resolve.specs.declared.reading.added.UnitReference.{UnitReference}
+use Rattle.ps_laws.proofs.Least.{Least, this, not_both}
 use Rattle.ps_laws.proofs.Looking.{any_of_items}
 use Rattle.ps_laws.proofs.Items.{In, at_left, at_seam, in_range, of_range, find_passes}
 use Rattle.ps_resolve.proofs.EachSegment.{own_made as made_from}
@@ -318,15 +319,6 @@ requested_pair units queue (x ∷ gs) j k g h low l e u = go (is_already_known u
           let t = requested_at units (queue ++ x ∷ []) gs k h (omega (arith, m, l, n)) u in
           (zero, suc t.0, omega arith, subst (λ (y : UnitReference). IsEarliest units queue (x ∷ gs) zero y) same (new_here units queue gs x none), past_new units queue gs x t.0 h t.1)
     ]
-
--- 3. givers
-not_both : (a b : List ℕ) → Before a b → Before b a → ⊥
-not_both [] b h k = h
-not_both (x ∷ a) [] h k = h
-not_both (x ∷ a) (y ∷ b) (inl h) (inl k) = omega (arith, h, k)
-not_both (x ∷ a) (y ∷ b) (inl h) (inr k) = let e = k.0 in omega (arith, h, e)
-not_both (x ∷ a) (y ∷ b) (inr h) (inl k) = let e = h.0 in omega (arith, e, k)
-not_both (x ∷ a) (y ∷ b) (inr h) (inr k) = not_both a b h.1 k.1
 
 -- where a reference is
 place_of : (segs : List Segment) (p : ℕ) (g : UnitReference) → slice_get (all_unit_references segs) p ≡ Some g → (m : ℕ) × (slice_get (numbered 0 segs) p ≡ Some (m, g))

@@ -15,7 +15,7 @@ use Rattle.std.proofs.lemmas.Option.{slice_get_within}
 use Rattle.std.proofs.lemmas.Slice.Eq.{bytes_eq-Decides}
 use Rattle.ps_codefile.specs.Dictionary.{slots, is_nameless, entry_at, role_of, code_of}
 use Rattle.ps_linkinfo.specs.RecordCounts.{is_unit_reference}
-use Rattle.ps_resolve.specs.Added.{unit_references, all_unit_references, is_already_known, requested_from, empty_slots, is_missing, unplaced_fault, placed_fault, as_added, added_segment, Rounds, requested_units, added_segments, added_fault, added_at, segment_at, segments}
+use Rattle.ps_resolve.specs.Added.{unit_references, all_unit_references, is_already_known, requested_from, empty_slots, is_missing, unplaced_fault, placed_fault, as_added, added_segment, RoundsOutcome, requested_units, added_segments, added_fault, added_at, segment_at, segments}
 use Rattle.ps_resolve.specs.Standing.Phrases.{SomeItem}
 use Rattle.ps_resolve.specs.Standing.Segments.{IsSegment}
 use Rattle.ps_codefile.specs.declared.entry.Role.{Role}
@@ -267,7 +267,7 @@ all_placed : (order : Order) (host : List ℕ) (libs : List (List ℕ)) → adde
     × ((j : ℕ) (s : Segment) → 0 ≤ j → slice_get (added_segments order host libs) j ≡ Some s → (g : UnitReference) × (slice_get (queue_of order host libs) j ≡ Some g))
 all_placed order host libs fine =
     let same = first_round order host libs in
-    rounds_place order host libs (empty_slots order host) [] [] 0 (requested_units order host libs []) (ap (λ (x : Rounds). x.added) same) refl refl refl refl (sym (ap (λ (x : Rounds). x.fault) same) ∙ fine)
+    rounds_place order host libs (empty_slots order host) [] [] 0 (requested_units order host libs []) (ap (λ (x : RoundsOutcome). x.added) same) refl refl refl refl (sym (ap (λ (x : RoundsOutcome). x.fault) same) ∙ fine)
 
 pub name_placed : (order : Order) (host : List ℕ) (libs : List (List ℕ)) → added_fault order host libs ≡ None → (j : ℕ) (g : UnitReference) → slice_get (queue_of order host libs) j ≡ Some g → IsPlaced order host libs j g
 name_placed order host libs fine j g e = (all_placed order host libs fine).0 j g (omega arith) e

@@ -6,14 +6,13 @@ use Rattle.std.proofs.lemmas.Bool.Decides.{Decides-ltb}
 use Rattle.ps_codefile.specs.Procedures.{table_of}
 use Rattle.ps_resolve.specs.Added.{segments}
 use Rattle.ps_resolve.specs.Privates.{total_words}
-use Rattle.ps_resolve.specs.Standing.Keys.{OfDataSize, Precedes}
+use Rattle.ps_resolve.specs.Standing.Keys.{OfDataSize}
 use Rattle.ps_resolve.specs.Standing.DataSizes.{InDataSize}
-use Rattle.ps_resolve.specs.First.{Least}
 use Rattle.ps_resolve.specs.Searches.{fault_if}
 use Rattle.ps_resolve.specs.Sources.{host_of}
 use Rattle.ps_resolve.specs.Linking.{grown_data_size}
 use Rattle.ps_resolve.specs.Faults.{data_fault}
-use Rattle.ps_laws.proofs.Least.{least_if, least_then}
+use Rattle.ps_laws.proofs.Least.{Least, Precedes, least_if, least_then}
 use Rattle.ps_words.specs.FaultPlaces.{in_slot}
 use Rattle.ps_words.specs.declared.order.Order.{Order}
 use Rattle.ps_words.specs.declared.fault.Reason.TheVariants as reason

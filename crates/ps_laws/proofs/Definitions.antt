@@ -2,18 +2,17 @@
 use Rattle.std.proofs.Common.{◌≡◌, ℕ, List, [], Option, refl, sym, subst, inl, inr, arith}
 use Rattle.std.specs.Option.{option_map}
 use Rattle.ps_linkinfo.specs.declared.record.LinkRecord.{LinkRecord as Record}
-use Rattle.ps_resolve.specs.First.{Least}
 use Rattle.ps_resolve.specs.Searches.{fault_if}
 use Rattle.ps_resolve.specs.Sources.{host_of}
 use Rattle.ps_resolve.specs.Added.{segments}
 use Rattle.ps_resolve.specs.Standing.Phrases.{SomeItem}
-use Rattle.ps_resolve.specs.Standing.Keys.{OfDefinitions, Precedes}
+use Rattle.ps_resolve.specs.Standing.Keys.{OfDefinitions}
 use Rattle.ps_resolve.specs.Standing.Definitions.{HasEarlierNamesake, InDefinitions}
 use Rattle.ps_linkinfo.specs.RecordCounts.{is_definition}
 use Rattle.ps_resolve.specs.Symbols.{first_duplicate}
 use Rattle.ps_resolve.specs.Faults.{definitions_fault}
 use Rattle.ps_resolve.proofs.LookingBack.{definitions_carried}
-use Rattle.ps_laws.proofs.Least.{least_if, least_then, least_items, at_apart}
+use Rattle.ps_laws.proofs.Least.{Least, Precedes, least_if, least_then, least_items, at_apart}
 use Rattle.ps_words.specs.FaultPlaces.{in_record}
 use Rattle.ps_words.specs.declared.order.Order.{Order}
 use Rattle.ps_words.specs.declared.fault.Reason.TheVariants as reason

@@ -1,13 +1,33 @@
 -- The smallest of what applies, part by part.
-use Rattle.std.proofs.Common.{◌≡◌, ℕ, zero, suc, ◌+◌, ◌<◌, ◌≤◌, List, [], ◌∷◌, ◌++◌, Option, Some, None, Bool, true, false, refl, sym, ap, subst, ◌∙◌, inl, inr, arith}
+use Rattle.std.proofs.Common.{◌≡◌, ℕ, zero, suc, ◌+◌, ◌<◌, ◌≤◌, List, [], ◌∷◌, Option, Some, None, Bool, true, false, refl, sym, ap, subst, ◌∙◌, inl, inr, arith}
 use Rattle.std.specs.Prelude.{◌⊎◌, if◌then◌else◌}
 use Rattle.std.specs.Bool.{Decides}
-use Rattle.std.specs.List.{range_with_len, enumerate_from, slice_get, filter_map, flat_map, filter, cons_option}
+use Rattle.std.specs.List.{range_with_len, enumerate_from, slice_get, filter_map, cons_option}
 use Rattle.std.specs.Option.{option_or, option_map, option_and_then}
 use Rattle.std.proofs.lemmas.Bool.{cases_lt, false≢true}
-use Rattle.ps_resolve.specs.First.{Least, nothing, this}
+use Rattle.ps_words.specs.declared.fault.Fault.{Fault}
+use Rattle.ps_resolve.specs.First.{Before}
 use Rattle.ps_resolve.specs.Searches.{first_of, fault_if}
+use Rattle.ps_resolve.specs.Standing.Keys.{Step, key}
 use Rattle.ps_resolve.specs.Standing.Phrases.{SomeItem}
+
+-- nothing applies, or this one does, and it is before each other one that applies
+pub data Least {X : Type 0} (IsBefore : X → X → Type 0) (Stands : X → Type 0) : Option X → Type 0 where
+  nothing : ((y : X) → Stands y → ⊥) → Least IsBefore Stands None
+  this : (x : X) → Stands x → ((y : X) → Stands y → (y ≡ x) ⊎ IsBefore x y) → Least IsBefore Stands (Some x)
+
+-- of two faults of the same step, the first has the smaller key
+abbrev pub Precedes : Step → Fault → Fault → Type 0
+Precedes step f g = Before (key step f) (key step g)
+
+-- of two keys not each is before the other
+pub not_both : (a b : List ℕ) → Before a b → Before b a → ⊥
+not_both [] b h k = h
+not_both (x ∷ a) [] h k = h
+not_both (x ∷ a) (y ∷ b) (inl h) (inl k) = omega (arith, h, k)
+not_both (x ∷ a) (y ∷ b) (inl h) (inr k) = let e = k.0 in omega (arith, h, e)
+not_both (x ∷ a) (y ∷ b) (inr h) (inl k) = let e = h.0 in omega (arith, e, k)
+not_both (x ∷ a) (y ∷ b) (inr h) (inr k) = not_both a b h.1 k.1
 
 -- is otherwise said
 pub least_same : {X : Type 0} {B : X → X → Type 0} {S T : X → Type 0} {o : Option X} → ((x : X) → S x → T x) → ((x : X) → T x → S x) → Least B S o → Least B T o
@@ -87,19 +107,6 @@ pub least_guard : {X P : Type 0} {B : X → X → Type 0} {S : X → Type 0} {o 
 least_guard true d l = least_same (λ x s. (d.0 refl, s)) (λ x t. t.1) l
 least_guard false d l = nothing (λ x t. false≢true (d.1 t.0))
 
--- the first of what a list gives, joined or chosen, is the first of the firsts
-pub first_of_append : {X Y : Type 0} (f : X → Option Y) (xs ys : List X) → first_of f (xs ++ ys) ≡ option_or (first_of f xs) (first_of f ys)
-first_of_append f [] ys = refl
-first_of_append f (x ∷ xs) ys = ap (option_or (f x)) (first_of_append f xs ys) ∙ regroup (f x) (first_of f xs) (first_of f ys)
-  where
-    regroup : {Y : Type 0} (a b c : Option Y) → option_or a (option_or b c) ≡ option_or (option_or a b) c
-    regroup None b c = refl
-    regroup (Some a) b c = refl
-
-pub first_of_flat_map : {W X Y : Type 0} (f : X → Option Y) (g : W → List X) (ws : List W) → first_of f (flat_map g ws) ≡ first_of (λ w. first_of f (g w)) ws
-first_of_flat_map f g [] = refl
-first_of_flat_map f g (w ∷ ws) = first_of_append f (g w) (flat_map g ws) ∙ ap (option_or (first_of f (g w))) (first_of_flat_map f g ws)
-
 -- the first over the list of what all items give is the first over the items themselves
 pub first_of_filter_map : {W X Y : Type 0} (f : X → Option Y) (g : W → Option X) (ws : List W) → first_of f (filter_map g ws) ≡ first_of (λ w. option_and_then f (g w)) ws
 first_of_filter_map f g [] = refl
@@ -108,12 +115,3 @@ first_of_filter_map {W} {X} {Y} f g (w ∷ ws) = go (g w) (filter_map g ws) (fir
     go : (o : Option X) (xs : List X) → first_of f xs ≡ first_of (λ v. option_and_then f (g v)) ws → first_of f (cons_option o xs) ≡ option_or (option_and_then f o) (first_of (λ v. option_and_then f (g v)) ws)
     go None xs e = e
     go (Some x) xs e = ap (option_or (f x)) e
-
--- the first over the items that pass a test is the first over all, of which the others give none
-pub first_of_filter : {X Y : Type 0} (f : X → Option Y) (p : X → Bool) (xs : List X) → first_of f (filter p xs) ≡ first_of (λ x. if p x then f x else None) xs
-first_of_filter f p [] = refl
-first_of_filter {X} {Y} f p (x ∷ xs) = go (p x) (filter p xs) (first_of_filter f p xs)
-  where
-    go : (b : Bool) (ys : List X) → first_of f ys ≡ first_of (λ v. if p v then f v else None) xs → first_of f (if b then x ∷ ys else ys) ≡ option_or (if b then f x else None) (first_of (λ v. if p v then f v else None) xs)
-    go true ys e = ap (option_or (f x)) e
-    go false ys e = e

@@ -14,20 +14,20 @@ use Rattle.ps_resolve.specs.Standing.Privates.{private_offset}
 use Rattle.ps_resolve.specs.LinkedBytes.{IsReference, IsLinkedByte, IsOnePlace, segments_of, summed_segment, HaveLinkedBytes, HaveOneLinkedByte, HaveApartPlaces}
 use Rattle.ps_resolve.specs.Standing.{NoneStands}
 use Rattle.ps_linkinfo.specs.declared.record.LinkRecord.{LinkRecord as Record}
-use Rattle.ps_resolve.specs.First.{Least, this}
 use Rattle.ps_codefile.specs.Roles.{needs_linking, is_host}
 use Rattle.ps_resolve.specs.Sources.{Segment, order_of}
 use Rattle.ps_resolve.specs.Faults.{sources_fault}
 use Rattle.ps_resolve.specs.References.{target_of}
 use Rattle.ps_resolve.specs.Linking.{Edited, edited_segments, known_of, linked_byte}
 use Rattle.ps_resolve.specs.declared.references.Target.{Target}
+use Rattle.ps_laws.proofs.Least.{Least, this}
 use Rattle.ps_laws.proofs.Steps.{Ranked}
 use Rattle.ps_laws.proofs.Sources.{OneStop}
 use Rattle.ps_laws.proofs.Asked.{asked_is_there}
 use Rattle.ps_laws.proofs.References.{record_rows}
 use Rattle.ps_laws.proofs.Whole.{unread, none_read}
 use Rattle.ps_laws.proofs.SummedOffsets.{offsets}
-use Rattle.ps_laws.proofs.SoundCodes.{IsSound, HasOuter, long, outer, all_sound}
+use Rattle.ps_laws.proofs.SoundCodes.{IsWithoutFault, HasOuter, long, outer, all_sound}
 use Rattle.ps_laws.proofs.OnePlace.{host_linked, one_place}
 use Rattle.ps_laws.proofs.OneName.{of_segments, one_unit}
 use Rattle.ps_laws.proofs.OneHost.{base_there, one_base, one_public}
@@ -43,7 +43,7 @@ module _ (law : OneStop) (host : List ℕ) (libs : List (List ℕ)) (none : None
   read : (sources_fault (order_of host) host libs ≡ None) × (added_fault (order_of host) host libs ≡ None)
   read = none_read host libs (unread law host libs (λ step f r h. none step f h))
 
-  sound : (s : Segment) → IsSegment (order_of host) host libs s → IsSound (order_of host) s
+  sound : (s : Segment) → IsSegment (order_of host) host libs s → IsWithoutFault (order_of host) s
   sound s is = all_sound (order_of host) host libs read.0 read.1 s is
 
   apart : (s : Segment) → IsSegment (order_of host) host libs s → (p : ℕ) → IsOnePlace (order_of host) s p

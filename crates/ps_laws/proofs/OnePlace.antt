@@ -14,7 +14,7 @@ use Rattle.ps_linkinfo.specs.declared.record.LinkRecord.{LinkRecord as Record}
 use Rattle.ps_resolve.specs.First.{Before}
 use Rattle.ps_codefile.specs.Roles.{needs_linking, is_host}
 use Rattle.ps_resolve.specs.Sources.{Segment, order_of}
-use Rattle.ps_laws.proofs.SoundCodes.{IsSound, HasOuter, outer, number_reserved, size_reserved, own_apart}
+use Rattle.ps_laws.proofs.SoundCodes.{IsWithoutFault, HasOuter, outer, number_reserved, size_reserved, own_apart}
 use Rattle.ps_words.specs.FaultPlaces.{in_reference}
 use Rattle.ps_words.specs.declared.fault.Reason.{Reason}
 use Rattle.ps_words.specs.declared.fault.Reason.TheVariants as reason
@@ -23,7 +23,7 @@ pub host_linked : (r : Role) → is_host r ≡ true → needs_linking r ≡ true
 host_linked role.Host h = refl
 host_linked other h = absurd (false≢true h)
 
-module _ (host : List ℕ) (libs : List (List ℕ)) (none : NoneStands host libs) (s : Segment) (is : IsSegment (order_of host) host libs s) (sound : IsSound (order_of host) s) where
+module _ (host : List ℕ) (libs : List (List ℕ)) (none : NoneStands host libs) (s : Segment) (is : IsSegment (order_of host) host libs s) (sound : IsWithoutFault (order_of host) s) where
   -- no reference has a fault
   fine : (rec i x : ℕ) (r : Record) → IsReference s rec r i x → (why : Reason) → ReferenceHas (order_of host) (segments_of host libs) s rec r i x why → ⊥
   fine rec i x r t why h = none OfReferences (in_reference s.file s.slot rec i why) (record { stands = (s, is, (rec, r, t.0, inr (i, x, t.1, (why, refl, h)))) })

@@ -1,6 +1,6 @@
 -- The offset of a private is the base offset of the host's end mark, and the words of all segments
 -- before and of the records before its own.
-use Rattle.std.proofs.Common.{◌≡◌, ℕ, ◌+◌, ◌<◌, ◌≤◌, List, [], ◌∷◌, ◌++◌, take, map, Option, Some, None, Bool, true, false, refl, sym, ap, subst, ◌∙◌, arith}
+use Rattle.std.proofs.Common.{◌≡◌, ℕ, ◌+◌, ◌<◌, ◌≤◌, List, [], ◌∷◌, ◌++◌, take, map, Bool, true, false, refl, sym, ap, subst, ◌∙◌, arith}
 use Rattle.std.specs.Prelude.{if◌then◌else◌, ◌==◌, nat_lt, sum_by}
 use Rattle.std.specs.List.{flat_map}
 use Rattle.std.proofs.lemmas.Bool.Decides.{nat_tests}
@@ -8,12 +8,13 @@ use Rattle.std.proofs.lemmas.Grind.{flat_map-append}
 use Rattle.std.proofs.lemmas.List.Sums.{sum_by-append, sum_by-cons}
 use Rattle.ps_linkinfo.specs.declared.record.LinkRecord.{LinkRecord as Record}
 use Rattle.ps_resolve.specs.Sources.{Segment, host_records}
-use Rattle.ps_resolve.specs.Privates.{words_in, private_words, owner_of, all_words, total_words}
+use Rattle.ps_resolve.specs.Privates.{private_words, owner_of, all_words, total_words}
 use Rattle.ps_linkinfo.specs.RecordCounts.{next_of}
 use Rattle.ps_resolve.specs.LinkedBytes.{all_private_words}
 use Rattle.ps_resolve.specs.Standing.Privates.{records_before, private_offset}
 use Rattle.ps_resolve.specs.References.{words_taken}
 use Rattle.ps_laws.proofs.Segments.{Ascends}
+use Rattle.ps_resolve.proofs.LookingBack.{words_before}
 
 -- segments in smaller slots
 abbrev pub AreBelow : ℕ → List Segment → Type 0
@@ -36,21 +37,13 @@ words_split (s ∷ prefix) rest = let e = words_split prefix rest in omega (arit
 abbrev words : List Record → ℕ
 words rs = sum_by (λ (r : Record). words_taken r.body) rs
 
--- the private words of one more record are its own and those of the others
-pub one_more : (r : Record) (rs : List Record) → private_words (r ∷ rs) ≡ words_taken r.body + private_words rs
-one_more r rs = go (words_in r.body) refl
-  where
-    go : (w : Option ℕ) → words_in r.body ≡ w → private_words (r ∷ rs) ≡ words_taken r.body + private_words rs
-    go None e = rw (e, private_words, words_taken) (omega arith)
-    go (Some w) e = rw (e, private_words, words_taken) refl
-
 -- the words of records, one by one, are their private words
 words_are : (rs : List Record) → words rs ≡ private_words rs
 words_are [] = refl
 words_are (r ∷ rs) =
     let a = sum_by-cons (λ (q : Record). words_taken q.body) r rs in
     let b = words_are rs in
-    let c = one_more r rs in
+    let c = words_before r rs in
     omega (arith, a, b, c)
 
 -- which records of a segment are before one of a slot

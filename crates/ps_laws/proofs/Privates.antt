@@ -5,17 +5,16 @@ use Rattle.std.specs.List.{enumerate_from}
 use Rattle.std.specs.Option.{option_map, option_or}
 use Rattle.std.proofs.lemmas.Bool.Decides.{Decides-and, Decides-ltb}
 use Rattle.ps_linkinfo.specs.declared.record.LinkRecord.{LinkRecord as Record}
-use Rattle.ps_resolve.specs.First.{Least}
 use Rattle.ps_resolve.specs.Searches.{first_of}
 use Rattle.ps_resolve.specs.Sources.{Segment, host_records}
 use Rattle.ps_resolve.specs.Added.{segments}
 use Rattle.ps_linkinfo.specs.RecordCounts.{next_of, is_private_reference}
 use Rattle.ps_resolve.specs.Privates.{private_words, private_fault, owner_of, all_words, first_private_fault}
-use Rattle.ps_resolve.specs.Standing.Keys.{OfPrivates, Precedes}
+use Rattle.ps_resolve.specs.Standing.Keys.{OfPrivates}
 use Rattle.ps_resolve.specs.Standing.Privates.{private_offset, PrivateHas, InPrivates}
 use Rattle.ps_resolve.specs.References.{words_taken}
 use Rattle.ps_resolve.specs.Faults.{privates_fault}
-use Rattle.ps_laws.proofs.Least.{least_same, least_or, least_if, least_items, at_apart}
+use Rattle.ps_laws.proofs.Least.{Least, Precedes, least_same, least_or, least_if, least_items, at_apart}
 use Rattle.ps_laws.proofs.Steps.{Ranked, because, because_apart}
 use Rattle.ps_laws.proofs.Looking.{of_test}
 use Rattle.ps_laws.proofs.Segments.{over_segments, Ascends, ascend}

@@ -1,5 +1,5 @@
 -- The first fault of the references is the smallest that is.
-use Rattle.std.proofs.Common.{◌≡◌, ℕ, zero, suc, ◌+◌, ◌<◌, ◌≤◌, List, [], ◌∷◌, ◌++◌, length, take, map, Option, Some, None, Result, Ok, Err, Bool, true, false, refl, sym, ap, subst, ◌∙◌, inl, inr, arith, append_assoc, append-nil, is_some, leb-true, le-leb, unwrap_or}
+use Rattle.std.proofs.Common.{◌≡◌, ℕ, zero, suc, ◌+◌, ◌<◌, ◌≤◌, List, [], ◌∷◌, ◌++◌, length, take, map, Option, Some, None, Result, Ok, Err, Bool, true, false, refl, sym, ap, subst, ◌∙◌, inl, inr, arith, append_assoc, append-nil, is_some, unwrap_or}
 use Rattle.std.specs.Prelude.{◌≢◌, ◌⊎◌, if◌then◌else◌, ◌||◌, nat_le, nat_lt}
 use Rattle.std.specs.Bool.{Decides}
 use Rattle.std.specs.List.{range_with_len, enumerate_from, slice_get, list_any, flat_map}
@@ -18,14 +18,14 @@ use Rattle.ps_linkinfo.specs.RecordCounts.{is_unit_reference, next_of}
 use Rattle.ps_resolve.specs.Added.{added_fault, segments}
 use Rattle.ps_resolve.specs.Privates.{private_words, owner_of, all_words}
 use Rattle.ps_resolve.specs.Standing.Phrases.{Because, SomeBelow, SomeItem}
-use Rattle.ps_resolve.specs.Standing.Keys.{OfReferences, part, Precedes}
+use Rattle.ps_resolve.specs.Standing.Keys.{OfReferences, part}
 use Rattle.ps_resolve.specs.Standing.Privates.{private_offset}
 use Rattle.ps_resolve.specs.Standing.References.{Defines, RecordHas, operand_width, operand_value, Covers, Meet, ReferenceHas, InReferences}
 use Rattle.ps_linkinfo.specs.Records.{refs_of}
 use Rattle.ps_linkinfo.specs.declared.record.Body.{Body}
 use Rattle.ps_linkinfo.specs.declared.record.Body.TheVariants.{UnitRef, PublRef, PrivRef, PublDef, ConstDef, Eof}
 use Rattle.ps_linkinfo.specs.declared.record.LinkRecord.{LinkRecord as Record}
-use Rattle.ps_resolve.specs.First.{Before, Least, nothing, this}
+use Rattle.ps_resolve.specs.First.{Before}
 use Rattle.ps_resolve.specs.Searches.{first_of, fault_if}
 use Rattle.ps_resolve.specs.Sources.{Segment, host_records, units_of}
 use Rattle.ps_resolve.specs.Symbols.{definitions, definition_of}
@@ -38,7 +38,7 @@ use Rattle.ps_resolve.specs.declared.definitions.DefKind.{DefKind}
 use Rattle.ps_resolve.specs.declared.definitions.DefKind.TheVariants.{Public, Constant}
 use Rattle.ps_resolve.specs.declared.references.Target.{Target}
 use Rattle.ps_resolve.specs.declared.references.Target.TheVariants.{Slot, Base}
-use Rattle.ps_laws.proofs.Least.{least_same, least_or, least_if, least_items, at_apart}
+use Rattle.ps_laws.proofs.Least.{Least, nothing, this, Precedes, least_same, least_or, least_if, least_items, at_apart}
 use Rattle.ps_laws.proofs.Asked.{HasUnit, units_named, asked_is_there}
 use Rattle.ps_laws.proofs.Steps.{Ranked, because, because_apart, any_of_range}
 use Rattle.ps_laws.proofs.Looking.{of_test, any_of_take, any_of_items}
@@ -46,6 +46,7 @@ use Rattle.ps_laws.proofs.Segments.{over_segments, Ascends, ascend}
 use Rattle.ps_laws.proofs.Definitions.{take_prefix, longer}
 use Rattle.ps_laws.proofs.PrivateOffsets.{AreBelow, below_from, below_more, offset_in, words_split}
 use Rattle.ps_laws.proofs.Privates.{more_words}
+use Rattle.ps_laws.proofs.Sources.{at_most}
 use Rattle.ps_words.specs.FaultPlaces.{in_record, in_reference}
 use Rattle.ps_words.specs.declared.order.Order.{Order}
 use Rattle.ps_words.specs.declared.fault.Reason.{Reason}
@@ -174,9 +175,6 @@ before records rec = flat_map operands_of (take rec records)
 
 abbrev own : Body → ℕ → List (ℕ × ℕ)
 own body i = map (λ (y : ℕ). (y, operand_width body)) (take i (refs_of body))
-
-at_most : (a b : ℕ) → Decides (nat_le a b) (a ≤ b)
-at_most a b = (λ e. leb-true a b e, λ h. le-leb a b h)
 
 in_operand : (p y w : ℕ) → Decides (is_in p (y, w)) ((y ≤ p) × (p < y + w))
 in_operand p y w = Decides-and (nat_le y p) (nat_lt p (y + w)) (at_most y p) (Decides-ltb p (y + w))

@@ -8,23 +8,24 @@ use Rattle.std.proofs.lemmas.Bool.{cases_lt, false≢true}
 use Rattle.std.proofs.lemmas.Bool.Decides.{Decides-or}
 use Rattle.std.proofs.lemmas.Grind.{flat_map-append}
 use Rattle.ps_codefile.specs.Dictionary.{is_nameless, entry_at}
-use Rattle.ps_resolve.specs.Added.{unit_references, all_unit_references, is_already_known, requested_from, empty_slots, is_missing, unplaced_fault, placed_fault, added_segment, Rounds, after, rounds_from, requested_units, rounds, added_segments, added_fault}
+use Rattle.ps_resolve.specs.Added.{unit_references, all_unit_references, requested_from, empty_slots, is_missing, unplaced_fault, placed_fault, added_segment, RoundsOutcome, after, rounds_from, requested_units, rounds, added_segments, added_fault}
 use Rattle.ps_resolve.specs.Standing.Phrases.{Because}
-use Rattle.ps_resolve.specs.Standing.Keys.{Step, OfSources, OfAdded, rank, part, record_read, key, Precedes}
+use Rattle.ps_resolve.specs.Standing.Keys.{Step, OfSources, OfAdded, rank, part, record_read, key}
 use Rattle.ps_resolve.specs.Standing.Sources.{EntriesHave, CodeFault}
 use Rattle.ps_resolve.specs.Standing.Rounds.{IsMissing, PlacedFault, InRound}
 use Rattle.ps_codefile.specs.declared.entry.Entry.{Entry}
 use Rattle.ps_codefile.specs.declared.entry.Role.{Role}
 use Rattle.ps_codefile.specs.declared.entry.Role.TheVariants as role
 use Rattle.ps_resolve.specs.Faults.{entry_fault, code_fault}
-use Rattle.ps_resolve.specs.First.{Before, Least, nothing, this}
+use Rattle.ps_resolve.specs.First.{Before}
 use Rattle.ps_resolve.specs.Sources.{Segment, own_segments, units_of, unit_source, chosen_library, file_at}
 use Rattle.ps_resolve.specs.declared.reading.added.UnitReference.{UnitReference}
-use Rattle.ps_laws.proofs.Least.{least_same, least_order, least_or, least_map, least_then}
+use Rattle.ps_laws.proofs.Least.{Least, nothing, this, Precedes, least_same, least_order, least_or, least_map, least_then}
 use Rattle.ps_laws.proofs.Looking.{of_test}
 use Rattle.ps_laws.proofs.Definitions.{take_prefix, longer}
 use Rattle.ps_laws.proofs.Sources.{Late, early_late, late, OneStop, none_has, entry_least, entry_early, code_late, code_least}
 use Rattle.ps_laws.proofs.Parts.{record_somes, RoundHas}
+use Rattle.ps_resolve.proofs.Adding.{requested-append}
 use Rattle.ps_words.specs.FaultPlaces.{in_slot, in_record}
 use Rattle.ps_words.specs.declared.order.Order.{Order}
 use Rattle.ps_words.specs.declared.fault.Reason.{Reason}
@@ -156,11 +157,6 @@ round_least law order host libs k g (Some slot) = go (is_missing order libs g.na
         from f (inr (inl t)) = absurd (let e = t.1 in cc)
         from f (inr (inr t)) = let same : t.0 ≡ slot = (let e = t.1 in cc) in subst (λ (n : ℕ). PlacedFault order host libs g.name n f) same t.2
 
--- 2. the queue of names
-pub requested_append : (units : List (List ℕ × ℕ)) (queue xs ys : List UnitReference) → requested_from units queue (xs ++ ys) ≡ requested_from units (requested_from units queue xs) ys
-requested_append units queue [] ys = refl
-requested_append units queue (g ∷ xs) ys = requested_append units (if is_already_known units queue g.name then queue else queue ++ g ∷ []) xs ys
-
 abbrev pub own_units : Order → List ℕ → List (List ℕ) → List (List ℕ × ℕ)
 own_units order host libs = units_of (own_segments order host libs)
 
@@ -173,7 +169,7 @@ unfolding requested_units
 requested_rest order host libs prefix rest =
     ap (λ (segs : List Segment). requested_from (own_units order host libs) [] (all_unit_references segs)) (sym (append_assoc (own_segments order host libs) prefix rest))
     ∙ (ap (λ (gs : List UnitReference). requested_from (own_units order host libs) [] gs) (flat_map-append references_of (own_segments order host libs ++ prefix) rest)
-    ∙ requested_append (own_units order host libs) [] (all_unit_references (own_segments order host libs ++ prefix)) (all_unit_references rest))
+    ∙ requested-append (own_units order host libs) [] (all_unit_references (own_segments order host libs ++ prefix)) (all_unit_references rest))
 
 requested_more : (order : Order) (host : List ℕ) (libs : List (List ℕ)) (prefix : List Segment) (s : Segment) → requested_units order host libs (prefix ++ s ∷ []) ≡ requested_from (own_units order host libs) (requested_units order host libs prefix) (references_of s)
 requested_more order host libs prefix s =
@@ -194,7 +190,7 @@ tagged step l = least_map (λ f. (step, f)) l
 abbrev FromRound : Order → List ℕ → List (List ℕ) → ℕ → Place → Type 0
 FromRound order host libs k p = (j : ℕ) × (f : Fault) × (k ≤ j) × (p ≡ (OfAdded j, f)) × InRound order host libs j f
 
-abbrev pub rest_of : Order → List ℕ → List (List ℕ) → List ℕ → ℕ → List UnitReference → Rounds
+abbrev pub rest_of : Order → List ℕ → List (List ℕ) → List ℕ → ℕ → List UnitReference → RoundsOutcome
 rest_of order host libs left k queue = rounds_from order host libs (own_units order host libs) left k queue
 
 -- the round that has this name, and this slot or none
@@ -262,15 +258,15 @@ next_slot xs ys k e = ap (λ (n : ℕ). slice_get (xs ++ ys) n) e ∙ go xs
 quiet : {S : Fault → Type 0} {B : Fault → Fault → Type 0} → Least B S None → (f : Fault) → S f → ⊥
 quiet (nothing n) f s = n f s
 
-abbrev pub of_segment : Order → List ℕ → List (List ℕ) → List ℕ → ℕ → List UnitReference → Option Segment → Rounds
+abbrev pub of_segment : Order → List ℕ → List (List ℕ) → List ℕ → ℕ → List UnitReference → Option Segment → RoundsOutcome
 of_segment order host libs left k queue None = record { added = []; fault = None }
 of_segment order host libs left k queue (Some s) = after s (rest_of order host libs left (k + 1) (requested_from (own_units order host libs) queue (references_of s)))
 
-abbrev pub of_fault : Order → List ℕ → List (List ℕ) → List ℕ → ℕ → List UnitReference → Option Segment → Option Fault → Rounds
+abbrev pub of_fault : Order → List ℕ → List (List ℕ) → List ℕ → ℕ → List UnitReference → Option Segment → Option Fault → RoundsOutcome
 of_fault order host libs left k queue segment (Some fault) = record { added = []; fault = Some fault }
 of_fault order host libs left k queue segment None = of_segment order host libs left k queue segment
 
-abbrev pub of_name : Order → List ℕ → List (List ℕ) → ℕ → List ℕ → ℕ → List UnitReference → Option UnitReference → Rounds
+abbrev pub of_name : Order → List ℕ → List (List ℕ) → ℕ → List ℕ → ℕ → List UnitReference → Option UnitReference → RoundsOutcome
 of_name order host libs slot left k queue None = record { added = []; fault = None }
 of_name order host libs slot left k queue (Some g) = of_fault order host libs left k queue (added_segment order host libs g slot) (placed_fault order host libs g slot)
 
@@ -291,7 +287,7 @@ rounds_have law order host libs [] prefix used k queue is at slots_are used_at q
     )
 rounds_have law order host libs (slot ∷ left) prefix used k queue is at slots_are used_at queue_is = go (rounds_have law order host libs left) (slice_get queue k) refl is
   where
-    Have : Rounds → Type 0
+    Have : RoundsOutcome → Type 0
     Have r = (o : Option Place) × Least Earlier (FromRound order host libs k) o × (option_map (λ (x : Place). x.1) o ≡ r.fault)
 
     slot_at : slice_get (empty_slots order host) k ≡ Some slot
@@ -349,5 +345,5 @@ first_round order host libs =
 pub step_6 : OneStop → (order : Order) (host : List ℕ) (libs : List (List ℕ)) → (o : Option Place) × Least Earlier (λ p. (k : ℕ) × (f : Fault) × (p ≡ (OfAdded k, f)) × InRound order host libs k f) o × (option_map (λ (x : Place). x.1) o ≡ added_fault order host libs)
 step_6 law order host libs =
     let same = first_round order host libs in
-    let r = rounds_have law order host libs (empty_slots order host) [] [] 0 (requested_units order host libs []) (ap (λ (x : Rounds). x.added) same) refl refl refl refl in
-    (r.0, least_same (λ p t. (t.0, t.1, t.3, t.4)) (λ p t. (t.0, t.1, omega arith, t.2, t.3)) r.1, r.2 ∙ ap (λ (x : Rounds). x.fault) (sym same))
+    let r = rounds_have law order host libs (empty_slots order host) [] [] 0 (requested_units order host libs []) (ap (λ (x : RoundsOutcome). x.added) same) refl refl refl refl in
+    (r.0, least_same (λ p t. (t.0, t.1, t.3, t.4)) (λ p t. (t.0, t.1, omega arith, t.2, t.3)) r.1, r.2 ∙ ap (λ (x : RoundsOutcome). x.fault) (sym same))

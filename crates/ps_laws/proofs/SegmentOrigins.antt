@@ -12,7 +12,7 @@ use Rattle.ps_codefile.specs.Dictionary.{slots, entry_at, role_of, code_of, info
 use Rattle.ps_codefile.specs.Procedures.{tables_fault}
 use Rattle.ps_resolve.specs.Added.{is_missing, as_added, placed_fault, added_segment, added_segments, added_at, added_fault, segments, empty_slots, requested_units}
 use Rattle.ps_resolve.specs.Standing.Phrases.{SomeItem}
-use Rattle.ps_resolve.specs.Standing.Keys.{OfSlots, OfSources, Precedes}
+use Rattle.ps_resolve.specs.Standing.Keys.{OfSlots, OfSources}
 use Rattle.ps_resolve.specs.Standing.Slots.{HasRole, InSlots}
 use Rattle.ps_resolve.specs.Standing.Segments.{IsSegment}
 use Rattle.ps_resolve.specs.Standing.Sources.{EntryFault}
@@ -23,14 +23,14 @@ use Rattle.ps_codefile.specs.declared.entry.Role.{Role}
 use Rattle.ps_codefile.specs.declared.entry.Role.TheVariants as role
 use Rattle.ps_linkinfo.specs.Records.{Spells, reading}
 use Rattle.ps_linkinfo.specs.declared.record.LinkRecord.{LinkRecord as Record}
-use Rattle.ps_resolve.specs.First.{Least, this}
 use Rattle.ps_codefile.specs.Roles.{needs_linking, is_host, is_empty}
 use Rattle.ps_resolve.specs.Sources.{Segment, order_of, file_at, source_of, unit_source, segment_from, own_segment, own_segments, records_of}
 use Rattle.ps_resolve.specs.Faults.{is_role, slot_reason, slots_fault, code_fault, wanted_fault, information_fault, sources_fault}
-use Rattle.ps_resolve.specs.Origins.{IsOwn, IsAddedUnit, IsFile, IsInPlace, IsUnitOf, IsSliceOf, IsRead, HaveOneEach, AreBySlot, AreOwn, AreAdded, AreInPlace, AreOfLibraries, AreRead, AreOfRounds, IsTaken, AsksFor}
+use Rattle.ps_resolve.specs.Origins.{IsOwn, IsAddedUnit, IsFile, IsInPlace, IsUnitOf, IsSliceOf, IsReadFrom, HaveOneEach, AreBySlot, AreOwn, AreAdded, AreInPlace, AreOfLibraries, AreRead, AreOfRounds, IsTaken, AsksFor}
 use Rattle.ps_resolve.specs.RequestedUnits.{HasSlot, Asks, IsGiver}
 use Rattle.ps_resolve.specs.declared.reading.added.UnitReference.{UnitReference}
 use Rattle.ps_resolve.proofs.FirstSlots.{none_mapped as map_none}
+use Rattle.ps_laws.proofs.Least.{Least, this, Precedes}
 use Rattle.ps_laws.proofs.Items.{In, in_range, in_filter, of_take, some_before}
 use Rattle.ps_laws.proofs.Steps.{not_below, step_2}
 use Rattle.ps_laws.proofs.Sources.{OneStop, ok_is}
@@ -69,7 +69,7 @@ slice_of file e code = go (has_bad_length e) (e.address == 0) (nat_lt (length fi
 
 -- the code and the records of a segment whose source has no fault
 from_read : OneSpelling → (order : Order) (host : List ℕ) (libs : List (List ℕ)) (slot : ℕ) (name : List ℕ) (r : Role) (at : ℕ × ℕ) (s : Segment) → IsFile host libs at.0 (file_at host libs at.0) → at.1 < 16
-    → segment_from order host libs slot name r at ≡ Some s → code_fault order host libs slot r at ≡ None → IsRead order host libs s × (s.file ≡ at.0) × (s.index ≡ at.1) × (s.added ≡ false)
+    → segment_from order host libs slot name r at ≡ Some s → code_fault order host libs slot r at ≡ None → IsReadFrom order host libs s × (s.file ≡ at.0) × (s.index ≡ at.1) × (s.added ≡ false)
 from_read law order host libs slot name r at s there inside e fine = go (code_of file entry) refl e fine
   where
     file : List ℕ
@@ -101,7 +101,7 @@ from_read law order host libs slot name r at s there inside e fine = go (code_of
         whole (rs, None) is e = (law order bytes rs).1 is
         whole (rs, Some why) is e = absurd (cc)
 
-    read : (code : List ℕ) → code_of file entry ≡ Ok code → (if needs_linking r then option_or (option_map (in_slot at.0 slot) (tables_fault order code (is_host r))) (information_fault order file entry at.0 slot) else None) ≡ None → IsRead order host libs (made code)
+    read : (code : List ℕ) → code_of file entry ≡ Ok code → (if needs_linking r then option_or (option_map (in_slot at.0 slot) (tables_fault order code (is_host r))) (information_fault order file entry at.0 slot) else None) ≡ None → IsReadFrom order host libs (made code)
     read code is fine = record {
       source = file;
       file = there;
@@ -113,13 +113,13 @@ from_read law order host libs slot name r at s there inside e fine = go (code_of
     }
 
     Known : Segment → Type 0
-    Known q = IsRead order host libs q × (q.file ≡ at.0) × (q.index ≡ at.1) × (q.added ≡ false)
+    Known q = IsReadFrom order host libs q × (q.file ≡ at.0) × (q.index ≡ at.1) × (q.added ≡ false)
 
     go : (o : Result (List ℕ) Reason) → code_of file entry ≡ o → option_map made (result_ok o) ≡ Some s → Faults o ≡ None → Known s
     go (Err why) is e fine = absurd (cc)
     go (Ok code) is e fine = let same : made code ≡ s = cc in subst Known same (read code is fine, refl, refl, refl)
 
-marked_read : (order : Order) (host : List ℕ) (libs : List (List ℕ)) (q : Segment) → IsRead order host libs q → IsRead order host libs (as_added q)
+marked_read : (order : Order) (host : List ℕ) (libs : List (List ℕ)) (q : Segment) → IsReadFrom order host libs q → IsReadFrom order host libs (as_added q)
 marked_read order host libs q h = record { source = h.source; file = h.file; within = h.within; code = h.code; slice = h.slice; records = h.records; unread = h.unread }
 
 -- 2. slots ascend
@@ -156,14 +156,14 @@ abbrev HasPlace : Order → List ℕ → List (List ℕ) → Segment → Type 0
 HasPlace order host libs s = (s.role ≢ role.Wanted → IsInPlace s) × (s.role ≡ role.Wanted → IsUnitOf order host libs s.name s.file s.index)
 
 record IsOfOwn (order : Order) (host : List ℕ) (libs : List (List ℕ)) (s : Segment) : Type 0 where
-  read : IsRead order host libs s
+  read : IsReadFrom order host libs s
   place : HasPlace order host libs s
   not_added : s.added ≡ false
   own : IsOwn order host s
 
 record IsOfRound (order : Order) (host : List ℕ) (libs : List (List ℕ)) (s : Segment) : Type 0 where
   round : SomeItem (added_segments order host libs) (λ k q. q ≡ s)
-  read : IsRead order host libs s
+  read : IsReadFrom order host libs s
   place : HasPlace order host libs s
   is_added : s.added ≡ true
   added_unit : IsAddedUnit order host (segments order host libs) s
@@ -337,7 +337,7 @@ module _ (law : OneStop) (spells : OneSpelling) (host : List ℕ) (libs : List (
           let t = from_slot order host libs s.slot g.name role.Wanted at q e in
           let u = unit_of order host libs g.name s.slot entries at is in
           let k = from_read spells order host libs s.slot g.name role.Wanted at q u.1 u.0.within e (sym (ap (option_and_then (code_fault order host libs s.slot role.Wanted)) is) ∙ parts.2) in record {
-            read = subst (IsRead order host libs) same (marked_read order host libs q k.0);
+            read = subst (IsReadFrom order host libs) same (marked_read order host libs q k.0);
             place = (λ h. absurd (h unit_added.role), λ h. unit_as s u.0 (sym name) (sym k.1 ∙ ap (λ (x : Segment). x.file) same) (sym k.2 ∙ ap (λ (x : Segment). x.index) same));
             round = (j, s, in_round, refl);
             is_added = sym (ap (λ (x : Segment). x.added) same);
@@ -400,7 +400,7 @@ module _ (law : OneStop) (spells : OneSpelling) (host : List ℕ) (libs : List (
   of_libraries = each (λ s. s.role ≡ role.Wanted → IsUnitOf order host libs s.name s.file s.index) (λ s. elim [ inl k ↦ k.place.1 | inr k ↦ k.place.1 ])
 
   pub all_read : AreRead host libs (segments_of host libs)
-  all_read = each (λ s. IsRead order host libs s) (λ s. elim [ inl k ↦ k.read | inr k ↦ k.read ])
+  all_read = each (λ s. IsReadFrom order host libs s) (λ s. elim [ inl k ↦ k.read | inr k ↦ k.read ])
 
   -- 4. each slot that is not empty has a segment
   has_role : (slot : ℕ) → slot < 16 → (r : Role) × HasRole order host slot r

@@ -9,14 +9,13 @@ use Rattle.ps_resolve.specs.Added.{segments, segment_at}
 use Rattle.ps_resolve.specs.Standing.Phrases.{SomeItem}
 use Rattle.ps_resolve.specs.Standing.Segments.{IsSegment, SomeSegment}
 use Rattle.ps_codefile.specs.declared.entry.Role.{Role}
-use Rattle.ps_resolve.specs.First.{Least}
 use Rattle.ps_resolve.specs.Searches.{first_of}
 use Rattle.ps_resolve.specs.Sources.{Segment, segment_from, own_segment}
 use Rattle.ps_resolve.specs.Linkable.{AscendFrom}
 use Rattle.ps_resolve.proofs.EachSegment.{is_made}
 pub use Rattle.ps_resolve.proofs.ReadingKnown.{ascend}
 use Rattle.ps_resolve.proofs.ReadingKnown.{own_parts, slot_parts}
-use Rattle.ps_laws.proofs.Least.{least_same, least_then, least_within, first_of_filter_map}
+use Rattle.ps_laws.proofs.Least.{Least, least_same, least_then, least_within, first_of_filter_map}
 use Rattle.ps_laws.proofs.Looking.{find_some}
 use Rattle.ps_words.specs.declared.order.Order.{Order}
 use Rattle.ps_words.specs.declared.fault.Fault.{Fault}

@@ -1,7 +1,7 @@
 -- The segments of a link whose files were read without a fault: the tables of a linked one are not
 -- bad, and one that is linked already has no records.
 use Rattle.std.proofs.Common.{◌≡◌, ℕ, zero, suc, ◌+◌, ◌-◌, ◌*◌, ◌/◌, ◌<◌, ◌≤◌, List, [], ◌∷◌, drop, length, Option, Some, None, Result, Ok, Err, Bool, true, false, refl, sym, ap, subst, ◌∙◌, inl, inr, arith}
-use Rattle.std.specs.Prelude.{◌≢◌, ◌⊎◌, if◌then◌else◌, ◌==◌, nat_le, nat_lt, ◌&&◌, ◌||◌}
+use Rattle.std.specs.Prelude.{◌≢◌, ◌⊎◌, if◌then◌else◌, ◌==◌, nat_le, nat_lt, ◌&&◌}
 use Rattle.std.specs.List.{find, slice_get, list_any, range_with_len, filter_map}
 use Rattle.std.specs.Option.{option_map, option_or, option_and_then}
 use Rattle.std.specs.Result.{result_ok}
@@ -18,24 +18,26 @@ use Rattle.ps_codefile.specs.declared.entry.Role.{Role}
 use Rattle.ps_codefile.specs.declared.entry.Role.TheVariants as role
 use Rattle.ps_linkinfo.specs.Records.{EndsOnce, bad, is_eof, read_from, reading, record_at, size_of}
 use Rattle.ps_linkinfo.specs.declared.record.LinkRecord.{LinkRecord as Record}
-use Rattle.ps_resolve.specs.First.{Least, nothing}
 use Rattle.ps_codefile.specs.Roles.{needs_linking, is_host, is_empty}
 use Rattle.ps_resolve.specs.Sources.{Segment, file_at, source_of, unit_source, segment_from, own_segment, records_of}
 use Rattle.ps_resolve.specs.Faults.{is_role, code_fault, entry_fault, information_fault, sources_fault}
 use Rattle.ps_resolve.specs.declared.reading.added.UnitReference.{UnitReference}
 use Rattle.ps_resolve.proofs.FirstSlots.{none_mapped as map_none}
+use Rattle.ps_laws.proofs.Least.{Least, nothing}
 use Rattle.ps_laws.proofs.Sources.{tables_rows, ok_is}
 use Rattle.ps_laws.proofs.Steps.{Ranked}
 use Rattle.ps_laws.proofs.Segments.{found_in_slot}
 use Rattle.ps_laws.proofs.Asked.{segment_named, name_placed}
 use Rattle.ps_laws.proofs.AddedUnits.{both_none, source_none, of_role}
+use Rattle.ps_resolve.proofs.Requesting.{or_right}
+use Rattle.ps_resolve.proofs.Own.{either_true}
 use Rattle.ps_words.specs.FaultPlaces.{in_slot, in_record}
 use Rattle.ps_words.specs.declared.order.Order.{Order}
 use Rattle.ps_words.specs.declared.fault.Reason.{Reason}
 use Rattle.ps_words.specs.declared.fault.Reason.TheVariants as reason
 use Rattle.ps_words.specs.declared.fault.Fault.{Fault}
 
-pub record IsSound (order : Order) (s : Segment) : Type 0 where
+pub record IsWithoutFault (order : Order) (s : Segment) : Type 0 where
   pub tables : needs_linking s.role ≡ true → AreBad order s.code (is_host s.role) → ⊥
   pub plain : needs_linking s.role ≡ false → s.records ≡ []
   pub ends : needs_linking s.role ≡ true → EndsOnce s.records
@@ -74,7 +76,7 @@ not_bad order code host e = go (tables_fault order code host) e (tables_rows ord
     go (Some why) e l h = absurd (cc)
 
 -- a segment whose source has no fault
-from_sound : (order : Order) (host : List ℕ) (libs : List (List ℕ)) (slot : ℕ) (name : List ℕ) (r : Role) (at : ℕ × ℕ) (s : Segment) → segment_from order host libs slot name r at ≡ Some s → code_fault order host libs slot r at ≡ None → IsSound order s
+from_sound : (order : Order) (host : List ℕ) (libs : List (List ℕ)) (slot : ℕ) (name : List ℕ) (r : Role) (at : ℕ × ℕ) (s : Segment) → segment_from order host libs slot name r at ≡ Some s → code_fault order host libs slot r at ≡ None → IsWithoutFault order s
 from_sound order host libs slot name r at s e fine = go (code_of file entry) e fine
   where
     file : List ℕ
@@ -98,7 +100,7 @@ from_sound order host libs slot name r at s e fine = go (code_of file entry) e f
     whole_ends : information_fault order file entry at.0 slot ≡ None → EndsOnce (reading order information).0
     whole_ends h = read_ends (length information / 16 + 1) order information (map_none (in_record at.0 slot (length (reading order information).0)) (reading order information).1 h)
 
-    sound : (code : List ℕ) (b : Bool) → needs_linking r ≡ b → (if b then option_or (option_map (in_slot at.0 slot) (tables_fault order code (is_host r))) (information_fault order file entry at.0 slot) else None) ≡ None → IsSound order (made code)
+    sound : (code : List ℕ) (b : Bool) → needs_linking r ≡ b → (if b then option_or (option_map (in_slot at.0 slot) (tables_fault order code (is_host r))) (information_fault order file entry at.0 slot) else None) ≡ None → IsWithoutFault order (made code)
     sound code true is fine = record {
       tables = λ h bad. not_bad order code (is_host r) (map_none (in_slot at.0 slot) (tables_fault order code (is_host r)) (both_none (option_map (in_slot at.0 slot) (tables_fault order code (is_host r))) (information_fault order file entry at.0 slot) fine).0) bad;
       plain = λ h. absurd (false≢true (sym h ∙ is));
@@ -110,23 +112,23 @@ from_sound order host libs slot name r at s e fine = go (code_of file entry) e f
       ends = λ h. absurd (false≢true (sym is ∙ h));
     }
 
-    go : (o : Result (List ℕ) Reason) → option_map made (result_ok o) ≡ Some s → Faults o ≡ None → IsSound order s
+    go : (o : Result (List ℕ) Reason) → option_map made (result_ok o) ≡ Some s → Faults o ≡ None → IsWithoutFault order s
     go (Err why) e fine = absurd (cc)
-    go (Ok code) e fine = let same : made code ≡ s = cc in subst (IsSound order) same (sound code (needs_linking r) refl fine)
+    go (Ok code) e fine = let same : made code ≡ s = cc in subst (IsWithoutFault order) same (sound code (needs_linking r) refl fine)
 
 -- where the sources have no fault, a slot's own segment is sound
-own_sound : (order : Order) (host : List ℕ) (libs : List (List ℕ)) → sources_fault order host libs ≡ None → (slot : ℕ) → slot < 16 → (s : Segment) → own_segment order host libs slot ≡ Some s → IsSound order s
+own_sound : (order : Order) (host : List ℕ) (libs : List (List ℕ)) → sources_fault order host libs ≡ None → (slot : ℕ) → slot < 16 → (s : Segment) → own_segment order host libs slot ≡ Some s → IsWithoutFault order s
 own_sound order host libs fine slot lt s e =
     option_and_then_some (λ r. option_and_then (segment_from order host libs slot (entry_at order host slot).name r) (source_of order host libs slot r)) (result_ok (role_of (entry_at order host slot))) s e (λ r e1 h.
     option_and_then_some (segment_from order host libs slot (entry_at order host slot).name r) (source_of order host libs slot r) s h (λ at e2 k.
     from_sound order host libs slot (entry_at order host slot).name r at s k
     (sym (ap (option_and_then (code_fault order host libs slot r)) e2) ∙ (of_role order host libs slot r (source_none order host libs fine slot lt) (ok_is (role_of (entry_at order host slot)) r e1)).1)))
 
-marked_sound : (order : Order) (q : Segment) → IsSound order q → IsSound order (as_added q)
+marked_sound : (order : Order) (q : Segment) → IsWithoutFault order q → IsWithoutFault order (as_added q)
 marked_sound order q h = record { tables = h.tables; plain = h.plain; ends = h.ends }
 
 -- a segment that was added for a name without a fault is sound
-placed_sound : (order : Order) (host : List ℕ) (libs : List (List ℕ)) (g : UnitReference) (slot : ℕ) (s : Segment) → added_segment order host libs g slot ≡ Some s → placed_fault order host libs g slot ≡ None → IsSound order s
+placed_sound : (order : Order) (host : List ℕ) (libs : List (List ℕ)) (g : UnitReference) (slot : ℕ) (s : Segment) → added_segment order host libs g slot ≡ Some s → placed_fault order host libs g slot ≡ None → IsWithoutFault order s
 placed_sound order host libs g slot s e fine = go (option_and_then (segment_from order host libs slot g.name role.Wanted) (unit_source order g.name libs)) refl e
   where
     code_fine : (b : Bool) → (if b then Some (in_record g.file g.slot g.rec reason.MissingUnit) else option_or (entry_fault order g.name libs slot) (option_and_then (code_fault order host libs slot role.Wanted) (unit_source order g.name libs))) ≡ None
@@ -134,20 +136,20 @@ placed_sound order host libs g slot s e fine = go (option_and_then (segment_from
     code_fine true h = absurd (cc)
     code_fine false h = (both_none (entry_fault order g.name libs slot) (option_and_then (code_fault order host libs slot role.Wanted) (unit_source order g.name libs)) h).1
 
-    go : (o : Option Segment) → option_and_then (segment_from order host libs slot g.name role.Wanted) (unit_source order g.name libs) ≡ o → option_map as_added o ≡ Some s → IsSound order s
+    go : (o : Option Segment) → option_and_then (segment_from order host libs slot g.name role.Wanted) (unit_source order g.name libs) ≡ o → option_map as_added o ≡ Some s → IsWithoutFault order s
     go None is e = absurd (cc)
     go (Some q) is e =
         let same : as_added q ≡ s = cc in
-        subst (IsSound order) same (marked_sound order q
+        subst (IsWithoutFault order) same (marked_sound order q
         (option_and_then_some (segment_from order host libs slot g.name role.Wanted) (unit_source order g.name libs) q is (λ at e1 h.
         from_sound order host libs slot g.name role.Wanted at q h
         (sym (ap (option_and_then (code_fault order host libs slot role.Wanted)) e1) ∙ code_fine (is_missing order libs g.name) fine))))
 
 -- where neither the sources nor the rounds have a fault, each segment of the link is sound
-pub all_sound : (order : Order) (host : List ℕ) (libs : List (List ℕ)) → sources_fault order host libs ≡ None → added_fault order host libs ≡ None → (s : Segment) → IsSegment order host libs s → IsSound order s
+pub all_sound : (order : Order) (host : List ℕ) (libs : List (List ℕ)) → sources_fault order host libs ≡ None → added_fault order host libs ≡ None → (s : Segment) → IsSegment order host libs s → IsWithoutFault order s
 all_sound order host libs fine all_added s t = go (own_segment order host libs s.slot) refl (is_role is_empty order host s.slot) t.1
   where
-    go : (o : Option Segment) → own_segment order host libs s.slot ≡ o → (b : Bool) → option_or o (if b then find (λ (q : Segment). q.slot == s.slot) (added_segments order host libs) else None) ≡ Some s → IsSound order s
+    go : (o : Option Segment) → own_segment order host libs s.slot ≡ o → (b : Bool) → option_or o (if b then find (λ (q : Segment). q.slot == s.slot) (added_segments order host libs) else None) ≡ Some s → IsWithoutFault order s
     go (Some q) is b e = own_sound order host libs fine s.slot t.0 s (is ∙ e)
     go None is false e = absurd (cc)
     go None is true e =
@@ -156,7 +158,7 @@ all_sound order host libs fine all_added s t = go (own_segment order host libs s
         let g = segment_named order host libs all_added u.0 s there in
         let p = name_placed order host libs all_added u.0 g.0 g.1 in
         let same : p.1 ≡ s = (let a = p.3 in cc) in
-        subst (IsSound order) same (placed_sound order host libs g.0 p.0 p.1 p.4 p.5)
+        subst (IsWithoutFault order) same (placed_sound order host libs g.0 p.0 p.1 p.4 p.5)
 
 -- the bounds of a code whose tables are not bad
 pub long : (order : Order) (code : List ℕ) (host : Bool) → (AreBad order code host → ⊥) → 2 ≤ length code
@@ -194,16 +196,6 @@ outer order code t h e = go (content_of order code 1 == 0) refl e
           low = elim (cases_lt (length code - 2 - 2 * 1) (content_of order code 1 + 8)) [ inl lt ↦ absurd (bad n (inl lt)) | inr ge ↦ omega (arith, ge, same) ];
           high = elim (cases_lt (length code - 2 - 2 * 1 - content_of order code 1 + 1) (dictionary_start code)) [ inl lt ↦ subst (λ (m : ℕ). m + 1 < dictionary_start code) same lt | inr ge ↦ absurd (bad n (inr (omega (arith, ge)))) ];
         }
-
--- the places of the number and of the data size are reserved
-either_true : (a b c : Bool) → a ≡ true → b ≡ true → ((a && b) || c) ≡ true
-either_true true true c h k = refl
-either_true true false c h k = cc
-either_true false b c h k = cc
-
-or_right : (a b : Bool) → b ≡ true → (a || b) ≡ true
-or_right true b h = refl
-or_right false b h = h
 
 -- the last place but one of a code is reserved
 pub number_reserved : (order : Order) (code : List ℕ) (p : ℕ) → p + 2 ≡ length code → is_reserved order code p ≡ true

@@ -13,31 +13,27 @@ use Rattle.std.proofs.lemmas.Slice.Eq.{bytes_eq-Decides}
 use Rattle.ps_codefile.specs.Dictionary.{slots, entry_at, role_of, code_of, information_of, is_filled}
 use Rattle.ps_codefile.specs.Procedures.{table_of, procedures, content_of, dictionary_start, dictionary_len, is_placed, numbers, tables, tables_fault}
 use Rattle.ps_resolve.specs.Standing.Phrases.{Because, SomeBelow, SomeItem}
-use Rattle.ps_resolve.specs.Standing.Keys.{OfSources, rank, part, Precedes}
+use Rattle.ps_resolve.specs.Standing.Keys.{OfSources, rank, part}
 use Rattle.ps_resolve.specs.Standing.Sources.{IsNamed, HasEntry, EntriesHave, NoneHas, EntryFault, UnitFault, HasBadTable, AreBad, TablesHave, CodeFault, InSources}
 use Rattle.ps_codefile.specs.declared.entry.Entry.{Entry}
 use Rattle.ps_codefile.specs.declared.entry.Role.{Role}
 use Rattle.ps_linkinfo.specs.Records.{reading, Stops}
 use Rattle.ps_linkinfo.specs.declared.record.LinkRecord.{LinkRecord as Record}
 use Rattle.ps_resolve.specs.Faults.{entries_reason, entry_fault, unit_fault, wanted_fault, information_fault, code_fault, source_fault, sources_fault}
-use Rattle.ps_resolve.specs.First.{Least, nothing, this}
 use Rattle.ps_resolve.specs.Searches.{first_of, fault_if}
 use Rattle.ps_codefile.specs.Roles.{is_host, is_wanted, needs_linking}
 use Rattle.ps_resolve.specs.Sources.{is_named, has_entry, chosen_library, source_of, file_at}
 use Rattle.ps_words.specs.FaultPlaces.{in_slot, in_record}
-use Rattle.ps_laws.proofs.Least.{least_same, least_or, least_if, least_then, least_range, least_items, least_guard}
+use Rattle.ps_laws.proofs.Least.{Least, nothing, this, Precedes, least_same, least_or, least_if, least_then, least_range, least_items, least_guard}
 use Rattle.ps_laws.proofs.Steps.{Ranked, because, any_of_range, any_lesser}
+use Rattle.ps_laws.proofs.Looking.{of_test}
 use Rattle.ps_words.specs.declared.order.Order.{Order}
 use Rattle.ps_codefile.specs.declared.entry.Role.TheVariants as role
 use Rattle.ps_words.specs.declared.fault.Reason.{Reason}
 use Rattle.ps_words.specs.declared.fault.Reason.TheVariants as reason
 use Rattle.ps_words.specs.declared.fault.Fault.{Fault}
 
--- the segments that are copied, in slot order
-of_test : (b : Bool) → Decides b (b ≡ true)
-of_test b = (λ e. e, λ e. e)
-
-at_most : (a b : ℕ) → Decides (nat_le a b) (a ≤ b)
+pub at_most : (a b : ℕ) → Decides (nat_le a b) (a ≤ b)
 at_most a b = (λ e. leb-true a b e, λ h. le-leb a b h)
 
 -- before rank n in the slot's own faults, or from it on, or in a record

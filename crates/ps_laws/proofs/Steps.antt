@@ -14,14 +14,13 @@ use Rattle.ps_resolve.specs.Standing.Phrases.{Because, SomeBelow}
 use Rattle.ps_resolve.specs.Standing.Hosts.{HostHas, InHost}
 use Rattle.ps_resolve.specs.Standing.Slots.{HasRole, IsUnitSlot, SlotHas, InSlots, InNoHost}
 use Rattle.ps_resolve.specs.Standing.Libraries.{LibraryHas, InLibraries}
-use Rattle.ps_resolve.specs.Standing.Keys.{Step, OfHost, OfSlots, OfNoHost, OfLibraries, rank, Precedes}
+use Rattle.ps_resolve.specs.Standing.Keys.{Step, OfHost, OfSlots, OfNoHost, OfLibraries, rank}
 use Rattle.ps_codefile.specs.declared.entry.Entry.{Entry}
 use Rattle.ps_codefile.specs.declared.entry.Role.{Role}
 use Rattle.ps_resolve.specs.Faults.{host_fault, is_role, slot_reason, slots_fault, no_host_fault, library_reason, library_fault, libraries_fault}
-use Rattle.ps_resolve.specs.First.{Least, nothing, this}
 use Rattle.ps_codefile.specs.Roles.{is_host, is_unit}
 use Rattle.ps_words.specs.FaultPlaces.{in_file, in_slot}
-use Rattle.ps_laws.proofs.Least.{least_same, least_order, least_or, least_if, least_map, least_range, least_each}
+use Rattle.ps_laws.proofs.Least.{Least, nothing, this, Precedes, least_same, least_order, least_or, least_if, least_map, least_range, least_each}
 use Rattle.ps_words.specs.declared.order.Order.{Order}
 use Rattle.ps_words.specs.declared.order.Order.TheVariants.{Little, Big}
 use Rattle.ps_codefile.specs.declared.entry.Role.TheVariants as role

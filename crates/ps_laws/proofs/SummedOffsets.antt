@@ -13,7 +13,8 @@ use Rattle.ps_resolve.specs.LinkedBytes.{summed_edits, summed_segment, HaveSumme
 use Rattle.ps_resolve.specs.References.{Known, words_taken, record_edits, records_edits}
 use Rattle.ps_resolve.specs.Linking.{Edited, edited_from, known_of, data_edits, segment_edits}
 use Rattle.ps_laws.proofs.Segments.{Ascends, ascend}
-use Rattle.ps_laws.proofs.PrivateOffsets.{AreBelow, below_from, below_more, words_split, one_more, offset_in}
+use Rattle.ps_laws.proofs.PrivateOffsets.{AreBelow, below_from, below_more, words_split, offset_in}
+use Rattle.ps_resolve.proofs.LookingBack.{words_before}
 use Rattle.ps_words.specs.declared.order.Order.{Order}
 use Rattle.ps_words.specs.declared.edit.Edit.{Edit}
 use Rattle.ps_words.specs.declared.edit.Edit.TheVariants.{Byte}
@@ -36,7 +37,7 @@ records_summed known code offset (r ∷ rs) rec off h =
     later n =
         let a : offset (rec + 1 + n) ≡ offset (rec + suc n) = ap offset (omega arith) in
         let b = h (suc n) in
-        let c = one_more r (take n rs) in
+        let c = words_before r (take n rs) in
         omega (arith, a, b, c)
 
 -- the edits of a segment, with an offset that runs along from its first private, are those with

@@ -11,11 +11,11 @@ use Rattle.ps_codefile.specs.Dictionary.{slots, entry_at}
 use Rattle.ps_codefile.specs.declared.entry.Role.TheVariants as role
 use Rattle.ps_resolve.specs.Added.{is_missing, placed_fault}
 use Rattle.ps_resolve.specs.Faults.{code_fault, entry_fault}
-use Rattle.ps_resolve.specs.First.{Least, nothing}
-use Rattle.ps_resolve.specs.Standing.Keys.{OfSources, Precedes}
+use Rattle.ps_resolve.specs.Standing.Keys.{OfSources}
 use Rattle.ps_resolve.specs.Standing.Sources.{IsNamed, HasEntry, EntryFault}
 use Rattle.ps_resolve.specs.Origins.{IsFile, IsUnitOf}
 use Rattle.ps_resolve.specs.Sources.{is_named, chosen_library, unit_source, file_at}
+use Rattle.ps_laws.proofs.Least.{Least, nothing, Precedes}
 use Rattle.ps_laws.proofs.Items.{of_range, find_passes}
 use Rattle.ps_resolve.specs.declared.reading.added.UnitReference.{UnitReference}
 use Rattle.ps_laws.proofs.OneQueue.{HasOneEntry}

@@ -6,13 +6,13 @@ use Rattle.std.proofs.lemmas.Bool.{cases_lt}
 use Rattle.std.specs.Option.{option_or, option_map}
 use Rattle.ps_resolve.specs.Faults.{host_fault, slots_fault, no_host_fault, libraries_fault, sources_fault, definitions_fault, privates_fault, data_fault, references_fault, linking_fault}
 use Rattle.ps_resolve.specs.AllFaults.{first_fault, reading_fault}
-use Rattle.ps_resolve.specs.First.{Before, Least, nothing, this}
+use Rattle.ps_resolve.specs.First.{Before}
 use Rattle.ps_resolve.specs.Sources.{order_of}
 use Rattle.ps_resolve.specs.Added.{added_fault, segments}
-use Rattle.ps_resolve.specs.Standing.Keys.{Step, OfHost, OfSlots, OfNoHost, OfLibraries, OfSources, OfAdded, OfDefinitions, OfPrivates, OfDataSize, OfReferences, turn, is_of_reading, key, Precedes}
+use Rattle.ps_resolve.specs.Standing.Keys.{Step, OfHost, OfSlots, OfNoHost, OfLibraries, OfSources, OfAdded, OfDefinitions, OfPrivates, OfDataSize, OfReferences, turn, is_of_reading, key}
 use Rattle.ps_resolve.specs.Standing.{StandsIn, FaultAt, NoneStandsInReading, IsFirst}
 use Rattle.ps_resolve.specs.Standing.Rounds.{InRound}
-use Rattle.ps_laws.proofs.Least.{least_same, least_or_then}
+use Rattle.ps_laws.proofs.Least.{Least, nothing, this, Precedes, least_same, least_or_then, not_both}
 use Rattle.ps_laws.proofs.Steps.{step_1, step_2, step_3, step_4}
 use Rattle.ps_laws.proofs.Sources.{OneStop, step_5}
 use Rattle.ps_laws.proofs.Rounds.{Place, Earlier, tagged, step_6}
@@ -123,13 +123,13 @@ add order host libs step next end {o} {p} alone e low l m =
 rounds_turn : OneStop → (order : Order) (host : List ℕ) (libs : List (List ℕ)) → (o : Option Place) × Least Earlier (Between order host libs 6 7) o × (option_map (λ (x : Place). x.1) o ≡ added_fault order host libs)
 rounds_turn law order host libs = let r = step_6 law order host libs in (r.0, least_same to from r.1, r.2)
   where
-    Rounds : Place → Type 0
-    Rounds p = (k : ℕ) × (f : Fault) × (p ≡ (OfAdded k, f)) × InRound order host libs k f
+    OfRound : Place → Type 0
+    OfRound p = (k : ℕ) × (f : Fault) × (p ≡ (OfAdded k, f)) × InRound order host libs k f
 
-    to : (p : Place) → Rounds p → Between order host libs 6 7 p
+    to : (p : Place) → OfRound p → Between order host libs 6 7 p
     to p t = let a : turn p.0 ≡ 6 = ap (λ (q : Place). turn q.0) t.2 in (omega (arith, a), omega (arith, a), subst (λ (q : Place). StandsIn q.0 order host libs q.1) (sym t.2) t.3)
 
-    from : (p : Place) → Between order host libs 6 7 p → Rounds p
+    from : (p : Place) → Between order host libs 6 7 p → OfRound p
     from p t =
         let r = round_of p.0 (let a = t.0 in let b = t.1 in omega (arith, a, b)) in
         (r.0, p.1, ap (λ (s : Step). (s, p.1)) r.1, subst (λ (s : Step). StandsIn s order host libs p.1) r.1 t.2)
@@ -253,15 +253,6 @@ some law host libs f e = let w = whole law host libs in first_place host libs w.
 
 pub none : OneStop → (host : List ℕ) (libs : List (List ℕ)) → first_fault host libs ≡ None → (step : Step) (f : Fault) → FaultAt host libs step f → ⊥
 none law host libs e = let w = whole law host libs in no_place host libs w.0 w.1 (w.2 ∙ e)
-
--- no two keys come before each other
-not_both : (a b : List ℕ) → Before a b → Before b a → ⊥
-not_both [] b h k = h
-not_both (x ∷ a) [] h k = h
-not_both (x ∷ a) (y ∷ b) (inl h) (inl k) = omega (arith, h, k)
-not_both (x ∷ a) (y ∷ b) (inl h) (inr k) = let e = k.0 in omega (arith, h, e)
-not_both (x ∷ a) (y ∷ b) (inr h) (inl k) = let e = h.0 in omega (arith, e, k)
-not_both (x ∷ a) (y ∷ b) (inr h) (inr k) = not_both a b h.1 k.1
 
 -- no two faults are the first
 pub one : OneStop → (host : List ℕ) (libs : List (List ℕ)) (f g : Fault) → IsFirst host libs f → IsFirst host libs g → f ≡ g

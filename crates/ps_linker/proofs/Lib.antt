@@ -1,2 +1,3 @@
+pub mod ListsPrinted
 pub mod Named
 pub mod Taken

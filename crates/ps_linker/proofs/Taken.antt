@@ -499,14 +499,22 @@ check_named args level some leaves =
     let host = both (is_given (codes "HOST") rows) _ (leaf_given (command_at 3) args level) in
     named (codes "HOST") rows full host.0 ((leaves rows).3 refl)
 
+-- arguments that clap accepts for `list` do not leave out FILE
+list_named : (args : List Text) → NamesAll args (Some (command_at 4))
+list_named args level some leaves =
+    let rows = rows_at_command 4 args in
+    let full : HaveValues rows = rows_have_values (command_at 4).rules refl [] args in
+    let file = both (is_given (codes "FILE") rows) _ (leaf_given (command_at 4) args level) in
+    named (codes "FILE") rows full file.0 ((leaves rows).4 refl)
+
 -- the command that prints help has another name
-other_name : (name : Text) → is_help name ≡ false → answers_to name (label_of (command_at 4)) ≡ true → ⊥
+other_name : (name : Text) → is_help name ≡ false → answers_to name (label_of (command_at 5)) ≡ true → ⊥
 other_name name other answers =
     let same : codes "help" ≡ name = (bytes_eq-Decides (codes "help") name).0 (only_left _ answers) in
     true≢false (sym ((bytes_eq-Decides name (codes "help")).1 (sym same)) ∙ other)
 
 each_named : (name : Text) (args : List Text) → is_help name ≡ false → Each (NamesAll args) (λ s. answers_to name (label_of s)) (built pslink_app).subs
-each_named name args other = ((λ _. link_named args), ((λ _. map_named args), ((λ _. show_named args), ((λ _. check_named args), ((λ answers. absurd (other_name name other answers)), tt)))))
+each_named name args other = ((λ _. link_named args), ((λ _. map_named args), ((λ _. show_named args), ((λ _. check_named args), ((λ _. list_named args), ((λ answers. absurd (other_name name other answers)), tt))))))
 
 -- where a walk stops at a command other than help, arguments that clap accepts for it leave out
 -- nothing that it has to have

@@ -18,21 +18,45 @@ libraries_rule = record (new_rule (codes "LIB")) { action = Some Append }
 abbrev pub link_app : App
 link_app = with_rule (with_rule (with_rule (new_app (codes "link")) (file_rule (codes "HOST"))) (file_rule (codes "OUT"))) libraries_rule
 
--- `map HOST [LIB]...`
-abbrev pub map_app : App
-map_app = with_rule (with_rule (new_app (codes "map")) (file_rule (codes "HOST"))) libraries_rule
+-- a command that takes a host and libraries, as `NAME HOST [LIB]...`
+abbrev pub inputs_app : Text → App
+inputs_app name = with_rule (with_rule (new_app name) (file_rule (codes "HOST"))) libraries_rule
 
--- `show FILE`
+-- `--references`
+abbrev pub references_rule : Rule
+references_rule = record (new_rule (codes "references")) { long = Some (codes "references"); action = Some SetTrue }
+
+-- `--json`
+abbrev pub json_rule : Rule
+json_rule = record (new_rule (codes "json")) { long = Some (codes "json"); action = Some SetTrue }
+
+-- `map [--references] [--json] HOST [LIB]...`
+abbrev pub map_app : App
+map_app = with_rule (with_rule (inputs_app (codes "map")) references_rule) json_rule
+
+-- `show [--json] FILE`
 abbrev pub show_app : App
-show_app = with_rule (new_app (codes "show")) (file_rule (codes "FILE"))
+show_app = with_rule (with_rule (new_app (codes "show")) (file_rule (codes "FILE"))) json_rule
 
 -- `--strict`
 abbrev pub strict_rule : Rule
 strict_rule = record (new_rule (codes "strict")) { long = Some (codes "strict"); action = Some SetTrue }
 
--- `check [--strict] HOST [LIB]...`
+-- `--unit`
+abbrev pub unit_rule : Rule
+unit_rule = record (new_rule (codes "unit")) { long = Some (codes "unit"); action = Some SetTrue }
+
+-- `check [--strict] [--unit] [--json] HOST [LIB]...`
 abbrev pub check_app : App
-check_app = with_rule (with_rule (with_rule (new_app (codes "check")) (file_rule (codes "HOST"))) libraries_rule) strict_rule
+check_app = with_rule (with_rule (with_rule (inputs_app (codes "check")) strict_rule) unit_rule) json_rule
+
+-- files, of which at least one has to be named
+abbrev pub files_rule : Rule
+files_rule = record (new_rule (codes "FILE")) { required = true; action = Some Append }
+
+-- `list [--json] FILE...`
+abbrev pub list_app : App
+list_app = with_rule (with_rule (new_app (codes "list")) files_rule) json_rule
 
 -- `pslink`, of which a command is required
 abbrev pub bare_app : App
@@ -40,9 +64,9 @@ bare_app = record (new_app (codes "pslink")) {
   top = record (new_app (codes "pslink")).top { has_version = true; subcommand_required = true };
 }
 
--- `pslink` with its four commands
+-- `pslink` with its five commands
 abbrev pub pslink_app : App
-pslink_app = with_subcommand (with_subcommand (with_subcommand (with_subcommand bare_app link_app.top) map_app.top) show_app.top) check_app.top
+pslink_app = with_subcommand (with_subcommand (with_subcommand (with_subcommand (with_subcommand bare_app link_app.top) map_app.top) show_app.top) check_app.top) list_app.top
 
 -- the texts of arguments
 abbrev pub texts : List (Bor Text) → List Text

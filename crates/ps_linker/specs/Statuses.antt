@@ -11,7 +11,7 @@ use Rattle.ps_linkfile.specs.declared.error.LinkError.TheVariants as link
 abbrev pub status_of : CommandError → ℕ
 status_of (error.Refused fault) = 1
 status_of (error.Usage text) = 2
-status_of error.NotText = 2
+status_of (error.NotText argument) = 2
 status_of (error.Read path cause) = 3
 status_of (error.Unreadable path cause) = 3
 status_of (error.TooLong path) = 3

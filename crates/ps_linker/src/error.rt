@@ -23,6 +23,8 @@ pub enum Cause {
     Missing,
     Folder,
     Forbidden,
+    /// Memory for its bytes, or for what is said of it, was refused.
+    Memory,
     Other,
 }
 
@@ -45,8 +47,24 @@ impl fmt::Display for Cause {
             Cause::Missing => "no such file",
             Cause::Folder => "a folder",
             Cause::Forbidden => "no permission",
+            Cause::Memory => "out of memory",
             Cause::Other => "the system gives another reason",
         })
+    }
+}
+
+/// The first argument that is not UTF-8, counted as a shell's `$1`, so that 0 is the program's name;
+/// none where that is not known. Its text is the end of the line that reports it.
+/// Source: this project's profile.
+#[derive(Clone, Copy, Debug, PartialEq, Eq)]
+pub struct WrongArgument(pub Option<usize>);
+
+impl fmt::Display for WrongArgument {
+    fn fmt<W: fmt::Write>(&self, f: &mut Formatter<W>) -> fmt::Result {
+        match self.0 {
+            Some(number) => write!(f, ", and argument {number} is not"),
+            None => Ok(()),
+        }
     }
 }
 
@@ -61,8 +79,8 @@ pub enum CommandError<'a> {
     #[error("{0}")]
     Usage(clap::Error),
     /// An argument of the command line is not UTF-8.
-    #[error("pslink: the arguments of a command are UTF-8")]
-    NotText,
+    #[error("pslink: the arguments of a command are UTF-8{0}")]
+    NotText(WrongArgument),
     #[error("pslink: cannot read {}", ShownPath(.path))]
     Read { path: &'a str, cause: Cause },
     /// The same where the cause is named too.
@@ -139,6 +157,22 @@ impl<'a> CommandError<'a> {
         }
     }
 
+    /// The same of the file at `path` alone, which cannot be read; any other reason than the
+    /// system's or its length is want of memory.
+    /// Source: this project's profile.
+    pub fn of_file(self, path: &'a str) -> CommandError<'a>
+        ensures { status_of result ≡ 3 }
+    {
+        match self {
+            CommandError::Read { path, cause } => CommandError::Unreadable { path, cause },
+            CommandError::TooLong { path } => CommandError::TooLong { path },
+            _ => CommandError::Unreadable {
+                path,
+                cause: Cause::Memory,
+            },
+        }
+    }
+
     /// What the process ends with.
     /// Source: this project's profile.
     pub fn status(&self) -> u8
@@ -146,7 +180,7 @@ impl<'a> CommandError<'a> {
     {
         match self {
             CommandError::Refused(_) => 1,
-            CommandError::Usage(_) | CommandError::NotText => 2,
+            CommandError::Usage(_) | CommandError::NotText(_) => 2,
             CommandError::Read { .. }
             | CommandError::Unreadable { .. }
             | CommandError::TooLong { .. }

@@ -8,23 +8,25 @@ ghost use Rattle.std.specs.Process.{exit_status};
 ghost use Rattle.ps_linker.specs.CommandLine.{AreAccepted, named_in};
 ghost use Rattle.ps_linker.specs.Printed.{Prints};
 ghost use Rattle.ps_linker.specs.Reading.{Reads, Writes};
-ghost use Rattle.ps_linker.specs.Requests.{NamesCheck, WritesLibrary};
+ghost use Rattle.ps_linker.specs.Requests.{NamesCheck, NamesList, WritesLibrary};
 
 mod error;
 mod files;
+mod lists;
 mod output;
 mod request;
 mod running;
 #[cfg(test)]
 mod tests;
 
-use error::CommandError;
+use error::{CommandError, WrongArgument};
 use files::CodeFiles;
 pub use running::run;
 use std::alloc::Global;
 use std::env;
 use std::io::{ErrorKind, Stderr, Stdout, Write};
 use std::process::ExitCode;
+use std::rt::Env;
 
 fn main(rt: HostRuntime) -> ExitCode {
     run_process::<Stdout, Stderr>(&rt, &mut rt.stdout(), &mut rt.stderr())
@@ -34,7 +36,7 @@ fn main(rt: HostRuntime) -> ExitCode {
 fn run_process<O: Write, E: Write>(rt: &HostRuntime, out: &mut O, err: &mut E) -> ExitCode
     ensures known { exit_status result ≤ 4 }
     ensures silent { exit_status result ≡ 0 → err.new ≡ err.old }
-    // Status 1 leaves anything there only if the report of a check names the refusal.
+    // Status 1 leaves anything there only if the report of a check or a list names the refusal.
     ensures unprinted { exit_status result ≢ 0 → exit_status result ≢ 1 → exit_status result ≢ 3
         → out.new ≡ out.old }
 {
@@ -46,23 +48,43 @@ fn run_process<O: Write, E: Write>(rt: &HostRuntime, out: &mut O, err: &mut E) -
 
 /// The arguments of the command line, the program's name first.
 fn given_args(rt: &HostRuntime) -> Result<Vec<String>, CommandError<'static>>
-    ensures { IfErr result (λ e. (e ≡ CommandError.Memory) ⊎ (e ≡ CommandError.NotText)) }
+    ensures { IfErr result (λ e. (e ≡ CommandError.Memory)
+        ⊎ ((argument : WrongArgument) × (e ≡ CommandError.NotText argument))) }
 {
     match env::args(rt) {
         Ok(args) => Ok(args.collect(rt.alloc())?),
-        Err(error) => Err(args_fault(error.kind())),
+        Err(error) => Err(args_fault(error.kind(), wrong_argument(rt))),
     }
 }
 
+/// The longest argument that is read to find one that is not UTF-8, in bytes: as long as Linux takes
+/// any.
+const LONGEST_ARGUMENT: usize = 131_072;
+
+/// The first argument that is not UTF-8; none where one before it is too long to be read.
+fn wrong_argument<R: Env>(rt: &R) -> WrongArgument {
+    let mut room = [0u8; LONGEST_ARGUMENT];
+    for number in 0..usize::MAX {
+        let Ok(length) = rt.arg(number, &mut room) else {
+            return WrongArgument(None);
+        };
+        let argument = room.get(..length).unwrap_or(&[]);
+        if str::from_utf8(argument).is_err() {
+            return WrongArgument(Some(number));
+        }
+    }
+    WrongArgument(None)
+}
+
 /// Why there are no arguments, by the kind of the error that reading them gave.
-fn args_fault(kind: ErrorKind) -> CommandError<'static>
+fn args_fault(kind: ErrorKind, argument: WrongArgument) -> CommandError<'static>
     ensures memory { kind ≡ ErrorKind.OutOfMemory → result ≡ CommandError.Memory }
-    ensures text { kind ≢ ErrorKind.OutOfMemory → result ≡ CommandError.NotText }
-    ensures either { (result ≡ CommandError.Memory) ⊎ (result ≡ CommandError.NotText) }
+    ensures text { kind ≢ ErrorKind.OutOfMemory → result ≡ CommandError.NotText argument }
+    ensures either { (result ≡ CommandError.Memory) ⊎ (result ≡ CommandError.NotText argument) }
 {
     match kind {
         ErrorKind::OutOfMemory => CommandError::Memory,
-        _ => CommandError::NotText,
+        _ => CommandError::NotText(argument),
     }
 }
 
@@ -90,7 +112,8 @@ fn run_args<R: CodeFiles + AllocGlobal, O: Write, E: Write>(
         → WritesLibrary (named_in (map string_bytes given.now)) }
     ensures unprinted { exit_status result ≢ 0 → exit_status result ≢ 3
         → (out.new ≡ out.old)
-        ⊎ ((exit_status result ≡ 1) × NamesCheck (named_in (map string_bytes given.now))) }
+        ⊎ ((exit_status result ≡ 1) × (NamesCheck (named_in (map string_bytes given.now))
+        ⊎ NamesList (named_in (map string_bytes given.now)))) }
 {
     match slices(rt.alloc(), given) {
         Ok(args) => ExitCode::from(run(rt, rt.alloc(), args.as_slice(), out, err)),

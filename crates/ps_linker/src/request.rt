@@ -2,8 +2,8 @@
 ghost use Rattle.std.specs.Prelude.{◌≡◌, ◌≢◌, ◌⊎◌, IfErr, IfOk, Some, None, codes, map, false};
 ghost use Rattle.clap.specs.Words.{App, app_of, first_of, found_of, kind_of, rows_of, rule_of, subcommand_rows_of, with_subcommand};
 ghost use Rattle.clap.specs.declared.Command.TheViews.{out-Command};
-ghost use Rattle.ps_linker.specs.CommandLine.{AreAccepted, check_app, file_rule, libraries_rule, link_app, map_app, named_in, pslink_app, show_app, strict_rule, texts};
-ghost use Rattle.ps_linker.specs.Requests.{IsAsked, IsNamedCommand, LeavesOut, NamesInputs, WritesLibrary, is_strict as is_strict_spec, libraries_of};
+ghost use Rattle.ps_linker.specs.CommandLine.{AreAccepted, check_app, file_rule, files_rule, inputs_app, json_rule, libraries_rule, link_app, list_app, map_app, named_in, pslink_app, references_rule, show_app, strict_rule, texts, unit_rule};
+ghost use Rattle.ps_linker.specs.Requests.{IsAsked, IsNamedCommand, LeavesOut, NamesInputs, WritesLibrary, files_of, has_flag as has_flag_spec, libraries_of};
 ghost use Rattle.ps_linker.specs.Statuses.{status_of};
 
 use crate::error::CommandError;
@@ -50,6 +50,10 @@ A name that begins with a dash is given as ./-name, or after --. See pslink(1)."
 const MAP_ENDING: &str = "Example:
   pslink map host.code library.code
 
+With --references a line follows for each place at which the link stores bytes: its
+offset in the code and in the linked file, the bytes there before and after the link,
+and the record. With --json the same values are printed as one JSON document.
+
 Exit status:
   0  the map was printed
   1  the files are refused
@@ -62,6 +66,8 @@ A name that begins with a dash is given as ./-name, or after --. See pslink(1)."
 /// What the help of `show` ends with.
 const SHOW_ENDING: &str = "Example:
   pslink show library.code
+
+With --json the same values are printed as one JSON document.
 
 Exit status:
   0  the segments were printed
@@ -78,11 +84,36 @@ const CHECK_ENDING: &str = "Example:
 
 The report is for a person: the files, where each segment comes from, whether they
 are linked, and if not what is wrong and what to do. A line that begins with
-'warning: ' reports what looks wrong and is no fault. No file is written.
+'warning: ' reports what looks wrong and is no fault. No file is written. With --json
+the verdict, the warnings and the report are printed as one JSON document.
+
+With --unit the files are listed as by list, and after the lines of each file comes a
+line of each unit that it has, with its first fault in a link with a host that would
+define each name: so a unit can be checked before there is a host. The other options
+then change nothing, and a file without a unit is refused.
 
 Exit status:
   0  the files link, and there may be warnings
   1  the files are refused; with --strict, or there is a warning
+  2  wrong usage
+  3  a file could not be read, or standard output failed
+  4  out of memory
+
+A name that begins with a dash is given as ./-name, or after --. See pslink(1).";
+
+/// What the help of `list` ends with.
+const LIST_ENDING: &str = "Example:
+  pslink list *.code | grep 'uses AUX'
+
+Each line begins with the name of its file: first a line of the file, and then one
+for each of its segments. A segment whose code, procedure tables or link information
+are refused ends with the number of the fault. A file that can't be read is reported,
+and those after it are listed. With --json the same values are printed as one JSON
+document.
+
+Exit status, the greatest that applies:
+  0  all files were listed
+  1  a file or a segment is refused
   2  wrong usage
   3  a file could not be read, or standard output failed
   4  out of memory
@@ -96,14 +127,37 @@ pub enum Request<'a, A: Allocator> {
     /// Prints the help or the version.
     Text(clap::Error),
     /// Links the inputs, and writes the linked file to `out`.
-    Link { inputs: Inputs<'a, A>, out: &'a str },
-    /// Prints the map of a link of the inputs.
-    Map { inputs: Inputs<'a, A> },
-    /// Prints what `file` has.
-    Show { file: &'a str },
-    /// Prints the report of a check of the inputs; if it is `strict`, a warning is reported by the
-    /// status too.
-    Check { inputs: Inputs<'a, A>, strict: bool },
+    Link {
+        inputs: Inputs<'a, A>,
+        out: &'a str,
+    },
+    /// Prints the map of a link of the inputs, and with `references` what the link stores; with
+    /// `json` as JSON.
+    Map {
+        inputs: Inputs<'a, A>,
+        references: bool,
+        json: bool,
+    },
+    /// Prints what `file` has, with `json` as JSON.
+    Show {
+        file: &'a str,
+        json: bool,
+    },
+    /// Prints the report of a check of the inputs, with `json` as JSON; if it is `strict`, a
+    /// warning is reported by the status too. With `unit` a list of each of the inputs, with its
+    /// units by themselves, and neither a report nor JSON.
+    Check {
+        inputs: Inputs<'a, A>,
+        strict: bool,
+        unit: bool,
+        json: bool,
+    },
+    /// Prints a line of each of these files and of each of its segments, or the same with `json` as
+    /// JSON.
+    List {
+        files: Vec<&'a str, A>,
+        json: bool,
+    },
 }
 
 /// The paths of a host and of the libraries, in the order in which units are looked up in them.
@@ -167,6 +221,7 @@ fn request_of<'a, A: Allocator + Copy>(
         Some(("map", found)) => map_of(heap, alloc, found),
         Some(("show", found)) => show_of(heap, found),
         Some(("check", found)) => check_of(heap, alloc, found),
+        Some(("list", found)) => list_of(alloc, found),
         _ => Err(missing_argument(heap)),
     }
 }
@@ -201,7 +256,13 @@ fn map_of<'a, A: Allocator + Copy>(
         → LeavesOut (Some (codes "map", rows_of (found_of found.now)))) }
 {
     let inputs = inputs_of(heap, alloc, found)?;
-    Ok(Request::Map { inputs })
+    let references = has_flag(found, "references");
+    let json = has_flag(found, "json");
+    Ok(Request::Map {
+        inputs,
+        references,
+        json,
+    })
 }
 
 fn show_of<'a, A: Allocator + Copy>(
@@ -214,7 +275,8 @@ fn show_of<'a, A: Allocator + Copy>(
         → LeavesOut (Some (codes "show", rows_of (found_of found.now)))) }
 {
     let file = file_of(heap, found, "FILE")?;
-    Ok(Request::Show { file })
+    let json = has_flag(found, "json");
+    Ok(Request::Show { file, json })
 }
 
 fn check_of<'a, A: Allocator + Copy>(
@@ -228,15 +290,35 @@ fn check_of<'a, A: Allocator + Copy>(
         → LeavesOut (Some (codes "check", rows_of (found_of found.now)))) }
 {
     let inputs = inputs_of(heap, alloc, found)?;
-    let strict = is_strict(found);
-    Ok(Request::Check { inputs, strict })
+    let strict = has_flag(found, "strict");
+    let unit = has_flag(found, "unit");
+    let json = has_flag(found, "json");
+    Ok(Request::Check {
+        inputs,
+        strict,
+        unit,
+        json,
+    })
 }
 
-/// The flag `--strict` is given.
-fn is_strict(found: &ArgMatches<'_>) -> bool
-    ensures { result ≡ is_strict_spec (rows_of (found_of found.now)) }
+fn list_of<'a, A: Allocator + Copy>(
+    alloc: A,
+    found: &ArgMatches<'a>,
+) -> Result<Request<'a, A>, CommandError<'a>>
+    ensures named { IfOk result (λ r. IsNamedCommand r
+        (Some (codes "list", rows_of (found_of found.now)))) }
+    ensures refused { IfErr result (λ e. e ≡ CommandError.Memory) }
 {
-    match found.get_str("strict") {
+    let files = files(alloc, found)?;
+    let json = has_flag(found, "json");
+    Ok(Request::List { files, json })
+}
+
+/// The flag of this name is given.
+fn has_flag(found: &ArgMatches<'_>, name: &str) -> bool
+    ensures { result ≡ has_flag_spec name.now (rows_of (found_of found.now)) }
+{
+    match found.get_str(name) {
         Some(value) => value == "true",
         None => false,
     }
@@ -320,6 +402,19 @@ fn libraries<'a, A: Allocator + Copy>(
     }
 }
 
+fn files<'a, A: Allocator + Copy>(
+    alloc: A,
+    found: &ArgMatches<'a>,
+) -> Result<Vec<&'a str, A>, AllocError>
+    ensures { IfOk result (λ paths. map (λ path. path.now) paths.items
+        ≡ files_of (rows_of (found_of found.now))) }
+{
+    match found.get_strs("FILE") {
+        Some(paths) => Vec::from_slice(alloc, paths),
+        None => Ok(Vec::new(alloc)),
+    }
+}
+
 /// What the command line accepts.
 fn command<'a>(heap: Global) -> Result<Command<'a>, AllocError>
     ensures { IfOk result (λ c. app_of c ≡ pslink_app) }
@@ -332,7 +427,8 @@ fn command<'a>(heap: Global) -> Result<Command<'a>, AllocError>
     let with_link = with_command(app, link_command(heap))?;
     let with_map = with_command(with_link, map_command(heap))?;
     let with_show = with_command(with_map, show_command(heap))?;
-    with_command(with_show, check_command(heap))
+    let with_check = with_command(with_show, check_command(heap))?;
+    with_command(with_check, list_command(heap))
 }
 
 /// Adds a command, for which there is memory or not.
@@ -358,14 +454,24 @@ fn link_command<'a>(heap: Global) -> Result<Command<'a>, AllocError>
         .arg(libraries_argument(heap))
 }
 
+/// A command of this name, which takes a host and libraries.
+fn inputs_command<'a>(heap: Global, name: &'a str) -> Result<Command<'a>, AllocError>
+    ensures { IfOk result (λ c. (app_of c ≡ inputs_app name.entry.now)
+        × ((out-Command c).has_globals ≡ false)) }
+{
+    Command::new(heap, name)
+        .arg(file(heap, "HOST", "The code file that holds the host program"))?
+        .arg(libraries_argument(heap))
+}
+
 fn map_command<'a>(heap: Global) -> Result<Command<'a>, AllocError>
     ensures { IfOk result (λ c. (app_of c ≡ map_app) × ((out-Command c).has_globals ≡ false)) }
 {
-    Command::new(heap, "map")
+    inputs_command(heap, "map")?
         .about("Prints where a link would put each segment and private, and writes no file")
         .after_help(MAP_ENDING)
-        .arg(file(heap, "HOST", "The code file that holds the host program"))?
-        .arg(libraries_argument(heap))
+        .arg(references_argument(heap))?
+        .arg(json_argument(heap))
 }
 
 fn show_command<'a>(heap: Global) -> Result<Command<'a>, AllocError>
@@ -378,18 +484,29 @@ fn show_command<'a>(heap: Global) -> Result<Command<'a>, AllocError>
             heap,
             "FILE",
             "The code file to show: a host, a library, or a linked file",
-        ))
+        ))?
+        .arg(json_argument(heap))
 }
 
 fn check_command<'a>(heap: Global) -> Result<Command<'a>, AllocError>
     ensures { IfOk result (λ c. (app_of c ≡ check_app) × ((out-Command c).has_globals ≡ false)) }
 {
-    Command::new(heap, "check")
+    inputs_command(heap, "check")?
         .about("Says in words what is wrong with the files and what only looks right")
         .after_help(CHECK_ENDING)
-        .arg(file(heap, "HOST", "The code file that holds the host program"))?
-        .arg(libraries_argument(heap))?
-        .arg(strict_argument(heap))
+        .arg(strict_argument(heap))?
+        .arg(unit_argument(heap))?
+        .arg(json_argument(heap))
+}
+
+fn list_command<'a>(heap: Global) -> Result<Command<'a>, AllocError>
+    ensures { IfOk result (λ c. (app_of c ≡ list_app) × ((out-Command c).has_globals ≡ false)) }
+{
+    Command::new(heap, "list")
+        .about("Prints a line of each file and of each of its segments, made for grep")
+        .after_help(LIST_ENDING)
+        .arg(files_argument(heap))?
+        .arg(json_argument(heap))
 }
 
 fn file<'a>(heap: Global, name: &'a str, help: &'a str) -> Arg<'a>
@@ -411,6 +528,16 @@ fn libraries_argument<'a>(heap: Global) -> Arg<'a>
         .help("A library to search for units, in the order given")
 }
 
+fn files_argument<'a>(heap: Global) -> Arg<'a>
+    ensures rule { rule_of result ≡ files_rule }
+    ensures global { result.global ≡ false }
+{
+    Arg::new(heap, "FILE")
+        .required(true)
+        .action(ArgAction::Append)
+        .help("A file of any kind, as a host, a library, or a linked file")
+}
+
 fn strict_argument<'a>(heap: Global) -> Arg<'a>
     ensures rule { rule_of result ≡ strict_rule }
     ensures global { result.global ≡ false }
@@ -419,4 +546,34 @@ fn strict_argument<'a>(heap: Global) -> Arg<'a>
         .long("strict")
         .action(ArgAction::SetTrue)
         .help("Ends with status 1 on a warning too")
+}
+
+fn unit_argument<'a>(heap: Global) -> Arg<'a>
+    ensures rule { rule_of result ≡ unit_rule }
+    ensures global { result.global ≡ false }
+{
+    Arg::new(heap, "unit")
+        .long("unit")
+        .action(ArgAction::SetTrue)
+        .help("Lists each file, and what refuses each of its units by itself")
+}
+
+fn references_argument<'a>(heap: Global) -> Arg<'a>
+    ensures rule { rule_of result ≡ references_rule }
+    ensures global { result.global ≡ false }
+{
+    Arg::new(heap, "references")
+        .long("references")
+        .action(ArgAction::SetTrue)
+        .help("Prints what the link stores at each place, too")
+}
+
+fn json_argument<'a>(heap: Global) -> Arg<'a>
+    ensures rule { rule_of result ≡ json_rule }
+    ensures global { result.global ≡ false }
+{
+    Arg::new(heap, "json")
+        .long("json")
+        .action(ArgAction::SetTrue)
+        .help("Prints the same values as one JSON document")
 }

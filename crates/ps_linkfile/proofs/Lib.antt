@@ -14,3 +14,8 @@ pub mod ReferenceText
 pub mod Written
 pub mod Sending
 pub mod ShownNames
+pub mod Filling
+pub mod Listings
+pub mod Numbered
+pub mod MapsJson
+pub mod ShowsJson

@@ -24,7 +24,7 @@ use Rattle.ps_linkfile.specs.Writing.{extent_of_origin, extents_in, padded_codes
 use Rattle.ps_linkfile.proofs.Slots.{extent_at, segments_ascend, segments_small}
 
 -- extents of segments, of segments with their edits, and of a plan's origins
-of_origins : (ss : List Segment) → map extent_of_origin (map origin_of ss) ≡ map extent_at ss
+pub of_origins : (ss : List Segment) → map extent_of_origin (map origin_of ss) ≡ map extent_at ss
 of_origins [] = refl
 of_origins (s ∷ ss) = ap (λ (cs : List Extent). extent_at s ∷ cs) (of_origins ss)
 

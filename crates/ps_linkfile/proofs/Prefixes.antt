@@ -1,10 +1,10 @@
 -- Prefixes of what is to be written, and lists that are a function of their places.
-use Rattle.std.proofs.Common.{◌≡◌, ℕ, zero, suc, ◌+◌, ◌-◌, ◌*◌, ◌<◌, List, [], ◌∷◌, ◌++◌, length, take, drop, map, get_or, set, Option, Some, None, Result, Ok, Err, OnErr, refl, sym, ◌∙◌, ap, subst, append_assoc, arith, length-drop}
-use Rattle.std.proofs.lemmas.List.{append-nil, flat_map_more, take_all, take-append-drop, take_more_set, ext_get_or}
+use Rattle.std.proofs.Common.{◌≡◌, ℕ, zero, suc, ◌+◌, ◌-◌, ◌<◌, List, [], ◌∷◌, ◌++◌, length, take, drop, map, get_or, Option, Some, None, Result, Ok, Err, OnErr, refl, sym, ◌∙◌, ap, subst, append_assoc, arith, length-drop}
+use Rattle.std.proofs.lemmas.List.{append-nil, take_all, take-append-drop, ext_get_or}
 use Rattle.std.proofs.Math.Seq.{take-append_seam, take-add}
 use Rattle.std.proofs.lemmas.List.FromFn.{length-map-range_with_len, get_or-map-range_with_len}
 use Rattle.std.specs.Io.KnownBytes.{Appends}
-use Rattle.std.specs.List.{flat_map, range_with_len}
+use Rattle.std.specs.List.{range_with_len}
 use Rattle.ps_linkfile.specs.Outcomes.{AppendsPrefix}
 
 -- what stays as it was grew by nothing
@@ -62,13 +62,3 @@ image_split f a (suc m) n k b e g =
 pub on_err_always : {T E P : Type 0} (r : Result T E) → P → OnErr r P
 on_err_always (Ok x) p = tt
 on_err_always (Err e) p = p
-
--- places of so many whole blocks, and those of one block more
-pub image_more : (f : ℕ → ℕ) (xs : List (List ℕ)) (i : ℕ) (x : List ℕ) → i < length xs → flat_map (λ (ys : List ℕ). ys) (take i xs) ≡ map f (range_with_len 0 (512 * i)) → x ≡ map f (range_with_len (512 * i) 512)
-    → flat_map (λ (ys : List ℕ). ys) (take (i + 1) (set xs i x)) ≡ map f (range_with_len 0 (512 * (i + 1)))
-image_more f xs i x lt h k =
-    ap (λ (yss : List (List ℕ)). flat_map (λ (ys : List ℕ). ys) yss) (take_more_set xs i x lt)
-    ∙ (sym (flat_map_more (λ (ys : List ℕ). ys) [] (take i xs) x)
-    ∙ (ap (λ (ys : List ℕ). ys ++ x) h
-    ∙ (ap (λ (ys : List ℕ). map f (range_with_len 0 (512 * i)) ++ ys) k
-    ∙ sym (image_split f 0 (512 * i) 512 (512 * (i + 1)) (512 * i) (omega arith) (omega arith)))))

@@ -2,17 +2,13 @@
 use Rattle.std.proofs.Common.{◌≡◌, ℕ, ◌+◌, ◌-◌, ◌<◌, ◌≤◌, ◌++◌, List, ◌∷◌, length, take, drop, get_or, sym, ◌∙◌, ap, arith, add-one, refl}
 use Rattle.std.specs.Prelude.{decimal, min}
 use Rattle.std.specs.List.{flat_map}
-use Rattle.std.proofs.Math.Seq.{drop-cons}
 use Rattle.std.proofs.lemmas.Fmt.{length-decimal-le}
 use Rattle.std.proofs.lemmas.List.{length-drop, take_min}
 use Rattle.ps_linkfile.specs.ShowText.{reference}
+use Rattle.ps_resolve.proofs.Takes.{drop_one}
 
 pub digits_few : (n : ℕ) → n < 65536 → length (decimal n) ≤ 5
 digits_few n h = length-decimal-le 5 n (omega arith) (omega (arith, h)) (omega (arith, h))
-
--- the references from i on are the one there and those after it
-drop_one : (xs : List ℕ) (i : ℕ) → i < length xs → drop i xs ≡ get_or xs i 0 ∷ drop (i + 1) xs
-drop_one xs i h = rw (add-one, drop-cons xs i 0)
 
 take_one : (x : ℕ) (xs : List ℕ) (n : ℕ) → take (n + 1) (x ∷ xs) ≡ x ∷ take n xs
 take_one x xs n = rw add-one refl

@@ -1,24 +1,16 @@
 -- Text that is gathered in front of a writer, and sent to it.
-use Rattle.std.proofs.Common.{◌≡◌, ℕ, List, [], ◌++◌, Bool, true, false, Option, Some, None, append_assoc, append-nil, sym, ◌∙◌, ap, subst}
+use Rattle.std.proofs.Common.{◌≡◌, ℕ, List, [], ◌++◌, true, false, Option, Some, None, append_assoc, append-nil, sym, ◌∙◌, ap, subst}
 use Rattle.std.specs.Prelude.{is_some}
 use Rattle.std.proofs.lemmas.Bool.{false≢true}
 use Rattle.std.specs.Io.KnownBytes.{Appends}
 use Rattle.ps_linkfile.specs.Adding.{IsSent, IsKept}
 use Rattle.ps_linkfile.specs.Outcomes.{AppendsPrefix}
 use Rattle.ps_linkfile.specs.declared.error.WriteFault.{WriteFault}
-use Rattle.ps_linkfile.proofs.Prefixes.{appends_none, appends_twice, prefix_last, prefix_then}
+use Rattle.ps_linkfile.proofs.Prefixes.{appends_twice, prefix_last, prefix_then}
 
 -- of what was gathered and of these bytes, some was sent, and the rest is gathered
 abbrev pub Sends : Option (List ℕ) → Option (List ℕ) → List ℕ → List ℕ → List ℕ → Type 0
 Sends old new gathered bytes rest = (sent : List ℕ) × Appends old new sent × (sent ++ rest ≡ gathered ++ bytes)
-
--- nothing is sent where all is gathered
-pub sends_none : (w : Option (List ℕ)) (gathered bytes rest : List ℕ) → rest ≡ gathered ++ bytes → Sends w w gathered bytes rest
-sends_none w gathered bytes rest e = ([], appends_none w, e)
-
--- what was gathered is sent, and the bytes are gathered in its place
-pub sends_gathered : (a b : Option (List ℕ)) (gathered bytes none rest : List ℕ) → Appends a b gathered → none ≡ [] → rest ≡ none ++ bytes → Sends a b gathered bytes rest
-sends_gathered a b gathered bytes none rest h e k = (gathered, h, ap (λ (xs : List ℕ). gathered ++ xs) (k ∙ ap (λ (xs : List ℕ). xs ++ bytes) e))
 
 -- both are sent
 pub sends_both : (a b c : Option (List ℕ)) (gathered bytes none : List ℕ) → Appends a b gathered → none ≡ [] → Appends b c bytes → Sends a c gathered bytes none

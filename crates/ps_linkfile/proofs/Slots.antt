@@ -1,5 +1,5 @@
 -- The segments of a link are by slot, and no code is longer than 32767 bytes.
-use Rattle.std.proofs.Common.{◌≡◌, ℕ, ◌+◌, ◌<◌, ◌≤◌, List, [], ◌∷◌, length, map, sym, subst, inl, inr, arith}
+use Rattle.std.proofs.Common.{ℕ, ◌+◌, ◌<◌, ◌≤◌, List, [], ◌∷◌, length, map, sym, subst, inl, inr, arith}
 use Rattle.std.specs.Prelude.{All, ⊤}
 use Rattle.std.proofs.lemmas.List.Elements.{All-map, All-tail}
 use Rattle.ps_words.specs.declared.order.Order.{Order}

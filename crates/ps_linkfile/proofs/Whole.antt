@@ -2,7 +2,7 @@
 use Rattle.std.proofs.Common.{◌≡◌, ℕ, ◌+◌, ◌-◌, ◌*◌, ◌≤◌, ◌<◌, List, [], ◌∷◌, ◌++◌, length, map, get_or, take, drop, replicate, Option, Some, None, Result, Err, Bool, true, false, cond, refl, sym, ◌∙◌, ap, subst, inl, inr, arith, append_assoc, length-append, length-take, length-drop}
 use Rattle.std.specs.Prelude.{All, nat_lt, slice_range}
 use Rattle.std.specs.List.{flat_map}
-use Rattle.std.specs.Option.{option_or, option_map}
+use Rattle.std.specs.Option.{option_map}
 use Rattle.std.specs.Result.{result_err}
 use Rattle.std.proofs.lemmas.Bool.{cases_lt, ltb-false, le-ltb}
 use Rattle.std.proofs.lemmas.Bool.Decides.{nat_tests}
@@ -38,6 +38,7 @@ use Rattle.ps_linkfile.proofs.Extents.{Left, left_start, left_more, first_block,
 use Rattle.ps_linkfile.proofs.Pairs.{pair_four, pairs_at, pairs_len, pairs_are}
 use Rattle.ps_linkfile.proofs.Prefixes.{image_is}
 use Rattle.ps_linkfile.proofs.Plans.{extent_of_edited, extents_ascend, edited_extents, of_all_edited, to_all_edited}
+use Rattle.ps_resolve.proofs.FirstSlots.{neither_first}
 
 -- a part of a list, by its places
 part_at : (xs ys : List ℕ) (a b j : ℕ) → slice_range xs a b ≡ ys → j < b - a → get_or xs (a + j) 0 ≡ get_or ys j 0
@@ -157,11 +158,6 @@ codes_laid order prefix block (e ∷ es) len =
           (codes_laid order (prefix ++ code) (block + n) es (length-append prefix code ∙ omega (arith, len, padded_len order e))),
     )
 
--- a host whose first fault is none has its dictionary whole
-none_first : {X : Type 0} (a b : Option X) → option_or a b ≡ None → a ≡ None
-none_first None b h = refl
-none_first (Some x) b h = cc
-
 whole_test : (short : Bool) (of : Result OpenedFile Reason) → option_map (in_file 0) (result_err (cond short (Err reason.ShortFile) of)) ≡ None → short ≡ false
 whole_test true of h = cc
 whole_test false of h = refl
@@ -171,11 +167,11 @@ whole_host host h = ltb-false (length host) 512 (whole_test (nat_lt (length host
 
 host_first : (host : List ℕ) (libs : List (List ℕ)) → reading_fault host libs ≡ None → host_fault host ≡ None
 unfolding reading_fault
-host_first host libs h = none_first (host_fault host) _ h
+host_first host libs h = neither_first (host_fault host) _ h
 
 pub reading_first : (host : List ℕ) (libs : List (List ℕ)) → first_fault host libs ≡ None → reading_fault host libs ≡ None
 unfolding first_fault
-reading_first host libs h = none_first (reading_fault host libs) _ h
+reading_first host libs h = neither_first (reading_fault host libs) _ h
 
 pub long_host : (host : List ℕ) (libs : List (List ℕ)) → first_fault host libs ≡ None → 512 ≤ length host
 long_host host libs h = whole_host host (host_first host libs (reading_first host libs h))

@@ -4,6 +4,12 @@ pub mod Outcomes
 pub mod Counts
 pub mod Told
 pub mod Lines
+pub mod JsonText
+pub mod MapJson
+pub mod ShowJson
 pub mod MapText
 pub mod ShowText
 pub mod Adding
+pub mod ReferencesText
+pub mod Listing
+pub mod ReferencesJson

@@ -3,16 +3,23 @@
 #![tactic(auto)]
 
 mod block_layout;
+mod cause;
 mod counts;
 mod dictionary;
 mod error;
 mod in_memory;
+mod json;
 mod lines;
 mod linked;
 mod linked_file_law;
+mod listing;
 mod map;
+mod map_json;
 mod pieces;
+mod references;
+mod references_json;
 mod show;
+mod show_json;
 mod stream;
 mod summary;
 mod text_writer;
@@ -21,9 +28,14 @@ mod write_counter;
 mod writing;
 
 pub use error::{LinkError, WriteFault};
+pub use lines::{add_number, add_slot_name, shown_codes};
 pub use linked::{Linked, link, prepare};
 pub use linked_file_law::linked_file_is_one;
 pub use map::map_text;
+pub use references::{ReferenceMap, prepare_references};
 pub use show::{show_text, write_show};
+pub use show_json::write_show_json;
+pub use stream::write_text;
 pub use summary::Summary;
+pub use text_writer::{Text, TextWriter};
 pub use told::{Counting, ToldWriter};

@@ -8,8 +8,9 @@ use itoa::{Buffer, Integer};
 use ps_words::{Name, Reason};
 
 /// Adds a number after this text.
+/// Source: this project's profile.
 #[inline(always)]
-pub(crate) fn add_number<S: TextWriter, I: Integer>(text: &mut S, before: &[u8], number: I)
+pub fn add_number<S: TextWriter, I: Integer>(text: &mut S, before: &[u8], number: I)
     ensures { Adds S.added text.old (before.now ++ I.text number) text.new }
 {
     text.add(before);
@@ -18,7 +19,7 @@ pub(crate) fn add_number<S: TextWriter, I: Integer>(text: &mut S, before: &[u8],
 
 /// A byte of a name as a line shows it: itself where ASCII prints it, and otherwise a question
 /// mark.
-fn shown_code(byte: u8) -> u8
+pub(crate) fn shown_code(byte: u8) -> u8
     ensures { result ≡ shown_byte byte }
 {
     match byte {
@@ -27,8 +28,10 @@ fn shown_code(byte: u8) -> u8
     }
 }
 
-/// A name as a line shows it, in eight characters.
-pub(crate) fn shown_codes(name: Name) -> [u8; 8]
+/// A name as a line shows it, in eight characters: a byte that ASCII does not print is a question
+/// mark.
+/// Source: this project's profile.
+pub fn shown_codes(name: Name) -> [u8; 8]
     ensures { result ≡ shown_name name }
 {
     let [a, b, c, d, e, f, g, h] = name;
@@ -52,7 +55,8 @@ pub(crate) fn two_digits(number: u8) -> [u8; 2]
 }
 
 /// Adds a slot, which is below 100, and a name after this text.
-pub(crate) fn add_slot_name<S: TextWriter>(text: &mut S, before: &[u8], slot: u8, name: Name)
+/// Source: this project's profile.
+pub fn add_slot_name<S: TextWriter>(text: &mut S, before: &[u8], slot: u8, name: Name)
     ensures { Adds S.added text.old
         (before.now ++ two_digits_spec slot ++ (32 ∷ []) ++ shown_name name) text.new }
 {

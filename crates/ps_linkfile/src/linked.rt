@@ -1,11 +1,13 @@
 ghost use Rattle.std.specs.Prelude.{◌≡◌, ◌≤◌, ◌+◌, ◌*◌, length, IfOk, IfErr, OnOk, OnErr};
 ghost use Rattle.ps_resolve.specs.Sources.{contents};
 ghost use Rattle.std.specs.Io.KnownBytes.{Appends};
+ghost use Rattle.ps_resolve.specs.Plans.{IsPlan};
 ghost use Rattle.ps_resolve.specs.Standing.{NoneStands};
 ghost use Rattle.ps_linkfile.specs.Adding.{Adds};
 ghost use Rattle.ps_linkfile.specs.LinkedFile.{summary_of};
+ghost use Rattle.ps_linkfile.specs.MapJson.{map_json_in, map_json_of};
 ghost use Rattle.ps_linkfile.specs.MapText.{map_in, map_of};
-ghost use Rattle.ps_linkfile.specs.Writing.{file_in, summary_in, StandsFor};
+ghost use Rattle.ps_linkfile.specs.Writing.{file_in, summary_in, IsReady, StandsFor};
 ghost use Rattle.ps_linkfile.specs.Outcomes.{AppendsPrefix, AppendsLinkedFile, HasUsedNumber, NamesFirst, IsUnprepared, IsUnlinked, LeavesUntouched, LeavesPrefix};
 ghost use Rattle.ps_linkfile.specs.Counts.{AreAtMost, IfDevice, IfStalled, NoneFailed, OneError, OneStall, RisesByBytes, RisesByPieces};
 
@@ -13,6 +15,7 @@ use crate::block_layout::lay_out;
 use crate::counts::Counts;
 use crate::error::{LinkError, WriteFault};
 use crate::map::{LinkMap, add_map};
+use crate::map_json::JsonMap;
 use crate::stream::write_text;
 use crate::summary::Summary;
 use crate::text_writer::TextWriter;
@@ -106,6 +109,14 @@ impl<'a, A: Allocator + Copy> Linked<'a, A> {
         Ok(self.summary())
     }
 
+    /// The plan of the link.
+    pub(crate) fn plan(&self) -> &Plan<'a, A>
+        ensures plan { result.now ≡ self.now }
+        ensures ready { IsReady result.now }
+    {
+        &self.plan
+    }
+
     /// Adds the map of the link.
     pub(crate) fn add_map<S: TextWriter>(&self, text: &mut S)
         ensures { Adds S.added text.old (map_in self.now) text.new }
@@ -126,6 +137,21 @@ impl<'a, A: Allocator + Copy> Linked<'a, A> {
     {
         write_text(&LinkMap(self), out)
     }
+
+    /// Writes the map of the link as one JSON document, in pieces: the values of its lines, of each
+    /// name the eight characters and all its bytes in hexadecimal digits. It takes no memory.
+    ///
+    /// Refuses `Device` where a write returned an error, which is not repeated, and `Stalled` where
+    /// a write of at least one byte took none. The writer then has a prefix of the document.
+    /// Source: RFC 8259; the document is this project's profile.
+    pub fn write_map_json<W: Write>(&self, out: &mut W) -> Result<(), WriteFault>
+        ensures json { OnOk result (Appends (W.contents out.old) (W.contents out.new)
+            (map_json_in self.now)) }
+        ensures prefix { OnErr result (AppendsPrefix (W.contents out.old) (W.contents out.new)
+            (map_json_in self.now)) }
+    {
+        write_text(&JsonMap(self), out)
+    }
 }
 
 /// Checks a host and the libraries of its units, and prepares their linked file, which
@@ -142,6 +168,9 @@ pub fn prepare<'a, A: Allocator + Copy>(
 ) -> Result<Linked<'a, A>, LinkError>
     ensures linked { IfOk result (StandsFor host.now (contents libs.now)) }
     ensures map { IfOk result (λ linked. map_in linked ≡ map_of host.now (contents libs.now)) }
+    ensures json { IfOk result (λ linked. map_json_in linked
+        ≡ map_json_of host.now (contents libs.now)) }
+    ensures plan { IfOk result (IsPlan host.now (contents libs.now)) }
     ensures accepted { IfOk result (λ _. NoneStands host.now (contents libs.now)) }
     ensures error { IfErr result (IsUnprepared host.now (contents libs.now)) }
     ensures first { IfErr result (NamesFirst host.now (contents libs.now)) }

@@ -61,7 +61,7 @@ fn add_segments<A: Allocator + Copy, S: TextWriter>(
 }
 
 /// What the map calls a definition.
-fn kind_word(kind: DefKind) -> &'static [u8]
+pub(crate) fn kind_word(kind: DefKind) -> &'static [u8]
     ensures { result.now ≡ kind_word_spec kind }
 {
     match kind {

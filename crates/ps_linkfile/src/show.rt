@@ -37,9 +37,9 @@ fn file_fault(reason: Reason) -> Fault
 
 /// A file seen through its dictionary, and the byte order that its kind words show.
 #[derive(Drop)]
-struct ShownFile<'a> {
-    dict: Dict<'a>,
-    order: Option<Order>,
+pub(crate) struct ShownFile<'a> {
+    pub(crate) dict: Dict<'a>,
+    pub(crate) order: Option<Order>,
 }
 
 impl Text for ShownFile<'_> {
@@ -56,7 +56,7 @@ impl Text for ShownFile<'_> {
 
 /// The file that is shown. Where its kind words show no byte order, for all are 0, its words are
 /// read as little-endian.
-fn read(file: &[u8]) -> Result<ShownFile<'_>, Fault>
+pub(crate) fn read(file: &[u8]) -> Result<ShownFile<'_>, Fault>
     ensures order { IfOk result (λ shown. order_shown shown.order ≡ file_order file.now) }
     ensures dict { IfOk result (λ shown. shown.dict
         ≡ record { order = known_order (file_order file.now); file = file.now }) }
@@ -141,7 +141,7 @@ fn add_unit(dict: &Dict, names: &mut ArrayVec<Name, 16>, slot: u8)
 }
 
 /// The names of the units of a file, in place or wanted, by slot.
-fn unit_names(dict: &Dict) -> ArrayVec<Name, 16>
+pub(crate) fn unit_names(dict: &Dict) -> ArrayVec<Name, 16>
     ensures { result.items ≡ unit_names_spec dict.now.order dict.now.file }
 {
     let mut names: ArrayVec<Name, SLOT_COUNT> = ArrayVec::new();
@@ -152,7 +152,7 @@ fn unit_names(dict: &Dict) -> ArrayVec<Name, 16>
 }
 
 /// One of these units has the name.
-fn is_listed(units: &[Name], name: Name) -> bool
+pub(crate) fn is_listed(units: &[Name], name: Name) -> bool
     ensures { result ≡ is_listed_spec units.now name }
 {
     units.iter().any(|unit| *unit == name)
@@ -265,7 +265,7 @@ fn add_records<S: TextWriter>(text: &mut S, units: &[Name], order: Order, inform
 }
 
 /// The slot has a host segment or a unit, with a code in this file.
-fn has_links(dict: &Dict, slot: u8) -> bool
+pub(crate) fn has_links(dict: &Dict, slot: u8) -> bool
     requires { slot < 16 }
     ensures { result ≡ has_links_spec (entry_at dict.now.order dict.now.file slot) }
 {

@@ -75,8 +75,11 @@ impl<W: Write> TextWriter for Stream<'_, W> {
     }
 }
 
-/// Writes the text, in pieces.
-pub(crate) fn write_text<W: Write, T: Text>(text: &T, out: &mut W) -> Result<(), WriteFault>
+/// Writes the text, in pieces of at most 16384 bytes. It takes no memory.
+///
+/// Refused where the writer failed, which is not called again, and then has a prefix of the text.
+/// Source: this project's profile.
+pub fn write_text<W: Write, T: Text>(text: &T, out: &mut W) -> Result<(), WriteFault>
     ensures all { OnOk result (Appends (W.contents out.old) (W.contents out.new)
         (T.bytes text.now)) }
     ensures prefix { OnErr result (AppendsPrefix (W.contents out.old) (W.contents out.new)

@@ -4,7 +4,9 @@ ghost use Rattle.ps_linkfile.specs.Adding.{Adds};
 
 /// Takes text until it fails, and none from then on. So a text is added without a test at each of
 /// its pieces, and whether it was taken is known at the end.
-pub(crate) trait TextWriter {
+///
+/// Source: this project's profile.
+pub trait TextWriter {
     // This text was added to the writer as it was at first, and it is now as it is.
     ghost added: { Self → List ℕ → Self → Type 0 };
 
@@ -18,7 +20,9 @@ pub(crate) trait TextWriter {
 }
 
 /// What has a text.
-pub(crate) trait Text {
+///
+/// Source: this project's profile.
+pub trait Text {
     ghost bytes: { Self → List ℕ };
 
     /// Adds the text.

@@ -7,3 +7,4 @@ pub mod Walks
 pub mod Names
 pub mod Tallies
 pub mod Digests
+pub mod AtIndex

@@ -99,28 +99,28 @@ stops_reads order x (r ∷ rs) why h e b =
     (stops_reads order (drop (size_of r) x) rs why h.1 e.1 (subst (λ (y : List ℕ). bad order y ≡ Some why) (behind_cons r rs x) b))
 
 -- what a reading says of the bytes
-abbrev pub IsRead : Order → List ℕ → List Record × Option Reason → Type 0
-IsRead order x read = elim read.1 [ None ↦ Spells order x read.0 | Some why ↦ Stops order x read.0 why ]
+abbrev pub IsReadingOf : Order → List ℕ → List Record × Option Reason → Type 0
+IsReadingOf order x read = elim read.1 [ None ↦ Spells order x read.0 | Some why ↦ Stops order x read.0 why ]
 
 ends_more : (r : Record) (rs : List Record) → is_eof r ≡ false → EndsOnce rs → EndsOnce (r ∷ rs)
 ends_more r [] e h = absurd h
 ends_more r (s ∷ rs) e h = (e, h)
 
 -- one record more before them
-is_read_more : (order : Order) (x : List ℕ) (r : Record) → BeginsWith order x r → is_eof r ≡ false → (rs : List Record) (why : Option Reason) → IsRead order (drop (size_of r) x) (rs, why) → IsRead order x (r ∷ rs, why)
+is_read_more : (order : Order) (x : List ℕ) (r : Record) → BeginsWith order x r → is_eof r ≡ false → (rs : List Record) (why : Option Reason) → IsReadingOf order (drop (size_of r) x) (rs, why) → IsReadingOf order x (r ∷ rs, why)
 is_read_more order x r b e rs None h = record { spelled = (b, h.spelled); ends = ends_more r rs e h.ends }
 is_read_more order x r b e rs (Some why) h = record { spelled = (b, h.spelled); goes_on = (e, h.goes_on); stops = subst (λ (y : List ℕ). bad order y ≡ Some why) (sym (behind_cons r rs x)) h.stops }
 
 -- where n is above a sixteenth of the bytes, the reading of n records at most is what the bytes
 -- spell, or what stops it
-read_from_is : (n : ℕ) (order : Order) (x : List ℕ) → length x / 16 < n → IsRead order x (read_from n order x)
+read_from_is : (n : ℕ) (order : Order) (x : List ℕ) → length x / 16 < n → IsReadingOf order x (read_from n order x)
 read_from_is zero order x lt = absurd (omega arith)
 read_from_is (suc n) order x lt = at (λ y less. read_from_is n order y less) (bad order x) refl (is_eof (record_at order x)) refl
   where
     r : Record
     r = record_at order x
 
-    at : ((y : List ℕ) → length y / 16 < n → IsRead order y (read_from n order y)) → (b : Option Reason) → bad order x ≡ b → (e : Bool) → is_eof (record_at order x) ≡ e → IsRead order x (read_from (suc n) order x)
+    at : ((y : List ℕ) → length y / 16 < n → IsReadingOf order y (read_from n order y)) → (b : Option Reason) → bad order x ≡ b → (e : Bool) → is_eof (record_at order x) ≡ e → IsReadingOf order x (read_from (suc n) order x)
     at again (Some why) p e q = rw (p, read_from) (record { spelled = tt; goes_on = tt; stops = p })
     at again None p true q = rw (p, q, read_from) (record { spelled = (begins_at order x p, tt); ends = q })
     at again None p false q =
@@ -129,13 +129,13 @@ read_from_is (suc n) order x lt = at (λ y less. read_from_is n order y less) (b
         let rest = again (drop (size_of r) x) (omega (arith, length-drop (size_of r) x)) in
         rw (p, q, read_from) (is_read_more order x r (begins_at order x p) q (read_from n order (drop (size_of r) x)).0 (read_from n order (drop (size_of r) x)).1 rest)
 
-pub reading_is : (order : Order) (x : List ℕ) → IsRead order x (reading order x)
+pub reading_is : (order : Order) (x : List ℕ) → IsReadingOf order x (reading order x)
 reading_is order x = read_from_is (length x / 16 + 1) order x (omega arith)
 
 -- the records of a reading are spelled
 pub reading_spelled : (order : Order) (x : List ℕ) → AreSpelled order x (reading order x).0
 reading_spelled order x = at (reading order x).0 (reading order x).1 (reading_is order x)
   where
-    at : (rs : List Record) (why : Option Reason) → IsRead order x (rs, why) → AreSpelled order x rs
+    at : (rs : List Record) (why : Option Reason) → IsReadingOf order x (rs, why) → AreSpelled order x rs
     at rs None h = h.spelled
     at rs (Some why) h = h.spelled

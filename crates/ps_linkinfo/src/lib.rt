@@ -17,6 +17,7 @@
 mod first;
 mod information;
 mod numbered;
+mod operand;
 mod reader;
 mod reading_laws;
 mod record;
@@ -24,11 +25,14 @@ mod record_counts;
 pub mod record_layout;
 mod records;
 mod refs;
+mod sort;
 
 pub use information::{LinkInformation, ReadFault};
 pub use numbered::NumberedRecords;
+pub use operand::Operand;
 pub use reader::{ReadStop, read_records};
 pub use reading_laws::{names_are_whole, one_reading, walk_from_start, walk_so_far};
 pub use record::{Body, LinkRecord};
 pub use records::Records;
 pub use refs::Refs;
+pub use sort::Sort;

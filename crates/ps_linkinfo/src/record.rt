@@ -47,11 +47,7 @@ impl LinkRecord<'_> {
         ensures size { result ≡ size_of self.now }
         ensures bounded { result ≤ 131088 }
     {
-        let count = match &self.body {
-            Body::UnitRef(refs) | Body::PublRef(refs) | Body::PrivRef { refs, .. } => refs.len(),
-            Body::PublDef(_) | Body::ConstDef(_) | Body::Eof(_) => 0,
-        };
-        RECORD_LEN + list_len(count)
+        RECORD_LEN + list_len(self.references())
     }
 
     /// Whether it is an EOFMARK, which ends the link information.

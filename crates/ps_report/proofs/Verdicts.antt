@@ -3,6 +3,7 @@
 use Rattle.std.proofs.Common.{◌≡◌, ◌↔◌, ◌⊎◌, ◌<◌, ◌==◌, ◌&&◌, not, ℕ, Bool, List, false, true, inl, inr, refl, arith}
 use Rattle.std.specs.Prelude.{if◌then◌else◌}
 use Rattle.std.proofs.lemmas.Bool.Decides.{nat_tests}
+use Rattle.ps_resolve.specs.Standing.{NoneStands}
 use Rattle.ps_report.specs.Verdicts.{IsRefused, IsVerdict, check_status}
 use Rattle.ps_report.specs.declared.verdict.Verdict.{Verdict}
 use Rattle.ps_report.specs.declared.verdict.Verdict.TheVariants.{Links, Refused}
@@ -33,3 +34,11 @@ warned_or_refused host libs warnings (Links s) right = by (warnings == 0) refl
     by true none = (λ one. absurd (zero_is_not_one one), either none)
     by false some = (λ _. inl (some_warning warnings some), λ _. refl)
 warned_or_refused host libs warnings (Refused f) right = (λ _. inr (f, right.0), λ _. refl)
+
+one_is_not_zero : ◌≡◌ {A = ℕ} 1 0 → ⊥
+one_is_not_zero e = absurd (omega (arith, e))
+
+pub linked_or_not : (host : List ℕ) (libs : List (List ℕ)) (warnings : ℕ) (verdict : Verdict) → IsVerdict host libs verdict
+    → (check_status false warnings verdict ≡ 0) ↔ NoneStands host libs
+linked_or_not host libs warnings (Links s) right = (λ _. right.0, λ _. refl)
+linked_or_not host libs warnings (Refused f) right = (λ one. absurd (one_is_not_zero one), λ none. absurd (none right.0.step f right.0.stands))

@@ -2,6 +2,8 @@
 //! words.
 #![tactic(auto)]
 
+mod alone;
+mod json;
 mod report;
 mod verdict;
 

@@ -1,9 +1,11 @@
 //! The report of a check.
-ghost use Rattle.std.specs.Prelude.{◌≡◌, ◌↔◌, ◌⊎◌, ◌<◌, ◌++◌, IfOk, codes, false, true, string_bytes, vec_len};
+ghost use Rattle.std.specs.Prelude.{◌≡◌, ◌↔◌, ◌⊎◌, ◌<◌, ◌∷◌, ◌++◌, IfOk, codes, false, map, true, string_bytes, vec_len};
 ghost use Rattle.ps_resolve.specs.Sources.{contents};
 ghost use Rattle.ps_resolve.specs.Standing.{NoneStands};
+ghost use Rattle.ps_report.specs.Lists.{HasLists, lacks_host};
 ghost use Rattle.ps_report.specs.Verdicts.{IsRefused, IsVerdict, Tells, check_status, verdict_line};
 
+use crate::alone::lists_without_host;
 use crate::verdict::{Verdict, verdict_of};
 use ps_findings::{Findings, Warning, findings_of};
 use std::alloc::{AllocError, Allocator};
@@ -19,7 +21,7 @@ pub struct Report<'a, A: Allocator> {
     /// What looks wrong and is no fault.
     pub warnings: Vec<Warning<'a>, A>,
     /// The whole text, for a person: the files, the segments, the line of the verdict, what it
-    /// means, and the warnings.
+    /// means, where no file is a host the list of each, and the warnings.
     pub text: String<A>,
 }
 
@@ -43,7 +45,8 @@ impl<A: Allocator> Report<'_, A> {
 /// `host_path` and `paths` name the files in the text; `host` and each of `libs` are whole code
 /// files, the libraries in the order in which units are looked up in them. The verdict is that of
 /// `ps_linkfile::link`: of a refusal it has the first fault of all, and its text has the line of
-/// that fault. Returns an error where memory was refused.
+/// that fault. Where the first file is no host and no library is one, the text has the lines of
+/// `ps_listing::write_list` of each file that has a path. Returns an error where memory was refused.
 /// Source: this project's profile.
 pub fn check<'a, A: Allocator + Copy>(
     alloc: A,
@@ -62,6 +65,11 @@ pub fn check<'a, A: Allocator + Copy>(
 
     // The line of the verdict begins a line of the text.
     ensures line { IfOk result (λ r. Tells (string_bytes r.text) r.verdict) }
+
+    // Where no file is a host, the text has the list of each.
+    ensures lists { IfOk result (λ r. lacks_host r.verdict libs.now ≡ true
+        → HasLists (host_path.now ∷ map (λ path. path.now) paths.now)
+        (host.now ∷ contents libs.now) (string_bytes r.text)) }
 {
     let verdict = verdict_of(alloc, host, libs)?;
     let fault = verdict.fault();
@@ -71,8 +79,14 @@ pub fn check<'a, A: Allocator + Copy>(
         explanation,
         warnings,
     } = findings;
-    let after = with_warnings(explanation, warnings.as_slice())?;
-    let text = with_verdict_line(overview, verdict, after.as_str())?;
+    let lists = lists_without_host(alloc, verdict, host_path, paths, host, libs)?;
+    let warned = warning_lines(alloc, warnings.as_slice())?;
+    let parts = Parts {
+        explanation: explanation.as_str(),
+        lists: lists.as_str(),
+        warned: warned.as_str(),
+    };
+    let text = with_verdict(overview, verdict, parts)?;
     Ok(Report {
         verdict,
         warnings,
@@ -80,11 +94,20 @@ pub fn check<'a, A: Allocator + Copy>(
     })
 }
 
-/// The line of each warning after a text.
-fn with_warnings<A: Allocator>(
-    mut text: String<A>,
+/// What a report has after the line of its verdict, in lines.
+#[derive(Clone, Copy)]
+struct Parts<'t> {
+    explanation: &'t str,
+    lists: &'t str,
+    warned: &'t str,
+}
+
+/// The line of each warning.
+fn warning_lines<A: Allocator>(
+    alloc: A,
     warnings: &[Warning<'_>],
 ) -> Result<String<A>, AllocError> {
+    let mut text = String::new(alloc);
     for warning in warnings {
         writeln!(text, "{warning}")?;
     }
@@ -92,14 +115,18 @@ fn with_warnings<A: Allocator>(
 }
 
 /// The line of the verdict between what is before it, whose last line has no end, and after it.
-fn with_verdict_line<A: Allocator>(
+fn with_verdict<A: Allocator>(
     mut text: String<A>,
     verdict: Verdict,
-    after: &str,
+    parts: Parts<'_>,
 ) -> Result<String<A>, AllocError>
-    ensures { IfOk result (λ text. Tells (string_bytes text) verdict) }
+    ensures { IfOk result (λ whole. string_bytes whole ≡ string_bytes text
+        ++ (codes "\n" ++ verdict_line verdict) ++ parts.entry.explanation.now
+        ++ parts.entry.lists.now ++ parts.entry.warned.now) }
 {
     write!(text, "\n{verdict}")?;
-    text.push_str(after)?;
+    text.push_str(parts.explanation)?;
+    text.push_str(parts.lists)?;
+    text.push_str(parts.warned)?;
     Ok(text)
 }

@@ -9,7 +9,7 @@ use Rattle.ps_resolve.proofs.FirstSlots.{range_more}
 use Rattle.std.specs.List.{slice_get, filter, range_with_len}
 use Rattle.ps_words.specs.declared.order.Order.{Order}
 use Rattle.ps_linkinfo.specs.RecordCounts.{is_unit_reference, units_in as units_asked}
-use Rattle.ps_resolve.specs.Added.{is_already_known, unit_references, all_unit_references, requested_from, unplaced_fault, placed_fault, added_segment, Rounds, after, rounds_from}
+use Rattle.ps_resolve.specs.Added.{is_already_known, unit_references, all_unit_references, requested_from, unplaced_fault, placed_fault, added_segment, RoundsOutcome, after, rounds_from}
 use Rattle.ps_words.specs.declared.fault.Fault.{Fault}
 use Rattle.ps_linkinfo.specs.declared.record.Body.{Body}
 use Rattle.ps_linkinfo.specs.declared.record.Body.TheVariants.{UnitRef, PublRef, PrivRef, PublDef, ConstDef, Eof}
@@ -145,10 +145,10 @@ module _ (order : Order) (host : List ℕ) (libs : List (List ℕ)) (units : Lis
   round_adds slot left g s h e f = rw (h, rounds_from) (rw (e, rounds_from) (rw (f, rounds_from) refl))
 
 -- segments that were added before the rounds that are left
-abbrev pub joined : List Segment → Rounds → Rounds
+abbrev pub joined : List Segment → RoundsOutcome → RoundsOutcome
 joined xs r = record { added = xs ++ r.added; fault = r.fault }
 
-pub joined_more : (xs : List Segment) (s : Segment) (r : Rounds) → joined xs (after s r) ≡ joined (xs ++ s ∷ []) r
+pub joined_more : (xs : List Segment) (s : Segment) (r : RoundsOutcome) → joined xs (after s r) ≡ joined (xs ++ s ∷ []) r
 joined_more xs s r = ap (λ (ys : List Segment). record { added = ys; fault = r.fault }) (sym (append_assoc xs (s ∷ []) r.added))
 
 -- the k-th name, as the queue that is kept has it

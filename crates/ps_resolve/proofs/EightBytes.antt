@@ -26,8 +26,8 @@ use Rattle.ps_resolve.proofs.EachSegment.{IsMade, added_made, at_slot, each_adde
 abbrev pub ReadWhole : Type 0
 ReadWhole = (order : Order) (bytes : List ℕ) → All (λ (r : Record). length r.name ≡ 8) (reading order bytes).0
 
-abbrev IsWhole : Record → Type 0
-IsWhole r = length r.name ≡ 8
+abbrev HasWholeName : Record → Type 0
+HasWholeName r = length r.name ≡ 8
 
 abbrev IsNamed : UnitReference → Type 0
 IsNamed g = length g.name ≡ 8
@@ -35,13 +35,13 @@ IsNamed g = length g.name ≡ 8
 -- a segment whose name has eight bytes, and those of whose records have
 record HasNames (s : Segment) : Type 0 where
   own : length s.name ≡ 8
-  records : All IsWhole s.records
+  records : All HasWholeName s.records
 
 -- where the names of records have eight bytes, so have those of the UNITREF records among them
-references_named : (file slot rec : ℕ) (rs : List Record) → All IsWhole rs → All IsNamed (unit_references file slot rec rs)
+references_named : (file slot rec : ℕ) (rs : List Record) → All HasWholeName rs → All IsNamed (unit_references file slot rec rs)
 references_named file slot rec [] all = All-nil IsNamed
 references_named file slot rec (r ∷ rs) all =
-    let rest = references_named file slot (rec + 1) rs (All-tail IsWhole r rs all) in
+    let rest = references_named file slot (rec + 1) rs (All-tail HasWholeName r rs all) in
     cond_both (is_unit_reference r.body) _ _ (All IsNamed) (λ _. All-cons IsNamed (record { name = r.name; file = file; slot = slot; rec = rec }) _ (all 0 r (omega arith)) rest) (λ _. rest)
 
 -- so it is with the UNITREF records of all segments
@@ -58,9 +58,9 @@ queue_named units queue (g ∷ gs) all rest =
     let more = cond_both (is_already_known units queue g.name) queue (queue ++ g ∷ []) (All IsNamed) (λ _. all) (λ _. All-push IsNamed queue g all (rest 0 g (omega arith))) in
     queue_named units (if is_already_known units queue g.name then queue else queue ++ g ∷ []) gs more (All-tail IsNamed g gs rest)
 
-records_whole : ReadWhole → (order : Order) (file : List ℕ) (e : Entry) (b : Bool) → All IsWhole (records_of order file e b)
+records_whole : ReadWhole → (order : Order) (file : List ℕ) (e : Entry) (b : Bool) → All HasWholeName (records_of order file e b)
 records_whole law order file e true = law order (information_of file e)
-records_whole law order file e false = All-nil IsWhole
+records_whole law order file e false = All-nil HasWholeName
 
 -- a segment that is made with a name of eight bytes has that name, and records whose names have
 -- eight

@@ -17,7 +17,7 @@ linked_len order [] (d ∷ ds) h = absurd h
 linked_len order (e ∷ es) [] h = absurd h
 linked_len order (e ∷ es) (d ∷ ds) h = let r = linked_len order es ds h.1 in omega (arith, r)
 
-edited_len : (order : Order) (known : Known) (words free : ℕ) (segs : List Segment) → length (edited_from order known words free segs) ≡ length segs
+pub edited_len : (order : Order) (known : Known) (words free : ℕ) (segs : List Segment) → length (edited_from order known words free segs) ≡ length segs
 edited_len order known words free [] = refl
 edited_len order known words free (s ∷ ss) = let r = edited_len order known words (free + private_words s.records) ss in omega (arith, r)
 

@@ -1,11 +1,11 @@
 -- One record more of a segment.
 use Rattle.std.proofs.Common.{◌≡◌, ◌∙◌, ℕ, ◌+◌, ◌++◌, List, [], ◌∷◌, map, Bool, true, false, cond, Option, Some, None, Ok, Err, refl, sym, ap, subst, append_assoc}
-use Rattle.std.specs.Prelude.{⊤, IsPermutation}
+use Rattle.std.specs.Prelude.{IsPermutation}
 use Rattle.std.specs.Option.{option_map, option_or}
 use Rattle.std.proofs.lemmas.List.Sorted.{IsPermutation-trans, IsPermutation-append_left}
 use Rattle.ps_linkinfo.specs.Records.{refs_of}
 use Rattle.ps_linkinfo.specs.RecordCounts.{is_private_reference, is_public_reference, is_unit_reference, privates_in, publics_in, units_in as units_asked}
-use Rattle.ps_resolve.specs.Privates.{private_words, words_in}
+use Rattle.ps_resolve.specs.Privates.{private_words}
 use Rattle.ps_linkinfo.specs.declared.record.Body.{Body}
 use Rattle.ps_linkinfo.specs.declared.record.Body.TheVariants.{UnitRef, PublRef, PrivRef, PublDef, ConstDef, Eof}
 use Rattle.ps_linkinfo.specs.declared.record.LinkRecord.{LinkRecord as Record}
@@ -24,16 +24,9 @@ use Rattle.ps_resolve.specs.References.{Known, words_taken, target_in, target_of
 use Rattle.ps_resolve.specs.declared.references.Target.{Target}
 use Rattle.ps_resolve.specs.declared.references.Target.TheVariants.{Slot}
 use Rattle.ps_resolve.proofs.Apart.{one_more}
+use Rattle.ps_resolve.proofs.LookingBack.{words_before}
 use Rattle.ps_resolve.specs.declared.linkage.Stop.{Stop}
 use Rattle.ps_resolve.specs.declared.linkage.Stop.TheVariants.{Refused, Memory}
-
--- the words of the privates of records are those that the first one takes and those of the others
-pub words_are : (r : Record) (rs : List Record) → private_words (r ∷ rs) ≡ words_taken r.body + private_words rs
-words_are r rs = at (words_in r.body) refl
-  where
-    at : (w : Option ℕ) → words_in r.body ≡ w → private_words (r ∷ rs) ≡ words_taken r.body + private_words rs
-    at None e = rw (e, private_words) (omega arith)
-    at (Some w) e = rw (e, private_words) refl
 
 module _ (known : Known) (R : ℕ → Bool) (code : List ℕ) (rec off : ℕ) (os : List (ℕ × ℕ)) (r : Record) (rs : List Record) where
   pub record_refused : (why : Reason) → target_of known off r ≡ Err why → records_fault known R code rec off os (r ∷ rs) ≡ Some (rec, (None, why))
@@ -97,7 +90,7 @@ module _ (known : Known) (R : ℕ → Bool) (code : List ℕ) where
       record {
         edits = edits_more known R code n off os r rs [] (Slot 0) t ∙ (ap (λ (xs : List ℕ). map (edit_of code (Slot 0)) xs ++ records_edits known code (off + words_taken r.body) rs) none ∙ next.edits);
         first = record_stands known R code n off os r rs (Slot 0) t (ap (λ (xs : List ℕ). refs_fault R code (Slot 0) 0 os xs) none) ∙ next.first;
-        words = let a = words_are r rs in omega (arith, words, next.words);
+        words = let a = words_before r rs in omega (arith, words, next.words);
       }
 
   pub no_links : (rs : List Record) (n off : ℕ) (os : List (ℕ × ℕ)) → units_asked rs ≡ 0 → publics_in rs ≡ 0 → privates_in rs ≡ 0 → NoLinks known R code n off os rs

@@ -25,7 +25,7 @@ use Rattle.ps_resolve.proofs.InPlaces.{IsIdle, idle_narrow, table_more, put_more
 use Rattle.ps_resolve.proofs.Inside.{records_inside}
 
 -- where two tests hold, it holds that either both do or a third one does
-either_true : (a b c : Bool) → a ≡ true → b ≡ true → ((a && b) || c) ≡ true
+pub either_true : (a b c : Bool) → a ≡ true → b ≡ true → ((a && b) || c) ≡ true
 either_true true true c h k = refl
 either_true true false c h k = cc
 either_true false b c h k = cc

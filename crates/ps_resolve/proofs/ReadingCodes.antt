@@ -35,13 +35,13 @@ large_code n true odd h = cc
 large_code n false true h = cc
 large_code n false false h = grind (arith, nat_tests)
 
-pub record IsWhole (e : Entry) (code : List ℕ) : Type 0 where
+pub record IsWholeCode (e : Entry) (code : List ℕ) : Type 0 where
   pub len : length code ≡ e.length
   pub small : e.length ≤ 32767
   pub large : kind_needs_linking e.kind ≡ true → 4 ≤ e.length
 
 -- a code with which nothing is wrong has the length of its entry, which is within its limits
-pub whole : (file : List ℕ) (e : Entry) (code : List ℕ) → code_of file e ≡ Ok code → IsWhole e code
+pub whole : (file : List ℕ) (e : Entry) (code : List ℕ) → code_of file e ≡ Ok code → IsWholeCode e code
 whole file e code h =
     let parts = whole_code (has_bad_length e) (e.address == 0) (ltb (length file) (512 * e.address + e.length)) (slice_range file (512 * e.address) (512 * e.address + e.length)) code h in
     record {

@@ -1,9 +1,8 @@
 -- The host, read by itself, and what is known of the segments of a link once the files were read
 -- without a fault.
-use Rattle.std.proofs.Common.{◌≡◌, ℕ, ◌≤◌, List, length, Bool, true, false, if◌then◌else◌, Option, Some, Ok, Err, refl, arith}
+use Rattle.std.proofs.Common.{◌≡◌, ℕ, List, length, Bool, true, false, if◌then◌else◌, Option, Some, Ok, Err}
 use Rattle.std.proofs.Math.Dec.{ltb}
 use Rattle.std.specs.Option.{option_or}
-use Rattle.std.proofs.lemmas.Bool.Decides.{nat_tests}
 use Rattle.ps_words.specs.FaultPlaces.{in_file}
 use Rattle.ps_words.specs.declared.order.Order.{Order}
 use Rattle.ps_words.specs.declared.fault.Reason.{Reason}
@@ -20,16 +19,6 @@ read_as true of file o h = cc
 read_as false Zero file o h = cc
 read_as false (Ordered order) file o h = cc
 read_as false Mixed file o h = cc
-
-whole_as : (short : Bool) (of : FileOrder) (file : List ℕ) (o : OpenedFile) → (if short then Err reason.ShortFile else opened_as file of) ≡ Ok o → short ≡ false
-whole_as true of file o h = cc
-whole_as false of file o h = refl
-
--- a host that is read has its whole dictionary
-pub host_whole : (host : List ℕ) (o : OpenedFile) → opened_alone host ≡ Ok o → 512 ≤ length host
-host_whole host o h =
-    let long = whole_as (ltb (length host) 512) (file_order host) host o h in
-    grind (arith, nat_tests)
 
 pub host_refused : (host : List ℕ) (libs : List (List ℕ)) (why : Reason) → opened_alone host ≡ Err why → reading_fault host libs ≡ Some (in_file 0 why)
 unfolding reading_fault

@@ -1,5 +1,5 @@
 -- What is read of the slots of a host, where reading has no fault: the segments of the link.
-use Rattle.std.proofs.Common.{◌≡◌, ℕ, List, [], ◌∷◌, ◌++◌, ◌==◌, ◌≢◌, map, take, Bool, false, if◌then◌else◌, Option, Some, None, Result, Ok, Err, refl, sym, ◌∙◌, ap}
+use Rattle.std.proofs.Common.{◌≡◌, ℕ, List, [], ◌∷◌, ◌++◌, ◌==◌, ◌≢◌, take, Bool, false, if◌then◌else◌, Option, Some, None, Result, Ok, Err, refl, sym, ◌∙◌, ap}
 use Rattle.std.specs.List.{cons_option, filter_map, find}
 use Rattle.std.proofs.lemmas.Bool.{eq-eqb, ne_eqb}
 use Rattle.std.specs.Option.{option_and_then, option_map, option_map_or, option_or}
@@ -12,9 +12,9 @@ use Rattle.ps_codefile.specs.Dictionary.{OpenedFile, entry_at, opened_alone, rol
 use Rattle.ps_resolve.specs.Searches.{first_of}
 use Rattle.ps_resolve.specs.Sources.{Segment, own_segment, own_segments, opened_files, order_of, units_of}
 use Rattle.ps_resolve.specs.Faults.{slots_fault, no_host_fault, libraries_fault, source_fault, sources_fault}
-use Rattle.ps_resolve.specs.Added.{Rounds, added_fault, added_segments, all_unit_references, empty_slots, requested_from, rounds, rounds_in, rounds_of, segments}
+use Rattle.ps_resolve.specs.Added.{RoundsOutcome, added_fault, all_unit_references, empty_slots, requested_from, rounds, rounds_in, rounds_of, segments}
 use Rattle.ps_resolve.specs.AllFaults.{reading_fault, reading_rest}
-use Rattle.ps_resolve.specs.Readings.{HostFiles, all_read, host_reading_fault, opened_host, read_requests, read_rounds, read_segment, read_segments, fault_of_added, queued_request, slot_after, slot_fault, slot_reading, slot_request, wanted_request}
+use Rattle.ps_resolve.specs.Readings.{HostFiles, all_read, host_reading_fault, own_reading_fault, opened_host, read_requests, read_rounds, read_segment, read_segments, fault_of_added, queued_request, slot_after, slot_fault, slot_reading, slot_request, wanted_request}
 use Rattle.ps_resolve.specs.declared.reading.request.Request.{Request}
 use Rattle.ps_resolve.specs.Views.{is_in_slot, segments_in_slots}
 use Rattle.ps_resolve.proofs.FirstSlots.{neither_first, neither_second}
@@ -45,7 +45,7 @@ module _ (order : Order) (host : List ℕ) (libs : List (List ℕ)) where
   unfolding all_read
   all_are h =
       ap (λ (own : List Segment). segments_in_slots order host own (read_rounds order host libs).added) (read_are h)
-      ∙ (ap (λ (r : Rounds). segments_in_slots order host (own_segments order host libs) r.added) (rounds_are h) ∙ in_slots_are order host libs)
+      ∙ (ap (λ (r : RoundsOutcome). segments_in_slots order host (own_segments order host libs) r.added) (rounds_are h) ∙ in_slots_are order host libs)
 
   -- the first fault of their sources and of the units that are added
   sources_then : option_or (sources_fault order host libs) (read_rounds order host libs).fault ≡ reading_rest order host libs
@@ -53,7 +53,7 @@ module _ (order : Order) (host : List ℕ) (libs : List (List ℕ)) where
     where
       by : (o : Option Fault) → sources_fault order host libs ≡ o → option_or (sources_fault order host libs) (read_rounds order host libs).fault ≡ reading_rest order host libs
       by (Some fault) e = rw e refl
-      by None e = rw e (ap (λ (r : Rounds). r.fault) (rounds_are e))
+      by None e = rw e (ap (λ (r : RoundsOutcome). r.fault) (rounds_are e))
 
 module _ (order : Order) (host : List ℕ) (libs : List (List ℕ)) where
   pub libraries_are : libraries_fault order libs ≡ None → opened_files order libs ≡ libs
@@ -84,12 +84,29 @@ module _ (order : Order) (host : List ℕ) (libs : List (List ℕ)) where
   abbrev files : List (List ℕ)
   files = opened_files order libs
 
-  pub faults_are : (sources last : Option Fault) → sources ≡ sources_fault order host files → last ≡ (read_rounds order host files).fault
-      → option_or (slots_fault order host) (option_or (no_host_fault order host) (option_or (libraries_fault order libs) (option_or sources last))) ≡ host_reading_fault order host libs
-  unfolding host_reading_fault
-  faults_are sources last each ends =
-      ap (λ (o : Option Fault). option_or (slots_fault order host) (option_or (no_host_fault order host) (option_or (libraries_fault order libs) (option_or o last)))) each
-      ∙ ap (λ (o : Option Fault). option_or (slots_fault order host) (option_or (no_host_fault order host) (option_or (libraries_fault order libs) (option_or (sources_fault order host files) o)))) ends
+  -- the fault of the own slots is the first, and else that of the units that are added
+  pub units_last : (own last : Option Fault) → own ≡ own_reading_fault order host libs → last ≡ (read_rounds order host files).fault → option_or own last ≡ host_reading_fault order host libs
+  unfolding own_reading_fault host_reading_fault
+  units_last own last is ends =
+      ap (λ (o : Option Fault). option_or o last) is
+      ∙ (ap (option_or (option_or (option_or (slots_fault order host) (option_or (no_host_fault order host) (libraries_fault order libs))) (sources_fault order host files))) ends
+      ∙ in_turn (slots_fault order host) (no_host_fault order host) (libraries_fault order libs) (sources_fault order host files) (read_rounds order host files).fault)
+    where
+      in_turn : (a b c d e : Option Fault) → option_or (option_or (option_or a (option_or b c)) d) e ≡ option_or a (option_or b (option_or c (option_or d e)))
+      in_turn (Some fault) b c d e = refl
+      in_turn None (Some fault) c d e = refl
+      in_turn None None (Some fault) d e = refl
+      in_turn None None None d e = refl
+
+  pub own_is : (of_files sources own : Option Fault) → own ≡ option_or of_files sources
+      → of_files ≡ option_or (slots_fault order host) (option_or (no_host_fault order host) (libraries_fault order libs)) → sources ≡ sources_fault order host files → own ≡ own_reading_fault order host libs
+  unfolding own_reading_fault
+  own_is of_files sources own is first second = is ∙ (ap (λ (o : Option Fault). option_or o sources) first ∙ ap (option_or (option_or (slots_fault order host) (option_or (no_host_fault order host) (libraries_fault order libs)))) second)
+
+  pub first_own : (fault : Fault) → own_reading_fault order host libs ≡ Some fault → host_reading_fault order host libs ≡ Some fault
+  first_own fault h =
+      sym (units_last (own_reading_fault order host libs) (read_rounds order host files).fault refl refl)
+      ∙ ap (λ (o : Option Fault). option_or o (read_rounds order host files).fault) h
 
   module _ (own : List Segment) (is : own ≡ read_segments order host files) where
     pub in_rounds : (empty : List ℕ) → empty ≡ empty_slots order host → rounds_in order host files own empty ≡ read_rounds order host files
@@ -147,7 +164,7 @@ opened_as host libs r e = rw (e, opened_host) refl
 
 -- what is read of a slot
 module _ (order : Order) (host : List ℕ) (files : List (List ℕ)) (slot : ℕ) where
-  abbrev added : Rounds
+  abbrev added : RoundsOutcome
   added = read_rounds order host files
 
   pub refused_by : (fault : Fault) → source_fault order host files slot ≡ Some fault → slot_fault order host files slot ≡ Some fault

@@ -1,6 +1,6 @@
 -- The unit of a request: its fault and its segment by the library that has it, and the request of a
 -- slot that wants a unit.
-use Rattle.std.proofs.Common.{◌≡◌, ℕ, List, Bool, true, false, ◌||◌, ◌&&◌, ◌==◌, not, Option, Some, None, Result, Ok, Err, ◌+◌, refl, sym, ◌∙◌, ap}
+use Rattle.std.proofs.Common.{◌≡◌, ℕ, List, Bool, true, false, ◌||◌, ◌&&◌, ◌==◌, not, Option, Some, None, Result, Ok, Err, ◌+◌, refl, ◌∙◌, ap}
 use Rattle.std.specs.Prelude.{if◌then◌else◌}
 use Rattle.std.specs.List.{find}
 use Rattle.std.specs.Option.{option_and_then, option_map, option_or}
@@ -11,12 +11,11 @@ use Rattle.ps_words.specs.declared.fault.Fault.{Fault}
 use Rattle.ps_words.specs.declared.fault.Reason.{Reason}
 use Rattle.ps_words.specs.declared.fault.Reason.TheVariants as reason
 use Rattle.ps_codefile.specs.Dictionary.{slots, entry_at, is_nameless, role_of, role_of_kind}
-use Rattle.ps_codefile.specs.declared.entry.Entry.{Entry}
 use Rattle.ps_codefile.specs.declared.entry.Role.{Role}
 use Rattle.ps_codefile.specs.declared.entry.Role.TheVariants as role
 use Rattle.ps_resolve.specs.Sources.{Segment, segment_from, chosen_library, is_named, own_segment, source_of, unit_source}
-use Rattle.ps_resolve.specs.Faults.{code_fault, entries_reason, entry_fault, source_fault, unit_fault, wanted_fault}
-use Rattle.ps_resolve.specs.Requests.{as_requested, is_missing, missing_at, request_fault, requested_segment}
+use Rattle.ps_resolve.specs.Faults.{code_fault, entries_reason, source_fault, wanted_fault}
+use Rattle.ps_resolve.specs.Requests.{as_requested, is_missing, request_fault, requested_segment}
 use Rattle.ps_resolve.specs.Views.{SegmentView, as_requested_view, segment_of, IsRead}
 use Rattle.ps_resolve.specs.declared.reading.request.Request.{Request}
 use Rattle.ps_resolve.specs.declared.reading.request.Requester.{Requester}

@@ -21,7 +21,7 @@ or_left true b c h = refl
 or_left false true c h = refl
 or_left false false c h = cc
 
-or_right : (a b : Bool) → b ≡ true → (a || b) ≡ true
+pub or_right : (a b : Bool) → b ≡ true → (a || b) ≡ true
 or_right true b h = refl
 or_right false b h = h
 

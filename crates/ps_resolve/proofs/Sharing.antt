@@ -22,7 +22,8 @@ use Rattle.ps_resolve.specs.declared.references.Target.TheVariants.{Base}
 use Rattle.ps_resolve.specs.Views.{SegmentView}
 use Rattle.ps_resolve.proofs.Apart.{one_more}
 use Rattle.ps_resolve.proofs.FirstSlots.{neither_second}
-use Rattle.ps_resolve.proofs.NextRecords.{NoLinks, record_refused, record_by, record_stands, edits_more, words_are}
+use Rattle.ps_resolve.proofs.NextRecords.{NoLinks, record_refused, record_by, record_stands, edits_more}
+use Rattle.ps_resolve.proofs.LookingBack.{words_before}
 
 -- two segments whose records are those of their places have the same ones, where the places are the
 -- same
@@ -113,7 +114,7 @@ no_references known R code (r ∷ rs) n off os named none unasked =
         record {
           edits = edits_more known R code n off os r rs [] t e ∙ (ap (λ (xs : List ℕ). map (edit_of code t) xs ++ records_edits known code (off + words_taken r.body) rs) empty ∙ next.edits);
           first = record_stands known R code n off os r rs t e (ap (λ (xs : List ℕ). refs_fault R code t 0 os xs) empty) ∙ next.first;
-          words = let a = words_are r rs in omega (arith, words, next.words);
+          words = let a = words_before r rs in omega (arith, words, next.words);
         }
 
     at : ((m free : ℕ) (ps : List (ℕ × ℕ)) → references_in rs ≡ 0 → privates_in rs ≡ 0 → NoLinks known R code m free ps rs) → (b : Bool) → is_private_reference r.body ≡ b → NoLinks known R code n off os (r ∷ rs)

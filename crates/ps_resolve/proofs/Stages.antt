@@ -16,7 +16,7 @@ use Rattle.ps_resolve.specs.Stops.{IsStop, duplicate_fault}
 use Rattle.ps_resolve.specs.Privates.{Owner, Allotted, owner_of, all_allotted, all_words, allotment_of, first_private_fault, total_words}
 use Rattle.ps_resolve.specs.Edits.{IsOfSize, AreOfReferences}
 use Rattle.ps_resolve.specs.Linkable.{HasOneHost}
-use Rattle.ps_resolve.specs.References.{Known}
+use Rattle.ps_resolve.specs.References.{Known, known_by}
 use Rattle.ps_resolve.specs.Linking.{known_of, data_edits, edited_segments, edited_from}
 use Rattle.ps_resolve.specs.Faults.{definitions_fault, privates_fault, data_fault, size_fault, references_fault, references_fault_from, linking_fault}
 use Rattle.ps_resolve.specs.Plans.{AreStopped, LinkSegments, origin_of, origin_of_source}
@@ -107,12 +107,12 @@ module _ (order : Order) (ss : List SegmentView) (own : SegmentView) (is : host_
       -- the edit that stores the host's data size, the units of the link
       module _ (fits : size_fault order words (segment_of own) ≡ None) (units : List (List ℕ × ℕ)) (units_is : units ≡ units_of segs) where
         abbrev known : Known
-        known = record { definitions = ds; units = units }
+        known = known_by ds units
 
         pub known_is : known ≡ known_of segs
         known_is =
-            ap (λ (xs : List (List ℕ × Def)). record { definitions = xs; units = units }) (ds_are ∙ ap definitions (sym records_are))
-            ∙ ap (λ (ys : List (List ℕ × ℕ)). record { definitions = definitions (host_records segs); units = ys }) units_is
+            ap (λ (xs : List (List ℕ × Def)). known_by xs units) (ds_are ∙ ap definitions (sym records_are))
+            ∙ ap (λ (ys : List (List ℕ × ℕ)). known_by (definitions (host_records segs)) ys) units_is
 
         behind_size : linking_fault order segs ≡ references_fault_from order known next segs
         behind_size = behind_privates ∙ skip _ _ fits ∙ references_are

@@ -1,10 +1,10 @@
 -- Units that only a unit names: which names are looked up in the libraries, which empty slot each
 -- takes, the segments that are added so, and then all segments of a link.
 -- Source: this project's profile.
-use Rattle.std.specs.Prelude.{◌≡◌, ◌⊎◌, ◌≤◌, ℕ, ◌+◌, ◌==◌, ◌||◌, if◌then◌else◌, List, [], ◌∷◌, ◌++◌, length, map, slice_get, All, Bool, true, Option, Some, None, is_some, is_none}
+use Rattle.std.specs.Prelude.{◌≡◌, ◌⊎◌, ◌≤◌, ℕ, ◌+◌, ◌==◌, ◌||◌, if◌then◌else◌, List, [], ◌∷◌, ◌++◌, length, map, slice_get, All, Bool, true, Option, Some, None, is_some}
 use Rattle.std.specs.List.{range_with_len, list_any, filter, filter_map, flat_map, find}
 use Rattle.std.specs.Map.{lookup}
-use Rattle.std.specs.Option.{option_map, option_map_or, option_or, option_and_then}
+use Rattle.std.specs.Option.{option_map, option_map_or, option_or}
 use Rattle.std.specs.Str.{bytes_eq}
 use Rattle.ps_words.specs.FaultPlaces.{in_record}
 use Rattle.ps_words.specs.declared.order.Order.{Order}
@@ -75,18 +75,18 @@ abbrev pub added_segment : Order → List ℕ → List (List ℕ) → UnitRefere
 added_segment order host libs g slot = requested_segment order host libs (request_of g slot)
 
 -- what the rounds from one on come to: the segments that they add, and the fault that ends them
-pub record Rounds : Type 0 where
+pub record RoundsOutcome : Type 0 where
   pub added : List Segment
   pub fault : Option Fault
 
 -- the rounds that begin with a round which adds this segment
-abbrev pub after : Segment → Rounds → Rounds
+abbrev pub after : Segment → RoundsOutcome → RoundsOutcome
 after s rounds = record { added = s ∷ rounds.added; fault = rounds.fault }
 
 -- The rounds from round k on, with the slots that are left: the k-th name of the queue takes the
 -- next slot, and the names that its unit requests are appended to the queue. They end where no name
 -- is left, or with the first fault.
-abbrev pub rounds_from : Order → List ℕ → List (List ℕ) → List (List ℕ × ℕ) → List ℕ → ℕ → List UnitReference → Rounds
+abbrev pub rounds_from : Order → List ℕ → List (List ℕ) → List (List ℕ × ℕ) → List ℕ → ℕ → List UnitReference → RoundsOutcome
 rounds_from order host libs units [] k queue = record { added = []; fault = option_map (unplaced_fault order libs) (slice_get queue k) }
 rounds_from order host libs units (slot ∷ left) k queue =
     elim (slice_get queue k) [
@@ -106,15 +106,15 @@ requested_units order host libs others =
     let own = own_segments order host libs in requested_from (units_of own) [] (all_unit_references (own ++ others))
 
 -- the rounds of own segments, with these slots
-abbrev pub rounds_in : Order → List ℕ → List (List ℕ) → List Segment → List ℕ → Rounds
+abbrev pub rounds_in : Order → List ℕ → List (List ℕ) → List Segment → List ℕ → RoundsOutcome
 rounds_in order host libs own left = rounds_from order host libs (units_of own) left 0 (requested_from (units_of own) [] (all_unit_references own))
 
 -- the rounds of a host whose own segments are these
-abbrev pub rounds_of : Order → List ℕ → List (List ℕ) → List Segment → Rounds
+abbrev pub rounds_of : Order → List ℕ → List (List ℕ) → List Segment → RoundsOutcome
 rounds_of order host libs own = rounds_in order host libs own (empty_slots order host)
 
 -- the rounds of a host and its libraries
-unfoldable pub rounds : Order → List ℕ → List (List ℕ) → Rounds
+unfoldable pub rounds : Order → List ℕ → List (List ℕ) → RoundsOutcome
 rounds order host libs = rounds_of order host libs (own_segments order host libs)
 
 -- the segments that are added, in the order of their rounds and so of their slots

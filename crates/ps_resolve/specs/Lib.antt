@@ -10,6 +10,7 @@ pub mod Privates
 pub mod Offsets
 pub mod Linking
 pub mod Faults
+pub mod LoneUnits
 pub mod Requests
 pub mod Added
 pub mod Readings
@@ -25,3 +26,4 @@ pub mod EditTables
 pub mod LinkedBytes
 pub mod Builders
 pub mod Origins
+pub mod Causes

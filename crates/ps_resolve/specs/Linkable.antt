@@ -1,6 +1,6 @@
 -- What is known of the segments of a link, once the files were read without a fault.
 -- Source: this project's profile.
-use Rattle.std.specs.Prelude.{◌≡◌, ℕ, ◌+◌, ◌<◌, ◌≤◌, List, [], ◌∷◌, length, map, true, None, Some, Result, All, ⊤}
+use Rattle.std.specs.Prelude.{◌≡◌, ℕ, ◌+◌, ◌<◌, ◌≤◌, List, [], ◌∷◌, length, map, true, Some, Result, All, ⊤}
 use Rattle.ps_words.specs.declared.order.Order.{Order}
 use Rattle.ps_words.specs.declared.edit.Edit.{Edit}
 use Rattle.ps_words.specs.declared.fault.Reason.{Reason}
@@ -13,7 +13,6 @@ use Rattle.ps_codefile.specs.Roles.{is_host}
 use Rattle.ps_resolve.specs.Sources.{Segment, host_of}
 use Rattle.ps_resolve.specs.Added.{slot_names}
 use Rattle.ps_resolve.specs.Edits.{IsOfTable}
-use Rattle.ps_resolve.specs.Faults.{libraries_fault}
 use Rattle.ps_resolve.specs.Privates.{owner_of, private_words, all_words}
 use Rattle.ps_resolve.specs.References.{Known, HaveTargets}
 use Rattle.ps_resolve.specs.Views.{segment_of, IsSound, IsLike, AreAlike}
@@ -34,15 +33,6 @@ AscendFrom from (s ∷ ss) = (from ≤ s) × AscendFrom (s + 1) ss
 -- no segment is a host's but the first such
 abbrev pub HasOneHost : List Segment → Type 0
 HasOneHost segs = All (λ s. is_host s.role ≡ true → host_of segs ≡ Some s) segs
-
--- What units are added to: own segments of a host that share link information alike, and empty
--- slots; no library has a fault of its own.
-pub record MayBeAddedTo (order : Order) (libs : List (List ℕ)) (own : List SegmentView) (slots : List ℕ) : Type 0 where
-  pub libraries : libraries_fault order libs ≡ None
-  pub alike : AreAlike own
-  pub most : length own ≤ 16
-  pub few : length slots ≤ 9
-  pub in_range : All (λ slot. slot < 16) slots
 
 -- a host's own segment: its records, and the place of the attribute table of its outer block, which
 -- lies in its code before the procedure dictionary

@@ -15,11 +15,11 @@ use Rattle.ps_resolve.specs.Privates.{private_words, total_words}
 use Rattle.ps_codefile.specs.Roles.{needs_linking, is_host}
 use Rattle.ps_resolve.specs.Sources.{Segment, host_of, host_records, units_of}
 use Rattle.ps_resolve.specs.Symbols.{definitions}
-use Rattle.ps_resolve.specs.References.{Known, records_edits}
+use Rattle.ps_resolve.specs.References.{Known, known_by, records_edits}
 
--- the definitions of the host's segment, and the slots of the units
+-- what names stand for by the definitions of the host's segment and by the units of the link
 abbrev pub known_of : List Segment → Known
-known_of segs = record { definitions = definitions (host_records segs); units = units_of segs }
+known_of segs = known_by (definitions (host_records segs)) (units_of segs)
 
 -- where the data size of procedure 1 is
 abbrev pub data_place : ℕ → ℕ

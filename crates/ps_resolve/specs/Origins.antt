@@ -86,7 +86,7 @@ IsSliceOf file e code =
     (block_len * e.address + e.length ≤ length file) × (code ≡ slice_range file (block_len * e.address) (block_len * e.address + e.length))
 
 -- the segment is read from its file, at the entry of its index
-pub record IsRead (order : Order) (host : List ℕ) (libs : List (List ℕ)) (s : Segment) : Type 0 where
+pub record IsReadFrom (order : Order) (host : List ℕ) (libs : List (List ℕ)) (s : Segment) : Type 0 where
   pub source : List ℕ
   pub file : IsFile host libs s.file source
   pub within : s.index < 16
@@ -109,8 +109,8 @@ AreBySlot segs =
     ((i j : ℕ) (s q : Segment) → i < j → slice_get segs i ≡ Some s → slice_get segs j ≡ Some q → s.slot < q.slot)
     × All (λ s. s.slot < 16) segs
 
--- one that was not added has its slot in the host's dictionary, so in an empty slot none applies
--- but one that was added
+-- one that was not added has its slot in the host's dictionary, so an empty slot has no segment but
+-- one that was added
 abbrev pub AreOwn : List ℕ → List Segment → Type 0
 AreOwn host segs = All (λ s. s.added ≡ false → IsOwn (order_of host) host s) segs
 
@@ -135,4 +135,4 @@ AreOfLibraries host libs segs = All (λ s. s.role ≡ Wanted → IsUnitOf (order
 
 -- each has its code and its records from its file
 abbrev pub AreRead : List ℕ → List (List ℕ) → List Segment → Type 0
-AreRead host libs segs = All (λ s. IsRead (order_of host) host libs s) segs
+AreRead host libs segs = All (λ s. IsReadFrom (order_of host) host libs s) segs

@@ -1,18 +1,19 @@
 -- What is read of each slot of a host, also after the first fault, and the names that are requested.
 -- Source: this project's profile.
-use Rattle.std.specs.Prelude.{◌≡◌, ◌≤◌, ℕ, ◌==◌, ◌++◌, if◌then◌else◌, List, [], ◌∷◌, length, map, take, slice_get, All, Bool, false, Option, Some, None, Result, Ok, Err, is_none, option_and_then}
+use Rattle.std.specs.Prelude.{◌≡◌, ◌≤◌, ℕ, ◌==◌, ◌++◌, if◌then◌else◌, List, [], length, map, take, slice_get, All, false, Option, Some, None, Result, Ok, Err, is_none, option_and_then}
 use Rattle.std.specs.List.{enumerate_from, filter_map, find}
 use Rattle.std.specs.Option.{option_map, option_map_or, option_or}
-use Rattle.std.specs.Result.{result_err, result_ok}
+use Rattle.std.specs.Result.{result_ok}
 use Rattle.ps_words.specs.declared.order.Order.{Order}
 use Rattle.ps_words.specs.declared.fault.Fault.{Fault}
 use Rattle.ps_words.specs.declared.fault.Reason.{Reason}
 use Rattle.ps_codefile.specs.Dictionary.{slots, entry_at, opened_alone, role_of}
 use Rattle.ps_codefile.specs.declared.entry.Role.{Role}
 use Rattle.ps_codefile.specs.declared.entry.Role.TheVariants.{Empty, Wanted, Plain, Host, Unit}
-use Rattle.ps_resolve.specs.Sources.{Segment, own_segment, opened_files, units_of}
+use Rattle.ps_resolve.specs.Requests.{is_missing}
+use Rattle.ps_resolve.specs.Sources.{Segment, own_segment, opened_files, unit_source, units_of}
 use Rattle.ps_resolve.specs.Faults.{slots_fault, no_host_fault, libraries_fault, source_fault, sources_fault}
-use Rattle.ps_resolve.specs.Added.{Rounds, all_unit_references, empty_slots, requested_from, request_of, rounds_of}
+use Rattle.ps_resolve.specs.Added.{RoundsOutcome, all_unit_references, empty_slots, requested_from, request_of, rounds_of}
 use Rattle.ps_resolve.specs.Views.{SegmentView, IsRead, segment_of, segments_in_slots}
 use Rattle.ps_resolve.specs.declared.reading.added.UnitReference.{UnitReference}
 use Rattle.ps_resolve.specs.declared.reading.request.Request.{Request}
@@ -27,7 +28,7 @@ unfoldable pub read_segments : Order → List ℕ → List (List ℕ) → List S
 read_segments order host libs = filter_map (read_segment order host libs) slots
 
 -- the rounds that add units to them
-unfoldable pub read_rounds : Order → List ℕ → List (List ℕ) → Rounds
+unfoldable pub read_rounds : Order → List ℕ → List (List ℕ) → RoundsOutcome
 read_rounds order host libs = rounds_of order host libs (read_segments order host libs)
 
 -- the own segments and the added ones, by slot
@@ -41,11 +42,11 @@ read_requests order host libs =
     take 10 (requested_from (units_of own) [] (all_unit_references (own ++ (read_rounds order host libs).added)))
 
 -- the empty slot that is next after those that rounds have given
-abbrev pub slot_after : Rounds → List ℕ → Option ℕ
+abbrev pub slot_after : RoundsOutcome → List ℕ → Option ℕ
 slot_after rounds empty = slice_get empty (length rounds.added)
 
 -- the fault with which the rounds end, if it is that of the unit that takes this slot
-abbrev pub fault_of_added : Rounds → List ℕ → ℕ → Option Fault
+abbrev pub fault_of_added : RoundsOutcome → List ℕ → ℕ → Option Fault
 fault_of_added rounds empty slot = if option_map_or (λ next. next == slot) (slot_after rounds empty) false then rounds.fault else None
 
 -- why a slot has no segment: the fault of its source, or of the unit that would be added there
@@ -79,17 +80,51 @@ slot_request order host libs slot =
     option_or (option_and_then (wanted_request order host slot) (result_ok (role_of (entry_at order host slot))))
     (queued_request (read_requests order host libs) (empty_slots order host) slot)
 
+-- the entry of the host that has the segment of a slot of this role
+abbrev pub own_entry : ℕ → Role → Option (ℕ × ℕ)
+own_entry slot Empty = None
+own_entry slot Wanted = None
+own_entry slot Plain = Some (0, slot)
+own_entry slot Host = Some (0, slot)
+own_entry slot Unit = Some (0, slot)
+
+-- the file and the entry that have the unit of a name, where it is not missing
+abbrev pub named_entry : Order → List (List ℕ) → List ℕ → Option (ℕ × ℕ)
+named_entry order libs name = if is_missing order libs name then None else unit_source order name libs
+
+-- the file, 0 for the host and k for the k-th library, and the entry there that the segment of a
+-- slot comes from, also where it is refused
+abbrev pub slot_entry : Order → List ℕ → List (List ℕ) → ℕ → Option (ℕ × ℕ)
+slot_entry order host libs slot =
+    elim (slot_request order host libs slot) [
+      | Some request ↦ named_entry order libs request.name
+      | None ↦ option_and_then (own_entry slot) (result_ok (role_of (entry_at order host slot)))
+    ]
+
 -- The first fault of a host that is read in its own order, with these libraries.
 unfoldable pub host_reading_fault : Order → List ℕ → List (List ℕ) → Option Fault
 host_reading_fault order host libs =
     option_or (slots_fault order host) (option_or (no_host_fault order host) (option_or (libraries_fault order libs)
     (option_or (sources_fault order host (opened_files order libs)) (read_rounds order host (opened_files order libs)).fault)))
 
+-- The first fault of its own slots and of the libraries, before units are added.
+unfoldable pub own_reading_fault : Order → List ℕ → List (List ℕ) → Option Fault
+own_reading_fault order host libs =
+    option_or (option_or (slots_fault order host) (option_or (no_host_fault order host) (libraries_fault order libs)))
+    (sources_fault order host (opened_files order libs))
+
 -- A host file that was opened, with its libraries.
 pub record HostFiles : Type 0 where
   pub order : Order
   pub file : List ℕ
   pub libs : List (List ℕ)
+
+-- what was read of the own slots of such a host
+pub record IsOwnReading (order : Order) (host : List ℕ) (libs : List (List ℕ)) (segments : List SegmentView) (fault : Option Fault) : Type 0 where
+  pub whole : 512 ≤ length host
+  pub own : map segment_of segments ≡ read_segments order host (opened_files order libs)
+  pub read : All (IsRead order host (opened_files order libs)) segments
+  pub first : fault ≡ own_reading_fault order host libs
 
 -- what was read of such files
 pub record IsReading (order : Order) (host : List ℕ) (libs : List (List ℕ)) (empty : List ℕ) (segments : List SegmentView) (queue : List UnitReference) (next : Option ℕ) (last : Option Fault) (fault : Option Fault) : Type 0 where

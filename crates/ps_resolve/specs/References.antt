@@ -1,7 +1,7 @@
 -- The references of a segment: what their operands become, and the first fault of them.
 -- Source: the link records UNITREF, PUBLREF and PRIVREF are those of the published II.0 Linker
 -- source; which fault comes first is this project's profile.
-use Rattle.std.specs.Prelude.{◌≡◌, ℕ, ◌+◌, List, [], ◌∷◌, ◌++◌, map, Bool, Option, Some, None, Result, Ok, Err, All, sum_by}
+use Rattle.std.specs.Prelude.{◌≡◌, ℕ, ◌+◌, List, [], ◌∷◌, ◌++◌, map, Bool, true, false, if◌then◌else◌, Option, Some, None, Result, Ok, Err, All, sum_by}
 use Rattle.std.specs.Option.{option_map, option_or}
 use Rattle.std.specs.Map.{lookup}
 use Rattle.std.specs.Str.{bytes_eq}
@@ -21,10 +21,32 @@ use Rattle.ps_resolve.specs.declared.definitions.DefKind.TheVariants.{Public, Co
 use Rattle.ps_resolve.specs.declared.references.Target.{Target}
 use Rattle.ps_resolve.specs.declared.references.Target.TheVariants.{Slot, Base}
 
--- definitions, and slots of units by name
+-- definitions, and slots of units by name, or that each name is defined, and is a unit's
 pub record Known : Type 0 where
+  pub each : Bool
   pub definitions : List (List ℕ × Def)
   pub units : List (List ℕ × ℕ)
+
+-- what names stand for by these definitions and these slots of units
+abbrev pub known_by : List (List ℕ × Def) → List (List ℕ × ℕ) → Known
+known_by definitions units = record { each = false; definitions = definitions; units = units }
+
+-- the base offset from which on a host that would define each name has its variables
+abbrev pub lone_base : ℕ
+lone_base = 1
+
+-- what names stand for in a host that would define each: a public of that base offset, and a
+-- unit
+abbrev pub each_name : Known
+each_name = record { each = true; definitions = []; units = [] }
+
+-- the definition of a name
+abbrev pub known_definition : Known → List ℕ → Option Def
+known_definition known name = if known.each then Some (record { kind = Public; value = lone_base }) else definition_of name known.definitions
+
+-- the slot of the unit of a name
+abbrev pub known_unit : Known → List ℕ → Option ℕ
+known_unit known name = if known.each then Some 0 else lookup (bytes_eq name) known.units
 
 -- the base offset of a public variable, or why its definition gives none
 abbrev pub public_base : Option Def → Result Target Reason
@@ -38,8 +60,8 @@ unit_slot (Some slot) = Ok (Slot slot)
 
 -- what the operands of a record's references become; a record without references has none
 abbrev pub target_in : Known → ℕ → List ℕ → Body → Result Target Reason
-target_in known off name (UnitRef refs) = unit_slot (lookup (bytes_eq name) known.units)
-target_in known off name (PublRef refs) = public_base (definition_of name known.definitions)
+target_in known off name (UnitRef refs) = unit_slot (known_unit known name)
+target_in known off name (PublRef refs) = public_base (known_definition known name)
 target_in known off name (PrivRef words refs) = Ok (Base off)
 target_in known off name (PublDef value) = Ok (Slot 0)
 target_in known off name (ConstDef value) = Ok (Slot 0)

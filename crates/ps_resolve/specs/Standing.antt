@@ -42,9 +42,9 @@ StandsIn OfPrivates order host libs f = InPrivates order host libs f
 StandsIn OfDataSize order host libs f = InDataSize order host libs f
 StandsIn OfReferences order host libs f = InReferences order host libs f
 
--- The fault applies in this step, reported without regard to the steps before it: what a step is
--- about may mean little where an earlier one has a fault, and a fault that applies only so is never
--- first, since that of the earlier step has the smaller key.
+-- The fault applies in this step, whatever the steps before it have: what a step is about may mean
+-- little where an earlier one has a fault, and a fault that applies only so is never first, since
+-- that of the earlier step has the smaller key.
 pub record FaultAt (host : List ℕ) (libs : List (List ℕ)) (step : Step) (f : Fault) : Type 0 where
   pub stands : StandsIn step (order_of host) host libs f
 

@@ -54,7 +54,7 @@ abbrev pub AreRecordsOf : Order → List ℕ → Entry → List LinkRecord → T
 AreRecordsOf order file e rs = reading order (information_of file e) ≡ (rs, None)
 
 -- the link information of the segment, where its references are resolved, begins in its block of
--- its file, and its records are all that apply there
+-- its file, and its records are all that are there
 abbrev pub IsPlaced : Order → List ℕ → List (List ℕ) → SegmentView → Type 0
 IsPlaced order host libs s = needs_linking s.role ≡ true → reading order (drop (block_len * s.block) (file_at host libs s.file)) ≡ (s.records, None)
 

@@ -48,7 +48,7 @@ fn words_of_private(body: &Body) -> Option<u16>
 }
 
 /// Allots the privates of a segment from `next` on, and returns the next free offset.
-fn allot<A: Allocator + Copy>(
+pub(crate) fn allot<A: Allocator + Copy>(
     alloc: A,
     file: usize,
     slot: u8,

@@ -3,11 +3,13 @@
 #![tactic(auto)]
 
 mod allotment;
+mod causes;
 mod definitions;
 mod edit_table;
 mod edits;
 mod linkage;
 mod linking;
+mod lone;
 mod name_hasher;
 mod namesakes;
 mod plan;
@@ -17,8 +19,10 @@ mod resolving;
 mod slot_name_law;
 
 pub use allotment::{Allotment, Private};
+pub use causes::{ReferencePlace, covering_reference, words_before};
 pub use definitions::{Def, DefKind, Definitions};
-pub use linkage::{Linkage, RecordPlace, Stop};
+pub use linkage::{EntryPlace, Linkage, RecordPlace, Stop};
+pub use lone::lone_fault;
 pub use plan::{Plan, Source};
 pub use reading::added::UnitReference;
 pub use reading::request::{Request, Requester};

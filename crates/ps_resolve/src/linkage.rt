@@ -41,6 +41,16 @@ impl SegmentPlace {
     }
 }
 
+/// Where the segment of a slot comes from.
+/// Source: this project's profile.
+#[derive(Clone, Copy, Debug, PartialEq, Eq)]
+pub struct EntryPlace {
+    /// The file: 0 is the host file, k the k-th library, from 1.
+    pub file: usize,
+    /// The slot of its entry in the segment dictionary of that file, 0 to 15.
+    pub index: u8,
+}
+
 /// Where a record is.
 /// Source: this project's profile.
 #[derive(Clone, Copy)]

@@ -18,7 +18,7 @@ use crate::reading::Segments;
 use crate::reading::segment::Segment;
 use crate::reading::slots::HOST_FILE;
 use crate::reading::unit_slots::UnitSlots;
-use crate::references::names::{Linking, Names};
+use crate::references::names::{LinkNames, Linking, Names};
 use arrayvec::ArrayVec;
 use ps_words::Edit;
 use std::alloc::Allocator;
@@ -74,7 +74,9 @@ fn sources_of<'a>(segments: &[Segment<'a>]) -> ArrayVec<Source<'a>, 16>
 }
 
 /// Plans the link of segments that were read without a fault, or names the first fault of their
-/// definitions, their privates, the host's data size and their references.
+/// definitions, their privates, the host's data size and their references. A function by itself,
+/// so that its tables take room of the stack only once the files are read.
+#[inline(never)]
 pub(crate) fn link_segments<'a, A: Allocator + Copy>(
     alloc: A,
     segments: &Segments<'_, 'a>,
@@ -96,8 +98,10 @@ pub(crate) fn link_segments<'a, A: Allocator + Copy>(
     let size = grown_data_size(order, own, allotment.words())?;
     let units = UnitSlots::of(all);
     let known = Names {
-        definitions: &definitions,
-        units: &units,
+        link: Some(LinkNames {
+            definitions: &definitions,
+            units: &units,
+        }),
     };
     let link = Linking {
         order,

@@ -9,8 +9,8 @@ ghost use Rattle.ps_resolve.specs.Sources.{order_of, contents, opened, opened_fi
 ghost use Rattle.ps_resolve.specs.Added.{request_of, all_unit_references, requested_from, rounds_in, segments as all_segments, slot_name as slot_name_spec, slot_names as slot_names_spec};
 ghost use Rattle.ps_resolve.specs.Faults.{slots_fault as slots_fault_spec, no_host_fault as no_host_fault_spec, libraries_fault as libraries_fault_spec};
 ghost use Rattle.ps_resolve.specs.AllFaults.{reading_fault};
-ghost use Rattle.ps_resolve.specs.Readings.{all_read, host_reading_fault, opened_host, queued_request as queued_request_spec, read_requests, slot_fault, slot_reading, slot_request, wanted_request};
-ghost use Rattle.ps_resolve.specs.Views.{segment_of, AreAlike, IsRead, is_in_slot, segment_in_slot, segments_in_slots};
+ghost use Rattle.ps_resolve.specs.Readings.{all_read, host_reading_fault, opened_host, own_reading_fault, queued_request as queued_request_spec, read_requests, named_entry, slot_entry, slot_fault, slot_reading, slot_request, wanted_request};
+ghost use Rattle.ps_resolve.specs.Views.{segment_of, AreAlike, IsRead, IsSound, is_in_slot, segment_in_slot, segments_in_slots};
 
 pub(crate) mod added;
 pub(crate) mod entries;
@@ -23,12 +23,15 @@ pub(crate) mod sources;
 pub(crate) mod unit_slots;
 pub(crate) mod units;
 
+use crate::linkage::EntryPlace;
 use crate::reading::added::{UnitReference, add_units, empty_slots, requested_by};
 use crate::reading::host::{HostSegment, host_of};
 use crate::reading::libraries::libraries_fault;
-use crate::reading::request::{Request, Requester};
+use crate::reading::request::{Request, Requester, unit_named};
 use crate::reading::segment::Segment;
-use crate::reading::slots::{HOST_FILE, HostSlots, is_empty, no_host_fault, slots_fault};
+use crate::reading::slots::{
+    HOST_FILE, HostSlots, is_empty, library_file, no_host_fault, slots_fault,
+};
 use crate::reading::sources::{read_slot, read_slots};
 use crate::reading::unit_slots::UnitSlots;
 use arrayvec::ArrayVec;
@@ -90,6 +93,7 @@ fn add_copy<'a>(segments: &mut ArrayVec<Segment<'a>, 16>, segment: Option<&Segme
 }
 
 /// Fills the table with copies of the segments of all slots, by slot.
+#[inline(never)]
 fn by_slot<'s, 'a>(
     host: &HostSlots<'a>,
     own: &'s [Segment<'a>],
@@ -161,6 +165,7 @@ struct AddedUnits<'a> {
 }
 
 /// Adds units to the own segments of a host, in its empty slots.
+#[inline(never)]
 fn add_to<'a>(
     host: &HostSlots<'a>,
     libs: &'a [&'a [u8]],
@@ -197,23 +202,79 @@ fn add_to<'a>(
     }
 }
 
-/// The first fault of a host and its libraries: of the host's slots, of its want of a host segment,
-/// of the libraries, of the sources of its slots, and of the units that are added.
-fn first_fault(
-    host: &HostSlots,
-    libs: &[&[u8]],
-    sources: Option<Fault>,
-    last: Option<Fault>,
-) -> Option<Fault>
-    ensures { result ≡ option_or (slots_fault_spec host.now.order host.now.file)
-        (option_or (no_host_fault_spec host.now.order host.now.file)
-        (option_or (libraries_fault_spec host.now.order (contents libs.now))
-        (option_or sources last))) }
-{
-    if let Some(fault) = files_fault(host, libs) {
-        return Some(fault);
+/// What was read of a host's own slots and of its libraries, before units are added.
+#[derive(Drop)]
+pub(crate) struct OwnReading<'a> {
+    slots: HostSlots<'a>,
+    libs: &'a [&'a [u8]],
+    /// The own segments that have no fault, by slot ascending.
+    segments: ArrayVec<Segment<'a>, 16>,
+    /// The first fault.
+    fault: Option<Fault>,
+}
+
+impl<'a> Model for OwnReading<'a> {
+    ghost use Rattle.ps_resolve.specs.Sources.{contents};
+    ghost use Rattle.ps_resolve.specs.Readings.{HostFiles, IsOwnReading};
+
+    ghost Value = { HostFiles };
+
+    ghost view = { λ r. record { order = r.slots.order; file = r.slots.file; libs = contents r.libs.now } };
+
+    ghost invariant = { λ r. IsOwnReading r.slots.order r.slots.file (contents r.libs.now) r.segments.items r.fault };
+}
+
+impl<'a> OwnReading<'a> {
+    /// Reads the own slots of a host that was opened, and its libraries. A function by itself, as
+    /// `complete` is.
+    #[inline(never)]
+    pub(crate) fn of(dict: Dict<'a>, libs: &'a [&'a [u8]]) -> OwnReading<'a>
+        requires { 512 ≤ length dict.file }
+        ensures { result
+            ≡ record { order = dict.entry.order; file = dict.entry.file; libs = contents libs.now } }
+    {
+        let slots = HostSlots::of(dict);
+        let mut segments = ArrayVec::new();
+        let sources = read_slots(&slots, libs, &mut segments);
+        let fault = files_fault(&slots, libs).or(sources);
+        OwnReading {
+            slots,
+            libs,
+            segments,
+            fault,
+        }
     }
-    sources.or(last)
+
+    /// The first fault: of the host's slots, of its want of a host segment, of the libraries, or of
+    /// the sources of its slots.
+    pub(crate) fn fault(&self) -> Option<Fault>
+        ensures { result ≡ own_reading_fault self.now.order self.now.file self.now.libs }
+    {
+        self.fault
+    }
+
+    /// The reading of the host, once units are added. A function by itself, so that the tables
+    /// that it fills take room of the stack only until it returns.
+    #[inline(never)]
+    pub(crate) fn complete(&self) -> HostReading<'a>
+        ensures { result ≡ self.now }
+    {
+        let own = self.segments.as_slice();
+        let empty = empty_slots(&self.slots);
+        let added = add_to(&self.slots, self.libs, own, empty.as_slice());
+        let mut segments = ArrayVec::new();
+        by_slot(&self.slots, own, added.segments.as_slice(), &mut segments);
+        HostReading {
+            slots: self.slots.copy(),
+            libs: self.libs,
+            empty,
+            segments,
+            queue: added.queue,
+            next: added.next,
+            last: added.fault,
+            fault: self.fault.or(added.fault),
+        }
+    }
 }
 
 /// The request of a slot that wants a unit.
@@ -293,37 +354,6 @@ impl<'a> Model for HostReading<'a> {
     ghost invariant = { λ r. IsReading r.slots.order r.slots.file (contents r.libs.now) r.empty.items r.segments.items r.queue.items r.next r.last r.fault };
 }
 
-/// Reads a host that was opened, and its libraries.
-fn read_host<'a>(dict: Dict<'a>, libs: &'a [&'a [u8]]) -> HostReading<'a>
-    requires { 512 ≤ length dict.file }
-    ensures { result
-        ≡ record { order = dict.entry.order; file = dict.entry.file; libs = contents libs.now } }
-{
-    let slots = HostSlots::of(dict);
-    let mut own = ArrayVec::new();
-    let sources = read_slots(&slots, libs, &mut own);
-    let empty = empty_slots(&slots);
-    let added = add_to(&slots, libs, own.as_slice(), empty.as_slice());
-    let mut segments = ArrayVec::new();
-    by_slot(
-        &slots,
-        own.as_slice(),
-        added.segments.as_slice(),
-        &mut segments,
-    );
-    let fault = first_fault(&slots, libs, sources, added.fault);
-    HostReading {
-        slots,
-        libs,
-        empty,
-        segments,
-        queue: added.queue,
-        next: added.next,
-        last: added.fault,
-        fault,
-    }
-}
-
 impl<'a> HostReading<'a> {
     /// The first fault of the host and its libraries, in their order: of the host's slots, of its
     /// want of a host segment, of the libraries, of the sources of its slots, and of the units that
@@ -401,6 +431,7 @@ impl<'a> HostReading<'a> {
             self.now.file (opened_files self.now.order self.now.libs) slot ≡ Some (Err f))) }
         ensures none { result ≡ None → slot_reading self.now.order self.now.file
             (opened_files self.now.order self.now.libs) slot ≡ None }
+        ensures sound { IfSome result (λ r. IfOk r (λ s. IsSound self.now.order s.now)) }
     {
         if let Some(fault) = self.fault_in(slot) {
             return Some(Err(fault));
@@ -408,6 +439,40 @@ impl<'a> HostReading<'a> {
         match segment_in(self.segments.as_slice(), slot) {
             None => None,
             Some(segment) => Some(Ok(segment)),
+        }
+    }
+
+    /// The entry that has the unit of a name.
+    fn entry_of_unit(&self, name: Name) -> Option<EntryPlace>
+        ensures { option_map (λ p. (p.file, p.index)) result
+            ≡ named_entry self.now.order (opened_files self.now.order self.now.libs) name }
+    {
+        match unit_named(&self.slots, name, self.libs) {
+            None => None,
+            Some(unit) => Some(EntryPlace {
+                file: library_file(unit.library),
+                index: unit.index,
+            }),
+        }
+    }
+
+    /// Where the segment of a slot, 0 to 15, comes from, also where it is refused: `None` where it
+    /// has none, or where no library has the unit that it wants or that is requested.
+    /// Source: this project's profile.
+    pub fn source(&self, slot: u8) -> Option<EntryPlace>
+        requires { slot < 16 }
+        ensures { option_map (λ p. (p.file, p.index)) result ≡ slot_entry self.now.order
+            self.now.file (opened_files self.now.order self.now.libs) slot }
+    {
+        if let Some(request) = self.request(slot) {
+            return self.entry_of_unit(request.name);
+        }
+        match self.role(slot) {
+            Ok(Role::Plain | Role::Host | Role::Unit) => Some(EntryPlace {
+                file: HOST_FILE,
+                index: slot,
+            }),
+            Ok(Role::Empty | Role::Wanted) | Err(_) => None,
         }
     }
 
@@ -474,7 +539,7 @@ pub fn read<'a>(host: &'a [u8], libs: &'a [&'a [u8]]) -> Reading<'a>
 {
     let read = match Dict::read(host) {
         Err(reason) => Err(reason),
-        Ok(dict) => Ok(read_host(dict, libs)),
+        Ok(dict) => Ok(OwnReading::of(dict, libs).complete()),
     };
     Reading {
         file: host,
@@ -523,26 +588,11 @@ impl<'a> Reading<'a> {
             Ok(host) => host.segments(),
         }
     }
-
-    /// The segments to be linked, or the first fault of reading.
-    pub(crate) fn linkable(&self) -> Result<Segments<'_, 'a>, Fault>
-        ensures order { IfOk result (λ r. r.order ≡ order_of self.now.host) }
-        ensures host { IfOk result (λ r. r.host ≡ self.now.host) }
-        ensures segments { IfOk result (λ r. map segment_of r.items
-            ≡ all_segments (order_of self.now.host) self.now.host self.now.libs) }
-        ensures faultless { IfOk result (λ _. reading_fault self.now.host self.now.libs ≡ None) }
-        ensures fault { IfErr result (λ f. reading_fault self.now.host self.now.libs ≡ Some f) }
-    {
-        match &self.host {
-            Err(reason) => Err(Fault::in_file(HOST_FILE, *reason)),
-            Ok(host) => host.linkable(self.file),
-        }
-    }
 }
 
 impl<'a> HostReading<'a> {
     /// The segments to be linked, or the first fault of reading; `file` is the host.
-    fn linkable<'r>(&'r self, file: &'a [u8]) -> Result<Segments<'r, 'a>, Fault>
+    pub(crate) fn linkable<'r>(&'r self, file: &'a [u8]) -> Result<Segments<'r, 'a>, Fault>
         requires { file.now ≡ self.now.file }
         ensures order { IfOk result (λ r. r.order ≡ self.now.order) }
         ensures host { IfOk result (λ r. r.host ≡ self.now.file) }

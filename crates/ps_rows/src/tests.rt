@@ -13,6 +13,7 @@ mod in_place_faults;
 mod largest_codes;
 mod link_allocations;
 mod link_information;
+mod lone_units;
 mod marks;
 mod most_records;
 mod order_of_faults;

@@ -1,17 +1,20 @@
 //! What the library exports. C hands a slice over as a pointer and then a length, and a `Global` as
 //! nothing.
-ghost use Rattle.std.specs.Prelude.{◌≡◌, ◌≢◌, ◌≤◌, ◌<◌, length, sum, None, IfNone, IfSome};
+ghost use Rattle.std.specs.Prelude.{◌≡◌, ◌≢◌, ◌==◌, ◌≤◌, ◌<◌, ◌⊎◌, length, not, sum, None, IfNone, IfSome};
 ghost use Rattle.ps_resolve.specs.Standing.{NoneStandsInReading};
 ghost use Rattle.ps_linkfile.specs.ShowText.{show_fault};
 ghost use Rattle.ps_calls.specs.Libraries.{split};
 ghost use Rattle.ps_calls.specs.Answers.{bare, closed_text, refusal_fault, IsStatus};
+ghost use Rattle.ps_calls.specs.Checks.{IsCheckable};
+ghost use Rattle.ps_calls.specs.CheckAnswers.{bare_check, IsCheckStatus};
 ghost use Rattle.ps_calls.specs.Names.{closed, fault_name, release, status_text};
 ghost use Rattle.ps_calls.specs.Rooms.{RoomBeginsWith};
-ghost use Rattle.ps_calls.specs.Calls.{Links, LinkNeeds, Maps, MapNeeds, Refuses, RefusesToShow, Shows, ShowNeeds};
+ghost use Rattle.ps_calls.specs.Calls.{Links, LinkNeeds, Maps, MapNeeds, Refuses, RefusesToShow, Reports, ReportNeeds, Shows, ShowNeeds};
 
 use ps_calls::{
-    Answer, DONE, FAULT_TEXT_MAX, LIBRARIES_IN_PLACE, LINKED_MAX, NO_MEMORY, REFUSED, TOO_SMALL,
-    WRONG_LENGTHS, link, map, put_fault, put_fault_name, put_release, put_status_text, show,
+    Answer, CheckAnswer, DONE, FAULT_TEXT_MAX, LIBRARIES_IN_PLACE, LINKED_MAX, NO_MEMORY, REFUSED,
+    TOO_SMALL, WRONG_LENGTHS, check, link, map, put_fault, put_fault_name, put_release,
+    put_status_text, show,
 };
 use std::alloc::Global;
 
@@ -125,6 +128,62 @@ pub extern "C" fn pslink_show_nonnull(
     ensures bare_memory { result ≡ NO_MEMORY → answer.new ≡ bare NO_MEMORY }
 {
     *answer = Answer::of(show(alloc, file, out));
+    answer.status
+}
+
+/// Checks a host and its libraries, puts the report in `out`, as UTF-8 text, and answers how it
+/// went: what a link of them would do, and why it would not.
+///
+/// `host`, `libs` and `lengths` are those of `pslink_link_nonnull`. `names` has the names of the
+/// files in the report, UTF-8, one after another, and `name_lengths` the length of each, that of
+/// the host first. Answers `DONE`, and `out` then begins with the report, also where the files are
+/// refused: `verdict` in the answer says so, and `ends_with` is 1 where they are, and where `strict`
+/// is not 0 on a warning too; `WRONG_LENGTHS` where `lengths` do not add up to the length of `libs`,
+/// or `name_lengths` to that of `names`, where there is not one name for each file, and where a name
+/// is no UTF-8; `NO_MEMORY` where memory was refused; and `TOO_SMALL` where `out` is shorter than the
+/// report. Never answers `REFUSED`.
+/// Source: this project's profile.
+#[unsafe(no_mangle)]
+pub extern "C" fn pslink_check_nonnull(
+    alloc: Global,
+    host: &[u8],
+    libs: &[u8],
+    lengths: &[usize],
+    names: &[u8],
+    name_lengths: &[usize],
+    strict: u32,
+    out: &mut [u8],
+    answer: &mut CheckAnswer,
+) -> u32
+    ensures status { answer.new.status ≡ result }
+    ensures known { IsCheckStatus result }
+    ensures reported { result ≡ DONE → Reports host.now (split libs.now lengths.now)
+        (not (strict == 0)) out.old out.new answer.new }
+
+    // Why else nothing is done.
+    ensures wrong { result ≡ WRONG_LENGTHS
+        → IsCheckable libs.now lengths.now names.now name_lengths.now → ⊥ }
+    ensures right { (result ≡ DONE) ⊎ (result ≡ TOO_SMALL)
+        → IsCheckable libs.now lengths.now names.now name_lengths.now }
+    ensures small { result ≡ TOO_SMALL
+        → ReportNeeds host.now (split libs.now lengths.now) out.old answer.new }
+
+    // What stays as it was, and what is not said.
+    ensures untouched { result ≢ DONE → out.new ≡ out.old }
+    ensures bare_wrong { result ≡ WRONG_LENGTHS → answer.new ≡ bare_check WRONG_LENGTHS }
+    ensures bare_memory { result ≡ NO_MEMORY → answer.new ≡ bare_check NO_MEMORY }
+{
+    let outcome = check(
+        alloc,
+        host,
+        libs,
+        lengths,
+        names,
+        name_lengths,
+        strict != 0,
+        out,
+    );
+    *answer = CheckAnswer::of(outcome);
     answer.status
 }
 

@@ -1,7 +1,8 @@
 //! What is said of a name that the host program does not define as it is requested.
 use super::dictionary::plain;
 use super::{Case, word_of};
-use crate::segments::{Part, Segment, Sort};
+use crate::segments::{Part, Segment};
+use ps_linkinfo::Sort;
 use ps_shown::ShownName;
 use ps_words::Name;
 use std::alloc::{AllocError, Allocator};
@@ -55,7 +56,7 @@ fn add_own<A: Allocator>(
     name: &Name,
 ) -> Result<(), AllocError> {
     match &case.segment {
-        Some(unit) if unit.part.is_unit() => match unit.find(name, Sort::Variable) {
+        Some(unit) if unit.part.is_unit() => match unit.records().find(name, Sort::Variable) {
             Some((rec, _)) => writeln!(
                 text,
                 "  the unit itself has a PUBLDEF of it, record {rec}, which is not used: the host program has to define it"

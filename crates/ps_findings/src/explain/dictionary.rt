@@ -143,6 +143,7 @@ pub(super) fn add_libraries<A: Allocator>(
     }
     match count.checked_sub(MOST_LIBRARIES) {
         None | Some(0) => Ok(()),
+        Some(1) => text.push_str("  there is 1 more library\n"),
         Some(more) => writeln!(text, "  there are {more} more libraries"),
     }
 }

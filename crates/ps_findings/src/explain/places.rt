@@ -1,35 +1,24 @@
 //! What is said of an operand that may not be where it is.
 use super::Case;
-use super::code::{Table, table_of};
-use super::references::{Operand, refs_of, told_operand};
-use ps_codefile::code_layout::{TABLE_NUMBERS, TABLE_WORDS};
-use ps_linkinfo::LinkRecord;
+use super::references::told_operand;
+use ps_codefile::ProcedureDictionary;
+use ps_codefile::code_layout::NUMBERS;
+use ps_linkinfo::Operand;
+use ps_resolve::{ReferencePlace, covering_reference};
 use ps_shown::ShownName;
-use ps_words::Fault;
 use std::alloc::{AllocError, Allocator};
 use std::fmt::Write as _;
 
-/// The two operands share a byte.
-fn share(a: Operand, b: Operand) -> bool {
-    a.place < b.place.saturating_add(b.width) && b.place < a.place.saturating_add(a.width)
-}
-
-/// The first procedure whose table has a byte of the operand.
-fn table_at(case: &Case<'_, '_>, operand: Operand) -> Option<usize> {
-    let order = case.source()?.order;
-    let code = case.code();
-    for procedure in 1..=usize::from(code.last().copied()?) {
-        if let Table::At(place) = table_of(order, code, procedure) {
-            let table = Operand {
-                place: place.saturating_sub(TABLE_WORDS),
-                width: TABLE_WORDS + TABLE_NUMBERS,
-            };
-            if share(table, operand) {
-                return Some(procedure);
-            }
-        }
+/// The first procedure whose table has the first or the last byte of the operand.
+fn table_with(case: &Case<'_, '_>, operand: Operand) -> Option<usize> {
+    let (order, code) = (case.source()?.order, case.code());
+    if code.len() < NUMBERS {
+        return None;
     }
-    None
+    let dictionary = ProcedureDictionary::read(order, code, false).ok()?;
+    let first = usize::from(operand.place);
+    let last = (first + usize::from(operand.width)).saturating_sub(1);
+    dictionary.table_with(first).or(dictionary.table_with(last))
 }
 
 /// Adds how long the code is, or which table has the operand's bytes.
@@ -41,29 +30,13 @@ pub(super) fn add_place<A: Allocator>(
         return Ok(());
     };
     let length = case.code().len();
-    if length < operand.place.saturating_add(operand.width) {
+    if length < usize::from(operand.place) + usize::from(operand.width) {
         return writeln!(text, "  the code has {length} bytes");
     }
-    match table_at(case, operand) {
+    match table_with(case, operand) {
         Some(procedure) => writeln!(text, "  it lies in the table of procedure {procedure}"),
         None => writeln!(text, "  it lies in the procedure dictionary"),
     }
-}
-
-/// The first reference of a record, of those before that of the fault, whose operand shares a byte
-/// with it.
-fn sharing(fault: Fault, rec: usize, record: &LinkRecord<'_>, operand: Operand) -> Option<usize> {
-    let last = fault.rec.unwrap_or(0);
-    let end = fault.reference.unwrap_or(0);
-    let (refs, width) = refs_of(&record.body)?;
-    for reference in 0..refs.len() {
-        let place = usize::from(refs.get(reference));
-        let is_earlier = rec < last || rec == last && reference < end;
-        if is_earlier && share(Operand { place, width }, operand) {
-            return Some(reference);
-        }
-    }
-    None
 }
 
 /// Adds the earlier reference that covers a byte of this one.
@@ -74,14 +47,23 @@ pub(super) fn add_covered<A: Allocator>(
     let (Some(operand), Some(segment)) = (told_operand(case), &case.segment) else {
         return Ok(());
     };
-    for (rec, record) in segment.records().records() {
-        if let Some(reference) = sharing(case.fault, rec, &record, operand) {
+    let (Some(rec), Some(reference)) = (case.fault.rec, case.fault.reference) else {
+        return Ok(());
+    };
+    let place = ReferencePlace { rec, reference };
+    let records = segment.records();
+    let Some(earlier) = covering_reference(&records, place, operand) else {
+        return Ok(());
+    };
+    let ReferencePlace { rec, reference } = earlier;
+    match records.record(rec) {
+        Some(record) => {
             let name = ShownName(record.name);
-            return writeln!(
+            writeln!(
                 text,
                 "  the earlier one is reference {reference} of record {rec}, {name}"
-            );
+            )
         }
+        None => Ok(()),
     }
-    Ok(())
 }

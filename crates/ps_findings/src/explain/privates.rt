@@ -1,57 +1,35 @@
 //! What is said of private variables that do not fit.
 use super::Case;
-use super::code::{Table, table_of};
 use super::definitions::host_of;
 use crate::segments::Segment;
-use ps_codefile::code_layout::{DATA_SIZE_BEFORE_TABLE, OUTER_BLOCK};
+use ps_codefile::ProcedureDictionary;
+use ps_codefile::code_layout::NUMBERS;
+use ps_codefile::dictionary_layout::SLOTS;
 use ps_linkinfo::Body;
-use ps_words::{Order, WORD_LEN, get};
+use ps_resolve::words_before;
+use ps_words::Order;
 use std::alloc::{AllocError, Allocator};
 use std::fmt::Write as _;
 
-/// The words of the private variables of a segment before this record.
-fn words_before(segment: &Segment<'_>, end: usize) -> usize {
-    let mut words = 0usize;
-    for (rec, record) in segment.records().records() {
-        if let Body::PrivRef { words: more, .. } = record.body {
-            if rec < end {
-                words = words.saturating_add(usize::from(more));
-            }
-        }
-    }
-    words
-}
-
 /// The words of the private variables before the record that the fault is reported with, or of all
 /// where it is reported with none.
-fn words_of(case: &Case<'_, '_>) -> usize {
-    let end = case.fault.slot.unwrap_or(u8::MAX);
-    let is_of_record = case.fault.rec.is_some();
-    let mut words = 0usize;
-    for segment in case.list {
-        let slot = segment.slot.unwrap_or(u8::MAX);
-        if !is_of_record || slot < end {
-            words = words.saturating_add(words_before(segment, usize::MAX));
-        } else if slot == end {
-            let before = case.fault.rec.unwrap_or(0);
-            words = words.saturating_add(words_before(segment, before));
-        }
-    }
-    words
+fn words_of(case: &Case<'_, '_>) -> u64 {
+    let segments = case.reading.segments();
+    let words = match (case.fault.slot, case.fault.rec) {
+        (Some(slot), Some(rec)) => words_before(segments, slot, rec),
+        _ => words_before(segments, SLOTS, 0),
+    };
+    u64::from(words.unwrap_or(u32::MAX))
 }
 
 /// The data size of the outer block of a host program, in bytes.
 pub(crate) fn data_size(order: Order, code: &[u8]) -> Option<u16> {
-    match table_of(order, code, OUTER_BLOCK) {
-        Table::At(place) => {
-            let at = place.checked_sub(DATA_SIZE_BEFORE_TABLE)?;
-            match code.get(at..) {
-                Some(rest) if WORD_LEN <= rest.len() => Some(get(order, rest, 0)),
-                _ => None,
-            }
-        }
-        _ => None,
+    if code.len() < NUMBERS {
+        return None;
     }
+    ProcedureDictionary::read(order, code, true)
+        .ok()?
+        .data_size()
 }
 
 /// That of the host program.
@@ -61,9 +39,9 @@ fn own_size(host: &Segment<'_>) -> Option<u16> {
 }
 
 /// The base offset of the private variable of the record that the fault is reported with.
-pub(super) fn offset(case: &Case<'_, '_>) -> usize {
+pub(super) fn offset(case: &Case<'_, '_>) -> u64 {
     let next = match host_of(case.list) {
-        Some(host) => usize::from(host.records().next()),
+        Some(host) => u64::from(host.records().next()),
         None => 0,
     };
     next.saturating_add(words_of(case))

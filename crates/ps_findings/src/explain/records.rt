@@ -1,8 +1,7 @@
 //! What faults of link information say.
 use super::{Case, word_of};
-use crate::segments::Sort;
-use ps_linkinfo::LinkInformation;
 use ps_linkinfo::record_layout::{FORMAT_PLACE, RECORD_LEN, TYPE_PLACE};
+use ps_linkinfo::{LinkInformation, Sort};
 use ps_shown::ShownName;
 use ps_words::{Order, Reason, get};
 use std::alloc::{AllocError, Allocator};
@@ -61,7 +60,7 @@ pub(super) fn add_earlier<A: Allocator>(
         Reason::DoubledPrivate => Sort::Private,
         _ => Sort::Definition,
     };
-    let Some((rec, record)) = segment.find(&duplicate.name, sort) else {
+    let Some((rec, record)) = segment.records().find(&duplicate.name, sort) else {
         return Ok(());
     };
     let kind = word_of(&record.body);

@@ -1,38 +1,10 @@
 //! What is said of a reference.
 use super::definitions::host_of;
 use super::{Case, privates};
-use crate::segments::Sort;
-use ps_linkinfo::{Body, LinkRecord, Refs};
+use ps_linkinfo::{Body, LinkRecord, Operand, Sort};
 use ps_words::{Name, get_big};
 use std::alloc::{AllocError, Allocator};
 use std::fmt::{self, Formatter, Write as _};
-
-/// The references of a record, and how many bytes each of their operands has.
-pub(crate) fn refs_of<'r, 'a>(body: &'r Body<'a>) -> Option<(&'r Refs<'a>, usize)> {
-    match body {
-        Body::UnitRef(refs) => Some((refs, 1)),
-        Body::PublRef(refs) | Body::PrivRef { refs, .. } => Some((refs, 2)),
-        Body::PublDef(_) | Body::ConstDef(_) | Body::Eof(_) => None,
-    }
-}
-
-/// An operand: its first byte's place in the code, and how many bytes it has.
-#[derive(Clone, Copy)]
-pub(crate) struct Operand {
-    pub(crate) place: usize,
-    pub(crate) width: usize,
-}
-
-/// The operand of a reference of a record.
-pub(crate) fn operand_of(record: &LinkRecord<'_>, reference: usize) -> Option<Operand> {
-    let (refs, width) = refs_of(&record.body)?;
-    if reference < refs.len() {
-        let place = usize::from(refs.get(reference));
-        Some(Operand { place, width })
-    } else {
-        None
-    }
-}
 
 /// Bytes as they are, in two hexadecimal digits each.
 #[derive(Clone, Copy)]
@@ -52,13 +24,13 @@ impl fmt::Display for Bytes<'_> {
 
 /// The operand that the fault is reported with.
 pub(super) fn told_operand(case: &Case<'_, '_>) -> Option<Operand> {
-    operand_of(&case.record()?, case.fault.reference?)
+    case.record()?.operand(case.fault.reference?)
 }
 
 /// The bytes of an operand, as far as the code has them.
 pub(crate) fn bytes_at<'a>(code: &'a [u8], operand: Operand) -> &'a [u8] {
-    let rest = code.get(operand.place..).unwrap_or(&[]);
-    rest.get(..operand.width).unwrap_or(rest)
+    let rest = code.get(usize::from(operand.place)..).unwrap_or(&[]);
+    rest.get(..usize::from(operand.width)).unwrap_or(rest)
 }
 
 /// Adds the reference with the bytes that are there.
@@ -98,7 +70,7 @@ pub(super) fn add_sum<A: Allocator>(
     };
     let value = match record.body {
         Body::PrivRef { .. } => privates::offset(case),
-        _ => value_of(case, &record.name),
+        _ => u64::from(value_of(case, &record.name)),
     };
     writeln!(
         text,
@@ -107,11 +79,11 @@ pub(super) fn add_sum<A: Allocator>(
 }
 
 /// The value of the host's definition of the name.
-fn value_of(case: &Case<'_, '_>, name: &Name) -> usize {
+fn value_of(case: &Case<'_, '_>, name: &Name) -> u16 {
     let Some(host) = host_of(case.list) else {
         return 0;
     };
-    match host.find(name, Sort::Variable) {
+    match host.records().find(name, Sort::Variable) {
         Some(
             (
                 _,
@@ -120,7 +92,7 @@ fn value_of(case: &Case<'_, '_>, name: &Name) -> usize {
                     ..
                 },
             ),
-        ) => usize::from(value),
+        ) => value,
         _ => 0,
     }
 }

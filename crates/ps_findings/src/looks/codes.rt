@@ -1,11 +1,12 @@
 //! Codes that look wrong.
+use super::instructions::Fit;
 use super::{Sight, Warnings};
 use crate::segments::Source;
 use crate::warnings::{Look, Place};
 use ps_codefile::Procs;
 use ps_codefile::kinds::HOSTSEG;
 use ps_filetype::only_byte;
-use ps_words::{Order, get};
+use ps_words::{Order, Reason, get};
 use std::alloc::{AllocError, Allocator};
 
 /// What is where nothing was written or read: zeros, what a disk is formatted with, what CP/M pads
@@ -37,7 +38,14 @@ pub(super) fn look_at<'a, A: Allocator>(
     }
     if source.needs_linking() {
         warnings.add(place, number_look(source, code))?;
+    } else if sight.are_p_code {
+        warnings.add(place, lost_tables(source.order, code))?;
+    }
+    if source.needs_linking() || sight.are_p_code {
         warnings.add(place, table_look(source.order, code))?;
+    }
+    if sight.are_p_code {
+        warnings.add(place, misfit_look(source.order, code))?;
     }
     Ok(())
 }
@@ -106,7 +114,7 @@ fn table_look(order: Order, code: &[u8]) -> Option<Look> {
             if usize::from(found) != procedure {
                 return Some(Look::OtherProcedure { procedure, found });
             }
-            if is_outside(order, code, place) {
+            if Ends::at(order, code, place).is_none() {
                 return Some(Look::OutsideCode { procedure });
             }
         }
@@ -114,16 +122,42 @@ fn table_look(order: Order, code: &[u8]) -> Option<Look> {
     None
 }
 
-/// The table at this place says that its procedure is entered or left before the code.
-fn is_outside(order: Order, code: &[u8], place: usize) -> bool {
-    let (Some(enter_at), Some(leave_at)) = (place.checked_sub(2), place.checked_sub(4)) else {
-        return false;
-    };
-    match code.get(leave_at..) {
-        Some(words) if 4 <= words.len() => {
-            leave_at < usize::from(get(order, words, 0))
-                || enter_at < usize::from(get(order, words, 2))
+/// The procedure dictionary of a linked segment, which a link does not read, if it is not whole or
+/// has no procedure.
+fn lost_tables(order: Order, code: &[u8]) -> Option<Look> {
+    if code.len() < 2 {
+        return None;
+    }
+    match Procs::read(order, code, false) {
+        Err(Reason::BadProcDict) => Some(Look::LostTables),
+        Ok(procs) if procs.count() == 0 => Some(Look::LostTables),
+        _ => None,
+    }
+}
+
+/// The first procedure whose instructions do not fit.
+fn misfit_look(order: Order, code: &[u8]) -> Option<Look> {
+    let procedure = Fit::of(order, code).first_other?;
+    Some(Look::Misfit { procedure })
+}
+
+/// Where a procedure is entered, and where it is left.
+#[derive(Clone, Copy)]
+pub(super) struct Ends {
+    pub(super) enter: usize,
+    pub(super) leave: usize,
+}
+
+impl Ends {
+    /// Those of the table at this place; none where one of them is before the code.
+    pub(super) fn at(order: Order, code: &[u8], table: usize) -> Option<Ends> {
+        let (enter_at, leave_at) = (table.checked_sub(2)?, table.checked_sub(4)?);
+        match code.get(leave_at..) {
+            Some(words) if 4 <= words.len() => Some(Ends {
+                enter: enter_at.checked_sub(usize::from(get(order, words, 2)))?,
+                leave: leave_at.checked_sub(usize::from(get(order, words, 0)))?,
+            }),
+            _ => None,
         }
-        _ => false,
     }
 }

@@ -14,13 +14,18 @@ use std::alloc::{AllocError, Allocator};
 
 /// The bytes of a file that an entry has, from `start` on and before `end`.
 #[derive(Clone, Copy)]
-struct Extent {
+pub(super) struct Extent {
     slot: u8,
-    start: usize,
+    pub(super) start: usize,
     end: usize,
 }
 
 impl Extent {
+    /// Where the last block ends that has bytes of the entry.
+    pub(super) fn last_block_end(&self) -> usize {
+        BLOCK_SIZE.saturating_mul(blocks_of(self.end))
+    }
+
     /// No bytes.
     const EMPTY: Extent = Extent {
         slot: 0,
@@ -52,29 +57,38 @@ fn extent_of(dict: &Dict<'_>, file: usize, slot: u8) -> Option<Extent>
     Some(Extent { slot, start, end })
 }
 
+/// What each entry has of its file, by slot; no bytes where it has none.
+pub(super) fn extents_of(dict: &Dict<'_>, file: usize) -> [Extent; SLOTS as usize] {
+    let mut extents = [Extent::EMPTY; SLOTS as usize];
+    for slot in 0..SLOTS {
+        if let Some(extent) = extent_of(dict, file, slot) {
+            extents[usize::from(slot)] = extent;
+        }
+    }
+    extents
+}
+
 /// Looks whether entries have bytes in common.
 pub(super) fn look_at<'a, A: Allocator>(
     warnings: &mut Warnings<'a, A>,
     place: Place<'a>,
     dict: &Dict<'_>,
-    file: usize,
+    extents: &[Extent],
 ) -> Result<(), AllocError> {
-    let mut earlier = [Extent::EMPTY; SLOTS as usize];
-    for slot in 0..SLOTS {
-        if let Some(extent) = extent_of(dict, file, slot) {
-            let segment = Some(dict.entry(slot).name);
-            let look = first_shared_extent(&earlier, extent);
+    for extent in extents {
+        if extent.slot < SLOTS {
+            let segment = Some(dict.entry(extent.slot).name);
+            let look = first_shared_extent(extents, *extent);
             warnings.add(Place { segment, ..place }, look)?;
-            earlier[usize::from(slot)] = extent;
         }
     }
     Ok(())
 }
 
-/// The first of these extents that has bytes in common with another one.
-fn first_shared_extent(earlier: &[Extent], extent: Extent) -> Option<Look> {
-    for other in earlier {
-        if other.start < extent.end && extent.start < other.end {
+/// The first of these extents, of those of earlier slots, that has bytes in common with another one.
+fn first_shared_extent(extents: &[Extent], extent: Extent) -> Option<Look> {
+    for other in extents {
+        if other.slot < extent.slot && other.start < extent.end && extent.start < other.end {
             return Some(Look::Overlap { other: other.slot });
         }
     }

@@ -4,12 +4,12 @@ use super::{Sight, Warnings};
 use crate::explain::definitions::host_of;
 use crate::explain::privates::data_size;
 use crate::explain::records::length_of;
-use crate::segments::{Sort, Source, find_in};
+use crate::segments::Source;
 use crate::warnings::{Look, Place};
 use ps_codefile::kinds::HOSTSEG;
 use ps_filetype::only_byte;
 use ps_linkinfo::record_layout::{RECORD_LEN, TYPE_PLACE};
-use ps_linkinfo::{Body, LinkInformation, LinkRecord, Refs};
+use ps_linkinfo::{Body, LinkInformation, LinkRecord, Refs, Sort};
 use ps_words::{Name, Order, get_big};
 use std::alloc::{AllocError, Allocator};
 
@@ -158,9 +158,9 @@ fn first_definition(records: &LinkInformation<'_>, sight: &Sight<'_, '_>) -> Opt
     for (rec, record) in records.records() {
         if let Body::PublDef(_) = record.body {
             let name = record.name;
-            let is_used = find_in(records, &name, Sort::Request).is_some();
+            let is_used = records.find(&name, Sort::Request).is_some();
             let is_defined = match host_of(sight.list) {
-                Some(host) => host.find(&name, Sort::Definition).is_some(),
+                Some(host) => host.records().find(&name, Sort::Definition).is_some(),
                 None => true,
             };
             let look = match is_used && !is_defined {

@@ -12,6 +12,7 @@ Commands:
   map    Prints where a link would put each segment and private, and writes no file
   show   Prints the segments of one code file and the link information of each
   check  Says in words what is wrong with the files and what only looks right
+  list   Prints a line of each file and of each of its segments, made for grep
   help   Print this message or the help of the given subcommand(s)
 
 Options:
@@ -67,17 +68,23 @@ A name that begins with a dash is given as ./-name, or after --. See pslink(1).
 
 const MAP_HELP: &str = "Prints where a link would put each segment and private, and writes no file
 
-Usage: pslink map <HOST> [LIB]...
+Usage: pslink map [OPTIONS] <HOST> [LIB]...
 
 Arguments:
   <HOST>    The code file that holds the host program
   [LIB]...  A library to search for units, in the order given
 
 Options:
-  -h, --help  Print help
+      --references  Prints what the link stores at each place, too
+      --json        Prints the same values as one JSON document
+  -h, --help        Print help
 
 Example:
   pslink map host.code library.code
+
+With --references a line follows for each place at which the link stores bytes: its
+offset in the code and in the linked file, the bytes there before and after the link,
+and the record. With --json the same values are printed as one JSON document.
 
 Exit status:
   0  the map was printed
@@ -91,16 +98,19 @@ A name that begins with a dash is given as ./-name, or after --. See pslink(1).
 
 const SHOW_HELP: &str = "Prints the segments of one code file and the link information of each
 
-Usage: pslink show <FILE>
+Usage: pslink show [OPTIONS] <FILE>
 
 Arguments:
   <FILE>  The code file to show: a host, a library, or a linked file
 
 Options:
+      --json  Prints the same values as one JSON document
   -h, --help  Print help
 
 Example:
   pslink show library.code
+
+With --json the same values are printed as one JSON document.
 
 Exit status:
   0  the segments were printed
@@ -122,6 +132,8 @@ Arguments:
 
 Options:
       --strict  Ends with status 1 on a warning too
+      --unit    Lists each file, and what refuses each of its units by itself
+      --json    Prints the same values as one JSON document
   -h, --help    Print help
 
 Example:
@@ -129,7 +141,13 @@ Example:
 
 The report is for a person: the files, where each segment comes from, whether they
 are linked, and if not what is wrong and what to do. A line that begins with
-'warning: ' reports what looks wrong and is no fault. No file is written.
+'warning: ' reports what looks wrong and is no fault. No file is written. With --json
+the verdict, the warnings and the report are printed as one JSON document.
+
+With --unit the files are listed as by list, and after the lines of each file comes a
+line of each unit that it has, with its first fault in a link with a host that would
+define each name: so a unit can be checked before there is a host. The other options
+then change nothing, and a file without a unit is refused.
 
 Exit status:
   0  the files link, and there may be warnings
@@ -142,7 +160,7 @@ A name that begins with a dash is given as ./-name, or after --. See pslink(1).
 ";
 
 const NO_ARGS: &str = "error: 'pslink' requires a subcommand but one was not provided
-  [subcommands: link, map, show, check, help]
+  [subcommands: link, map, show, check, list, help]
 
 Usage: pslink <COMMAND>
 
@@ -190,7 +208,7 @@ For more information, try '--help'.
 
 const TWO_FILES: &str = "error: unexpected argument 'b' found
 
-Usage: pslink show <FILE>
+Usage: pslink show [OPTIONS] <FILE>
 
 For more information, try '--help'.
 ";

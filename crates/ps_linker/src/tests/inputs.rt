@@ -261,6 +261,37 @@ private 07 STATE    offset 8 words 4
 next 12 data 18 blocks 3
 ";
 
+/// The same with its references: the data size grows by 8 bytes, COUNT has the value 3 and STATE
+/// the base offset 8.
+pub const REFERENCES_OF_PAIR: &str = "segment 01 DEMO     file 0 entry 01 block 1 length 18
+segment 07 UTIL     file 1 entry 02 block 2 length 24
+public COUNT    value 3
+private 07 STATE    offset 8 words 4
+next 12 data 18 blocks 3
+data size 01 DEMO     at 4 file 516 was 0A00 is 1200
+number 01 DEMO     at 16 file 528 was 01 is 01
+reference 07 UTIL     at 1 file 1025 was 8000 is 8003 PUBLREF COUNT    record 0
+reference 07 UTIL     at 4 file 1028 was 8002 is 800A PRIVREF STATE    record 1
+number 07 UTIL     at 22 file 1046 was 02 is 07
+";
+
+/// The same as JSON.
+pub const JSON_OF_PAIR: &str = "{\"segments\":[
+{\"slot\":1,\"name\":\"DEMO    \",\"name_hex\":\"44454D4F20202020\",\"file\":0,\"entry\":1,\"block\":1,\"length\":18,\"added\":false},
+{\"slot\":7,\"name\":\"UTIL    \",\"name_hex\":\"5554494C20202020\",\"file\":1,\"entry\":2,\"block\":2,\"length\":24,\"added\":false}
+],\"definitions\":[
+{\"kind\":\"public\",\"name\":\"COUNT   \",\"name_hex\":\"434F554E54202020\",\"value\":3}
+],\"privates\":[
+{\"slot\":7,\"name\":\"STATE   \",\"name_hex\":\"5354415445202020\",\"offset\":8,\"words\":4}
+],\"next\":12,\"data\":18,\"blocks\":3,\"references\":[
+{\"stores\":\"data size\",\"slot\":1,\"name\":\"DEMO    \",\"name_hex\":\"44454D4F20202020\",\"at\":4,\"offset\":516,\"was\":\"0A00\",\"is\":\"1200\",\"record\":null},
+{\"stores\":\"number\",\"slot\":1,\"name\":\"DEMO    \",\"name_hex\":\"44454D4F20202020\",\"at\":16,\"offset\":528,\"was\":\"01\",\"is\":\"01\",\"record\":null},
+{\"stores\":\"reference\",\"slot\":7,\"name\":\"UTIL    \",\"name_hex\":\"5554494C20202020\",\"at\":1,\"offset\":1025,\"was\":\"8000\",\"is\":\"8003\",\"record\":{\"kind\":\"PUBLREF\",\"name\":\"COUNT   \",\"name_hex\":\"434F554E54202020\",\"index\":0}},
+{\"stores\":\"reference\",\"slot\":7,\"name\":\"UTIL    \",\"name_hex\":\"5554494C20202020\",\"at\":4,\"offset\":1028,\"was\":\"8002\",\"is\":\"800A\",\"record\":{\"kind\":\"PRIVREF\",\"name\":\"STATE   \",\"name_hex\":\"5354415445202020\",\"index\":1}},
+{\"stores\":\"number\",\"slot\":7,\"name\":\"UTIL    \",\"name_hex\":\"5554494C20202020\",\"at\":22,\"offset\":1046,\"was\":\"02\",\"is\":\"07\",\"record\":null}
+]}
+";
+
 /// The same, where the host has a constant more.
 pub const MAP_WITH_CONSTANT: &str = "segment 01 DEMO     file 0 entry 01 block 1 length 18
 segment 07 UTIL     file 1 entry 02 block 2 length 24

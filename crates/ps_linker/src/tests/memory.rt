@@ -2,8 +2,9 @@
 use super::args::HELP;
 use super::faulty::Faulty;
 use super::inputs::{
-    HOST, HOST_IN_PLACE, Image, LIBRARY, LINKED_HOST_IN_PLACE, LINKED_PAIR, MAP_OF_PAIR,
-    SHOWN_LIBRARY, SUMMARY_IN_PLACE, SUMMARY_OF_PAIR, save_all, save_text,
+    HOST, HOST_IN_PLACE, Image, JSON_OF_PAIR, LIBRARY, LINKED_HOST_IN_PLACE, LINKED_PAIR,
+    MAP_OF_PAIR, REFERENCES_OF_PAIR, SHOWN_LIBRARY, SUMMARY_IN_PLACE, SUMMARY_OF_PAIR, save_all,
+    save_text,
 };
 use super::outcome::{clean, done_with, holds, holds_image};
 use refusing::Refusing;
@@ -19,6 +20,12 @@ slot 01 DEMO: the host program, from memory-host entry 01, 18 bytes
 slot 07 UTIL: a unit that the host wants, from memory-library entry 02, 24 bytes
 slots without a segment: 00 02 03 04 05 06 08 09 10 11 12 13 14 15
 links: segments 2 private words 4 blocks 3
+";
+
+/// The same as JSON.
+const JSON_REPORT: &str =
+    "{\"links\":true,\"segments\":2,\"private_words\":4,\"blocks\":3,\"fault\":null,\"warnings\":[
+],\"report\":\"file 0 memory-host: 1536 bytes, little-endian\\nfile 1 memory-library: 1536 bytes, little-endian\\nslot 01 DEMO: the host program, from memory-host entry 01, 18 bytes\\nslot 07 UTIL: a unit that the host wants, from memory-library entry 02, 24 bytes\\nslots without a segment: 00 02 03 04 05 06 08 09 10 11 12 13 14 15\\nlinks: segments 2 private words 4 blocks 3\\n\"}
 ";
 
 /// Where a link writes in these tests. The other commands write nothing there.
@@ -74,7 +81,7 @@ const LINK_IN_PLACE: &[&str] = &["pslink", "link", "memory-in-place", OUT];
 
 /// The args, whether OUT is there before, what is printed, what OUT then has, and how many
 /// allocations are refused at least.
-static ROWS: [(&[&str], bool, &str, Option<&Image>, u64); 5] = [
+static ROWS: [(&[&str], bool, &str, Option<&Image>, u64); 8] = [
     (
         LINK_IN_PLACE,
         false,
@@ -97,6 +104,33 @@ static ROWS: [(&[&str], bool, &str, Option<&Image>, u64); 5] = [
         5,
     ),
     (
+        &[
+            "pslink",
+            "map",
+            "--references",
+            "memory-host",
+            "memory-library",
+        ],
+        false,
+        REFERENCES_OF_PAIR,
+        None,
+        10,
+    ),
+    (
+        &[
+            "pslink",
+            "map",
+            "--json",
+            "--references",
+            "memory-host",
+            "memory-library",
+        ],
+        false,
+        JSON_OF_PAIR,
+        None,
+        10,
+    ),
+    (
         &["pslink", "show", "memory-library"],
         false,
         SHOWN_LIBRARY,
@@ -109,6 +143,13 @@ static ROWS: [(&[&str], bool, &str, Option<&Image>, u64); 5] = [
         REPORT,
         None,
         8,
+    ),
+    (
+        &["pslink", "check", "--json", "memory-host", "memory-library"],
+        false,
+        JSON_REPORT,
+        None,
+        9,
     ),
 ];
 

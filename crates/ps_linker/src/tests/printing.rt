@@ -29,9 +29,16 @@ static STUCK: [(&str, &Image); 3] = [
 
 const STUCK_LINK: &[&str] = &["pslink", "link", "stuck-in-place", "stuck-out"];
 
-static STUCK_COMMANDS: [&[&str]; 5] = [
+static STUCK_COMMANDS: [&[&str]; 6] = [
     STUCK_LINK,
     &["pslink", "map", "stuck-host", "stuck-library"],
+    &[
+        "pslink",
+        "map",
+        "--references",
+        "stuck-host",
+        "stuck-library",
+    ],
     &["pslink", "show", "stuck-library"],
     &["pslink", "check", "stuck-host"],
     &["pslink", "--help"],

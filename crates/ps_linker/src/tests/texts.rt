@@ -2,8 +2,9 @@
 use super::inputs::{
     BIG_ENDIAN_LIBRARY, CUT_LIBRARY, HOST, HOST_SLOTS, HOST_WITH_CONSTANT, Image, LIBRARY,
     LIBRARY_CUT_IN_CODE, LIBRARY_OF_BOTH, LIBRARY_SLOTS, LINKED_PAIR, MAP_OF_AN_ADDED_UNIT,
-    MAP_OF_PAIR, MAP_WITH_CONSTANT, MIXED_FILE, NAMING_LIBRARY, SHORT_FILE, SHOW_OF_BOTH_UNITS,
-    SHOWN_BIG_ENDIAN, SHOWN_LIBRARY, SHOWN_LINKED, SHOWN_ZEROS, USING_LIBRARY, save_all,
+    MAP_OF_PAIR, MAP_WITH_CONSTANT, MIXED_FILE, NAMING_LIBRARY, REFERENCES_OF_PAIR, SHORT_FILE,
+    SHOW_OF_BOTH_UNITS, SHOWN_BIG_ENDIAN, SHOWN_LIBRARY, SHOWN_LINKED, SHOWN_ZEROS, USING_LIBRARY,
+    save_all,
 };
 use super::outcome::{Outcome, clean, done, done_with, holds_image};
 use refusing::Refusing;
@@ -28,11 +29,17 @@ fn maps_a_host_with_its_libraries(rt: HostRuntime) {
     let no_unit = "pslink: refused 13 MissingUnit file 0 slot 7\n";
     let no_host = "pslink: refused 4 NoHost file 0\n";
     let linked = "pslink: refused 14 NotAUnit kind 0 file 1 slot 7\n";
-    let rows: [Mapped<'_>; 6] = [
+    let rows: [Mapped<'_>; 7] = [
         (
             &["pslink", "map", "map-host", "map-library"],
             0,
             MAP_OF_PAIR,
+            "",
+        ),
+        (
+            &["pslink", "map", "map-host", "map-library", "--references"],
+            0,
+            REFERENCES_OF_PAIR,
             "",
         ),
         (

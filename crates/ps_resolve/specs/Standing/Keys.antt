@@ -1,13 +1,12 @@
--- The steps of a link, each of which requests the faults of one kind of place, and the key of a
+-- The steps of a link, each of which looks for the faults of one kind of place, and the key of a
 -- fault by which the first is known.
 -- Source: this project's profile.
 use Rattle.std.specs.Prelude.{ℕ, ◌+◌, List, [], ◌∷◌, Bool, true, false, Option, Some, None, unwrap_or}
-use Rattle.ps_resolve.specs.First.{Before}
 use Rattle.ps_words.specs.declared.fault.Reason.{Reason}
 use Rattle.ps_words.specs.declared.fault.Fault.{Fault}
 use Rattle.ps_words.specs.declared.fault.Reason.TheVariants as reason
 
--- the steps, each of which requests the faults of one kind of place; each unit that is added has a
+-- the steps, each of which looks for the faults of one kind of place; each unit that is added has a
 -- step of its own, its round
 pub data Step : Type 0 where
   OfHost : Step
@@ -102,7 +101,3 @@ record_read other rec = part rec
 abbrev pub key : Step → Fault → List ℕ
 key (OfAdded k) f = turn (OfAdded k) ∷ k ∷ record_read f.reason f.rec ∷ part f.reference ∷ rank f.reason ∷ []
 key step f = turn step ∷ unwrap_or f.slot f.file ∷ part f.rec ∷ part f.reference ∷ rank f.reason ∷ []
-
--- of two faults of the same step, the first has the smaller key
-abbrev pub Precedes : Step → Fault → Fault → Type 0
-Precedes step f g = Before (key step f) (key step g)

@@ -15,7 +15,7 @@ use Rattle.ps_resolve.specs.Standing.Phrases.{Because, SomeBelow}
 abbrev pub HasRole : Order → List ℕ → ℕ → Role → Type 0
 HasRole order host slot r = role_of (entry_at order host slot) ≡ Ok r
 
--- the slot is that of a unit, which applies in the host or is wanted from a library
+-- the slot is that of a unit, which is in place in the host or is wanted from a library
 abbrev pub IsUnitSlot : Order → List ℕ → ℕ → Type 0
 IsUnitSlot order host slot = HasRole order host slot role.Unit ⊎ HasRole order host slot role.Wanted
 

@@ -72,6 +72,17 @@ impl<'a> HostSlots<'a> {
         }
     }
 
+    /// The same slots, of the same file.
+    pub(crate) fn copy(&self) -> HostSlots<'a>
+        ensures { result ≡ self.now }
+    {
+        HostSlots {
+            dict: self.dict.copy(),
+            entries: self.entries,
+            roles: self.roles,
+        }
+    }
+
     /// The dictionary itself.
     pub(crate) fn dict(&self) -> &Dict<'a>
         ensures { result.now ≡ self.now }

@@ -1,42 +1,64 @@
 ghost use Rattle.std.specs.Prelude.{◌≡◌};
-ghost use Rattle.std.specs.Map.{lookup};
-ghost use Rattle.std.specs.Str.{bytes_eq};
-ghost use Rattle.ps_resolve.specs.Symbols.{definition_of};
+ghost use Rattle.ps_resolve.specs.References.{known_definition, known_unit};
 
-use crate::definitions::{Def, Definitions};
+use crate::definitions::{Def, DefKind, Definitions};
 use crate::reading::unit_slots::UnitSlots;
 use ps_words::{Edit, Name, Order};
 use std::alloc::{Allocator, Global};
 use std::marker::Model;
 
-/// What the names of references may stand for: definitions of the host's segment, and units.
+/// The base offset from which on a host that would define each name has its variables.
+pub(crate) const LONE_BASE: u16 = 1;
+
+/// A slot of some host.
+const SOME_SLOT: u8 = 0;
+
+/// What names stand for in one link.
 #[derive(Drop)]
-pub(crate) struct Names<'k, A: Allocator + Copy = Global> {
+pub(crate) struct LinkNames<'k, A: Allocator + Copy = Global> {
     pub(crate) definitions: &'k Definitions<A>,
     pub(crate) units: &'k UnitSlots,
 }
 
+/// What the names of references may stand for: definitions of the host's segment, and units.
+#[derive(Drop)]
+pub(crate) struct Names<'k, A: Allocator + Copy = Global> {
+    /// Those of a link. Without one each name stands for a public variable of that base offset, and
+    /// for a unit.
+    pub(crate) link: Option<LinkNames<'k, A>>,
+}
+
 impl<'k, A: Allocator + Copy> Model for Names<'k, A> {
-    ghost use Rattle.ps_resolve.specs.References.{Known};
+    ghost use Rattle.std.specs.Option.{option_map_or};
+    ghost use Rattle.ps_resolve.specs.References.{Known, each_name, known_by};
 
     ghost Value = { Known };
 
-    ghost view = { λ n. record { definitions = n.definitions.now; units = n.units.now } };
+    ghost view = { λ n. option_map_or (λ k. known_by k.definitions.now k.units.now) n.link each_name };
 }
 
 impl<'k, A: Allocator + Copy> Names<'k, A> {
     /// The slot of the unit of this name, where there is one.
     pub(crate) fn slot_of_unit(&self, name: Name) -> Option<u8>
-        ensures { result ≡ lookup (bytes_eq name) self.now.units }
+        ensures { result ≡ known_unit self.now name }
     {
-        self.units.slot_of(name)
+        match &self.link {
+            None => Some(SOME_SLOT),
+            Some(link) => link.units.slot_of(name),
+        }
     }
 
     /// The definition of this name, where there is one.
     pub(crate) fn definition_of(&self, name: &Name) -> Option<Def>
-        ensures { result ≡ definition_of name.now self.now.definitions }
+        ensures { result ≡ known_definition self.now name.now }
     {
-        self.definitions.look(name)
+        match &self.link {
+            None => Some(Def {
+                kind: DefKind::Public,
+                value: LONE_BASE,
+            }),
+            Some(link) => link.definitions.look(name),
+        }
     }
 }
 

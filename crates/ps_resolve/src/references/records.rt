@@ -48,7 +48,7 @@ fn target_of<A: Allocator + Copy>(
 }
 
 /// How many words the record's private takes.
-fn words_taken(body: &Body) -> u16
+pub(crate) fn words_taken(body: &Body) -> u16
     ensures { result ≡ words_taken_spec body.now }
 {
     match body {

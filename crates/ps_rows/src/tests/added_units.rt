@@ -10,8 +10,7 @@ use super::tables::{
 use super::texts::Map;
 use crate::added::{USING_RECORDS, library_of_a_used_unit, linked_used_unit};
 use crate::base::{
-    COUNT, LINKED_DEMO, LINKED_UTIL, NOBODY, STATE, UTIL, WANTED_UTIL, base_host, demo_code,
-    util_code,
+    COUNT, LINKED_DEMO, LINKED_UTIL, STATE, UTIL, WANTED_UTIL, base_host, demo_code, util_code,
 };
 use crate::code_file::Change::{
     Address, Bytes, Code, CodeWord, Entry, Kind, Length, Records, Resized,
@@ -58,11 +57,6 @@ const LIBRARY_THIRD: Slot = Slot {
 
 const LIBRARY_TOOLS: Slot = Slot {
     name: TOOLS,
-    ..LIBRARY_AUX
-};
-
-const NAMED_BY_BLANKS: Slot = Slot {
-    name: BLANK,
     ..LIBRARY_AUX
 };
 
@@ -185,20 +179,11 @@ const NAME_OF_A_LINKED_SEGMENT: [Row<'static>; 1] = [Row {
 }];
 
 /// Units that are missing, or of another kind: none of these links grows.
-const FAULTS: [Refusal<'static>; 5] = [
+const FAULTS: [Refusal<'static>; 3] = [
     (
         "a library's entry with no code",
         &[],
         &[Length(3, 0)],
-        "refused 13 MissingUnit file 1 slot 7 record 0",
-    ),
-    (
-        "a name of blanks",
-        &[],
-        &[
-            Entry(3, NAMED_BY_BLANKS),
-            Records(2, &[UnitReference(BLANK, &[2]), End(0)]),
-        ],
         "refused 13 MissingUnit file 1 slot 7 record 0",
     ),
     (
@@ -215,15 +200,6 @@ const FAULTS: [Refusal<'static>; 5] = [
         &[],
         &[Kind(3, 5)],
         "refused 14 NotAUnit kind 5 file 1 slot 8",
-    ),
-    (
-        "a unit that an added unit names and no library has",
-        &[],
-        &[Records(
-            4,
-            &[UnitReference(AUX, &[2]), UnitReference(NOBODY, &[]), End(0)],
-        )],
-        "refused 13 MissingUnit file 1 slot 8 record 1",
     ),
 ];
 

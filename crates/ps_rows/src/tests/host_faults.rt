@@ -2,8 +2,7 @@
 use super::tables::{AMPLE_OR_NONE, Base, Refusal, Table, refuse_tables};
 use crate::base::{COUNT, WANTED_UTIL};
 use crate::code_file::Change::{Address, Bytes, Code, Entry, Kind, Length, Records, Resized};
-use crate::code_file::{HOST_SEGMENT, LINKED, Slot};
-use crate::in_place::UTIL_IN_PLACE;
+use crate::code_file::{HOST_SEGMENT, Slot};
 use crate::information::Record::{ConstantDefinition, End, PublicDefinition};
 
 /// A slot with no name that has the host segment's code.
@@ -15,7 +14,7 @@ pub(crate) const LIKE_DEMO: Slot = Slot {
 };
 
 /// Segment dictionaries.
-const DICTIONARIES: [Refusal<'static>; 15] = [
+const DICTIONARIES: [Refusal<'static>; 11] = [
     (
         "no whole block",
         &[Resized(511)],
@@ -27,12 +26,6 @@ const DICTIONARIES: [Refusal<'static>; 15] = [
         &[Bytes(193, &[1])],
         &[],
         "refused 2 NoOrder file 0",
-    ),
-    (
-        "no kinds at all",
-        &[Bytes(192, &[0; 32])],
-        &[],
-        "refused 4 NoHost file 0",
     ),
     (
         "a host segment with no code",
@@ -59,12 +52,6 @@ const DICTIONARIES: [Refusal<'static>; 15] = [
         "refused 6 DoubledSegment file 0 slot 8",
     ),
     (
-        "two units of one name",
-        &[Entry(8, UTIL_IN_PLACE)],
-        &[],
-        "refused 6 DoubledSegment file 0 slot 8",
-    ),
-    (
         "kind 2",
         &[Entry(8, LIKE_DEMO), Kind(8, 2)],
         &[],
@@ -77,20 +64,8 @@ const DICTIONARIES: [Refusal<'static>; 15] = [
         "refused 8 NativeSegment file 0 slot 8",
     ),
     (
-        "kind 5",
-        &[Entry(8, LIKE_DEMO), Kind(8, 5)],
-        &[],
-        "refused 9 Intrinsic file 0 slot 8",
-    ),
-    (
         "kind 6",
         &[Entry(8, LIKE_DEMO), Kind(8, 6)],
-        &[],
-        "refused 9 Intrinsic file 0 slot 8",
-    ),
-    (
-        "kind 7",
-        &[Entry(8, LIKE_DEMO), Kind(8, 7)],
         &[],
         "refused 9 Intrinsic file 0 slot 8",
     ),
@@ -109,34 +84,10 @@ const DICTIONARIES: [Refusal<'static>; 15] = [
 ];
 
 /// Codes.
-const CODES: [Refusal<'static>; 8] = [
+const CODES: [Refusal<'static>; 3] = [
     (
         "an odd length",
         &[Length(1, 17)],
-        &[],
-        "refused 11 BadLength file 0 slot 1",
-    ),
-    (
-        "a length below 4",
-        &[Length(1, 2)],
-        &[],
-        "refused 11 BadLength file 0 slot 1",
-    ),
-    (
-        "a length above 32767",
-        &[Length(1, 32768)],
-        &[],
-        "refused 11 BadLength file 0 slot 1",
-    ),
-    (
-        "a length above 32767 of a segment that is linked already",
-        &[Entry(2, LIKE_DEMO), Kind(2, LINKED), Length(2, 32768)],
-        &[],
-        "refused 11 BadLength file 0 slot 2",
-    ),
-    (
-        "an odd length and address 0",
-        &[Length(1, 17), Address(1, 0)],
         &[],
         "refused 11 BadLength file 0 slot 1",
     ),
@@ -147,12 +98,6 @@ const CODES: [Refusal<'static>; 8] = [
         "refused 12 BadAddress file 0 slot 1",
     ),
     (
-        "a length past the file",
-        &[Length(1, 32766)],
-        &[],
-        "refused 16 Truncated file 0 slot 1",
-    ),
-    (
         "17 bytes of 18",
         &[Resized(529)],
         &[],
@@ -161,16 +106,10 @@ const CODES: [Refusal<'static>; 8] = [
 ];
 
 /// Procedure dictionaries and attribute tables.
-const PROCEDURES: [Refusal<'static>; 5] = [
+const PROCEDURES: [Refusal<'static>; 4] = [
     (
         "no body of procedure 1",
         &[Code(1, 14, &[0])],
-        &[],
-        "refused 17 BadProcDict file 0 slot 1",
-    ),
-    (
-        "no procedures in the host segment",
-        &[Code(1, 17, &[0])],
         &[],
         "refused 17 BadProcDict file 0 slot 1",
     ),
@@ -223,7 +162,7 @@ const RECORDS: [Refusal<'static>; 4] = [
 ];
 
 /// Definitions, for which memory is taken.
-pub(crate) const DEFINITIONS: [Refusal<'static>; 3] = [
+pub(crate) const DEFINITIONS: [Refusal<'static>; 2] = [
     (
         "two definitions",
         &[Records(
@@ -231,19 +170,6 @@ pub(crate) const DEFINITIONS: [Refusal<'static>; 3] = [
             &[
                 PublicDefinition(COUNT, 3),
                 PublicDefinition(COUNT, 4),
-                End(8),
-            ],
-        )],
-        &[],
-        "refused 24 DoubledDefinition file 0 slot 1 record 1",
-    ),
-    (
-        "a definition and a constant",
-        &[Records(
-            2,
-            &[
-                PublicDefinition(COUNT, 3),
-                ConstantDefinition(COUNT, 4),
                 End(8),
             ],
         )],

@@ -1,22 +1,11 @@
 //! A host that holds its unit itself, and why it is refused.
-use super::host_faults::{DEFINITIONS, LIKE_DEMO};
+use super::host_faults::DEFINITIONS;
 use super::tables::{AMPLE_OR_NONE, AMPLE_OR_REFUSED, Base, Refusal, Table, refuse_tables};
-use crate::base::{COUNT, CUONT, DEMO, NOBODY, STATE, WANTED_UTIL};
-use crate::code_file::Change::{Code, Entry, Length, Records};
-use crate::code_file::{LINKED, Slot};
-use crate::information::Name;
+use crate::base::{COUNT, CUONT, DEMO, STATE, WANTED_UTIL};
+use crate::code_file::Change::{Code, Entry, Records};
+use crate::code_file::Slot;
 use crate::information::Record::{
     ConstantDefinition, End, Other, PrivateReference, PublicDefinition, PublicReference,
-    UnitReference,
-};
-
-/// A segment that is linked already, of the host segment's code.
-const TOOLS: Name = *b"TOOLS   ";
-
-const LINKED_TOOLS: Slot = Slot {
-    name: TOOLS,
-    kind: LINKED,
-    ..LIKE_DEMO
 };
 
 /// A unit that is wanted and has the host segment's name.
@@ -25,54 +14,19 @@ const WANTED_DEMO: Slot = Slot {
     ..WANTED_UTIL
 };
 
-/// The end of a code of 24 bytes with two procedures, whose tables are at 16 and at 14.
-const TWO_PROCEDURES: [u8; 6] = [4, 0, 4, 0, 7, 2];
-
 /// Codes.
-const CODES: [Refusal<'static>; 3] = [
-    (
-        "a length below 4",
-        &[Length(7, 2)],
-        &[],
-        "refused 11 BadLength file 0 slot 7",
-    ),
-    (
-        "a unit that no library has",
-        &[Entry(7, WANTED_UTIL)],
-        &[],
-        "refused 13 MissingUnit file 0 slot 7",
-    ),
-    (
-        "a unit with the name of the host segment",
-        &[Entry(8, WANTED_DEMO)],
-        &[],
-        "refused 13 MissingUnit file 0 slot 8",
-    ),
-];
+const CODES: [Refusal<'static>; 1] = [(
+    "a unit with the name of the host segment",
+    &[Entry(8, WANTED_DEMO)],
+    &[],
+    "refused 13 MissingUnit file 0 slot 8",
+)];
 
 /// Procedure dictionaries and attribute tables.
-const PROCEDURES: [Refusal<'static>; 6] = [
-    (
-        "a dictionary longer than the code",
-        &[Code(3, 23, &[12])],
-        &[],
-        "refused 17 BadProcDict file 0 slot 7",
-    ),
+const PROCEDURES: [Refusal<'static>; 2] = [
     (
         "a table before the code",
         &[Code(3, 20, &[21])],
-        &[],
-        "refused 17 BadProcDict file 0 slot 7",
-    ),
-    (
-        "a table that would begin before the code",
-        &[Code(3, 20, &[13])],
-        &[],
-        "refused 17 BadProcDict file 0 slot 7",
-    ),
-    (
-        "a table that ends in the dictionary",
-        &[Code(3, 20, &[1])],
         &[],
         "refused 17 BadProcDict file 0 slot 7",
     ),
@@ -82,16 +36,10 @@ const PROCEDURES: [Refusal<'static>; 6] = [
         &[],
         "refused 18 NativeProcedure file 0 slot 7",
     ),
-    (
-        "native code of a second procedure",
-        &[Code(3, 18, &TWO_PROCEDURES), Code(3, 14, &[0])],
-        &[],
-        "refused 18 NativeProcedure file 0 slot 7",
-    ),
 ];
 
 /// Link information.
-const RECORDS: [Refusal<'static>; 6] = [
+const RECORDS: [Refusal<'static>; 4] = [
     (
         "type 15",
         &[Records(4, &[Other(COUNT, 15, [2, 0, 0])])],
@@ -111,20 +59,8 @@ const RECORDS: [Refusal<'static>; 6] = [
         "refused 22 SeparateRecord file 0 slot 7 record 0",
     ),
     (
-        "PUBLREF of format 0",
-        &[Records(4, &[Other(COUNT, 3, [0, 0, 0])])],
-        &[],
-        "refused 21 NativeRecord file 0 slot 7 record 0",
-    ),
-    (
         "PUBLREF of format 1",
         &[Records(4, &[Other(COUNT, 3, [1, 0, 0])])],
-        &[],
-        "refused 23 BadFormat file 0 slot 7 record 0",
-    ),
-    (
-        "UNITREF of format 2",
-        &[Records(4, &[Other(COUNT, 1, [2, 0, 0])])],
         &[],
         "refused 23 BadFormat file 0 slot 7 record 0",
     ),
@@ -157,31 +93,6 @@ const NAMES: [Refusal<'static>; 3] = [
         &[Records(2, &[ConstantDefinition(COUNT, 3), End(8)])],
         &[],
         "refused 29 IllKind file 0 slot 7 record 0",
-    ),
-];
-
-/// Names of units that no slot has and no library.
-const UNITS: [Refusal<'static>; 3] = [
-    (
-        "a unit that is not there",
-        &[Records(4, &[UnitReference(NOBODY, &[1]), End(0)])],
-        &[],
-        "refused 13 MissingUnit file 0 slot 7 record 0",
-    ),
-    (
-        "a segment that is linked already as a unit",
-        &[
-            Entry(8, LINKED_TOOLS),
-            Records(4, &[UnitReference(TOOLS, &[1]), End(0)]),
-        ],
-        &[],
-        "refused 13 MissingUnit file 0 slot 7 record 0",
-    ),
-    (
-        "the host segment as a unit, and no references",
-        &[Records(4, &[UnitReference(DEMO, &[]), End(0)])],
-        &[],
-        "refused 13 MissingUnit file 0 slot 7 record 0",
     ),
 ];
 
@@ -249,22 +160,10 @@ const SIZES: [Refusal<'static>; 5] = [
 ];
 
 /// Places of operands.
-const PLACES: [Refusal<'static>; 15] = [
-    (
-        "the last byte before a table",
-        &[Records(4, &[PublicReference(COUNT, &[9]), End(0)])],
-        &[],
-        "refused 32 ReservedPlace file 0 slot 7 record 0 reference 0",
-    ),
+const PLACES: [Refusal<'static>; 9] = [
     (
         "the first byte of a table",
         &[Records(4, &[PublicReference(COUNT, &[10]), End(0)])],
-        &[],
-        "refused 32 ReservedPlace file 0 slot 7 record 0 reference 0",
-    ),
-    (
-        "the last byte of a table",
-        &[Records(4, &[PublicReference(COUNT, &[19]), End(0)])],
         &[],
         "refused 32 ReservedPlace file 0 slot 7 record 0 reference 0",
     ),
@@ -306,23 +205,8 @@ const PLACES: [Refusal<'static>; 15] = [
         "refused 32 ReservedPlace file 0 slot 1 record 1 reference 0",
     ),
     (
-        "a table of a second procedure",
-        &[
-            Code(3, 18, &TWO_PROCEDURES),
-            Records(4, &[PublicReference(COUNT, &[5]), End(0)]),
-        ],
-        &[],
-        "refused 32 ReservedPlace file 0 slot 7 record 0 reference 0",
-    ),
-    (
         "one place twice",
         &[Records(4, &[PublicReference(COUNT, &[1, 1]), End(0)])],
-        &[],
-        "refused 33 Overlap file 0 slot 7 record 0 reference 1",
-    ),
-    (
-        "an operand that ends in another",
-        &[Records(4, &[PublicReference(COUNT, &[2, 1]), End(0)])],
         &[],
         "refused 33 Overlap file 0 slot 7 record 0 reference 1",
     ),
@@ -331,15 +215,6 @@ const PLACES: [Refusal<'static>; 15] = [
         &[Records(4, &[PublicReference(COUNT, &[1, 2]), End(0)])],
         &[],
         "refused 33 Overlap file 0 slot 7 record 0 reference 1",
-    ),
-    (
-        "a reserved place that ends in another operand, which is too large",
-        &[
-            Code(3, 9, &[0x7F, 0xFF]),
-            Records(4, &[PublicReference(COUNT, &[8, 9]), End(0)]),
-        ],
-        &[],
-        "refused 32 ReservedPlace file 0 slot 7 record 0 reference 1",
     ),
     (
         "one place in two records",
@@ -354,28 +229,14 @@ const PLACES: [Refusal<'static>; 15] = [
         &[],
         "refused 33 Overlap file 0 slot 7 record 1 reference 0",
     ),
-    (
-        "one place in records of two types",
-        &[Records(
-            4,
-            &[
-                PublicReference(COUNT, &[1]),
-                PrivateReference(STATE, 4, &[2]),
-                End(0),
-            ],
-        )],
-        &[],
-        "refused 33 Overlap file 0 slot 7 record 1 reference 0",
-    ),
 ];
 
 /// The refusals of a host with its unit in place, with ample memory and with none, or with each
 /// allocation refused where memory is taken before them.
-const FAULTS: [Table<'static, Refusal<'static>>; 8] = [
+const FAULTS: [Table<'static, Refusal<'static>>; 7] = [
     (Base::InPlace, AMPLE_OR_NONE, &CODES),
     (Base::InPlace, AMPLE_OR_NONE, &PROCEDURES),
     (Base::InPlace, AMPLE_OR_NONE, &RECORDS),
-    (Base::InPlace, AMPLE_OR_NONE, &UNITS),
     (Base::InPlace, AMPLE_OR_REFUSED, &DEFINITIONS),
     (Base::InPlace, AMPLE_OR_REFUSED, &NAMES),
     (Base::InPlace, AMPLE_OR_REFUSED, &SIZES),

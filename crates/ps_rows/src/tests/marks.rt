@@ -1,6 +1,6 @@
 //! What show says of UNITREF records whose unit the file has, and of those whose unit it has not.
 use super::answers::LITTLE;
-use super::texts::{SLOTS_OF_THE_LIBRARY, shows};
+use super::texts::{SLOTS_OF_THE_LIBRARY, show_of, shows};
 use crate::added::library_of_a_used_unit;
 use crate::base::{DEMO, LIBRARY_UTIL, NOBODY, UTIL, UTIL_ENTRY, base_host, base_library};
 use crate::code_file::Change::{Entry, Kind, Length, Records};
@@ -15,54 +15,26 @@ use std::str;
 
 const ZEROS: Name = [0; 8];
 
-static SHOW_OF_THE_LIBRARY_OF_TWO: &str = "order little
-slot 00          kind 0 address 0 length 0 text 0
-slot 01          kind 0 address 0 length 0 text 0
-slot 02 UTIL     kind 3 address 1 length 24 text 0
-slot 03 AUX      kind 3 address 3 length 24 text 0
-slot 04          kind 0 address 0 length 0 text 0
-slot 05          kind 0 address 0 length 0 text 0
-slot 06          kind 0 address 0 length 0 text 0
-slot 07          kind 0 address 0 length 0 text 0
-slot 08          kind 0 address 0 length 0 text 0
-slot 09          kind 0 address 0 length 0 text 0
-slot 10          kind 0 address 0 length 0 text 0
-slot 11          kind 0 address 0 length 0 text 0
-slot 12          kind 0 address 0 length 0 text 0
-slot 13          kind 0 address 0 length 0 text 0
-slot 14          kind 0 address 0 length 0 text 0
-slot 15          kind 0 address 0 length 0 text 0
-links 02
-0 UNITREF AUX      at 2
-1 EOFMARK next 0
-links 03
-0 PUBLREF COUNT    at 1
-1 PRIVREF STATE    words 4 at 4
-2 EOFMARK next 0
-";
+static SHOW_OF_THE_LIBRARY_OF_TWO: &str = show_of!(
+    "little",
+    "AUX      kind 3 address 3 length 24 text 0",
+    "links 02",
+    "0 UNITREF AUX      at 2",
+    "1 EOFMARK next 0",
+    "links 03",
+    "0 PUBLREF COUNT    at 1",
+    "1 PRIVREF STATE    words 4 at 4",
+    "2 EOFMARK next 0"
+);
 
-static SHOWN_BIG_ENDIAN: &str = "order big
-slot 00          kind 0 address 0 length 0 text 0
-slot 01          kind 0 address 0 length 0 text 0
-slot 02 UTIL     kind 3 address 1 length 24 text 0
-slot 03          kind 0 address 0 length 0 text 0
-slot 04          kind 0 address 0 length 0 text 0
-slot 05          kind 0 address 0 length 0 text 0
-slot 06          kind 0 address 0 length 0 text 0
-slot 07          kind 0 address 0 length 0 text 0
-slot 08          kind 0 address 0 length 0 text 0
-slot 09          kind 0 address 0 length 0 text 0
-slot 10          kind 0 address 0 length 0 text 0
-slot 11          kind 0 address 0 length 0 text 0
-slot 12          kind 0 address 0 length 0 text 0
-slot 13          kind 0 address 0 length 0 text 0
-slot 14          kind 0 address 0 length 0 text 0
-slot 15          kind 0 address 0 length 0 text 0
-links 02
-0 UNITREF UTIL     at 2
-1 UNITREF AUX      at 2 5 unlisted
-2 EOFMARK next 0
-";
+static SHOWN_BIG_ENDIAN: &str = show_of!(
+    "big",
+    "         kind 0 address 0 length 0 text 0",
+    "links 02",
+    "0 UNITREF UTIL     at 2",
+    "1 UNITREF AUX      at 2 5 unlisted",
+    "2 EOFMARK next 0"
+);
 
 /// The references of a record whose unit the file has not, and how it is shown.
 const UNLISTED: [(&[u16], &str); 3] = [

@@ -3,17 +3,17 @@ use super::answers::{LITTLE, refuses};
 use super::host_faults::LIKE_DEMO;
 use super::tables::{AMPLE, Base, Refusal, Table, refuse_tables};
 use crate::base::{
-    COUNT, CUONT, LIBRARY_UTIL, STATE, WANTED_UTIL, base_host, base_library, linked_base_pair,
+    COUNT, CUONT, LIBRARY_UTIL, WANTED_UTIL, base_host, base_library, linked_base_pair,
 };
 use crate::code_file::Change::{Bytes, Code, Entry, Kind, Length, Records, Resized};
 use crate::code_file::CodeFile;
-use crate::information::Record::{End, PrivateReference, PublicDefinition, PublicReference};
+use crate::information::Record::{End, PublicDefinition, PublicReference};
 use ps_words::Order;
 use std::alloc::{AllocError, Global};
 use std::process::Abort;
 
 /// Faults of dictionaries, and others after them.
-const DICTIONARIES: [Refusal<'static>; 9] = [
+const DICTIONARIES: [Refusal<'static>; 7] = [
     (
         "a kind in slot 8 and a second host segment in slot 9",
         &[Entry(8, LIKE_DEMO), Kind(8, 8), Entry(9, LIKE_DEMO)],
@@ -39,22 +39,10 @@ const DICTIONARIES: [Refusal<'static>; 9] = [
         "refused 6 DoubledSegment file 0 slot 8",
     ),
     (
-        "the same, of kind 8",
-        &[Entry(8, WANTED_UTIL), Entry(9, LIKE_DEMO), Kind(9, 8)],
-        &[],
-        "refused 6 DoubledSegment file 0 slot 8",
-    ),
-    (
         "a kind in the host and a short library",
         &[Entry(8, LIKE_DEMO), Kind(8, 8)],
         &[Resized(511)],
         "refused 10 UnknownKind file 0 slot 8",
-    ),
-    (
-        "no host segment and a short library",
-        &[Kind(1, 0)],
-        &[Resized(511)],
-        "refused 4 NoHost file 0",
     ),
     (
         "a short library and a length in the host",
@@ -71,7 +59,7 @@ const DICTIONARIES: [Refusal<'static>; 9] = [
 ];
 
 /// Faults of entries, of codes and of procedures, and others after them.
-const ENTRIES_AND_CODES: [Refusal<'static>; 6] = [
+const ENTRIES_AND_CODES: [Refusal<'static>; 5] = [
     (
         "two entries of the name, one of kind 5",
         &[],
@@ -97,12 +85,6 @@ const ENTRIES_AND_CODES: [Refusal<'static>; 6] = [
         "refused 17 BadProcDict file 1 slot 7",
     ),
     (
-        "native code and a record",
-        &[],
-        &[Code(1, 18, &[0]), Bytes(1032, &[15])],
-        "refused 18 NativeProcedure file 1 slot 7",
-    ),
-    (
         "a record of the library and a duplicate definition",
         &[Records(
             2,
@@ -118,7 +100,7 @@ const ENTRIES_AND_CODES: [Refusal<'static>; 6] = [
 ];
 
 /// Faults of names and of sizes, and others after them.
-const NAMES_AND_SIZES: [Refusal<'static>; 7] = [
+const NAMES_AND_SIZES: [Refusal<'static>; 6] = [
     (
         "a missing definition of the library and a duplicate one",
         &[Records(
@@ -160,19 +142,6 @@ const NAMES_AND_SIZES: [Refusal<'static>; 7] = [
         "refused 24 DoubledDefinition file 0 slot 1 record 1",
     ),
     (
-        "a duplicate private variable with no room",
-        &[],
-        &[Records(
-            2,
-            &[
-                PrivateReference(STATE, 4, &[]),
-                PrivateReference(STATE, 65535, &[]),
-                End(0),
-            ],
-        )],
-        "refused 25 DoubledPrivate file 1 slot 7 record 1",
-    ),
-    (
         "no room and a data size",
         &[
             Records(2, &[PublicDefinition(COUNT, 3), End(32760)]),
@@ -196,7 +165,7 @@ const NAMES_AND_SIZES: [Refusal<'static>; 7] = [
 ];
 
 /// Faults of references, and others after them.
-const REFERENCES: [Refusal<'static>; 10] = [
+const REFERENCES: [Refusal<'static>; 8] = [
     (
         "an operand that is too large and the same again",
         &[Records(2, &[PublicDefinition(COUNT, 32767), End(8)])],
@@ -231,19 +200,6 @@ const REFERENCES: [Refusal<'static>; 10] = [
             ],
         )],
         "refused 31 OutsideCode file 1 slot 7 record 0 reference 0",
-    ),
-    (
-        "a reserved place and a missing definition in the next record",
-        &[],
-        &[Records(
-            2,
-            &[
-                PublicReference(COUNT, &[9]),
-                PublicReference(CUONT, &[]),
-                End(0),
-            ],
-        )],
-        "refused 32 ReservedPlace file 1 slot 7 record 0 reference 0",
     ),
     (
         "an overlap and a missing definition in the next record",
@@ -298,15 +254,6 @@ const REFERENCES: [Refusal<'static>; 10] = [
         &[],
         &[Records(2, &[PublicReference(COUNT, &[9, 9]), End(0)])],
         "refused 32 ReservedPlace file 1 slot 7 record 0 reference 0",
-    ),
-    (
-        "an overlap and an operand that is too large",
-        &[Records(2, &[PublicDefinition(COUNT, 1), End(8)])],
-        &[
-            Code(1, 3, &[0xFF, 0xFF]),
-            Records(2, &[PublicReference(COUNT, &[2, 3]), End(0)]),
-        ],
-        "refused 33 Overlap file 1 slot 7 record 0 reference 1",
     ),
 ];
 
@@ -366,12 +313,7 @@ fn refuses_libraries(
 }
 
 /// Libraries with faults, of which the first is reported.
-const LIBRARIES: [(&str, [Library; 3], &str); 4] = [
-    (
-        "an order and a length",
-        [Library::Base, Library::Big, Library::Short],
-        "refused 3 OrderMismatch file 2",
-    ),
+const LIBRARIES: [(&str, [Library; 3], &str); 3] = [
     (
         "a length and an order",
         [Library::Base, Library::Short, Library::Big],

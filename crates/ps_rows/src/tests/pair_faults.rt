@@ -8,19 +8,7 @@ use crate::information::Record::{
 };
 
 /// Segment dictionaries of the library.
-const LIBRARIES: [Refusal<'static>; 11] = [
-    (
-        "no whole block",
-        &[],
-        &[Resized(511)],
-        "refused 1 ShortFile file 1",
-    ),
-    (
-        "a byte of either order",
-        &[],
-        &[Bytes(193, &[1])],
-        "refused 2 NoOrder file 1",
-    ),
+const LIBRARIES: [Refusal<'static>; 7] = [
     (
         "kinds in the other order",
         &[],
@@ -38,12 +26,6 @@ const LIBRARIES: [Refusal<'static>; 11] = [
         &[],
         &[Address(2, 0)],
         "refused 13 MissingUnit file 0 slot 7",
-    ),
-    (
-        "kind 0",
-        &[],
-        &[Kind(2, 0)],
-        "refused 14 NotAUnit kind 0 file 1 slot 7",
     ),
     (
         "kind 2",
@@ -64,12 +46,6 @@ const LIBRARIES: [Refusal<'static>; 11] = [
         "refused 14 NotAUnit kind 7 file 1 slot 7",
     ),
     (
-        "kind 5 with address 0",
-        &[],
-        &[Kind(2, 5), Address(2, 0)],
-        "refused 14 NotAUnit kind 5 file 1 slot 7",
-    ),
-    (
         "two entries of the name",
         &[],
         &[Entry(3, LIBRARY_UTIL)],
@@ -86,7 +62,7 @@ const HOST_ALONE: [Refusal<'static>; 1] = [(
 )];
 
 /// Codes of the library.
-const CODES: [Refusal<'static>; 4] = [
+const CODES: [Refusal<'static>; 3] = [
     (
         "native code",
         &[],
@@ -97,12 +73,6 @@ const CODES: [Refusal<'static>; 4] = [
         "a length above 32767",
         &[],
         &[Length(2, 32768)],
-        "refused 11 BadLength file 1 slot 7",
-    ),
-    (
-        "a length below 4",
-        &[],
-        &[Length(2, 2)],
         "refused 11 BadLength file 1 slot 7",
     ),
     (
@@ -160,7 +130,7 @@ const RECORDS: [Refusal<'static>; 7] = [
 ];
 
 /// Names of private variables and of what is referred to.
-const NAMES: [Refusal<'static>; 4] = [
+const NAMES: [Refusal<'static>; 3] = [
     (
         "two private variables",
         &[],
@@ -186,19 +156,6 @@ const NAMES: [Refusal<'static>; 4] = [
         &[Records(2, &[ConstantDefinition(COUNT, 3), End(8)])],
         &[],
         "refused 29 IllKind file 1 slot 7 record 0",
-    ),
-    (
-        "a definition of the unit's own",
-        &[],
-        &[Records(
-            2,
-            &[
-                PublicDefinition(CUONT, 3),
-                PublicReference(CUONT, &[1]),
-                End(0),
-            ],
-        )],
-        "refused 28 MissingDefinition file 1 slot 7 record 1",
     ),
 ];
 
@@ -254,70 +211,6 @@ const PLACES: [Refusal<'static>; 3] = [
     ),
 ];
 
-/// Types of records that no Pascal unit has.
-const TYPES: [Refusal<'static>; 10] = [
-    (
-        "type 2 in place of the type of a PUBLREF",
-        &[],
-        &[Bytes(1032, &[2])],
-        "refused 21 NativeRecord file 1 slot 7 record 0",
-    ),
-    (
-        "type 5 in place of the type of a PUBLREF",
-        &[],
-        &[Bytes(1032, &[5])],
-        "refused 21 NativeRecord file 1 slot 7 record 0",
-    ),
-    (
-        "type 6 in place of the type of a PUBLREF",
-        &[],
-        &[Bytes(1032, &[6])],
-        "refused 21 NativeRecord file 1 slot 7 record 0",
-    ),
-    (
-        "type 9 in place of the type of a PUBLREF",
-        &[],
-        &[Bytes(1032, &[9])],
-        "refused 21 NativeRecord file 1 slot 7 record 0",
-    ),
-    (
-        "type 10 in place of the type of a PUBLREF",
-        &[],
-        &[Bytes(1032, &[10])],
-        "refused 21 NativeRecord file 1 slot 7 record 0",
-    ),
-    (
-        "type 11 in place of the type of a PUBLREF",
-        &[],
-        &[Bytes(1032, &[11])],
-        "refused 22 SeparateRecord file 1 slot 7 record 0",
-    ),
-    (
-        "type 12 in place of the type of a PUBLREF",
-        &[],
-        &[Bytes(1032, &[12])],
-        "refused 22 SeparateRecord file 1 slot 7 record 0",
-    ),
-    (
-        "type 13 in place of the type of a PUBLREF",
-        &[],
-        &[Bytes(1032, &[13])],
-        "refused 22 SeparateRecord file 1 slot 7 record 0",
-    ),
-    (
-        "type 14 in place of the type of a PUBLREF",
-        &[],
-        &[Bytes(1032, &[14])],
-        "refused 22 SeparateRecord file 1 slot 7 record 0",
-    ),
-    (
-        "type 15 in place of the type of a PUBLREF",
-        &[],
-        &[Bytes(1032, &[15])],
-        "refused 20 UnknownRecord file 1 slot 7 record 0",
-    ),
-];
-
 /// A library whose words are in the other byte order.
 const OTHER_ORDER: [Refusal<'static>; 1] = [(
     "the other byte order",
@@ -328,12 +221,11 @@ const OTHER_ORDER: [Refusal<'static>; 1] = [(
 
 /// The refusals of a host that wants its unit from a library, with ample memory and with none, or
 /// with each allocation refused where memory is taken before them.
-const FAULTS: [Table<'static, Refusal<'static>>; 12] = [
+const FAULTS: [Table<'static, Refusal<'static>>; 11] = [
     (Base::Pair, AMPLE_OR_NONE, &LIBRARIES),
     (Base::HostAlone, AMPLE_OR_NONE, &HOST_ALONE),
     (Base::Pair, AMPLE_OR_NONE, &CODES),
     (Base::Pair, AMPLE_OR_NONE, &RECORDS),
-    (Base::Pair, AMPLE_OR_NONE, &TYPES),
     (Base::Pair, AMPLE_OR_NONE, &UNITS),
     (Base::BigLibrary, AMPLE_OR_NONE, &OTHER_ORDER),
     (Base::LittleLibrary, AMPLE_OR_NONE, &OTHER_ORDER),

@@ -46,24 +46,34 @@ private 08 STATE    offset 12 words 4
 next 16 data 26 blocks 4
 ";
 
-pub(crate) static SLOTS_OF_THE_LIBRARY: &str = "order little
-slot 00          kind 0 address 0 length 0 text 0
-slot 01          kind 0 address 0 length 0 text 0
-slot 02 UTIL     kind 3 address 1 length 24 text 0
-slot 03          kind 0 address 0 length 0 text 0
-slot 04          kind 0 address 0 length 0 text 0
-slot 05          kind 0 address 0 length 0 text 0
-slot 06          kind 0 address 0 length 0 text 0
-slot 07          kind 0 address 0 length 0 text 0
-slot 08          kind 0 address 0 length 0 text 0
-slot 09          kind 0 address 0 length 0 text 0
-slot 10          kind 0 address 0 length 0 text 0
-slot 11          kind 0 address 0 length 0 text 0
-slot 12          kind 0 address 0 length 0 text 0
-slot 13          kind 0 address 0 length 0 text 0
-slot 14          kind 0 address 0 length 0 text 0
-slot 15          kind 0 address 0 length 0 text 0
-";
+/// The show of a library of this byte order with a unit in slot 2: what it says of slot 3, and the
+/// lines after those of the slots.
+macro_rules! show_of {
+    ($order:literal, $third:literal, $($line:literal),*) => {
+        show_of!($order, "00" "01", $third, "04" "05" "06" "07" "08" "09" "10" "11" "12" "13" "14" "15", $($line),*)
+    };
+    ($order:literal, $($low:literal)*, $third:literal, $($high:literal)*, $($line:literal),*) => {
+        concat!(
+            "order ",
+            $order,
+            "\n",
+            $("slot ", $low, "          kind 0 address 0 length 0 text 0\n",)*
+            "slot 02 UTIL     kind 3 address 1 length 24 text 0\nslot 03 ",
+            $third,
+            "\n",
+            $("slot ", $high, "          kind 0 address 0 length 0 text 0\n",)*
+            $($line, "\n"),*
+        )
+    };
+}
+
+pub(crate) use show_of;
+
+/// What a show says of an empty slot.
+pub(crate) static SLOTS_OF_THE_LIBRARY: &str = show_of!(
+    "little",
+    "         kind 0 address 0 length 0 text 0",
+);
 
 /// An answer as text: the text itself, the fault's, or a word for out of memory.
 fn text_of<A: Allocator + Copy>(

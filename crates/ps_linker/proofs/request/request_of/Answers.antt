@@ -61,3 +61,13 @@ returns-in-Some-check-default-clause-refused g c =
     let named : Some (codes "check") ≡ _ = ap Some (sym met.is-check) ∙ met.ensures.name in
     let is : subcommand_rows_of c.args.matches.now ≡ Some (codes "check", rows_of (found_of met.found.now)) = both _ _ _ _ _ named met.ensures.rows in
     IfErr-weaker c.check_of.result _ _ (λ e leaves other. inl (subst LeavesOut (sym is) (leaves other))) c.check_of.ensures.refused
+
+pub returns-in-Some-list-default-clause-named : goal.returns-in-Some-list-default-clause-named
+returns-in-Some-list-default-clause-named g c =
+    let met = c.in-Some-list-default in
+    let named : Some (codes "list") ≡ _ = ap Some (sym met.is-list) ∙ met.ensures.name in
+    let is : subcommand_rows_of c.args.matches.now ≡ Some (codes "list", rows_of (found_of met.found.now)) = both _ _ _ _ _ named met.ensures.rows in
+    IfOk-weaker c.list_of.result _ _ (λ r names. subst (IsNamedCommand r) (sym is) names) c.list_of.ensures.named
+
+pub returns-in-Some-list-default-clause-refused : goal.returns-in-Some-list-default-clause-refused
+returns-in-Some-list-default-clause-refused g c = IfErr-weaker c.list_of.result _ _ (λ e memory other. absurd (other memory)) c.list_of.ensures.refused

@@ -1,4 +1,4 @@
-use Rattle.std.proofs.Common.{ℕ, List, map, inr, subst}
+use Rattle.std.proofs.Common.{arith, ℕ, List, map, inr, subst}
 use Rattle.ps_linker.specs.CommandLine.{named_in}
 use Rattle.ps_linker.specs.Printed.{Prints}
 use Rattle.ps_linker.specs.Reading.{Reads, Writes}
@@ -17,3 +17,7 @@ returns-in-Ok-clause-reported g c taken one =
     let Written : List ℕ → List ℕ → Type 0 = Writes (g.R.CodeFiles.created c.args.rt.now) (g.R.CodeFiles.closed c.args.rt.now) g.R.Created.Write.contents in
     let named = named_in (map (λ arg. arg.now) c.args.args.now) in
     inr (subst (λ (status : ℕ). Prints Read Written named status (g.O.Write.contents c.args.out.now) (g.O.Write.contents c.carry_out.new.out)) one (c.in-Ok.ensures.ok taken))
+
+pub returns-in-Ok-clause-unprinted : goal.returns-in-Ok-clause-unprinted
+returns-in-Ok-clause-unprinted g c nonzero other =
+    inr (omega (arith, c.in-Ok.ensures.few, c.in-Ok.ensures.used, nonzero, other), c.in-Ok.ensures.checked nonzero)

@@ -3,6 +3,7 @@ use Rattle.std.proofs.Common.{◌≤◌, List, ℕ, length, map, sym, subst}
 use Rattle.ps_linkfile.specs.LinkedFile.{LinkedFile}
 use Rattle.ps_linkfile.proofs.Plans.{plan_ready, plan_file, plan_summary}
 use Rattle.ps_linkfile.proofs.Maps.{plan_map}
+use Rattle.ps_linkfile.proofs.MapsJson.{plan_json}
 use Rattle.ps_linkfile.proofs.Whole.{names_first, there, long_host}
 use Rattle.ps_linkfile.proofs.linked.prepare.Goals as goal
 
@@ -23,6 +24,9 @@ returns-clause-linked g c =
 
 pub returns-clause-map : goal.returns-clause-map
 returns-clause-map g c = plan_map _ _ c.in_ok-plan.plan c.in_ok-plan.ensures.plan
+
+pub returns-clause-json : goal.returns-clause-json
+returns-clause-json g c = plan_json _ _ c.in_ok-plan.plan c.in_ok-plan.ensures.plan
 
 pub returns-clause-accepted : goal.returns-clause-accepted
 returns-clause-accepted g c = c.first_of_all.ensures.none _ _ c.in_ok-plan.ensures.sound

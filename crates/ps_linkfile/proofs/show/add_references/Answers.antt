@@ -1,4 +1,4 @@
-use Rattle.std.proofs.Common.{◌≡◌, ◌++◌, ◌+◌, ◌*◌, ◌∙◌, ℕ, List, drop, take, ap, arith, refl, rules, sym}
+use Rattle.std.proofs.Common.{◌≡◌, ◌++◌, ◌+◌, ◌*◌, ◌∙◌, ℕ, List, drop, take, ap, arith, refl, sym}
 use Rattle.std.specs.List.{flat_map}
 use Rattle.ps_linkfile.specs.ShowText.{reference, references}
 use Rattle.ps_linkfile.proofs.InPieces.{one_piece}

@@ -4,7 +4,7 @@ use Rattle.ps_linkinfo.specs.Records.{Stops}
 use Rattle.ps_linkinfo.specs.Walk.{Walk, whole_walk}
 use Rattle.ps_linkinfo.specs.declared.record.LinkRecord.{LinkRecord as Record}
 use Rattle.ps_linkinfo.proofs.Readings.{is_reading, is_stop}
-use Rattle.ps_linkinfo.proofs.Stands.{IsRead, reading_is}
+use Rattle.ps_linkinfo.proofs.Stands.{IsReadingOf, reading_is}
 use Rattle.ps_linkinfo.proofs.Walks.{Walked, walked_first, walked_more, walked_all, walked_to_fault, walked_good}
 use Rattle.ps_linkinfo.proofs.reader.read_records.Goals as goal
 
@@ -25,7 +25,7 @@ returns-clause-ok g c =
     let bytes = c.args.bytes.now in
     let rs = c.loop-item.records.items in
     let all = walked_all order bytes c.loop-item.item-iterator rs c.loop-item.invariant.walked c.in-None.ensures.steps.1.0 in
-    let read = subst (λ (read : List Record × Option Reason). IsRead order bytes read) all (reading_is order bytes) in
+    let read = subst (λ (read : List Record × Option Reason). IsReadingOf order bytes read) all (reading_is order bytes) in
     is_reading order bytes rs read.spelled read.ends
 
 pub returns-in-Err-clause-stops : goal.returns-in-Err-clause-stops
@@ -35,7 +35,7 @@ returns-in-Err-clause-stops g c =
     let rs = c.loop-item.records.items in
     let why = c.in-Err.reason in
     let all = walked_to_fault order bytes c.loop-item.item-iterator c.next.new.self rs c.in-Some.item why c.loop-item.invariant.walked c.in-Some.ensures.steps c.in-Err.is in
-    let stops : Stops order bytes rs why = subst (λ (read : List Record × Option Reason). IsRead order bytes read) all (reading_is order bytes) in
+    let stops : Stops order bytes rs why = subst (λ (read : List Record × Option Reason). IsReadingOf order bytes read) all (reading_is order bytes) in
     (rs, (let h : length rs ≡ c.len.result = search rules in h), stops, is_stop order bytes rs why stops)
 
 pub returns-in_err-push-in-Ok-clause-memory : goal.returns-in_err-push-in-Ok-clause-memory

@@ -1,8 +1,7 @@
-use Rattle.std.proofs.Common.{◌≡◌, ◌∙◌, ℕ, List, [], ◌++◌, map, take, sym, ap}
-use Rattle.ps_resolve.specs.Sources.{Segment, opened, units_of}
-use Rattle.ps_resolve.specs.Added.{Rounds, all_unit_references, requested_from, rounds_from, rounds_in}
+use Rattle.std.proofs.Common.{◌∙◌, ℕ, List, [], ◌++◌, map, take, sym, ap}
+use Rattle.ps_resolve.specs.Sources.{Segment, opened}
+use Rattle.ps_resolve.specs.Added.{all_unit_references, requested_from, rounds_from}
 use Rattle.ps_resolve.specs.Views.{segment_of}
-use Rattle.ps_resolve.specs.declared.reading.added.UnitReference.{UnitReference}
 use Rattle.ps_resolve.proofs.Adding.{references_both, requested-append, few_kept}
 use Rattle.ps_resolve.proofs.reading.add_to.Goals as goal
 

@@ -1,8 +1,7 @@
-use Rattle.std.proofs.Common.{◌≡◌, ◌∙◌, ◌≤◌, ℕ, List, map, length, true, false, None, Option, is_some, sym, ap, subst}
+use Rattle.std.proofs.Common.{◌≡◌, ◌∙◌, ◌≤◌, ℕ, List, map, length, true, false, None, is_some, sym, ap, subst}
 use Rattle.std.specs.Option.{option_or}
 use Rattle.ps_words.specs.declared.order.Order.{Order}
-use Rattle.ps_words.specs.declared.fault.Fault.{Fault}
-use Rattle.ps_resolve.specs.Sources.{Segment, host_of, contents, opened_files}
+use Rattle.ps_resolve.specs.Sources.{host_of, contents, opened_files}
 use Rattle.ps_resolve.specs.Added.{segments, slot_names, added_fault}
 use Rattle.ps_resolve.specs.Faults.{slots_fault, no_host_fault, libraries_fault, sources_fault}
 use Rattle.ps_resolve.specs.AllFaults.{reading_rest}

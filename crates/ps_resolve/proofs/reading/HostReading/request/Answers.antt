@@ -1,7 +1,5 @@
-use Rattle.std.proofs.Common.{◌≡◌, ◌∙◌, ℕ, List, None, sym, ap}
-use Rattle.ps_codefile.specs.Dictionary.{entry_at, role_of}
+use Rattle.std.proofs.Common.{◌≡◌, ◌∙◌, ℕ, List, sym, ap}
 use Rattle.ps_resolve.specs.Sources.{contents, opened_files}
-use Rattle.ps_resolve.specs.Added.{empty_slots}
 use Rattle.ps_resolve.specs.Readings.{HostFiles, queued_request, read_requests, slot_request}
 use Rattle.ps_resolve.specs.declared.reading.added.UnitReference.{UnitReference}
 use Rattle.ps_resolve.proofs.ReadingSlots.{request_by, request_of_slot}

@@ -1,5 +1,5 @@
-use Rattle.std.proofs.Common.{◌≡◌, ◌∙◌, List, None, sym, ap, map}
-use Rattle.ps_resolve.specs.Sources.{Segment, contents, opened_files, order_of}
+use Rattle.std.proofs.Common.{◌≡◌, ◌∙◌, None, sym, ap}
+use Rattle.ps_resolve.specs.Sources.{contents, order_of}
 use Rattle.ps_resolve.specs.Added.{segments}
 use Rattle.ps_resolve.specs.AllFaults.{reading_fault}
 use Rattle.ps_resolve.specs.Readings.{HostFiles, ReadFiles, host_reading_fault}

@@ -4,7 +4,7 @@ use Rattle.std.proofs.lemmas.List.Elements.{All-nil}
 use Rattle.std.proofs.lemmas.Result.{err_from_is_err_and}
 use Rattle.ps_words.specs.declared.fault.Fault.{Fault}
 use Rattle.ps_resolve.specs.Sources.{Segment, opened}
-use Rattle.ps_resolve.specs.Added.{Rounds, requested_from, unit_references, all_unit_references, rounds_from}
+use Rattle.ps_resolve.specs.Added.{RoundsOutcome, requested_from, unit_references, all_unit_references, rounds_from}
 use Rattle.ps_resolve.specs.Views.{segment_of, IsRead, SegmentView}
 use Rattle.ps_resolve.specs.declared.reading.added.UnitReference.{UnitReference}
 use Rattle.ps_resolve.proofs.Adding.{at_round, kept, no_name_left, no_slot_left, round_refused, round_adds, joined, joined_more, references_more, few_kept}
@@ -33,8 +33,8 @@ returns-in-None c =
     let at = at_round t.0 c.loop-slot.queue.items i c.len.result None t.2 (omega arith) (c.len.ensures.value ∙ inv.count) c.in-None.ensures in
     t.3 ∙ ap (joined xs) (no_name_left host.order host.file libs units i t.0 left at) in
     record {
-      fault = λ whole kept. sym (ap (λ (r : Rounds). r.fault) (is whole kept));
-      added = λ whole kept. sym (ap (λ (r : Rounds). r.added) (is whole kept) ∙ append-nil xs);
+      fault = λ whole kept. sym (ap (λ (r : RoundsOutcome). r.fault) (is whole kept));
+      added = λ whole kept. sym (ap (λ (r : RoundsOutcome). r.added) (is whole kept) ∙ append-nil xs);
       requested = λ whole kept. let t = inv.rounds whole kept in t.2 ∙ ap (take 10) t.1;
       read = inv.read;
     }
@@ -59,8 +59,8 @@ returns-in_err-segment-in-Some c =
     t.3 ∙ ap (joined xs) here in
     let p = err_from_is_err_and c.from_residual.result c.from_residual.ensures.1 in
     rw (p.1, p.2) (record {
-      fault = λ whole kept. sym (ap (λ (r : Rounds). r.fault) (is whole kept));
-      added = λ whole kept. sym (ap (λ (r : Rounds). r.added) (is whole kept) ∙ append-nil xs);
+      fault = λ whole kept. sym (ap (λ (r : RoundsOutcome). r.fault) (is whole kept));
+      added = λ whole kept. sym (ap (λ (r : RoundsOutcome). r.added) (is whole kept) ∙ append-nil xs);
       requested = λ whole kept. let t = inv.rounds whole kept in t.2 ∙ ap (take 10) t.1;
       read = inv.read;
     })
@@ -115,8 +115,8 @@ returns-in-None-requested_at c =
     let at = at_round t.0 c.loop-slot.queue.items i c.len-placed.result None t.2 (omega arith) (c.len-placed.ensures.value ∙ inv.count) c.in-None-requested_at.ensures in
     t.3 ∙ ap (joined xs) (no_name_left host.order host.file libs units i t.0 left at) in
     record {
-      fault = λ whole kept. sym (ap (λ (r : Rounds). r.fault) (is whole kept));
-      added = λ whole kept. sym (ap (λ (r : Rounds). r.added) (is whole kept) ∙ append-nil xs);
+      fault = λ whole kept. sym (ap (λ (r : RoundsOutcome). r.fault) (is whole kept));
+      added = λ whole kept. sym (ap (λ (r : RoundsOutcome). r.added) (is whole kept) ∙ append-nil xs);
       requested = λ whole kept. let t = inv.rounds whole kept in t.2 ∙ ap (take 10) t.1;
       read = inv.read;
     }
@@ -137,8 +137,8 @@ returns-in-Some-requested_at c =
     let at = at_round t.0 c.loop-slot.queue.items i c.len-placed.result (Some g) t.2 (omega arith) (c.len-placed.ensures.value ∙ inv.count) c.in-Some-requested_at.ensures in
     t.3 ∙ ap (joined xs) (ap (λ (l : List ℕ). rounds_from host.order host.file libs units l i t.0) (drop_all i slots c.loop-slot-test.false) ∙ no_slot_left host.order host.file libs units i t.0 g at) in
     record {
-      fault = λ whole kept. ap (λ (f : Fault). Some f) c.no_slot.ensures ∙ sym (ap (λ (r : Rounds). r.fault) (is whole kept));
-      added = λ whole kept. sym (ap (λ (r : Rounds). r.added) (is whole kept) ∙ append-nil xs);
+      fault = λ whole kept. ap (λ (f : Fault). Some f) c.no_slot.ensures ∙ sym (ap (λ (r : RoundsOutcome). r.fault) (is whole kept));
+      added = λ whole kept. sym (ap (λ (r : RoundsOutcome). r.added) (is whole kept) ∙ append-nil xs);
       requested = λ whole kept. let t = inv.rounds whole kept in t.2 ∙ ap (take 10) t.1;
       read = inv.read;
     }

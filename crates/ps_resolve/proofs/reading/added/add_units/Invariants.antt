@@ -1,4 +1,4 @@
-use Rattle.std.proofs.Common.{◌≡◌, ◌≤◌, ℕ, List, length, take, drop, map}
+use Rattle.std.proofs.Common.{◌≡◌, ◌≤◌, List, length, take, drop, map}
 use Rattle.std.specs.Prelude.{All}
 use Rattle.ps_resolve.specs.Sources.{opened}
 use Rattle.ps_resolve.specs.Added.{all_unit_references, requested_from, rounds_from}

@@ -1,4 +1,4 @@
-use Rattle.std.proofs.Common.{◌≡◌, ◌∙◌, List, ℕ, Some, sym, ap, subst}
+use Rattle.std.proofs.Common.{◌≡◌, ◌∙◌, ℕ, Some, sym, ap, subst}
 use Rattle.std.specs.Prelude.{All}
 use Rattle.std.specs.List.{find}
 use Rattle.std.specs.Option.{option_map}
@@ -9,7 +9,7 @@ use Rattle.ps_words.specs.declared.fault.Fault.{Fault}
 use Rattle.ps_codefile.specs.Dictionary.{slots, kind_needs_linking}
 use Rattle.ps_codefile.specs.declared.entry.Role.TheVariants.{Wanted}
 use Rattle.ps_resolve.specs.Requests.{as_requested}
-use Rattle.ps_resolve.specs.Views.{IsRead, IsPlaced, IsSound, segment_of}
+use Rattle.ps_resolve.specs.Views.{IsRead}
 use Rattle.ps_resolve.specs.Sources.{Segment, is_named, segment_from, file_at, opened}
 use Rattle.ps_resolve.specs.Faults.{entries_reason, code_fault}
 use Rattle.ps_resolve.proofs.Requested.{placed_refused, placed_by, brought_by, seen_as, read_marked}

@@ -1,4 +1,4 @@
-use Rattle.std.proofs.Common.{◌≡◌, ◌∙◌, List, ℕ, sym, ap}
+use Rattle.std.proofs.Common.{◌∙◌, List, ℕ, sym, ap}
 use Rattle.std.specs.List.{find}
 use Rattle.ps_codefile.specs.Dictionary.{OpenedFile, slots}
 use Rattle.ps_resolve.specs.Sources.{is_named}

@@ -1,5 +1,5 @@
 use Rattle.std.proofs.Common.{◌≡◌, ℕ, ◌+◌, ◌++◌, ◌∙◌, [], sym, subst, arith, refl, Option, append-nil, List, ap}
-use Rattle.std.specs.Prelude.{⊤, IsPermutation}
+use Rattle.std.specs.Prelude.{IsPermutation}
 use Rattle.std.proofs.lemmas.Option.{same_Some}
 use Rattle.std.proofs.lemmas.Result.{err_from_is_err_and}
 use Rattle.std.specs.Option.{option_map}
@@ -23,9 +23,10 @@ use Rattle.ps_resolve.specs.declared.linkage.Stop.{Stop}
 use Rattle.ps_resolve.specs.Views.{SegmentView}
 use Rattle.ps_resolve.proofs.Numbers.{one, none}
 use Rattle.ps_resolve.proofs.FirstSlots.{none_mapped as map_none}
-use Rattle.ps_resolve.proofs.NextRecords.{no_links, record_refused, references_refused, record_stands, listed_more, words_are}
+use Rattle.ps_resolve.proofs.NextRecords.{no_links, record_refused, references_refused, record_stands, listed_more}
 use Rattle.ps_resolve.proofs.Sharing.{of_shared, no_references}
 use Rattle.ps_resolve.proofs.references.records.add_records.Goals as goal
+use Rattle.ps_resolve.proofs.LookingBack.{words_before}
 
 -- the first fault of the records of a segment with these tables
 abbrev fault_by : Known → SegmentView → ℕ → ProcedureTables → Option (ℕ × (Option ℕ × Reason))
@@ -76,7 +77,7 @@ pub overflow_add-next : goal.overflow_add-next
 overflow_add-next g c =
     let r = c.in-Some.record in
     let step = one _ c.loop-rec.rec-iterator c.next.new.self c.in-Some.rec r c.loop-rec.invariant.links c.in-Some.ensures.steps in
-    omega (arith, step.2.words, words_are r step.0, c.words_taken-next.ensures, c.requires.next.room)
+    omega (arith, step.2.words, words_before r step.0, c.words_taken-next.ensures, c.requires.next.room)
 
 pub returns-in-Err-clause-stop : goal.returns-in-Err-clause-stop
 returns-in-Err-clause-stop g c =
@@ -131,7 +132,7 @@ loop-rec-preserved g c =
           table = added.table;
           listed = listed_more known R tables.code rec l.next first.0 r rest _ l.found.edits.states.items c.add_record.new.self.edits.states.items t is_t step.2.listed added.edits;
           first = (first.0 ++ operands t (refs_of r.body), added.taken first.0 first.1, sym stands ∙ first.2);
-          words = omega (arith, step.2.words, words_are r rest);
+          words = omega (arith, step.2.words, words_before r rest);
         }),
       );
       procedures = added.same_procedures ∙ l.invariant.procedures;

@@ -1,0 +1,88 @@
+//! What a check answers.
+ghost use Rattle.std.specs.Prelude.{◌≡◌};
+ghost use Rattle.ps_calls.specs.CheckAnswers.{verdict_answer as verdict_answer_spec};
+
+use crate::answer::{Answer, DONE, NO_MEMORY, TOO_SMALL, WRONG_LENGTHS};
+use crate::checking::Found;
+use crate::outcome::Stop;
+use ps_report::Verdict;
+
+/// What a check answers: its status, and what goes with that status. All else is 0.
+///
+/// `include/pslink.h` has the same fields, as `pslink_check_answer`.
+/// Source: this project's profile.
+#[repr(C)]
+#[derive(Clone, Copy, Debug, PartialEq, Eq)]
+pub struct CheckAnswer {
+    /// `DONE`, `WRONG_LENGTHS`, `NO_MEMORY` or `TOO_SMALL`.
+    pub status: u32,
+    /// What a process that prints the report ends with, of a check that was done: 0 or 1.
+    pub ends_with: u32,
+    /// How many warnings the report has.
+    pub warnings: usize,
+    /// How many bytes were written, of a check that was done.
+    pub written: usize,
+    /// How many bytes the report has, of a check that was done or that was given too little room.
+    pub needed: usize,
+    /// Of a check that was done, what a link of the same files answers, with no bytes written and
+    /// none needed: `DONE` with what the linked file has, or `REFUSED` with the first fault of all.
+    /// Else it has the status of the check.
+    pub verdict: Answer,
+}
+
+impl CheckAnswer {
+    ghost use Rattle.ps_calls.specs.CheckAnswers.{bare_check, check_answer_of};
+
+    /// This status, also as that of the verdict, and 0 in every other field.
+    fn bare(status: u32) -> CheckAnswer
+        ensures { result ≡ bare_check status }
+    {
+        CheckAnswer {
+            status,
+            ends_with: 0,
+            warnings: 0,
+            written: 0,
+            needed: 0,
+            verdict: Answer::bare(status),
+        }
+    }
+
+    /// The answer of a check: its status, and what goes with that status.
+    /// Source: this project's profile.
+    pub fn of(outcome: Result<Found, Stop>) -> CheckAnswer
+        ensures { result ≡ check_answer_of outcome }
+    {
+        match outcome {
+            Ok(found) => CheckAnswer {
+                ends_with: found.ends_with.into(),
+                warnings: found.warnings,
+                written: found.size,
+                needed: found.size,
+                verdict: verdict_answer(found.verdict),
+                ..CheckAnswer::bare(DONE)
+            },
+            Err(Stop::TooSmall(size)) => CheckAnswer {
+                needed: size,
+                ..CheckAnswer::bare(TOO_SMALL)
+            },
+            Err(Stop::NoMemory) => CheckAnswer::bare(NO_MEMORY),
+            // A check refuses no files: what it finds has the fault.
+            Err(Stop::WrongLengths | Stop::Refused(_)) => CheckAnswer::bare(WRONG_LENGTHS),
+        }
+    }
+}
+
+/// What a link of files with this verdict answers, with no bytes written and none needed.
+fn verdict_answer(verdict: Verdict) -> Answer
+    ensures { result ≡ verdict_answer_spec verdict }
+{
+    match verdict {
+        Verdict::Links(summary) => Answer {
+            private_words: summary.private_words.into(),
+            segments: summary.segments,
+            blocks: summary.blocks,
+            ..Answer::bare(DONE)
+        },
+        Verdict::Refused(fault) => Answer::refusal(fault),
+    }
+}

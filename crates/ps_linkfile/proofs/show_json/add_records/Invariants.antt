@@ -1,0 +1,16 @@
+use Rattle.std.proofs.Common.{◌≤◌, ◌+◌, ◌/◌, length}
+use Rattle.ps_linkinfo.specs.Records.{reading}
+use Rattle.ps_linkinfo.specs.Left.{items_left}
+use Rattle.ps_linkfile.specs.ShowJson.{record_items}
+use Rattle.ps_linkfile.proofs.ShowsJson.{walk_items}
+use Rattle.ps_linkfile.proofs.Written.{Written}
+use Rattle.ps_linkfile.proofs.show_json.add_records.Given as goal
+
+-- the items of what is left are still to be written
+abbrev pub invariant-loop-item : goal.invariant-loop-item
+invariant-loop-item g l = record {
+  can : (goal.iterator-loop-item g).can_next l.item-iterator;
+  finite : (goal.iterator-loop-item g).is_finite l.item-iterator;
+  lines : Written g.S.TextWriter.added l.fn.text (record_items l.units (reading l.fn.order l.information)) (walk_items l.units l.rec (items_left l.item-iterator)) l.text;
+  few : l.rec + length (items_left l.item-iterator) ≤ length l.information / 16 + 1;
+}

@@ -1,0 +1,11 @@
+use Rattle.std.proofs.Common.{◌-◌}
+use Rattle.std.specs.List.{flat_map, range_with_len}
+use Rattle.ps_codefile.specs.Dictionary.{slots}
+use Rattle.ps_linkfile.specs.ShowJson.{slot_item}
+use Rattle.ps_linkfile.proofs.Written.{Written}
+use Rattle.ps_linkfile.proofs.show_json.add_slots.Given as goal
+
+-- the items of the slots that are left are still to be written
+abbrev pub invariant-loop-slot : goal.invariant-loop-slot
+invariant-loop-slot g l =
+    Written g.S.TextWriter.added l.fn.text (flat_map (slot_item l.dict.order l.dict.file) slots) (flat_map (slot_item l.dict.order l.dict.file) (range_with_len l.slot (16 - l.slot))) l.text

@@ -1,0 +1,65 @@
+//! What JSON documents are made of: names, items of an array, and faults.
+ghost use Rattle.std.specs.Prelude.{◌≡◌, ◌++◌};
+ghost use Rattle.std.specs.List.{flat_map};
+ghost use Rattle.ps_linkfile.specs.Adding.{Adds};
+ghost use Rattle.ps_linkfile.specs.JsonText.{json_bool as json_bool_spec, json_byte, json_name, json_reason, separator as separator_spec};
+
+use crate::lines::{add_number, shown_code};
+use crate::references::add_hex;
+use crate::text_writer::TextWriter;
+use ps_words::{Name, Reason};
+
+/// Adds a byte of a name inside a string.
+fn add_byte<S: TextWriter>(text: &mut S, byte: u8)
+    ensures { Adds S.added text.old (json_byte byte) text.new }
+{
+    match byte {
+        b'"' => text.add(b"\\\""),
+        b'\\' => text.add(b"\\\\"),
+        _ => text.add(&[shown_code(byte)]),
+    }
+}
+
+/// Adds the bytes of a name inside a string.
+fn add_bytes<S: TextWriter>(text: &mut S, bytes: &[u8])
+    ensures { Adds S.added text.old (flat_map json_byte bytes.now) text.new }
+{
+    for byte in bytes {
+        add_byte(text, *byte);
+    }
+}
+
+/// Adds the members of a name: as a line shows it, and all its bytes in hexadecimal digits.
+pub(crate) fn add_json_name<S: TextWriter>(text: &mut S, name: Name)
+    ensures { Adds S.added text.old (json_name name) text.new }
+{
+    text.add(b"\"name\":\"");
+    add_bytes(text, &name);
+    text.add(b"\",\"name_hex\":\"");
+    add_hex(text, &name);
+    text.add(b"\"");
+}
+
+/// What is before the item of this index in an array.
+pub(crate) fn separator(index: usize) -> &'static [u8]
+    ensures { result.now ≡ separator_spec index }
+{
+    if index == 0 { b"\n" } else { b",\n" }
+}
+
+/// A word for true or false.
+pub(crate) fn json_bool(value: bool) -> &'static [u8]
+    ensures { result.now ≡ json_bool_spec value }
+{
+    if value { b"true" } else { b"false" }
+}
+
+/// Adds a fault of a code or of a record: its number and its name.
+pub(crate) fn add_json_reason<S: TextWriter>(text: &mut S, reason: Reason)
+    ensures { Adds S.added text.old (json_reason reason) text.new }
+{
+    add_number(text, b"{\"number\":", reason.number());
+    text.add(b",\"reason\":\"");
+    text.add(reason.name().as_bytes());
+    text.add(b"\"}");
+}

@@ -1,0 +1,4 @@
+pub mod JsonItems
+pub mod NumberedUses
+pub mod LinkedEntries
+pub mod FoundUnits

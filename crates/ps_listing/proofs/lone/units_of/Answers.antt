@@ -1,0 +1,23 @@
+use Rattle.std.proofs.Common.{◌∙◌, Some, refl, sym, arith}
+use Rattle.ps_listing.specs.LoneText.{lone_unit, units_of}
+use Rattle.ps_listing.proofs.FoundUnits.{no_more, none_more, one_more}
+use Rattle.ps_listing.proofs.lone.units_of.Goals.{in-Some+in_ok-push, in_default}
+use Rattle.ps_listing.proofs.lone.units_of.Goals as goal
+
+pub loop-slot-init : goal.loop-slot-init
+loop-slot-init g c = rw c.new-units.ensures.items refl
+
+pub loop-slot-preserved : goal.loop-slot-preserved
+loop-slot-preserved g c =
+    let l = c.loop-slot in
+    let f = lone_unit c.args.file.now in
+    let all = units_of c.args.file.now in
+    let lt = c.loop-slot-test.true in
+    let found = sym c.in_ok-unit.ensures in
+    elim c.match-branch-2.branch [
+      | in-Some+in_ok-push w ↦ rw (w.units-is, w.in_ok-push.ensures.items) (one_more f all l.units.items l.slot (Some w.in-Some.unit) lt (found ∙ w.in-Some.is) l.invariant)
+      | in_default w ↦ rw w.units-is (none_more f all l.units.items l.slot lt (found ∙ w.in_default.is) l.invariant)
+    ]
+
+pub returns : goal.returns
+returns g c = sym (no_more (lone_unit c.args.file.now) (units_of c.args.file.now) c.loop-slot.units.items c.loop-slot.slot (omega (arith, c.loop-slot-test.false)) c.loop-slot.invariant)

@@ -1,0 +1,3 @@
+pub mod ListJson
+pub mod ListText
+pub mod LoneText

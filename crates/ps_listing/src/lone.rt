@@ -1,0 +1,184 @@
+//! The units of a file, each by itself.
+ghost use Rattle.std.specs.Prelude.{◌≡◌, ◌<◌, IfOk, OnOk, OnErr};
+ghost use Rattle.std.specs.List.{list_any};
+ghost use Rattle.std.specs.Io.KnownBytes.{Appends};
+ghost use Rattle.ps_linkfile.specs.Adding.{Adds};
+ghost use Rattle.ps_linkfile.specs.Outcomes.{AppendsPrefix};
+ghost use Rattle.ps_listing.specs.LoneText.{has_no_sound as has_no_sound_spec, is_refused_unit, lone_line, lone_text, lone_unit as lone_unit_spec, lone_units as lone_units_spec, lone_words, units_of as units_of_spec};
+
+use crate::words::{add_path, add_reference, add_refusal};
+use ps_codefile::Role;
+use ps_codefile::dictionary_layout::SLOTS;
+use ps_linkfile::{Text, TextWriter, WriteFault, add_slot_name, write_text};
+use ps_resolve::{HostReading, lone_fault, read};
+use ps_words::{Fault, Name};
+use std::alloc::{AllocError, Allocator};
+use std::io::Write;
+
+/// A unit whose code a file has, and what is wrong with it by itself.
+/// Source: this project's profile.
+#[derive(Clone, Copy, Debug, PartialEq, Eq)]
+pub struct LoneUnit {
+    /// The slot of its entry in the segment dictionary, 0 to 15.
+    pub slot: u8,
+    /// Its name, eight bytes.
+    pub name: Name,
+    /// Its first fault by itself; `None` where it has none.
+    pub fault: Option<Fault>,
+}
+
+/// The unit in a slot, where there is one whose code the file has.
+fn lone_unit<A: Allocator + Copy>(
+    alloc: A,
+    file: &HostReading,
+    slot: u8,
+) -> Result<Option<LoneUnit>, AllocError>
+    requires { slot < 16 }
+    ensures { IfOk result (λ unit. unit ≡ lone_unit_spec file.now slot) }
+{
+    match file.role(slot) {
+        Ok(Role::Unit) => {
+            let name = file.entry(slot).name;
+            let fault = lone_fault(alloc, file, slot)?;
+            Ok(Some(LoneUnit { slot, name, fault }))
+        }
+        Ok(Role::Empty | Role::Wanted | Role::Plain | Role::Host) | Err(_) => Ok(None),
+    }
+}
+
+/// The units of a file that was opened.
+fn units_of<A: Allocator + Copy>(
+    alloc: A,
+    file: &HostReading,
+) -> Result<Vec<LoneUnit, A>, AllocError>
+    ensures { IfOk result (λ units. units.items ≡ units_of_spec file.now) }
+{
+    let mut units = Vec::new(alloc);
+    for slot in 0..SLOTS {
+        if let Some(unit) = lone_unit(alloc, file, slot)? {
+            units.push(unit)?;
+        }
+    }
+    Ok(units)
+}
+
+/// The units whose code a file has, by slot ascending, each with its first fault by itself: of its
+/// code, its tables and its records, and then of its privates and references, in a link with a host
+/// that would define each name that it asks for.
+///
+/// `file` is a whole file, of any contents; one that cannot be opened has no units. What such a host
+/// is, and which faults are found, `ps_resolve::lone_fault` says.
+///
+/// Refused where memory was. Source: this project's profile.
+pub fn lone_units<A: Allocator + Copy>(
+    alloc: A,
+    file: &[u8],
+) -> Result<Vec<LoneUnit, A>, AllocError>
+    ensures { IfOk result (λ units. units.items ≡ lone_units_spec file.now) }
+{
+    let reading = read(file, &[]);
+    match reading.host() {
+        Err(_) => Ok(Vec::new(alloc)),
+        Ok(host) => units_of(alloc, host),
+    }
+}
+
+/// One of the units has a fault.
+fn has_refused(units: &[LoneUnit]) -> bool
+    ensures { result ≡ list_any is_refused_unit units.now }
+{
+    for unit in units {
+        if unit.fault.is_some() {
+            return true;
+        }
+    }
+    false
+}
+
+/// There is no unit, or one that has a fault.
+/// Source: this project's profile.
+pub fn has_no_sound(units: &[LoneUnit]) -> bool
+    ensures { result ≡ has_no_sound_spec units.now }
+{
+    units.is_empty() || has_refused(units)
+}
+
+/// The units of a file at a path.
+#[derive(Drop)]
+struct LoneLines<'a> {
+    path: &'a [u8],
+    units: &'a [LoneUnit],
+}
+
+impl Text for LoneLines<'_> {
+    ghost use Rattle.ps_listing.specs.LoneText.{lone_text};
+
+    ghost bytes = { λ l. lone_text l.path.now l.units.now };
+
+    fn add_to<S: TextWriter>(&self, text: &mut S) {
+        add_lines(text, self.path, self.units);
+    }
+}
+
+/// Adds what is wrong with a unit.
+fn add_words<S: TextWriter>(text: &mut S, fault: Option<Fault>)
+    ensures { Adds S.added text.old (lone_words fault) text.new }
+{
+    match fault {
+        None => text.add(b", no fault"),
+        Some(fault) => {
+            add_refusal(text, fault.reason, fault.rec);
+            add_reference(text, fault.reference);
+        }
+    }
+}
+
+/// Adds the line of a unit.
+fn add_line<S: TextWriter>(text: &mut S, path: &[u8], unit: &LoneUnit)
+    ensures { Adds S.added text.old (lone_line path.now unit.now) text.new }
+{
+    add_path(text, path);
+    add_slot_name(text, b": slot ", unit.slot, unit.name);
+    text.add(b" by itself");
+    add_words(text, unit.fault);
+    text.add(b"\n");
+}
+
+/// Adds the line of each unit.
+fn add_lines<S: TextWriter>(text: &mut S, path: &[u8], units: &[LoneUnit])
+    ensures { Adds S.added text.old (lone_text path.now units.now) text.new }
+{
+    for unit in units {
+        add_line(text, path, unit);
+    }
+}
+
+/// Writes a line of each unit, as `PATH: slot 02 UTIL     by itself, no fault`, or with its fault as
+/// `PATH: slot 02 UTIL     by itself, refused 33 Overlap record 1 reference 0`.
+///
+/// Each begins with the path, in which a byte that could end the line is a question mark. Refused
+/// where the writer failed, which is not called again, and then has a prefix of the text. It takes
+/// no memory. Source: this project's profile.
+pub fn write_lone_units<W: Write>(
+    path: &str,
+    units: &[LoneUnit],
+    out: &mut W,
+) -> Result<(), WriteFault>
+    ensures written { OnOk result (Appends (W.contents out.old) (W.contents out.new)
+        (lone_text path.now units.now)) }
+    ensures prefix { OnErr result (AppendsPrefix (W.contents out.old) (W.contents out.new)
+        (lone_text path.now units.now)) }
+{
+    write_lines(path.as_bytes(), units, out)
+}
+
+/// Writes a line of each unit of a file at this path.
+fn write_lines<W: Write>(path: &[u8], units: &[LoneUnit], out: &mut W) -> Result<(), WriteFault>
+    ensures written { OnOk result (Appends (W.contents out.old) (W.contents out.new)
+        (lone_text path.now units.now)) }
+    ensures prefix { OnErr result (AppendsPrefix (W.contents out.old) (W.contents out.new)
+        (lone_text path.now units.now)) }
+{
+    let lines = LoneLines { path, units };
+    write_text(&lines, out)
+}

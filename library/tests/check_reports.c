@@ -1,0 +1,242 @@
+/* What a C caller may rely on of a report, of a host that its library completes: prints what is otherwise, and is then not 0. malloc
+ * and realloc are those of refusing_heap.h (-Wl,--wrap=malloc,--wrap=realloc). Usage: check_reports HOST LIBRARY */
+#include <pslink.h>
+#include <stdio.h>
+#include <stdlib.h>
+#include <string.h>
+
+#include "read_file.h"
+#include "refusing_heap.h"
+
+#define ROOM 8192
+#define FILLER 0x5A
+
+/* What the sample pair is reported as, and the host alone. */
+static const char pair[] =
+    "file 0 HOST: 1536 bytes, little-endian\n"
+    "file 1 LIB1: 1536 bytes, little-endian\n"
+    "slot 01 DEMO: the host program, from HOST entry 01, 18 bytes\n"
+    "slot 07 UTIL: a unit that the host wants, from LIB1 entry 02, 24 bytes\n"
+    "slots without a segment: 00 02 03 04 05 06 08 09 10 11 12 13 14 15\n"
+    "links: segments 2 private words 4 blocks 3\n";
+static const char alone[] =
+    "file 0 HOST: 1536 bytes, little-endian\n"
+    "slot 01 DEMO: the host program, from HOST entry 01, 18 bytes\n"
+    "slot 07 UTIL: a unit that the host wants, which no library has\n"
+    "slots without a segment: 00 02 03 04 05 06 08 09 10 11 12 13 14 15\n"
+    "pslink: refused 13 MissingUnit file 0 slot 7\n"
+    "  file HOST\n"
+    "  segment UTIL, of slot 07 of the host\n"
+    "  no library is given\n"
+    "  No library has the unit that the slot wants.\n"
+    "  Give a library that has it, after HOST.\n";
+
+static pslink_named_file host, library;
+
+/* Each byte from one on is as it was before. */
+static int is_untouched(const unsigned char *room, size_t from, size_t size)
+{
+    for (; from < size; from++)
+        if (room[from] != FILLER)
+            return 0;
+    return 1;
+}
+
+static int is_bare(const pslink_check_answer *answer, uint32_t status)
+{
+    pslink_check_answer bare;
+
+    memset(&bare, 0, sizeof bare);
+    bare.status = status;
+    bare.verdict.status = status;
+    return memcmp(&bare, answer, sizeof bare) == 0;
+}
+
+/* The report of the pair as bytes and lengths, with these names. */
+static uint32_t check_pair(const char *names, size_t names_length, const size_t *name_lengths, size_t name_count, uint32_t strict,
+                           void *out, size_t size, pslink_check_answer *answer)
+{
+    return pslink_check_nonnull(host.bytes, host.length, library.bytes, library.length, &library.length, 1, names, names_length,
+                                name_lengths, name_count, strict, out, size, answer);
+}
+
+static uint32_t make(size_t count, void *out, size_t size, pslink_check_answer *answer)
+{
+    return pslink_check_files(host, &library, count, 0, out, size, answer);
+}
+
+/* Room of each length up to that of the report and one more, of files that are linked and of a host that is refused. */
+static void check_rooms(size_t count)
+{
+    const char *report = count == 1 ? pair : alone;
+    const size_t length = strlen(report);
+    size_t size;
+
+    for (size = 0; size <= length + 1; size++) {
+        unsigned char *room = (unsigned char *)malloc(size + 1);
+        pslink_check_answer answer, bare;
+        uint32_t status;
+
+        if (room == NULL)
+            exit(4);
+        memset(room, FILLER, size + 1);
+        memset(&answer, 0xFF, sizeof answer);
+        memset(&bare, 0, sizeof bare);
+        status = make(count, size == 0 ? NULL : room, size, &answer);
+        check(status == answer.status, "the status is not the answer's", size);
+        check(answer.needed == length, "another length is needed", size);
+        if (size < length) {
+            bare.status = bare.verdict.status = PSLINK_TOO_SMALL;
+            bare.needed = length;
+            check(memcmp(&answer, &bare, sizeof bare) == 0, "a room that is too small is taken", size);
+            check(is_untouched(room, 0, size + 1), "a room that is too small is written to", size);
+        } else {
+            check(status == PSLINK_DONE && answer.written == length, "room enough is not taken", size);
+            check(memcmp(room, report, length) == 0, "the report is another", size);
+            check(is_untouched(room, length, size + 1), "what is behind the report is written to", size);
+            check(answer.ends_with == (count == 0) && answer.warnings == 0, "what it ends with is another", count);
+        }
+        free(room);
+    }
+}
+
+/* The verdict is what a link answers, which has the fault, whole. */
+static void check_verdicts(void)
+{
+    char text[PSLINK_FAULT_TEXT_MAX];
+    static unsigned char room[ROOM];
+    pslink_check_answer answer;
+
+    make(1, room, sizeof room, &answer);
+    check(answer.verdict.status == PSLINK_DONE && answer.verdict.segments == 2 && answer.verdict.private_words == 4 &&
+              answer.verdict.blocks == 3 && answer.verdict.written == 0 && answer.verdict.needed == 0,
+          "the verdict of the pair is another", 1);
+    check(pslink_fault_text(&answer.verdict, text, sizeof text) == 0, "the pair has a fault", 1);
+    make(0, room, sizeof room, &answer);
+    check(answer.verdict.status == PSLINK_REFUSED && answer.verdict.fault == PSLINK_FAULT_MISSING_UNIT && answer.verdict.slot == 7,
+          "the verdict of the host alone is another", 0);
+    check(pslink_fault_text(&answer.verdict, text, sizeof text) != 0 && strcmp(text, "refused 13 MissingUnit file 0 slot 7") == 0,
+          "the fault of the host alone is another", 0);
+}
+
+/* Bit 7 of the operand of COUNT is clear in the unit's code: one warning, of which a strict check says 1. */
+static void check_strict(void)
+{
+    static unsigned char room[ROOM], other[1 << 16];
+    pslink_named_file warned = library;
+    pslink_check_answer answer;
+    int strict;
+
+    memcpy(other, library.bytes, library.length);
+    other[512 + 1] = 0;
+    warned.bytes = other;
+    for (strict = 0; strict < 3; strict++) {
+        uint32_t status = pslink_check_files(host, &warned, 1, strict, room, sizeof room, &answer);
+
+        check(status == PSLINK_DONE && answer.verdict.status == PSLINK_DONE && answer.warnings == 1, "there is another count of warnings",
+              answer.warnings);
+        check(answer.ends_with == (strict != 0), "strict is not heeded", (size_t)strict);
+    }
+}
+
+/* Each allocation refused in turn. */
+static void check_memory(size_t count)
+{
+    static unsigned char room[ROOM];
+    pslink_check_answer answer;
+    long turn;
+
+    for (turn = 0; turn < 1000; turn++) {
+        uint32_t status;
+
+        memset(room, FILLER, sizeof room);
+        asked = 0;
+        refused_at = turn;
+        status = make(count, room, sizeof room, &answer);
+        refused_at = -1;
+        if (asked <= turn) {
+            check(status == PSLINK_DONE && turn > 0, "with all memory it is not done", (size_t)turn);
+            return;
+        }
+        check(status == PSLINK_NO_MEMORY && is_bare(&answer, status), "memory is refused, and the answer is another",
+              (size_t)turn);
+        check(is_untouched(room, 0, sizeof room), "memory is refused, and the room is written to", (size_t)turn);
+    }
+    check(0, "there is no end of memory that is asked for", count);
+}
+
+/* Names that do not add up, are not one for each file, or are no UTF-8; and some that are. */
+static void check_names(void)
+{
+    static const struct {
+        const char *names;
+        size_t names_length, lengths[3], count;
+        int is_right;
+    } cases[] = {
+        {"HOSTLIB", 7, {4, 3}, 2, 1},           {"", 0, {0, 0}, 2, 1},
+        {"H\xC3\xA9LIB", 6, {3, 3}, 2, 1},      {"\xF0\x9F\x92\xBE", 4, {4, 0}, 2, 1},
+        {"HOSTLIB", 7, {4, 2}, 2, 0},           {"HOSTLIB", 7, {4, 4}, 2, 0},
+        {"HOSTLIB", 7, {SIZE_MAX, 8}, 2, 0},    {"HOSTLIB", 7, {7}, 1, 0},
+        {"HOSTLIB", 7, {4, 3, 0}, 3, 0},        {"HOSTLIB", 7, {0}, 0, 0},
+        {"H\xC3\xA9LIB", 6, {2, 4}, 2, 0},      {"\xFFLIB", 4, {1, 3}, 2, 0},
+        {"HOST\xC0\x80", 6, {4, 2}, 2, 0},      {"HOST\xED\xA0\x80", 7, {4, 3}, 2, 0},
+    };
+    static unsigned char room[ROOM];
+    pslink_check_answer answer;
+    size_t k;
+
+    for (k = 0; k < sizeof cases / sizeof *cases; k++) {
+        uint32_t status;
+
+        memset(room, FILLER, sizeof room);
+        status = check_pair(cases[k].names, cases[k].names_length, cases[k].lengths, cases[k].count, 0, room, sizeof room, &answer);
+        check(status == (cases[k].is_right ? PSLINK_DONE : PSLINK_WRONG_LENGTHS), "names are taken otherwise", k);
+        check(cases[k].is_right || (is_bare(&answer, status) && is_untouched(room, 0, sizeof room)),
+              "names that are not taken leave something", k);
+    }
+    check(pslink_check(host.bytes, host.length, library.bytes, library.length - 1, &library.length, 1, "", 0, cases[1].lengths, 0, NULL,
+                       0, &answer) == PSLINK_WRONG_LENGTHS && is_bare(&answer, PSLINK_WRONG_LENGTHS),
+          "lengths that do not add up are taken", 0);
+    check(pslink_check(NULL, 0, NULL, 0, NULL, 0, NULL, 0, cases[1].lengths, 0, room, sizeof room, &answer) == PSLINK_DONE &&
+              answer.verdict.fault == PSLINK_FAULT_SHORT_FILE,
+          "nothing has no report", 0);
+}
+
+/* Lengths that no block of memory can have. */
+static void check_too_long(void)
+{
+    const pslink_named_file too_long[2] = {{"A", library.bytes, PTRDIFF_MAX}, {"B", library.bytes, SIZE_MAX}};
+    pslink_check_answer answer;
+
+    check(pslink_check_files(host, too_long, 1, 0, NULL, 0, &answer) == PSLINK_NO_MEMORY && is_bare(&answer, PSLINK_NO_MEMORY),
+          "a library that is too long is taken", 1);
+    check(pslink_check_files(host, too_long, 2, 0, NULL, 0, &answer) == PSLINK_NO_MEMORY, "libraries that are too long are taken", 2);
+    check(pslink_check_files(host, too_long, SIZE_MAX, 0, NULL, 0, &answer) == PSLINK_NO_MEMORY, "too many libraries are taken", 3);
+}
+
+static pslink_named_file named(const char *name, const char *path)
+{
+    const pslink_file file = read_file(path);
+    const pslink_named_file it = {name, file.bytes, file.length};
+
+    return it;
+}
+
+int main(int argc, char **argv)
+{
+    size_t count;
+
+    if (argc != 3)
+        return 2;
+    host = named("HOST", argv[1]);
+    library = named("LIB1", argv[2]);
+    for (count = 0; count <= 1; count++) {
+        check_rooms(count);
+        check_memory(count);
+    }
+    check_verdicts();
+    check_strict();
+    check_names();
+    check_too_long();
+    return failures != 0;
+}
