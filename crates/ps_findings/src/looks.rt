@@ -5,13 +5,16 @@ mod entries;
 mod extents;
 mod files;
 mod instructions;
+mod jumps;
 mod links;
 mod names;
+mod procedures;
 mod records;
 
 use crate::inputs::Inputs;
 use crate::segments::{Segment, Source};
 use crate::warnings::{Look, Place, Warning};
+use procedures::Rules;
 use ps_words::{Fault, Name, Reason};
 use std::alloc::{AllocError, Allocator};
 
@@ -24,8 +27,8 @@ pub(crate) struct Sight<'c, 'a> {
     pub(crate) fault: Option<Fault>,
     /// No name of an entry has a capital letter.
     pub(crate) are_small: bool,
-    /// The codes are P-code, as far as their instructions say.
-    pub(crate) are_p_code: bool,
+    /// What the procedures keep to, where the codes are P-code, as far as their instructions say.
+    rules: Option<Rules>,
 }
 
 impl<'c, 'a> Sight<'c, 'a> {
@@ -39,7 +42,7 @@ impl<'c, 'a> Sight<'c, 'a> {
             list,
             fault,
             are_small: names::are_small(inputs),
-            are_p_code: instructions::are_p_code(inputs),
+            rules: Rules::of(inputs),
         }
     }
 

@@ -1,5 +1,5 @@
 //! Codes that look wrong.
-use super::instructions::Fit;
+use super::procedures::first_misfit;
 use super::{Sight, Warnings};
 use crate::segments::Source;
 use crate::warnings::{Look, Place};
@@ -38,14 +38,15 @@ pub(super) fn look_at<'a, A: Allocator>(
     }
     if source.needs_linking() {
         warnings.add(place, number_look(source, code))?;
-    } else if sight.are_p_code {
+    } else if sight.rules.is_some() {
         warnings.add(place, lost_tables(source.order, code))?;
     }
-    if source.needs_linking() || sight.are_p_code {
+    if source.needs_linking() || sight.rules.is_some() {
         warnings.add(place, table_look(source.order, code))?;
     }
-    if sight.are_p_code {
-        warnings.add(place, misfit_look(source.order, code))?;
+    if let Some(rules) = sight.rules {
+        let misfit = first_misfit(source, code, rules);
+        warnings.add(place, misfit.map(|procedure| Look::Misfit { procedure }))?;
     }
     Ok(())
 }
@@ -133,12 +134,6 @@ fn lost_tables(order: Order, code: &[u8]) -> Option<Look> {
         Ok(procs) if procs.count() == 0 => Some(Look::LostTables),
         _ => None,
     }
-}
-
-/// The first procedure whose instructions do not fit.
-fn misfit_look(order: Order, code: &[u8]) -> Option<Look> {
-    let procedure = Fit::of(order, code).first_other?;
-    Some(Look::Misfit { procedure })
 }
 
 /// Where a procedure is entered, and where it is left.

@@ -1,16 +1,14 @@
-//! Instructions of P-code that do not fit together, as where sectors of a code were exchanged.
-use super::codes::Ends;
-use crate::inputs::Inputs;
-use crate::segments::source_of;
-use ps_codefile::Procs;
-use ps_codefile::dictionary_layout::SLOTS;
-use ps_words::Order;
+//! Instructions of P-code: how long they are, and which of them jump, call or return.
+use ps_words::{Order, get};
 
-/// So many procedures whose instructions fit are no chance.
-const MANY: usize = 8;
+/// The opcodes of the calls of a procedure of the same segment, whose number follows.
+const CALLS: [u8; 3] = [0xAE, 0xC2, 0xCE];
 
-/// Of so many procedures, one may be damaged.
-const FEW: usize = 4;
+/// The opcodes of the returns.
+const RETURNS: [u8; 3] = [0xAD, 0xC1, 0xD6];
+
+/// Above it an opcode is no constant.
+const LAST_CONSTANT: u8 = 0x7F;
 
 /// What follows the opcode of an instruction.
 #[derive(Clone, Copy)]
@@ -27,7 +25,8 @@ enum Operands {
     Words,
     /// A type; of arrays, then the length in one or two bytes.
     Type,
-    /// The jumps of a case.
+    /// From an even place on the least and the greatest index of a case, a jump, and a word for each
+    /// index.
     Case,
 }
 
@@ -50,8 +49,8 @@ impl Operands {
         }
     }
 
-    /// The length of an instruction at a place with these operands; none of a case.
-    fn length(self, place: usize, bytes: &[u8]) -> Option<usize> {
+    /// The length of an instruction at a place with these operands; none of a case without a table.
+    fn length(self, order: Order, place: usize, bytes: &[u8]) -> Option<usize> {
         let first = usize::from(bytes.first().copied()?);
         match self {
             Operands::Bytes(count) => Some(count.saturating_add(1)),
@@ -61,7 +60,7 @@ impl Operands {
             Operands::Words => Some(2 * first + 2 + place % 2),
             Operands::Type if first == 10 || first == 12 => big_end(bytes, 1),
             Operands::Type => Some(2),
-            Operands::Case => None,
+            Operands::Case => case_length(order, place, bytes),
         }
     }
 }
@@ -72,148 +71,65 @@ fn big_end(bytes: &[u8], before: usize) -> Option<usize> {
     Some(before.saturating_add(2 + usize::from(high / 128)))
 }
 
-/// The places that the jumps of a procedure go to, as bits: bit n is n bytes from here.
-#[derive(Clone, Copy)]
-struct Targets(u128);
-
-impl Targets {
-    /// Those after an instruction of so many bytes; none where one is in it.
-    fn after(self, length: usize) -> Option<Targets> {
-        let before = self.0 & !1;
-        if 128 <= length {
-            return if before == 0 { Some(Targets(0)) } else { None };
-        }
-        let after = before >> length;
-        if after << length == before {
-            Some(Targets(after))
-        } else {
-            None
-        }
+/// The length of a case at a place; none where its least index is above its greatest.
+fn case_length(order: Order, place: usize, bytes: &[u8]) -> Option<usize> {
+    let padding = 1 - place % 2;
+    let words = bytes.get(padding..)?;
+    if words.len() < 4 {
+        return None;
     }
-
-    /// With that of a jump over so many bytes.
-    fn with(self, bytes: u8) -> Targets {
-        if bytes < 128 {
-            Targets(self.0 | 1 << bytes)
-        } else {
-            self
-        }
-    }
+    // (signed words, of which the difference is that of these)
+    let least = get(order, words, 0) ^ 0x8000;
+    let greatest = get(order, words, 2) ^ 0x8000;
+    let count = usize::from(greatest.checked_sub(least)?) + 1;
+    Some(padding + 7 + 2 * count)
 }
 
-/// The instructions of a procedure fit: one begins where it is left, and at each place that a jump
-/// goes to, and its return comes before its table. What comes after a case is not looked at.
-fn fits(code: &[u8], ends: Ends, table: usize) -> bool {
-    let (mut place, mut targets, mut is_left) = (ends.enter, Targets(0), false);
-    let code = code.get(..table).unwrap_or(&[]);
-    for _ in ends.enter..table {
-        is_left = is_left || place == ends.leave;
+/// An instruction.
+#[derive(Clone, Copy)]
+pub(super) struct Instruction {
+    opcode: u8,
+    /// The byte after the opcode.
+    pub(super) operand: u8,
+    operands: Operands,
+    /// How many bytes it has.
+    pub(super) length: usize,
+}
+
+impl Instruction {
+    /// That at a place of a code; none where no whole one is.
+    pub(super) fn at(order: Order, code: &[u8], place: usize) -> Option<Instruction> {
         let (opcode, bytes) = match code.get(place..) {
             Some([opcode, bytes @ ..]) => (*opcode, bytes),
-            _ => return false,
+            _ => return None,
         };
-        if is_left && matches!(opcode, 0xAD | 0xC1 | 0xD6) {
-            return true;
-        }
         let operands = Operands::of(opcode);
-        let Some(length) = operands.length(place, bytes) else {
-            return matches!(operands, Operands::Case);
-        };
-        let Some(after) = targets.after(length) else {
-            return false;
-        };
-        targets = match (operands, bytes) {
-            (Operands::Jump, [distance, ..]) => after.with(*distance),
-            _ => after,
-        };
-        place = place.saturating_add(length);
-    }
-    false
-}
-
-/// How many procedures have instructions that fit, how many have others, and the first of those.
-#[derive(Clone, Copy)]
-pub(super) struct Fit {
-    fitting: usize,
-    others: usize,
-    pub(super) first_other: Option<usize>,
-}
-
-impl Fit {
-    const NONE: Fit = Fit {
-        fitting: 0,
-        others: 0,
-        first_other: None,
-    };
-
-    /// Of the procedures of a code, as far as their bytes are not more than the code has.
-    pub(super) fn of(order: Order, code: &[u8]) -> Fit {
-        let mut fit = Fit::NONE;
-        let mut left = code.len();
-        if code.len() < 2 {
-            return fit;
-        }
-        let Ok(procs) = Procs::read(order, code, false) else {
-            return fit;
-        };
-        for procedure in 1..=procs.count() {
-            if let Some(table) = procs.table(procedure) {
-                if let Some(ends) = Ends::at(order, code, table) {
-                    let size = table.saturating_sub(ends.enter);
-                    if left < size {
-                        return fit;
-                    }
-                    left = left.saturating_sub(size);
-                    fit = fit.with(procedure, fits(code, ends, table));
-                }
-            }
-        }
-        fit
+        Some(Instruction {
+            opcode,
+            operand: bytes.first().copied()?,
+            operands,
+            length: operands.length(order, place, bytes)?,
+        })
     }
 
-    fn with(self, procedure: usize, is_fitting: bool) -> Fit {
-        match is_fitting {
-            true => Fit {
-                fitting: self.fitting.saturating_add(1),
-                ..self
-            },
-            false => Fit {
-                others: self.others.saturating_add(1),
-                first_other: self.first_other.or(Some(procedure)),
-                ..self
-            },
-        }
+    pub(super) fn is_return(self) -> bool {
+        RETURNS.contains(&self.opcode)
     }
 
-    /// Of these procedures and of those.
-    fn and(self, other: Fit) -> Fit {
-        Fit {
-            fitting: self.fitting.saturating_add(other.fitting),
-            others: self.others.saturating_add(other.others),
-            ..self
-        }
+    pub(super) fn is_constant(self) -> bool {
+        self.opcode <= LAST_CONSTANT
     }
-}
 
-/// The codes of the files are P-code: of most procedures the instructions fit.
-pub(super) fn are_p_code(inputs: &Inputs<'_>) -> bool {
-    let mut fit = Fit::NONE;
-    for file in 0..=inputs.libs.len() {
-        fit = fit.and(of_file(inputs, file));
+    pub(super) fn is_case(self) -> bool {
+        matches!(self.operands, Operands::Case)
     }
-    MANY <= fit.fitting && fit.others <= fit.fitting / FEW
-}
 
-/// Of the procedures of a file.
-fn of_file(inputs: &Inputs<'_>, file: usize) -> Fit {
-    let mut fit = Fit::NONE;
-    if let Some(dict) = inputs.dict(file) {
-        for slot in 0..SLOTS {
-            let source = source_of(&dict, file, slot);
-            if let Some(code) = source.code {
-                fit = fit.and(Fit::of(source.order, code));
-            }
-        }
+    pub(super) fn is_jump(self) -> bool {
+        matches!(self.operands, Operands::Jump)
     }
-    fit
+
+    /// It calls the procedure of the same segment whose number is the operand.
+    pub(super) fn is_call(self) -> bool {
+        CALLS.contains(&self.opcode)
+    }
 }

@@ -1,0 +1,54 @@
+//! Jumps of P-code: those over less than 128 bytes, and those by the jump table.
+use ps_words::{Order, get};
+
+/// From this operand on a jump goes by the jump table.
+const BY_TABLE: u8 = 128;
+
+/// The places that short jumps go to, as bits: bit n is n bytes from here.
+#[derive(Clone, Copy)]
+pub(super) struct Targets(u128);
+
+impl Targets {
+    pub(super) const NONE: Targets = Targets(0);
+
+    /// Those after an instruction of so many bytes; none where one is in it.
+    pub(super) fn after(self, length: usize) -> Option<Targets> {
+        let before = self.0 & !1;
+        if 128 <= length {
+            return if before == 0 { Some(Targets(0)) } else { None };
+        }
+        let after = before >> length;
+        if after << length == before {
+            Some(Targets(after))
+        } else {
+            None
+        }
+    }
+
+    /// With that of a jump over so many bytes.
+    pub(super) fn with(self, bytes: u8) -> Targets {
+        if bytes < BY_TABLE {
+            Targets(self.0 | 1 << bytes)
+        } else {
+            self
+        }
+    }
+}
+
+/// A jump with this operand goes by the jump table.
+pub(super) fn is_by_table(operand: u8) -> bool {
+    BY_TABLE <= operand
+}
+
+/// Where a jump goes whose operand says how many bytes before 256 after the procedure's table its
+/// distance is; none where it goes by itself, or before the code. The code ends with that table.
+pub(super) fn table_target(order: Order, code: &[u8], operand: u8) -> Option<usize> {
+    let place = code
+        .len()
+        .checked_add(usize::from(operand))?
+        .checked_sub(256)?;
+    match code.get(place..) {
+        Some(word) if 2 <= word.len() => place.checked_sub(usize::from(get(order, word, 0))),
+        _ => None,
+    }
+}
