@@ -17,9 +17,17 @@ json_byte b = if b == 34 then 92 ∷ 34 ∷ [] else if b == 92 then 92 ∷ 92 �
 abbrev pub json_name : List ℕ → List ℕ
 json_name name = codes "\"name\":\"" ++ flat_map json_byte name ++ codes "\",\"name_hex\":\"" ++ flat_map hex_byte name ++ codes "\""
 
--- what is before the item of this index in an array
+-- what is before an item of an array on the line of the item before it
+abbrev pub comma_unless : Bool → List ℕ
+comma_unless first = if first then [] else codes ","
+
+-- what is before an item of an array on a line of its own
+abbrev pub line_end : Bool → List ℕ
+line_end first = if first then codes "\n" else codes ",\n"
+
+-- what is before the item of this index in an array, on a line of its own
 abbrev pub separator : ℕ → List ℕ
-separator i = if i == 0 then codes "\n" else codes ",\n"
+separator i = line_end (i == 0)
 
 abbrev pub json_bool : Bool → List ℕ
 json_bool b = if b then codes "true" else codes "false"

@@ -12,7 +12,7 @@ use Rattle.ps_linkinfo.specs.declared.record.Body.{Body}
 use Rattle.ps_linkinfo.specs.declared.record.Body.TheVariants.{UnitRef, PublRef, PrivRef, PublDef, ConstDef, Eof}
 use Rattle.ps_linkinfo.specs.declared.record.LinkRecord.{LinkRecord as Record}
 use Rattle.ps_resolve.specs.Sources.{known_order}
-use Rattle.ps_linkfile.specs.JsonText.{json_bool, json_name, json_reason, separator}
+use Rattle.ps_linkfile.specs.JsonText.{comma_unless, json_bool, json_name, json_reason, separator}
 use Rattle.ps_linkfile.specs.MapJson.{member}
 use Rattle.ps_linkfile.specs.ShowText.{has_links, is_listed, unit_names}
 
@@ -23,13 +23,9 @@ order_member (Ordered Little) = codes "{\"order\":\"little\",\"slots\":["
 order_member (Ordered Big) = codes "{\"order\":\"big\",\"slots\":["
 order_member Mixed = []
 
--- what is before the reference of this index
-abbrev pub comma : ℕ → List ℕ
-comma i = if i == 0 then [] else codes ","
-
 -- one reference, of this index
 abbrev pub reference_item : ℕ × ℕ → List ℕ
-reference_item p = comma p.0 ++ decimal p.1
+reference_item p = comma_unless (p.0 == 0) ++ decimal p.1
 
 -- all references of a record, as `,"references":[1,4]`
 abbrev pub references_member : List ℕ → List ℕ

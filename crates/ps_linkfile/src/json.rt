@@ -2,7 +2,7 @@
 ghost use Rattle.std.specs.Prelude.{◌≡◌, ◌++◌};
 ghost use Rattle.std.specs.List.{flat_map};
 ghost use Rattle.ps_linkfile.specs.Adding.{Adds};
-ghost use Rattle.ps_linkfile.specs.JsonText.{json_bool as json_bool_spec, json_byte, json_name, json_reason, separator as separator_spec};
+ghost use Rattle.ps_linkfile.specs.JsonText.{comma_unless, json_bool as json_bool_spec, json_byte, json_name, json_reason, line_end};
 
 use crate::lines::{add_number, shown_code};
 use crate::references::add_hex;
@@ -30,7 +30,8 @@ fn add_bytes<S: TextWriter>(text: &mut S, bytes: &[u8])
 }
 
 /// Adds the members of a name: as a line shows it, and all its bytes in hexadecimal digits.
-pub(crate) fn add_json_name<S: TextWriter>(text: &mut S, name: Name)
+/// Source: RFC 8259; which members there are is this project's profile.
+pub fn add_json_name<S: TextWriter>(text: &mut S, name: Name)
     ensures { Adds S.added text.old (json_name name) text.new }
 {
     text.add(b"\"name\":\"");
@@ -40,11 +41,22 @@ pub(crate) fn add_json_name<S: TextWriter>(text: &mut S, name: Name)
     text.add(b"\"");
 }
 
-/// What is before the item of this index in an array.
-pub(crate) fn separator(index: usize) -> &'static [u8]
-    ensures { result.now ≡ separator_spec index }
+/// What is before an item of an array on the line of the item before it: a comma, and nothing before
+/// the first item.
+/// Source: RFC 8259.
+pub fn comma(first: bool) -> &'static [u8]
+    ensures { result.now ≡ comma_unless first }
 {
-    if index == 0 { b"\n" } else { b",\n" }
+    if first { b"" } else { b"," }
+}
+
+/// What is before an item of an array on a line of its own: the end of the line before, with a comma
+/// but for the first item.
+/// Source: RFC 8259; the lines are this project's profile.
+pub fn separator(first: bool) -> &'static [u8]
+    ensures { result.now ≡ line_end first }
+{
+    if first { b"\n" } else { b",\n" }
 }
 
 /// A word for true or false.

@@ -28,11 +28,12 @@ mod write_counter;
 mod writing;
 
 pub use error::{LinkError, WriteFault};
+pub use json::{add_json_name, comma, separator};
 pub use lines::{add_number, add_slot_name, shown_codes};
 pub use linked::{Linked, link, prepare};
 pub use linked_file_law::linked_file_is_one;
 pub use map::map_text;
-pub use references::{ReferenceMap, prepare_references};
+pub use references::{ReferenceMap, add_hex, prepare_references};
 pub use show::{show_text, write_show};
 pub use show_json::write_show_json;
 pub use stream::write_text;

@@ -22,7 +22,7 @@ fn add_segment<S: TextWriter>(text: &mut S, index: usize, source: &Source, name:
         (code_item index source.now.slot name source.now.file source.now.index block
         (length source.now.code.now) source.now.added) text.new }
 {
-    text.add(separator(index));
+    text.add(separator(index == 0));
     add_code(text, source, name, block);
 }
 
@@ -66,7 +66,7 @@ fn add_segments<A: Allocator + Copy, S: TextWriter>(
 fn add_definition<S: TextWriter>(text: &mut S, index: usize, name: Name, def: Def)
     ensures { Adds S.added text.old (definition_item (index, (name, def))) text.new }
 {
-    text.add(separator(index));
+    text.add(separator(index == 0));
     text.add(b"{\"kind\":\"");
     text.add(kind_word(def.kind));
     text.add(b"\",");
@@ -93,7 +93,7 @@ fn add_definitions<A: Allocator + Copy, S: TextWriter>(text: &mut S, definitions
 fn add_private<S: TextWriter>(text: &mut S, index: usize, private: &Private)
     ensures { Adds S.added text.old (private_item (index, private.now)) text.new }
 {
-    text.add(separator(index));
+    text.add(separator(index == 0));
     add_private_members(text, private);
 }
 

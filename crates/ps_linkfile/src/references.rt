@@ -46,8 +46,9 @@ fn hex_digits(byte: u8) -> [u8; 2]
     [hex_digit(byte / 16), hex_digit(byte % 16)]
 }
 
-/// Adds these bytes in hexadecimal digits.
-pub(crate) fn add_hex<S: TextWriter>(text: &mut S, bytes: &[u8])
+/// Adds these bytes in hexadecimal digits, two of each byte.
+/// Source: this project's profile.
+pub fn add_hex<S: TextWriter>(text: &mut S, bytes: &[u8])
     ensures { Adds S.added text.old (flat_map hex_byte bytes.now) text.new }
 {
     for byte in bytes {

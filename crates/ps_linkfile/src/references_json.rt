@@ -102,7 +102,7 @@ fn add_item<S: TextWriter, A: Allocator>(
 fn add_listing<S: TextWriter, A: Allocator>(text: &mut S, index: usize, listing: &Listing<'_, A>)
     ensures { Adds S.added text.old (listed_items (index, listing.now)) text.new }
 {
-    text.add(separator(index));
+    text.add(separator(index == 0));
     for (place, cause) in listing.causes.iter().enumerate() {
         if text.has_failed() {
             return;

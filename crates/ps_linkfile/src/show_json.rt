@@ -8,11 +8,11 @@ ghost use Rattle.ps_linkfile.specs.Adding.{Adds};
 ghost use Rattle.ps_linkfile.specs.JsonText.{separator as separator_spec};
 ghost use Rattle.ps_linkfile.specs.MapJson.{member};
 ghost use Rattle.ps_linkfile.specs.Outcomes.{LeavesTextPrefix, LeavesUntouched};
-ghost use Rattle.ps_linkfile.specs.ShowJson.{comma as comma_spec, end_members, entry_members, fault_item, fault_members, links_members, named_member, order_member, private_reference, record_head, record_item, record_items, record_members, reference_item, references_member, show_json_of, slot_item, unit_members};
+ghost use Rattle.ps_linkfile.specs.ShowJson.{end_members, entry_members, fault_item, fault_members, links_members, named_member, order_member, private_reference, record_head, record_item, record_items, record_members, reference_item, references_member, show_json_of, slot_item, unit_members};
 ghost use Rattle.ps_linkfile.specs.ShowText.{order_shown, show_fault, unit_names as unit_names_spec, IsUnwritten};
 
 use crate::error::LinkError;
-use crate::json::{add_json_name, add_json_reason, json_bool, separator};
+use crate::json::{add_json_name, add_json_reason, comma, json_bool, separator};
 use crate::lines::add_number;
 use crate::show::{ShownFile, has_links, is_listed, read, unit_names};
 use crate::stream::write_text;
@@ -81,7 +81,7 @@ fn add_slot<S: TextWriter>(text: &mut S, dict: &Dict, units: &[Name], slot: u8)
 fn add_separated<S: TextWriter>(text: &mut S, slot: u8, entry: Entry)
     ensures { Adds S.added text.old (separator_spec slot ++ entry_members slot entry) text.new }
 {
-    text.add(separator(slot as usize));
+    text.add(separator(slot == 0));
     add_entry(text, slot, entry);
 }
 
@@ -151,7 +151,7 @@ fn add_records<S: TextWriter>(text: &mut S, units: &[Name], order: Order, inform
 fn add_head<S: TextWriter>(text: &mut S, rec: usize)
     ensures { Adds S.added text.old (record_head rec) text.new }
 {
-    text.add(separator(rec));
+    text.add(separator(rec == 0));
     add_number(text, b"{\"record\":", rec);
 }
 
@@ -279,18 +279,11 @@ fn add_places<S: TextWriter>(text: &mut S, refs: &Refs)
     }
 }
 
-/// What is before the reference of this index.
-fn comma(index: usize) -> &'static [u8]
-    ensures { result.now ≡ comma_spec index }
-{
-    if index == 0 { b"" } else { b"," }
-}
-
 /// Adds a reference of this index.
 fn add_place<S: TextWriter>(text: &mut S, index: usize, place: u16)
     ensures { Adds S.added text.old (reference_item (index, place)) text.new }
 {
-    add_number(text, comma(index), place);
+    add_number(text, comma(index == 0), place);
 }
 
 /// Writes what `write_show` writes as one JSON document, in pieces: the values of its lines, of

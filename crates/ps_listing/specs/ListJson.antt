@@ -16,7 +16,7 @@ use Rattle.ps_linkinfo.specs.declared.record.Body.{Body}
 use Rattle.ps_linkinfo.specs.declared.record.Body.TheVariants.{UnitRef, PublRef, PrivRef, PublDef, ConstDef, Eof}
 use Rattle.ps_linkinfo.specs.declared.record.LinkRecord.{LinkRecord as Record}
 use Rattle.ps_resolve.specs.Sources.{records_of}
-use Rattle.ps_linkfile.specs.JsonText.{json_name}
+use Rattle.ps_linkfile.specs.JsonText.{comma_unless, json_name, line_end}
 use Rattle.ps_linkfile.specs.MapJson.{member}
 use Rattle.ps_linkfile.specs.ReferencesText.{hex_byte}
 use Rattle.ps_filetype.specs.CodeFiles.{code_file, code_file_word, opened}
@@ -36,14 +36,6 @@ number_or_null (Some n) = decimal n
 -- `{"number":17,"reason":"BadProcDict","record":null}`
 abbrev pub fault_json : Reason → Option ℕ → List ℕ
 fault_json why rec = codes "{\"number\":" ++ decimal (number_of why) ++ codes ",\"reason\":\"" ++ name_of why ++ codes "\",\"record\":" ++ number_or_null rec ++ codes "}"
-
--- what is before an item on the line of the item before it
-abbrev pub comma_unless : Bool → List ℕ
-comma_unless first = if first then [] else codes ","
-
--- what is before an item on a line of its own
-abbrev pub line_end : Bool → List ℕ
-line_end first = comma_unless first ++ codes "\n"
 
 -- the item of what a record uses, as `{"name":..,"name_hex":..}`; none has one but a UNITREF
 abbrev pub use_item : Bool → List ℕ → Body → List ℕ

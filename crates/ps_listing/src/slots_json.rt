@@ -5,11 +5,11 @@ ghost use Rattle.ps_linkfile.specs.Adding.{Adds};
 ghost use Rattle.ps_listing.specs.ListJson.{fault_members, found_item, found_members, is_first_after, is_first_after_role, is_first_after_slot, length_member, refused_item, role_item, slot_item, slot_items, slot_members, use_item, use_items, uses_member};
 
 use crate::alone::read_alone;
-use crate::json::{add_fault, add_line_end, add_name, comma};
+use crate::json::add_fault;
 use crate::slots::{kind_of, name_of, size_of};
 use ps_codefile::dictionary_layout::SLOTS;
 use ps_codefile::{Dict, Role};
-use ps_linkfile::{TextWriter, add_number};
+use ps_linkfile::{TextWriter, add_json_name, add_number, comma, separator};
 use ps_linkinfo::{Body, LinkInformation, LinkRecord};
 use ps_words::Reason;
 
@@ -24,7 +24,7 @@ fn add_use<S: TextWriter>(text: &mut S, record: &LinkRecord, first: bool) -> boo
         Body::UnitRef(_) => {
             text.add(comma(first));
             text.add(b"{");
-            add_name(text, record.name);
+            add_json_name(text, record.name);
             text.add(b"}");
             false
         }
@@ -86,10 +86,10 @@ fn add_head<S: TextWriter>(text: &mut S, dict: &Dict, slot: u8, first: bool)
     ensures { Adds S.added text.old (slot_members first dict.now.order dict.now.file slot)
         text.new }
 {
-    add_line_end(text, first);
+    text.add(separator(first));
     add_number(text, b"{\"slot\":", slot);
     text.add(b",");
-    add_name(text, name_of(dict, slot));
+    add_json_name(text, name_of(dict, slot));
     add_number(text, b",\"kind\":", kind_of(dict, slot));
 }
 
