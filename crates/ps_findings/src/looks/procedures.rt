@@ -17,7 +17,7 @@ const MANY: usize = 4;
 const FEW: usize = 4;
 
 /// So many constants one after another are no expression.
-const MANY_CONSTANTS: usize = 24;
+const MANY_CONSTANTS: usize = 32;
 
 /// So many jumps by the jump table of a procedure are looked at.
 const TABLE_JUMPS: usize = 16;
