@@ -1,4 +1,5 @@
-/* Times links or checks in one process: prints the microseconds that one takes, over many.
+/* Times links or checks in one process: prints the microseconds that one takes, over many. With NO_CHECK it needs no
+ * function that checks.
  * Usage: in_process TURNS link|check HOST [LIB]... */
 #define _POSIX_C_SOURCE 200809L
 #include <pslink.h>
@@ -37,12 +38,16 @@ static uint32_t link_once(size_t count)
     return pslink_link_files(host, libs, count, out, sizeof out, &answer);
 }
 
+#ifdef NO_CHECK
+#define check_once link_once
+#else
 static uint32_t check_once(size_t count)
 {
     pslink_check_answer answer;
 
     return pslink_check_files(named_host, named_libs, count, 0, out, sizeof out, &answer);
 }
+#endif
 
 int main(int argc, char **argv)
 {

@@ -2,7 +2,7 @@
 """Times links in one process, through the library in C, Python and Rust, beside runs of the program: the sample pair, the same
 host without a library, a file of no bytes, and sixteen segments all of whose bytes are operands; and checks of the first two.
 Where valgrind is there, also the instructions that a call in C takes; where there is no cargo, Rust is left out. The archive of
-another library with the functions of pslink.h, if one is given, is measured beside, in C.
+another library that links as pslink.h says, if one is given, is measured beside, in C; it needs no checks.
 Usage: in_process.py PSLINK FOLDER [ARCHIVE]: the program, the folder with libpslink.a and libpslink.so.1, the other archive"""
 import os
 import re
@@ -40,11 +40,11 @@ def cases():
     yield "files that are refused", "check", 20_000, {"host": host}
 
 
-def built_in_c(folder, archive):
+def built_in_c(folder, archive, *flags):
     """The program in C over an archive."""
     timer = Path(tempfile.mkdtemp(dir=folder)) / "in_c"
     compiler = [os.environ.get("CC", "cc"), "-O2", f"-I{ROOT}/include", f"-I{ROOT}/library/tests"]
-    subprocess.run([*compiler, ROOT / "bench/in_process.c", archive, "-lpthread", "-ldl", "-lm", "-o", timer], check=True)
+    subprocess.run([*compiler, *flags, ROOT / "bench/in_process.c", archive, "-lpthread", "-ldl", "-lm", "-o", timer], check=True)
     return timer
 
 
@@ -108,12 +108,12 @@ def report(folder, pslink, in_c, in_rust, other):
         if in_rust:
             said.append(f"Rust {microseconds(folder, in_rust, *call):.2f}")
         said.append(f"the program {of_program(folder, pslink, command, list(files)):.0f}")
-        if other:
+        if other and command == "link":
             said.append(f"the other library {microseconds(folder, other, *call):.2f}")
         print(f"{what}, microseconds a {command}: {', '.join(said)}", flush=True)
         if shutil.which("valgrind"):
             counts = [f"{instructions(folder, in_c, *call):.0f}"]
-            if other:
+            if other and command == "link":
                 counts.append(f"of the other library {instructions(folder, other, *call):.0f}")
             print(f"{what}, instructions a {command} in C: {', '.join(counts)}", flush=True)
 
@@ -127,7 +127,7 @@ def main():
     sys.dont_write_bytecode = True
     with tempfile.TemporaryDirectory() as name:
         folder = Path(name)
-        other = built_in_c(folder, others[0]) if others else None
+        other = built_in_c(folder, others[0], "-DNO_CHECK") if others else None
         archive = built / "libpslink.a"
         report(folder, pslink, built_in_c(folder, archive), built_in_rust(folder, archive), other)
 
