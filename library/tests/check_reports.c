@@ -5,11 +5,11 @@
 #include <stdlib.h>
 #include <string.h>
 
+#include "filled_room.h"
 #include "read_file.h"
 #include "refusing_heap.h"
 
 #define ROOM 8192
-#define FILLER 0x5A
 
 /* What the sample pair is reported as, and the host alone. */
 static const char pair[] =
@@ -32,15 +32,6 @@ static const char alone[] =
     "  Give a library that has it, after HOST.\n";
 
 static pslink_named_file host, library;
-
-/* Each byte from one on is as it was before. */
-static int is_untouched(const unsigned char *room, size_t from, size_t size)
-{
-    for (; from < size; from++)
-        if (room[from] != FILLER)
-            return 0;
-    return 1;
-}
 
 static int is_bare(const pslink_check_answer *answer, uint32_t status)
 {

@@ -6,11 +6,11 @@
 #include <stdlib.h>
 #include <string.h>
 
+#include "filled_room.h"
 #include "read_file.h"
 #include "refusing_heap.h"
 
 #define ROOM 70000
-#define FILLER 0x5A
 
 static pslink_file host, library, linked, map, show;
 
@@ -35,15 +35,6 @@ static uint32_t make(enum call call, void *out, size_t size, pslink_answer *answ
 static const pslink_file *result_of(enum call call)
 {
     return call == LINK || call == LINK_FILES ? &linked : call == SHOW ? &show : &map;
-}
-
-/* Each byte from one on is as it was before. */
-static int is_untouched(const unsigned char *room, size_t from, size_t size)
-{
-    for (; from < size; from++)
-        if (room[from] != FILLER)
-            return 0;
-    return 1;
 }
 
 static int is_bare(const pslink_answer *answer, uint32_t status)
