@@ -1,5 +1,5 @@
 //! Files that are read whole.
-ghost use Rattle.std.specs.Prelude.{◌≡◌, ◌≢◌, ◌≤◌, ℕ, List, length, map, IfErr, IfOk, IfSome, OnOk, ⊤};
+ghost use Rattle.std.specs.Prelude.{◌≡◌, ◌≢◌, ◌≤◌, ℕ, List, length, map, Any, IfErr, IfOk, IfSome, OnOk, true, ⊤};
 ghost use Rattle.std.specs.List.{AllZip};
 ghost use Rattle.ps_linker.specs.Reading.{IsReadError, IsTooLong, Reads, read_error};
 ghost use Rattle.ps_linker.specs.Statuses.{status_of};
@@ -10,6 +10,7 @@ use crate::request::Inputs;
 use std::alloc::{AllocError, AllocFailed, Allocator};
 use std::fs::OpenFile;
 use std::io::{Read, Write};
+use std::os::unix::fs::MetadataExt;
 use std::rt::Files;
 use std::{fs, io};
 
@@ -75,6 +76,9 @@ pub trait CodeFiles {
     // Holds of a path and of what was created there, as it was when it was closed.
     ghost closed: { Self → List ℕ → Self.Created → Type 0 };
 
+    // Holds of two paths that were found to lead to one file.
+    ghost one_file: { Self → List ℕ → List ℕ → Type 0 };
+
     /// Opens the file at `path` to be read.
     fn open(&self, path: &str) -> io::Result<Self::Opened>
         ensures { IfOk result (opened self.now path.now) };
@@ -86,6 +90,11 @@ pub trait CodeFiles {
     /// Closes the file that was created at `path`: no more is written to it.
     fn close(&self, path: &str, file: Self::Created) -> io::Result<()>
         ensures { OnOk result (closed self.now path.now file) };
+
+    /// Both paths lead to one file, as two names of it or a link do. Where no file is, or no regular
+    /// one, they do not.
+    fn lead_to_one_file(&self, path: &str, other: &str) -> bool
+        ensures { result ≡ true → one_file self.now path.now other.now };
 
     /// How many bytes `file` is said to have, and 0 where nothing is said of it. A read may give
     /// more bytes than that, or less.
@@ -103,6 +112,8 @@ impl<R: Files> CodeFiles for R {
 
     ghost closed = { λ rt path file. ⊤ };
 
+    ghost one_file = { λ rt path other. ⊤ };
+
     fn open(&self, path: &str) -> io::Result<R::File> {
         fs::open(self, path)
     }
@@ -116,6 +127,17 @@ impl<R: Files> CodeFiles for R {
         file.flush()
     }
 
+    // A pipe or a terminal may well be read and written. An inode is 0 where none is known.
+    fn lead_to_one_file(&self, path: &str, other: &str) -> bool {
+        match (fs::metadata(self, path), fs::metadata(self, other)) {
+            (Ok(one), Ok(two)) => {
+                let node = one.ino();
+                one.is_file() && node != 0 && node == two.ino() && one.dev() == two.dev()
+            }
+            _ => false,
+        }
+    }
+
     // The length of what is no regular file says nothing of what it gives.
     fn length_hint(file: &R::File) -> usize {
         match file.metadata() {
@@ -125,6 +147,20 @@ impl<R: Files> CodeFiles for R {
             _ => 0,
         }
     }
+}
+
+/// The first of the paths that leads to the file at `out`.
+/// Source: this project's profile.
+pub fn first_to<'a, R: CodeFiles>(rt: &R, paths: &[&'a str], out: &str) -> Option<&'a str>
+    ensures { IfSome result (λ _. Any (R.one_file rt.now out.now)
+        (map (λ path. path.now) paths.now)) }
+{
+    for path in paths {
+        if rt.lead_to_one_file(out, path) {
+            return Some(*path);
+        }
+    }
+    None
 }
 
 /// What the files of a host and of its libraries hold.

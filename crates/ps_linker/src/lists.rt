@@ -1,13 +1,13 @@
 //! The lists of files, one after another.
 ghost use Rattle.std.specs.Prelude.{◌≡◌, ◌≢◌, ◌≤◌, IfErr, IfOk, OnOk, if◌then◌else◌, map, max};
 ghost use Rattle.std.specs.Io.KnownBytes.{Appends};
-ghost use Rattle.ps_linkfile.specs.JsonText.{separator as separator_spec};
 ghost use Rattle.ps_linker.specs.Printed.{IsListed, PrintsFiles, PrintsLists, PrintsUnread, is_refused_in, listed_text, listed_units};
 ghost use Rattle.ps_linker.specs.Reading.{Reads};
 
 use crate::error::CommandError;
 use crate::files::{self, CodeFiles};
 use crate::output;
+use ps_linkfile::separator;
 use ps_listing::LoneUnit;
 use std::alloc::{AllocError, Allocator};
 use std::io::Write;
@@ -75,13 +75,6 @@ fn refusal_status(refused: bool) -> u8
     if refused { 1 } else { 0 }
 }
 
-/// What is before the item of this index in an array.
-fn separator(index: usize) -> &'static [u8]
-    ensures { result.now ≡ separator_spec index }
-{
-    if index == 0 { b"\n" } else { b",\n" }
-}
-
 /// Prints what is listed of a file in this form, as JSON the item of this index. `units` are its
 /// units by themselves, where they are printed.
 fn print_text<O: Write>(
@@ -101,7 +94,7 @@ fn print_text<O: Write>(
     match form {
         Form::Lines => Ok(ps_listing::write_list(path, phrase, file, out)?),
         Form::Json => {
-            output::print(out, separator(index))?;
+            output::print(out, separator(index == 0))?;
             Ok(ps_listing::write_list_json(path, phrase, file, out)?)
         }
         Form::Units => {
@@ -160,7 +153,7 @@ fn print_unread<O: Write>(
     match form {
         Form::Lines | Form::Units => Ok(()),
         Form::Json => {
-            output::print(out, separator(index))?;
+            output::print(out, separator(index == 0))?;
             Ok(ps_listing::write_unread_json(path, out)?)
         }
     }

@@ -8,7 +8,7 @@ ghost use Rattle.std.specs.Process.{exit_status};
 ghost use Rattle.ps_linker.specs.CommandLine.{AreAccepted, named_in};
 ghost use Rattle.ps_linker.specs.Printed.{Prints};
 ghost use Rattle.ps_linker.specs.Reading.{Reads, Writes};
-ghost use Rattle.ps_linker.specs.Requests.{NamesCheck, NamesList, WritesLibrary};
+ghost use Rattle.ps_linker.specs.Requests.{NamesCheck, NamesList, OverwritesLibrary, WritesLibrary};
 
 mod error;
 mod files;
@@ -109,7 +109,7 @@ fn run_args<R: CodeFiles + AllocGlobal, O: Write, E: Write>(
         → WritesLibrary (named_in (map string_bytes given.now)) → exit_status result ≢ 4
         → exit_status result ≡ 2 }
     ensures usage { AreAccepted (map string_bytes given.now) → exit_status result ≡ 2
-        → WritesLibrary (named_in (map string_bytes given.now)) }
+        → OverwritesLibrary (R.one_file rt.now) (named_in (map string_bytes given.now)) }
     ensures unprinted { exit_status result ≢ 0 → exit_status result ≢ 3
         → (out.new ≡ out.old)
         ⊎ ((exit_status result ≡ 1) × (NamesCheck (named_in (map string_bytes given.now))

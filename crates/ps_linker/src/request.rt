@@ -240,7 +240,7 @@ fn link_of<'a, A: Allocator + Copy>(
     let inputs = inputs_of(heap, alloc, found)?;
     let out = file_of(heap, found, "OUT")?;
     if inputs.libraries.contains(&out) {
-        return Err(written_library(heap, out));
+        return Err(written_library(heap, out, out));
     }
     Ok(Request::Link { inputs, out })
 }
@@ -369,22 +369,25 @@ fn missing_argument(heap: Global) -> CommandError<'static> {
     }
 }
 
-/// The error of arguments that name the file to write as a library too.
-fn written_library(heap: Global, out: &str) -> CommandError<'static>
-    ensures { result ≢ CommandError.Memory → status_of result ≡ 2 }
+/// The error of arguments that name the file to write as a library too, at this path or another.
+pub fn written_library(heap: Global, out: &str, library: &str) -> CommandError<'static>
+    ensures either { status_of result ≢ 4 → status_of result ≡ 2 }
+    ensures memory { result ≢ CommandError.Memory → status_of result ≡ 2 }
 {
-    match written_library_error(heap, out) {
+    match written_library_error(heap, out, library) {
         Ok(error) => CommandError::from(error),
         Err(_) => CommandError::Memory,
     }
 }
 
-fn written_library_error(heap: Global, out: &str) -> Result<clap::Error, AllocError>
+fn written_library_error(heap: Global, out: &str, library: &str) -> Result<clap::Error, AllocError>
     ensures { IfOk result (λ e. kind_of e ≡ ErrorKind.ValueValidation) }
 {
-    let message = format!(in heap;
-        "invalid value '{out}' for '<OUT>': it is named as a library too"
-    )?;
+    let message = if out == library {
+        format!(in heap; "invalid value '{out}' for '<OUT>': it is named as a library too")?
+    } else {
+        format!(in heap; "invalid value '{out}' for '<OUT>': it is the library '{library}'")?
+    };
     let mut link = link_command(heap)?.bin_name("pslink link")?;
     link.error(ErrorKind::ValueValidation, message.as_str())
 }

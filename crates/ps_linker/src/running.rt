@@ -1,12 +1,12 @@
 //! One command, from its arguments to its status.
-ghost use Rattle.std.specs.Prelude.{◌≡◌, ◌≢◌, ◌≤◌, ◌⊎◌, ◌∷◌, List, ℕ, IfErr, IfOk, IsErrAnd, OnOk, false, map, string_bytes, true};
+ghost use Rattle.std.specs.Prelude.{◌≡◌, ◌≢◌, ◌≤◌, ◌⊎◌, ◌∷◌, List, ℕ, Any, IfErr, IfOk, IsErrAnd, OnOk, false, map, string_bytes, true};
 ghost use Rattle.std.specs.Io.KnownBytes.{Appends};
 ghost use Rattle.ps_linkfile.specs.LinkedFile.{LinkedFile, summary_of};
 ghost use Rattle.ps_linkfile.specs.Writing.{file_in, summary_in};
 ghost use Rattle.ps_linker.specs.CommandLine.{AreAccepted, named_in, texts};
 ghost use Rattle.ps_linker.specs.Printed.{Prints, PrintsLine, PrintsLists, PrintsMap, PrintsReport, PrintsShow, HasVerdict, IsPrintedMap, list_form as list_form_spec, printed_show};
 ghost use Rattle.ps_linker.specs.Reading.{Reads, Writes};
-ghost use Rattle.ps_linker.specs.Requests.{NamesCheck, NamesList, WritesLibrary};
+ghost use Rattle.ps_linker.specs.Requests.{NamesCheck, NamesList, OverwritesLibrary, WritesLibrary};
 ghost use Rattle.ps_linker.specs.Statuses.{status_of};
 ghost use Rattle.ps_report.specs.Verdicts.{Tells};
 
@@ -70,11 +70,11 @@ pub fn run<R: CodeFiles + AllocGlobal, A: Allocator + Copy, O: Write, E: Write>(
         (named_in (texts args.now)) 1 (O.contents out.old) (O.contents out.new) }
 
     // Of arguments that clap accepts, those that name OUT as a library too are wrong usage, unless
-    // memory runs out, and no others.
+    // memory runs out, and no others but those whose OUT was found to be a library's file.
     ensures misused { AreAccepted (texts args.now) → WritesLibrary (named_in (texts args.now))
         → result ≢ 4 → result ≡ 2 }
     ensures usage { AreAccepted (texts args.now) → result ≡ 2
-        → WritesLibrary (named_in (texts args.now)) }
+        → OverwritesLibrary (R.one_file rt.now) (named_in (texts args.now)) }
 
     // Only what was done, a report, lists, or a fault of standard output itself, leaves anything
     // there.
@@ -109,8 +109,8 @@ fn carry_out<'a, R: CodeFiles + AllocGlobal, A: Allocator + Copy, O: Write, E: W
     ensures err { IfErr result (λ e. status_of e ≢ 3 → out.new ≡ out.old) }
     ensures misused { AreAccepted (texts args.now) → WritesLibrary (named_in (texts args.now))
         → IsErrAnd result (λ e. status_of e ≢ 4 → status_of e ≡ 2) }
-    ensures usage { AreAccepted (texts args.now)
-        → IfErr result (λ e. status_of e ≡ 2 → WritesLibrary (named_in (texts args.now))) }
+    ensures usage { AreAccepted (texts args.now) → IfErr result (λ e. status_of e ≡ 2
+        → OverwritesLibrary (R.one_file rt.now) (named_in (texts args.now))) }
 {
     match request::parse(rt.alloc(), alloc, args)? {
         Request::Text(text) => {
@@ -118,6 +118,7 @@ fn carry_out<'a, R: CodeFiles + AllocGlobal, A: Allocator + Copy, O: Write, E: W
             Ok(0)
         }
         Request::Link { inputs, out: path } => {
+            refuse_library(rt, &inputs, path)?;
             link(rt, alloc, inputs, path, out)?;
             Ok(0)
         }
@@ -160,6 +161,22 @@ fn print_text<O: Write>(
 {
     let text = text.to_string(heap)?;
     output::print(out, text.as_bytes())
+}
+
+/// Refuses to write a file that is a library too, to which another path leads.
+fn refuse_library<'a, R: CodeFiles + AllocGlobal, A: Allocator>(
+    rt: &R,
+    inputs: &Inputs<'a, A>,
+    out: &'a str,
+) -> Result<(), CommandError<'a>>
+    ensures either { IfErr result (λ e. status_of e ≢ 4 → status_of e ≡ 2) }
+    ensures usage { IfErr result (λ e. Any (R.one_file rt.now out.now)
+        (map (λ path. path.now) inputs.now.libraries.items)) }
+{
+    match files::first_to(rt, inputs.libraries.as_slice(), out) {
+        Some(library) => Err(request::written_library(rt.alloc(), out, library)),
+        None => Ok(()),
+    }
 }
 
 /// Links, and prints the summary. All is read and checked, and the summary's line has its room,

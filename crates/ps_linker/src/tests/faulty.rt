@@ -120,6 +120,8 @@ impl<R: Files> CodeFiles for Faulty<R> {
 
     ghost closed = { λ rt path file. ⊤ };
 
+    ghost one_file = { λ rt path other. ⊤ };
+
     fn open(&self, path: &str) -> io::Result<FaultyFile<R::File>> {
         let inner = fs::open(&self.inner, path)?;
         Ok(self.faulty(inner))
@@ -134,6 +136,10 @@ impl<R: Files> CodeFiles for Faulty<R> {
     fn close(&self, path: &str, file: FaultyFile<R::File>) -> io::Result<()> {
         let FaultyFile { inner, .. } = file;
         self.inner.close(path, inner)
+    }
+
+    fn lead_to_one_file(&self, path: &str, other: &str) -> bool {
+        self.inner.lead_to_one_file(path, other)
     }
 
     fn length_hint(file: &FaultyFile<R::File>) -> usize {

@@ -1,9 +1,14 @@
 //! `link`: what is written and printed, and what becomes of OUT.
+use super::faulty::Faulty;
 use super::inputs::{
     CUT_LIBRARY, ENDING_HOST, ENDING_LIBRARY, HOST, HOST_IN_PLACE, Image, LIBRARY,
     LINKED_HOST_IN_PLACE, LINKED_PAIR, SUMMARY_IN_PLACE, SUMMARY_OF_PAIR, save_all, save_text,
 };
 use super::outcome::{clean, done, holds, holds_image};
+use std::fs;
+use std::os::unix::fs::symlink;
+use std::process::Abort;
+use std::rt::Files;
 
 const MISSING: &str = "pslink: refused 13 MissingUnit file 0 slot 7\n";
 
@@ -83,4 +88,46 @@ fn links_and_leaves_out_where_it_refuses(rt: HostRuntime) {
         clean(&rt, &[*path]);
     }
     clean(&rt, &["link-new", "link-ended", "link-short", "link-out"]);
+}
+
+/// A link whose OUT leads to its second library, and what is said of it.
+static LED: [&str; 6] = [
+    "pslink",
+    "link",
+    "led-host",
+    "led-out",
+    "led-other",
+    "led-library",
+];
+
+const LEADS_TO_LIBRARY: &str =
+    "error: invalid value 'led-out' for '<OUT>': it is the library 'led-library'
+
+Usage: pslink link <HOST> <OUT> [LIB]...
+
+For more information, try '--help'.
+";
+
+/// The link is wrong usage, and no file is opened to be written.
+fn overwrites_no_library<R: Files + AllocGlobal + Abort>(rt: &R, row: &str) {
+    let files = Faulty::counting(rt);
+    done(&files, LED.as_slice()).is(rt, row, 2, "", LEADS_TO_LIBRARY);
+    assert!(rt; files.created() == 0, "{row}");
+    holds_image(rt, "led-library", &LIBRARY, &[row]);
+    clean(rt, &["led-out"]);
+}
+
+#[test]
+fn a_path_that_leads_to_a_library_is_no_out(rt: HostRuntime) {
+    clean(&rt, &["led-out"]);
+    save_all(&rt, &[("led-host", &HOST), ("led-library", &LIBRARY)]);
+    save_all(&rt, &[("led-other", &LIBRARY)]);
+    let _ = fs::hard_link(&rt, "led-library", "led-out");
+    overwrites_no_library(&rt, "a hard link");
+    let _ = symlink(&rt, "led-library", "led-out");
+    overwrites_no_library(&rt, "a symbolic link");
+    save_all(&rt, &[("led-out", &LIBRARY)]);
+    done(&rt, LED.as_slice()).is(&rt, "a copy", 0, SUMMARY_OF_PAIR, "");
+    holds_image(&rt, "led-out", &LINKED_PAIR, &["a copy"]);
+    clean(&rt, &["led-host", "led-library", "led-other", "led-out"]);
 }
