@@ -1,6 +1,8 @@
 //! The search for what looks wrong.
+mod bodies;
 pub(crate) mod codes;
 mod doubled;
+mod effects;
 mod entries;
 mod extents;
 mod files;
@@ -8,8 +10,10 @@ mod instructions;
 mod jumps;
 mod links;
 mod names;
+mod operands;
 mod procedures;
 mod records;
+mod stacks;
 
 use crate::inputs::Inputs;
 use crate::segments::{Segment, Source};

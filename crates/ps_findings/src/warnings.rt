@@ -15,6 +15,7 @@ pub enum Oddity {
     ControlBytes,
     Zeros,
     SmallLetters,
+    NoIdentifier,
 }
 
 impl fmt::Display for Oddity {
@@ -24,6 +25,7 @@ impl fmt::Display for Oddity {
             Oddity::ControlBytes => "has control bytes",
             Oddity::Zeros => "is padded with zeros where blanks are expected",
             Oddity::SmallLetters => "has small letters, and other names have capitals",
+            Oddity::NoIdentifier => "is no identifier of Pascal",
         })
     }
 }
@@ -66,6 +68,10 @@ pub enum Look {
         start: usize,
         end: usize,
         byte: u8,
+    },
+    /// Another sector may have been written over a part of the dictionary. Copy the file again.
+    FullTail {
+        bytes: usize,
     },
     /// The segment was compiled for another machine. Compile it again.
     MachineType {
@@ -136,6 +142,9 @@ pub enum Look {
     },
     /// The segment is linked already, and its code is damaged. Copy the file again.
     LostTables,
+    /// Its kind may have been another one, so its references are not linked. Copy the file again, or
+    /// compile it again.
+    LinkedWithRecords,
     /// A part of the code may stand in another place, or be another's. Copy the file again.
     Misfit {
         procedure: usize,
@@ -150,6 +159,15 @@ pub enum Look {
     /// A compiler sets the bit. The code may be damaged. Copy the file again, as binary.
     ClearMark {
         place: usize,
+    },
+    /// The code or the link information is damaged. Copy the file again.
+    NoOperand {
+        place: usize,
+    },
+    /// A part of the link information was lost. Copy the file again.
+    LostReferences {
+        operands: usize,
+        references: usize,
     },
     /// The operand is outside the variable. Compile the unit again.
     PastPrivate {
@@ -212,6 +230,12 @@ impl Look {
                 write!(
                     f,
                     "bytes {start} to {end} of its dictionary are all {byte:02X}"
+                )
+            }
+            Look::FullTail { bytes } => {
+                write!(
+                    f,
+                    "{bytes} bytes of the second half of its dictionary are not zero"
                 )
             }
             Look::NoNames => f.write_str("no segment has a name"),
@@ -322,6 +346,11 @@ impl Look {
                     "procedure {procedure} is entered or left at a place before the code"
                 )
             }
+            Look::LinkedWithRecords => {
+                f.write_str(
+                    "its kind says that it is linked, and link information follows its code",
+                )
+            }
             Look::LostTables => f.write_str("it ends with no whole procedure dictionary"),
             Look::Misfit { procedure } => {
                 write!(
@@ -349,6 +378,21 @@ impl Look {
                 write!(
                     f,
                     "bit 7 of the operand at byte {place} is clear, and a compiler sets it"
+                )
+            }
+            Look::NoOperand { place } => {
+                write!(
+                    f,
+                    "byte {place} is no operand of an instruction that has such a reference"
+                )
+            }
+            Look::LostReferences {
+                operands,
+                references,
+            } => {
+                write!(
+                    f,
+                    "a compiler has left {operands} operands to a link, and the link information has references to {references}"
                 )
             }
             Look::PastPrivate {

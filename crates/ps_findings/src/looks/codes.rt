@@ -1,10 +1,11 @@
 //! Codes that look wrong.
 use super::procedures::first_misfit;
+use super::records::begins_with_record;
 use super::{Sight, Warnings};
 use crate::segments::Source;
 use crate::warnings::{Look, Place};
 use ps_codefile::Procs;
-use ps_codefile::kinds::HOSTSEG;
+use ps_codefile::kinds::{HOSTSEG, LINKED};
 use ps_filetype::only_byte;
 use ps_words::{Order, Reason, get};
 use std::alloc::{AllocError, Allocator};
@@ -38,8 +39,14 @@ pub(super) fn look_at<'a, A: Allocator>(
     }
     if source.needs_linking() {
         warnings.add(place, number_look(source, code))?;
+        if sight.rules.is_some() {
+            warnings.add(place, no_procedures(source, code))?;
+        }
     } else if sight.rules.is_some() {
         warnings.add(place, lost_tables(source.order, code))?;
+    }
+    if source.entry.kind == LINKED && begins_with_record(source.order, source.after) {
+        warnings.add(place, Some(Look::LinkedWithRecords))?;
     }
     if source.needs_linking() || sight.rules.is_some() {
         warnings.add(place, table_look(source.order, code))?;
@@ -98,6 +105,15 @@ fn number_look(source: &Source<'_>, code: &[u8]) -> Option<Look> {
             let found = *found;
             Some(Look::OtherNumber { found, slot })
         }
+        _ => None,
+    }
+}
+
+/// More than a unit without procedures has, where the number of procedures is 0 and no other look
+/// tells of it.
+fn no_procedures(source: &Source<'_>, code: &[u8]) -> Option<Look> {
+    match code {
+        [_, _, _, .., number, 0] if *number != 0 || source.index == 0 => Some(Look::LostTables),
         _ => None,
     }
 }

@@ -13,6 +13,15 @@ use ps_linkinfo::LinkInformation;
 use ps_words::{Order, WORD_LEN, get};
 use std::alloc::{AllocError, Allocator};
 
+/// So many bytes of the second half of the dictionary are of the slots.
+const OF_SLOTS: usize = 40;
+
+/// So many bytes after those are more than a comment of 80 characters.
+const FULL: usize = 96;
+
+/// So many bytes that no text has are no chance.
+const MANY_OTHERS: usize = 16;
+
 /// Looks at the entries of a dictionary.
 pub(super) fn look_at<'a, A: Allocator>(
     warnings: &mut Warnings<'a, A>,
@@ -25,7 +34,7 @@ pub(super) fn look_at<'a, A: Allocator>(
     if are_nameless {
         warnings.add(in_file(path), Some(Look::NoNames))?;
     }
-    warnings.add(in_file(path), dead_tail(dict))?;
+    warnings.add(in_file(path), dead_tail(dict).or(full_tail(dict)))?;
     let machine = match sight.inputs.dict(0) {
         Some(host) => first_machine(&host),
         None => 0,
@@ -137,6 +146,22 @@ fn dead_tail(dict: &Dict<'_>) -> Option<Look> {
         start = start.saturating_add(SECTOR);
     }
     None
+}
+
+/// More bytes of the second half of the dictionary that are not zero than a comment has, or many
+/// that no text has. What other releases have of each slot is not counted.
+fn full_tail(dict: &Dict<'_>) -> Option<Look> {
+    let (mut bytes, mut others) = (0usize, 0usize);
+    for byte in dict.tail().iter().skip(OF_SLOTS) {
+        bytes = bytes.saturating_add(usize::from(*byte != 0));
+        let is_text = *byte == 0 || *byte == b' ' || byte.is_ascii_graphic();
+        others = others.saturating_add(usize::from(!is_text));
+    }
+    if FULL <= bytes || MANY_OTHERS <= others {
+        Some(Look::FullTail { bytes })
+    } else {
+        None
+    }
 }
 
 /// The machine type, of four bits, and the version above it, of the slot in a dictionary of II.1.

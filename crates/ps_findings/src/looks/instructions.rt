@@ -4,15 +4,24 @@ use ps_words::{Order, get};
 /// The opcodes of the calls of a procedure of the same segment, whose number follows.
 const CALLS: [u8; 3] = [0xAE, 0xC2, 0xCE];
 
+/// The opcode of the call of a procedure of level 1.
+const GLOBAL_CALL: u8 = 0xCF;
+
+/// The opcode of the jump without a condition.
+const ALWAYS: u8 = 0xB9;
+
 /// The opcodes of the returns.
 const RETURNS: [u8; 3] = [0xAD, 0xC1, 0xD6];
+
+/// The opcodes with an operand that is a variable of the program.
+pub(super) const GLOBAL_OPCODES: [u8; 3] = [0xA5, 0xA9, 0xAB];
 
 /// Above it an opcode is no constant.
 const LAST_CONSTANT: u8 = 0x7F;
 
 /// What follows the opcode of an instruction.
 #[derive(Clone, Copy)]
-enum Operands {
+pub(super) enum Operands {
     /// So many bytes.
     Bytes(usize),
     /// So many bytes, and then one or two.
@@ -87,18 +96,20 @@ fn case_length(order: Order, place: usize, bytes: &[u8]) -> Option<usize> {
 
 /// An instruction.
 #[derive(Clone, Copy)]
-pub(super) struct Instruction {
-    opcode: u8,
+pub(super) struct Instruction<'c> {
+    pub(super) opcode: u8,
     /// The byte after the opcode.
     pub(super) operand: u8,
-    operands: Operands,
+    pub(super) operands: Operands,
+    /// The code after the opcode.
+    pub(super) bytes: &'c [u8],
     /// How many bytes it has.
     pub(super) length: usize,
 }
 
-impl Instruction {
+impl<'c> Instruction<'c> {
     /// That at a place of a code; none where no whole one is.
-    pub(super) fn at(order: Order, code: &[u8], place: usize) -> Option<Instruction> {
+    pub(super) fn at(order: Order, code: &'c [u8], place: usize) -> Option<Instruction<'c>> {
         let (opcode, bytes) = match code.get(place..) {
             Some([opcode, bytes @ ..]) => (*opcode, bytes),
             _ => return None,
@@ -108,6 +119,7 @@ impl Instruction {
             opcode,
             operand: bytes.first().copied()?,
             operands,
+            bytes,
             length: operands.length(order, place, bytes)?,
         })
     }
@@ -128,8 +140,18 @@ impl Instruction {
         matches!(self.operands, Operands::Jump)
     }
 
+    /// It jumps, whatever is on the evaluation stack.
+    pub(super) fn always_jumps(self) -> bool {
+        self.opcode == ALWAYS
+    }
+
     /// It calls the procedure of the same segment whose number is the operand.
     pub(super) fn is_call(self) -> bool {
         CALLS.contains(&self.opcode)
+    }
+
+    /// It is the call of a procedure of level 1, which the compiler's segment has.
+    pub(super) fn is_call_of_segment(self) -> bool {
+        self.is_call() || self.opcode == GLOBAL_CALL
     }
 }

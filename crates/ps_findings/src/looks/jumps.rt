@@ -25,6 +25,11 @@ impl Targets {
         }
     }
 
+    /// One of them is here.
+    pub(super) fn is_here(self) -> bool {
+        self.0 & 1 == 1
+    }
+
     /// With that of a jump over so many bytes.
     pub(super) fn with(self, bytes: u8) -> Targets {
         if bytes < BY_TABLE {

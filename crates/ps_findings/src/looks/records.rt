@@ -1,12 +1,14 @@
 //! Link information that looks wrong.
+use super::instructions::GLOBAL_OPCODES;
 use super::names::oddity_of;
+use super::procedures::global_operands;
 use super::{Sight, Warnings};
 use crate::explain::definitions::host_of;
 use crate::explain::privates::data_size;
 use crate::explain::records::length_of;
 use crate::segments::Source;
 use crate::warnings::{Look, Place};
-use ps_codefile::kinds::HOSTSEG;
+use ps_codefile::kinds::{HOSTSEG, UNITSEG};
 use ps_filetype::only_byte;
 use ps_linkinfo::record_layout::{RECORD_LEN, TYPE_PLACE};
 use ps_linkinfo::{Body, LinkInformation, LinkRecord, Refs, Sort};
@@ -28,6 +30,13 @@ pub(super) fn look_at<'a, A: Allocator>(
     warnings.add(place, mark_look(source, code))?;
     warnings.add_of_record(place, first_odd_name(&records, sight.are_small))?;
     warnings.add_of_record(place, first_odd_operand(&records, code))?;
+    if let Some(rules) = sight.rules {
+        warnings.add_of_record(place, first_odd_reference(&records, code))?;
+        if source.entry.kind == UNITSEG && rules.forms {
+            let operands = global_operands(source.order, code, rules);
+            warnings.add(place, lost_references(&records, operands))?;
+        }
+    }
     if source.entry.kind == HOSTSEG {
         warnings.add(place, low_mark(&records, source, code))?;
         warnings.add_of_record(place, first_high_definition(&records))
@@ -66,7 +75,7 @@ fn mark_look(source: &Source<'_>, code: &[u8]) -> Option<Look> {
 }
 
 /// The bytes begin with a record that is no end mark and has a name that ASCII prints.
-fn begins_with_record(order: Order, bytes: &[u8]) -> bool {
+pub(super) fn begins_with_record(order: Order, bytes: &[u8]) -> bool {
     let first = LinkInformation::up_to_fault(order, bytes).records().next();
     match &first {
         Some((_, record)) => !record.is_eof() && is_printed(&record.name),
@@ -151,6 +160,55 @@ fn operands_look(refs: &Refs<'_>, code: &[u8], words: Option<u16>) -> Option<Loo
         }
     }
     None
+}
+
+/// The first record with a reference before which no instruction is that has its operand.
+fn first_odd_reference(records: &LinkInformation<'_>, code: &[u8]) -> Option<(usize, Look)> {
+    for (rec, record) in records.records() {
+        let place = match &record.body {
+            Body::UnitRef(refs) => first_without(refs, code, &[0xCD]),
+            Body::PublRef(refs) | Body::PrivRef { refs, .. } => {
+                first_without(refs, code, &GLOBAL_OPCODES)
+            }
+            _ => None,
+        };
+        if let Some(place) = place {
+            return Some((rec, Look::NoOperand { place }));
+        }
+    }
+    None
+}
+
+/// The first reference that comes after none of these opcodes.
+fn first_without(refs: &Refs<'_>, code: &[u8], opcodes: &[u8]) -> Option<usize> {
+    for reference in 0..refs.len() {
+        let place = usize::from(refs.get(reference));
+        let opcode = place
+            .checked_sub(1)
+            .and_then(|before| code.get(before).copied());
+        if !opcode.is_some_and(|opcode| opcodes.contains(&opcode)) {
+            return Some(place);
+        }
+    }
+    None
+}
+
+/// References to variables that are fewer than the operands that a compiler leaves for them.
+fn lost_references(records: &LinkInformation<'_>, operands: usize) -> Option<Look> {
+    let mut references = 0usize;
+    for (_, record) in records.records() {
+        if let Body::PublRef(refs) | Body::PrivRef { refs, .. } = &record.body {
+            references = references.saturating_add(refs.len());
+        }
+    }
+    if references < operands {
+        Some(Look::LostReferences {
+            operands,
+            references,
+        })
+    } else {
+        None
+    }
 }
 
 /// The first definition of a unit.
