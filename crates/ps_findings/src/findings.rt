@@ -1,11 +1,17 @@
 //! What is found in a host and its libraries.
+ghost use Rattle.std.specs.Prelude.{◌≡◌, ◌∷◌, [], IfOk, None, string_bytes};
+ghost use Rattle.ps_resolve.specs.AllFaults.{reading_fault};
+ghost use Rattle.ps_resolve.specs.Sources.{contents};
+ghost use Rattle.ps_findings.specs.SegmentLines.{segment_lines};
+ghost use Rattle.ps_findings.specs.SlotLines.{AddsSlotLines};
+
 use crate::explain::{Case, add_explanation};
 use crate::inputs::Inputs;
 use crate::looks::{Sight, Warnings, add_looks};
 use crate::overview::{add_files, add_segments};
-use crate::segments::segments_of;
+use crate::segments::{Segment, segments_of};
 use crate::warnings::Warning;
-use ps_resolve::read;
+use ps_resolve::{Reading, read};
 use ps_words::Fault;
 use std::alloc::{AllocError, Allocator};
 
@@ -14,8 +20,7 @@ use std::alloc::{AllocError, Allocator};
 /// Source: this project's profile.
 #[derive(Drop)]
 pub struct Findings<'a, A: Allocator> {
-    /// The files, and the segments with where each comes from, in lines, of which the last has no
-    /// line end.
+    /// The files, and the segments with where each comes from, in lines.
     pub overview: String<A>,
     /// What the fault is in these files, and what to do about it, in lines; empty where there is
     /// none.
@@ -37,7 +42,13 @@ pub fn findings_of<'a, A: Allocator + Copy>(
     host: &'a [u8],
     libs: &'a [&'a [u8]],
     fault: Option<Fault>,
-) -> Result<Findings<'a, A>, AllocError> {
+) -> Result<Findings<'a, A>, AllocError>
+    ensures segments { IfOk result (λ findings. reading_fault host.now (contents libs.now) ≡ None
+        → AddsSlotLines [] (segment_lines (host_path.now ∷ contents paths.now) host.now
+        (contents libs.now)) (string_bytes findings.overview)) }
+    ensures explanation { IfOk result (λ findings. fault ≡ None
+        → string_bytes findings.explanation ≡ []) }
+{
     let inputs = Inputs {
         host_path,
         paths,
@@ -46,15 +57,8 @@ pub fn findings_of<'a, A: Allocator + Copy>(
     };
     let reading = read(host, libs);
     let list = segments_of(alloc, &inputs, &reading)?;
-    let mut overview = String::new(alloc);
-    add_files(&mut overview, &inputs)?;
-    add_segments(&mut overview, &inputs, list.as_slice())?;
-    let _ = overview.pop();
-    let mut explanation = String::new(alloc);
-    if let Some(fault) = fault {
-        let case = Case::new(&inputs, &reading, list.as_slice(), fault);
-        add_explanation(&mut explanation, &case)?;
-    }
+    let overview = overview_of(alloc, &inputs, &reading, list.as_slice())?;
+    let explanation = explanation_of(alloc, &inputs, &reading, list.as_slice(), fault)?;
     let mut warnings = Warnings {
         list: Vec::new(alloc),
     };
@@ -64,4 +68,40 @@ pub fn findings_of<'a, A: Allocator + Copy>(
         explanation,
         warnings: warnings.list,
     })
+}
+
+/// The files, and the segments with where each comes from, in lines.
+fn overview_of<A: Allocator + Copy>(
+    alloc: A,
+    inputs: &Inputs<'_>,
+    reading: &Reading<'_>,
+    list: &[Segment<'_>],
+) -> Result<String<A>, AllocError>
+    ensures { IfOk result (λ text. reading_fault reading.now.host reading.now.libs ≡ None
+        → AddsSlotLines [] (segment_lines
+        (inputs.now.host_path.now ∷ contents inputs.now.paths.now)
+        reading.now.host reading.now.libs) (string_bytes text)) }
+{
+    let mut text = String::new(alloc);
+    add_files(alloc, &mut text, inputs)?;
+    add_segments(alloc, &mut text, inputs, reading, list)?;
+    Ok(text)
+}
+
+/// What the fault is in these files, and what to do about it, in lines; empty where there is none.
+fn explanation_of<'a, A: Allocator + Copy>(
+    alloc: A,
+    inputs: &Inputs<'a>,
+    reading: &Reading<'a>,
+    list: &[Segment<'a>],
+    fault: Option<Fault>,
+) -> Result<String<A>, AllocError>
+    ensures { IfOk result (λ text. fault ≡ None → string_bytes text ≡ []) }
+{
+    let mut text = String::new(alloc);
+    if let Some(fault) = fault {
+        let case = Case::new(inputs, reading, list, fault);
+        add_explanation(&mut text, &case)?;
+    }
+    Ok(text)
 }

@@ -1,4 +1,8 @@
 //! The files that are checked, and how they are named in the report.
+ghost use Rattle.std.specs.Prelude.{◌≡◌, ◌∷◌};
+ghost use Rattle.ps_resolve.specs.Sources.{contents};
+ghost use Rattle.ps_findings.specs.SegmentLines.{path_of};
+
 use ps_codefile::Dict;
 use ps_filetype::FileType;
 use ps_shown::ShownPath;
@@ -14,16 +18,26 @@ pub(crate) struct Inputs<'a> {
     pub(crate) libs: &'a [&'a [u8]],
 }
 
+/// The path of this index; none where there are not so many.
+fn path_at<'a>(paths: &'a [&'a str], index: usize) -> &'a str
+    ensures { result.now ≡ path_of (contents paths.now) index }
+{
+    match paths.get(index) {
+        Some(path) => *path,
+        None => "",
+    }
+}
+
 impl<'a> Inputs<'a> {
     /// The path of a file.
-    pub(crate) fn path(&self, file: usize) -> &'a str {
-        match file.checked_sub(1) {
-            None => self.host_path,
-            Some(k) => match self.paths.get(k) {
-                Some(path) => *path,
-                None => "",
-            },
+    pub(crate) fn path(&self, file: usize) -> &'a str
+        ensures { result.now
+            ≡ path_of (self.now.host_path.now ∷ contents self.now.paths.now) file }
+    {
+        if file == 0 {
+            return self.host_path;
         }
+        path_at(self.paths, file - 1)
     }
 
     /// The path of a file as it is shown.

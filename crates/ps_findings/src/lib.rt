@@ -10,7 +10,9 @@ mod looks;
 mod overview;
 mod segments;
 mod sentences;
+mod slot_lines;
 mod warnings;
 
 pub use findings::{Findings, findings_of};
+pub use slot_lines::add_other_lines;
 pub use warnings::{Look, Oddity, Place, Warning};

@@ -1,5 +1,6 @@
 //! The segments of a link as the files have them, also where they are refused.
-ghost use Rattle.std.specs.Prelude.{◌<◌, IfSome};
+ghost use Rattle.std.specs.Prelude.{◌<◌, IfSome, Some};
+ghost use Rattle.ps_findings.specs.SegmentLines.{part_words};
 
 use crate::inputs::Inputs;
 use ps_codefile::dictionary_layout::SLOTS;
@@ -40,6 +41,8 @@ impl Part {
 }
 
 impl fmt::Display for Part {
+    ghost output = { λ part. Some (part_words part) };
+
     fn fmt<W: fmt::Write>(&self, f: &mut Formatter<W>) -> fmt::Result {
         match *self {
             Part::Plain => f.write_str("linked already, copied as it is"),
@@ -47,11 +50,8 @@ impl fmt::Display for Part {
             Part::Unit => f.write_str("a unit in the host file"),
             Part::Wanted => f.write_str("a unit that the host wants"),
             Part::Added { asker, rec } => {
-                write!(
-                    f,
-                    "a unit that record {rec} of {} requests",
-                    ShownName(asker)
-                )
+                let asker = ShownName(asker);
+                write!(f, "a unit that record {rec} of {asker} requests")
             }
         }
     }

@@ -1,3 +1,4 @@
 pub mod Verdicts
 pub mod Listing
 pub mod Texts
+pub mod SegmentTexts

@@ -1,5 +1,5 @@
 //! Files without a host among them, each looked over by itself.
-ghost use Rattle.std.specs.Prelude.{◌≡◌, ◌∷◌, ◌++◌, ℕ, List, IfOk, OnOk, map, string_bytes, true};
+ghost use Rattle.std.specs.Prelude.{◌≡◌, ◌∷◌, ◌++◌, [], ℕ, List, IfOk, OnOk, false, map, string_bytes, true};
 ghost use Rattle.ps_resolve.specs.Sources.{contents};
 ghost use Rattle.ps_listing.specs.ListText.{list_of};
 ghost use Rattle.ps_report.specs.Lists.{AreLists, has_host as has_host_spec, has_host_among as has_host_among_spec, has_host_as as has_host_as_spec, is_for_host as is_for_host_spec, is_no_host as is_no_host_spec, is_no_host_reason as is_no_host_reason_spec, lacks_host as lacks_host_spec};
@@ -115,9 +115,11 @@ pub(crate) fn lists_without_host<A: Allocator + Copy>(
     host: &[u8],
     libs: &[&[u8]],
 ) -> Result<String<A>, AllocError>
-    ensures { IfOk result (λ lists. lacks_host_spec verdict libs.now ≡ true
+    ensures lists { IfOk result (λ lists. lacks_host_spec verdict libs.now ≡ true
         → AreLists (host_path.now ∷ map (λ path. path.now) paths.now)
         (host.now ∷ contents libs.now) (string_bytes lists)) }
+    ensures none { IfOk result (λ lists. lacks_host_spec verdict libs.now ≡ false
+        → string_bytes lists ≡ []) }
 {
     if !lacks_host(verdict, libs) {
         return Ok(String::new(alloc));

@@ -1,13 +1,16 @@
 //! The report of a check.
-ghost use Rattle.std.specs.Prelude.{◌≡◌, ◌↔◌, ◌⊎◌, ◌<◌, ◌∷◌, ◌++◌, IfOk, codes, false, map, true, string_bytes, vec_len};
+ghost use Rattle.std.specs.Prelude.{◌≡◌, ◌↔◌, ◌⊎◌, ◌<◌, ◌∷◌, ◌++◌, [], ℕ, IfOk, List, None, OnOk, codes, false, map, true, string_bytes, vec_len};
 ghost use Rattle.ps_resolve.specs.Sources.{contents};
 ghost use Rattle.ps_resolve.specs.Standing.{NoneStands};
+ghost use Rattle.ps_findings.specs.SegmentLines.{segment_lines};
+ghost use Rattle.ps_findings.specs.SlotLines.{AddsSlotLines, slot_lines};
 ghost use Rattle.ps_report.specs.Lists.{HasLists, lacks_host};
-ghost use Rattle.ps_report.specs.Verdicts.{IsRefused, IsVerdict, Tells, check_status, verdict_line};
+ghost use Rattle.ps_report.specs.Verdicts.{IsRefused, IsVerdict, Tells, check_status, fault_of, verdict_line};
 
 use crate::alone::lists_without_host;
 use crate::verdict::{Verdict, verdict_of};
-use ps_findings::{Findings, Warning, findings_of};
+use ps_findings::{Findings, Warning, add_other_lines, findings_of};
+use ps_laws::first_of_all;
 use std::alloc::{AllocError, Allocator};
 use std::fmt::Write as _;
 
@@ -46,7 +49,9 @@ impl<A: Allocator> Report<'_, A> {
 /// files, the libraries in the order in which units are looked up in them. The verdict is that of
 /// `ps_linkfile::link`: of a refusal it has the first fault of all, and its text has the line of
 /// that fault. Where the first file is no host and no library is one, the text has the lines of
-/// `ps_listing::write_list` of each file that has a path. Returns an error where memory was refused.
+/// `ps_listing::write_list` of each file that has a path. Where the files are linked, each segment
+/// of the link has its line in the text, by slot, and no other line begins with `slot `. Returns an
+/// error where memory was refused.
 /// Source: this project's profile.
 pub fn check<'a, A: Allocator + Copy>(
     alloc: A,
@@ -70,7 +75,13 @@ pub fn check<'a, A: Allocator + Copy>(
     ensures lists { IfOk result (λ r. lacks_host r.verdict libs.now ≡ true
         → HasLists (host_path.now ∷ map (λ path. path.now) paths.now)
         (host.now ∷ contents libs.now) (string_bytes r.text)) }
+
+    // Where the files are linked, the lines that begin with `slot ` are those of the segments.
+    ensures segments { IfOk result (λ r. NoneStands host.now (contents libs.now)
+        → slot_lines (string_bytes r.text)
+        ≡ segment_lines (host_path.now ∷ contents paths.now) host.now (contents libs.now)) }
 {
+    first_of_all();
     let verdict = verdict_of(alloc, host, libs)?;
     let fault = verdict.fault();
     let findings = findings_of(alloc, host_path, paths, host, libs, fault)?;
@@ -114,19 +125,54 @@ fn warning_lines<A: Allocator>(
     Ok(text)
 }
 
-/// The line of the verdict between what is before it, whose last line has no end, and after it.
+/// Ends the last line of a text, where it has no end.
+fn end_line<A: Allocator>(text: &mut String<A>) -> Result<(), AllocError>
+    ensures ended { OnOk result ((before : List ℕ)
+        × (string_bytes text.new ≡ before ++ codes "\n")) }
+    ensures lines { OnOk result (AddsSlotLines (string_bytes text.old) []
+        (string_bytes text.new)) }
+{
+    if text.as_str().ends_with('\n') {
+        return Ok(());
+    }
+    text.push_str("\n")?;
+    Ok(())
+}
+
+/// Adds the line of the verdict.
+fn push_verdict<A: Allocator>(text: &mut String<A>, verdict: Verdict) -> Result<(), AllocError>
+    ensures { OnOk result (string_bytes text.new ≡ string_bytes text.old ++ verdict_line verdict) }
+{
+    write!(text, "{verdict}")
+}
+
+/// Adds the line of the verdict to a text whose last line has its end.
+fn add_verdict<A: Allocator>(text: &mut String<A>, verdict: Verdict) -> Result<(), AllocError>
+    ensures line { OnOk result (string_bytes text.new
+        ≡ string_bytes text.old ++ verdict_line verdict) }
+    ensures lines { fault_of verdict ≡ None
+        → OnOk result (AddsSlotLines (string_bytes text.old) [] (string_bytes text.new)) }
+{
+    push_verdict(text, verdict)
+}
+
+/// The line of the verdict between what is before it and after it.
 fn with_verdict<A: Allocator>(
     mut text: String<A>,
     verdict: Verdict,
     parts: Parts<'_>,
 ) -> Result<String<A>, AllocError>
-    ensures { IfOk result (λ whole. string_bytes whole ≡ string_bytes text
-        ++ (codes "\n" ++ verdict_line verdict) ++ parts.entry.explanation.now
-        ++ parts.entry.lists.now ++ parts.entry.warned.now) }
+    ensures parts { IfOk result (λ whole. (before : List ℕ) × (after : List ℕ)
+        × (string_bytes whole ≡ before ++ (codes "\n" ++ verdict_line verdict)
+        ++ parts.entry.explanation.now ++ parts.entry.lists.now ++ after)) }
+    ensures lines { IfOk result (λ whole. fault_of verdict ≡ None
+        → parts.entry.explanation.now ≡ [] → parts.entry.lists.now ≡ []
+        → AddsSlotLines (string_bytes text) [] (string_bytes whole)) }
 {
-    write!(text, "\n{verdict}")?;
+    end_line(&mut text)?;
+    add_verdict(&mut text, verdict)?;
     text.push_str(parts.explanation)?;
     text.push_str(parts.lists)?;
-    text.push_str(parts.warned)?;
+    add_other_lines(&mut text, parts.warned)?;
     Ok(text)
 }

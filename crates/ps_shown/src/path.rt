@@ -1,4 +1,10 @@
 //! Paths as they are shown.
+ghost use Rattle.std.specs.Prelude.{◌≡◌, Some, chars};
+ghost use Rattle.std.specs.Char.{is_control};
+ghost use Rattle.std.specs.Fmt.{WritesOnOk};
+ghost use Rattle.std.specs.List.{flat_map, list_any};
+ghost use Rattle.ps_shown.specs.Shown.{control_escape, escape_letter as escape_letter_spec, other_char, quoted_char, shown_path};
+
 use std::fmt::{self, Formatter};
 
 /// A path in a line for a person: as it is, or, where it has a control character, in quotes with
@@ -8,26 +14,100 @@ use std::fmt::{self, Formatter};
 #[derive(Clone, Copy)]
 pub struct ShownPath<'a>(pub &'a str);
 
-impl ShownPath<'_> {
-    /// A character of the path is a control character, as the end of a line.
-    fn has_control(self) -> bool {
-        for c in self.0.chars() {
-            if c.is_control() {
-                return true;
-            }
-        }
-        false
+/// A character of the path is a control character, as the end of a line.
+fn has_control(path: &str) -> bool
+    ensures { result ≡ list_any is_control (chars path.now) }
+{
+    path.chars().any(|c| c.is_control())
+}
+
+/// A control character by its number.
+#[derive(Clone, Copy)]
+struct Escape(char);
+
+impl fmt::Display for Escape {
+    ghost output = { λ c. Some (control_escape c.0) };
+
+    fn fmt<W: fmt::Write>(&self, f: &mut Formatter<W>) -> fmt::Result {
+        let code = self.0 as u32;
+        write!(f, "\\u{{{code:x}}}")
     }
 }
 
+/// The letter that stands for a character after a backslash.
+fn escape_letter(c: char) -> Option<char>
+    ensures { result ≡ escape_letter_spec c }
+{
+    match c {
+        '\0' => Some('0'),
+        '\t' => Some('t'),
+        '\n' => Some('n'),
+        '\r' => Some('r'),
+        '"' => Some('"'),
+        '\\' => Some('\\'),
+        _ => None,
+    }
+}
+
+/// A character of a path in quotes that has no letter of its own.
+#[derive(Clone, Copy)]
+struct OtherChar(char);
+
+impl fmt::Display for OtherChar {
+    ghost output = { λ c. Some (other_char c.0) };
+
+    fn fmt<W: fmt::Write>(&self, f: &mut Formatter<W>) -> fmt::Result {
+        if self.0.is_control() {
+            let escape = Escape(self.0);
+            write!(f, "{escape}")
+        } else {
+            f.write_char(self.0)
+        }
+    }
+}
+
+/// A character of a path in quotes.
+#[derive(Clone, Copy)]
+struct QuotedChar(char);
+
+impl fmt::Display for QuotedChar {
+    ghost output = { λ c. Some (quoted_char c.0) };
+
+    fn fmt<W: fmt::Write>(&self, f: &mut Formatter<W>) -> fmt::Result {
+        match escape_letter(self.0) {
+            Some(letter) => write!(f, "\\{letter}"),
+            None => {
+                let other = OtherChar(self.0);
+                write!(f, "{other}")
+            }
+        }
+    }
+}
+
+/// Writes the characters of a path in quotes, one after another.
+fn write_quoted<W: fmt::Write>(f: &mut Formatter<W>, path: &str) -> fmt::Result
+    ensures { WritesOnOk W.write_str_gives f.old result (flat_map quoted_char (chars path.now))
+        f.new }
+{
+    for c in path.chars() {
+        let c = QuotedChar(c);
+        write!(f, "{c}")?;
+    }
+    Ok(())
+}
+
 impl fmt::Display for ShownPath<'_> {
+    ghost output = { λ path. Some (shown_path path.0.now) };
+
+    #[tactic(auto, unfolding(crate::specs::Shown::shown_path))]
     fn fmt<W: fmt::Write>(&self, f: &mut Formatter<W>) -> fmt::Result {
         let path = self.0;
-        if self.has_control() {
-            write!(f, "{path:?}")
-        } else {
-            f.write_str(path)
+        if !has_control(path) {
+            return f.write_str(path);
         }
+        f.write_str("\"")?;
+        write_quoted(f, path)?;
+        f.write_str("\"")
     }
 }
 

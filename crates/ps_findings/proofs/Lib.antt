@@ -1,0 +1,5 @@
+pub mod OneLine
+pub mod SlotLines
+pub mod LineOfSegment
+pub mod LinesOfSegments
+pub mod Paths

@@ -1,0 +1,8 @@
+use Rattle.std.proofs.Common.{string_bytes}
+use Rattle.std.proofs.lemmas.Result.{on_ok_weaker}
+use Rattle.ps_report.proofs.SegmentTexts.{adds_verdict}
+use Rattle.ps_report.proofs.report.add_verdict.Goals as goal
+
+pub returns-clause-lines : goal.returns-clause-lines
+returns-clause-lines g c = λ links.
+    on_ok_weaker c.push_verdict.result (λ is. adds_verdict (string_bytes c.args.text.now) (string_bytes c.push_verdict.new.text) c.args.verdict links is) c.push_verdict.ensures
