@@ -26,6 +26,12 @@ impl Extent {
         BLOCK_SIZE.saturating_mul(blocks_of(self.end))
     }
 
+    /// Its bytes in its file.
+    pub(super) fn bytes_in<'b>(&self, file: &'b [u8]) -> &'b [u8] {
+        file.get(self.start..self.end.min(file.len()))
+            .unwrap_or(&[])
+    }
+
     /// No bytes.
     const EMPTY: Extent = Extent {
         slot: 0,
