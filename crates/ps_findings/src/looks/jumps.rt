@@ -45,8 +45,10 @@ pub(super) fn is_by_table(operand: u8) -> bool {
     BY_TABLE <= operand
 }
 
-/// Where a jump goes whose operand says how many bytes before 256 after the procedure's table its
-/// distance is; none where it goes by itself, or before the code. The code ends with that table.
+/// Where a jump goes by the jump table. `code` ends where the attribute table of the procedure
+/// begins, and the jump table lies before that: an operand of 256 minus n names the word n bytes
+/// before the end of the code, which says how far before that word the jump goes. None where there
+/// is no such word, or the jump goes before the code.
 pub(super) fn table_target(order: Order, code: &[u8], operand: u8) -> Option<usize> {
     let place = code
         .len()
