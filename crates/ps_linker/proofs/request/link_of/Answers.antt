@@ -17,7 +17,7 @@ returns-then-contains-clause-refused g c other =
     let out = c.in_ok-out.out.now in
     let whole = ap (λ (paths : List (Bor Text)). list_any (λ path. bytes_eq path.now out) paths) c.deref.ensures.value in
     let is = sym (ap (is_library out) c.in_ok-inputs.ensures.named.1) ∙ sym (among out c.in_ok-inputs.inputs.libraries.items) ∙ sym whole ∙ sym c.contains.ensures.value ∙ c.if-contains.true in
-    inr (c.written_library.ensures other, (rows, out, refl, c.in_ok-out.ensures.named, is))
+    inr (c.written_library.ensures.memory other, (rows, out, refl, c.in_ok-out.ensures.named, is))
 
 pub returns-clause-named : goal.returns-clause-named
 returns-clause-named g c =
