@@ -100,6 +100,14 @@ static LED: [&str; 6] = [
     "led-library",
 ];
 
+static LED_FILES: [(&str, &Image); 3] = [
+    ("led-host", &HOST),
+    ("led-library", &LIBRARY),
+    ("led-other", &LIBRARY),
+];
+
+static LED_OUT: [(&str, &Image); 1] = [("led-out", &LIBRARY)];
+
 const LEADS_TO_LIBRARY: &str =
     "error: invalid value 'led-out' for '<OUT>': it is the library 'led-library'
 
@@ -120,13 +128,12 @@ fn overwrites_no_library<R: Files + AllocGlobal + Abort>(rt: &R, row: &str) {
 #[test]
 fn a_path_that_leads_to_a_library_is_no_out(rt: HostRuntime) {
     clean(&rt, &["led-out"]);
-    save_all(&rt, &[("led-host", &HOST), ("led-library", &LIBRARY)]);
-    save_all(&rt, &[("led-other", &LIBRARY)]);
+    save_all(&rt, LED_FILES.as_slice());
     let _ = fs::hard_link(&rt, "led-library", "led-out");
     overwrites_no_library(&rt, "a hard link");
     let _ = symlink(&rt, "led-library", "led-out");
     overwrites_no_library(&rt, "a symbolic link");
-    save_all(&rt, &[("led-out", &LIBRARY)]);
+    save_all(&rt, LED_OUT.as_slice());
     done(&rt, LED.as_slice()).is(&rt, "a copy", 0, SUMMARY_OF_PAIR, "");
     holds_image(&rt, "led-out", &LINKED_PAIR, &["a copy"]);
     clean(&rt, &["led-host", "led-library", "led-other", "led-out"]);
