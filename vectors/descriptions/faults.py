@@ -326,8 +326,19 @@ fault("16-cut", "The first library ends one byte before the end of UTIL's code."
 
 # 24 to 27: definitions, private variables, data. With the second library ten words are private, without it nine
 
+def duplicate_in_slot(slot):
+    def change(given):
+        record_at("demo", 3)(given).name = "COUNT"
+        given.host.slots[slot] = given.host.slots.pop(1)
+
+    return change
+
+
 fault("24", "The host's SPARE has the name COUNT too.", setting(record_at("demo", 3), name="COUNT"), 0, 1, 3)
 fault("24-constant", "The host's constant LIMIT has the name TOTAL too.", setting(record_at("demo", 2), name="TOTAL"), 0, 1, 2)
+for slot in (0, 2, 15):
+    fault(f"24-slot-{slot}", f"The host's SPARE has the name COUNT too, and its program is in slot {slot}.",
+          duplicate_in_slot(slot), 0, slot, 3)
 for name, where, number, slot, first, end in each("demo util"):
     private = "OWN" if name == "demo" else "STATE"
     fault(f"25-{name}", f"A second PRIVREF of {where} has the name {private}.",
@@ -376,6 +387,18 @@ def defined_by_a_unit(given):
     given.segment("aux").records.insert(-1, publ_def("CUONT", 3))
 
 
+def later_operand(references):
+    """The PUBLREF of UTIL has these references, and the operand at byte 4, the PRIVREF's, the displacement 32767."""
+
+    def change(given):
+        util = given.segment("util")
+        operand_of("util", PRIVREF)(given).old = 32767
+        util.records[0].words, util.records[0].references = [2, len(references)], references
+        util.records[PRIVATE].words, util.records[PRIVATE].references = [2, 0, 4], []
+
+    return change
+
+
 fault("28-of-a-unit", "The PUBLREF has the name CUONT, which only a unit defines.", defined_by_a_unit, 1, 7, 0)
 fault("31-unit", "The UNITREF refers to byte 26, behind the code.", setting(record_at("util", UNIT), references=[26]), 1, 7, 2, 0)
 fault("31-far", "The PRIVREF refers to byte 65535.", setting(record_at("util", PRIVATE), references=[65535]), 1, 7, 1, 0)
@@ -390,6 +413,9 @@ fault("34-private", "The PRIVREF's operand has the displacement 32758, and its v
       setting(operand_of("util", PRIVREF), old=32758), 1, 7, 1, 0)
 fault("34-exact", "The PUBLREF's operand has the displacement 32765, and COUNT the value 3.",
       setting(operand_of("util", PUBLREF), old=32765), 1, 7, 0, 0)
+fault("34-later", "The first operand of the PUBLREF becomes 3, the second has the displacement 32767.",
+      later_operand([1, 4]), 1, 7, 0, 1)
+fault("34-earlier", "The PUBLREF refers to the operand of the displacement 32767 first.", later_operand([4, 1]), 1, 7, 0, 0)
 
 
 # Changes that are made to big-endian files too

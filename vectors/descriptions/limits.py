@@ -3,7 +3,7 @@ from .links import (
     DEMO, UTIL, linked, one_unit, private, program, public, unit, unit_of, using, wanting,
 )
 from .model import (
-    LINKED, UNITSEG, File, Procedure, Segment, eof_mark, priv_ref, publ_def, publ_ref, unit_ref,
+    HOSTSEG, LINKED, UNITSEG, File, Procedure, Segment, eof_mark, priv_ref, publ_def, publ_ref, unit_ref,
 )
 
 
@@ -136,9 +136,40 @@ def files():
                  [File({2: using("OTHER", "NOBODY")}, more=b"\xff")], [DEMO])
 
 
+def amounts():
+    """Many procedures, segments, private variables and definitions, and a unit that a late library has."""
+    # the ten bytes of instructions are those of procedure 250, so its table is at byte 18, and all others have it too
+    first = Procedure(["A5", public(), "AB", private(displacement=2), "D7 D7 AD 00"], number=250)
+    many = [first, *(Procedure([], number=k, at=18) for k in range(1, 250))]
+    records = [publ_ref("COUNT", [1]), priv_ref("STATE", 4, [4]), eof_mark(0)]
+    yield linked("procedures-250", "A unit of 250 procedures, with operands.", wanting("UTIL"),
+                 [{2: Segment("UTIL", UNITSEG, many, records)}], [DEMO, UTIL], [(7, "STATE", 8, 4)], 12, 18)
+    alone = Segment("DEMO", HOSTSEG, [Procedure(["D7 D7 C1 00"], parameters=4, data=10)], [eof_mark(8)])
+    for count in range(13, 17):
+        host = {slot: alone if slot == 1 else Segment(f"TOOL{slot}", LINKED, code=bytes([slot] * 5)) for slot in range(count)}
+        yield linked(f"segments-{count}", f"{count} segments, and no definition.", host, [],
+                     [(slot, 0, slot) for slot in range(count)])
+    other = {2: unit_of("OTHER")}
+    for count in (3, 4, 5):
+        libraries = [{2: using("UTIL", "MORE")}, other, {3: unit_of("MORE", ["A5", public()], [publ_ref("COUNT", [1])])}]
+        yield linked(f"added-from-library-{count}", f"Library {count} has the added unit; the one before it is given "
+                     f"{count - 2} times.", wanting("UTIL"), libraries, [DEMO, UTIL, (8, count, 3, True)],
+                     given=[1, *[2] * (count - 2), 3])
+    # offsets 8 to 1506, and 1507 with the displacement 2; the data size is 10 and two bytes for each of 1500 words
+    numbered = [(7, f"{k:08}", 8 + k, 1) for k in range(1499)]
+    yield one_unit("privates-1500", "A unit of 1500 private variables of one word each.",
+                   ["A5", public(), "AB", private(displacement=2)],
+                   [publ_ref("COUNT", [1]), *(priv_ref(name, 1, []) for _, name, _, _ in numbered), priv_ref("STATE", 1, [4])],
+                   privates=[*numbered, (7, "STATE", 1507, 1)], next_free=1508, data=3010)
+    host = program(*(publ_def(f"{k:08}", 5) for k in range(1, 4096)))
+    yield one_unit("definitions-4096", "A host of 4096 definitions.", ["A5", public("00004095", 1)], [publ_ref("00004095", [1])],
+                   host=host)
+
+
 def cases():
     yield from numbers()
     yield from no_words()
     yield from codes()
     yield from slots()
     yield from files()
+    yield from amounts()

@@ -1,7 +1,6 @@
 //! The tests, by what they are about.
 mod added_units;
 mod allocations;
-mod amounts;
 mod answers;
 mod changed_bytes;
 mod cuts;

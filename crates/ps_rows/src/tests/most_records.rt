@@ -31,7 +31,7 @@ const REFERENCES: u16 = 65_535;
 const LENGTH: usize = 2_000_000;
 
 /// The name of a number: its eight digits.
-pub(crate) fn numbered(number: usize) -> Name {
+fn numbered(number: usize) -> Name {
     let mut name = [b'0'; 8];
     let mut rest = number;
     for digit in name.iter_mut().rev() {

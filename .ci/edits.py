@@ -1,0 +1,61 @@
+"""The functions of a crate, and the must-fail edits that change them: for .ci/must-fail and .ci/unplanted."""
+import re
+
+FUNCTION = re.compile(r"^(?P<indent> *)(?P<pub>pub(?:\([a-z]+\))? )?(?:unsafe )?(?:const )?fn (?P<name>\w+)")
+
+
+def functions(path):
+    """Each function of a file: its type or '', its name, whether it is public, its first line and the one after its last."""
+    lines = path.read_text().split("\n")
+    kind = ""
+    found = []
+    for at, line in enumerate(lines):
+        if line.startswith(("impl", "unsafe impl")):
+            of = line.split(" for ")[-1] if " for " in line else re.sub(r"^(unsafe )?impl(<[^>]*>+)? ", "", line)
+            kind = re.match(r"\w*", of).group(0)
+        elif line.startswith("}"):
+            kind = ""
+        match = FUNCTION.match(line)
+        if match:
+            close = match["indent"] + "}"
+            end = at
+            while end < len(lines) and lines[end] != close and not lines[end].startswith(match["indent"] + "{}"):
+                end += 1
+            found.append((kind, match["name"], match["pub"] == "pub ", at, end + 1))
+    return lines, found
+
+
+def changes(crate, edit):
+    """What an edit file changes: each (file, old text, new text)."""
+    path = old = None
+    found = []
+    for line in edit.read_text().split("\n"):
+        if line.startswith("file: "):
+            path = crate / line[6:].strip()
+        elif line.startswith("old: "):
+            old = line[5:]
+        elif line.startswith("new:"):
+            found.append((path, old, line[4:].removeprefix(" ")))
+    return found
+
+
+def changed_by(crate, edit):
+    """The functions, as (file, first line), that an edit changes: that in whose lines an `old:` is, or each that names the constant there."""
+    changed = set()
+    for path, old, _ in changes(crate, edit):
+        lines, found = functions(path)
+        at = next((i for i, text in enumerate(lines) if old in text), None)
+        if at is None:
+            continue
+        inside = [f for f in found if f[3] <= at < f[4]]
+        if inside:
+            changed.add((path, inside[-1][3]))
+        else:
+            changed.update((path, f[3]) for f in found if uses(lines, f, lines[at]))
+    return changed
+
+
+def uses(lines, function, constant):
+    """Whether the function's lines name the constant that this line declares."""
+    name = re.search(r"const (\w+)", constant)
+    return bool(name) and any(name[1] in line for line in lines[function[3]:function[4]])
