@@ -3,7 +3,8 @@ ghost use Rattle.std.specs.List.{find};
 ghost use Rattle.std.specs.Result.{result_err};
 ghost use Rattle.ps_codefile.specs.Dictionary.{slots};
 ghost use Rattle.ps_resolve.specs.Sources.{is_named, chosen_library as chosen_library_spec, opened};
-ghost use Rattle.ps_resolve.specs.Requests.{is_missing, missing_at, request_fault, requested_segment};
+ghost use Rattle.ps_resolve.specs.Faults.{request_fault};
+ghost use Rattle.ps_resolve.specs.Requests.{is_missing, missing_at, request_by_slot, requested_segment};
 ghost use Rattle.ps_resolve.specs.Views.{segment_of, as_requested_view, IsRead};
 
 use crate::linkage::{RecordPlace, SegmentPlace};
@@ -37,6 +38,19 @@ pub struct Request {
 }
 
 impl Request {
+    /// The request of a slot of the host, for the unit of its name.
+    pub(crate) fn of_slot(host: &HostSlots, slot: u8) -> Request
+        requires { slot < 16 }
+        ensures { result ≡ request_by_slot host.now.order host.now.file slot }
+    {
+        let name = host.entry(slot).name;
+        Request {
+            name,
+            slot,
+            requester: Requester::Slot,
+        }
+    }
+
     /// No library has the unit.
     fn missing(&self) -> Fault
         ensures { result ≡ missing_at self.now.slot self.now.requester }

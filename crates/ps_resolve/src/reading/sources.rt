@@ -9,7 +9,7 @@ ghost use Rattle.ps_resolve.specs.Views.{segment_of, IsRead};
 
 use crate::linkage::SegmentPlace;
 use crate::reading::entries::{known_records, read_segment};
-use crate::reading::request::{Request, Requester, read_unit};
+use crate::reading::request::{Request, read_unit};
 use crate::reading::segment::Segment;
 use crate::reading::slots::{HOST_FILE, HostSlots};
 use arrayvec::ArrayVec;
@@ -35,7 +35,6 @@ pub(crate) fn read_slot<'a>(
     ensures read { IfOk result (λ s. IfSome s
         (IsRead host.now.order host.now.file (opened host.now.order libs.now))) }
 {
-    let name = host.entry(slot).name;
     match host.role(slot) {
         Err(_) => Ok(None),
         Ok(role) => match role {
@@ -45,16 +44,13 @@ pub(crate) fn read_slot<'a>(
                     file: HOST_FILE,
                     slot,
                 };
+                let name = host.entry(slot).name;
                 let records = known_records(known, host.dict(), HOST_FILE, slot);
                 let own = read_segment(place, name, role, host.dict(), slot, records)?;
                 Ok(Some(own))
             }
             Role::Wanted => {
-                let request = Request {
-                    name,
-                    slot,
-                    requester: Requester::Slot,
-                };
+                let request = Request::of_slot(host, slot);
                 let wanted = read_unit(host, libs, &request, known)?;
                 Ok(Some(wanted))
             }
