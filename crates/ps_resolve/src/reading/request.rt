@@ -8,7 +8,7 @@ ghost use Rattle.ps_resolve.specs.Requests.{is_missing, missing_at, request_by_s
 ghost use Rattle.ps_resolve.specs.Views.{segment_of, as_requested_view, IsRead};
 
 use crate::linkage::{RecordPlace, SegmentPlace};
-use crate::reading::entries::{known_records, read_segment};
+use crate::reading::entries::read_segment;
 use crate::reading::segment::Segment;
 use crate::reading::slots::{HOST_FILE, HostSlots, library_file};
 use crate::reading::units::{UnitSource, chosen_library, entries_reason};
@@ -97,17 +97,17 @@ fn as_requested<'a>(segment: Segment<'a>, requester: Requester) -> Segment<'a>
     }
 }
 
-/// The segment of the unit that is requested, or the first fault of the request. `known` are
+/// The segment of the unit that is requested, or the first fault of the request. `earlier` are
 /// segments that were read before.
 pub(crate) fn read_unit<'a>(
     host: &HostSlots<'a>,
     libs: &'a [&'a [u8]],
     request: &Request,
-    known: &[Segment<'a>],
+    earlier: &[Segment<'a>],
 ) -> Result<Segment<'a>, Fault>
     requires slots { request.now.slot < 16 }
     requires read { All (IsRead host.now.order host.now.file (opened host.now.order libs.now))
-        known.now }
+        earlier.now }
     ensures fault { result_err result
         ≡ request_fault host.now.order host.now.file (opened host.now.order libs.now) request.now }
     ensures segment { IfOk result (λ s. requested_segment host.now.order host.now.file
@@ -125,14 +125,13 @@ pub(crate) fn read_unit<'a>(
                     file,
                     slot: request.slot,
                 };
-                let records = known_records(known, &unit.dict, file, unit.index);
                 let segment = read_segment(
                     place,
                     request.name,
                     Role::Wanted,
                     &unit.dict,
                     unit.index,
-                    records,
+                    earlier,
                 )?;
                 Ok(as_requested(segment, request.requester))
             }

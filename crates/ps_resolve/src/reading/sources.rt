@@ -8,7 +8,7 @@ ghost use Rattle.ps_resolve.specs.Readings.{read_segments};
 ghost use Rattle.ps_resolve.specs.Views.{segment_of, IsRead};
 
 use crate::linkage::SegmentPlace;
-use crate::reading::entries::{known_records, read_segment};
+use crate::reading::entries::read_segment;
 use crate::reading::request::{Request, read_unit};
 use crate::reading::segment::Segment;
 use crate::reading::slots::{HOST_FILE, HostSlots};
@@ -17,17 +17,17 @@ use ps_codefile::Role;
 use ps_codefile::dictionary_layout::SLOTS;
 use ps_words::Fault;
 
-/// The segment of a slot, or None where the slot is empty or has a kind that was refused. `known`
+/// The segment of a slot, or None where the slot is empty or has a kind that was refused. `earlier`
 /// are segments that were read before.
 pub(crate) fn read_slot<'a>(
     host: &HostSlots<'a>,
     libs: &'a [&'a [u8]],
     slot: u8,
-    known: &[Segment<'a>],
+    earlier: &[Segment<'a>],
 ) -> Result<Option<Segment<'a>>, Fault>
     requires slots { slot < 16 }
     requires read { All (IsRead host.now.order host.now.file (opened host.now.order libs.now))
-        known.now }
+        earlier.now }
     ensures fault { result_err result ≡ source_fault host.now.order host.now.file
         (opened host.now.order libs.now) slot }
     ensures segment { IfOk result (λ s. option_map segment_of s
@@ -45,13 +45,12 @@ pub(crate) fn read_slot<'a>(
                     slot,
                 };
                 let name = host.entry(slot).name;
-                let records = known_records(known, host.dict(), HOST_FILE, slot);
-                let own = read_segment(place, name, role, host.dict(), slot, records)?;
+                let own = read_segment(place, name, role, host.dict(), slot, earlier)?;
                 Ok(Some(own))
             }
             Role::Wanted => {
                 let request = Request::of_slot(host, slot);
-                let wanted = read_unit(host, libs, &request, known)?;
+                let wanted = read_unit(host, libs, &request, earlier)?;
                 Ok(Some(wanted))
             }
         },

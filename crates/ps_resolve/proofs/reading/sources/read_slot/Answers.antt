@@ -1,5 +1,4 @@
 use Rattle.std.proofs.Common.{◌≡◌, ◌∙◌, ℕ, List, Ok, sym, ap, subst}
-use Rattle.std.specs.Prelude.{All, IfSome}
 use Rattle.std.proofs.lemmas.Result.{err_from_is_err_and}
 use Rattle.ps_codefile.specs.Dictionary.{OpenedFile, entry_at, role_of}
 use Rattle.ps_codefile.specs.declared.entry.Role.{Role}
@@ -7,26 +6,23 @@ use Rattle.ps_codefile.specs.declared.entry.Role.TheVariants.{Wanted}
 use Rattle.ps_codefile.specs.declared.entry.Entry.{Entry}
 use Rattle.ps_resolve.specs.Sources.{segment_from, opened}
 use Rattle.ps_resolve.specs.Faults.{code_fault, request_fault}
-use Rattle.ps_resolve.specs.Views.{AreRecordsOf, IsRead}
+use Rattle.ps_resolve.specs.Views.{ArePlacedIn, IsRead}
 use Rattle.ps_resolve.specs.Requests.{requested_segment}
 use Rattle.ps_resolve.proofs.ReadingSources.{own_fault, read_from_host}
 use Rattle.ps_resolve.proofs.Requested.{wanted_is, wanted_segment}
+use Rattle.ps_resolve.proofs.Sharing.{placed_in}
 use Rattle.ps_resolve.proofs.reading.sources.read_slot.Goals as goal
 
-pub read_segment-requires-clause-known : goal.read_segment-requires-clause-known
-read_segment-requires-clause-known c =
+pub read_segment-requires-clause-placed : goal.read_segment-requires-clause-placed
+read_segment-requires-clause-placed c =
     let host = c.args.host.now in
-    let libs = opened host.order c.args.libs.now in
-    let dict = c.dict-in-Plain.ensures in
-    subst (λ (o : OpenedFile). IfSome c.known_records-records.result (AreRecordsOf o.order o.file (entry_at o.order o.file c.args.slot))) (c.dict.ensures ∙ sym dict)
-    (c.known_records-records.ensures host.file libs (sym (ap (λ (o : OpenedFile). o.file) c.dict.ensures))
-    (subst (λ (o : OpenedFile). All (IsRead o.order host.file libs) c.args.known.now) (sym c.dict.ensures) c.requires.read))
+    subst (λ (o : OpenedFile). ArePlacedIn o.order o.file 0 c.args.earlier.now) (sym c.dict.ensures) (placed_in host.order host.file (opened host.order c.args.libs.now) 0 c.args.earlier.now c.requires.read)
 
 pub returns-in_err-own-in-Plain : goal.returns-in_err-own-in-Plain
 returns-in_err-own-in-Plain c =
     let host = c.args.host.now in
     let libs = opened host.order c.args.libs.now in
-    let dict = c.dict-in-Plain.ensures in
+    let dict = c.dict.ensures in
     let p = err_from_is_err_and c.from_residual.result c.from_residual.ensures.1 in
     rw (p.1, p.2) (record {
       fault = c.in_err-own-in-Plain.ensures.fault host.file libs (sym (ap (λ (o : OpenedFile). o.file) dict))
@@ -41,7 +37,7 @@ returns-in_ok-own-in-Plain c =
     let host = c.args.host.now in
     let libs = opened host.order c.args.libs.now in
     let name = sym (ap (λ (e : Entry). e.name) c.entry.ensures) in
-    let dict = c.dict-in-Plain.ensures in
+    let dict = c.dict.ensures in
     let file = sym (ap (λ (o : OpenedFile). o.file) dict) in
     record {
       fault = c.in_ok-own-in-Plain.ensures.fault host.file libs file
