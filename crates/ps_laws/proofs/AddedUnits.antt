@@ -1,5 +1,5 @@
 -- The units that are added are those that are requested, as they are said plainly.
-use Rattle.std.proofs.Common.{◌≡◌, ℕ, zero, suc, ◌+◌, ◌<◌, ◌≤◌, List, [], ◌∷◌, ◌++◌, length, map, Option, Some, None, Result, Ok, Err, Bool, true, false, refl, sym, ap, subst, ◌∙◌, inl, inr, arith, is_some, is_none, unwrap_or, length-append, take}
+use Rattle.std.proofs.Common.{◌≡◌, ℕ, zero, suc, ◌+◌, ◌<◌, ◌≤◌, List, [], ◌∷◌, ◌++◌, length, map, Option, Some, None, Result, Ok, Err, Bool, true, false, refl, sym, ap, subst, ◌∙◌, inl, inr, arith, is_some, unwrap_or, length-append, take}
 use Rattle.std.specs.Prelude.{◌⊎◌, ◌≢◌, if◌then◌else◌, ◌||◌}
 use Rattle.std.specs.List.{slice_get, list_any, find}
 use Rattle.std.specs.Map.{lookup}
@@ -20,7 +20,8 @@ use Rattle.ps_codefile.specs.declared.entry.Role.{Role}
 use Rattle.ps_codefile.specs.declared.entry.Role.TheVariants as role
 use Rattle.ps_linkinfo.specs.Records.{reading}
 use Rattle.ps_linkinfo.specs.declared.record.LinkRecord.{LinkRecord as Record}
-use Rattle.ps_resolve.specs.Faults.{sources_fault, source_fault, unit_fault, wanted_fault, code_fault}
+use Rattle.ps_resolve.specs.Faults.{sources_fault, source_fault, role_fault, code_fault}
+use Rattle.ps_resolve.specs.Requests.{request_by_slot}
 use Rattle.ps_resolve.specs.First.{Before}
 use Rattle.ps_resolve.specs.Searches.{first_of}
 use Rattle.ps_codefile.specs.Roles.{is_unit}
@@ -36,7 +37,7 @@ use Rattle.ps_laws.proofs.Segments.{from_slot}
 use Rattle.ps_laws.proofs.Sources.{named, chosen, ok_is}
 use Rattle.ps_laws.proofs.Rounds.{own_units, references_of}
 use Rattle.ps_laws.proofs.OneQueue.{giver_of_front}
-use Rattle.ps_laws.proofs.Asked.{source_made, unit_found, added_is, queue_grows, all_known, known_more, known_last, or_cases, queue_of, name_placed, segment_named, in_empty, own_in, own_at, units_named}
+use Rattle.ps_laws.proofs.Asked.{IsFine, source_made, request_parts, unit_there, added_is, queue_grows, all_known, known_more, known_last, or_cases, queue_of, name_placed, segment_named, in_empty, own_in, own_at, units_named}
 use Rattle.ps_words.specs.declared.order.Order.{Order}
 use Rattle.ps_words.specs.declared.fault.Reason.{Reason}
 
@@ -421,18 +422,24 @@ first_none {A} {X} f (y ∷ xs) i x e u = go (λ n k h. first_none f xs k x n h)
     go later None is e zero u = let same : y ≡ x = cc in sym (ap f same) ∙ is
     go later None is e (suc i) u = later e i u
 
-pub source_none : (order : Order) (host : List ℕ) (libs : List (List ℕ)) → sources_fault order host libs ≡ None → (slot : ℕ) → slot < 16 → source_fault order host libs slot ≡ None
+source_none : (order : Order) (host : List ℕ) (libs : List (List ℕ)) → sources_fault order host libs ≡ None → (slot : ℕ) → slot < 16 → source_fault order host libs slot ≡ None
 unfolding sources_fault
 source_none order host libs fine slot h = let i = in_range 0 16 slot (omega arith) (omega (arith, h)) in first_none (source_fault order host libs) slots i.0 slot fine i.1
 
--- where the source of a slot has no fault, neither the choice of its library nor its code has one
-pub of_role : (order : Order) (host : List ℕ) (libs : List (List ℕ)) (slot : ℕ) (r : Role) → source_fault order host libs slot ≡ None → HasRole order host slot r
-    → (wanted_fault order host libs slot r ≡ None) × (option_and_then (code_fault order host libs slot r) (source_of order host libs slot r) ≡ None)
-of_role order host libs slot r fine has = both_none (wanted_fault order host libs slot r) (option_and_then (code_fault order host libs slot r) (source_of order host libs slot r))
-    (sym (ap (option_and_then (λ (x : Role). option_or (wanted_fault order host libs slot x) (option_and_then (code_fault order host libs slot x) (source_of order host libs slot x)))) (ap result_ok has)) ∙ fine)
+-- where the sources have no fault, a slot has none by its role
+role_none : (order : Order) (host : List ℕ) (libs : List (List ℕ)) → sources_fault order host libs ≡ None → (slot : ℕ) → slot < 16 → (r : Role) → HasRole order host slot r → role_fault order host libs slot r ≡ None
+role_none order host libs fine slot inside r has = sym (ap (option_and_then (role_fault order host libs slot)) (ap result_ok has)) ∙ source_none order host libs fine slot inside
+
+-- and so its code has none
+pub code_none : (order : Order) (host : List ℕ) (libs : List (List ℕ)) → sources_fault order host libs ≡ None → (slot : ℕ) → slot < 16 → (r : Role) → HasRole order host slot r → option_and_then (code_fault order host libs slot r) (source_of order host libs slot r) ≡ None
+code_none order host libs fine slot inside r has = go r (role_none order host libs fine slot inside r has)
+  where
+    go : (r : Role) → role_fault order host libs slot r ≡ None → option_and_then (code_fault order host libs slot r) (source_of order host libs slot r) ≡ None
+    go role.Wanted e = (request_parts order host libs (request_by_slot order host slot) e).2
+    go other e = e
 
 -- a slot that has a source, in whose code there is no fault, has its own segment
-pub own_made : (order : Order) (host : List ℕ) (libs : List (List ℕ)) (slot : ℕ) (r : Role) (at : ℕ × ℕ) → HasRole order host slot r → source_of order host libs slot r ≡ Some at → code_fault order host libs slot r at ≡ None → (s : Segment) × (own_segment order host libs slot ≡ Some s)
+own_made : (order : Order) (host : List ℕ) (libs : List (List ℕ)) (slot : ℕ) (r : Role) (at : ℕ × ℕ) → HasRole order host slot r → source_of order host libs slot r ≡ Some at → code_fault order host libs slot r at ≡ None → (s : Segment) × (own_segment order host libs slot ≡ Some s)
 own_made order host libs slot r at has is fine = go (segment_from order host libs slot (entry_at order host slot).name r at) refl
   where
     go : (o : Option Segment) → segment_from order host libs slot (entry_at order host slot).name r at ≡ o → (s : Segment) × (own_segment order host libs slot ≡ Some s)
@@ -443,36 +450,34 @@ own_made order host libs slot r at has is fine = go (segment_from order host lib
           ∙ (ap (option_and_then (segment_from order host libs slot (entry_at order host slot).name r)) is ∙ e),
     )
 
--- a wanted unit in whose choice of a library there is no fault has a source
-pub wanted_source : (order : Order) (host : List ℕ) (libs : List (List ℕ)) (slot : ℕ) → wanted_fault order host libs slot role.Wanted ≡ None → unit_source order (entry_at order host slot).name libs ≡ None → ⊥
-wanted_source order host libs slot fine none = go (chosen_library order (entry_at order host slot).name libs) refl (unit_found order (entry_at order host slot).name libs none)
+-- a slot that is not empty has its own segment, where the sources have no fault
+pub has_own : (order : Order) (host : List ℕ) (libs : List (List ℕ)) → sources_fault order host libs ≡ None → (slot : ℕ) → slot < 16 → (r : Role) → HasRole order host slot r → r ≢ role.Empty → (s : Segment) × (own_segment order host libs slot ≡ Some s)
+has_own order host libs fine slot inside r has filled = go r has filled (role_none order host libs fine slot inside r has)
   where
-    go : (o : Option (ℕ × List ℕ)) → chosen_library order (entry_at order host slot).name libs ≡ o → is_none o ≡ true → ⊥
-    go None is e = let a = rw (is, wanted_fault, unit_fault) at fine in cc
-    go (Some lib) is e = false≢true e
+    go : (r : Role) → HasRole order host slot r → r ≢ role.Empty → role_fault order host libs slot r ≡ None → (s : Segment) × (own_segment order host libs slot ≡ Some s)
+    go role.Empty has filled e = absurd (filled refl)
+    go role.Wanted has filled e = from (unit_source order (entry_at order host slot).name libs) refl
+      where
+        parts : IsFine order host libs (request_by_slot order host slot)
+        parts = request_parts order host libs (request_by_slot order host slot) e
+
+        from : (o : Option (ℕ × ℕ)) → unit_source order (entry_at order host slot).name libs ≡ o → (s : Segment) × (own_segment order host libs slot ≡ Some s)
+        from None is = absurd (unit_there order (entry_at order host slot).name libs parts.0 is)
+        from (Some at) is = own_made order host libs slot role.Wanted at has is (sym (ap (option_and_then (code_fault order host libs slot role.Wanted)) is) ∙ parts.2)
+    go other has filled e = own_made order host libs slot other (0, slot) has refl e
 
 -- where the sources have no fault, the name of a unit slot is that of a unit among the host's own
 -- segments
 unit_of_slot : (order : Order) (host : List ℕ) (libs : List (List ℕ)) → sources_fault order host libs ≡ None → (name : List ℕ) → HasSlot order host name → is_some (lookup (bytes_eq name) (own_units order host libs)) ≡ true
-unit_of_slot order host libs fine name t = elim t.2.0 [
-  | inl has ↦
-      let f = of_role order host libs t.0 role.Unit (source_none order host libs fine t.0 t.1) has in
-      known role.Unit has refl (own_made order host libs t.0 role.Unit (0, t.0) has refl f.1)
-  | inr has ↦ wanted has (unit_source order (entry_at order host t.0).name libs) refl
-]
+unit_of_slot order host libs fine name t = elim t.2.0 [ inl has ↦ known role.Unit has refl (λ e. cc) | inr has ↦ known role.Wanted has refl (λ e. cc) ]
   where
-    known : (r : Role) → HasRole order host t.0 r → is_unit r ≡ true → ((s : Segment) × (own_segment order host libs t.0 ≡ Some s)) → is_some (lookup (bytes_eq name) (own_units order host libs)) ≡ true
-    known r has unit m =
+    known : (r : Role) → HasRole order host t.0 r → is_unit r ≡ true → r ≢ role.Empty → is_some (lookup (bytes_eq name) (own_units order host libs)) ≡ true
+    known r has unit filled =
+        let m = has_own order host libs fine t.0 t.1 r has filled in
         let i = own_in order host libs t.0 m.0 t.1 m.1 in
         let o = own_is order host libs t.0 m.0 m.1 in
         let same : o.0 ≡ r = (let a = o.1 in cc) in
         (units_named name (own_segments order host libs)).1 (i.0, m.0, i.1, (ap is_unit (o.2 ∙ same) ∙ unit, o.3 ∙ t.2.1))
-
-    wanted : HasRole order host t.0 role.Wanted → (o : Option (ℕ × ℕ)) → unit_source order (entry_at order host t.0).name libs ≡ o → is_some (lookup (bytes_eq name) (own_units order host libs)) ≡ true
-    wanted has None is = absurd (wanted_source order host libs t.0 (of_role order host libs t.0 role.Wanted (source_none order host libs fine t.0 t.1) has).0 is)
-    wanted has (Some at) is =
-        let f = of_role order host libs t.0 role.Wanted (source_none order host libs fine t.0 t.1) has in
-        known role.Wanted has refl (own_made order host libs t.0 role.Wanted at has is (sym (ap (option_and_then (code_fault order host libs t.0 role.Wanted)) is) ∙ f.1))
 
 -- 5. where an added segment comes from
 made_is : (order : Order) (host : List ℕ) (libs : List (List ℕ)) (slot : ℕ) (name : List ℕ) (at : ℕ × ℕ) (s : Segment) → segment_from order host libs slot name role.Wanted at ≡ Some s

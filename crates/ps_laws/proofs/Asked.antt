@@ -15,21 +15,23 @@ use Rattle.std.proofs.lemmas.Option.{slice_get_within}
 use Rattle.std.proofs.lemmas.Slice.Eq.{bytes_eq-Decides}
 use Rattle.ps_codefile.specs.Dictionary.{slots, is_nameless, entry_at, role_of, code_of}
 use Rattle.ps_linkinfo.specs.RecordCounts.{is_unit_reference}
-use Rattle.ps_resolve.specs.Added.{unit_references, all_unit_references, is_already_known, requested_from, empty_slots, is_missing, unplaced_fault, placed_fault, as_added, added_segment, RoundsOutcome, requested_units, added_segments, added_fault, added_at, segment_at, segments}
+use Rattle.ps_resolve.specs.Added.{unit_references, all_unit_references, is_already_known, requested_from, empty_slots, is_missing, unplaced_fault, placed_fault, as_added, added_segment, request_of, RoundsOutcome, requested_units, added_segments, added_fault, added_at, segment_at, segments}
 use Rattle.ps_resolve.specs.Standing.Phrases.{SomeItem}
 use Rattle.ps_resolve.specs.Standing.Segments.{IsSegment}
 use Rattle.ps_codefile.specs.declared.entry.Role.{Role}
 use Rattle.ps_codefile.specs.declared.entry.Role.TheVariants as role
 use Rattle.ps_linkinfo.specs.declared.record.LinkRecord.{LinkRecord as Record}
-use Rattle.ps_resolve.specs.Faults.{is_role, entry_fault, code_fault}
+use Rattle.ps_resolve.specs.Faults.{is_role, entry_fault, code_fault, request_fault}
+use Rattle.ps_resolve.specs.Requests.{missing_at}
 use Rattle.ps_codefile.specs.Roles.{is_unit, is_empty}
 use Rattle.ps_resolve.specs.Sources.{Segment, is_named, has_entry, chosen_library, unit_source, source_of, file_at, segment_from, own_segment, own_segments, units_of}
 use Rattle.ps_resolve.specs.declared.reading.added.UnitReference.{UnitReference}
+use Rattle.ps_resolve.specs.declared.reading.request.Request.{Request}
 use Rattle.ps_laws.proofs.Looking.{of_test, any_of_items, none_of_items, find_none}
 use Rattle.ps_laws.proofs.Items.{In, at_left, at_seam, in_left, in_right, some_before, in_flat, in_filter_map, of_filter_map, in_range, of_range, of_filter, filter_ascends, find_passes}
 use Rattle.ps_laws.proofs.Definitions.{take_prefix, longer}
 use Rattle.ps_resolve.proofs.EachSegment.{added_made}
-use Rattle.ps_resolve.proofs.FirstSlots.{neither_second}
+use Rattle.ps_resolve.proofs.FirstSlots.{neither_first, neither_second}
 use Rattle.ps_laws.proofs.Segments.{found_in_slot}
 use Rattle.ps_laws.proofs.Rounds.{own_units, references_of, requested_rest, rest_of, of_segment, of_fault, of_name, next_slot, first_round}
 use Rattle.ps_words.specs.declared.order.Order.{Order}
@@ -59,27 +61,44 @@ unit_found order name libs n = go (chosen_library order name libs) refl n
             let b = none_of_items (is_named order name lib.1) slots in
             absurd (false≢true (sym (ap not a) ∙ (sym b ∙ ap is_none is_it)))
 
--- a name that has no fault in its slot brings its segment there
-brought : (order : Order) (host : List ℕ) (libs : List (List ℕ)) (g : UnitReference) (slot : ℕ) → placed_fault order host libs g slot ≡ None → added_segment order host libs g slot ≡ None → ⊥
-brought order host libs g slot e n = go (is_missing order libs g.name) refl e
-  where
-    made : (o : Option (ℕ × ℕ)) → unit_source order g.name libs ≡ o → option_and_then (code_fault order host libs slot role.Wanted) o ≡ None → option_map as_added (option_and_then (segment_from order host libs slot g.name role.Wanted) o) ≡ None → is_none (chosen_library order g.name libs) ≡ false → ⊥
-    made None is e n found = false≢true (sym found ∙ unit_found order g.name libs is)
-    made (Some at) is e n found = inner (segment_from order host libs slot g.name role.Wanted at) refl n
-      where
-        inner : (o : Option Segment) → segment_from order host libs slot g.name role.Wanted at ≡ o → option_map as_added o ≡ None → ⊥
-        inner None is n = source_made order host libs slot g.name role.Wanted at e is
-        inner (Some s) is n = absurd (cc)
+-- a request is not missing, and neither the library's entries nor the code of its unit have a fault
+abbrev pub IsFine : Order → List ℕ → List (List ℕ) → Request → Type 0
+IsFine order host libs q =
+    (is_missing order libs q.name ≡ false) × (entry_fault order q.name libs q.slot ≡ None) × (option_and_then (code_fault order host libs q.slot role.Wanted) (unit_source order q.name libs) ≡ None)
 
+-- so it is where the request has no fault
+pub request_parts : (order : Order) (host : List ℕ) (libs : List (List ℕ)) (q : Request) → request_fault order host libs q ≡ None → IsFine order host libs q
+request_parts order host libs q = go (is_missing order libs q.name) refl
+  where
+    Code : Option Fault
+    Code = option_and_then (code_fault order host libs q.slot role.Wanted) (unit_source order q.name libs)
+
+    go : (b : Bool) → is_missing order libs q.name ≡ b → (if b then Some (missing_at q.slot q.requester) else option_or (entry_fault order q.name libs q.slot) Code) ≡ None → IsFine order host libs q
+    go true is e = absurd (cc)
+    go false is e = (is, neither_first (entry_fault order q.name libs q.slot) Code e, neither_second (entry_fault order q.name libs q.slot) Code e)
+
+-- such a request has a source
+pub unit_there : (order : Order) (name : List ℕ) (libs : List (List ℕ)) → is_missing order libs name ≡ false → unit_source order name libs ≡ None → ⊥
+unit_there order name libs is none = false≢true (sym (or_false (is_nameless name) (is_none (chosen_library order name libs)) is) ∙ unit_found order name libs none)
+  where
     or_false : (a b : Bool) → (a || b) ≡ false → b ≡ false
     or_false true b e = absurd (cc)
     or_false false b e = e
 
-    go : (b : Bool) → is_missing order libs g.name ≡ b → placed_fault order host libs g slot ≡ None → ⊥
-    go true is e = let a = rw (is, placed_fault) at e in cc
-    go false is e =
-        made (unit_source order g.name libs) refl (neither_second (entry_fault order g.name libs slot) (option_and_then (code_fault order host libs slot role.Wanted) (unit_source order g.name libs)) (rw (is, placed_fault) at e)) n
-        (or_false (is_nameless g.name) (is_none (chosen_library order g.name libs)) is)
+-- a name that has no fault in its slot brings its segment there
+brought : (order : Order) (host : List ℕ) (libs : List (List ℕ)) (g : UnitReference) (slot : ℕ) → placed_fault order host libs g slot ≡ None → added_segment order host libs g slot ≡ None → ⊥
+brought order host libs g slot e n = made (unit_source order g.name libs) refl parts.2 n
+  where
+    parts : IsFine order host libs (request_of g slot)
+    parts = request_parts order host libs (request_of g slot) e
+
+    made : (o : Option (ℕ × ℕ)) → unit_source order g.name libs ≡ o → option_and_then (code_fault order host libs slot role.Wanted) o ≡ None → option_map as_added (option_and_then (segment_from order host libs slot g.name role.Wanted) o) ≡ None → ⊥
+    made None is e n = unit_there order g.name libs parts.0 is
+    made (Some at) is e n = inner (segment_from order host libs slot g.name role.Wanted at) refl n
+      where
+        inner : (o : Option Segment) → segment_from order host libs slot g.name role.Wanted at ≡ o → option_map as_added o ≡ None → ⊥
+        inner None is n = source_made order host libs slot g.name role.Wanted at e is
+        inner (Some s) is n = absurd (cc)
 
 -- an added segment, as it was requested
 pub added_is : (order : Order) (host : List ℕ) (libs : List (List ℕ)) (g : UnitReference) (slot : ℕ) (s : Segment) → added_segment order host libs g slot ≡ Some s → (s.slot ≡ slot) × (s.name ≡ g.name) × (s.role ≡ role.Wanted)

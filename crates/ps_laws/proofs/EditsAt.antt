@@ -8,7 +8,7 @@ use Rattle.std.specs.Str.{bytes_eq}
 use Rattle.std.proofs.lemmas.Bool.Decides.{nat_tests}
 use Rattle.ps_codefile.specs.Procedures.{table_of}
 use Rattle.ps_resolve.specs.Privates.{total_words}
-use Rattle.ps_resolve.specs.Standing.References.{operand_width}
+use Rattle.ps_linkinfo.specs.Operands.{operand_width}
 use Rattle.ps_resolve.specs.Standing.Privates.{private_offset}
 use Rattle.ps_resolve.specs.LinkedBytes.{Reaches, IsNumberPlace, IsSizePlace, summed_edits}
 use Rattle.ps_linkinfo.specs.Records.{refs_of}

@@ -22,7 +22,7 @@ use Rattle.ps_resolve.specs.Standing.{NoneStands}
 use Rattle.ps_resolve.specs.Standing.Keys.{OfSlots, OfNoHost, OfDefinitions}
 use Rattle.ps_resolve.specs.Standing.Segments.{IsSegment}
 use Rattle.ps_resolve.specs.Standing.Slots.{HasRole}
-use Rattle.ps_laws.proofs.AddedUnits.{find_in, of_role, own_is, own_made, source_none}
+use Rattle.ps_laws.proofs.AddedUnits.{find_in, has_own, own_is}
 use Rattle.ps_laws.proofs.Asked.{added_is, in_segments, name_placed, segment_named}
 use Rattle.ps_laws.proofs.EditsAt.{same_item}
 use Rattle.ps_laws.proofs.Items.{find_passes, in_range, of_range}
@@ -133,8 +133,7 @@ module _ (host : List ℕ) (libs : List (List ℕ)) (none : NoneStands host libs
   pub host_there : (k : ℕ) × (s : Segment) × (slice_get (segments_of host libs) k ≡ Some s) × (is_host s.role ≡ true)
   host_there =
       let h = host_slot in
-      let f = of_role (order_of host) host libs h.0 role.Host (source_none (order_of host) host libs fine h.0 h.1) h.2 in
-      let m = own_made (order_of host) host libs h.0 role.Host (0, h.0) h.2 refl f.1 in
+      let m = has_own (order_of host) host libs fine h.0 h.1 role.Host h.2 (λ e. cc) in
       let at : segment_at (order_of host) host libs h.0 ≡ Some m.0 = ap (λ (o : Option Segment). option_or o (if is_role is_empty (order_of host) host h.0 then find (λ (q : Segment). q.slot == h.0) (added_segments (order_of host) host libs) else None)) m.1 in
       let i = in_segments (order_of host) host libs h.0 m.0 h.1 at in
       let r = own_is (order_of host) host libs h.0 m.0 m.1 in

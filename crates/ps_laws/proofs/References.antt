@@ -20,7 +20,8 @@ use Rattle.ps_resolve.specs.Privates.{private_words, owner_of, all_words}
 use Rattle.ps_resolve.specs.Standing.Phrases.{Because, SomeBelow, SomeItem}
 use Rattle.ps_resolve.specs.Standing.Keys.{OfReferences, part}
 use Rattle.ps_resolve.specs.Standing.Privates.{private_offset}
-use Rattle.ps_resolve.specs.Standing.References.{Defines, RecordHas, operand_width, operand_value, Covers, Meet, ReferenceHas, InReferences}
+use Rattle.ps_linkinfo.specs.Operands.{operand_width}
+use Rattle.ps_resolve.specs.Standing.References.{Defines, RecordHas, operand_value, Covers, Meet, ReferenceHas, InReferences}
 use Rattle.ps_linkinfo.specs.Records.{refs_of}
 use Rattle.ps_linkinfo.specs.declared.record.Body.{Body}
 use Rattle.ps_linkinfo.specs.declared.record.Body.TheVariants.{UnitRef, PublRef, PrivRef, PublDef, ConstDef, Eof}

@@ -20,10 +20,10 @@ use Rattle.ps_resolve.specs.Faults.{entry_fault, code_fault}
 use Rattle.ps_resolve.specs.First.{Before}
 use Rattle.ps_resolve.specs.Sources.{Segment, own_segments, units_of, unit_source, chosen_library, file_at}
 use Rattle.ps_resolve.specs.declared.reading.added.UnitReference.{UnitReference}
-use Rattle.ps_laws.proofs.Least.{Least, nothing, this, Precedes, least_same, least_order, least_or, least_map, least_then}
+use Rattle.ps_laws.proofs.Least.{Least, nothing, this, Precedes, least_same, least_order, least_map}
 use Rattle.ps_laws.proofs.Looking.{of_test}
 use Rattle.ps_laws.proofs.Definitions.{take_prefix, longer}
-use Rattle.ps_laws.proofs.Sources.{Late, early_late, late, OneStop, none_has, entry_least, entry_early, code_late, code_least}
+use Rattle.ps_laws.proofs.Sources.{Late, late, OneStop, none_has, unit_least, code_late}
 use Rattle.ps_laws.proofs.Parts.{record_somes, RoundHas}
 use Rattle.ps_resolve.proofs.Adding.{requested-append}
 use Rattle.ps_words.specs.FaultPlaces.{in_slot, in_record}
@@ -101,16 +101,13 @@ within_round k x y e a b (inr t) = elim t.1 [
   )
 ]
 
--- the first fault of a name's unit in a slot, of the library's entries and then of its code, is the
--- smallest that applies
+-- the first fault of a name's unit in a slot is the smallest of its round
 placed_least : OneStop → (order : Order) (host : List ℕ) (libs : List (List ℕ)) (k : ℕ) (name : List ℕ) (slot : ℕ)
     → Least (Precedes (OfAdded k)) (PlacedFault order host libs name slot) (option_or (entry_fault order name libs slot) (option_and_then (code_fault order host libs slot role.Wanted) (unit_source order name libs)))
 placed_least law order host libs k name slot =
     least_order
     (λ x y s t. within_round k x y ((placed_late order host libs name slot x s).0 ∙ sym (placed_late order host libs name slot y t).0) (reads_placed order host libs name slot x s) (reads_placed order host libs name slot y t))
-    (least_or (entry_least order name libs slot)
-    (least_then (code_fault order host libs slot role.Wanted) (unit_source order name libs) (λ at e. code_least law order slot role.Wanted host libs at))
-    (λ x y s t. early_late slot 15 x y (entry_early order name libs slot x s) (code_late order (file_at host libs t.0.0) t.0.0 (entry_at order (file_at host libs t.0.0) t.0.1) slot role.Wanted y t.2)))
+    (unit_least law order host libs name slot)
 
 pub missing : (order : Order) (libs : List (List ℕ)) (name : List ℕ) → Decides (is_missing order libs name) (IsMissing order libs name)
 missing order libs name = Decides-or (is_nameless name) (is_none (chosen_library order name libs)) (of_test (is_nameless name)) (none_has order name libs)

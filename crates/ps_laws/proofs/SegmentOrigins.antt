@@ -10,7 +10,7 @@ use Rattle.std.proofs.lemmas.Bool.Decides.{Decides-ltb}
 use Rattle.std.proofs.lemmas.Option.{option_and_then_some}
 use Rattle.ps_codefile.specs.Dictionary.{slots, entry_at, role_of, code_of, information_of, has_bad_length, is_nameless}
 use Rattle.ps_codefile.specs.Procedures.{tables_fault}
-use Rattle.ps_resolve.specs.Added.{is_missing, as_added, placed_fault, added_segment, added_segments, added_at, added_fault, segments, empty_slots, requested_units}
+use Rattle.ps_resolve.specs.Added.{as_added, placed_fault, request_of, added_segment, added_segments, added_at, added_fault, segments, empty_slots, requested_units}
 use Rattle.ps_resolve.specs.Standing.Phrases.{SomeItem}
 use Rattle.ps_resolve.specs.Standing.Keys.{OfSlots, OfSources}
 use Rattle.ps_resolve.specs.Standing.Slots.{HasRole, InSlots}
@@ -25,7 +25,7 @@ use Rattle.ps_linkinfo.specs.Records.{Spells, reading}
 use Rattle.ps_linkinfo.specs.declared.record.LinkRecord.{LinkRecord as Record}
 use Rattle.ps_codefile.specs.Roles.{needs_linking, is_host, is_empty}
 use Rattle.ps_resolve.specs.Sources.{Segment, order_of, file_at, source_of, unit_source, segment_from, own_segment, own_segments, records_of}
-use Rattle.ps_resolve.specs.Faults.{is_role, slot_reason, slots_fault, code_fault, wanted_fault, information_fault, sources_fault}
+use Rattle.ps_resolve.specs.Faults.{is_role, slot_reason, slots_fault, code_fault, information_fault, sources_fault}
 use Rattle.ps_resolve.specs.Origins.{IsOwn, IsAddedUnit, IsFile, IsInPlace, IsUnitOf, IsSliceOf, IsReadFrom, HaveOneEach, AreBySlot, AreOwn, AreAdded, AreInPlace, AreOfLibraries, AreRead, AreOfRounds, IsTaken, AsksFor}
 use Rattle.ps_resolve.specs.RequestedUnits.{HasSlot, Asks, IsGiver}
 use Rattle.ps_resolve.specs.declared.reading.added.UnitReference.{UnitReference}
@@ -35,12 +35,12 @@ use Rattle.ps_laws.proofs.Items.{In, in_range, in_filter, of_take, some_before}
 use Rattle.ps_laws.proofs.Steps.{not_below, step_2}
 use Rattle.ps_laws.proofs.Sources.{OneStop, ok_is}
 use Rattle.ps_laws.proofs.Segments.{from_slot, own_in_slot, found_in_slot, Ascends, ascend}
-use Rattle.ps_laws.proofs.Asked.{queue_of, segment_named, name_placed, added_is, in_empty, empty_slot, empty_ascend, found_added, in_segments, own_at}
-use Rattle.ps_laws.proofs.AddedUnits.{both_none, first_none, source_none, of_role, own_made, wanted_source, given, units_are, split_at}
+use Rattle.ps_laws.proofs.Asked.{IsFine, request_parts, queue_of, segment_named, name_placed, added_is, in_empty, empty_slot, empty_ascend, found_added, in_segments, own_at}
+use Rattle.ps_laws.proofs.AddedUnits.{both_none, first_none, code_none, has_own, given, units_are, split_at}
 use Rattle.ps_laws.proofs.Whole.{unread, none_read}
 use Rattle.ps_laws.proofs.OneName.{of_segments}
 use Rattle.ps_laws.proofs.LinkedBytes.{all_items}
-use Rattle.ps_laws.proofs.UnitSources.{UnitIsFine, unit_of, placed_parts, no_entry_fault}
+use Rattle.ps_laws.proofs.UnitSources.{unit_of, no_entry_fault}
 use Rattle.ps_words.specs.FaultPlaces.{in_slot, in_record}
 use Rattle.ps_words.specs.declared.order.Order.{Order}
 use Rattle.ps_words.specs.declared.fault.Reason.{Reason}
@@ -184,7 +184,7 @@ module _ (law : OneStop) (spells : OneSpelling) (host : List ℕ) (libs : List (
     IsFrom r at = segment_from order host libs slot (entry_at order host slot).name r at ≡ Some s
 
     no_fault : (r : Role) (at : ℕ × ℕ) → HasRole order host slot r → source_of order host libs slot r ≡ Some at → code_fault order host libs slot r at ≡ None
-    no_fault r at has is = sym (ap (option_and_then (code_fault order host libs slot r)) is) ∙ (of_role order host libs slot r (source_none order host libs fine.0 slot inside) has).1
+    no_fault r at has is = sym (ap (option_and_then (code_fault order host libs slot r)) is) ∙ code_none order host libs fine.0 slot inside r has
 
     own_is : (r : Role) (at : ℕ × ℕ) → HasRole order host slot r → r ≢ role.Empty → IsFrom r at → IsOwn order host s
     own_is r at has filled e =
@@ -309,8 +309,8 @@ module _ (law : OneStop) (spells : OneSpelling) (host : List ℕ) (libs : List (
 
     -- the name that is looked up in that round
     module _ (g : UnitReference) (in_queue : slice_get (queue_of order host libs) j ≡ Some g) (fits : placed_fault order host libs g s.slot ≡ None) (name : s.name ≡ g.name) (from : added_segment order host libs g s.slot ≡ Some s) (earlier : slice_get (requested_units order host libs (take j (added_segments order host libs))) j ≡ Some g) where
-      parts : UnitIsFine order host libs g s.slot (is_missing order libs g.name)
-      parts = placed_parts order host libs g s.slot (is_missing order libs g.name) fits
+      parts : IsFine order host libs (request_of g s.slot)
+      parts = request_parts order host libs (request_of g s.slot) fits
 
       entries : (f : Fault) → EntryFault order g.name libs s.slot f → ⊥
       entries = no_entry_fault order host libs g s.slot fits
@@ -421,24 +421,10 @@ module _ (law : OneStop) (spells : OneSpelling) (host : List ℕ) (libs : List (
       go (Ok r) is = (r, is)
       go (Err why) is = absurd (let a = (both_none (result_err (role_of (entry_at order host slot))) _ no_reason).0 in let b = sym (ap result_err is) ∙ a in cc)
 
-  made : (slot : ℕ) → slot < 16 → (r : Role) → HasRole order host slot r → r ≢ role.Empty → (s : Segment) × (own_segment order host libs slot ≡ Some s)
-  made slot inside role.Empty has n = absurd (n refl)
-  made slot inside role.Plain has n = own_made order host libs slot role.Plain (0, slot) has refl (of_role order host libs slot role.Plain (source_none order host libs fine.0 slot inside) has).1
-  made slot inside role.Host has n = own_made order host libs slot role.Host (0, slot) has refl (of_role order host libs slot role.Host (source_none order host libs fine.0 slot inside) has).1
-  made slot inside role.Unit has n = own_made order host libs slot role.Unit (0, slot) has refl (of_role order host libs slot role.Unit (source_none order host libs fine.0 slot inside) has).1
-  made slot inside role.Wanted has n = go (unit_source order (entry_at order host slot).name libs) refl
-    where
-      faults : (wanted_fault order host libs slot role.Wanted ≡ None) × (option_and_then (code_fault order host libs slot role.Wanted) (source_of order host libs slot role.Wanted) ≡ None)
-      faults = of_role order host libs slot role.Wanted (source_none order host libs fine.0 slot inside) has
-
-      go : (o : Option (ℕ × ℕ)) → unit_source order (entry_at order host slot).name libs ≡ o → (s : Segment) × (own_segment order host libs slot ≡ Some s)
-      go None is = absurd (wanted_source order host libs slot faults.0 is)
-      go (Some at) is = own_made order host libs slot role.Wanted at has is (sym (ap (option_and_then (code_fault order host libs slot role.Wanted)) is) ∙ faults.1)
-
   pub one_each : HaveOneEach host (segments_of host libs)
   one_each slot inside filled =
       let r = has_role slot inside in
-      let s = made slot inside r.0 r.1 (λ e. filled (subst (λ (x : Role). HasRole order host slot x) e r.1)) in
+      let s = has_own order host libs fine.0 slot inside r.0 r.1 (λ e. filled (subst (λ (x : Role). HasRole order host slot x) e r.1)) in
       let i = in_segments order host libs slot s.0 inside (ap (λ (x : Option Segment). option_or x (added_at order host libs slot)) s.1) in
       let at = own_in_slot order host libs slot s.0 s.1 in
       (i.0, s.0, i.1, (at, λ other q e same. one_place (segments order host libs) (rises 0 (segments order host libs) (ascend order host libs)) other i.0 q s.0 e i.1 (same ∙ sym at)))

@@ -10,7 +10,7 @@ use Rattle.std.proofs.lemmas.Bool.Decides.{nat_tests}
 use Rattle.std.proofs.lemmas.Option.{option_and_then_some}
 use Rattle.ps_codefile.specs.Dictionary.{entry_at, role_of, code_of, information_of}
 use Rattle.ps_codefile.specs.Procedures.{procedures, dictionary_len, dictionary_start, content_of, table_of, is_in_table, tables_fault, is_reserved}
-use Rattle.ps_resolve.specs.Added.{is_missing, as_added, placed_fault, added_segment, added_segments, added_fault}
+use Rattle.ps_resolve.specs.Added.{as_added, placed_fault, request_of, added_segment, added_segments, added_fault}
 use Rattle.ps_resolve.specs.Standing.Sources.{AreBad, TablesHave}
 use Rattle.ps_resolve.specs.Standing.Segments.{IsSegment}
 use Rattle.ps_codefile.specs.declared.entry.Entry.{Entry}
@@ -20,15 +20,15 @@ use Rattle.ps_linkinfo.specs.Records.{EndsOnce, bad, is_eof, read_from, reading,
 use Rattle.ps_linkinfo.specs.declared.record.LinkRecord.{LinkRecord as Record}
 use Rattle.ps_codefile.specs.Roles.{needs_linking, is_host, is_empty}
 use Rattle.ps_resolve.specs.Sources.{Segment, file_at, source_of, unit_source, segment_from, own_segment, records_of}
-use Rattle.ps_resolve.specs.Faults.{is_role, code_fault, entry_fault, information_fault, sources_fault}
+use Rattle.ps_resolve.specs.Faults.{is_role, code_fault, information_fault, sources_fault}
 use Rattle.ps_resolve.specs.declared.reading.added.UnitReference.{UnitReference}
 use Rattle.ps_resolve.proofs.FirstSlots.{none_mapped as map_none}
 use Rattle.ps_laws.proofs.Least.{Least, nothing}
 use Rattle.ps_laws.proofs.Sources.{tables_rows, ok_is}
 use Rattle.ps_laws.proofs.Steps.{Ranked}
 use Rattle.ps_laws.proofs.Segments.{found_in_slot}
-use Rattle.ps_laws.proofs.Asked.{segment_named, name_placed}
-use Rattle.ps_laws.proofs.AddedUnits.{both_none, source_none, of_role}
+use Rattle.ps_laws.proofs.Asked.{request_parts, segment_named, name_placed}
+use Rattle.ps_laws.proofs.AddedUnits.{both_none, code_none}
 use Rattle.ps_resolve.proofs.Requesting.{or_right}
 use Rattle.ps_resolve.proofs.Own.{either_true}
 use Rattle.ps_words.specs.FaultPlaces.{in_slot, in_record}
@@ -122,7 +122,7 @@ own_sound order host libs fine slot lt s e =
     option_and_then_some (λ r. option_and_then (segment_from order host libs slot (entry_at order host slot).name r) (source_of order host libs slot r)) (result_ok (role_of (entry_at order host slot))) s e (λ r e1 h.
     option_and_then_some (segment_from order host libs slot (entry_at order host slot).name r) (source_of order host libs slot r) s h (λ at e2 k.
     from_sound order host libs slot (entry_at order host slot).name r at s k
-    (sym (ap (option_and_then (code_fault order host libs slot r)) e2) ∙ (of_role order host libs slot r (source_none order host libs fine slot lt) (ok_is (role_of (entry_at order host slot)) r e1)).1)))
+    (sym (ap (option_and_then (code_fault order host libs slot r)) e2) ∙ code_none order host libs fine slot lt r (ok_is (role_of (entry_at order host slot)) r e1))))
 
 marked_sound : (order : Order) (q : Segment) → IsWithoutFault order q → IsWithoutFault order (as_added q)
 marked_sound order q h = record { tables = h.tables; plain = h.plain; ends = h.ends }
@@ -131,11 +131,6 @@ marked_sound order q h = record { tables = h.tables; plain = h.plain; ends = h.e
 placed_sound : (order : Order) (host : List ℕ) (libs : List (List ℕ)) (g : UnitReference) (slot : ℕ) (s : Segment) → added_segment order host libs g slot ≡ Some s → placed_fault order host libs g slot ≡ None → IsWithoutFault order s
 placed_sound order host libs g slot s e fine = go (option_and_then (segment_from order host libs slot g.name role.Wanted) (unit_source order g.name libs)) refl e
   where
-    code_fine : (b : Bool) → (if b then Some (in_record g.file g.slot g.rec reason.MissingUnit) else option_or (entry_fault order g.name libs slot) (option_and_then (code_fault order host libs slot role.Wanted) (unit_source order g.name libs))) ≡ None
-        → option_and_then (code_fault order host libs slot role.Wanted) (unit_source order g.name libs) ≡ None
-    code_fine true h = absurd (cc)
-    code_fine false h = (both_none (entry_fault order g.name libs slot) (option_and_then (code_fault order host libs slot role.Wanted) (unit_source order g.name libs)) h).1
-
     go : (o : Option Segment) → option_and_then (segment_from order host libs slot g.name role.Wanted) (unit_source order g.name libs) ≡ o → option_map as_added o ≡ Some s → IsWithoutFault order s
     go None is e = absurd (cc)
     go (Some q) is e =
@@ -143,7 +138,7 @@ placed_sound order host libs g slot s e fine = go (option_and_then (segment_from
         subst (IsWithoutFault order) same (marked_sound order q
         (option_and_then_some (segment_from order host libs slot g.name role.Wanted) (unit_source order g.name libs) q is (λ at e1 h.
         from_sound order host libs slot g.name role.Wanted at q h
-        (sym (ap (option_and_then (code_fault order host libs slot role.Wanted)) e1) ∙ code_fine (is_missing order libs g.name) fine))))
+        (sym (ap (option_and_then (code_fault order host libs slot role.Wanted)) e1) ∙ (request_parts order host libs (request_of g slot) fine).2))))
 
 -- where neither the sources nor the rounds have a fault, each segment of the link is sound
 pub all_sound : (order : Order) (host : List ℕ) (libs : List (List ℕ)) → sources_fault order host libs ≡ None → added_fault order host libs ≡ None → (s : Segment) → IsSegment order host libs s → IsWithoutFault order s

@@ -19,12 +19,15 @@ use Rattle.ps_codefile.specs.declared.entry.Entry.{Entry}
 use Rattle.ps_codefile.specs.declared.entry.Role.{Role}
 use Rattle.ps_linkinfo.specs.Records.{reading, Stops}
 use Rattle.ps_linkinfo.specs.declared.record.LinkRecord.{LinkRecord as Record}
-use Rattle.ps_resolve.specs.Faults.{entries_reason, entry_fault, unit_fault, wanted_fault, information_fault, code_fault, source_fault, sources_fault}
+use Rattle.ps_resolve.specs.Faults.{entries_reason, entry_fault, information_fault, code_fault, role_fault, source_fault, sources_fault}
+use Rattle.ps_resolve.specs.Requests.{is_missing}
 use Rattle.ps_resolve.specs.Searches.{first_of, fault_if}
-use Rattle.ps_codefile.specs.Roles.{is_host, is_wanted, needs_linking}
-use Rattle.ps_resolve.specs.Sources.{is_named, has_entry, chosen_library, source_of, file_at}
+use Rattle.ps_codefile.specs.Roles.{is_host, needs_linking}
+use Rattle.ps_resolve.specs.Sources.{is_named, has_entry, chosen_library, source_of, unit_source, file_at}
+use Rattle.ps_resolve.proofs.Requested.{has_name}
 use Rattle.ps_words.specs.FaultPlaces.{in_slot, in_record}
 use Rattle.ps_laws.proofs.Least.{Least, nothing, this, Precedes, least_same, least_or, least_if, least_then, least_range, least_items, least_guard}
+use Rattle.ps_resolve.specs.Standing.Rounds.{PlacedFault}
 use Rattle.ps_laws.proofs.Steps.{Ranked, because, any_of_range, any_lesser}
 use Rattle.ps_laws.proofs.Looking.{of_test}
 use Rattle.ps_words.specs.declared.order.Order.{Order}
@@ -206,18 +209,6 @@ entry_least order name libs slot = go (chosen_library order name libs) (chosen o
           | inr h ↦ absurd (t.3.0.1 p.0 p.1 h get does)
         ]
 
--- the first fault of a wanted unit's source is the smallest that applies
-unit_least : (order : Order) (name : List ℕ) (libs : List (List ℕ)) (slot : ℕ) → Least (Precedes OfSources) (UnitFault order name libs slot) (unit_fault order name libs slot)
-unit_least order name libs slot = go (chosen_library order name libs) (none_has order name libs) (entry_least order name libs slot)
-  where
-    go : (o : Option (ℕ × List ℕ)) → Decides (is_none o) (NoneHas order name libs)
-        → Least (Precedes OfSources) (EntryFault order name libs slot) (option_and_then (λ lib. option_map (in_slot (lib.0 + 1) slot) (entries_reason order name lib.1)) o)
-        → Least (Precedes OfSources) (UnitFault order name libs slot) (option_map_or (λ lib. option_map (in_slot (lib.0 + 1) slot) (entries_reason order name lib.1)) o (Some (in_slot 0 slot reason.MissingUnit)))
-    go None d l =
-        this (in_slot 0 slot reason.MissingUnit) (inl (refl, d.0 refl))
-        (λ f. elim [ inl t ↦ inl t.0 | inr t ↦ absurd (d.0 refl (t.0, t.1, t.2, t.3.0.0)) ])
-    go (Some p) d l = least_same (λ f t. inr t) (λ f. elim [ inl t ↦ absurd (false≢true (d.1 t.1)) | inr t ↦ t ]) l
-
 -- the tables
 any_of_filter : {X Y : Type 0} (p : Y → Bool) (g : X → Option Y) (xs : List X) → list_any p (filter_map g xs) ≡ list_any (λ x. option_map_or p (g x) false) xs
 any_of_filter p g [] = refl
@@ -377,10 +368,6 @@ entries_low order name lib other h = absurd h
 pub entry_early : (order : Order) (name : List ℕ) (libs : List (List ℕ)) (slot : ℕ) (f : Fault) → EntryFault order name libs slot f → Early slot 15 f
 entry_early order name libs slot f t = early (t.0 + 1) slot 15 f (entries_low order name t.1) t.3.1
 
-unit_early : (order : Order) (name : List ℕ) (libs : List (List ℕ)) (slot : ℕ) (f : Fault) → UnitFault order name libs slot f → Early slot 15 f
-unit_early order name libs slot f (inl t) = early {P = λ y. y ≡ reason.MissingUnit} 0 slot 15 f (λ y e. subst (λ z. rank z < 15) (sym e) (omega arith)) (reason.MissingUnit, t.0, refl)
-unit_early order name libs slot f (inr t) = entry_early order name libs slot f t
-
 late_record : (k slot n rec : ℕ) (why : Reason) (f : Fault) → f ≡ in_record k slot rec why → Late slot n f
 late_record k slot n rec why f e = (ap (λ (g : Fault). unwrap_or g.slot g.file) e, inr (let a : part f.rec ≡ rec + 1 = ap (λ (g : Fault). part g.rec) e in omega (arith, a)))
 
@@ -426,13 +413,14 @@ code_least law order slot r host libs at = go (code_of file e) refl
         from f (inr t) = let same : t.0 ≡ code = (let a = t.1 in cc) in
             (t.2.0, subst (λ (c : List ℕ). Because (in_slot at.0 slot) (TablesHave order c (is_host r)) f ⊎ Records f) same t.2.1)
 
--- the test of a role passes just where it is Wanted
-is_wanted_role : (r : Role) → Decides (is_wanted r) (r ≡ role.Wanted)
-is_wanted_role role.Wanted = (λ e. refl, λ p. refl)
-is_wanted_role role.Empty = (λ e. absurd (false≢true e), λ p. absurd (cc))
-is_wanted_role role.Host = (λ e. absurd (false≢true e), λ p. absurd (cc))
-is_wanted_role role.Plain = (λ e. absurd (false≢true e), λ p. absurd (cc))
-is_wanted_role role.Unit = (λ e. absurd (false≢true e), λ p. absurd (cc))
+-- the first fault of a name's unit in a slot, of the library's entries and then of its code, is the
+-- smallest that applies
+pub unit_least : OneStop → (order : Order) (host : List ℕ) (libs : List (List ℕ)) (name : List ℕ) (slot : ℕ)
+    → Least (Precedes OfSources) (PlacedFault order host libs name slot) (option_or (entry_fault order name libs slot) (option_and_then (code_fault order host libs slot role.Wanted) (unit_source order name libs)))
+unit_least law order host libs name slot =
+    least_or (entry_least order name libs slot)
+    (least_then (code_fault order host libs slot role.Wanted) (unit_source order name libs) (λ at e. code_least law order slot role.Wanted host libs at))
+    (λ x y s t. early_late slot 15 x y (entry_early order name libs slot x s) (code_late order (file_at host libs t.0.0) t.0.0 (entry_at order (file_at host libs t.0.0) t.0.1) slot role.Wanted y t.2))
 
 pub ok_is : {X E : Type 0} (o : Result X E) (x : X) → result_ok o ≡ Some x → o ≡ Ok x
 ok_is (Ok y) x e = cc
@@ -451,15 +439,41 @@ SourceFaults order host libs slot r f =
     × CodeFault order (file_at host libs at.0) at.0 (entry_at order (file_at host libs at.0) at.1) slot r f)
 
 -- the first fault of a slot of this role is the smallest that applies
-of_role : OneStop → (order : Order) (host : List ℕ) (libs : List (List ℕ)) (slot : ℕ) (r : Role) → Least (Precedes OfSources) (SourceFaults order host libs slot r) (option_or (wanted_fault order host libs slot r) (option_and_then (code_fault order host libs slot r) (source_of order host libs slot r)))
-of_role law order host libs slot r =
-    least_or
-    (least_guard (is_wanted r) (is_wanted_role r) (unit_least order (entry_at order host slot).name libs slot))
+of_role : OneStop → (order : Order) (host : List ℕ) (libs : List (List ℕ)) (slot : ℕ) (r : Role) → role_of (entry_at order host slot) ≡ Ok r → Least (Precedes OfSources) (SourceFaults order host libs slot r) (role_fault order host libs slot r)
+of_role law order host libs slot role.Wanted has =
+    let missing = is_none (chosen_library order name libs) in
+    go (is_missing order libs name) (Decides-at (is_missing order libs name) missing (ap (λ (b : Bool). b || missing) (has_name order host libs slot has)) (none_has order name libs))
+  where
+    name : List ℕ
+    name = (entry_at order host slot).name
+
+    Faults : Fault → Type 0
+    Faults = SourceFaults order host libs slot role.Wanted
+
+    first : Fault
+    first = in_slot 0 slot reason.MissingUnit
+
+    go : (b : Bool) → Decides b (NoneHas order name libs)
+        → Least (Precedes OfSources) Faults (if b then Some first else option_or (entry_fault order name libs slot) (option_and_then (code_fault order host libs slot role.Wanted) (unit_source order name libs)))
+    go true d = this first (inl (refl, inl (refl, d.0 refl))) least
+      where
+        least : (f : Fault) → Faults f → (f ≡ first) ⊎ Precedes OfSources first f
+        least f (inl (w, inl t)) = inl t.0
+        least f (inl (w, inr t)) = absurd (d.0 refl (t.0, t.1, t.2, t.3.0.0))
+        least f (inr t) = inr (early_late slot 15 first f (refl, refl, refl, omega arith) (code_late order (file_at host libs t.0.0) t.0.0 (entry_at order (file_at host libs t.0.0) t.0.1) slot role.Wanted f t.2))
+    go false d = least_same (λ f. elim [ inl t ↦ inl (refl, inr t) | inr t ↦ inr t ]) from (unit_least law order host libs name slot)
+      where
+        from : (f : Fault) → Faults f → PlacedFault order host libs name slot f
+        from f (inl (w, inl t)) = absurd (false≢true (d.1 t.1))
+        from f (inl (w, inr t)) = inl t
+        from f (inr t) = inr t
+of_role law order host libs slot r has =
+    least_same (λ f t. inr t) (λ f. elim [ inl t ↦ absurd (let e = t.0 in cc) | inr t ↦ t ])
     (least_then (code_fault order host libs slot r) (source_of order host libs slot r) (λ at e. code_least law order slot r host libs at))
-    (λ x y s t. early_late slot 15 x y (unit_early order (entry_at order host slot).name libs slot x s.1) (code_late order (file_at host libs t.0.0) t.0.0 (entry_at order (file_at host libs t.0.0) t.0.1) slot r y t.2))
 
 in_place : (order : Order) (host : List ℕ) (libs : List (List ℕ)) (slot : ℕ) (r : Role) (f : Fault) → SourceFaults order host libs slot r f → unwrap_or f.slot f.file ≡ slot
-in_place order host libs slot r f (inl t) = (unit_early order (entry_at order host slot).name libs slot f t.1).0
+in_place order host libs slot r f (inl (w, inl t)) = ap (λ (g : Fault). unwrap_or g.slot g.file) t.0
+in_place order host libs slot r f (inl (w, inr t)) = (entry_early order (entry_at order host slot).name libs slot f t).0
 in_place order host libs slot r f (inr t) = (code_late order (file_at host libs t.0.0) t.0.0 (entry_at order (file_at host libs t.0.0) t.0.1) slot r f t.2).0
 
 -- the first fault of the sources is the smallest that applies
@@ -470,6 +484,6 @@ step_5 law order host libs =
     (λ f t. (t.0, omega (arith, t.2), (t.3.0, ok_is (role_of (entry_at order host t.0)) t.3.0 t.3.1, t.3.2)))
     (λ f t. (t.0, omega arith, omega (arith, t.1), (t.2.0, is_ok (role_of (entry_at order host t.0)) t.2.0 t.2.1, t.2.2)))
     (least_range (source_fault order host libs)
-    (λ slot. least_then (λ r. option_or (wanted_fault order host libs slot r) (option_and_then (code_fault order host libs slot r) (source_of order host libs slot r))) (result_ok (role_of (entry_at order host slot))) (λ r e. of_role law order host libs slot r))
+    (λ slot. least_then (role_fault order host libs slot) (result_ok (role_of (entry_at order host slot))) (λ r e. of_role law order host libs slot r (ok_is (role_of (entry_at order host slot)) r e)))
     (λ i j x y h s t. inr (refl, inl (let a = in_place order host libs i s.0 x s.2 in let b = in_place order host libs j t.0 y t.2 in omega (arith, a, b, h))))
     0 16)

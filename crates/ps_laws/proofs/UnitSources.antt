@@ -1,16 +1,15 @@
 -- The unit of a name in the libraries, where nothing is wrong with the entries of the name.
 use Rattle.std.proofs.Common.{◌≡◌, ℕ, zero, suc, ◌+◌, ◌<◌, ◌≤◌, List, Option, Some, None, Bool, true, false, refl, sym, subst, inl, inr, arith}
-use Rattle.std.specs.Prelude.{if◌then◌else◌, ◌==◌}
+use Rattle.std.specs.Prelude.{◌==◌}
 use Rattle.std.specs.Bool.{Decides}
 use Rattle.std.specs.List.{slice_get, find}
-use Rattle.std.specs.Option.{option_map, option_or, option_and_then}
+use Rattle.std.specs.Option.{option_map}
 use Rattle.std.proofs.lemmas.Bool.{cases_lt, false≢true}
 use Rattle.std.proofs.lemmas.Bool.Decides.{Decides-eqb}
 use Rattle.std.proofs.lemmas.Option.{option_and_then_some}
 use Rattle.ps_codefile.specs.Dictionary.{slots, entry_at}
-use Rattle.ps_codefile.specs.declared.entry.Role.TheVariants as role
-use Rattle.ps_resolve.specs.Added.{is_missing, placed_fault}
-use Rattle.ps_resolve.specs.Faults.{code_fault, entry_fault}
+use Rattle.ps_resolve.specs.Added.{placed_fault, request_of}
+use Rattle.ps_resolve.specs.Faults.{entry_fault}
 use Rattle.ps_resolve.specs.Standing.Keys.{OfSources}
 use Rattle.ps_resolve.specs.Standing.Sources.{IsNamed, HasEntry, EntryFault}
 use Rattle.ps_resolve.specs.Origins.{IsFile, IsUnitOf}
@@ -20,8 +19,9 @@ use Rattle.ps_laws.proofs.Items.{of_range, find_passes}
 use Rattle.ps_resolve.specs.declared.reading.added.UnitReference.{UnitReference}
 use Rattle.ps_laws.proofs.OneQueue.{HasOneEntry}
 use Rattle.ps_laws.proofs.Sources.{named, entry_least}
-use Rattle.ps_laws.proofs.AddedUnits.{both_none, find_in, first_library, library_at}
-use Rattle.ps_words.specs.FaultPlaces.{in_slot, in_record}
+use Rattle.ps_laws.proofs.Asked.{request_parts}
+use Rattle.ps_laws.proofs.AddedUnits.{find_in, first_library, library_at}
+use Rattle.ps_words.specs.FaultPlaces.{in_slot}
 use Rattle.ps_words.specs.declared.order.Order.{Order}
 use Rattle.ps_words.specs.declared.fault.Reason.TheVariants as reason
 use Rattle.ps_words.specs.declared.fault.Fault.{Fault}
@@ -36,23 +36,9 @@ one_entry order libs name slot fine n lib there first i j h k a b = elim (cases_
     not_two : (i j : ℕ) → i < j → j < 16 → IsNamed order name lib i → IsNamed order name lib j → ⊥
     not_two i j lt h a b = fine (in_slot (n + 1) slot reason.DoubledUnit) (n, lib, there, (((j, h, b), first), (reason.DoubledUnit, refl, (j, h, (b, (i, lt, a))))))
 
--- where nothing is wrong with a name in its slot, it is not missing, and neither the library's
--- entries nor the code of its unit have a fault
-abbrev pub UnitIsFine : Order → List ℕ → List (List ℕ) → UnitReference → ℕ → Bool → Type 0
-UnitIsFine order host libs g slot missing =
-    (missing ≡ false) × (entry_fault order g.name libs slot ≡ None) × (option_and_then (code_fault order host libs slot role.Wanted) (unit_source order g.name libs) ≡ None)
-
-pub placed_parts : (order : Order) (host : List ℕ) (libs : List (List ℕ)) (g : UnitReference) (slot : ℕ) (missing : Bool)
-    → (if missing then Some (in_record g.file g.slot g.rec reason.MissingUnit) else option_or (entry_fault order g.name libs slot) (option_and_then (code_fault order host libs slot role.Wanted) (unit_source order g.name libs))) ≡ None
-    → UnitIsFine order host libs g slot missing
-placed_parts order host libs g slot true e = absurd (cc)
-placed_parts order host libs g slot false e =
-    let t = both_none (entry_fault order g.name libs slot) (option_and_then (code_fault order host libs slot role.Wanted) (unit_source order g.name libs)) e in
-    (refl, t.0, t.1)
-
--- and no fault applies there
+-- where nothing is wrong with a name in its slot, no fault applies to the library's entries of it
 pub no_entry_fault : (order : Order) (host : List ℕ) (libs : List (List ℕ)) (g : UnitReference) (slot : ℕ) → placed_fault order host libs g slot ≡ None → (f : Fault) → EntryFault order g.name libs slot f → ⊥
-no_entry_fault order host libs g slot fits = go (entry_fault order g.name libs slot) (placed_parts order host libs g slot (is_missing order libs g.name) fits).1 (entry_least order g.name libs slot)
+no_entry_fault order host libs g slot fits = go (entry_fault order g.name libs slot) (request_parts order host libs (request_of g slot) fits).1 (entry_least order g.name libs slot)
   where
     go : (o : Option Fault) → o ≡ None → Least (Precedes OfSources) (EntryFault order g.name libs slot) o → (f : Fault) → EntryFault order g.name libs slot f → ⊥
     go None e (nothing n) = n

@@ -2,18 +2,17 @@
 use Rattle.std.proofs.Common.{◌≡◌, ℕ, ◌+◌, ◌-◌, ◌<◌, ◌≤◌, List, [], ◌∷◌, ◌++◌, append_assoc, length, length-append, map, Option, Some, None, Result, Ok, ◌⊎◌, inl, inr, ⊎_elim, refl, sym, ◌∙◌, ap, subst, arith}
 use Rattle.std.specs.List.{range_with_len, filter_map}
 use Rattle.std.specs.Prelude.{All}
-use Rattle.std.specs.Option.{option_or, option_map, option_and_then, option_to_list, IfSome}
+use Rattle.std.specs.Option.{option_map, option_and_then, option_to_list, IfSome}
 use Rattle.std.specs.Result.{result_ok}
 use Rattle.std.proofs.lemmas.List.{map-append}
 use Rattle.std.proofs.lemmas.List.Elements.{All-nil, All-cons, All-append}
 use Rattle.ps_words.specs.declared.order.Order.{Order}
 use Rattle.ps_words.specs.declared.fault.Reason.{Reason}
-use Rattle.ps_words.specs.declared.fault.Fault.{Fault}
 use Rattle.ps_codefile.specs.declared.entry.Role.{Role}
 use Rattle.ps_codefile.specs.declared.entry.Role.TheVariants as role
 use Rattle.ps_codefile.specs.Dictionary.{entry_at, role_of}
 use Rattle.ps_resolve.specs.Sources.{Segment, own_segment, segment_from, source_of}
-use Rattle.ps_resolve.specs.Faults.{source_fault, wanted_fault, code_fault}
+use Rattle.ps_resolve.specs.Faults.{source_fault, role_fault, code_fault}
 use Rattle.ps_resolve.proofs.FirstSlots.{range_more}
 
 -- a segment that is in the host file
@@ -26,9 +25,6 @@ own_each P plain host unit r is = ⊎_elim (λ e. subst P (sym e) plain) (λ res
 pub is_own_host : IsOwn role.Host
 is_own_host = inr (inl refl)
 
-abbrev fault_as : Order → List ℕ → List (List ℕ) → ℕ → Role → Option Fault
-fault_as order host libs slot r = option_or (wanted_fault order host libs slot r) (option_and_then (code_fault order host libs slot r) (source_of order host libs slot r))
-
 abbrev segment_as : Order → List ℕ → List (List ℕ) → ℕ → Role → Option Segment
 segment_as order host libs slot r = option_and_then (segment_from order host libs slot (entry_at order host slot).name r) (source_of order host libs slot r)
 
@@ -36,8 +32,8 @@ segment_as order host libs slot r = option_and_then (segment_from order host lib
 -- there
 pub own_fault : (order : Order) (host : List ℕ) (libs : List (List ℕ)) (slot : ℕ) (r : Role) → role_of (entry_at order host slot) ≡ Ok r → IsOwn r → source_fault order host libs slot ≡ code_fault order host libs slot r (0, slot)
 own_fault order host libs slot r of is =
-    ap (λ (q : Result Role Reason). option_and_then (fault_as order host libs slot) (result_ok q)) of
-    ∙ own_each (λ (r : Role). fault_as order host libs slot r ≡ code_fault order host libs slot r (0, slot)) refl refl refl r is
+    ap (λ (q : Result Role Reason). option_and_then (role_fault order host libs slot) (result_ok q)) of
+    ∙ own_each (λ (r : Role). role_fault order host libs slot r ≡ code_fault order host libs slot r (0, slot)) refl refl refl r is
 
 -- the own segment of a slot of role Plain, Host or Unit is read from the entry of the host there
 pub read_from_host : (order : Order) (host : List ℕ) (libs : List (List ℕ)) (slot : ℕ) (r : Role) → role_of (entry_at order host slot) ≡ Ok r → IsOwn r → own_segment order host libs slot ≡ segment_from order host libs slot (entry_at order host slot).name r (0, slot)

@@ -3,19 +3,18 @@
 use Rattle.std.proofs.Common.{◌≡◌, ℕ, List, Bool, true, false, ◌||◌, ◌&&◌, ◌==◌, not, Option, Some, None, Result, Ok, Err, ◌+◌, refl, ◌∙◌, ap}
 use Rattle.std.specs.Prelude.{if◌then◌else◌}
 use Rattle.std.specs.List.{find}
-use Rattle.std.specs.Option.{option_and_then, option_map, option_or}
+use Rattle.std.specs.Option.{option_and_then, option_map}
 use Rattle.std.specs.Result.{result_ok}
 use Rattle.ps_words.specs.FaultPlaces.{in_slot}
 use Rattle.ps_words.specs.declared.order.Order.{Order}
-use Rattle.ps_words.specs.declared.fault.Fault.{Fault}
 use Rattle.ps_words.specs.declared.fault.Reason.{Reason}
 use Rattle.ps_words.specs.declared.fault.Reason.TheVariants as reason
 use Rattle.ps_codefile.specs.Dictionary.{slots, entry_at, is_nameless, role_of, role_of_kind}
 use Rattle.ps_codefile.specs.declared.entry.Role.{Role}
 use Rattle.ps_codefile.specs.declared.entry.Role.TheVariants as role
 use Rattle.ps_resolve.specs.Sources.{Segment, segment_from, chosen_library, is_named, own_segment, source_of, unit_source}
-use Rattle.ps_resolve.specs.Faults.{code_fault, entries_reason, source_fault, wanted_fault}
-use Rattle.ps_resolve.specs.Requests.{as_requested, is_missing, request_fault, requested_segment}
+use Rattle.ps_resolve.specs.Faults.{code_fault, entries_reason, request_fault, role_fault, source_fault}
+use Rattle.ps_resolve.specs.Requests.{as_requested, is_missing, request_by_slot, requested_segment}
 use Rattle.ps_resolve.specs.Views.{SegmentView, as_requested_view, segment_of, IsRead}
 use Rattle.ps_resolve.specs.declared.reading.request.Request.{Request}
 use Rattle.ps_resolve.specs.declared.reading.request.Requester.{Requester}
@@ -65,24 +64,14 @@ named false q false true kind h = absurd (never_by _ _ _ _ _ _ h)
 -- the request of a slot that wants a unit
 module _ (order : Order) (host : List ℕ) (libs : List (List ℕ)) (slot : ℕ) (wants : role_of (entry_at order host slot) ≡ Ok role.Wanted) where
   abbrev pub wanted : Request
-  wanted = record { name = (entry_at order host slot).name; slot = slot; requester = Slot }
+  wanted = request_by_slot order host slot
 
   -- its name is one
-  has_name : is_nameless wanted.name ≡ false
+  pub has_name : is_nameless wanted.name ≡ false
   has_name = let e = entry_at order host slot in named (e.kind == 3) (e.address == 0 || e.length == 0) (e.length == 0) (is_nameless e.name) e.kind wants
 
-  abbrev fault_as : Role → Option Fault
-  fault_as r = option_or (wanted_fault order host libs slot r) (option_and_then (code_fault order host libs slot r) (source_of order host libs slot r))
-
-  of_role : source_fault order host libs slot ≡ fault_as role.Wanted
-  of_role = ap (λ (q : Result Role Reason). option_and_then fault_as (result_ok q)) wants
-
   pub wanted_is : source_fault order host libs slot ≡ request_fault order host libs wanted
-  wanted_is = of_role ∙ by (chosen_library order wanted.name libs) refl
-    where
-      by : (o : Option (ℕ × List ℕ)) → chosen_library order wanted.name libs ≡ o → fault_as role.Wanted ≡ request_fault order host libs wanted
-      by None e = rw (has_name, e) refl
-      by (Some lib) e = rw (has_name, e) refl
+  wanted_is = ap (λ (q : Result Role Reason). option_and_then (role_fault order host libs slot) (result_ok q)) wants
 
   pub wanted_segment : own_segment order host libs slot ≡ requested_segment order host libs wanted
   wanted_segment =

@@ -1,19 +1,22 @@
 -- Names that are already known: requesting them again does not change the queue.
-use Rattle.std.proofs.Common.{◌≡◌, ◌∙◌, ℕ, ◌+◌, ◌≤◌, ◌++◌, List, [], ◌∷◌, length, length-append, append_assoc, append-nil, take, Bool, true, false, if◌then◌else◌, inl, inr, ⊎_elim, refl, sym, ap, subst, arith}
+use Rattle.std.proofs.Common.{◌≡◌, ◌∙◌, ℕ, ◌+◌, ◌≤◌, ◌++◌, List, [], ◌∷◌, length, length-append, append_assoc, append-nil, map, take, drop, get_or, ◌<◌, Bool, true, false, if◌then◌else◌, inl, inr, ⊎_elim, refl, sym, ap, subst, arith}
 use Rattle.std.specs.Prelude.{All, ◌||◌, is_some}
 use Rattle.std.specs.List.{list_any}
 use Rattle.std.specs.Map.{lookup}
 use Rattle.std.specs.Str.{bytes_eq}
 use Rattle.std.proofs.lemmas.Bool.{cases_lt}
 use Rattle.std.proofs.lemmas.List.{take_all, length-take-le}
-use Rattle.std.proofs.lemmas.List.Elements.{All-nil, All-cons, All-head, All-tail}
+use Rattle.std.proofs.lemmas.List.Elements.{All-nil, All-cons, All-head, All-tail, All-weaker}
 use Rattle.std.proofs.lemmas.List.Folds.{list_any-append}
 use Rattle.std.proofs.lemmas.Slice.Eq.{bytes_eq-Decides}
 use Rattle.ps_linkinfo.specs.RecordCounts.{is_unit_reference}
 use Rattle.ps_linkinfo.specs.declared.record.LinkRecord.{LinkRecord as Record}
-use Rattle.ps_resolve.specs.Added.{is_already_known, requested_from, unit_references, IsAlreadyKnown, AreAlreadyKnown}
+use Rattle.ps_resolve.specs.Added.{is_already_known, requested_from, unit_references, all_unit_references, IsAlreadyKnown, AreAlreadyKnown}
+use Rattle.ps_resolve.specs.Views.{SegmentView, segment_of}
 use Rattle.ps_resolve.specs.declared.reading.added.UnitReference.{UnitReference}
-use Rattle.ps_resolve.proofs.Adding.{queue_prefix}
+use Rattle.ps_resolve.proofs.Adding.{few_kept, kept_segment, queue_prefix}
+use Rattle.ps_resolve.proofs.Segs.{drop_at}
+use Rattle.ps_resolve.proofs.Sharing.{all_taken}
 
 -- where one of two tests holds, one of three does
 or_left : (a b c : Bool) → (a || b) ≡ true → (a || (b || c)) ≡ true
@@ -127,3 +130,27 @@ module _ (units : List (List ℕ × ℕ)) where
   pub nothing_new : (file slot : ℕ) (queue : List UnitReference) (rs : List Record) → length queue ≤ 10 → AreAlreadyKnown units queue rs → queue ≡ take 10 (requested_from units queue (unit_references file slot 0 rs))
   nothing_new file slot queue rs few (inl full) = sym (queue_prefix units 10 queue (unit_references file slot 0 rs) full ∙ take_all 10 queue few)
   nothing_new file slot queue rs few (inr h) = sym (ap (take 10) (same_queue file slot 0 queue rs h) ∙ take_all 10 queue few)
+
+-- The queue after the first i of these segments: with what the others request it is that of all, and
+-- what these request is known.
+pub record HaveRequested (units : List (List ℕ × ℕ)) (own : List SegmentView) (i : ℕ) (queue : List UnitReference) : Type 0 where
+  pub whole : take 10 (requested_from units queue (all_unit_references (map segment_of (drop i own)))) ≡ take 10 (requested_from units [] (all_unit_references (map segment_of own)))
+  pub few : length queue ≤ 10
+  pub known : All (λ s. AreAlreadyKnown units queue s.records) (take i own)
+
+-- one segment more
+pub requested_more : (units : List (List ℕ × ℕ)) (own : List SegmentView) (i : ℕ) (v : SegmentView) (queue now : List UnitReference) → i < length own → v ≡ get_or own i v
+    → now ≡ take 10 (requested_from units queue (unit_references v.file v.slot 0 v.records)) → HaveRequested units own i queue → HaveRequested units own (i + 1) now
+requested_more units own i v queue now lt there is so_far =
+    let one = unit_references v.file v.slot 0 v.records in
+    let rest = all_unit_references (map segment_of (drop (i + 1) own)) in
+    let all = all_unit_references (map segment_of (drop i own)) in
+    let split : all ≡ one ++ rest = ap (λ (xs : List SegmentView). all_unit_references (map segment_of xs)) (drop_at own i v lt there) in
+    record {
+      whole = kept_segment units queue now one rest all split is ∙ so_far.whole;
+      few = rw is (few_kept (requested_from units queue one));
+      known = all_taken (λ (q : SegmentView). AreAlreadyKnown units now q.records) i own v lt there
+          (All-weaker (λ (q : SegmentView). AreAlreadyKnown units queue q.records) (λ (q : SegmentView). AreAlreadyKnown units now q.records)
+          (λ q h. still_known units queue one now q.records is h) (take i own) so_far.known)
+          (known_here units v.file v.slot v.records queue now is);
+    }

@@ -14,7 +14,7 @@ use Rattle.ps_linkinfo.specs.declared.record.Body.TheVariants.{UnitRef, PublRef,
 use Rattle.ps_linkinfo.specs.declared.record.LinkRecord.{LinkRecord as Record}
 use Rattle.ps_codefile.specs.Roles.{needs_linking}
 use Rattle.ps_resolve.specs.Sources.{file_at}
-use Rattle.ps_resolve.specs.Views.{IsPlaced, IsRead, IsSound, IsLike, AreAlike, HasRecordsAt}
+use Rattle.ps_resolve.specs.Views.{ArePlacedIn, IsPlaced, IsRead, IsSound, IsLike, AreAlike, HasRecordsAt}
 use Rattle.ps_resolve.specs.Operands.{edit_of, operands, refs_fault}
 use Rattle.ps_resolve.specs.References.{Known, HasTarget, HaveTargets, target_in, target_of, words_taken, records_fault, records_edits}
 use Rattle.ps_resolve.specs.declared.references.Target.{Target}
@@ -39,6 +39,12 @@ read_alike order host libs segs all = λ i d l. λ j e m. like_by order host lib
 
 pub all_sound : (order : Order) (host : List ℕ) (libs : List (List ℕ)) (segs : List SegmentView) → All (IsRead order host libs) segs → All (IsSound order) segs
 all_sound order host libs segs all = λ i d lt. (all i d lt).sound
+
+-- the link information of those from a file, by its number, is there
+pub placed_in : (order : Order) (host : List ℕ) (libs : List (List ℕ)) (k : ℕ) (segs : List SegmentView) → All (IsRead order host libs) segs → ArePlacedIn order (file_at host libs k) k segs
+placed_in order host libs k segs all = λ i d lt. λ same linked.
+    let s = get_or segs i d in
+    subst (λ (n : ℕ). reading order (drop (512 * s.block) (file_at host libs n)) ≡ (s.records, None)) same ((all i d lt).placed linked)
 
 -- what holds of the records of each segment holds of those of one that is like them
 pub of_shared : (P : List Record → Type 0) (segs : List SegmentView) (s : SegmentView) (rs : List Record) → needs_linking s.role ≡ true → All (IsLike s) segs → All (λ q. P q.records) segs → HasRecordsAt segs s.file s.block rs → P s.records

@@ -15,9 +15,9 @@ use Rattle.ps_linkinfo.specs.RecordCounts.{is_unit_reference}
 use Rattle.ps_linkinfo.specs.declared.record.LinkRecord.{LinkRecord}
 use Rattle.ps_codefile.specs.Roles.{is_empty}
 use Rattle.ps_resolve.specs.Sources.{Segment, own_segment, own_segments, units_of}
-use Rattle.ps_resolve.specs.Faults.{is_role}
+use Rattle.ps_resolve.specs.Faults.{is_role, request_fault}
 pub use Rattle.ps_resolve.specs.Requests.{is_missing, as_added}
-use Rattle.ps_resolve.specs.Requests.{request_fault, requested_segment}
+use Rattle.ps_resolve.specs.Requests.{requested_segment}
 use Rattle.ps_resolve.specs.declared.reading.request.Request.{Request}
 use Rattle.ps_resolve.specs.declared.reading.request.Requester.TheVariants.{Record}
 use Rattle.ps_resolve.specs.declared.reading.added.UnitReference.{UnitReference}

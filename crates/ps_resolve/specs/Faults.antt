@@ -16,11 +16,14 @@ use Rattle.ps_codefile.specs.Procedures.{table_of, tables_fault, is_reserved}
 use Rattle.ps_linkinfo.specs.RecordCounts.{next_of}
 use Rattle.ps_resolve.specs.Privates.{owner_of, first_private_fault, private_words, total_words}
 use Rattle.ps_codefile.specs.declared.entry.Role.{Role}
+use Rattle.ps_codefile.specs.declared.entry.Role.TheVariants.{Wanted}
 use Rattle.ps_codefile.specs.declared.entry.Entry.{Entry}
 use Rattle.ps_linkinfo.specs.Records.{reading}
 use Rattle.ps_resolve.specs.Searches.{first_of, fault_if}
-use Rattle.ps_codefile.specs.Roles.{needs_linking, is_host, is_unit, is_wanted}
-use Rattle.ps_resolve.specs.Sources.{Segment, source_of, file_at, is_named, chosen_library, library_file, host_of, host_records}
+use Rattle.ps_codefile.specs.Roles.{needs_linking, is_host, is_unit}
+use Rattle.ps_resolve.specs.Sources.{Segment, source_of, unit_source, file_at, is_named, chosen_library, library_file, host_of, host_records}
+use Rattle.ps_resolve.specs.Requests.{is_missing, missing_at, request_by_slot}
+use Rattle.ps_resolve.specs.declared.reading.request.Request.{Request}
 use Rattle.ps_resolve.specs.Symbols.{first_duplicate}
 use Rattle.ps_resolve.specs.References.{Known, records_fault}
 use Rattle.ps_resolve.specs.Linking.{known_of, grown_data_size}
@@ -67,18 +70,9 @@ entries_reason order name lib =
     if list_any (λ i. is_named order name lib i && list_any (is_named order name lib) (range_with_len 0 i)) slots then Some reason.DoubledUnit
     else option_and_then (λ i. let kind = (entry_at order lib i).kind in fault_if (not (kind == 3)) (reason.NotAUnit kind)) (find (is_named order name lib) slots)
 
--- the fault of a wanted unit: no library has its name, or the library's entries of it are refused
-abbrev pub unit_fault : Order → List ℕ → List (List ℕ) → ℕ → Option Fault
-unit_fault order name libs slot =
-    option_map_or (λ lib. option_map (in_slot (library_file lib.0) slot) (entries_reason order name lib.1)) (chosen_library order name libs) (Some (in_slot 0 slot reason.MissingUnit))
-
 -- the first fault of the chosen library's entries of a name, where there is such a library
 abbrev pub entry_fault : Order → List ℕ → List (List ℕ) → ℕ → Option Fault
 entry_fault order name libs slot = option_and_then (λ lib. option_map (in_slot (library_file lib.0) slot) (entries_reason order name lib.1)) (chosen_library order name libs)
-
--- the fault of a wanted unit, if the slot wants one
-abbrev pub wanted_fault : Order → List ℕ → List (List ℕ) → ℕ → Role → Option Fault
-wanted_fault order host libs slot role = if is_wanted role then unit_fault order (entry_at order host slot).name libs slot else None
 
 -- the fault of link information, with the index of the record that cannot be read
 abbrev pub information_fault : Order → List ℕ → Entry → ℕ → ℕ → Option Fault
@@ -95,10 +89,22 @@ code_fault order host libs slot role at =
       | Ok code ↦ if needs_linking role then option_or (option_map (in_slot at.0 slot) (tables_fault order code (is_host role))) (information_fault order file e at.0 slot) else None
     ]
 
--- the first fault of a slot of the host: of its wanted unit, or of its code, tables and records
+-- the first fault of a request: no library has its name; the entries of the library that has it;
+-- then the code, its tables and its records
+abbrev pub request_fault : Order → List ℕ → List (List ℕ) → Request → Option Fault
+request_fault order host libs r =
+    if is_missing order libs r.name then Some (missing_at r.slot r.requester)
+    else option_or (entry_fault order r.name libs r.slot) (option_and_then (code_fault order host libs r.slot Wanted) (unit_source order r.name libs))
+
+-- the first fault of a slot of the host of this role: of its request, where it wants a unit, or of
+-- its code, tables and records
+abbrev pub role_fault : Order → List ℕ → List (List ℕ) → ℕ → Role → Option Fault
+role_fault order host libs slot Wanted = request_fault order host libs (request_by_slot order host slot)
+role_fault order host libs slot role = option_and_then (code_fault order host libs slot role) (source_of order host libs slot role)
+
+-- that of its own role
 abbrev pub source_fault : Order → List ℕ → List (List ℕ) → ℕ → Option Fault
-source_fault order host libs slot =
-    option_and_then (λ role. option_or (wanted_fault order host libs slot role) (option_and_then (code_fault order host libs slot role) (source_of order host libs slot role))) (result_ok (role_of (entry_at order host slot)))
+source_fault order host libs slot = option_and_then (role_fault order host libs slot) (result_ok (role_of (entry_at order host slot)))
 
 -- the first fault of the sources of all slots, by slot
 unfoldable pub sources_fault : Order → List ℕ → List (List ℕ) → Option Fault

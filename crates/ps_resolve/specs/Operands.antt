@@ -25,7 +25,7 @@ value_of code (Base base) x = displacement_at code x + base
 -- the edit of the operand at x that becomes this
 abbrev pub edit_of : List ℕ → Target → ℕ → Edit
 edit_of code (Slot slot) x = Byte slot x
-edit_of code (Base base) x = Big (displacement_at code x + base) x
+edit_of code (Base base) x = Big (value_of code (Base base) x) x
 
 -- an operand: its place and its width
 abbrev pub is_in : ℕ → ℕ × ℕ → Bool

@@ -10,14 +10,13 @@ use Rattle.ps_words.specs.declared.fault.Reason.{Reason}
 use Rattle.ps_codefile.specs.Dictionary.{slots, entry_at, opened_alone, role_of}
 use Rattle.ps_codefile.specs.declared.entry.Role.{Role}
 use Rattle.ps_codefile.specs.declared.entry.Role.TheVariants.{Empty, Wanted, Plain, Host, Unit}
-use Rattle.ps_resolve.specs.Requests.{is_missing}
+use Rattle.ps_resolve.specs.Requests.{is_missing, request_by_slot}
 use Rattle.ps_resolve.specs.Sources.{Segment, own_segment, opened_files, unit_source, units_of}
 use Rattle.ps_resolve.specs.Faults.{slots_fault, no_host_fault, libraries_fault, source_fault, sources_fault}
 use Rattle.ps_resolve.specs.Added.{RoundsOutcome, all_unit_references, empty_slots, requested_from, request_of, rounds_of}
 use Rattle.ps_resolve.specs.Views.{SegmentView, IsRead, segment_of, segments_in_slots}
 use Rattle.ps_resolve.specs.declared.reading.added.UnitReference.{UnitReference}
 use Rattle.ps_resolve.specs.declared.reading.request.Request.{Request}
-use Rattle.ps_resolve.specs.declared.reading.request.Requester.TheVariants.{Slot}
 
 -- the own segment of a slot, where its source has no fault
 abbrev pub read_segment : Order → List ℕ → List (List ℕ) → ℕ → Option Segment
@@ -63,7 +62,7 @@ slot_reading order host libs slot =
 
 -- the request of a slot that wants a unit
 abbrev pub wanted_request : Order → List ℕ → ℕ → Role → Option Request
-wanted_request order host slot Wanted = Some (record { name = (entry_at order host slot).name; slot = slot; requester = Slot })
+wanted_request order host slot Wanted = Some (request_by_slot order host slot)
 wanted_request order host slot Empty = None
 wanted_request order host slot Plain = None
 wanted_request order host slot Host = None

@@ -1,15 +1,14 @@
--- Requests for a unit: who requests it, the slot that it takes, its first fault, and its segment.
+-- Requests for a unit: who requests it, the slot that it takes, when it is missing, and its segment.
 -- Source: this project's profile.
-use Rattle.std.specs.Prelude.{ℕ, ◌||◌, if◌then◌else◌, List, Bool, true, Option, Some, is_none, option_and_then}
-use Rattle.std.specs.Option.{option_map, option_or}
+use Rattle.std.specs.Prelude.{ℕ, ◌||◌, List, Bool, true, Option, is_none, option_and_then}
+use Rattle.std.specs.Option.{option_map}
 use Rattle.ps_words.specs.FaultPlaces.{in_record, in_slot}
 use Rattle.ps_words.specs.declared.order.Order.{Order}
 use Rattle.ps_words.specs.declared.fault.Reason.TheVariants as reason
 use Rattle.ps_words.specs.declared.fault.Fault.{Fault}
-use Rattle.ps_codefile.specs.Dictionary.{is_nameless}
+use Rattle.ps_codefile.specs.Dictionary.{entry_at, is_nameless}
 use Rattle.ps_codefile.specs.declared.entry.Role.TheVariants.{Wanted}
 use Rattle.ps_resolve.specs.Sources.{Segment, segment_from, unit_source, chosen_library}
-use Rattle.ps_resolve.specs.Faults.{entry_fault, code_fault}
 use Rattle.ps_resolve.specs.declared.reading.request.Request.{Request}
 use Rattle.ps_resolve.specs.declared.reading.request.Requester.{Requester}
 use Rattle.ps_resolve.specs.declared.reading.request.Requester.TheVariants.{Slot, Record}
@@ -23,12 +22,9 @@ abbrev pub missing_at : ℕ → Requester → Fault
 missing_at slot Slot = in_slot 0 slot reason.MissingUnit
 missing_at slot (Record place) = in_record place.file place.slot place.rec reason.MissingUnit
 
--- the first fault of a request: no library has its name; the entries of the library that has it;
--- then the code, its tables and its records
-abbrev pub request_fault : Order → List ℕ → List (List ℕ) → Request → Option Fault
-request_fault order host libs r =
-    if is_missing order libs r.name then Some (missing_at r.slot r.requester)
-    else option_or (entry_fault order r.name libs r.slot) (option_and_then (code_fault order host libs r.slot Wanted) (unit_source order r.name libs))
+-- the request of a slot of the host, for the unit of its name
+abbrev pub request_by_slot : Order → List ℕ → ℕ → Request
+request_by_slot order host slot = record { name = (entry_at order host slot).name; slot = slot; requester = Slot }
 
 -- the segment, marked as added
 abbrev pub as_added : Segment → Segment

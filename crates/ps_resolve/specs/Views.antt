@@ -5,8 +5,7 @@ use Rattle.std.specs.Prelude.{◌≡◌, ◌≤◌, ◌*◌, ◌==◌, if◌then
 use Rattle.std.specs.List.{find, filter_map, list_any, Contains}
 use Rattle.std.specs.Option.{option_or}
 use Rattle.ps_words.specs.declared.order.Order.{Order}
-use Rattle.ps_codefile.specs.Dictionary.{slots, block_len, information_of}
-use Rattle.ps_codefile.specs.declared.entry.Entry.{Entry}
+use Rattle.ps_codefile.specs.Dictionary.{slots, block_len}
 use Rattle.ps_codefile.specs.declared.entry.Role.{Role}
 use Rattle.ps_linkinfo.specs.Records.{reading}
 use Rattle.ps_linkinfo.specs.declared.record.LinkRecord.{LinkRecord}
@@ -49,14 +48,14 @@ abbrev pub as_requested_view : Requester → SegmentView → SegmentView
 as_requested_view Slot s = s
 as_requested_view (Record place) s = record s { added = true }
 
--- the records of an entry's link information, which has no fault
-abbrev pub AreRecordsOf : Order → List ℕ → Entry → List LinkRecord → Type 0
-AreRecordsOf order file e rs = reading order (information_of file e) ≡ (rs, None)
-
 -- the link information of the segment, where its references are resolved, begins in its block of
 -- its file, and its records are all that are there
 abbrev pub IsPlaced : Order → List ℕ → List (List ℕ) → SegmentView → Type 0
 IsPlaced order host libs s = needs_linking s.role ≡ true → reading order (drop (block_len * s.block) (file_at host libs s.file)) ≡ (s.records, None)
+
+-- so it is with those of the segments that are from this file, which has this number
+abbrev pub ArePlacedIn : Order → List ℕ → ℕ → List SegmentView → Type 0
+ArePlacedIn order file k segs = All (λ s. s.file ≡ k → needs_linking s.role ≡ true → reading order (drop (block_len * s.block) file) ≡ (s.records, None)) segs
 
 -- where the link information of two linked segments begins in one block of one file, they have the
 -- same records

@@ -7,7 +7,7 @@ ghost use Rattle.ps_resolve.specs.Stops.{IsStop};
 ghost use Rattle.ps_resolve.specs.Builders.{HaveDistinctPrivates, HaveRoom, StopsPrivates, asked_of, all_asked, AreByRecord, words_of_all};
 ghost use Rattle.ps_resolve.specs.Views.{segment_of};
 
-use crate::linkage::{Linkage, RecordPlace, Stop};
+use crate::linkage::{Linkage, SegmentPlace, Stop};
 use crate::namesakes::first_duplicate_private;
 use crate::reading::segment::Segment;
 use ps_linkinfo::{Body, LinkInformation};
@@ -50,18 +50,18 @@ fn words_of_private(body: &Body) -> Option<u16>
 /// Allots the privates of a segment from `next` on, and returns the next free offset.
 pub(crate) fn allot<A: Allocator + Copy>(
     alloc: A,
-    file: usize,
-    slot: u8,
+    place: SegmentPlace,
     records: &LinkInformation,
     next: u16,
     privates: &mut Vec<Private, A>,
 ) -> Result<u16, Stop>
     ensures privates { IfOk result (λ _. privates.new.items
-        ≡ privates.old.items ++ allotted_privates slot 0 next records.now) }
+        ≡ privates.old.items ++ allotted_privates place.slot 0 next records.now) }
     ensures end { IfOk result (λ end. end ≡ next + private_words records.now) }
     ensures once { IfOk result (λ _. private_fault 0 next [] records.now ≡ None) }
-    ensures stop { IfErr result (IsStop (0 < length (allotted_privates slot 0 next records.now))
-        (unallotted_fault file slot next records.now)) }
+    ensures stop { IfErr result (IsStop
+        (0 < length (allotted_privates place.slot 0 next records.now))
+        (unallotted_fault place.file place.slot next records.now)) }
 {
     if records.privates() == 0 {
         return Ok(next);
@@ -71,19 +71,18 @@ pub(crate) fn allot<A: Allocator + Copy>(
     let mut free = next;
     for (rec, record) in records.records() {
         if let Some(words) = words_of_private(&record.body) {
-            let place = RecordPlace { file, slot, rec };
             if duplicate == Some(rec) {
-                return Err(place.stop_for(Reason::DoubledPrivate));
+                return Err(place.record(rec).stop_for(Reason::DoubledPrivate));
             }
             if free as usize + words as usize > MAX_NEXT_FREE {
-                return Err(place.stop_for(Reason::NoRoom));
+                return Err(place.record(rec).stop_for(Reason::NoRoom));
             }
             privates.push(Private {
                 rec,
                 offset: free,
                 words,
                 name: record.name,
-                slot,
+                slot: place.slot,
             })?;
             free += words;
         }
@@ -117,13 +116,10 @@ pub(crate) trait AsksForPrivates {
     /// Its slot, the file that it comes from, and its records.
     ghost owner: { Self → Owner };
 
-    /// The file that it comes from.
-    fn file(&self) -> usize
-        ensures { result ≡ (owner self.now).file };
-
-    /// Its slot in the host.
-    fn slot(&self) -> u8
-        ensures { result ≡ (owner self.now).slot };
+    /// Where it is.
+    fn place(&self) -> SegmentPlace
+        ensures file { result.file ≡ (owner self.now).file }
+        ensures slot { result.slot ≡ (owner self.now).slot };
 
     /// Its link information; `None` where it is linked already, so that it has no records.
     fn records(&self) -> Option<LinkInformation<'_>>
@@ -133,12 +129,8 @@ pub(crate) trait AsksForPrivates {
 impl<'a> AsksForPrivates for Linkage<'a> {
     ghost owner = { owner_of_linkage };
 
-    fn file(&self) -> usize {
-        self.file
-    }
-
-    fn slot(&self) -> u8 {
-        self.slot
+    fn place(&self) -> SegmentPlace {
+        self.place()
     }
 
     fn records(&self) -> Option<LinkInformation<'_>> {
@@ -149,12 +141,8 @@ impl<'a> AsksForPrivates for Linkage<'a> {
 impl<'a> AsksForPrivates for Segment<'a> {
     ghost owner = { λ s. owner_of (segment_of s) };
 
-    fn file(&self) -> usize {
-        self.file
-    }
-
-    fn slot(&self) -> u8 {
-        self.slot
+    fn place(&self) -> SegmentPlace {
+        self.place()
     }
 
     fn records(&self) -> Option<LinkInformation<'_>> {
@@ -181,8 +169,7 @@ fn allot_all<A: Allocator + Copy, S: AsksForPrivates>(
     let mut free = next;
     for segment in segments {
         if let Some(records) = segment.records() {
-            let (file, slot) = (segment.file(), segment.slot());
-            free = allot(alloc, file, slot, &records, free, &mut privates)?;
+            free = allot(alloc, segment.place(), &records, free, &mut privates)?;
         }
     }
     Ok((privates, free))

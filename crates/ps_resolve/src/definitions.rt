@@ -6,7 +6,7 @@ ghost use Rattle.ps_resolve.specs.Symbols.{definitions, definition_of, def_in, f
 ghost use Rattle.ps_resolve.specs.Stops.{IsStop, duplicate_fault};
 ghost use Rattle.ps_resolve.specs.Builders.{HaveNoNamesakes, StopsDefinitions};
 
-use crate::linkage::{Linkage, RecordPlace, Stop};
+use crate::linkage::{Linkage, SegmentPlace, Stop};
 use crate::name_hasher::NameHasher;
 use indexmap::IndexMap;
 use ps_linkinfo::{Body, LinkInformation, LinkRecord};
@@ -75,15 +75,14 @@ fn def_of(entry: &LinkRecord) -> Option<Def>
 /// its exact size.
 fn table_of<A: Allocator + Copy>(
     alloc: A,
-    file: usize,
-    slot: u8,
+    place: SegmentPlace,
     records: &LinkInformation,
 ) -> Result<IndexMap<Name, Def, NameHasher, A>, Stop>
     ensures entries { IfOk result (λ m. m.entries ≡ definitions records.now) }
     ensures once { IfOk result (λ _. first_duplicate records.now ≡ None) }
     ensures keyed { IfOk result (λ m. hasher_of m ≡ digest_of records.now) }
     ensures stop { IfErr result (IsStop (0 < length (definitions records.now))
-        (duplicate_fault file slot records.now)) }
+        (duplicate_fault place.file place.slot records.now)) }
 {
     let count = records.definitions();
     let mut by_name = IndexMap::with_capacity_and_hasher(alloc, count, NameHasher::of(records))?;
@@ -93,8 +92,7 @@ fn table_of<A: Allocator + Copy>(
     for (rec, record) in records.records() {
         if let Some(def) = def_of(&record) {
             if by_name.insert(record.name, def)?.is_some() {
-                let place = RecordPlace { file, slot, rec };
-                return Err(place.stop_for(Reason::DoubledDefinition));
+                return Err(place.record(rec).stop_for(Reason::DoubledDefinition));
             }
         }
     }
@@ -127,22 +125,21 @@ impl<A: Allocator + Copy> Definitions<A> {
             (reading host.now.order host.now.bytes.now).0)) }
     {
         let records = LinkInformation::up_to_fault(host.order, host.bytes);
-        Definitions::of_records(alloc, host.file, host.slot, &records)
+        Definitions::of_records(alloc, host.place(), &records)
     }
 
     /// The definitions of the records of a segment, for `build`.
     pub(crate) fn of_records(
         alloc: A,
-        file: usize,
-        slot: u8,
+        place: SegmentPlace,
         records: &LinkInformation,
     ) -> Result<Self, Stop>
         ensures found { IfOk result (λ d. d ≡ definitions records.now) }
         ensures once { IfOk result (λ _. first_duplicate records.now ≡ None) }
         ensures stop { IfErr result (IsStop (0 < length (definitions records.now))
-            (duplicate_fault file slot records.now)) }
+            (duplicate_fault place.file place.slot records.now)) }
     {
-        let by_name = table_of(alloc, file, slot, records)?;
+        let by_name = table_of(alloc, place, records)?;
         Ok(Definitions { by_name })
     }
 

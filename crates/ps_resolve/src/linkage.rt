@@ -19,6 +19,18 @@ pub struct Linkage<'a> {
     pub bytes: &'a [u8],
 }
 
+impl<'a> Linkage<'a> {
+    /// Where its segment is.
+    pub(crate) fn place(&self) -> SegmentPlace
+        ensures { result ≡ record { file = self.now.file; slot = self.now.slot } }
+    {
+        SegmentPlace {
+            file: self.file,
+            slot: self.slot,
+        }
+    }
+}
+
 /// Where a segment is.
 #[derive(Clone, Copy)]
 pub(crate) struct SegmentPlace {

@@ -12,7 +12,7 @@ use crate::allotment::Allotment;
 use crate::definitions::Definitions;
 use crate::edits::data_size::grown_data_size;
 use crate::edits::segment_edits;
-use crate::linkage::Stop;
+use crate::linkage::{SegmentPlace, Stop};
 use crate::plan::{Plan, Source};
 use crate::reading::Segments;
 use crate::reading::segment::Segment;
@@ -91,8 +91,11 @@ pub(crate) fn link_segments<'a, A: Allocator + Copy>(
     let order = segments.order;
     let all = segments.items.as_slice();
     let own = &segments.own;
-    let slot = own.segment.place().slot;
-    let definitions = Definitions::of_records(alloc, HOST_FILE, slot, &own.records)?;
+    let place = SegmentPlace {
+        file: HOST_FILE,
+        slot: own.segment.slot(),
+    };
+    let definitions = Definitions::of_records(alloc, place, &own.records)?;
     let base = own.records.next();
     let allotment = Allotment::of_segments(alloc, base, all)?;
     let size = grown_data_size(order, own, allotment.words())?;

@@ -30,14 +30,7 @@ fn place_unit<A: Allocator + Copy>(
     ensures stop { IfErr result (IsStop ⊤ (placing_fault_spec order (segment_of unit.now))) }
 {
     let mut privates = Vec::new(alloc);
-    allot(
-        alloc,
-        unit.file(),
-        unit.slot(),
-        records,
-        LONE_BASE,
-        &mut privates,
-    )?;
+    allot(alloc, unit.place(), records, LONE_BASE, &mut privates)?;
     let link = Linking {
         order,
         names: &Names { link: None },

@@ -27,7 +27,7 @@ use crate::linkage::EntryPlace;
 use crate::reading::added::{UnitReference, add_units, empty_slots, requested_by};
 use crate::reading::host::{HostSegment, host_of};
 use crate::reading::libraries::libraries_fault;
-use crate::reading::request::{Request, Requester, unit_named};
+use crate::reading::request::{Request, unit_named};
 use crate::reading::segment::Segment;
 use crate::reading::slots::{
     HOST_FILE, HostSlots, is_empty, library_file, no_host_fault, slots_fault,
@@ -283,17 +283,9 @@ fn own_request(host: &HostSlots, slot: u8) -> Option<Request>
     ensures { result ≡ option_and_then (wanted_request host.now.order host.now.file slot)
         (result_ok (role_of (entry_at host.now.order host.now.file slot))) }
 {
-    let name = host.entry(slot).name;
     match host.role(slot) {
-        Err(_) => None,
-        Ok(role) => match role {
-            Role::Empty | Role::Plain | Role::Host | Role::Unit => None,
-            Role::Wanted => Some(Request {
-                name,
-                slot,
-                requester: Requester::Slot,
-            }),
-        },
+        Ok(Role::Wanted) => Some(Request::of_slot(host, slot)),
+        Ok(Role::Empty | Role::Plain | Role::Host | Role::Unit) | Err(_) => None,
     }
 }
 

@@ -3,6 +3,7 @@
 use Rattle.std.specs.Prelude.{◌≡◌, ◌≢◌, ◌⊎◌, ℕ, ◌+◌, ◌<◌, ◌≤◌, List, [], ◌∷◌, length, slice_get, true, Some}
 use Rattle.std.specs.Option.{option_map_or}
 use Rattle.ps_codefile.specs.Procedures.{is_reserved}
+use Rattle.ps_linkinfo.specs.Operands.{operand_width}
 use Rattle.ps_linkinfo.specs.Records.{refs_of}
 use Rattle.ps_linkinfo.specs.declared.record.Body.{Body}
 use Rattle.ps_linkinfo.specs.declared.record.Body.TheVariants.{UnitRef, PublRef, PrivRef, PublDef, ConstDef, Eof}
@@ -34,15 +35,6 @@ abbrev pub RecordHas : List Segment → List ℕ → Body → Reason → Type 0
 RecordHas segs name (PublRef refs) reason.MissingDefinition = SomeItem (definitions (host_records segs)) (λ k d. d.0 ≡ name) → ⊥
 RecordHas segs name (PublRef refs) reason.IllKind = (d : Def) × Defines (definitions (host_records segs)) name d × (d.kind ≡ Constant)
 RecordHas segs name body other = ⊥
-
--- how many bytes an operand has
-abbrev pub operand_width : Body → ℕ
-operand_width (UnitRef refs) = 1
-operand_width (PublRef refs) = 2
-operand_width (PrivRef words refs) = 2
-operand_width (PublDef value) = 0
-operand_width (ConstDef value) = 0
-operand_width (Eof next) = 0
 
 -- the value of a public definition; 0 where there is none
 abbrev pub definition_value : List Segment → List ℕ → ℕ

@@ -5,9 +5,9 @@ ghost use Rattle.std.specs.Str.{bytes_eq};
 ghost use Rattle.arrayvec.specs.ArrayVec.{array_vec_len};
 ghost use Rattle.ps_codefile.specs.Roles.{is_empty as is_empty_role};
 ghost use Rattle.ps_resolve.specs.Sources.{opened};
-ghost use Rattle.ps_resolve.specs.Added.{AreAlreadyKnown, unit_references, all_unit_references, is_already_known as is_already_known_spec, requested_from, request_of, empty_slots as empty_slots_spec, unplaced_fault, rounds_from};
+ghost use Rattle.ps_resolve.specs.Added.{unit_references, all_unit_references, is_already_known as is_already_known_spec, requested_from, request_of, empty_slots as empty_slots_spec, unplaced_fault, rounds_from};
 ghost use Rattle.ps_resolve.specs.Faults.{is_role};
-ghost use Rattle.ps_resolve.specs.Views.{segment_of, IsRead, IsLike, AreAlike};
+ghost use Rattle.ps_resolve.specs.Views.{segment_of, IsRead, AreAlike};
 
 use crate::linkage::{RecordPlace, SegmentPlace};
 use crate::reading::request::{Request, Requester, read_unit, unit_named};
@@ -185,27 +185,8 @@ fn enqueue_segment(units: &UnitSlots, queue: &mut ArrayVec<UnitReference, 10>, s
     }
 }
 
-/// Appends the unit names that the records of a segment request to the queue. Records that an
-/// earlier segment has too are not read again: their names are known already.
-fn enqueue_unshared<'a>(
-    units: &UnitSlots,
-    queue: &mut ArrayVec<UnitReference, 10>,
-    earlier: &[Segment<'a>],
-    segment: &Segment<'a>,
-)
-    requires few { length queue.old.items ≤ 10 }
-    requires alike { All (IsLike segment.now) earlier.now }
-    requires known { All (λ s. AreAlreadyKnown units.now queue.old.items s.records) earlier.now }
-    ensures { queue.new.items ≡ take 10 (requested_from units.now queue.old.items
-        (unit_references segment.now.file segment.now.slot 0 segment.now.records)) }
-{
-    if segment.shares_with(earlier) {
-        return;
-    }
-    enqueue_segment(units, queue, segment);
-}
-
-/// The queue of the unit names that the host's own segments request.
+/// The queue of the unit names that the host's own segments request. Records that an earlier segment
+/// has too are not read again: their names are known already.
 pub(crate) fn requested_by<'a>(
     units: &UnitSlots,
     own: &[Segment<'a>],
@@ -216,7 +197,10 @@ pub(crate) fn requested_by<'a>(
 {
     let mut queue: ArrayVec<UnitReference, MAX_REQUESTED> = ArrayVec::new();
     for (index, segment) in own.iter().enumerate() {
-        enqueue_unshared(units, &mut queue, &own[..index], segment);
+        if segment.shares_with(&own[..index]) {
+            continue;
+        }
+        enqueue_segment(units, &mut queue, segment);
     }
     queue
 }

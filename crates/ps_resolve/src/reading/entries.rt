@@ -8,13 +8,13 @@ ghost use Rattle.ps_linkinfo.specs.Records.{reading};
 ghost use Rattle.ps_codefile.specs.Roles.{needs_linking as needs_linking_spec, is_host as is_host_spec};
 ghost use Rattle.ps_resolve.specs.Sources.{file_at, segment_from, records_of};
 ghost use Rattle.ps_resolve.specs.Faults.{code_fault, information_fault};
-ghost use Rattle.ps_resolve.specs.Views.{segment_of, IsPlaced, IsRead, AreRecordsOf, IsSound};
+ghost use Rattle.ps_resolve.specs.Views.{segment_of, ArePlacedIn, IsPlaced, IsSound};
 
 use crate::linkage::SegmentPlace;
 use crate::reading::segment::{Resolvable, Segment, records_at};
 use ps_codefile::{Dict, ProcedureDictionary, Role};
 use ps_linkinfo::LinkInformation;
-use ps_words::{Fault, Name, Order, blocks_of};
+use ps_words::{Fault, Name, blocks_of};
 
 impl<'a> Default for Segment<'a> {
     fn default() -> Self {
@@ -31,23 +31,6 @@ impl<'a> Default for Segment<'a> {
     }
 }
 
-/// The link information of a linked segment, or its first fault.
-fn read_information<'a>(
-    order: Order,
-    information: &'a [u8],
-    place: SegmentPlace,
-) -> Result<LinkInformation<'a>, Fault>
-    ensures fault { result_err result ≡ option_map
-        (in_record place.file place.slot (length (reading order information.now).0))
-        (reading order information.now).1 }
-    ensures records { IfOk result (λ records. records ≡ (reading order information.now).0) }
-{
-    match LinkInformation::read(order, information) {
-        Err(fault) => Err(Fault::in_record(place.file, place.slot, fault.rec, fault.reason)),
-        Ok(records) => Ok(records),
-    }
-}
-
 /// The block after the code of an entry, in which its link information begins.
 fn block_behind(from: &Dict, index: u8) -> usize
     requires { index < 16 }
@@ -58,37 +41,44 @@ fn block_behind(from: &Dict, index: u8) -> usize
     entry.address as usize + blocks_of(entry.length as usize)
 }
 
-/// The link information of an entry of a file, where one of the segments that were read has it.
-pub(crate) fn known_records<'a>(
-    known: &[Segment<'a>],
+/// The link information of an entry, or its first fault. What an earlier segment has is not read
+/// again.
+fn read_information<'a>(
     from: &Dict<'a>,
-    file: usize,
     index: u8,
-) -> Option<LinkInformation<'a>>
-    requires { index < 16 }
-    ensures { (host : List ℕ) (libs : List (List ℕ)) → file_at host libs file ≡ from.now.file
-        → All (IsRead from.now.order host libs) known.now
-        → IfSome result (AreRecordsOf from.now.order from.now.file
-        (entry_at from.now.order from.now.file index)) }
+    place: SegmentPlace,
+    earlier: &[Segment<'a>],
+) -> Result<LinkInformation<'a>, Fault>
+    requires in_range { index < 16 }
+    requires placed { ArePlacedIn from.now.order from.now.file place.file earlier.now }
+    ensures fault { result_err result ≡ information_fault from.now.order from.now.file
+        (entry_at from.now.order from.now.file index) place.file place.slot }
+    ensures records { IfOk result (λ records. records ≡ (reading from.now.order
+        (information_of from.now.file (entry_at from.now.order from.now.file index))).0) }
 {
-    records_at(known, file, block_behind(from, index))
+    if let Some(records) = records_at(earlier, place.file, block_behind(from, index)) {
+        return Ok(records);
+    }
+    match LinkInformation::read(from.order(), from.after(index)) {
+        Err(fault) => Err(Fault::in_record(place.file, place.slot, fault.rec, fault.reason)),
+        Ok(records) => Ok(records),
+    }
 }
 
 /// What only a segment has whose references are resolved: its procedure tables, which are read
 /// first, and its link information; or the first fault of either. Neither is looked at where the
-/// segment is linked already, and link information that is known is not read again.
+/// segment is linked already.
 fn read_resolvable<'a>(
     from: &Dict<'a>,
     index: u8,
     code: &'a [u8],
     role: Role,
     place: SegmentPlace,
-    known: Option<LinkInformation<'a>>,
+    earlier: &[Segment<'a>],
 ) -> Result<Option<Resolvable<'a>>, Fault>
     requires in_range { index < 16 }
     requires large { needs_linking_spec role ≡ true → 2 ≤ length code.now }
-    requires known { IfSome known (AreRecordsOf from.now.order from.now.file
-        (entry_at from.now.order from.now.file index)) }
+    requires placed { ArePlacedIn from.now.order from.now.file place.file earlier.now }
     ensures fault { result_err result ≡ (if needs_linking_spec role
         then option_or (option_map (in_slot_spec place.file place.slot)
         (tables_fault_spec from.now.order code.now (is_host_spec role)))
@@ -112,10 +102,7 @@ fn read_resolvable<'a>(
     match ProcedureDictionary::read(from.order(), code, role.is_host()) {
         Err(reason) => Err(Fault::in_slot(place.file, place.slot, reason)),
         Ok(procedures) => {
-            let records = match known {
-                Some(records) => records,
-                None => read_information(from.order(), from.after(index), place)?,
-            };
+            let records = read_information(from, index, place, earlier)?;
             Ok(Some(Resolvable {
                 procedures,
                 block: block_behind(from, index),
@@ -125,20 +112,19 @@ fn read_resolvable<'a>(
     }
 }
 
-/// The segment of a slot, whose code and link information are those of an entry of a file; `known`
-/// is that link information, where it was read already.
+/// The segment of a slot, whose code and link information are those of an entry of a file; the
+/// segments that were read before it are `earlier`.
 pub(crate) fn read_segment<'a>(
     place: SegmentPlace,
     name: Name,
     role: Role,
     from: &Dict<'a>,
     index: u8,
-    known: Option<LinkInformation<'a>>,
+    earlier: &[Segment<'a>],
 ) -> Result<Segment<'a>, Fault>
     requires slots { place.slot < 16 }
     requires in_range { index < 16 }
-    requires known { IfSome known (AreRecordsOf from.now.order from.now.file
-        (entry_at from.now.order from.now.file index)) }
+    requires placed { ArePlacedIn from.now.order from.now.file place.file earlier.now }
     requires kind { needs_linking_spec role ≡ true
         → kind_needs_linking (entry_at from.now.order from.now.file index).kind ≡ true }
     ensures fault { (host : List ℕ) (libs : List (List ℕ))
@@ -157,7 +143,7 @@ pub(crate) fn read_segment<'a>(
     match from.code(index) {
         Err(reason) => Err(Fault::in_slot(place.file, place.slot, reason)),
         Ok(code) => {
-            let resolvable = read_resolvable(from, index, code, role, place, known)?;
+            let resolvable = read_resolvable(from, index, code, role, place, earlier)?;
             Ok(Segment {
                 slot: place.slot,
                 name,

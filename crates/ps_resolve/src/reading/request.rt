@@ -3,11 +3,12 @@ ghost use Rattle.std.specs.List.{find};
 ghost use Rattle.std.specs.Result.{result_err};
 ghost use Rattle.ps_codefile.specs.Dictionary.{slots};
 ghost use Rattle.ps_resolve.specs.Sources.{is_named, chosen_library as chosen_library_spec, opened};
-ghost use Rattle.ps_resolve.specs.Requests.{is_missing, missing_at, request_fault, requested_segment};
+ghost use Rattle.ps_resolve.specs.Faults.{request_fault};
+ghost use Rattle.ps_resolve.specs.Requests.{is_missing, missing_at, request_by_slot, requested_segment};
 ghost use Rattle.ps_resolve.specs.Views.{segment_of, as_requested_view, IsRead};
 
 use crate::linkage::{RecordPlace, SegmentPlace};
-use crate::reading::entries::{known_records, read_segment};
+use crate::reading::entries::read_segment;
 use crate::reading::segment::Segment;
 use crate::reading::slots::{HOST_FILE, HostSlots, library_file};
 use crate::reading::units::{UnitSource, chosen_library, entries_reason};
@@ -37,6 +38,19 @@ pub struct Request {
 }
 
 impl Request {
+    /// The request of a slot of the host, for the unit of its name.
+    pub(crate) fn of_slot(host: &HostSlots, slot: u8) -> Request
+        requires { slot < 16 }
+        ensures { result ≡ request_by_slot host.now.order host.now.file slot }
+    {
+        let name = host.entry(slot).name;
+        Request {
+            name,
+            slot,
+            requester: Requester::Slot,
+        }
+    }
+
     /// No library has the unit.
     fn missing(&self) -> Fault
         ensures { result ≡ missing_at self.now.slot self.now.requester }
@@ -83,17 +97,17 @@ fn as_requested<'a>(segment: Segment<'a>, requester: Requester) -> Segment<'a>
     }
 }
 
-/// The segment of the unit that is requested, or the first fault of the request. `known` are
+/// The segment of the unit that is requested, or the first fault of the request. `earlier` are
 /// segments that were read before.
 pub(crate) fn read_unit<'a>(
     host: &HostSlots<'a>,
     libs: &'a [&'a [u8]],
     request: &Request,
-    known: &[Segment<'a>],
+    earlier: &[Segment<'a>],
 ) -> Result<Segment<'a>, Fault>
     requires slots { request.now.slot < 16 }
     requires read { All (IsRead host.now.order host.now.file (opened host.now.order libs.now))
-        known.now }
+        earlier.now }
     ensures fault { result_err result
         ≡ request_fault host.now.order host.now.file (opened host.now.order libs.now) request.now }
     ensures segment { IfOk result (λ s. requested_segment host.now.order host.now.file
@@ -111,14 +125,13 @@ pub(crate) fn read_unit<'a>(
                     file,
                     slot: request.slot,
                 };
-                let records = known_records(known, &unit.dict, file, unit.index);
                 let segment = read_segment(
                     place,
                     request.name,
                     Role::Wanted,
                     &unit.dict,
                     unit.index,
-                    records,
+                    earlier,
                 )?;
                 Ok(as_requested(segment, request.requester))
             }

@@ -8,8 +8,8 @@ ghost use Rattle.ps_resolve.specs.Readings.{read_segments};
 ghost use Rattle.ps_resolve.specs.Views.{segment_of, IsRead};
 
 use crate::linkage::SegmentPlace;
-use crate::reading::entries::{known_records, read_segment};
-use crate::reading::request::{Request, Requester, read_unit};
+use crate::reading::entries::read_segment;
+use crate::reading::request::{Request, read_unit};
 use crate::reading::segment::Segment;
 use crate::reading::slots::{HOST_FILE, HostSlots};
 use arrayvec::ArrayVec;
@@ -17,17 +17,17 @@ use ps_codefile::Role;
 use ps_codefile::dictionary_layout::SLOTS;
 use ps_words::Fault;
 
-/// The segment of a slot, or None where the slot is empty or has a kind that was refused. `known`
+/// The segment of a slot, or None where the slot is empty or has a kind that was refused. `earlier`
 /// are segments that were read before.
 pub(crate) fn read_slot<'a>(
     host: &HostSlots<'a>,
     libs: &'a [&'a [u8]],
     slot: u8,
-    known: &[Segment<'a>],
+    earlier: &[Segment<'a>],
 ) -> Result<Option<Segment<'a>>, Fault>
     requires slots { slot < 16 }
     requires read { All (IsRead host.now.order host.now.file (opened host.now.order libs.now))
-        known.now }
+        earlier.now }
     ensures fault { result_err result ≡ source_fault host.now.order host.now.file
         (opened host.now.order libs.now) slot }
     ensures segment { IfOk result (λ s. option_map segment_of s
@@ -35,7 +35,6 @@ pub(crate) fn read_slot<'a>(
     ensures read { IfOk result (λ s. IfSome s
         (IsRead host.now.order host.now.file (opened host.now.order libs.now))) }
 {
-    let name = host.entry(slot).name;
     match host.role(slot) {
         Err(_) => Ok(None),
         Ok(role) => match role {
@@ -45,17 +44,13 @@ pub(crate) fn read_slot<'a>(
                     file: HOST_FILE,
                     slot,
                 };
-                let records = known_records(known, host.dict(), HOST_FILE, slot);
-                let own = read_segment(place, name, role, host.dict(), slot, records)?;
+                let name = host.entry(slot).name;
+                let own = read_segment(place, name, role, host.dict(), slot, earlier)?;
                 Ok(Some(own))
             }
             Role::Wanted => {
-                let request = Request {
-                    name,
-                    slot,
-                    requester: Requester::Slot,
-                };
-                let wanted = read_unit(host, libs, &request, known)?;
+                let request = Request::of_slot(host, slot);
+                let wanted = read_unit(host, libs, &request, earlier)?;
                 Ok(Some(wanted))
             }
         },

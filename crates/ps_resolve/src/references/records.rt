@@ -1,6 +1,4 @@
-ghost use Rattle.std.specs.Prelude.{◌≡◌, ◌+◌, ◌++◌, List, OnOk, IfOk, IfErr, IsPermutation, [], None, true, ⊤, ◌==◌, ◌&&◌, ◌<◌, false};
-ghost use Rattle.ps_linkinfo.specs.RecordCounts.{privates_in, publics_in, references_in, units_in};
-ghost use Rattle.ps_linkinfo.specs.declared.record.LinkRecord.{LinkRecord as Record};
+ghost use Rattle.std.specs.Prelude.{◌≡◌, ◌+◌, ◌++◌, OnOk, IfOk, IfErr, IsPermutation, [], Some, None, true};
 ghost use Rattle.ps_codefile.specs.Roles.{needs_linking};
 ghost use Rattle.ps_resolve.specs.EditTables.{IsTableOf, edits_of};
 ghost use Rattle.ps_resolve.specs.Linkable.{IsNext};
@@ -9,7 +7,7 @@ ghost use Rattle.ps_resolve.specs.Faults.{segment_fault};
 ghost use Rattle.ps_resolve.specs.Privates.{private_words};
 ghost use Rattle.ps_resolve.specs.Stops.{IsStop};
 ghost use Rattle.ps_resolve.specs.TakenPlaces.{AreTaken};
-ghost use Rattle.ps_resolve.specs.Views.{segment_of, has_records_at, HasRecordsAt};
+ghost use Rattle.ps_resolve.specs.Views.{segment_of};
 
 use crate::definitions::DefKind;
 use crate::edit_table::EditTable;
@@ -58,41 +56,10 @@ pub(crate) fn words_taken(body: &Body) -> u16
     }
 }
 
-/// No record of a segment requests a unit, a public or a private variable, so none has a reference.
-fn asks_for_nothing(records: &LinkInformation) -> bool
-    ensures units { result ≡ true → units_in records.now ≡ 0 }
-    ensures publics { result ≡ true → publics_in records.now ≡ 0 }
-    ensures privates { result ≡ true → privates_in records.now ≡ 0 }
-    ensures some { result ≡ false
-        → 0 < units_in records.now + publics_in records.now + privates_in records.now }
-{
-    records.units() == 0 && records.publics() == 0 && records.privates() == 0
-}
-
-/// The segment has the records of an earlier one, so what they name is found, and none of them has
-/// a reference or requests a private.
-fn is_resolved<'a>(
-    earlier: &[Segment<'a>],
-    segment: &Segment<'a>,
-    records: &LinkInformation<'a>,
-) -> bool
-    requires { records.now ≡ segment.now.records }
-    ensures records { result ≡ true
-        → (records : List Record)
-        × HasRecordsAt earlier.now segment.now.file segment.now.block records }
-    ensures references { result ≡ true → references_in segment.now.records ≡ 0 }
-    ensures privates { result ≡ true → privates_in segment.now.records ≡ 0 }
-    ensures open { result ≡ false → (references_in segment.now.records == 0
-        && privates_in segment.now.records == 0 && needs_linking segment.now.role
-        && has_records_at segment.now.file segment.now.block earlier.now) ≡ false }
-{
-    records.references() == 0 && records.privates() == 0 && segment.shares_with(earlier)
-}
-
 /// Adds the edits of all records of a linked segment to `edits`, where the first of its privates
 /// has the offset `free`, or finds their first fault. Returns all edits, and the offset after its
-/// last private. Records that an earlier segment has too are not looked at again, where they change
-/// nothing.
+/// last private. No record is looked at where none requests a unit, a public or a private variable,
+/// and so none has a reference; nor where an earlier segment has them too and they change nothing.
 pub(crate) fn add_records<'a, A: Allocator + Copy>(
     link: &Linking<A>,
     earlier: &[Segment<'a>],
@@ -119,10 +86,10 @@ pub(crate) fn add_records<'a, A: Allocator + Copy>(
     ensures stop { IfErr result (IsStop ⊥
         (segment_fault link.now.order link.now.names.now free (segment_of segment.now))) }
 {
-    if asks_for_nothing(records) {
+    if records.units() == 0 && records.publics() == 0 && records.privates() == 0 {
         return Ok((edits, free));
     }
-    if is_resolved(earlier, segment, records) {
+    if records.references() == 0 && records.privates() == 0 && segment.shares_with(earlier) {
         return Ok((edits, free));
     }
     let mut found = ReferenceEdits { procedures, edits };

@@ -18,4 +18,4 @@ returns-in_err-free-clause-stop g c =
     stopped_in (owner v) rest (map owner ss) c.args.next c.loop-segment.free c.loop-segment.privates.items c.in_err-free.field-0.0
     (ap (λ (os : List Owner). c.loop-segment.privates.items ++ all_allotted c.loop-segment.free os) (sym split) ∙ c.loop-segment.invariant.privates)
     (ap (first_private_fault c.loop-segment.free) (sym split) ∙ c.loop-segment.invariant.first)
-    (rw (← c.file-file.ensures, ← c.slot-slot.ensures, ← c.in-Some.ensures) c.in_err-free.ensures.stop))
+    (rw (← c.place.ensures.file, ← c.place.ensures.slot, ← c.in-Some.ensures) c.in_err-free.ensures.stop))

@@ -57,7 +57,7 @@ returns-then-is_some-clause-stop g c =
     let r = c.in-Some.record in
     let step = one (Defines c.args.records.now old) c.loop-rec.rec-iterator c.next.new.self c.in-Some.rec r c.loop-rec.invariant.left c.in-Some.ensures.steps in
     let present = ap is_some (sym c.in_ok-insert.ensures.old) ∙ (sym c.is_some.ensures ∙ c.if-is_some.true) in
-    rw c.stop_for.ensures (ap (option_map (λ (rec : ℕ). in_record c.args.file c.args.slot rec reason.DoubledDefinition)) (sym step.2.first ∙ again_first c.in-Some.rec old r step.0 c.in-Some-def_of.def (sym c.def_of.ensures ∙ c.in-Some-def_of.is) present))
+    rw (c.stop_for.ensures, c.record.ensures) (ap (option_map (λ (rec : ℕ). in_record c.args.place.file c.args.place.slot rec reason.DoubledDefinition)) (sym step.2.first ∙ again_first c.in-Some.rec old r step.0 c.in-Some-def_of.def (sym c.def_of.ensures ∙ c.in-Some-def_of.is) present))
 
 pub loop-rec-preserved-else-is_some : goal.loop-rec-preserved-else-is_some
 loop-rec-preserved-else-is_some g c =

@@ -36,7 +36,7 @@ returns-in_err-definitions-clause-stop g c =
     let own = own_of c.segments.inside.own in
     let is = found_own known in
     let p = err_from_is_err_and c.from_residual.result c.from_residual.ensures.1 in
-    rw (p.1, p.2, ← c.segments.view_is, ← c.as_slice-all.ensures.value) (definitions_stop c.segments.inside.order c.as_slice-all.result.now own is c.in_err-definitions.field-0.0 (rw c.place-slot.ensures at c.in_err-definitions.ensures.stop))
+    rw (p.1, p.2, ← c.segments.view_is, ← c.as_slice-all.ensures.value) (definitions_stop c.segments.inside.order c.as_slice-all.result.now own is c.in_err-definitions.field-0.0 (rw c.slot.ensures at c.in_err-definitions.ensures.stop))
 
 pub of_segments-requires : goal.of_segments-requires
 of_segments-requires g c =

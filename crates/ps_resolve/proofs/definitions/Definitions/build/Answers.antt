@@ -23,4 +23,4 @@ returns-clause-refused g c =
     let Stops : List Record → Stop → Type 0 = λ qs. IsStop (0 < length (definitions qs)) (duplicate_fault host.file host.slot qs) in
     let rs : List Record = (reading host.order host.bytes.now).0 in
     IfErr-weaker c.of_records.result (Stops c.up_to_fault-records.result) (StopsDefinitions host.file host.slot rs)
-    (λ stop d. stops_definitions host.file host.slot rs stop (subst (λ (qs : List Record). Stops qs stop) c.up_to_fault-records.ensures d)) c.of_records.ensures.stop
+    (λ stop d. stops_definitions host.file host.slot rs stop (subst (λ (qs : List Record). Stops qs stop) c.up_to_fault-records.ensures d)) (rw c.place.ensures at c.of_records.ensures.stop)

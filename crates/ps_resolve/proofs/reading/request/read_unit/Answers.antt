@@ -1,5 +1,4 @@
 use Rattle.std.proofs.Common.{◌≡◌, ◌∙◌, ℕ, Some, sym, ap, subst}
-use Rattle.std.specs.Prelude.{All}
 use Rattle.std.specs.List.{find}
 use Rattle.std.specs.Option.{option_map}
 use Rattle.std.proofs.lemmas.Result.{err_from_is_err_and}
@@ -15,6 +14,7 @@ use Rattle.ps_resolve.specs.Faults.{entries_reason, code_fault}
 use Rattle.ps_resolve.proofs.Requested.{placed_refused, placed_by, brought_by, seen_as, read_marked}
 use Rattle.ps_resolve.proofs.ReadingLibraries.{chosen_file}
 use Rattle.ps_resolve.proofs.ReadingUnits.{kind_is}
+use Rattle.ps_resolve.proofs.Sharing.{placed_in}
 use Rattle.ps_resolve.proofs.reading.request.read_unit.Goals as goal
 
 pub entries_reason-requires-clause-entry : goal.entries_reason-requires-clause-entry
@@ -28,14 +28,15 @@ read_segment-requires-clause-kind c =
     let entry = ap (λ (o : Order). find (is_named o name unit.dict.file) slots) c.in-Some.ensures.order ∙ c.in-Some.ensures.entry in
     λ linked. ap kind_needs_linking (kind_is unit.dict.order name unit.dict.file unit.index (sym c.entries_reason.ensures ∙ c.in-None-entries_reason.is) entry)
 
-pub read_segment-requires-clause-known : goal.read_segment-requires-clause-known
-read_segment-requires-clause-known c =
+pub read_segment-requires-clause-placed : goal.read_segment-requires-clause-placed
+read_segment-requires-clause-placed c =
     let unit = c.in-Some.unit in
     let host = c.args.host.now in
     let libs = opened host.order c.args.libs.now in
     let file = subst (λ (n : ℕ). file_at host.file libs n ≡ unit.dict.file) (sym c.library_file-file.ensures)
     (chosen_file host.order c.args.request.now.name libs unit.library unit.dict.file host.file c.in-Some.ensures.library) in
-    c.known_records-records.ensures host.file libs file (subst (λ (o : Order). All (IsRead o host.file libs) c.args.known.now) (sym c.in-Some.ensures.order) c.requires.read)
+    let placed = placed_in host.order host.file libs c.library_file-file.result c.args.earlier.now c.requires.read in
+    rw (c.in-Some.ensures.order, ← file) placed
 
 pub returns-in-Some-entries_reason-clause-fault : goal.returns-in-Some-entries_reason-clause-fault
 returns-in-Some-entries_reason-clause-fault c =

@@ -1,35 +1,28 @@
 use Rattle.std.proofs.Common.{◌≡◌, ◌∙◌, ℕ, List, Ok, sym, ap, subst}
-use Rattle.std.specs.Prelude.{All, IfSome}
 use Rattle.std.proofs.lemmas.Result.{err_from_is_err_and}
-use Rattle.ps_words.specs.declared.order.Order.{Order}
 use Rattle.ps_codefile.specs.Dictionary.{OpenedFile, entry_at, role_of}
 use Rattle.ps_codefile.specs.declared.entry.Role.{Role}
 use Rattle.ps_codefile.specs.declared.entry.Role.TheVariants.{Wanted}
 use Rattle.ps_codefile.specs.declared.entry.Entry.{Entry}
 use Rattle.ps_resolve.specs.Sources.{segment_from, opened}
-use Rattle.ps_resolve.specs.Faults.{code_fault}
-use Rattle.ps_resolve.specs.Views.{AreRecordsOf, IsRead}
-use Rattle.ps_resolve.specs.Requests.{request_fault, requested_segment}
-use Rattle.ps_resolve.specs.declared.reading.request.Request.{Request}
-use Rattle.ps_resolve.specs.declared.reading.request.Requester.TheVariants.{Slot}
+use Rattle.ps_resolve.specs.Faults.{code_fault, request_fault}
+use Rattle.ps_resolve.specs.Views.{ArePlacedIn, IsRead}
+use Rattle.ps_resolve.specs.Requests.{requested_segment}
 use Rattle.ps_resolve.proofs.ReadingSources.{own_fault, read_from_host}
 use Rattle.ps_resolve.proofs.Requested.{wanted_is, wanted_segment}
+use Rattle.ps_resolve.proofs.Sharing.{placed_in}
 use Rattle.ps_resolve.proofs.reading.sources.read_slot.Goals as goal
 
-pub read_segment-requires-clause-known : goal.read_segment-requires-clause-known
-read_segment-requires-clause-known c =
+pub read_segment-requires-clause-placed : goal.read_segment-requires-clause-placed
+read_segment-requires-clause-placed c =
     let host = c.args.host.now in
-    let libs = opened host.order c.args.libs.now in
-    let dict = c.dict-in-Plain.ensures in
-    subst (λ (o : OpenedFile). IfSome c.known_records-records.result (AreRecordsOf o.order o.file (entry_at o.order o.file c.args.slot))) (c.dict.ensures ∙ sym dict)
-    (c.known_records-records.ensures host.file libs (sym (ap (λ (o : OpenedFile). o.file) c.dict.ensures))
-    (subst (λ (o : OpenedFile). All (IsRead o.order host.file libs) c.args.known.now) (sym c.dict.ensures) c.requires.read))
+    subst (λ (o : OpenedFile). ArePlacedIn o.order o.file 0 c.args.earlier.now) (sym c.dict.ensures) (placed_in host.order host.file (opened host.order c.args.libs.now) 0 c.args.earlier.now c.requires.read)
 
 pub returns-in_err-own-in-Plain : goal.returns-in_err-own-in-Plain
 returns-in_err-own-in-Plain c =
     let host = c.args.host.now in
     let libs = opened host.order c.args.libs.now in
-    let dict = c.dict-in-Plain.ensures in
+    let dict = c.dict.ensures in
     let p = err_from_is_err_and c.from_residual.result c.from_residual.ensures.1 in
     rw (p.1, p.2) (record {
       fault = c.in_err-own-in-Plain.ensures.fault host.file libs (sym (ap (λ (o : OpenedFile). o.file) dict))
@@ -44,7 +37,7 @@ returns-in_ok-own-in-Plain c =
     let host = c.args.host.now in
     let libs = opened host.order c.args.libs.now in
     let name = sym (ap (λ (e : Entry). e.name) c.entry.ensures) in
-    let dict = c.dict-in-Plain.ensures in
+    let dict = c.dict.ensures in
     let file = sym (ap (λ (o : OpenedFile). o.file) dict) in
     record {
       fault = c.in_ok-own-in-Plain.ensures.fault host.file libs file
@@ -58,10 +51,6 @@ returns-in_ok-own-in-Plain c =
           (record { placed = c.in_ok-own-in-Plain.ensures.placed host.file libs file; sound = c.in_ok-own-in-Plain.ensures.sound });
     }
 
--- the request of the slot, by the name that was read
-named : (order : Order) (host : List ℕ) (slot : ℕ) (e : Entry) → e ≡ entry_at order host slot → ◌≡◌ {A = Request} (record { name = e.name; slot = slot; requester = Slot }) (record { name = (entry_at order host slot).name; slot = slot; requester = Slot })
-named order host slot e is = ap (λ (x : Entry). record { name = x.name; slot = slot; requester = Slot }) is
-
 pub returns-in_err-wanted-in-Wanted : goal.returns-in_err-wanted-in-Wanted
 returns-in_err-wanted-in-Wanted c =
     let host = c.args.host.now in
@@ -70,7 +59,7 @@ returns-in_err-wanted-in-Wanted c =
     let p = err_from_is_err_and c.from_residual-in_err-wanted-in-Wanted.result c.from_residual-in_err-wanted-in-Wanted.ensures.1 in
     rw (p.1, p.2) (record {
       fault = c.in_err-wanted-in-Wanted.ensures.fault
-          ∙ (ap (request_fault host.order host.file libs) (named host.order host.file c.args.slot c.entry.result c.entry.ensures) ∙ sym (wanted_is host.order host.file libs c.args.slot wants));
+          ∙ (ap (request_fault host.order host.file libs) c.of_slot-request.ensures ∙ sym (wanted_is host.order host.file libs c.args.slot wants));
       segment = tt;
       read = tt;
     })
@@ -80,7 +69,7 @@ returns-in_ok-wanted-in-Wanted c =
     let host = c.args.host.now in
     let libs = opened host.order c.args.libs.now in
     let wants : role_of (entry_at host.order host.file c.args.slot) ≡ Ok Wanted = sym c.role.ensures ∙ (c.in-Ok.is ∙ ap (λ (r : Role). Ok r) c.in-Wanted.is) in
-    let same = named host.order host.file c.args.slot c.entry.result c.entry.ensures in
+    let same = c.of_slot-request.ensures in
     record {
       fault = c.in_ok-wanted-in-Wanted.ensures.fault ∙ (ap (request_fault host.order host.file libs) same ∙ sym (wanted_is host.order host.file libs c.args.slot wants));
       segment = sym (wanted_segment host.order host.file libs c.args.slot wants ∙ (ap (requested_segment host.order host.file libs) (sym same) ∙ c.in_ok-wanted-in-Wanted.ensures.segment));

@@ -6,7 +6,7 @@ use Rattle.std.specs.Option.{option_map}
 use Rattle.ps_words.specs.declared.edit.Edit.{Edit}
 use Rattle.ps_words.specs.declared.fault.Reason.{Reason}
 use Rattle.ps_linkinfo.specs.Records.{refs_of}
-use Rattle.ps_linkinfo.specs.RecordCounts.{units_in, publics_in, privates_in}
+use Rattle.ps_linkinfo.specs.RecordCounts.{units_in, publics_in, privates_in, references_in}
 use Rattle.ps_linkinfo.specs.Numbered.{numbered_records}
 use Rattle.ps_codefile.specs.Procedures.{is_reserved, ProcedureTables}
 use Rattle.ps_linkinfo.specs.declared.record.LinkRecord.{LinkRecord as Record}
@@ -32,13 +32,12 @@ use Rattle.ps_resolve.proofs.LookingBack.{words_before}
 abbrev fault_by : Known → SegmentView → ℕ → ProcedureTables → Option (ℕ × (Option ℕ × Reason))
 fault_by known s free t = records_fault known (is_reserved t.order t.code) t.code 0 free [] s.records
 
-pub returns-then-asks_for_nothing : goal.returns-then-asks_for_nothing
-returns-then-asks_for_nothing g c =
+pub returns-then-privates-eq0 : goal.returns-then-privates-eq0
+returns-then-privates-eq0 g c =
     let v : SegmentView = c.args.segment.now in
-    let yes = c.if-asks_for_nothing.true in
-    let asks = c.asks_for_nothing.ensures in
-    let is = c.requires.records in
-    let no = no_links c.args.link.now.names.now (is_reserved c.args.link.now.order v.code) v.code v.records 0 c.args.free [] (ap units_in (sym is) ∙ asks.units yes) (ap publics_in (sym is) ∙ asks.publics yes) (ap privates_in (sym is) ∙ asks.privates yes) in
+    let is = sym c.requires.records in
+    let no = no_links c.args.link.now.names.now (is_reserved c.args.link.now.order v.code) v.code v.records 0 c.args.free []
+    (ap units_in is ∙ (sym c.units.ensures ∙ c.if-units-eq0.true)) (ap publics_in is ∙ (sym c.publics.ensures ∙ c.if-publics-eq0.true)) (ap privates_in is ∙ (sym c.privates.ensures ∙ c.if-privates-eq0.true)) in
     record {
       edits = rw (no.edits, append-nil) (IsPermutation-refl (edits_of c.args.edits.states.items));
       table = c.requires.table;
@@ -47,14 +46,15 @@ returns-then-asks_for_nothing g c =
       stop = tt;
     }
 
-pub returns-then-is_resolved : goal.returns-then-is_resolved
-returns-then-is_resolved g c =
+pub returns-then-shares_with : goal.returns-then-shares_with
+returns-then-shares_with g c =
     let known : Known = c.args.link.now.names.now in
     let v : SegmentView = c.args.segment.now in
-    let yes = c.if-is_resolved.true in
-    let has = c.is_resolved.ensures.records yes in
+    let is = sym c.requires.records in
+    let has = c.shares_with.ensures.records c.if-shares_with.true in
     let named : HaveTargets known v.records = of_shared (λ (rs : List Record). HaveTargets known rs) c.args.earlier.now v has.0 c.requires.linked c.requires.next.alike c.requires.next.named has.1 in
-    let no = no_references known (is_reserved c.args.link.now.order v.code) v.code v.records 0 c.args.free [] named (c.is_resolved.ensures.references yes) (c.is_resolved.ensures.privates yes) in
+    let no = no_references known (is_reserved c.args.link.now.order v.code) v.code v.records 0 c.args.free [] named
+    (ap references_in is ∙ (sym c.references.ensures ∙ c.if-references-eq0.true)) (ap privates_in is ∙ (sym c.privates-then-references-eq0.ensures ∙ c.if-privates-eq0-2.true)) in
     record {
       edits = rw (no.edits, append-nil) (IsPermutation-refl (edits_of c.args.edits.states.items));
       table = c.requires.table;
