@@ -39,19 +39,22 @@ def changes(crate, edit):
     return found
 
 
+def function_at(path, old):
+    """The first line of the function in whose lines a text is; None where it is in no function."""
+    lines, found = functions(path)
+    at = next((i for i, text in enumerate(lines) if old in text), None)
+    return next((f[3] for f in reversed(found) if at is not None and f[3] <= at < f[4]), None)
+
+
 def changed_by(crate, edit):
-    """The functions, as (file, first line), that an edit changes: that in whose lines an `old:` is, or each that names the constant there."""
+    """The functions, as (file, first line), that an edit changes: that in whose lines an `old:` is, or each of the file that
+    names the constant there."""
     changed = set()
     for path, old, _ in changes(crate, edit):
+        first = function_at(path, old)
         lines, found = functions(path)
-        at = next((i for i, text in enumerate(lines) if old in text), None)
-        if at is None:
-            continue
-        inside = [f for f in found if f[3] <= at < f[4]]
-        if inside:
-            changed.add((path, inside[-1][3]))
-        else:
-            changed.update((path, f[3]) for f in found if uses(lines, f, lines[at]))
+        constant = next((text for text in lines if old in text), "")
+        changed.update([(path, first)] if first is not None else [(path, f[3]) for f in found if uses(lines, f, constant)])
     return changed
 
 
