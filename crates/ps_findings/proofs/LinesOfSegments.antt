@@ -9,9 +9,10 @@ use Rattle.ps_resolve.specs.Readings.{HostFiles, opened_host, read_requests}
 use Rattle.ps_resolve.specs.Views.{SegmentView, segment_of}
 use Rattle.ps_resolve.specs.declared.reading.added.UnitReference.{UnitReference}
 use Rattle.ps_resolve.proofs.ReadingSlots.{host_of_files}
-use Rattle.ps_findings.specs.SegmentLines.{from_words, head_words, lines_of_segments, part_as, path_of, segment_line, segment_lines}
+use Rattle.ps_warnings.specs.Paths.{path_of}
+use Rattle.ps_findings.specs.SegmentLines.{from_words, head_words, lines_of_segments, part_as, segment_line, segment_lines}
 use Rattle.ps_findings.specs.SlotLines.{AddsSlotLines}
-use Rattle.ps_findings.specs.declared.segments.Part.{Part}
+use Rattle.ps_warnings.specs.declared.segments.Part.{Part}
 use Rattle.ps_findings.proofs.SlotLines.{adds_then}
 
 -- the line of a segment that is this

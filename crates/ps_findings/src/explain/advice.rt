@@ -1,11 +1,11 @@
 //! What a fault is in these files, and what to do about it: the sentences of the fault, or others
 //! where the files say more.
 use super::Case;
-use crate::looks::codes::dead_look;
 use crate::sentences::{remedy_of, wrong_of};
 use ps_codefile::kinds::{FIRST_INTRINSIC, LAST_INTRINSIC, LINKED};
 use ps_filetype::{FileType, Remedy, is_swapped};
 use ps_shown::ShownPath;
+use ps_warnings::dead_look;
 use ps_words::Reason;
 use std::fmt::{self, Formatter};
 
@@ -27,7 +27,7 @@ pub(super) fn wrong_in(case: &Case<'_, '_>) -> &'static str {
 }
 
 /// A part of the code of the fault's segment was not read.
-pub(super) fn is_dead(case: &Case<'_, '_>) -> bool {
+fn is_dead(case: &Case<'_, '_>) -> bool {
     dead_look(case.code()).is_some()
 }
 

@@ -1,15 +1,11 @@
 //! What is said of private variables that do not fit.
 use super::Case;
-use super::definitions::host_of;
-use crate::segments::Segment;
-use ps_codefile::ProcedureDictionary;
-use ps_codefile::code_layout::NUMBERS;
 use ps_codefile::dictionary_layout::SLOTS;
 use ps_linkinfo::Body;
+use ps_pcode::procedures_of;
 use ps_resolve::words_before;
-use ps_words::Order;
-use std::alloc::{AllocError, Allocator};
-use std::fmt::Write as _;
+use ps_warnings::{Segment, host_of};
+use std::fmt::{self, Formatter, Write};
 
 /// The words of the private variables before the record that the fault is reported with, or of all
 /// where it is reported with none.
@@ -22,20 +18,10 @@ fn words_of(case: &Case<'_, '_>) -> u64 {
     u64::from(words.unwrap_or(u32::MAX))
 }
 
-/// The data size of the outer block of a host program, in bytes.
-pub(crate) fn data_size(order: Order, code: &[u8]) -> Option<u16> {
-    if code.len() < NUMBERS {
-        return None;
-    }
-    ProcedureDictionary::read(order, code, true)
-        .ok()?
-        .data_size()
-}
-
-/// That of the host program.
+/// The data size of the outer block of the host program, in bytes.
 fn own_size(host: &Segment<'_>) -> Option<u16> {
     let source = host.source?;
-    data_size(source.order, source.code?)
+    procedures_of(source.order, source.code.ok()?)?.data_size()
 }
 
 /// The base offset of the private variable of the record that the fault is reported with.
@@ -55,27 +41,20 @@ fn words_of_record(case: &Case<'_, '_>) -> Option<u16> {
     }
 }
 
-/// Adds how many words there are already, and how many the variable takes; or the sizes that
-/// together are too large.
-pub(super) fn add_words<A: Allocator>(
-    text: &mut String<A>,
-    case: &Case<'_, '_>,
-) -> Result<(), AllocError> {
+/// How many words there are already, and how many the variable takes; or the sizes that together
+/// are too large.
+pub(super) fn write_words<W: Write>(f: &mut Formatter<W>, case: &Case<'_, '_>) -> fmt::Result {
     let Some(host) = host_of(case.list) else {
         return Ok(());
     };
-    match words_of_record(case) {
-        Some(own) => {
-            let first = offset(case);
-            writeln!(text, "  it takes {own} words from base offset {first} on")
-        }
-        None => {
-            let size = own_size(&host).unwrap_or(0);
-            let bytes = words_of(case).saturating_mul(2);
-            writeln!(
-                text,
-                "  the program's own data have {size} bytes, and the private variables {bytes}"
-            )
-        }
+    if let Some(own) = words_of_record(case) {
+        let first = offset(case);
+        return writeln!(f, "  it takes {own} words from base offset {first} on");
     }
+    let size = own_size(&host).unwrap_or(0);
+    let bytes = words_of(case).saturating_mul(2);
+    writeln!(
+        f,
+        "  the program's own data have {size} bytes, and the private variables {bytes}"
+    )
 }

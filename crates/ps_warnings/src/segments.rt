@@ -1,6 +1,6 @@
 //! The segments of a link as the files have them, also where they are refused.
-ghost use Rattle.std.specs.Prelude.{◌<◌, IfSome, Some};
-ghost use Rattle.ps_findings.specs.SegmentLines.{part_words};
+ghost use Rattle.std.specs.Prelude.{◌<◌, Some};
+ghost use Rattle.ps_warnings.specs.Parts.{part_words};
 
 use crate::inputs::Inputs;
 use ps_codefile::dictionary_layout::SLOTS;
@@ -13,9 +13,11 @@ use ps_words::{Name, Order, Reason};
 use std::alloc::{AllocError, Allocator};
 use std::fmt::{self, Formatter};
 
-/// What a segment of a link is.
+/// What a segment of a link is. Its text is a phrase, as `the host program`.
+///
+/// Source: this project's profile.
 #[derive(Clone, Copy)]
-pub(crate) enum Part {
+pub enum Part {
     /// Linked already.
     Plain,
     /// The host program.
@@ -35,7 +37,8 @@ impl Part {
     }
 
     /// It is a unit.
-    pub(crate) fn is_unit(self) -> bool {
+    /// Source: this project's profile.
+    pub fn is_unit(self) -> bool {
         !matches!(self, Part::Plain | Part::Host)
     }
 }
@@ -58,22 +61,22 @@ impl fmt::Display for Part {
 }
 
 /// Where a segment comes from.
+///
+/// Source: UCSD Pascal II.0 manual, code file format.
 #[derive(Clone, Copy)]
-pub(crate) struct Source<'a> {
+pub struct Source<'a> {
     /// The file, 0 for the host.
-    pub(crate) file: usize,
+    pub file: usize,
     /// The slot of its entry there.
-    pub(crate) index: u8,
+    pub index: u8,
     /// What the dictionary says there.
-    pub(crate) entry: Entry,
+    pub entry: Entry,
     /// The order of the file's words.
-    pub(crate) order: Order,
+    pub order: Order,
     /// Its code, or why it can't be read.
-    pub(crate) read_code: Result<&'a [u8], Reason>,
-    /// Its code, where it can be read.
-    pub(crate) code: Option<&'a [u8]>,
+    pub code: Result<&'a [u8], Reason>,
     /// The file from its link information on.
-    pub(crate) after: &'a [u8],
+    pub after: &'a [u8],
 }
 
 /// The entry has a name or a kind, whether it has code or not.
@@ -88,24 +91,27 @@ impl Source<'_> {
     }
 }
 
-/// A segment of a link.
+/// A segment of a link, as it was read.
+///
+/// Source: this project's profile.
 #[derive(Clone, Copy)]
-pub(crate) struct Segment<'a> {
+pub struct Segment<'a> {
     /// Its slot in the host; none where no empty slot is left for it.
-    pub(crate) slot: Option<u8>,
-    pub(crate) name: Name,
-    pub(crate) part: Part,
+    pub slot: Option<u8>,
+    pub name: Name,
+    pub part: Part,
     /// Where it comes from; none where no library has it, or where it was not read.
-    pub(crate) source: Option<Source<'a>>,
+    pub source: Option<Source<'a>>,
     /// No library has it.
-    pub(crate) is_missing: bool,
+    pub is_missing: bool,
 }
 
 impl<'a> Segment<'a> {
-    /// Its records, up to the first that cannot be read.
-    pub(crate) fn records(&self) -> LinkInformation<'a> {
+    /// Its records, up to the first that cannot be read; none where they are not to be read.
+    /// Source: the published II.0 Linker source.
+    pub fn records(&self) -> LinkInformation<'a> {
         match self.source {
-            Some(source) if self.part.needs_linking() && source.code.is_some() => {
+            Some(source) if self.part.needs_linking() && source.code.is_ok() => {
                 LinkInformation::up_to_fault(source.order, source.after)
             }
             _ => LinkInformation::none(),
@@ -117,28 +123,14 @@ impl<'a> Segment<'a> {
 pub(crate) fn source_of<'a>(dict: &Dict<'a>, file: usize, index: u8) -> Source<'a>
     requires { index < 16 }
 {
-    let read_code = dict.code(index);
     Source {
         file,
         index,
         entry: dict.entry(index),
         order: dict.order(),
-        read_code,
-        code: read_code.ok(),
+        code: dict.code(index),
         after: dict.after(index),
     }
-}
-
-/// The first slot whose entry is filled and has the name.
-pub(crate) fn filled_entry(dict: &Dict<'_>, name: &Name) -> Option<u8>
-    ensures { IfSome result (λ slot. slot < 16) }
-{
-    for slot in 0..SLOTS {
-        if dict.filled(slot) && dict.entry(slot).name == *name {
-            return Some(slot);
-        }
-    }
-    None
 }
 
 /// Where the segment of a slot comes from, also where it is refused; none where no library has the
@@ -224,6 +216,19 @@ fn is_added(host: &HostReading<'_>, slot: u8) -> bool
     }
 }
 
+/// The segment of a slot; none where there is none.
+fn segment_in<'a>(inputs: &Inputs<'a>, host: &HostReading<'a>, slot: u8) -> Option<Segment<'a>>
+    requires { slot < 16 }
+{
+    Some(Segment {
+        slot: Some(slot),
+        name: name_in(host, slot),
+        part: part_in(host, slot)?,
+        source: source_in(inputs, host, slot),
+        is_missing: is_missing(host, slot),
+    })
+}
+
 /// The unit that is requested and for which no slot is left.
 fn unit_without_slot<'a>(host: &HostReading<'a>, added: usize) -> Option<Segment<'a>> {
     let unit = host.requested().get(added)?;
@@ -242,8 +247,10 @@ fn unit_without_slot<'a>(host: &HostReading<'a>, added: usize) -> Option<Segment
     })
 }
 
-/// A segment of the list has the slot.
-pub(crate) fn in_slot<'a>(list: &[Segment<'a>], slot: u8) -> Option<Segment<'a>> {
+/// The first segment of the list that has this slot of the host.
+///
+/// Source: this project's profile.
+pub fn in_slot<'a>(list: &[Segment<'a>], slot: u8) -> Option<Segment<'a>> {
     for segment in list {
         if segment.slot == Some(slot) {
             return Some(*segment);
@@ -252,9 +259,24 @@ pub(crate) fn in_slot<'a>(list: &[Segment<'a>], slot: u8) -> Option<Segment<'a>>
     None
 }
 
+/// The segment of the host program.
+///
+/// Source: this project's profile.
+pub fn host_of<'a>(list: &[Segment<'a>]) -> Option<Segment<'a>> {
+    for segment in list {
+        if matches!(segment.part, Part::Host) {
+            return Some(*segment);
+        }
+    }
+    None
+}
+
 /// The segments of a link as they were read, by slot, and the first unit for which no slot is left.
 /// None where the host cannot be read.
-pub(crate) fn segments_of<'a, A: Allocator + Copy>(
+///
+/// Returns an error where memory was refused.
+/// Source: this project's profile.
+pub fn segments_of<'a, A: Allocator + Copy>(
     alloc: A,
     inputs: &Inputs<'a>,
     reading: &Reading<'a>,
@@ -265,15 +287,8 @@ pub(crate) fn segments_of<'a, A: Allocator + Copy>(
     };
     let mut added = 0usize;
     for slot in 0..SLOTS {
-        if let Some(part) = part_in(host, slot) {
-            let name = name_in(host, slot);
-            list.push(Segment {
-                slot: Some(slot),
-                name,
-                part,
-                source: source_in(inputs, host, slot),
-                is_missing: is_missing(host, slot),
-            })?;
+        if let Some(segment) = segment_in(inputs, host, slot) {
+            list.push(segment)?;
         }
         added = added.saturating_add(usize::from(is_added(host, slot)));
     }

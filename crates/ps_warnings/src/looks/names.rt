@@ -63,3 +63,25 @@ pub(super) fn oddity_of(name: &Name, are_small: bool) -> Option<Oddity> {
         None
     }
 }
+
+/// A name as it ought to be written where a careless hand wrote it in small letters, with high bits
+/// set, or with zeros for blanks.
+///
+/// Source: this project's profile.
+pub fn plain(name: &Name) -> Name {
+    let mut plain = *name;
+    for byte in plain.iter_mut() {
+        *byte = match *byte & 0x7F {
+            0 => b' ',
+            low => low.to_ascii_uppercase(),
+        };
+    }
+    plain
+}
+
+/// The names differ, and only in small letters, high bits, or zeros where blanks are expected.
+///
+/// Source: this project's profile.
+pub fn is_near(a: &Name, b: &Name) -> bool {
+    a != b && plain(a) == plain(b)
+}

@@ -1,13 +1,14 @@
 //! Codes that look wrong.
-use super::procedures::first_misfit;
 use super::records::begins_with_record;
 use super::{Sight, Warnings};
 use crate::segments::Source;
 use crate::warnings::{Look, Place};
-use ps_codefile::Procs;
+use ps_codefile::ProcedureDictionary;
+use ps_codefile::code_layout::NUMBERS;
 use ps_codefile::kinds::{HOSTSEG, LINKED};
 use ps_filetype::only_byte;
-use ps_words::{Order, Reason, get};
+use ps_pcode::{Ends, procedures_of};
+use ps_words::{Order, Reason};
 use std::alloc::{AllocError, Allocator};
 
 /// What is where nothing was written or read: zeros, what a disk is formatted with, what CP/M pads
@@ -31,43 +32,61 @@ pub(super) fn look_at<'a, A: Allocator>(
     if let Some(byte) = only_byte(code) {
         return warnings.add(place, Some(Look::OneByte { byte }));
     }
-    if !sight.is_refused(source) {
-        warnings.add(place, dead_look(code))?;
+    let looks = [
+        unread_look(sight, source, code),
+        stripped_look(code),
+        number_look(source, code),
+        procedures_look(sight, source, code),
+        records_look(source),
+        table_look(sight, source, code),
+        misfit_look(sight, source, code),
+    ];
+    warnings.add_each(place, &looks)
+}
+
+/// A part of the code that was not read, where no fault tells of it.
+fn unread_look(sight: &Sight<'_, '_>, source: &Source<'_>, code: &[u8]) -> Option<Look> {
+    if sight.is_refused(source) {
+        None
+    } else {
+        dead_look(code)
     }
+}
+
+/// A code of which each byte may have lost bit 7.
+fn stripped_look(code: &[u8]) -> Option<Look> {
     if STRIPPED_LENGTH <= code.len() && code.is_ascii() {
-        warnings.add(place, Some(Look::NoHighBit))?;
+        Some(Look::NoHighBit)
+    } else {
+        None
     }
-    if source.needs_linking() {
-        warnings.add(place, number_look(source, code))?;
-        if sight.rules.is_some() {
-            warnings.add(place, no_procedures(source, code))?;
-        }
-    } else if sight.rules.is_some() {
-        warnings.add(place, lost_tables(source.order, code))?;
-    }
+}
+
+/// A record after the code of a segment that is linked.
+fn records_look(source: &Source<'_>) -> Option<Look> {
     if source.entry.kind == LINKED && begins_with_record(source.order, source.after) {
-        warnings.add(place, Some(Look::LinkedWithRecords))?;
+        Some(Look::LinkedWithRecords)
+    } else {
+        None
     }
-    if source.needs_linking() || sight.rules.is_some() {
-        warnings.add(place, table_look(source.order, code))?;
-    }
-    if let Some(rules) = sight.rules {
-        let misfit = first_misfit(source, code, rules);
-        warnings.add(place, misfit.map(|procedure| Look::Misfit { procedure }))?;
-    }
-    Ok(())
+}
+
+/// The first procedure that does not keep to the rules.
+fn misfit_look(sight: &Sight<'_, '_>, source: &Source<'_>, code: &[u8]) -> Option<Look> {
+    let procedure = sight.rules?.first_misfit(source.order, code)?;
+    Some(Look::Misfit { procedure })
 }
 
 /// Bytes that are all the same, from the first to the last.
 #[derive(Clone, Copy)]
-pub(crate) struct Run {
-    pub(crate) start: usize,
-    pub(crate) end: usize,
-    pub(crate) byte: u8,
+pub(super) struct Run {
+    pub(super) start: usize,
+    pub(super) end: usize,
+    pub(super) byte: u8,
 }
 
 /// The first bytes that are as many as a sector and as if nothing was read.
-pub(crate) fn first_dead(bytes: &[u8]) -> Option<Run> {
+pub(super) fn first_dead(bytes: &[u8]) -> Option<Run> {
     let (mut start, mut last) = (0usize, 0u8);
     for (place, byte) in bytes.iter().enumerate() {
         if *byte != last {
@@ -90,15 +109,21 @@ fn dead_run(start: usize, end: usize, byte: u8) -> Option<Run> {
     }
 }
 
-/// What looks wrong where a part of a code was not read.
-pub(crate) fn dead_look(code: &[u8]) -> Option<Look> {
+/// What looks wrong where a part of a code was not read: the first bytes that are as many as a
+/// sector of a disk and as if nothing was read.
+///
+/// Source: this project's profile.
+pub fn dead_look(code: &[u8]) -> Option<Look> {
     let Run { start, end, byte } = first_dead(code)?;
     Some(Look::DeadRun { start, end, byte })
 }
 
-/// The numbers at the end of a code.
+/// The numbers at the end of a code that is to be linked.
 fn number_look(source: &Source<'_>, code: &[u8]) -> Option<Look> {
     let slot = source.index;
+    if !source.needs_linking() {
+        return None;
+    }
     match code {
         [.., 0, 0] if slot != 0 => Some(Look::ZeroEnd),
         [.., found, _] if source.entry.kind == HOSTSEG && *found != slot => {
@@ -106,6 +131,17 @@ fn number_look(source: &Source<'_>, code: &[u8]) -> Option<Look> {
             Some(Look::OtherNumber { found, slot })
         }
         _ => None,
+    }
+}
+
+/// A procedure dictionary that has no procedure, where codes are P-code.
+fn procedures_look(sight: &Sight<'_, '_>, source: &Source<'_>, code: &[u8]) -> Option<Look> {
+    if sight.rules.is_none() {
+        None
+    } else if source.needs_linking() {
+        no_procedures(source, code)
+    } else {
+        lost_tables(source.order, code)
     }
 }
 
@@ -120,18 +156,18 @@ fn no_procedures(source: &Source<'_>, code: &[u8]) -> Option<Look> {
 
 /// The first procedure whose table has another number, or says that it is entered or left before
 /// the code.
-fn table_look(order: Order, code: &[u8]) -> Option<Look> {
-    if code.len() < 2 {
+fn table_look(sight: &Sight<'_, '_>, source: &Source<'_>, code: &[u8]) -> Option<Look> {
+    if !source.needs_linking() && sight.rules.is_none() {
         return None;
     }
-    let procs = Procs::read(order, code, false).ok()?;
-    for procedure in 1..=procs.count() {
-        if let Some(place) = procs.table(procedure) {
+    let procedures = procedures_of(source.order, code)?;
+    for procedure in 1..=procedures.count() {
+        if let Some(place) = procedures.table(procedure) {
             let found = code.get(place).copied().unwrap_or(0);
             if usize::from(found) != procedure {
                 return Some(Look::OtherProcedure { procedure, found });
             }
-            if Ends::at(order, code, place).is_none() {
+            if Ends::at(source.order, code, place).is_none() {
                 return Some(Look::OutsideCode { procedure });
             }
         }
@@ -142,33 +178,12 @@ fn table_look(order: Order, code: &[u8]) -> Option<Look> {
 /// The procedure dictionary of a linked segment, which a link does not read, if it is not whole or
 /// has no procedure.
 fn lost_tables(order: Order, code: &[u8]) -> Option<Look> {
-    if code.len() < 2 {
+    if code.len() < NUMBERS {
         return None;
     }
-    match Procs::read(order, code, false) {
+    match ProcedureDictionary::read(order, code, false) {
         Err(Reason::BadProcDict) => Some(Look::LostTables),
-        Ok(procs) if procs.count() == 0 => Some(Look::LostTables),
+        Ok(procedures) if procedures.count() == 0 => Some(Look::LostTables),
         _ => None,
-    }
-}
-
-/// Where a procedure is entered, and where it is left.
-#[derive(Clone, Copy)]
-pub(super) struct Ends {
-    pub(super) enter: usize,
-    pub(super) leave: usize,
-}
-
-impl Ends {
-    /// Those of the table at this place; none where one of them is before the code.
-    pub(super) fn at(order: Order, code: &[u8], table: usize) -> Option<Ends> {
-        let (enter_at, leave_at) = (table.checked_sub(2)?, table.checked_sub(4)?);
-        match code.get(leave_at..) {
-            Some(words) if 4 <= words.len() => Some(Ends {
-                enter: enter_at.checked_sub(usize::from(get(order, words, 2)))?,
-                leave: leave_at.checked_sub(usize::from(get(order, words, 0)))?,
-            }),
-            _ => None,
-        }
     }
 }

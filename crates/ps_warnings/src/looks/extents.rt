@@ -2,7 +2,7 @@
 ghost use Rattle.std.specs.Prelude.{◌<◌};
 
 use super::Warnings;
-use crate::explain::records::length_of;
+use super::records::length_of;
 use crate::segments::source_of;
 use crate::warnings::{Look, Place};
 use ps_codefile::Dict;
@@ -48,7 +48,7 @@ fn extent_of(dict: &Dict<'_>, file: usize, slot: u8) -> Option<Extent>
         return None;
     }
     let source = source_of(dict, file, slot);
-    source.code?;
+    source.code.ok()?;
     let start = BLOCK_SIZE * usize::from(source.entry.address);
     let length = usize::from(source.entry.length);
     let end = match source.entry.kind {

@@ -1,17 +1,13 @@
 //! Link information that looks wrong.
-use super::instructions::GLOBAL_OPCODES;
 use super::names::oddity_of;
-use super::procedures::global_operands;
 use super::{Sight, Warnings};
-use crate::explain::definitions::host_of;
-use crate::explain::privates::data_size;
-use crate::explain::records::length_of;
-use crate::segments::Source;
+use crate::segments::{Source, host_of};
 use crate::warnings::{Look, Place};
 use ps_codefile::kinds::{HOSTSEG, UNITSEG};
 use ps_filetype::only_byte;
 use ps_linkinfo::record_layout::{RECORD_LEN, TYPE_PLACE};
 use ps_linkinfo::{Body, LinkInformation, LinkRecord, Refs, Sort};
+use ps_pcode::{GLOBAL_OPCODES, SEGMENT_OPCODES, has_global_operand, procedures_of};
 use ps_words::{Name, Order, get_big};
 use std::alloc::{AllocError, Allocator};
 
@@ -32,8 +28,8 @@ pub(super) fn look_at<'a, A: Allocator>(
     warnings.add_of_record(place, first_odd_operand(&records, code))?;
     if let Some(rules) = sight.rules {
         warnings.add_of_record(place, first_odd_reference(&records, code))?;
-        if source.entry.kind == UNITSEG && rules.forms {
-            let operands = global_operands(source.order, code, rules);
+        if source.entry.kind == UNITSEG {
+            let operands = rules.operands_left_to_link(source.order, code);
             warnings.add(place, lost_references(&records, operands))?;
         }
     }
@@ -43,6 +39,17 @@ pub(super) fn look_at<'a, A: Allocator>(
     } else {
         warnings.add_of_record(place, first_definition(&records, sight))
     }
+}
+
+/// How many bytes the records that can be read take.
+///
+/// Source: the published II.0 Linker source.
+pub fn length_of(records: &LinkInformation<'_>) -> usize {
+    let mut length = 0usize;
+    for (_, record) in records.records() {
+        length = length.saturating_add(record.size());
+    }
+    length
 }
 
 /// Each of these bytes is a blank or zero.
@@ -91,17 +98,6 @@ fn is_printed(name: &Name) -> bool {
         }
     }
     name[0] != b' '
-}
-
-/// The code has an instruction LDO, LAO or SRO of P-code, for the host program's data, whose
-/// operand has two bytes and is below 256, as a compiler writes it where it is to be linked.
-fn has_global_operand(code: &[u8]) -> bool {
-    for window in code.windows(2) {
-        if matches!(window, [0xA9 | 0xA5 | 0xAB, 0x80]) {
-            return true;
-        }
-    }
-    false
 }
 
 /// The first record with an odd name.
@@ -166,7 +162,7 @@ fn operands_look(refs: &Refs<'_>, code: &[u8], words: Option<u16>) -> Option<Loo
 fn first_odd_reference(records: &LinkInformation<'_>, code: &[u8]) -> Option<(usize, Look)> {
     for (rec, record) in records.records() {
         let place = match &record.body {
-            Body::UnitRef(refs) => first_without(refs, code, &[0xCD]),
+            Body::UnitRef(refs) => first_without(refs, code, &SEGMENT_OPCODES),
             Body::PublRef(refs) | Body::PrivRef { refs, .. } => {
                 first_without(refs, code, &GLOBAL_OPCODES)
             }
@@ -237,7 +233,7 @@ fn low_mark(records: &LinkInformation<'_>, source: &Source<'_>, code: &[u8]) -> 
         return None;
     }
     let next = records.next();
-    let data = data_size(source.order, code)?;
+    let data = procedures_of(source.order, code)?.data_size()?;
     if next < data / 2 {
         Some(Look::LowMark { next, data })
     } else {

@@ -1,6 +1,6 @@
 //! What looks wrong in the link as a whole.
+use super::names::is_near;
 use super::{Sight, Warnings, in_segment};
-use crate::explain::dictionary::is_near;
 use crate::segments::{Part, Segment, is_named};
 use crate::warnings::Look;
 use ps_codefile::Dict;

@@ -4,11 +4,13 @@ ghost use Rattle.std.specs.Prelude.{◌<◌};
 use super::codes::{Run, SECTOR, first_dead};
 use super::names::oddity_of;
 use super::{Sight, Warnings, codes, in_file, in_segment, records};
+use crate::inputs::Inputs;
 use crate::segments::{Source, in_slot, is_named, source_of};
 use crate::warnings::Look;
+use ps_codefile::code_layout::NUMBERS;
 use ps_codefile::dictionary_layout::{SLOTS, TAIL};
 use ps_codefile::kinds::{FIRST_INTRINSIC, HOSTSEG, LAST_INTRINSIC, UNITSEG};
-use ps_codefile::{Dict, Procs, Role, is_nameless};
+use ps_codefile::{Dict, Entry, ProcedureDictionary, Role, is_nameless};
 use ps_linkinfo::LinkInformation;
 use ps_words::{Order, WORD_LEN, get};
 use std::alloc::{AllocError, Allocator};
@@ -29,37 +31,39 @@ pub(super) fn look_at<'a, A: Allocator>(
     file: usize,
     dict: &Dict<'a>,
 ) -> Result<(), AllocError> {
-    let path = sight.inputs.path(file);
-    let are_nameless = are_nameless(dict);
-    if are_nameless {
-        warnings.add(in_file(path), Some(Look::NoNames))?;
-    }
-    warnings.add(in_file(path), dead_tail(dict).or(full_tail(dict)))?;
-    let machine = match sight.inputs.dict(0) {
-        Some(host) => first_machine(&host),
-        None => 0,
-    };
+    let place = in_file(sight.inputs.path(file));
+    warnings.add_each(
+        place,
+        &[no_names(dict), dead_tail(dict).or(full_tail(dict))],
+    )?;
     for slot in 0..SLOTS {
-        let name = dict.entry(slot).name;
-        let is_filled = dict.filled(slot);
-        if is_filled || dict.entry(slot).kind == UNITSEG {
-            let oddity = oddity_of(&name, sight.are_small);
-            let look = oddity.map(|oddity| Look::OddName { name, oddity });
-            warnings.add(in_file(path), look)?;
-        }
-        if is_filled {
+        warnings.add(place, name_look(sight, dict, slot))?;
+        if dict.filled(slot) {
             let source = source_of(dict, file, slot);
-            warnings.add(in_file(path), nameless_look(&source, are_nameless))?;
-            if !sight.is_refused(&source) {
-                warnings.add(in_file(path), intrinsic_look(&source))?;
-            }
-            warnings.add(in_file(path), machine_look(dict, slot, file, machine))?;
+            let looks = [
+                nameless_look(dict, &source),
+                intrinsic_look(sight, &source),
+                machine_look(sight, dict, &source),
+            ];
+            warnings.add_each(place, &looks)?;
             look_at_segment(warnings, sight, &source)?;
         } else if file == 0 {
-            warnings.add(in_file(path), empty_look(sight, dict, slot))?;
+            warnings.add(place, empty_look(sight, dict, slot))?;
         }
     }
     Ok(())
+}
+
+/// An odd name of an entry that is filled, or of a unit that may be wanted.
+fn name_look(sight: &Sight<'_, '_>, dict: &Dict<'_>, slot: u8) -> Option<Look>
+    requires { slot < 16 }
+{
+    let Entry { name, kind, .. } = dict.entry(slot);
+    if !dict.filled(slot) && kind != UNITSEG {
+        return None;
+    }
+    let oddity = oddity_of(&name, sight.are_small)?;
+    Some(Look::OddName { name, oddity })
 }
 
 /// Looks at the code and at the link information of an entry.
@@ -69,10 +73,8 @@ fn look_at_segment<'a, A: Allocator>(
     source: &Source<'a>,
 ) -> Result<(), AllocError> {
     let place = in_segment(sight.inputs.path(source.file), source.entry.name);
-    if !sight.is_refused(source) {
-        warnings.add(place, refused_look(source))?;
-    }
-    let Some(code) = source.code else {
+    warnings.add(place, refused_look(sight, source))?;
+    let Ok(code) = source.code else {
         return Ok(());
     };
     codes::look_at(warnings, sight, place, source, code)?;
@@ -82,16 +84,20 @@ fn look_at_segment<'a, A: Allocator>(
     Ok(())
 }
 
-/// Why a link that takes the segment is refused.
-fn refused_look(source: &Source<'_>) -> Option<Look> {
-    let code = match source.read_code {
+/// Why a link that takes the segment is refused, where no fault tells of it.
+fn refused_look(sight: &Sight<'_, '_>, source: &Source<'_>) -> Option<Look> {
+    if sight.is_refused(source) {
+        return None;
+    }
+    let code = match source.code {
         Ok(code) => code,
         Err(reason) => return Some(Look::Refused { reason, rec: None }),
     };
-    if !source.needs_linking() || code.len() < 2 {
+    if !source.needs_linking() || code.len() < NUMBERS {
         return None;
     }
-    if let Err(reason) = Procs::read(source.order, code, source.entry.kind == HOSTSEG) {
+    let is_host = source.entry.kind == HOSTSEG;
+    if let Err(reason) = ProcedureDictionary::read(source.order, code, is_host) {
         return Some(Look::Refused { reason, rec: None });
     }
     match LinkInformation::read(source.order, source.after) {
@@ -104,19 +110,21 @@ fn refused_look(source: &Source<'_>) -> Option<Look> {
 }
 
 /// A filled slot without a name, where others have one.
-fn nameless_look(source: &Source<'_>, are_nameless: bool) -> Option<Look> {
+fn nameless_look(dict: &Dict<'_>, source: &Source<'_>) -> Option<Look> {
     let slot = source.index;
-    if is_nameless(&source.entry.name) && !are_nameless {
+    if is_nameless(&source.entry.name) && !are_nameless(dict) {
         Some(Look::NoName { slot })
     } else {
         None
     }
 }
 
-/// An entry of a library that Apple Pascal has.
-fn intrinsic_look(source: &Source<'_>) -> Option<Look> {
+/// An entry of a library that Apple Pascal has, where no fault tells of it.
+fn intrinsic_look(sight: &Sight<'_, '_>, source: &Source<'_>) -> Option<Look> {
     let (slot, kind) = (source.index, source.entry.kind);
-    if source.file != 0 && FIRST_INTRINSIC <= kind && kind <= LAST_INTRINSIC {
+    if sight.is_refused(source) {
+        None
+    } else if source.file != 0 && FIRST_INTRINSIC <= kind && kind <= LAST_INTRINSIC {
         Some(Look::IntrinsicKind { slot, kind })
     } else {
         None
@@ -131,6 +139,15 @@ fn are_nameless(dict: &Dict<'_>) -> bool {
         }
     }
     true
+}
+
+/// A dictionary without a name.
+fn no_names(dict: &Dict<'_>) -> Option<Look> {
+    if are_nameless(dict) {
+        Some(Look::NoNames)
+    } else {
+        None
+    }
 }
 
 /// Sectors of the second half of the dictionary that were not read. Most files have zeros there.
@@ -174,18 +191,22 @@ fn machine_of(dict: &Dict<'_>, slot: u8) -> u8 {
     }
 }
 
-/// That of the first slot that is filled.
-fn first_machine(dict: &Dict<'_>) -> u8 {
+/// That of the first slot of the host that is filled.
+pub(super) fn machine_of_host(inputs: &Inputs<'_>) -> u8 {
+    let Some(host) = inputs.dict(0) else {
+        return 0;
+    };
     for slot in 0..SLOTS {
-        if dict.filled(slot) {
-            return machine_of(dict, slot);
+        if host.filled(slot) {
+            return machine_of(&host, slot);
         }
     }
     0
 }
 
 /// A machine type that is not P-code's, or another one than the host's.
-fn machine_look(dict: &Dict<'_>, slot: u8, file: usize, host: u8) -> Option<Look> {
+fn machine_look(sight: &Sight<'_, '_>, dict: &Dict<'_>, source: &Source<'_>) -> Option<Look> {
+    let slot = source.index;
     let found = machine_of(dict, slot);
     let (machine, version) = (found & 15, found >> 5);
     let p_code = match dict.order() {
@@ -198,7 +219,7 @@ fn machine_look(dict: &Dict<'_>, slot: u8, file: usize, host: u8) -> Option<Look
             machine,
             version,
         })
-    } else if file != 0 && found != host {
+    } else if source.file != 0 && found != sight.machine {
         Some(Look::OtherMachine {
             slot,
             machine,
