@@ -1,11 +1,10 @@
 -- What a report says of each segment of a link: its slot and its name, what it is, and where its
 -- code comes from.
 -- Source: this project's profile.
-use Rattle.std.specs.Prelude.{ℕ, ◌+◌, ◌/◌, ◌%◌, ◌==◌, Bool, true, false, if◌then◌else◌, List, [], ◌∷◌, ◌++◌, Option, Some, None, length, map, codes, decimal}
+use Rattle.std.specs.Prelude.{ℕ, ◌+◌, ◌/◌, ◌%◌, ◌==◌, if◌then◌else◌, List, [], ◌∷◌, ◌++◌, Option, Some, None, length, map, codes, decimal}
 use Rattle.std.specs.List.{find}
 use Rattle.std.specs.Option.{option_map_or}
 use Rattle.std.specs.Str.{bytes_eq}
-use Rattle.ps_words.specs.declared.order.Order.{Order}
 use Rattle.ps_codefile.specs.declared.entry.Role.{Role}
 use Rattle.ps_codefile.specs.declared.entry.Role.TheVariants as role
 use Rattle.ps_resolve.specs.Sources.{Segment, opened_files, order_of}
@@ -13,10 +12,10 @@ use Rattle.ps_resolve.specs.Added.{segments}
 use Rattle.ps_resolve.specs.Readings.{read_requests}
 use Rattle.ps_resolve.specs.declared.reading.added.UnitReference.{UnitReference}
 use Rattle.ps_shown.specs.Shown.{shown_name, shown_path}
-use Rattle.ps_warnings.specs.Parts.{part_words}
-use Rattle.ps_warnings.specs.Paths.{path_of}
-use Rattle.ps_warnings.specs.declared.segments.Part.{Part}
-use Rattle.ps_warnings.specs.declared.segments.Part.TheVariants as part
+use Rattle.ps_checked.specs.Parts.{part_words}
+use Rattle.ps_checked.specs.Paths.{path_of}
+use Rattle.ps_checked.specs.declared.segments.Part.{Part}
+use Rattle.ps_checked.specs.declared.segments.Part.TheVariants as part
 
 -- the number of a slot or an entry, of two digits
 abbrev pub two_digits : ℕ → List ℕ

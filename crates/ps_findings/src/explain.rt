@@ -4,117 +4,29 @@ mod advice;
 mod code;
 mod definitions;
 mod dictionary;
-mod places;
 mod privates;
 mod records;
 mod references;
 
-use ps_codefile::dictionary_layout::SLOTS;
-use ps_codefile::{Dict, Entry};
-use ps_filetype::{CodeFile, FileType};
-use ps_linkinfo::{Body, LinkRecord, Operand};
-use ps_resolve::Reading;
+use ps_checked::Case;
+use ps_linkinfo::Body;
 use ps_shown::ShownName;
-use ps_warnings::{Inputs, Segment, Source, in_slot};
-use ps_words::{Fault, Name, Reason};
+use ps_words::Reason;
 use std::fmt::{self, Formatter, Write};
 
-/// A fault, and what of the files it is about. Its text is the refusal in words, in lines.
+/// A refusal in words, in lines.
 #[derive(Clone, Copy)]
-pub(crate) struct Case<'c, 'a> {
-    inputs: &'c Inputs<'a>,
-    reading: &'c Reading<'a>,
-    list: &'c [Segment<'a>],
-    fault: Fault,
-    /// The segment of its slot.
-    segment: Option<Segment<'a>>,
-}
+pub(crate) struct Explanation<'c, 'a>(pub(crate) Case<'c, 'a>);
 
-impl<'c, 'a> Case<'c, 'a> {
-    pub(crate) fn new(
-        inputs: &'c Inputs<'a>,
-        reading: &'c Reading<'a>,
-        list: &'c [Segment<'a>],
-        fault: Fault,
-    ) -> Self {
-        let segment = match fault.slot {
-            Some(slot) => in_slot(list, slot),
-            None => None,
-        };
-        Case {
-            inputs,
-            reading,
-            list,
-            fault,
-            segment,
-        }
-    }
-
-    /// What the dictionary of the host says of its slot.
-    fn entry(&self) -> Option<Entry> {
-        let dict = Dict::read(self.inputs.host).ok()?;
-        let slot = self.fault.slot?;
-        if slot < SLOTS {
-            Some(dict.entry(slot))
-        } else {
-            None
-        }
-    }
-
-    /// The name of the segment of its slot.
-    fn name(&self) -> Option<Name> {
-        match self.segment {
-            Some(segment) => Some(segment.name),
-            None => Some(self.entry()?.name),
-        }
-    }
-
-    /// The record that the fault is reported with, where it can be read.
-    fn record(&self) -> Option<LinkRecord<'a>> {
-        let (Some(segment), Some(wanted)) = (self.segment, self.fault.rec) else {
-            return None;
-        };
-        segment.records().record(wanted)
-    }
-
-    /// The operand that the fault is reported with.
-    fn operand(&self) -> Option<Operand> {
-        self.record()?.operand(self.fault.reference?)
-    }
-
-    /// The first library that has a host program.
-    fn host_among_libraries(&self) -> Option<usize> {
-        for file in 1..=self.inputs.libs.len() {
-            if self.inputs.file_type(file) == FileType::Code(CodeFile::Host) {
-                return Some(file);
-            }
-        }
-        None
-    }
-
-    /// Where its segment comes from.
-    fn source(&self) -> Option<Source<'a>> {
-        self.segment?.source
-    }
-
-    /// The code of its segment, as far as it can be read.
-    fn code(&self) -> &'a [u8] {
-        match self.source() {
-            Some(source) => source.code.unwrap_or(&[]),
-            None => &[],
-        }
-    }
-}
-
-impl fmt::Display for Case<'_, '_> {
+impl fmt::Display for Explanation<'_, '_> {
     fn fmt<W: Write>(&self, f: &mut Formatter<W>) -> fmt::Result {
-        writeln!(f, "  file {}", self.inputs.shown(self.fault.file))?;
-        write_slot(f, self)?;
-        write_record(f, self)?;
-        references::write_reference(f, self)?;
-        write_details(f, self)?;
-        let wrong = advice::wrong_in(self);
-        let remedy = advice::remedy_in(self);
+        let case = &self.0;
+        writeln!(f, "  file {}", case.inputs.shown(case.fault.file))?;
+        write_slot(f, case)?;
+        write_record(f, case)?;
+        references::write_reference(f, case)?;
+        write_details(f, case)?;
+        let (wrong, remedy) = (advice::wrong_in(case), advice::remedy_in(case));
         writeln!(f, "  {wrong}\n  {remedy}")
     }
 }
@@ -171,8 +83,8 @@ fn write_details<W: Write>(f: &mut Formatter<W>, case: &Case<'_, '_>) -> fmt::Re
         Reason::DoubledDefinition | Reason::DoubledPrivate => records::write_earlier(f, case),
         Reason::NoRoom | Reason::DataTooLarge => privates::write_words(f, case),
         Reason::MissingDefinition | Reason::IllKind => definitions::write_defined(f, case),
-        Reason::OutsideCode | Reason::ReservedPlace => places::write_place(f, case),
-        Reason::Overlap => places::write_covered(f, case),
+        Reason::OutsideCode | Reason::ReservedPlace => references::write_place(f, case),
+        Reason::Overlap => references::write_covered(f, case),
         Reason::OperandTooLarge => references::write_sum(f, case),
         _ => Ok(()),
     }

@@ -5,10 +5,11 @@ ghost use Rattle.ps_resolve.specs.Sources.{contents};
 ghost use Rattle.ps_findings.specs.SegmentLines.{segment_lines};
 ghost use Rattle.ps_findings.specs.SlotLines.{AddsSlotLines};
 
-use crate::explain::Case;
+use crate::explain::Explanation;
 use crate::overview::{add_files, add_segments};
+use ps_checked::{Case, Inputs, Segment, segments_of};
 use ps_resolve::{Reading, read};
-use ps_warnings::{Inputs, Segment, Warning, segments_of, warnings_of};
+use ps_warnings::{Warning, warnings_of};
 use ps_words::Fault;
 use std::alloc::{AllocError, Allocator};
 use std::fmt::Write as _;
@@ -95,8 +96,8 @@ fn explanation_of<'a, A: Allocator>(
 {
     let mut text = String::new(alloc);
     if let Some(fault) = fault {
-        let case = Case::new(inputs, reading, list, fault);
-        write!(text, "{case}")?;
+        let explanation = Explanation(Case::new(inputs, reading, list, fault));
+        write!(text, "{explanation}")?;
     }
     Ok(text)
 }

@@ -3,17 +3,17 @@ ghost use Rattle.std.specs.Prelude.{◌≡◌, ◌∷◌, ◌++◌, [], None, On
 ghost use Rattle.ps_resolve.specs.AllFaults.{reading_fault};
 ghost use Rattle.ps_resolve.specs.Sources.{contents};
 ghost use Rattle.ps_resolve.specs.Views.{segment_of};
-ghost use Rattle.ps_warnings.specs.Paths.{path_of};
+ghost use Rattle.ps_checked.specs.Paths.{path_of};
 ghost use Rattle.ps_findings.specs.SegmentLines.{asker_of as asker_of_spec, from_words, head_words, lines_of_segments, name_in as name_in_spec, part_added as part_added_spec, part_as, segment_lines, slot_words, two_digits};
 ghost use Rattle.ps_findings.specs.SlotLines.{AddsSlotLines};
 
 use crate::orders::OrderOf;
 use crate::slot_lines::add_other_lines;
+use ps_checked::{Inputs, Part, Segment, in_slot};
 use ps_codefile::Role;
 use ps_codefile::dictionary_layout::SLOTS;
 use ps_resolve::{Reading, Segment as LinkedSegment, UnitReference};
 use ps_shown::{ShownName, ShownPath};
-use ps_warnings::{Inputs, Part, Segment, in_slot};
 use ps_words::Name;
 use std::alloc::{AllocError, Allocator};
 use std::fmt::{self, Formatter, Write as _};

@@ -6,11 +6,10 @@ mod extents;
 mod files;
 mod links;
 pub(crate) mod names;
-pub(crate) mod records;
+mod records;
 
-use crate::inputs::Inputs;
-use crate::segments::{Segment, Source, in_slot};
 use crate::warnings::{Look, Place, Warning};
+use ps_checked::{Inputs, Segment, Source, in_slot};
 use ps_pcode::Rules;
 use ps_words::{Fault, Name, Reason};
 use std::alloc::{AllocError, Allocator};

@@ -1,8 +1,6 @@
 //! What faults of a code say.
-use super::Case;
-use ps_codefile::code_layout::NUMBERS;
-use ps_codefile::{ProcedureDictionary, ProcedureFault};
-use ps_warnings::{Part, dead_look};
+use ps_checked::Case;
+use ps_warnings::dead_look;
 use ps_words::BLOCK_SIZE;
 use std::fmt::{self, Formatter, Write};
 
@@ -21,21 +19,9 @@ pub(super) fn write_extent<W: Write>(f: &mut Formatter<W>, case: &Case<'_, '_>) 
     )
 }
 
-/// The first thing that is wrong with the procedures of the code.
-fn procedure_fault(case: &Case<'_, '_>) -> Option<ProcedureFault> {
-    let segment = case.segment?;
-    let source = segment.source?;
-    let code = source.code.ok()?;
-    if code.len() < NUMBERS {
-        return None;
-    }
-    let is_host = matches!(segment.part, Part::Host);
-    ProcedureDictionary::read_or_fault(source.order, code, is_host).err()
-}
-
 /// Which procedure it is, which of the causes, and what of the code was not read.
 pub(super) fn write_procedure<W: Write>(f: &mut Formatter<W>, case: &Case<'_, '_>) -> fmt::Result {
-    if let Some(fault) = procedure_fault(case) {
+    if let Some(fault) = case.procedure_fault() {
         writeln!(f, "  {fault}")?;
     }
     match dead_look(case.code()) {

@@ -1,8 +1,9 @@
 //! What is said of a name that the host program does not define as it is requested.
-use super::{Case, word_of};
+use super::word_of;
+use ps_checked::{Case, host_of};
 use ps_linkinfo::{LinkInformation, Sort};
 use ps_shown::ShownName;
-use ps_warnings::{host_of, plain};
+use ps_warnings::plain;
 use ps_words::Name;
 use std::fmt::{self, Formatter, Write};
 
@@ -15,7 +16,7 @@ pub(super) fn write_defined<W: Write>(f: &mut Formatter<W>, case: &Case<'_, '_>)
     if let Some(host) = host_of(case.list) {
         write_host_names(f, &host.records(), &asked.name)?;
     }
-    match own_definition(case, &asked.name) {
+    match case.own_definition(&asked.name) {
         Some(rec) => writeln!(
             f,
             "  the unit itself has a PUBLDEF of it, record {rec}, which is not used: the host program has to define it"
@@ -38,14 +39,4 @@ fn write_host_names<W: Write>(
         }
     }
     Ok(())
-}
-
-/// The record by which a unit itself defines the name.
-fn own_definition(case: &Case<'_, '_>, name: &Name) -> Option<usize> {
-    let unit = case.segment?;
-    if !unit.part.is_unit() {
-        return None;
-    }
-    let (rec, _) = unit.records().find(name, Sort::Variable)?;
-    Some(rec)
 }

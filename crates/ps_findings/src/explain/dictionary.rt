@@ -1,15 +1,15 @@
 //! What faults of dictionaries say.
-use super::Case;
 use crate::orders::OrderOf;
+use ps_checked::Case;
 use ps_codefile::dictionary_layout::SLOTS;
 use ps_codefile::kinds::{
     FIRST_INTRINSIC, HOSTSEG, LAST_INTRINSIC, LINKED, SEGPROC, SEPRTSEG, UNITSEG,
 };
-use ps_codefile::{Dict, Entry, Role};
+use ps_codefile::{Dict, Entry};
 use ps_filetype::{CodeFile, FileType};
 use ps_shown::ShownName;
 use ps_warnings::is_near;
-use ps_words::{Name, Reason};
+use ps_words::Name;
 use std::fmt::{self, Formatter, Write};
 
 /// Of so many libraries a report says what units they have.
@@ -45,27 +45,9 @@ pub(super) fn write_host<W: Write>(f: &mut Formatter<W>, case: &Case<'_, '_>) ->
     }
 }
 
-/// The earlier slot that has a host program, or a unit of the name, and the name of its segment.
-fn earlier(case: &Case<'_, '_>) -> Option<(u8, ShownName)> {
-    let dict = Dict::read(case.inputs.host).ok()?;
-    let (slot, entry) = (case.fault.slot?, case.entry()?);
-    for earlier in 0..SLOTS {
-        let name = dict.entry(earlier).name;
-        let is_like = match (case.fault.reason, dict.role(earlier)) {
-            (Reason::TwoHosts, Ok(Role::Host)) => true,
-            (Reason::DoubledSegment, Ok(Role::Unit | Role::Wanted)) => name == entry.name,
-            _ => false,
-        };
-        if earlier < slot && is_like {
-            return Some((earlier, ShownName(name)));
-        }
-    }
-    None
-}
-
-/// That slot.
+/// The earlier slot that has a host program, or a unit of the name.
 pub(super) fn write_earlier<W: Write>(f: &mut Formatter<W>, case: &Case<'_, '_>) -> fmt::Result {
-    let Some((slot, name)) = earlier(case) else {
+    let Some((slot, name)) = case.earlier_entry() else {
         return Ok(());
     };
     writeln!(f, "  the earlier one is slot {slot:02}, {name}")
@@ -79,17 +61,9 @@ pub(super) fn write_kind<W: Write>(f: &mut Formatter<W>, case: &Case<'_, '_>) ->
     }
 }
 
-/// The name of the unit that is missing.
-fn missing(case: &Case<'_, '_>) -> Option<Name> {
-    match case.fault.rec {
-        Some(_) => Some(case.record()?.name),
-        None => Some(case.segment?.name),
-    }
-}
-
 /// What each library has in place of the unit that is missing.
 pub(super) fn write_libraries<W: Write>(f: &mut Formatter<W>, case: &Case<'_, '_>) -> fmt::Result {
-    let Some(name) = missing(case) else {
+    let Some(name) = case.missing_unit() else {
         return Ok(());
     };
     let count = case.inputs.libs.len();

@@ -1,8 +1,8 @@
 //! Codes that look wrong.
 use super::records::begins_with_record;
 use super::{Sight, Warnings};
-use crate::segments::Source;
 use crate::warnings::{Look, Place};
+use ps_checked::Source;
 use ps_codefile::ProcedureDictionary;
 use ps_codefile::code_layout::NUMBERS;
 use ps_codefile::kinds::{HOSTSEG, LINKED};

@@ -2,9 +2,8 @@
 ghost use Rattle.std.specs.Prelude.{◌<◌};
 
 use super::Warnings;
-use super::records::length_of;
-use crate::segments::source_of;
 use crate::warnings::{Look, Place};
+use ps_checked::{length_of, source_of};
 use ps_codefile::Dict;
 use ps_codefile::dictionary_layout::SLOTS;
 use ps_codefile::kinds::{HOSTSEG, LINKED, UNITSEG};

@@ -1,8 +1,8 @@
 //! What looks wrong in the link as a whole.
 use super::names::is_near;
 use super::{Sight, Warnings, in_segment};
-use crate::segments::{Part, Segment, is_named};
 use crate::warnings::Look;
+use ps_checked::{Part, Segment, is_named};
 use ps_codefile::Dict;
 use ps_codefile::dictionary_layout::SLOTS;
 use std::alloc::{AllocError, Allocator};

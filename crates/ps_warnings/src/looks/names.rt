@@ -1,6 +1,6 @@
 //! Names that look wrong.
-use crate::inputs::Inputs;
 use crate::warnings::Oddity;
+use ps_checked::Inputs;
 use ps_codefile::dictionary_layout::SLOTS;
 use ps_codefile::is_nameless;
 use ps_words::Name;

@@ -1,8 +1,8 @@
 //! Link information that looks wrong.
 use super::names::oddity_of;
 use super::{Sight, Warnings};
-use crate::segments::{Source, host_of};
 use crate::warnings::{Look, Place};
+use ps_checked::{Source, host_of, length_of};
 use ps_codefile::kinds::{HOSTSEG, UNITSEG};
 use ps_filetype::only_byte;
 use ps_linkinfo::record_layout::{RECORD_LEN, TYPE_PLACE};
@@ -39,17 +39,6 @@ pub(super) fn look_at<'a, A: Allocator>(
     } else {
         warnings.add_of_record(place, first_definition(&records, sight))
     }
-}
-
-/// How many bytes the records that can be read take.
-///
-/// Source: the published II.0 Linker source.
-pub fn length_of(records: &LinkInformation<'_>) -> usize {
-    let mut length = 0usize;
-    for (_, record) in records.records() {
-        length = length.saturating_add(record.size());
-    }
-    length
 }
 
 /// Each of these bytes is a blank or zero.

@@ -1,6 +1,6 @@
 //! The segments of a link as the files have them, also where they are refused.
 ghost use Rattle.std.specs.Prelude.{◌<◌, Some};
-ghost use Rattle.ps_warnings.specs.Parts.{part_words};
+ghost use Rattle.ps_checked.specs.Parts.{part_words};
 
 use crate::inputs::Inputs;
 use ps_codefile::dictionary_layout::SLOTS;
@@ -32,7 +32,7 @@ pub enum Part {
 
 impl Part {
     /// Its references are resolved.
-    pub(crate) fn needs_linking(self) -> bool {
+    fn needs_linking(self) -> bool {
         !matches!(self, Part::Plain)
     }
 
@@ -80,13 +80,16 @@ pub struct Source<'a> {
 }
 
 /// The entry has a name or a kind, whether it has code or not.
-pub(crate) fn is_named(entry: &Entry) -> bool {
+///
+/// Source: this project's profile.
+pub fn is_named(entry: &Entry) -> bool {
     entry.kind != LINKED || !is_nameless(&entry.name)
 }
 
 impl Source<'_> {
     /// A link resolves its references, if it takes it.
-    pub(crate) fn needs_linking(&self) -> bool {
+    /// Source: the published II.0 Linker source.
+    pub fn needs_linking(&self) -> bool {
         matches!(self.entry.kind, HOSTSEG | UNITSEG)
     }
 }
@@ -119,8 +122,10 @@ impl<'a> Segment<'a> {
     }
 }
 
-/// The segment of this entry of a file.
-pub(crate) fn source_of<'a>(dict: &Dict<'a>, file: usize, index: u8) -> Source<'a>
+/// The segment of this entry of a file; `index` is its slot there, 0 to 15.
+///
+/// Source: UCSD Pascal II.0 manual, code file format.
+pub fn source_of<'a>(dict: &Dict<'a>, file: usize, index: u8) -> Source<'a>
     requires { index < 16 }
 {
     Source {

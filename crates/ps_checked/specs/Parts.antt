@@ -2,8 +2,8 @@
 -- Source: this project's profile.
 use Rattle.std.specs.Prelude.{ℕ, List, ◌++◌, codes, decimal}
 use Rattle.ps_shown.specs.Shown.{shown_name}
-use Rattle.ps_warnings.specs.declared.segments.Part.{Part}
-use Rattle.ps_warnings.specs.declared.segments.Part.TheVariants as part
+use Rattle.ps_checked.specs.declared.segments.Part.{Part}
+use Rattle.ps_checked.specs.declared.segments.Part.TheVariants as part
 
 -- what a segment is
 abbrev pub part_words : Part → List ℕ

@@ -1,8 +1,8 @@
 use Rattle.std.proofs.Common.{◌∙◌, ◌<◌, arith}
 use Rattle.std.proofs.lemmas.Bool.Decides.{nat_tests}
 use Rattle.ps_resolve.specs.Sources.{contents}
-use Rattle.ps_warnings.proofs.Paths.{path_rest}
-use Rattle.ps_warnings.proofs.inputs.Inputs.path.Goals as goal
+use Rattle.ps_checked.proofs.Paths.{path_rest}
+use Rattle.ps_checked.proofs.inputs.Inputs.path.Goals as goal
 
 pub returns : goal.returns
 returns c =

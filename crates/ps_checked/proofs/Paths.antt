@@ -1,7 +1,7 @@
 -- The paths of files, by their numbers.
 use Rattle.std.proofs.Common.{◌≡◌, ◌∷◌, ◌-◌, ◌<◌, ◌≤◌, [], zero, suc, ℕ, List, Bor, length, refl, ap, arith}
 use Rattle.ps_resolve.specs.Sources.{contents}
-use Rattle.ps_warnings.specs.Paths.{path_of}
+use Rattle.ps_checked.specs.Paths.{path_of}
 
 pub path_past : (paths : List (Bor (List ℕ))) (k : ℕ) → length paths ≤ k → path_of (contents paths) k ≡ []
 path_past [] k h = refl

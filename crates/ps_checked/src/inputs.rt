@@ -1,7 +1,7 @@
 //! The files that are checked, and how they are named in a report.
 ghost use Rattle.std.specs.Prelude.{◌≡◌, ◌∷◌};
 ghost use Rattle.ps_resolve.specs.Sources.{contents};
-ghost use Rattle.ps_warnings.specs.Paths.{path_of};
+ghost use Rattle.ps_checked.specs.Paths.{path_of};
 
 use ps_codefile::Dict;
 use ps_filetype::FileType;
