@@ -2,4 +2,3 @@ pub mod OneLine
 pub mod SlotLines
 pub mod LineOfSegment
 pub mod LinesOfSegments
-pub mod Paths

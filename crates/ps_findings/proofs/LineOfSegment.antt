@@ -1,12 +1,13 @@
 -- The line of a segment is one line, and begins with `slot `.
-use Rattle.std.proofs.Common.{◌≡◌, ◌∙◌, ◌++◌, ◌∷◌, ◌+◌, ◌/◌, ◌%◌, ◌==◌, [], ℕ, List, true, not, codes, refl, ap, arith}
+use Rattle.std.proofs.Common.{◌≡◌, ◌++◌, ◌∷◌, ◌+◌, ◌/◌, ◌%◌, ◌==◌, [], ℕ, List, true, not, codes, refl, arith}
 use Rattle.std.specs.Prelude.{Option, Some, None, decimal}
 use Rattle.std.specs.Str.{IsUtf8}
 use Rattle.ps_shown.specs.Shown.{shown_name, shown_path}
 use Rattle.ps_findings.specs.SlotLines.{is_slot_line, one_line}
-use Rattle.ps_findings.specs.SegmentLines.{from_words, head_words, part_words, slot_words, two_digits}
-use Rattle.ps_findings.specs.declared.segments.Part.{Part}
-use Rattle.ps_findings.specs.declared.segments.Part.TheVariants as part
+use Rattle.ps_checked.specs.Parts.{part_words}
+use Rattle.ps_findings.specs.SegmentLines.{from_words, head_words, slot_words, two_digits}
+use Rattle.ps_checked.specs.declared.segments.Part.{Part}
+use Rattle.ps_checked.specs.declared.segments.Part.TheVariants as part
 use Rattle.ps_findings.proofs.OneLine.{above, and_both, one_append, one_digits, one_name, one_path}
 
 one_two : (n : ℕ) → one_line (two_digits n) ≡ true

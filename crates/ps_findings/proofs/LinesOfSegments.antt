@@ -1,17 +1,16 @@
 -- The lines of the segments of a link, one after another.
-use Rattle.std.proofs.Common.{◌≡◌, ◌∙◌, ◌++◌, ◌∷◌, ◌+◌, ◌<◌, [], ℕ, List, Some, None, Ok, Err, length, map, take, get_or, sym, ap, subst}
-use Rattle.std.specs.Prelude.{Option, Result}
+use Rattle.std.proofs.Common.{◌≡◌, ◌∙◌, ◌++◌, ◌∷◌, ◌+◌, ◌<◌, [], ℕ, List, Some, Ok, length, map, take, get_or, sym, ap, subst}
 use Rattle.std.proofs.lemmas.List.{map-append, take_more}
-use Rattle.ps_words.specs.declared.fault.Fault.{Fault}
 use Rattle.ps_resolve.specs.Sources.{Segment, opened_files, order_of}
 use Rattle.ps_resolve.specs.Added.{segments}
 use Rattle.ps_resolve.specs.Readings.{HostFiles, opened_host, read_requests}
 use Rattle.ps_resolve.specs.Views.{SegmentView, segment_of}
 use Rattle.ps_resolve.specs.declared.reading.added.UnitReference.{UnitReference}
 use Rattle.ps_resolve.proofs.ReadingSlots.{host_of_files}
-use Rattle.ps_findings.specs.SegmentLines.{from_words, head_words, lines_of_segments, part_as, path_of, segment_line, segment_lines}
+use Rattle.ps_checked.specs.Paths.{path_of}
+use Rattle.ps_findings.specs.SegmentLines.{from_words, head_words, lines_of_segments, part_as, segment_line, segment_lines}
 use Rattle.ps_findings.specs.SlotLines.{AddsSlotLines}
-use Rattle.ps_findings.specs.declared.segments.Part.{Part}
+use Rattle.ps_checked.specs.declared.segments.Part.{Part}
 use Rattle.ps_findings.proofs.SlotLines.{adds_then}
 
 -- the line of a segment that is this

@@ -1,6 +1,6 @@
 -- Texts without a byte 10.
-use Rattle.std.proofs.Common.{zero, suc, ◌||◌, Bor, ◌≡◌, ◌∙◌, ◌++◌, ◌∷◌, ◌+◌, ◌/◌, ◌%◌, ◌==◌, ◌&&◌, ◌≤◌, ◌<◌, [], ℕ, List, Bool, true, false, not, cond, length, take, codes, refl, sym, ap, subst, arith}
-use Rattle.std.specs.Prelude.{if◌then◌else◌, Option, Some, None, IfSome, MatchOption, chars, decimal, nat_lt}
+use Rattle.std.proofs.Common.{zero, suc, ◌||◌, Bor, ◌≡◌, ◌++◌, ◌∷◌, ◌+◌, ◌/◌, ◌%◌, ◌==◌, ◌&&◌, ◌≤◌, ◌<◌, [], ℕ, List, Bool, true, false, not, cond, length, take, refl, sym, ap, subst, arith}
+use Rattle.std.specs.Prelude.{if◌then◌else◌, Option, Some, None, IfSome, MatchOption, chars, nat_lt}
 use Rattle.std.specs.Char.{encode_utf8, is_control}
 use Rattle.std.specs.Fmt.{digit_glyph, digits, digits_onto}
 use Rattle.std.specs.List.{after_first, before_first, flat_map, list_any, position_or_len}
@@ -8,7 +8,7 @@ use Rattle.std.specs.Str.{IsUtf8}
 use Rattle.std.proofs.Math.Utf8.{encode, encodes}
 use Rattle.std.proofs.lemmas.Bool.Decides.{nat_tests}
 use Rattle.std.proofs.lemmas.Str.{encodes-chars}
-use Rattle.ps_shown.specs.Shown.{control_escape, escape_letter, hex_digit, is_printed, is_quoted, other_char, quoted_char, quotes, shown_byte, shown_name, shown_path, trimmed}
+use Rattle.ps_shown.specs.Shown.{control_escape, hex_digit, is_printed, is_quoted, other_char, quoted_char, quotes, shown_byte, shown_name, shown_path, trimmed}
 use Rattle.ps_findings.specs.SlotLines.{one_line}
 
 pub and_left : (x y : Bool) → (x && y) ≡ true → x ≡ true

@@ -1,5 +1,5 @@
 -- The lines of a text to which a line is added.
-use Rattle.std.proofs.Common.{◌≡◌, ◌∙◌, ◌++◌, ◌∷◌, ◌==◌, ◌&&◌, [], ℕ, List, Bool, true, false, not, cond, append-nil, refl, sym, subst, ap, codes}
+use Rattle.std.proofs.Common.{◌≡◌, ◌∙◌, ◌++◌, ◌∷◌, ◌==◌, [], ℕ, List, Bool, true, false, not, cond, append-nil, refl, sym, subst, ap}
 use Rattle.std.specs.Prelude.{if◌then◌else◌}
 use Rattle.std.specs.List.{filter}
 use Rattle.std.proofs.lemmas.List.{append_assoc}

@@ -1,11 +1,10 @@
 -- What a report says of each segment of a link: its slot and its name, what it is, and where its
 -- code comes from.
 -- Source: this project's profile.
-use Rattle.std.specs.Prelude.{ℕ, ◌+◌, ◌/◌, ◌%◌, ◌==◌, Bool, true, false, if◌then◌else◌, List, [], ◌∷◌, ◌++◌, Option, Some, None, length, map, slice_get, unwrap_or, codes, decimal}
+use Rattle.std.specs.Prelude.{ℕ, ◌+◌, ◌/◌, ◌%◌, ◌==◌, if◌then◌else◌, List, [], ◌∷◌, ◌++◌, Option, Some, None, length, map, codes, decimal}
 use Rattle.std.specs.List.{find}
 use Rattle.std.specs.Option.{option_map_or}
 use Rattle.std.specs.Str.{bytes_eq}
-use Rattle.ps_words.specs.declared.order.Order.{Order}
 use Rattle.ps_codefile.specs.declared.entry.Role.{Role}
 use Rattle.ps_codefile.specs.declared.entry.Role.TheVariants as role
 use Rattle.ps_resolve.specs.Sources.{Segment, opened_files, order_of}
@@ -13,20 +12,14 @@ use Rattle.ps_resolve.specs.Added.{segments}
 use Rattle.ps_resolve.specs.Readings.{read_requests}
 use Rattle.ps_resolve.specs.declared.reading.added.UnitReference.{UnitReference}
 use Rattle.ps_shown.specs.Shown.{shown_name, shown_path}
-use Rattle.ps_findings.specs.declared.segments.Part.{Part}
-use Rattle.ps_findings.specs.declared.segments.Part.TheVariants as part
+use Rattle.ps_checked.specs.Parts.{part_words}
+use Rattle.ps_checked.specs.Paths.{path_of}
+use Rattle.ps_checked.specs.declared.segments.Part.{Part}
+use Rattle.ps_checked.specs.declared.segments.Part.TheVariants as part
 
 -- the number of a slot or an entry, of two digits
 abbrev pub two_digits : ℕ → List ℕ
 two_digits n = (48 + n / 10) ∷ (48 + n % 10) ∷ []
-
--- what a segment is
-abbrev pub part_words : Part → List ℕ
-part_words part.Plain = codes "linked already, copied as it is"
-part_words part.Host = codes "the host program"
-part_words part.Unit = codes "a unit in the host file"
-part_words part.Wanted = codes "a unit that the host wants"
-part_words (part.Added asker rec) = codes "a unit that record " ++ (decimal rec ++ (codes " of " ++ (shown_name asker ++ codes " requests")))
 
 -- the first segment in this slot has this name; a blank one, where there is none
 abbrev pub name_in : List Segment → ℕ → List ℕ
@@ -49,10 +42,6 @@ part_as segs requests s role.Host = part.Host
 part_as segs requests s role.Unit = part.Unit
 part_as segs requests s role.Empty = part.Wanted
 part_as segs requests s role.Wanted = if s.added then part_added segs (asker_of requests s.name) else part.Wanted
-
--- the path of a file: that of the host, or of the k-th library
-abbrev pub path_of : List (List ℕ) → ℕ → List ℕ
-path_of paths file = unwrap_or (slice_get paths file) []
 
 -- `slot 08 UTIL: a unit that record 0 of MAIN requests`, or `no slot UTIL: ..`
 abbrev pub slot_words : Option ℕ → List ℕ

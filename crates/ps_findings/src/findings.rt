@@ -5,15 +5,14 @@ ghost use Rattle.ps_resolve.specs.Sources.{contents};
 ghost use Rattle.ps_findings.specs.SegmentLines.{segment_lines};
 ghost use Rattle.ps_findings.specs.SlotLines.{AddsSlotLines};
 
-use crate::explain::{Case, add_explanation};
-use crate::inputs::Inputs;
-use crate::looks::{Sight, Warnings, add_looks};
+use crate::explain::Explanation;
 use crate::overview::{add_files, add_segments};
-use crate::segments::{Segment, segments_of};
-use crate::warnings::Warning;
+use ps_checked::{Case, Inputs, Segment, segments_of};
 use ps_resolve::{Reading, read};
+use ps_warnings::{Warning, warnings_of};
 use ps_words::Fault;
 use std::alloc::{AllocError, Allocator};
+use std::fmt::Write as _;
 
 /// What is found in a host and its libraries.
 ///
@@ -59,14 +58,11 @@ pub fn findings_of<'a, A: Allocator + Copy>(
     let list = segments_of(alloc, &inputs, &reading)?;
     let overview = overview_of(alloc, &inputs, &reading, list.as_slice())?;
     let explanation = explanation_of(alloc, &inputs, &reading, list.as_slice(), fault)?;
-    let mut warnings = Warnings {
-        list: Vec::new(alloc),
-    };
-    add_looks(&mut warnings, &Sight::new(&inputs, list.as_slice(), fault))?;
+    let warnings = warnings_of(alloc, &inputs, list.as_slice(), fault)?;
     Ok(Findings {
         overview,
         explanation,
-        warnings: warnings.list,
+        warnings,
     })
 }
 
@@ -89,7 +85,7 @@ fn overview_of<A: Allocator + Copy>(
 }
 
 /// What the fault is in these files, and what to do about it, in lines; empty where there is none.
-fn explanation_of<'a, A: Allocator + Copy>(
+fn explanation_of<'a, A: Allocator>(
     alloc: A,
     inputs: &Inputs<'a>,
     reading: &Reading<'a>,
@@ -100,8 +96,8 @@ fn explanation_of<'a, A: Allocator + Copy>(
 {
     let mut text = String::new(alloc);
     if let Some(fault) = fault {
-        let case = Case::new(inputs, reading, list, fault);
-        add_explanation(&mut text, &case)?;
+        let explanation = Explanation(Case::new(inputs, reading, list, fault));
+        write!(text, "{explanation}")?;
     }
     Ok(text)
 }

@@ -3,12 +3,13 @@ ghost use Rattle.std.specs.Prelude.{◌≡◌, ◌∷◌, ◌++◌, [], None, On
 ghost use Rattle.ps_resolve.specs.AllFaults.{reading_fault};
 ghost use Rattle.ps_resolve.specs.Sources.{contents};
 ghost use Rattle.ps_resolve.specs.Views.{segment_of};
-ghost use Rattle.ps_findings.specs.SegmentLines.{asker_of as asker_of_spec, from_words, head_words, lines_of_segments, name_in as name_in_spec, path_of, part_added as part_added_spec, part_as, segment_lines, slot_words, two_digits};
+ghost use Rattle.ps_checked.specs.Paths.{path_of};
+ghost use Rattle.ps_findings.specs.SegmentLines.{asker_of as asker_of_spec, from_words, head_words, lines_of_segments, name_in as name_in_spec, part_added as part_added_spec, part_as, segment_lines, slot_words, two_digits};
 ghost use Rattle.ps_findings.specs.SlotLines.{AddsSlotLines};
 
-use crate::inputs::{Inputs, OrderOf};
-use crate::segments::{Part, Segment, filled_entry, in_slot};
+use crate::orders::OrderOf;
 use crate::slot_lines::add_other_lines;
+use ps_checked::{Inputs, Part, Segment, in_slot};
 use ps_codefile::Role;
 use ps_codefile::dictionary_layout::SLOTS;
 use ps_resolve::{Reading, Segment as LinkedSegment, UnitReference};
@@ -332,55 +333,38 @@ fn later_line<A: Allocator>(
     used: usize,
 ) -> Result<String<A>, AllocError> {
     let mut text = String::new(alloc);
-    if used == 0 {
-        return Ok(text);
-    }
-    let mut later = Files::NONE;
-    let mut first = 0u8;
-    for file in 1..=inputs.libs.len() {
-        if used < file {
-            if let Some(index) = entry_in(inputs, &name, file) {
-                first = if later.count == 0 { index } else { first };
-                later = later.with(file);
-            }
-        }
-    }
-    if let Some(more) = later.more() {
+    if let Some((file, entry, more)) = later_entries(inputs, &name, used) {
+        let path = inputs.shown(file);
         writeln!(
             text,
-            "  not used: {} entry {first:02} has the name too{more}",
-            inputs.shown(later.first)
+            "  not used: {path} entry {entry:02} has the name too{more}"
         )?;
     }
     Ok(text)
 }
 
-/// The entry of a library that has this name.
+/// The first library after that of a segment that has an entry of its name, with the entry, and how
+/// many more have one.
+fn later_entries(inputs: &Inputs<'_>, name: &Name, used: usize) -> Option<(usize, u8, More)> {
+    if used == 0 {
+        return None;
+    }
+    let mut later = (used..=inputs.libs.len())
+        .skip(1)
+        .filter_map(|file| Some((file, entry_in(inputs, name, file)?)));
+    let (file, entry) = later.next()?;
+    Some((file, entry, More(later.count())))
+}
+
+/// The first entry of a library that is filled and has this name.
 fn entry_in(inputs: &Inputs<'_>, name: &Name, file: usize) -> Option<u8> {
-    filled_entry(&inputs.dict(file)?, name)
-}
-
-/// The first of some files, and how many there are.
-#[derive(Clone, Copy)]
-struct Files {
-    first: usize,
-    count: usize,
-}
-
-impl Files {
-    const NONE: Files = Files { first: 0, count: 0 };
-
-    fn with(self, file: usize) -> Files {
-        Files {
-            first: if self.count == 0 { file } else { self.first },
-            count: self.count.saturating_add(1),
+    let dict = inputs.dict(file)?;
+    for slot in 0..SLOTS {
+        if dict.filled(slot) && dict.entry(slot).name == *name {
+            return Some(slot);
         }
     }
-
-    /// How many there are besides the first, if there is one.
-    fn more(self) -> Option<More> {
-        self.count.checked_sub(1).map(More)
-    }
+    None
 }
 
 /// So many libraries besides one that is named.
@@ -429,28 +413,15 @@ fn add_unused<A: Allocator>(
     inputs: &Inputs<'_>,
     list: &[Segment<'_>],
 ) -> Result<(), AllocError> {
-    let mut unused = Files::NONE;
-    for file in 1..=inputs.libs.len() {
-        if !is_used(list, file) {
-            unused = unused.with(file);
-        }
-    }
-    match unused.more() {
-        None => Ok(()),
-        Some(more) => writeln!(
-            text,
-            "nothing is taken from file {} {}{more}",
-            unused.first,
-            inputs.shown(unused.first)
-        ),
-    }
+    let mut unused = (1..=inputs.libs.len()).filter(|file| !is_used(list, *file));
+    let Some(file) = unused.next() else {
+        return Ok(());
+    };
+    let (path, more) = (inputs.shown(file), More(unused.count()));
+    writeln!(text, "nothing is taken from file {file} {path}{more}")
 }
 
+/// Some segment comes from the file.
 fn is_used(list: &[Segment<'_>], file: usize) -> bool {
-    for segment in list {
-        if matches!(segment.source, Some(source) if source.file == file) {
-            return true;
-        }
-    }
-    false
+    list.iter().any(|segment| segment.source.is_some_and(|source| source.file == file))
 }

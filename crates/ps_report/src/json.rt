@@ -5,8 +5,8 @@ ghost use Rattle.ps_report.specs.ReportJson.{BeginsWith, fault_json, number_or_n
 
 use crate::report::Report;
 use crate::verdict::Verdict;
-use ps_findings::{Place, Warning};
 use ps_linkfile::Summary;
+use ps_warnings::{Place, Warning};
 use ps_words::{Fault, Name, Reason};
 use std::alloc::{AllocError, Allocator};
 use std::fmt::{self, Formatter, Write as _};

@@ -7,6 +7,6 @@ mod json;
 mod report;
 mod verdict;
 
-pub use ps_findings::{Look, Oddity, Place, Warning};
+pub use ps_warnings::{Look, Oddity, Place, Warning};
 pub use report::{Report, check};
 pub use verdict::Verdict;

@@ -9,8 +9,9 @@ ghost use Rattle.ps_report.specs.Verdicts.{IsRefused, IsVerdict, Tells, check_st
 
 use crate::alone::lists_without_host;
 use crate::verdict::{Verdict, verdict_of};
-use ps_findings::{Findings, Warning, add_other_lines, findings_of};
+use ps_findings::{Findings, add_other_lines, findings_of};
 use ps_laws::first_of_all;
+use ps_warnings::Warning;
 use std::alloc::{AllocError, Allocator};
 use std::fmt::Write as _;
 

@@ -1,11 +1,11 @@
 //! What a fault is in these files, and what to do about it: the sentences of the fault, or others
 //! where the files say more.
-use super::Case;
-use crate::looks::codes::dead_look;
 use crate::sentences::{remedy_of, wrong_of};
+use ps_checked::{Case, Inputs};
 use ps_codefile::kinds::{FIRST_INTRINSIC, LAST_INTRINSIC, LINKED};
 use ps_filetype::{FileType, Remedy, is_swapped};
 use ps_shown::ShownPath;
+use ps_warnings::dead_look;
 use ps_words::Reason;
 use std::fmt::{self, Formatter};
 
@@ -27,7 +27,7 @@ pub(super) fn wrong_in(case: &Case<'_, '_>) -> &'static str {
 }
 
 /// A part of the code of the fault's segment was not read.
-pub(super) fn is_dead(case: &Case<'_, '_>) -> bool {
+fn is_dead(case: &Case<'_, '_>) -> bool {
     dead_look(case.code()).is_some()
 }
 
@@ -48,6 +48,16 @@ pub(super) enum Advice<'a> {
     OfType(Remedy<'a>),
     /// The host is to be exchanged with a library.
     Exchange { host: &'a str, library: &'a str },
+}
+
+impl<'a> Advice<'a> {
+    /// What to do with this file.
+    fn of_file(inputs: &Inputs<'a>, file: usize) -> Self {
+        Advice::OfType(Remedy {
+            file_type: inputs.file_type(file),
+            path: inputs.path(file),
+        })
+    }
 }
 
 impl fmt::Display for Advice<'_> {
@@ -103,33 +113,26 @@ pub(super) fn remedy_in<'a>(case: &Case<'_, 'a>) -> Advice<'a> {
     Advice::Sentence { text, path }
 }
 
-/// What to do about a file that is no code file, or not the one that is needed.
+/// What to do about a file that is no code file, or not the one that is needed. Of files of two byte
+/// orders the host may be the one that is exchanged.
 fn remedy_of_file<'a>(case: &Case<'_, 'a>) -> Advice<'a> {
-    let (inputs, reason) = (case.inputs, case.fault.reason);
-    let path = inputs.path(case.fault.file);
-    let file_type = inputs.file_type(case.fault.file);
-    match (reason, case.host_among_libraries()) {
-        (Reason::NoHost, Some(file)) => Advice::Exchange {
+    let (inputs, file) = (case.inputs, case.fault.file);
+    let path = inputs.path(file);
+    match (case.fault.reason, case.host_among_libraries()) {
+        (Reason::NoHost, Some(library)) => Advice::Exchange {
             host: path,
-            library: inputs.path(file),
+            library: inputs.path(library),
         },
-        (Reason::OrderMismatch, _) if file_type.is_code() => remedy_of_order(case),
-        _ => Advice::OfType(Remedy { file_type, path }),
-    }
-}
-
-/// What to do about files of two byte orders, of which the host may be the one that is exchanged.
-fn remedy_of_order<'a>(case: &Case<'_, 'a>) -> Advice<'a> {
-    let inputs = case.inputs;
-    match inputs.file_type(0) {
-        FileType::Swapped => Advice::OfType(Remedy {
-            file_type: FileType::Swapped,
-            path: inputs.path(0),
-        }),
-        _ => Advice::Sentence {
-            text: "Compile @ for the machine of the host.",
-            path: inputs.path(case.fault.file),
-        },
+        (Reason::OrderMismatch, _) if inputs.file_type(file).is_code() => {
+            match inputs.file_type(0) {
+                FileType::Swapped => Advice::of_file(inputs, 0),
+                _ => Advice::Sentence {
+                    text: "Compile @ for the machine of the host.",
+                    path,
+                },
+            }
+        }
+        _ => Advice::of_file(inputs, file),
     }
 }
 
@@ -137,10 +140,8 @@ fn remedy_of_order<'a>(case: &Case<'_, 'a>) -> Advice<'a> {
 fn remedy_of_missing<'a>(case: &Case<'_, 'a>) -> Advice<'a> {
     let inputs = case.inputs;
     for file in 1..=inputs.libs.len() {
-        let file_type = inputs.file_type(file);
-        if !file_type.is_code() {
-            let path = inputs.path(file);
-            return Advice::OfType(Remedy { file_type, path });
+        if !inputs.file_type(file).is_code() {
+            return Advice::of_file(inputs, file);
         }
     }
     Advice::Sentence {

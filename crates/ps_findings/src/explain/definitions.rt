@@ -1,68 +1,42 @@
 //! What is said of a name that the host program does not define as it is requested.
-use super::dictionary::plain;
-use super::{Case, word_of};
-use crate::segments::{Part, Segment};
-use ps_linkinfo::Sort;
+use super::word_of;
+use ps_checked::{Case, host_of};
+use ps_linkinfo::{LinkInformation, Sort};
 use ps_shown::ShownName;
+use ps_warnings::plain;
 use ps_words::Name;
-use std::alloc::{AllocError, Allocator};
-use std::fmt::Write as _;
+use std::fmt::{self, Formatter, Write};
 
-/// The segment of the host program.
-pub(crate) fn host_of<'a>(list: &[Segment<'a>]) -> Option<Segment<'a>> {
-    for segment in list {
-        if matches!(segment.part, Part::Host) {
-            return Some(*segment);
-        }
-    }
-    None
-}
-
-/// Adds the host's constant of the name, its names that are nearly that, and that the unit defines
-/// it itself.
-pub(super) fn add_defined<A: Allocator>(
-    text: &mut String<A>,
-    case: &Case<'_, '_>,
-) -> Result<(), AllocError> {
+/// The host's constant of the name, its names that are nearly that, and that the unit defines it
+/// itself.
+pub(super) fn write_defined<W: Write>(f: &mut Formatter<W>, case: &Case<'_, '_>) -> fmt::Result {
     let Some(asked) = case.record() else {
         return Ok(());
     };
     if let Some(host) = host_of(case.list) {
-        add_host_names(text, &host, &asked.name)?;
+        write_host_names(f, &host.records(), &asked.name)?;
     }
-    add_own(text, case, &asked.name)
+    match case.own_definition(&asked.name) {
+        Some(rec) => writeln!(
+            f,
+            "  the unit itself has a PUBLDEF of it, record {rec}, which is not used: the host program has to define it"
+        ),
+        None => Ok(()),
+    }
 }
 
-/// Adds the host's definitions of the name or of nearly the name.
-fn add_host_names<A: Allocator>(
-    text: &mut String<A>,
-    host: &Segment<'_>,
+/// The host's definitions of the name or of nearly the name.
+fn write_host_names<W: Write>(
+    f: &mut Formatter<W>,
+    records: &LinkInformation<'_>,
     name: &Name,
-) -> Result<(), AllocError> {
-    for (rec, record) in host.records().records() {
+) -> fmt::Result {
+    for (rec, record) in records.records() {
         if Sort::Definition.has(&record.body) && plain(&record.name) == plain(name) {
             let kind = word_of(&record.body);
             let found = ShownName(record.name);
-            writeln!(text, "  the host has {kind} {found}, record {rec}")?;
+            writeln!(f, "  the host has {kind} {found}, record {rec}")?;
         }
     }
     Ok(())
-}
-
-/// Adds that the unit itself has a definition of the name.
-fn add_own<A: Allocator>(
-    text: &mut String<A>,
-    case: &Case<'_, '_>,
-    name: &Name,
-) -> Result<(), AllocError> {
-    match &case.segment {
-        Some(unit) if unit.part.is_unit() => match unit.records().find(name, Sort::Variable) {
-            Some((rec, _)) => writeln!(
-                text,
-                "  the unit itself has a PUBLDEF of it, record {rec}, which is not used: the host program has to define it"
-            ),
-            None => Ok(()),
-        },
-        _ => Ok(()),
-    }
 }

@@ -1,69 +1,37 @@
 //! What faults of link information say.
-use super::{Case, word_of};
+use super::word_of;
+use ps_checked::Case;
 use ps_linkinfo::record_layout::{FORMAT_PLACE, RECORD_LEN, TYPE_PLACE};
-use ps_linkinfo::{LinkInformation, Sort};
 use ps_shown::ShownName;
-use ps_words::{Order, Reason, get};
-use std::alloc::{AllocError, Allocator};
-use std::fmt::Write as _;
+use ps_words::get;
+use std::fmt::{self, Formatter, Write};
 
-/// How many bytes the records that can be read take.
-pub(crate) fn length_of(records: &LinkInformation<'_>) -> usize {
-    let mut length = 0usize;
-    for (_, record) in records.records() {
-        length = length.saturating_add(record.size());
-    }
-    length
-}
-
-/// The bytes of the file from the first record on that cannot be read, and their order.
-fn unread<'a>(case: &Case<'_, 'a>) -> Option<(Order, &'a [u8])> {
-    let segment = case.segment?;
-    let source = segment.source?;
-    let used = length_of(&segment.records());
-    Some((source.order, source.after.get(used..).unwrap_or(&[])))
-}
-
-/// Adds the first words of a record that cannot be read, or how many bytes are left for it.
-pub(super) fn add_unread<A: Allocator>(
-    text: &mut String<A>,
+/// The first words of a record that cannot be read, or how many bytes are left for it.
+pub(super) fn write_unread<W: Write>(
+    f: &mut Formatter<W>,
     case: &Case<'_, '_>,
     rec: usize,
-) -> Result<(), AllocError> {
-    let Some((order, rest)) = unread(case) else {
-        return writeln!(text, "  record {rec}");
+) -> fmt::Result {
+    write!(f, "  record {rec}")?;
+    let Some((order, rest)) = case.unread() else {
+        return f.write_char('\n');
     };
+    f.write_char(':')?;
     let left = rest.len();
-    if left < RECORD_LEN {
-        return writeln!(
-            text,
-            "  record {rec}: {left} bytes of the file are left for it"
-        );
+    if RECORD_LEN <= left {
+        let kind = get(order, rest, TYPE_PLACE);
+        let format = get(order, rest, FORMAT_PLACE);
+        write!(f, " type {kind}, and then the word {format};")?;
     }
-    let kind = get(order, rest, TYPE_PLACE);
-    let format = get(order, rest, FORMAT_PLACE);
-    writeln!(
-        text,
-        "  record {rec}: type {kind}, and then the word {format}; {left} bytes of the file are left for it"
-    )
+    writeln!(f, " {left} bytes of the file are left for it")
 }
 
-/// Adds the earlier record of the name.
-pub(super) fn add_earlier<A: Allocator>(
-    text: &mut String<A>,
-    case: &Case<'_, '_>,
-) -> Result<(), AllocError> {
-    let (Some(segment), Some(duplicate)) = (&case.segment, case.record()) else {
-        return Ok(());
-    };
-    let sort = match case.fault.reason {
-        Reason::DoubledPrivate => Sort::Private,
-        _ => Sort::Definition,
-    };
-    let Some((rec, record)) = segment.records().find(&duplicate.name, sort) else {
+/// The earlier record of the name.
+pub(super) fn write_earlier<W: Write>(f: &mut Formatter<W>, case: &Case<'_, '_>) -> fmt::Result {
+    let Some((rec, record)) = case.earlier_record() else {
         return Ok(());
     };
     let kind = word_of(&record.body);
     let name = ShownName(record.name);
-    writeln!(text, "  the earlier one is record {rec}: {kind} {name}")
+    writeln!(f, "  the earlier one is record {rec}: {kind} {name}")
 }

@@ -1,17 +1,15 @@
-//! What is said of a reference.
-use super::definitions::host_of;
-use super::{Case, privates};
-use ps_linkinfo::{Body, LinkRecord, Operand, Sort};
-use ps_words::{Name, get_big};
-use std::alloc::{AllocError, Allocator};
-use std::fmt::{self, Formatter, Write as _};
+//! What is said of a reference, and of an operand that may not be where it is.
+use ps_checked::Case;
+use ps_resolve::ReferencePlace;
+use ps_shown::ShownName;
+use std::fmt::{self, Formatter, Write};
 
 /// Bytes as they are, in two hexadecimal digits each.
 #[derive(Clone, Copy)]
-pub(crate) struct Bytes<'b>(pub(crate) &'b [u8]);
+struct Bytes<'b>(&'b [u8]);
 
 impl fmt::Display for Bytes<'_> {
-    fn fmt<W: fmt::Write>(&self, f: &mut Formatter<W>) -> fmt::Result {
+    fn fmt<W: Write>(&self, f: &mut Formatter<W>) -> fmt::Result {
         if self.0.is_empty() {
             return f.write_str(" none");
         }
@@ -22,77 +20,58 @@ impl fmt::Display for Bytes<'_> {
     }
 }
 
-/// The operand that the fault is reported with.
-pub(super) fn told_operand(case: &Case<'_, '_>) -> Option<Operand> {
-    case.record()?.operand(case.fault.reference?)
-}
-
-/// The bytes of an operand, as far as the code has them.
-pub(crate) fn bytes_at<'a>(code: &'a [u8], operand: Operand) -> &'a [u8] {
-    let rest = code.get(usize::from(operand.place)..).unwrap_or(&[]);
-    rest.get(..usize::from(operand.width)).unwrap_or(rest)
-}
-
-/// Adds the reference with the bytes that are there.
-pub(super) fn add_reference<A: Allocator>(
-    text: &mut String<A>,
-    case: &Case<'_, '_>,
-) -> Result<(), AllocError> {
+/// The reference with the bytes that are there.
+pub(super) fn write_reference<W: Write>(f: &mut Formatter<W>, case: &Case<'_, '_>) -> fmt::Result {
     let Some(reference) = case.fault.reference else {
         return Ok(());
     };
-    match told_operand(case) {
+    match case.operand() {
         Some(operand) => {
-            let bytes = Bytes(bytes_at(case.code(), operand));
+            let (place, bytes) = (operand.place, Bytes(case.bytes_of(operand)));
             writeln!(
-                text,
-                "  reference {reference}: byte {} of the code, where these bytes stand:{bytes}",
-                operand.place
+                f,
+                "  reference {reference}: byte {place} of the code, where these bytes stand:{bytes}"
             )
         }
-        None => writeln!(text, "  reference {reference}"),
+        None => writeln!(f, "  reference {reference}"),
     }
 }
 
-/// Adds the displacement and the value that together are too large.
-pub(super) fn add_sum<A: Allocator>(
-    text: &mut String<A>,
-    case: &Case<'_, '_>,
-) -> Result<(), AllocError> {
-    let (Some(operand), Some(record)) = (told_operand(case), case.record()) else {
+/// The displacement and the value that together are too large.
+pub(super) fn write_sum<W: Write>(f: &mut Formatter<W>, case: &Case<'_, '_>) -> fmt::Result {
+    let (Some(operand), Some(record)) = (case.operand(), case.record()) else {
         return Ok(());
     };
-    let bytes = bytes_at(case.code(), operand);
-    let displacement = if 2 <= bytes.len() {
-        get_big(bytes, 0)
-    } else {
-        0
-    };
-    let value = match record.body {
-        Body::PrivRef { .. } => privates::offset(case),
-        _ => u64::from(value_of(case, &record.name)),
-    };
+    let (displacement, value) = (case.displacement_of(operand), case.value_of(&record));
     writeln!(
-        text,
+        f,
         "  its displacement is {displacement}, and the value {value}"
     )
 }
 
-/// The value of the host's definition of the name.
-fn value_of(case: &Case<'_, '_>, name: &Name) -> u16 {
-    let Some(host) = host_of(case.list) else {
-        return 0;
+/// How long the code is, or which table has the operand's bytes.
+pub(super) fn write_place<W: Write>(f: &mut Formatter<W>, case: &Case<'_, '_>) -> fmt::Result {
+    let Some(operand) = case.operand() else {
+        return Ok(());
     };
-    match host.records().find(name, Sort::Variable) {
-        Some(
-            (
-                _,
-                LinkRecord {
-                    body: Body::PublDef(value),
-                    ..
-                },
-            ),
-        ) => value,
-        _ => 0,
+    let length = case.code().len();
+    if length < usize::from(operand.place) + usize::from(operand.width) {
+        return writeln!(f, "  the code has {length} bytes");
     }
+    match case.table_with(operand) {
+        Some(procedure) => writeln!(f, "  it lies in the table of procedure {procedure}"),
+        None => f.write_str("  it lies in the procedure dictionary\n"),
+    }
+}
+
+/// The earlier reference that covers a byte of this one.
+pub(super) fn write_covered<W: Write>(f: &mut Formatter<W>, case: &Case<'_, '_>) -> fmt::Result {
+    let Some((ReferencePlace { rec, reference }, record)) = case.earlier_reference() else {
+        return Ok(());
+    };
+    let name = ShownName(record.name);
+    writeln!(
+        f,
+        "  the earlier one is reference {reference} of record {rec}, {name}"
+    )
 }

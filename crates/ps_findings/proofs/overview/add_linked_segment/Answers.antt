@@ -1,7 +1,7 @@
 use Rattle.std.proofs.Common.{◌≡◌, ◌∷◌, [], List, ℕ, ap, length, refl, subst, string_bytes}
 use Rattle.std.specs.Result.{OnOk}
 use Rattle.ps_resolve.specs.Sources.{contents}
-use Rattle.ps_findings.specs.SegmentLines.{path_of}
+use Rattle.ps_checked.specs.Paths.{path_of}
 use Rattle.ps_findings.specs.SlotLines.{AddsSlotLines}
 use Rattle.ps_findings.proofs.LinesOfSegments.{same_line}
 use Rattle.ps_findings.proofs.overview.add_linked_segment.Goals as goal

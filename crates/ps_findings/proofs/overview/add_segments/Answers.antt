@@ -1,4 +1,4 @@
-use Rattle.std.proofs.Common.{◌∷◌, List, ℕ, string_bytes}
+use Rattle.std.proofs.Common.{◌∷◌, string_bytes}
 use Rattle.std.proofs.lemmas.Result.{on_ok_weaker}
 use Rattle.ps_resolve.specs.Sources.{contents}
 use Rattle.ps_findings.specs.SegmentLines.{segment_lines}

@@ -1,0 +1,14 @@
+-- What a segment of a link is, in words.
+-- Source: this project's profile.
+use Rattle.std.specs.Prelude.{ℕ, List, ◌++◌, codes, decimal}
+use Rattle.ps_shown.specs.Shown.{shown_name}
+use Rattle.ps_checked.specs.declared.segments.Part.{Part}
+use Rattle.ps_checked.specs.declared.segments.Part.TheVariants as part
+
+-- what a segment is
+abbrev pub part_words : Part → List ℕ
+part_words part.Plain = codes "linked already, copied as it is"
+part_words part.Host = codes "the host program"
+part_words part.Unit = codes "a unit in the host file"
+part_words part.Wanted = codes "a unit that the host wants"
+part_words (part.Added asker rec) = codes "a unit that record " ++ (decimal rec ++ (codes " of " ++ (shown_name asker ++ codes " requests")))

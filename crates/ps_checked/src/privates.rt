@@ -1,0 +1,48 @@
+//! What the files say of private variables that do not fit.
+use crate::cases::Case;
+use crate::segments::host_of;
+use ps_codefile::dictionary_layout::SLOTS;
+use ps_linkinfo::Body;
+use ps_pcode::procedures_of;
+use ps_resolve::words_before;
+
+impl Case<'_, '_> {
+    /// The words of the private variables before the record that the fault is reported with, or of
+    /// all where it is reported with none.
+    /// Source: the published II.0 Linker source.
+    pub fn words_before(&self) -> u64 {
+        let segments = self.reading.segments();
+        let words = match (self.fault.slot, self.fault.rec) {
+            (Some(slot), Some(rec)) => words_before(segments, slot, rec),
+            _ => words_before(segments, SLOTS, 0),
+        };
+        u64::from(words.unwrap_or(u32::MAX))
+    }
+
+    /// The data size of the outer block of the host program, in bytes.
+    /// Source: UCSD Pascal II.0 manual, code file format.
+    pub fn data_size(&self) -> Option<u16> {
+        let source = host_of(self.list)?.source?;
+        procedures_of(source.order, source.code.ok()?)?.data_size()
+    }
+
+    /// The base offset of the private variable of the record that the fault is reported with, in
+    /// words.
+    /// Source: the published II.0 Linker source.
+    pub fn base_offset(&self) -> u64 {
+        let next = match host_of(self.list) {
+            Some(host) => u64::from(host.records().next()),
+            None => 0,
+        };
+        next.saturating_add(self.words_before())
+    }
+
+    /// The words of the private variable of the record that the fault is reported with.
+    /// Source: the published II.0 Linker source.
+    pub fn private_words(&self) -> Option<u16> {
+        match self.record()?.body {
+            Body::PrivRef { words, .. } => Some(words),
+            _ => None,
+        }
+    }
+}

@@ -1,0 +1,25 @@
+//! What is said of a file's byte order.
+use ps_codefile::Dict;
+use ps_filetype::FileType;
+use ps_words::{Order, Reason};
+use std::fmt::{self, Formatter};
+
+/// What a file says of its byte order, or what it is where it is no code file.
+#[derive(Clone, Copy)]
+pub(crate) struct OrderOf<'a>(pub(crate) &'a [u8]);
+
+impl fmt::Display for OrderOf<'_> {
+    fn fmt<W: fmt::Write>(&self, f: &mut Formatter<W>) -> fmt::Result {
+        let file_type = FileType::of(self.0);
+        match Dict::read(self.0) {
+            Ok(dict) => match dict.order() {
+                Order::Little => f.write_str("little-endian"),
+                Order::Big => f.write_str("big-endian"),
+            },
+            Err(Reason::NoHost) if file_type.is_code() => f.write_str(
+                "no byte order, since no segment has a kind",
+            ),
+            Err(_) => write!(f, "{file_type}"),
+        }
+    }
+}

@@ -1,0 +1,65 @@
+//! What the attribute table of a procedure says of the code before it.
+use ps_codefile::ProcedureDictionary;
+use ps_codefile::code_layout::{DATA_SIZE_BEFORE_TABLE, NUMBERS};
+use ps_words::{Order, WORD_LEN, get};
+
+/// The procedures of a code; none where its procedure dictionary is not whole, or one of them is
+/// native code.
+///
+/// Source: UCSD Pascal II.0 manual, code file format.
+pub fn procedures_of(order: Order, code: &[u8]) -> Option<ProcedureDictionary<'_>> {
+    if code.len() < NUMBERS {
+        return None;
+    }
+    ProcedureDictionary::read(order, code, false).ok()
+}
+
+/// Where a procedure is entered, and where it is left: places in the code of its segment.
+///
+/// Source: UCSD Pascal II.0 manual, code file format.
+#[derive(Clone, Copy)]
+pub struct Ends {
+    pub enter: usize,
+    pub leave: usize,
+}
+
+impl Ends {
+    /// Those of the table at this place; none where one of them is before the code.
+    /// Source: UCSD Pascal II.0 manual, code file format.
+    pub fn at(order: Order, code: &[u8], table: usize) -> Option<Ends> {
+        let (enter_at, leave_at) = (table.checked_sub(2)?, table.checked_sub(4)?);
+        match code.get(leave_at..) {
+            Some(words) if 4 <= words.len() => Some(Ends {
+                enter: enter_at.checked_sub(usize::from(get(order, words, 2)))?,
+                leave: leave_at.checked_sub(usize::from(get(order, words, 0)))?,
+            }),
+            _ => None,
+        }
+    }
+}
+
+/// What a procedure's table says of its variables.
+#[derive(Clone, Copy)]
+pub(crate) struct Frame {
+    pub(crate) level: u8,
+    /// The words of its parameters.
+    pub(crate) parameters: u16,
+    /// Those and its own words.
+    pub(crate) words: u16,
+}
+
+impl Frame {
+    /// That of the table at this place; none where the code has no whole table there.
+    pub(crate) fn at(order: Order, segment: &[u8], table: usize) -> Option<Frame> {
+        let sizes = segment.get(table.checked_sub(DATA_SIZE_BEFORE_TABLE)?..)?;
+        if sizes.len() < DATA_SIZE_BEFORE_TABLE + 2 {
+            return None;
+        }
+        let (data, parameters) = (get(order, sizes, 0), get(order, sizes, WORD_LEN));
+        Some(Frame {
+            level: sizes[DATA_SIZE_BEFORE_TABLE + 1],
+            parameters: parameters / 2,
+            words: data / 2 + parameters / 2,
+        })
+    }
+}
