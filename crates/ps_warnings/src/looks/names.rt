@@ -2,7 +2,7 @@
 use crate::warnings::Oddity;
 use ps_checked::Inputs;
 use ps_codefile::dictionary_layout::SLOTS;
-use ps_codefile::is_nameless;
+use ps_codefile::{Dict, is_nameless};
 use ps_words::Name;
 use std::ops::RangeInclusive;
 
@@ -16,14 +16,22 @@ fn has(name: &Name, bytes: RangeInclusive<u8>) -> bool {
     false
 }
 
+/// The name of an entry that is filled has a capital letter.
+fn has_capital(dict: &Dict<'_>) -> bool {
+    for slot in 0..SLOTS {
+        if dict.filled(slot) && has(&dict.entry(slot).name, b'A'..=b'Z') {
+            return true;
+        }
+    }
+    false
+}
+
 /// No name of an entry that is filled has a capital letter.
 pub(super) fn are_small(inputs: &Inputs<'_>) -> bool {
     for file in 0..=inputs.libs.len() {
         if let Some(dict) = inputs.dict(file) {
-            for slot in 0..SLOTS {
-                if dict.filled(slot) && has(&dict.entry(slot).name, b'A'..=b'Z') {
-                    return false;
-                }
+            if has_capital(&dict) {
+                return false;
             }
         }
     }
