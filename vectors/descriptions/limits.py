@@ -138,14 +138,15 @@ def files():
 
 def amounts():
     """Many procedures, segments, private variables and definitions, and a unit that a late library has."""
-    # the ten bytes of instructions are those of procedure 250, so its table is at byte 18, and all others have it too
-    first = Procedure(["A5", public(), "AB", private(displacement=2), "D7 D7 AD 00"], number=250)
-    many = [first, *(Procedure([], number=k, at=18) for k in range(1, 250))]
     records = [publ_ref("COUNT", [1]), priv_ref("STATE", 4, [4]), eof_mark(0)]
-    yield linked("procedures-250", "A unit of 250 procedures, with operands.", wanting("UTIL"),
-                 [{2: Segment("UTIL", UNITSEG, many, records)}], [DEMO, UTIL], [(7, "STATE", 8, 4)], 12, 18)
+    for count in (250, 255):
+        # the ten bytes of instructions are those of the last procedure, so its table is at byte 18, and all others have it too
+        last = Procedure(["A5", public(), "AB", private(displacement=2), "D7 D7 AD 00"], number=count)
+        many = [last, *(Procedure([], number=k, at=18) for k in range(1, count))]
+        yield linked(f"procedures-{count}-operands", f"A unit of {count} procedures, with operands.", wanting("UTIL"),
+                     [{2: Segment("UTIL", UNITSEG, many, records)}], [DEMO, UTIL], [(7, "STATE", 8, 4)], 12, 18)
     alone = Segment("DEMO", HOSTSEG, [Procedure(["D7 D7 C1 00"], parameters=4, data=10)], [eof_mark(8)])
-    for count in range(13, 17):
+    for count in range(12, 17):
         host = {slot: alone if slot == 1 else Segment(f"TOOL{slot}", LINKED, code=bytes([slot] * 5)) for slot in range(count)}
         yield linked(f"segments-{count}", f"{count} segments, and no definition.", host, [],
                      [(slot, 0, slot) for slot in range(count)])
@@ -161,9 +162,11 @@ def amounts():
                    ["A5", public(), "AB", private(displacement=2)],
                    [publ_ref("COUNT", [1]), *(priv_ref(name, 1, []) for _, name, _, _ in numbered), priv_ref("STATE", 1, [4])],
                    privates=[*numbered, (7, "STATE", 1507, 1)], next_free=1508, data=3010)
-    host = program(*(publ_def(f"{k:08}", 5) for k in range(1, 4096)))
-    yield one_unit("definitions-4096", "A host of 4096 definitions.", ["A5", public("00004095", 1)], [publ_ref("00004095", [1])],
-                   host=host)
+    for count in (4095, 4096, 4097):
+        last = f"{count - 1:08}"
+        host = program(*(publ_def(f"{k:08}", 5) for k in range(1, count)))
+        yield one_unit(f"definitions-{count}", f"A host of {count} definitions.", ["A5", public(last, 1)], [publ_ref(last, [1])],
+                       host=host)
 
 
 def cases():
