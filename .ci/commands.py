@@ -1,8 +1,8 @@
 """Runs a program of the commands link, map, show and check on many sets of files: for the scripts beside, and for library/tests."""
 import contextlib
 import os
-import pathlib
 import subprocess
+import sys
 import tempfile
 import typing
 
@@ -30,7 +30,7 @@ class Commands:
 
     def __init__(self, program, serves=False):
         self.program, self.room, self.there, self.kept = program, room(), {}, {}
-        self.folder = pathlib.Path(self.room.name)
+        self.folder = self.room.name
         how = {"cwd": self.folder, "text": True, "bufsize": 1, "stdin": subprocess.PIPE, "stdout": subprocess.PIPE}
         self.server = subprocess.Popen([program, "serve", "stdout", "stderr"], **how) if serves else None
 
@@ -56,26 +56,32 @@ class Commands:
             return Answer(*self.run(command, *flags, *names), None)
         self.put("OUT", self.BEFORE)
         ended = self.run(command, *flags, names[0], "OUT", *names[1:])
-        self.there["OUT"] = (self.folder / "OUT").read_bytes()
+        self.there["OUT"] = self.read("OUT")
         return Answer(*ended, None if self.there["OUT"] == self.BEFORE else self.there["OUT"])
 
     def put(self, name, content):
         """Writes a file, unless it is there. It is a new one: to cut a file off may wait for the disk."""
         if self.there.get(name) != content:
             with contextlib.suppress(FileNotFoundError):
-                os.unlink(self.folder / name)
-            (self.folder / name).write_bytes(content)
+                os.unlink(f"{self.folder}/{name}")
+            with open(f"{self.folder}/{name}", "wb") as file:
+                file.write(content)
             self.there[name] = content
+
+    def read(self, name):
+        with open(f"{self.folder}/{name}", "rb") as file:
+            return file.read()
 
     def run(self, *words):
         """The status of a command, and what it prints."""
         status = self.served(words) if self.server else self.started(words)
-        return status, *((self.folder / stream).read_bytes().decode() for stream in ("stdout", "stderr"))
+        return status, self.read("stdout").decode(), self.read("stderr").decode()
 
     def started(self, words):
-        with open(self.folder / "stdout", "wb") as out, open(self.folder / "stderr", "wb") as error:
+        with open(f"{self.folder}/stdout", "wb") as out, open(f"{self.folder}/stderr", "wb") as error:
             return subprocess.call([self.program, *words], cwd=self.folder, stdout=out, stderr=error)
 
     def served(self, words):
         print(*words, sep="\t", file=self.server.stdin)
-        return int(self.server.stdout.readline())
+        status = self.server.stdout.readline()
+        return int(status) if status else sys.exit(f"{self.program} has ended at: {' '.join(words)}")
