@@ -1,44 +1,24 @@
 #!/usr/bin/env python3
-"""Answers of the library beside those of the program, through C and through Python: each set of files of .ci/report, with its
-report; and the longest linked file, 500 libraries, a fault in library 300, and a map and a show of more than 64 KiB, whose answers are worked
-out here too. Leaves these files in FOLDER, for .ci/library to measure. Prints what is otherwise.
+"""Answers of the library beside those of the program, through C and through Python: the samples; each set of files of .ci/report,
+with its report; and the longest linked file, 500 libraries, a fault in library 300, and a map and a show of more than 64 KiB, whose
+answers are worked out here too. Leaves these files in FOLDER, for .ci/library to measure. Prints what is otherwise.
 Usage: beside.py PSLINK PROGRAM LINKED FOLDER: the program, program.c as it was built, and to what the sample pair is linked"""
-import contextlib
-import io
 import pathlib
-import subprocess
+import runpy
 import sys
 
 ROOT = pathlib.Path(__file__).resolve().parents[2]
 sys.dont_write_bytecode = True
-sys.path[:0] = [str(ROOT / name) for name in ("library/tests", "bench", "samples")]
+sys.path[:0] = [str(ROOT / name) for name in ("library/tests", "bench", "samples", ".ci")]
 PSLINK, PROGRAM, LINKED, FOLDER = (pathlib.Path(path).resolve() for path in sys.argv[1:5])
 import large_files as large  # noqa: E402
 import make_samples  # noqa: E402
 import program  # noqa: E402
+from commands import Commands  # noqa: E402
 
 HOST, LIBRARY = make_samples.SAMPLES["host.code"], make_samples.SAMPLES["library.code"]
 LONGEST_CODE = 64 * large.BLOCK - 2
-
-
-def of_report():
-    """The sets of files that .ci/report runs the program on."""
-    source = (ROOT / ".ci/report").read_text().rsplit("\nsys.exit(main())", 1)[0]
-    report = {"__name__": "report", "__file__": str(ROOT / ".ci/report")}
-    arguments, sys.argv = sys.argv, [sys.argv[0], str(PSLINK)]
-    exec(compile(source, ".ci/report", "exec"), report)
-    sys.argv = arguments
-    run, sets = report["run"], {}
-
-    def recorded(folder, command, host, libraries, *rest, **more):
-        sets[bytes(host), tuple(map(bytes, libraries))] = None
-        return run(folder, command, host, libraries, *rest, **more)
-
-    report["run"] = recorded
-    # (what it finds is printed by itself, in the gate)
-    with contextlib.redirect_stdout(io.StringIO()):
-        report["main"]()
-    return list(sets)
+SAMPLE_SETS = ["host library", "big_host big_library", "host using used", "two_units", "procedures library", "host", "library host"]
 
 
 def longest(is_linked):
@@ -67,50 +47,59 @@ def long_cases():
     yield ("a long map and a long show", [large.host_of_definitions(5000), large.library_of_operands()], {})
 
 
-def by_program(command, files, program_file):
-    """What a program answers to these files."""
-    folder = FOLDER / "files"
-    folder.mkdir(exist_ok=True)
-    names = [f"file{k}" for k in range(len(files))]
-    for name, data in zip(names, files):
-        (folder / name).write_bytes(data)
-    out = folder / "out"
-    out.unlink(missing_ok=True)
-    arguments = [names[0], "out", *names[1:]] if command == "link" else names[:1] if command == "show" else names
-    done = subprocess.run([program_file, *command.split(), *arguments], cwd=folder, capture_output=True)
-    return done.returncode, done.stdout.decode(), done.stderr.decode(), out.read_bytes() if out.exists() else None
-
-
-def differences(what, command, files, wanted=None):
-    answer = by_program(command, files, PSLINK)
+def differences(pslink, others, what, command, files, wanted=None):
+    """What the program answers otherwise than is wanted, and others than the program. Python is given the bytes of the files."""
+    word, *flags = command.split()
+    host, *libraries = files[:1] if word == "show" else files
+    answer = pslink(word, host, libraries, *flags)
     if wanted is not None and answer != wanted:
         yield f"{what}: {command}: the program answers {str(answer)[:300]}"
-    if (found := by_program(command, files, PROGRAM)) != answer:
-        yield f"{what}: {command}: C answers {str(found)[:300]}, and the program {str(answer)[:300]}"
-    names = [f"file{k}" for k in range(len(files))]
-    if (found := program.answer(command.split()[0], files[0], files[1:], names, "--strict" in command)) != answer:
-        yield f"{what}: {command}: Python answers {str(found)[:300]}, and the program {str(answer)[:300]}"
+    names = ["HOST", *(f"LIB{k}" for k in range(1, 1 + len(libraries)))]
+    found = {language: run(word, host, libraries, *flags) for language, run in others.items()}
+    found["Python"] = program.answer(word, host, libraries, names, "--strict" in flags)
+    for language, one in found.items():
+        if one != answer:
+            yield f"{what}: {command}: {language} answers {str(one)[:300]}, and the program {str(answer)[:300]}"
 
 
-def main():
-    found = []
-    sets = of_report()
-    if len(sets) < 60:
-        found.append(f".ci/report has {len(sets)} sets of files")
+def of_samples(*linkers):
+    for names in SAMPLE_SETS:
+        files = [make_samples.SAMPLES[f"{name}.code"] for name in names.split()]
+        for command in ("link", "map", "check", "check --strict"):
+            yield from differences(*linkers, names, command, files)
+    for path in [*(ROOT / "samples").glob("*.code"), *(ROOT / "samples").glob("*.map")]:
+        yield from differences(*linkers, path.name, "show", [path.read_bytes()])
+
+
+def of_report(*linkers):
+    """The sets of files that .ci/report runs the program on."""
+    sets = {(bytes(host), tuple(map(bytes, libraries))): None for host, libraries in runpy.run_path(str(ROOT / ".ci/report"))["sets"]()}
+    if len(sets) < 2000:
+        yield f".ci/report has {len(sets)} sets of files"
     for number, (host, libraries) in enumerate(sets):
         for command in ("link", "map", "check --strict"):
-            found += differences(f"files {number} of .ci/report", command, [host, *libraries])
+            yield from differences(*linkers, f"files {number} of .ci/report", command, [host, *libraries])
     for file in {file for host, libraries in sets for file in [host, *libraries]}:
-        found += differences("a file of .ci/report", "show", [file])
+        yield from differences(*linkers, "a file of .ci/report", "show", [file])
+
+
+def of_long_files(*linkers):
     for what, files, wanted in long_cases():
         for command in ("link", "map", "check", "show"):
-            found += differences(what, command, files, wanted.get(command))
+            yield from differences(*linkers, what, command, files, wanted.get(command))
         for k, file in enumerate(files):
             (FOLDER / f"{what.replace(' ', '_')}.{k:03}").write_bytes(file)
     for command, least in (("map", 5000 * 24), ("show", 5000 * 24)):
         size = len(program.answer(command, files[0], files[1:])[1])
         if size < least or size <= 65536:
-            found.append(f"a long {command} has {size} bytes")
+            yield f"a long {command} has {size} bytes"
+
+
+def main():
+    by_paths = ROOT / "library/tests/program.py"
+    with Commands(PSLINK) as pslink, Commands(PROGRAM, serves=True) as in_c, Commands(by_paths, serves=True) as python:
+        found = [*of_samples(pslink, {"C": in_c, "Python, given paths,": python})]
+        found += [*of_report(pslink, {"C": in_c}), *of_long_files(pslink, {"C": in_c})]
     for line in found:
         print(line)
     return 1 if found else 0

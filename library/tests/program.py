@@ -47,15 +47,32 @@ def answer(command, host, libs, names=None, strict=False):
     return 0, numbers, "", linked
 
 
-def main():
-    command, *paths = sys.argv[1:]
+def answered(words):
+    """What the command of these words answers, as above, and the file to write. (Paths are read by the package, and are the
+    names in a report.)"""
+    command, *paths = words
     strict = "--strict" in paths
     paths = [path for path in paths if path != "--strict"]
     out = paths.pop(1) if command == "link" else None
-    # (paths are read by the package, and are the names in a report)
     status, printed, error, linked = answer(command, paths[0], paths[1:], None, strict)
     if linked is not None:
         pathlib.Path(out).write_bytes(linked)
+    return status, printed, error
+
+
+def serve(*streams):
+    """Answers the commands that come on standard input, as .ci/commands.py says."""
+    for line in sys.stdin:
+        status, *texts = answered(line.rstrip("\n").split("\t"))
+        for stream, text in zip(streams, texts):
+            pathlib.Path(stream).write_text(text)
+        print(status, flush=True)
+
+
+def main():
+    if sys.argv[1] == "serve":
+        return serve(*sys.argv[2:])
+    status, printed, error = answered(sys.argv[1:])
     sys.stdout.write(printed)
     sys.stderr.write(error)
     return status

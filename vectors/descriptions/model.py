@@ -2,6 +2,7 @@
 Nothing here reads a code file: what is expected comes from the description alone. docs/FORMAT.md and docs/LINKING.md
 have the rules; the comments name their sections."""
 import dataclasses
+import functools
 import pathlib
 import sys
 
@@ -23,11 +24,13 @@ SHOWN = {EOFMARK: "EOFMARK", UNITREF: "UNITREF", PUBLREF: "PUBLREF", PRIVREF: "P
 BLANK = (bytes(8), b" " * 8)
 
 
+@functools.cache
 def name_bytes(name):
     """The eight bytes of a name, which is given as text without its blanks, or as its bytes."""
     return name if isinstance(name, bytes) else name.encode().ljust(8)[:8]
 
 
+@functools.cache
 def printed(name):
     """LINKING.md, Forms: a byte from 32 to 126 as itself, any other as '?'."""
     return "".join(chr(byte) if 32 <= byte <= 126 else "?" for byte in name_bytes(name))
