@@ -1,11 +1,29 @@
 -- What is in a list, by its place there.
-use Rattle.std.proofs.Common.{◌≡◌, ℕ, zero, suc, ◌+◌, ◌<◌, ◌≤◌, List, [], ◌∷◌, ◌++◌, length, take, Option, Some, None, Bool, true, false, refl, sym, ap, subst, ◌∙◌, inl, inr, arith}
-use Rattle.std.specs.Prelude.{if◌then◌else◌}
+use Rattle.std.proofs.Common.{◌≡◌, ℕ, zero, suc, ◌+◌, ◌<◌, ◌≤◌, List, [], ◌∷◌, ◌++◌, length, get_or, take, Option, Some, None, Bool, true, false, refl, sym, ap, subst, ◌∙◌, inl, inr, arith}
+use Rattle.std.specs.Prelude.{if◌then◌else◌, All, ⊤}
 use Rattle.std.specs.List.{range_with_len, slice_get, filter, filter_map, flat_map, cons_option, find}
-use Rattle.std.proofs.lemmas.Bool.{cases_lt}
+use Rattle.std.proofs.lemmas.Bool.{cases_lt, cases_order}
+use Rattle.std.proofs.lemmas.List.Elements.{All-get_or}
+use Rattle.std.proofs.lemmas.Option.{get_or_from_slice_get, slice_get-get_or, slice_get_within}
+use Rattle.ps_resolve.proofs.EachSegment.{find_has}
 
 abbrev pub In : {A : Type 0} → A → List A → Type 0
 In a xs = (i : ℕ) × (slice_get xs i ≡ Some a)
+
+-- numbers of which none is before the other
+pub not_apart : (i j : ℕ) → (i < j → ⊥) → (j < i → ⊥) → i ≡ j
+not_apart i j h k = elim (cases_order i j) [ inl e ↦ e | inr u ↦ elim u [ inl l ↦ absurd (h l) | inr l ↦ absurd (k l) ] ]
+
+-- what holds of all items holds of the item at a place
+pub of_all : {A : Type 0} (P : A → Type 0) (xs : List A) → All P xs → (i : ℕ) (x : A) → slice_get xs i ≡ Some x → P x
+of_all P xs all i x e = subst P (get_or_from_slice_get xs i x x e) (All-get_or P xs i x (slice_get_within xs i x e) all)
+
+pub all_items : {A : Type 0} (P : A → Type 0) (xs : List A) → ((k : ℕ) (x : A) → slice_get xs k ≡ Some x → P x) → All P xs
+all_items P xs h i x lt = h i (get_or xs i x) (slice_get-get_or xs i x lt)
+
+-- each item is in the list
+pub all_in : {A : Type 0} (xs : List A) → All (λ x. In x xs) xs
+all_in xs i x lt = (i, slice_get-get_or xs i x lt)
 
 -- joined lists
 pub at_left : {A : Type 0} (xs ys : List A) (i : ℕ) (a : A) → slice_get xs i ≡ Some a → slice_get (xs ++ ys) i ≡ Some a
@@ -144,9 +162,8 @@ filter_ascends test a (suc n) i j x y h e u = go (λ k l m f g. filter_ascends t
 
 -- what a search finds passes its test
 pub find_passes : {A : Type 0} (test : A → Bool) (xs : List A) (x : A) → find test xs ≡ Some x → test x ≡ true
-find_passes test [] x e = absurd (cc)
-find_passes {A} test (y ∷ xs) x e = go (λ h. find_passes test xs x h) (test y) refl e
-  where
-    go : (find test xs ≡ Some x → test x ≡ true) → (b : Bool) → test y ≡ b → (if b then Some y else find test xs) ≡ Some x → test x ≡ true
-    go later true is e = let same : y ≡ x = cc in ap test (sym same) ∙ is
-    go later false is e = later e
+find_passes test xs x e = (find_has (λ q. ⊤) test xs x e (λ i q lt. tt)).0
+
+-- and is in the list
+pub find_in : {A : Type 0} (test : A → Bool) (xs : List A) (x : A) → find test xs ≡ Some x → In x xs
+find_in test xs x e = (find_has (λ q. In q xs) test xs x e (all_in xs)).1

@@ -26,11 +26,7 @@ Enqueues units file slot all old queue n rs = take 10 (requested_from units queu
 -- what requests a unit is counted
 asks_is : (b : Body) → is_unit_reference b ≡ is_unit_reference b
 asks_is (UnitRef refs) = refl
-asks_is (PublRef refs) = refl
-asks_is (PrivRef words refs) = refl
-asks_is (PublDef value) = refl
-asks_is (ConstDef value) = refl
-asks_is (Eof next) = refl
+asks_is other = refl
 
 -- where none requests a unit, there is no reference to one
 pub no_references : (file slot n : ℕ) (rs : List Record) → units_asked rs ≡ 0 → unit_references file slot n rs ≡ []

@@ -120,6 +120,4 @@ module _ (known : Known) (R : ℕ → Bool) (code : List ℕ) where
       at rest (UnitRef refs) e = let x = one_unit true (ap is_unit_reference e) in absurd (omega arith)
       at rest (PublRef refs) e = let x = one_public true (ap is_public_reference e) in absurd (omega arith)
       at rest (PrivRef words refs) e = let x = one_private true (ap is_private_reference e) in absurd (omega arith)
-      at rest (PublDef value) e = skips rest (ap is_unit_reference e) (ap is_public_reference e) (ap is_private_reference e) (ap (target_in known off r.name) e) (ap refs_of e) (ap words_taken e)
-      at rest (ConstDef value) e = skips rest (ap is_unit_reference e) (ap is_public_reference e) (ap is_private_reference e) (ap (target_in known off r.name) e) (ap refs_of e) (ap words_taken e)
-      at rest (Eof next) e = skips rest (ap is_unit_reference e) (ap is_public_reference e) (ap is_private_reference e) (ap (target_in known off r.name) e) (ap refs_of e) (ap words_taken e)
+      at rest other e = skips rest (ap is_unit_reference e) (ap is_public_reference e) (ap is_private_reference e) (ap (target_in known off r.name) e) (ap refs_of e) (ap words_taken e)
