@@ -29,7 +29,7 @@ use Rattle.ps_resolve.specs.RequestedUnits.{Asks, HasSlot, IsGiver, AreGiven, Is
 use Rattle.ps_resolve.specs.declared.reading.added.UnitReference.{UnitReference}
 use Rattle.ps_laws.proofs.Least.{not_both}
 use Rattle.ps_laws.proofs.Looking.{any_of_items}
-use Rattle.ps_laws.proofs.Items.{not_apart, at_left, at_seam}
+use Rattle.ps_laws.proofs.Items.{not_apart, at_left, first_right, right_at}
 use Rattle.ps_resolve.proofs.EachSegment.{own_made as made_from}
 pub use Rattle.ps_resolve.proofs.FirstSlots.{or_none as both_none, some_mapped}
 use Rattle.ps_laws.proofs.Sources.{ok_is}
@@ -78,14 +78,6 @@ split_at {A} (x ∷ xs) ys (suc p) a e = go (split_at xs ys p a e)
     go : (slice_get xs p ≡ Some a) ⊎ ((q : ℕ) × (p ≡ length xs + q) × (slice_get ys q ≡ Some a)) → (slice_get xs p ≡ Some a) ⊎ ((q : ℕ) × (suc p ≡ length (x ∷ xs) + q) × (slice_get ys q ≡ Some a))
     go (inl h) = inl h
     go (inr t) = inr (t.0, (let h = t.1 in omega (arith, h)), t.2)
-
--- an item of the second of two joined lists is as much later as the first is long
-pub at_right : {A : Type 0} (xs ys : List A) (q : ℕ) (a : A) → slice_get ys q ≡ Some a → slice_get (xs ++ ys) (length xs + q) ≡ Some a
-at_right {A} [] ys q a e = let same : q ≡ length {A = A} [] + q = omega arith in subst (λ (n : ℕ). slice_get ys n ≡ Some a) same e
-at_right {A} (x ∷ xs) ys q a e = let same : suc (length xs + q) ≡ length (x ∷ xs) + q = omega arith in subst (λ (n : ℕ). slice_get (x ∷ xs ++ ys) n ≡ Some a) same (next (length xs + q) (at_right xs ys q a e))
-  where
-    next : (n : ℕ) → slice_get (xs ++ ys) n ≡ Some a → slice_get (x ∷ xs ++ ys) (suc n) ≡ Some a
-    next n h = h
 
 -- those of one segment
 abbrev IsOf : ℕ → ℕ → ℕ → List Record → UnitReference → ℕ → Type 0
@@ -177,7 +169,7 @@ numbered_of i (q ∷ ss) (suc j) s rec r e a u =
     let t = numbered_of (i + 1) ss j s rec r e a u in (
       length (map (tag i) (references_of q)) + t.0,
       t.1,
-      at_right (map (tag i) (references_of q)) (numbered (i + 1) ss) t.0 (i + suc j, t.1) (renumbered (numbered (i + 1) ss) t.0 (i + 1 + j) (i + suc j) t.1 (omega arith) t.2),
+      right_at (map (tag i) (references_of q)) (numbered (i + 1) ss) t.0 ∙ (renumbered (numbered (i + 1) ss) t.0 (i + 1 + j) (i + suc j) t.1 (omega arith) t.2),
       t.3,
       t.4,
     )
@@ -254,7 +246,7 @@ new_here units queue gs x none = (refl, none, λ q h l e same. omega (arith, l))
 new_name : (units : List (List ℕ × ℕ)) (queue gs : List UnitReference) (x : UnitReference) (k : ℕ) (g : UnitReference) → k ≡ length queue → slice_get (requested_from units (queue ++ x ∷ []) gs) k ≡ Some g → x ≡ g
 new_name units queue gs x k g at e =
     let grown = queue_grows units (queue ++ x ∷ []) gs in
-    let there : slice_get (requested_from units (queue ++ x ∷ []) gs) k ≡ Some x = ap (λ (r : List UnitReference). slice_get r k) grown.1 ∙ at_left (queue ++ x ∷ []) grown.0 k x (at_seam queue x [] k at) in
+    let there : slice_get (requested_from units (queue ++ x ∷ []) gs) k ≡ Some x = ap (λ (r : List UnitReference). slice_get r k) grown.1 ∙ at_left (queue ++ x ∷ []) grown.0 k x (first_right queue (x ∷ []) k at) in
     cc
 
 -- each name that is after those in the queue is that of an earliest reference

@@ -27,7 +27,7 @@ use Rattle.ps_codefile.specs.Roles.{is_unit, is_empty}
 use Rattle.ps_resolve.specs.Sources.{Segment, unit_source, source_of, segment_from, own_segment, own_segments, units_of}
 use Rattle.ps_resolve.specs.declared.reading.added.UnitReference.{UnitReference}
 use Rattle.ps_laws.proofs.Looking.{of_test, any_of_items, find_none}
-use Rattle.ps_laws.proofs.Items.{In, all_in, not_apart, at_left, at_seam, in_left, in_right, some_before, in_flat, in_filter_map, of_filter_map, in_range, of_range, of_filter, filter_ascends}
+use Rattle.ps_laws.proofs.Items.{In, all_in, not_apart, at_left, first_right, in_left, in_right, some_before, in_flat, in_filter_map, of_filter_map, in_range, of_range, of_filter, filter_ascends}
 use Rattle.ps_resolve.proofs.EachSegment.{added_made, at_slot, segment_with}
 use Rattle.ps_laws.proofs.Segments.{found_in_slot}
 use Rattle.ps_laws.proofs.EachRound.{IsTurn, all_rounds, own_units, references_of, requested_rest, segments_before}
@@ -111,7 +111,7 @@ module _ (order : Order) (host : List ℕ) (libs : List (List ℕ)) where
       record {
         earlier = ap (λ (ss : List Segment). slice_get (requested_units order host libs ss) k) before ∙ turn.name;
         requested = ap (λ (gs : List UnitReference). slice_get gs k) all ∙ at_left requested grown.0 k g turn.name;
-        there = ap (λ (ss : List Segment). slice_get ss k) turn.all ∙ at_seam prefix s rest k turn.many;
+        there = ap (λ (ss : List Segment). slice_get ss k) turn.all ∙ first_right prefix (s ∷ rest) k turn.many;
         slot = turn.slot_is ∙ ap (λ (n : ℕ). Some n) slot_is;
         fits = subst (λ (n : ℕ). placed_fault order host libs g n ≡ None) slot_is fits;
         brought = subst (λ (n : ℕ). added_segment order host libs g n ≡ Some s) slot_is from;

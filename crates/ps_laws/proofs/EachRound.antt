@@ -18,7 +18,7 @@ use Rattle.ps_resolve.specs.declared.reading.request.Request.{Request}
 use Rattle.ps_resolve.proofs.Adding.{requested-append}
 use Rattle.ps_resolve.proofs.FirstSlots.{neither_first, neither_second}
 use Rattle.ps_laws.proofs.Definitions.{longer, take_prefix}
-use Rattle.ps_laws.proofs.Items.{find_passes}
+use Rattle.ps_laws.proofs.Items.{find_passes, first_right}
 use Rattle.ps_laws.proofs.Looking.{none_of_items}
 use Rattle.ps_words.specs.declared.order.Order.{Order}
 use Rattle.ps_words.specs.declared.fault.Reason.{Reason}
@@ -108,14 +108,6 @@ requested_more order host libs prefix s =
 abbrev pub rest_of : Order → List ℕ → List (List ℕ) → List ℕ → ℕ → List UnitReference → RoundsOutcome
 rest_of order host libs left k queue = rounds_from order host libs (own_units order host libs) left k queue
 
--- the slot that is used next
-pub next_slot : (xs ys : List ℕ) (k : ℕ) → k ≡ length xs → slice_get (xs ++ ys) k ≡ slice_get ys 0
-next_slot xs ys k e = ap (λ (n : ℕ). slice_get (xs ++ ys) n) e ∙ go xs
-  where
-    go : (zs : List ℕ) → slice_get (zs ++ ys) (length zs) ≡ slice_get ys 0
-    go [] = refl
-    go (z ∷ zs) = go zs
-
 -- the first fault of a name, where this slot, or none, is left for it
 abbrev pub round_fault : Order → List ℕ → List (List ℕ) → UnitReference → Option ℕ → Option Fault
 round_fault order host libs g None = Some (unplaced_fault order libs g)
@@ -178,7 +170,7 @@ module _ (order : Order) (host : List ℕ) (libs : List (List ℕ)) where
     from_round [] prefix used k queue h is = by (slice_get queue k) refl
       where
         slot_is : slice_get (empty_slots order host) k ≡ None
-        slot_is = ap (λ (xs : List ℕ). slice_get xs k) h.slots_are ∙ next_slot used [] k h.used_at
+        slot_is = ap (λ (xs : List ℕ). slice_get xs k) h.slots_are ∙ first_right used [] k h.used_at
 
         by : (o : Option UnitReference) → slice_get queue k ≡ o → P k (record { added = []; fault = option_map (unplaced_fault order libs) o })
         by None e = none prefix k (is ∙ append-nil prefix) h.many (rw h.queue_is e)
@@ -199,7 +191,7 @@ module _ (order : Order) (host : List ℕ) (libs : List (List ℕ)) where
           all = all;
           many = h.many;
           name = rw h.queue_is e;
-          slot_is = ap (λ (xs : List ℕ). slice_get xs k) h.slots_are ∙ next_slot used (slot ∷ left) k h.used_at;
+          slot_is = ap (λ (xs : List ℕ). slice_get xs k) h.slots_are ∙ first_right used (slot ∷ left) k h.used_at;
         }
 
         at_segment : Later → (g : UnitReference) → slice_get queue k ≡ Some g → placed_fault order host libs g slot ≡ None

@@ -1,5 +1,5 @@
 -- What is in a list, by its place there.
-use Rattle.std.proofs.Common.{◌≡◌, ℕ, zero, suc, ◌+◌, ◌<◌, ◌≤◌, List, [], ◌∷◌, ◌++◌, length, get_or, take, Option, Some, None, Bool, true, false, refl, sym, ap, subst, ◌∙◌, inl, inr, arith}
+use Rattle.std.proofs.Common.{◌≡◌, ℕ, zero, suc, ◌+◌, ◌<◌, ◌≤◌, List, [], ◌∷◌, ◌++◌, length, get_or, take, add-zero, Option, Some, None, Bool, true, false, refl, sym, ap, subst, ◌∙◌, inl, inr, arith}
 use Rattle.std.specs.Prelude.{if◌then◌else◌, All, ⊤}
 use Rattle.std.specs.List.{range_with_len, slice_get, filter, filter_map, flat_map, cons_option, find}
 use Rattle.std.proofs.lemmas.Bool.{cases_lt, cases_order}
@@ -31,20 +31,22 @@ at_left [] ys i a e = absurd (cc)
 at_left (x ∷ xs) ys zero a e = e
 at_left (x ∷ xs) ys (suc i) a e = at_left xs ys i a e
 
--- right after the first of two joined lists is the first item of the second
-pub at_seam : {A : Type 0} (xs : List A) (y : A) (ys : List A) (k : ℕ) → k ≡ length xs → slice_get (xs ++ y ∷ ys) k ≡ Some y
-at_seam {A} xs y ys k e = ap (λ (n : ℕ). slice_get (xs ++ y ∷ ys) n) e ∙ go xs
-  where
-    go : (zs : List A) → slice_get (zs ++ y ∷ ys) (length zs) ≡ Some y
-    go [] = refl
-    go (z ∷ zs) = go zs
+-- after the first of two joined lists is the second
+pub right_at : {A : Type 0} (xs ys : List A) (q : ℕ) → slice_get (xs ++ ys) (length xs + q) ≡ slice_get ys q
+right_at {A} [] ys q = let same : length {A = A} [] + q ≡ q = omega arith in ap (slice_get ys) same
+right_at {A} (x ∷ xs) ys q =
+    let same : length (x ∷ xs) + q ≡ suc (length xs + q) = omega arith in
+    ap (slice_get (x ∷ xs ++ ys)) same ∙ right_at xs ys q
+
+-- its first item is right after the first
+pub first_right : {A : Type 0} (xs ys : List A) (k : ℕ) → k ≡ length xs → slice_get (xs ++ ys) k ≡ slice_get ys 0
+first_right xs ys k e = ap (slice_get (xs ++ ys)) (e ∙ sym (add-zero (length xs))) ∙ right_at xs ys 0
 
 pub in_left : {A : Type 0} (xs ys : List A) (a : A) → In a xs → In a (xs ++ ys)
 in_left xs ys a t = (t.0, at_left xs ys t.0 a t.1)
 
 pub in_right : {A : Type 0} (xs ys : List A) (a : A) → In a ys → In a (xs ++ ys)
-in_right [] ys a t = t
-in_right (x ∷ xs) ys a t = let r = in_right xs ys a t in (suc r.0, r.1)
+in_right xs ys a t = (length xs + t.0, right_at xs ys t.0 ∙ t.1)
 
 -- the place before one that is taken is taken
 pub some_before : {A : Type 0} (xs : List A) (i j : ℕ) (a : A) → i ≤ j → slice_get xs j ≡ Some a → slice_get xs i ≡ None → ⊥

@@ -93,10 +93,8 @@ module _ (host : List ℕ) (libs : List (List ℕ)) (none : NoneStands host libs
       let once = ends t.2.0 t.2.1 t.2.2 t.2.3.0 in
       let x = last_at t.2.1.records once t.0 t.1 t.2.3.1 (ap is_end t.3) in
       let y = last_at t.2.1.records once u.0 u.1 (of_one_host t.0 u.0 t.1 u.1 t.2 u.2) (ap is_end u.3) in
-      value a b (sym t.3 ∙ (ap (λ (r : Record). r.body) (one_record t.0 u.0 t.1 u.1 t.2 u.2 (omega (arith, x, y))) ∙ u.3))
-    where
-      value : (v w : ℕ) → ◌≡◌ {A = Body} (Eof v) (Eof w) → v ≡ w
-      value v w e = cc
+      let both : ◌≡◌ {A = Body} (Eof a) (Eof b) = sym t.3 ∙ (ap (λ (r : Record). r.body) (one_record t.0 u.0 t.1 u.1 t.2 u.2 (omega (arith, x, y))) ∙ u.3) in
+      cc
 
   -- two definitions of the host
   again : (s : Segment) → host_of (segments_of host libs) ≡ Some s → (k l : ℕ) (d e : Record) (v w : ℕ) → slice_get s.records k ≡ Some d → slice_get s.records l ≡ Some e → d.name ≡ e.name → d.body ≡ PublDef v → e.body ≡ PublDef w → k < l → ⊥
@@ -111,7 +109,5 @@ module _ (host : List ℕ) (libs : List (List ℕ)) (none : NoneStands host libs
       let at =
       not_apart t.0 u.0 (again t.2.1 is t.0 u.0 t.1 u.1 a b t.2.3.1 there (t.3.0 ∙ sym u.3.0) t.3.1 u.3.1)
       (again t.2.1 is u.0 t.0 u.1 t.1 b a there t.2.3.1 (u.3.0 ∙ sym t.3.0) u.3.1 t.3.1) in
-      value a b (sym t.3.1 ∙ ap (λ (d : Record). d.body) (one_record t.0 u.0 t.1 u.1 t.2 u.2 at) ∙ u.3.1)
-    where
-      value : (v w : ℕ) → ◌≡◌ {A = Body} (PublDef v) (PublDef w) → v ≡ w
-      value v w e = cc
+      let both : ◌≡◌ {A = Body} (PublDef a) (PublDef b) = sym t.3.1 ∙ ap (λ (d : Record). d.body) (one_record t.0 u.0 t.1 u.1 t.2 u.2 at) ∙ u.3.1 in
+      cc

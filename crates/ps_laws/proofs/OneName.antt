@@ -3,9 +3,9 @@ use Rattle.std.proofs.Common.{◌≡◌, ℕ, ◌<◌, List, Some, None, true, r
 use Rattle.std.specs.Prelude.{◌⊎◌}
 use Rattle.std.specs.List.{slice_get}
 use Rattle.std.proofs.lemmas.Option.{same_Some}
-use Rattle.ps_codefile.specs.Dictionary.{slots, entry_at}
+use Rattle.ps_codefile.specs.Dictionary.{entry_at}
 use Rattle.ps_codefile.specs.Roles.{is_unit}
-use Rattle.ps_resolve.specs.Added.{added_segments, segment_at, segments}
+use Rattle.ps_resolve.specs.Added.{added_segments, segments}
 use Rattle.ps_resolve.specs.AllFaults.{reading_fault}
 use Rattle.ps_resolve.specs.LinkedBytes.{IsSlotOf, segments_of}
 use Rattle.ps_resolve.specs.OfLink.{IsOfRound}
@@ -18,21 +18,16 @@ use Rattle.ps_resolve.specs.Standing.Slots.{IsUnitSlot}
 use Rattle.ps_resolve.specs.declared.reading.added.UnitReference.{UnitReference}
 use Rattle.ps_laws.proofs.AddedUnits.{unit_slot, units_are}
 use Rattle.ps_laws.proofs.Asked.{queue_of}
-use Rattle.ps_laws.proofs.Items.{not_apart, of_filter_map, of_range}
+use Rattle.ps_laws.proofs.Items.{not_apart, of_all}
 use Rattle.ps_laws.proofs.OfLink.{of_link, rounds_fine, sources_fine}
-use Rattle.ps_laws.proofs.Segments.{slot_is}
+use Rattle.ps_resolve.proofs.ReadingKnown.{all_at}
 use Rattle.ps_words.specs.FaultPlaces.{in_slot}
 use Rattle.ps_words.specs.declared.order.Order.{Order}
 use Rattle.ps_words.specs.declared.fault.Reason.TheVariants as reason
 
 -- a segment of the list of all is one of the link
 pub of_segments : (order : Order) (host : List ℕ) (libs : List (List ℕ)) (k : ℕ) (s : Segment) → slice_get (segments order host libs) k ≡ Some s → IsSegment order host libs s
-unfolding segments
-of_segments order host libs k s e =
-    let r = of_filter_map (segment_at order host libs) slots s (k, e) in
-    let lt = (of_range 0 16 r.0 r.1.0 r.1.1).1 in
-    let at : s.slot ≡ r.0 = slot_is order host libs r.0 s r.2 in
-    (omega (arith, lt, at), subst (λ (n : ℕ). segment_at order host libs n ≡ Some s) (sym at) r.2)
+of_segments order host libs k s e = of_all (IsSegment order host libs) (segments order host libs) (all_at order host libs) k s e
 
 module _ (host : List ℕ) (libs : List (List ℕ)) (none : NoneStands host libs) (read : reading_fault host libs ≡ None) where
   abbrev order : Order

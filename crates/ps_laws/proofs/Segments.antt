@@ -20,10 +20,6 @@ use Rattle.ps_laws.proofs.Looking.{find_some}
 use Rattle.ps_words.specs.declared.order.Order.{Order}
 use Rattle.ps_words.specs.declared.fault.Fault.{Fault}
 
--- a segment is in the slot that it is of, and has the name and the role that it is read with
-pub from_slot : (order : Order) (host : List ℕ) (libs : List (List ℕ)) (slot : ℕ) (name : List ℕ) (r : Role) (at : ℕ × ℕ) (s : Segment) → segment_from order host libs slot name r at ≡ Some s → (s.slot ≡ slot) × (s.name ≡ name) × (s.role ≡ r)
-from_slot order host libs slot name r at s h = let is = (is_made order host libs slot name r at s h).is in (ap (λ (q : Segment). q.slot) is, ap (λ (q : Segment). q.name) is, ap (λ (q : Segment). q.role) is)
-
 pub own_in_slot : (order : Order) (host : List ℕ) (libs : List (List ℕ)) (slot : ℕ) (s : Segment) → own_segment order host libs slot ≡ Some s → s.slot ≡ slot
 own_in_slot order host libs slot s h = (own_parts order host libs slot s h).0
 

@@ -149,7 +149,7 @@ module _ (order : Order) (host : List ℕ) (libs : List (List ℕ)) where
   abbrev IsAt : Segment → Type 0
   IsAt s = (s.slot < 16) × (segment_at order host libs s.slot ≡ Some s)
 
-  all_at : All IsAt (segments order host libs)
+  pub all_at : All IsAt (segments order host libs)
   unfolding segments
   all_at =
       each_slot IsAt (segment_at order host libs) (λ x s lt h.
