@@ -6,9 +6,8 @@ use Rattle.std.specs.Map.{lookup}
 use Rattle.std.specs.Option.{option_map, option_and_then}
 use Rattle.std.specs.Result.{result_ok}
 use Rattle.std.specs.Str.{bytes_eq}
-use Rattle.std.proofs.lemmas.Bool.{cases_lt, cases_order, false≢true}
-use Rattle.std.proofs.lemmas.List.{map-append}
-use Rattle.std.proofs.lemmas.Option.{slice_get_within, slice_get-map}
+use Rattle.std.proofs.lemmas.Bool.{cases_lt, cases_order, false≢true, or_cases}
+use Rattle.std.proofs.lemmas.Option.{same_Some, slice_get_within, slice_get-map}
 use Rattle.std.proofs.lemmas.Slice.Eq.{bytes_eq-Decides}
 use Rattle.ps_codefile.specs.Dictionary.{entry_at, role_of, code_of, information_of}
 use Rattle.ps_linkinfo.specs.RecordCounts.{is_unit_reference}
@@ -37,32 +36,11 @@ use Rattle.ps_laws.proofs.EachRound.{IsFine, own_units, references_of, request_p
 use Rattle.ps_laws.proofs.OfLink.{role_none, round_known}
 use Rattle.ps_laws.proofs.UnitPlaces.{unit_place}
 use Rattle.ps_laws.proofs.OneQueue.{giver_of_front}
-use Rattle.ps_laws.proofs.Asked.{HasRound, reference_of, round_at, queue_grows, all_known, known_more, known_last, or_cases, queue_of, name_placed, segment_named, in_empty, own_in, own_at, units_named}
+use Rattle.ps_laws.proofs.Asked.{HasRound, reference_of, round_at, queue_grows, all_known, known_more, known_last, queue_of, name_placed, segment_named, in_empty, own_in, own_at, units_named}
 use Rattle.ps_words.specs.declared.order.Order.{Order}
 use Rattle.ps_words.specs.declared.fault.Reason.{Reason}
 
--- 1. the references of a sequence of segments, each with the number of its segment
-abbrev Numbered : Type 0
-Numbered = ℕ × UnitReference
-
-abbrev tag : ℕ → UnitReference → Numbered
-tag i g = (i, g)
-
-abbrev numbered : ℕ → List Segment → List Numbered
-numbered i [] = []
-numbered i (s ∷ ss) = map (tag i) (references_of s) ++ numbered (i + 1) ss
-
--- without their numbers they are the unit references of the segments, one segment after another
-numbers_off : (i : ℕ) (segs : List Segment) → map (λ (n : Numbered). n.1) (numbered i segs) ≡ all_unit_references segs
-numbers_off i [] = refl
-numbers_off i (s ∷ ss) =
-    map-append (λ (n : Numbered). n.1) (map (tag i) (references_of s)) (numbered (i + 1) ss)
-    ∙ (ap (λ (gs : List UnitReference). gs ++ map (λ (n : Numbered). n.1) (numbered (i + 1) ss)) (go (references_of s)) ∙ ap (λ (gs : List UnitReference). references_of s ++ gs) (numbers_off (i + 1) ss))
-  where
-    go : (gs : List UnitReference) → map (λ (n : Numbered). n.1) (map (tag i) gs) ≡ gs
-    go [] = refl
-    go (g ∷ gs) = ap (λ (xs : List UnitReference). g ∷ xs) (go gs)
-
+-- 1. the references of a sequence of segments
 -- an item of a mapped list is what the function makes of the item at the same place
 pub mapped : {A C : Type 0} (f : A → C) (xs : List A) (k : ℕ) (y : C) → slice_get (map f xs) k ≡ Some y → (x : A) × (slice_get xs k ≡ Some x) × (f x ≡ y)
 mapped f xs k y e = let t = some_mapped f (slice_get xs k) y (sym (slice_get-map f xs k) ∙ e) in (t.0, t.1, sym t.2)
@@ -128,81 +106,86 @@ references_ascend file slot n (x ∷ rs) p q g h l e u = go (is_unit_reference x
         omega (arith, a, t)
     go true (suc p) (suc q) l e u later = later p q (omega (arith, l)) e u
 
--- those of all
-numbered_is : (i : ℕ) (segs : List Segment) (p m : ℕ) (g : UnitReference) → slice_get (numbered i segs) p ≡ Some (m, g) → (j : ℕ) × (m ≡ i + j) × (s : Segment) × (slice_get segs j ≡ Some s) × (d : ℕ) × IsOf s.file s.slot 0 s.records g d
-numbered_is i [] p m g e = absurd (cc)
-numbered_is i (s ∷ ss) p m g e = elim (split_at (map (tag i) (references_of s)) (numbered (i + 1) ss) p (m, g) e) [
-  | inl h ↦
-      let t = mapped (tag i) (references_of s) p (m, g) h in
-      let a : i ≡ m = ap (λ (n : Numbered). n.0) t.2 in
-      let b : t.0 ≡ g = ap (λ (n : Numbered). n.1) t.2 in
-      let r = reference_is s.file s.slot 0 s.records p g (t.1 ∙ ap (λ (x : UnitReference). Some x) b) in
-      (zero, omega (arith, a), s, refl, r.0, r.1)
-  | inr t ↦
-      let r = numbered_is (i + 1) ss t.0 m g t.2 in
-      (suc r.0, (let h = r.1 in omega (arith, h)), r.2, r.3, r.4, r.5)
-]
-
 -- what the function makes of an item is in the mapped list at the same place
 pub map_at : {A C : Type 0} (f : A → C) (xs : List A) (k : ℕ) (x : A) → slice_get xs k ≡ Some x → slice_get (map f xs) k ≡ Some (f x)
 map_at f xs k x e = slice_get-map f xs k ∙ ap (option_map f) e
 
-renumbered : (xs : List Numbered) (p m n : ℕ) (g : UnitReference) → m ≡ n → slice_get xs p ≡ Some (m, g) → slice_get xs p ≡ Some (n, g)
-renumbered xs p m n g h e = subst (λ (k : ℕ). slice_get xs p ≡ Some (tag k g)) h e
+-- reference p of all of these segments is g, of segment m
+abbrev IsReferenceOf : List Segment → ℕ → ℕ → UnitReference → Type 0
+IsReferenceOf [] p m g = ⊥
+IsReferenceOf (s ∷ ss) p m g =
+    ((m ≡ 0) × (slice_get (references_of s) p ≡ Some g))
+    ⊎ ((q : ℕ) × (k : ℕ) × (p ≡ length (references_of s) + q) × (m ≡ suc k) × IsReferenceOf ss q k g)
 
--- each UNITREF of a segment has its unit reference among those of all, with the number of the
--- segment
-numbered_of : (i : ℕ) (segs : List Segment) (j : ℕ) (s : Segment) (rec : ℕ) (r : Record) → slice_get segs j ≡ Some s → slice_get s.records rec ≡ Some r → is_unit_reference r.body ≡ true
-    → (p : ℕ) × (g : UnitReference) × (slice_get (numbered i segs) p ≡ Some (i + j, g)) × (g.name ≡ r.name) × (g.rec ≡ rec)
-numbered_of i [] j s rec r e a u = absurd (cc)
-numbered_of i (q ∷ ss) zero s rec r e a u =
+-- each of them is of a segment
+place_of : (segs : List Segment) (p : ℕ) (g : UnitReference) → slice_get (all_unit_references segs) p ≡ Some g
+    → (m : ℕ) × IsReferenceOf segs p m g
+place_of [] p g e = absurd (cc)
+place_of (s ∷ ss) p g e = elim (split_at (references_of s) (all_unit_references ss) p g e) [
+  | inl h ↦ (0, inl (refl, h))
+  | inr t ↦ (let r = place_of ss t.0 g t.2 in (suc r.0, inr (t.0, r.0, t.1, refl, r.1)))
+]
+
+of_place : (segs : List Segment) (p m : ℕ) (g : UnitReference) → IsReferenceOf segs p m g
+    → (s : Segment) × (slice_get segs m ≡ Some s) × (d : ℕ) × IsOf s.file s.slot 0 s.records g d
+of_place [] p m g x = absurd x
+of_place (s ∷ ss) p m g (inl t) =
+    let r = reference_is s.file s.slot 0 s.records p g t.1 in
+    (s, ap (slice_get (s ∷ ss)) t.0, r.0, r.1)
+of_place (s ∷ ss) p m g (inr t) =
+    let r = of_place ss t.0 t.1 g t.4 in
+    (r.0, ap (slice_get (s ∷ ss)) t.3 ∙ r.1, r.2, r.3)
+
+-- each UNITREF of a segment has its unit reference among them
+reference_at : (segs : List Segment) (j : ℕ) (s : Segment) (rec : ℕ) (r : Record) → slice_get segs j ≡ Some s
+    → slice_get s.records rec ≡ Some r → is_unit_reference r.body ≡ true
+    → (p : ℕ) × (g : UnitReference) × IsReferenceOf segs p j g × (slice_get (all_unit_references segs) p ≡ Some g)
+    × (g.name ≡ r.name) × (g.rec ≡ rec)
+reference_at [] j s rec r e a u = absurd (cc)
+reference_at (q ∷ ss) zero s rec r e a u =
     let same : q ≡ s = cc in
-    let t = reference_of q.file q.slot 0 q.records rec r (subst (λ (x : Segment). slice_get x.records rec ≡ Some r) (sym same) a) u in (
-      t.0,
-      t.1,
-      at_left (map (tag i) (references_of q)) (numbered (i + 1) ss) t.0 (i + 0, t.1)
-          (renumbered (map (tag i) (references_of q)) t.0 i (i + 0) t.1 (omega arith) (map_at (tag i) (references_of q) t.0 t.1 t.2)),
-      t.3,
-      (let h = t.4 in omega (arith, h)),
-    )
-numbered_of i (q ∷ ss) (suc j) s rec r e a u =
-    let t = numbered_of (i + 1) ss j s rec r e a u in (
-      length (map (tag i) (references_of q)) + t.0,
-      t.1,
-      right_at (map (tag i) (references_of q)) (numbered (i + 1) ss) t.0 ∙ (renumbered (numbered (i + 1) ss) t.0 (i + 1 + j) (i + suc j) t.1 (omega arith) t.2),
-      t.3,
-      t.4,
-    )
+    let there = subst (λ (x : Segment). slice_get x.records rec ≡ Some r) (sym same) a in
+    let t = reference_of q.file q.slot 0 q.records rec r there u in
+    let at = at_left (references_of q) (all_unit_references ss) t.0 t.1 t.2 in
+    (t.0, t.1, inl (refl, t.2), at, t.3, (let h = t.4 in omega (arith, h)))
+reference_at (q ∷ ss) (suc j) s rec r e a u =
+    let t = reference_at ss j s rec r e a u in
+    let own = references_of q in
+    let at = right_at own (all_unit_references ss) t.0 ∙ t.3 in
+    (length own + t.0, t.1, inr (t.0, j, refl, refl, t.2), at, t.4, t.5)
 
--- the unit references of all are in the order of their segments and, in each of these, of their
--- records
-numbered_ascend : (i : ℕ) (segs : List Segment) (p q m n : ℕ) (g h : UnitReference) → p < q → slice_get (numbered i segs) p ≡ Some (m, g) → slice_get (numbered i segs) q ≡ Some (n, h) → Before (m ∷ g.rec ∷ []) (n ∷ h.rec ∷ [])
-numbered_ascend i [] p q m n g h l e u = absurd (cc)
-numbered_ascend i (s ∷ ss) p q m n g h l e u = go (λ a b x y z. numbered_ascend (i + 1) ss a b m n g h x y z) (split_at prefix (numbered (i + 1) ss) p (m, g) e) (split_at prefix (numbered (i + 1) ss) q (n, h) u)
-  where
-    prefix : List Numbered
-    prefix = map (tag i) (references_of s)
+-- there is one at a place
+same_at : (segs : List Segment) (p m n : ℕ) (g h : UnitReference) → IsReferenceOf segs p m g → IsReferenceOf segs p n h
+    → (m ≡ n) × (g ≡ h)
+same_at [] p m n g h x y = absurd x
+same_at (s ∷ ss) p m n g h (inl a) (inl b) = (a.0 ∙ sym b.0, same_Some g h (sym a.1 ∙ b.1))
+same_at (s ∷ ss) p m n g h (inl a) (inr t) =
+    let w = slice_get_within (references_of s) p g a.1 in
+    absurd (let x = t.2 in omega (arith, w, x))
+same_at (s ∷ ss) p m n g h (inr t) (inl b) =
+    let w = slice_get_within (references_of s) p h b.1 in
+    absurd (let x = t.2 in omega (arith, w, x))
+same_at (s ∷ ss) p m n g h (inr t) (inr v) =
+    let same : v.0 ≡ t.0 = (let a = t.2 in let b = v.2 in omega (arith, a, b)) in
+    let r = same_at ss t.0 t.1 v.1 g h t.4 (subst (λ (q : ℕ). IsReferenceOf ss q v.1 h) same v.4) in
+    (t.3 ∙ ap suc r.0 ∙ sym v.3, r.1)
 
-    Behind : ℕ → ℕ → UnitReference → Type 0
-    Behind p m g = (d : ℕ) × (p ≡ length prefix + d) × (slice_get (numbered (i + 1) ss) d ≡ Some (m, g))
-
-    here : (p m : ℕ) (g : UnitReference) → slice_get prefix p ≡ Some (m, g) → (i ≡ m) × (slice_get (references_of s) p ≡ Some g)
-    here p m g e =
-        let t = mapped (tag i) (references_of s) p (m, g) e in
-        (ap (λ (x : Numbered). x.0) t.2, t.1 ∙ ap (λ (x : UnitReference). Some x) (ap (λ (y : Numbered). y.1) t.2))
-
-    go : ((a b : ℕ) → a < b → slice_get (numbered (i + 1) ss) a ≡ Some (m, g) → slice_get (numbered (i + 1) ss) b ≡ Some (n, h) → Before (m ∷ g.rec ∷ []) (n ∷ h.rec ∷ []))
-        → (slice_get prefix p ≡ Some (m, g)) ⊎ Behind p m g → (slice_get prefix q ≡ Some (n, h)) ⊎ Behind q n h → Before (m ∷ g.rec ∷ []) (n ∷ h.rec ∷ [])
-    go later (inl a) (inl b) =
-        let x = here p m g a in
-        let y = here q n h b in
-        inr (sym x.0 ∙ y.0, inl (references_ascend s.file s.slot 0 s.records p q g h l x.1 y.1))
-    go later (inl a) (inr t) =
-        let x = (here p m g a).0 in
-        let y = (numbered_is (i + 1) ss t.0 n h t.2).1 in
-        inl (omega (arith, x, y))
-    go later (inr t) (inl b) = let w = slice_get_within prefix q (n, h) b in let a = t.1 in absurd (omega (arith, a, w, l))
-    go later (inr t) (inr v) = later t.0 v.0 (let a = t.1 in let b = v.1 in omega (arith, a, b, l)) t.2 v.2
+-- they are in the order of their segments and, in each of these, of their records
+in_order : (segs : List Segment) (p q m n : ℕ) (g h : UnitReference) → p < q → IsReferenceOf segs p m g
+    → IsReferenceOf segs q n h → Before (m ∷ g.rec ∷ []) (n ∷ h.rec ∷ [])
+in_order [] p q m n g h l x y = absurd x
+in_order (s ∷ ss) p q m n g h l (inl a) (inl b) =
+    inr (a.0 ∙ sym b.0, inl (references_ascend s.file s.slot 0 s.records p q g h l a.1 b.1))
+in_order (s ∷ ss) p q m n g h l (inl a) (inr t) = inl (let x = a.0 in let y = t.3 in omega (arith, x, y))
+in_order (s ∷ ss) p q m n g h l (inr t) (inl b) =
+    let w = slice_get_within (references_of s) q h b.1 in
+    absurd (let x = t.2 in omega (arith, w, x, l))
+in_order (s ∷ ss) p q m n g h l (inr t) (inr v) =
+    let less : t.0 < v.0 = (let a = t.2 in let b = v.2 in omega (arith, a, b, l)) in
+    elim (in_order ss t.0 v.0 t.1 v.1 g h less t.4 v.4) [
+      | inl k ↦ inl (let a = t.3 in let b = v.3 in omega (arith, a, b, k))
+      | inr k ↦ inr (t.3 ∙ ap suc k.0 ∙ sym v.3, k.1)
+    ]
 
 -- 2. the queue: each name at the first of its references that is not known already
 abbrev IsEarliest : List (List ℕ × ℕ) → List UnitReference → List UnitReference → ℕ → UnitReference → Type 0
@@ -291,42 +274,31 @@ requested_pair units queue (x ∷ gs) j k g h low l e u = go (is_already_known u
           (zero, suc t.0, omega arith, subst (λ (y : UnitReference). IsEarliest units queue (x ∷ gs) zero y) same (new_here units queue gs x none), past_new units queue gs x t.0 h t.1)
     ]
 
--- where a reference is
-place_of : (segs : List Segment) (p : ℕ) (g : UnitReference) → slice_get (all_unit_references segs) p ≡ Some g → (m : ℕ) × (slice_get (numbered 0 segs) p ≡ Some (m, g))
-place_of segs p g e =
-    let t = mapped (λ (n : Numbered). n.1) (numbered 0 segs) p g (ap (λ (gs : List UnitReference). slice_get gs p) (numbers_off 0 segs) ∙ e) in
-    (t.0.0, t.1 ∙ ap (λ (h : UnitReference). Some (tag t.0.0 h)) t.2)
-
--- a record that requests a name has its unit reference among those of all, with the number of its
--- segment
-asks_at : (segs : List Segment) (j rec : ℕ) (name : List ℕ) → Asks segs j rec name → (q : ℕ) × (h : UnitReference) × (slice_get (numbered 0 segs) q ≡ Some (j, h)) × (slice_get (all_unit_references segs) q ≡ Some h) × (h.name ≡ name) × (h.rec ≡ rec)
+-- a record that requests a name has its unit reference among those of all
+asks_at : (segs : List Segment) (j rec : ℕ) (name : List ℕ) → Asks segs j rec name
+    → (q : ℕ) × (h : UnitReference) × IsReferenceOf segs q j h × (slice_get (all_unit_references segs) q ≡ Some h)
+    × (h.name ≡ name) × (h.rec ≡ rec)
 asks_at segs j rec name t =
-    let r = numbered_of 0 segs j t.0 rec t.2 t.1 t.3 t.4 in (
-      r.0,
-      r.1,
-      r.2 ∙ ap (λ (n : ℕ). Some (tag n r.1)) (omega arith),
-      sym (ap (λ (gs : List UnitReference). slice_get gs r.0) (numbers_off 0 segs)) ∙ map_at (λ (n : Numbered). n.1) (numbered 0 segs) r.0 (0 + j, r.1) r.2,
-      r.3 ∙ t.5,
-      r.4,
-    )
+    let r = reference_at segs j t.0 rec t.2 t.1 t.3 t.4 in
+    (r.0, r.1, r.2, r.3, r.4 ∙ t.5, r.5)
 
 -- the earliest reference of a name is of the first record of all that requests it
-giver : (units : List (List ℕ × ℕ)) (segs : List Segment) (p m : ℕ) (g : UnitReference) → IsEarliest units [] (all_unit_references segs) p g → slice_get (numbered 0 segs) p ≡ Some (m, g) → IsGiver segs m g
+giver : (units : List (List ℕ × ℕ)) (segs : List Segment) (p m : ℕ) (g : UnitReference) → IsEarliest units [] (all_unit_references segs) p g → IsReferenceOf segs p m g → IsGiver segs m g
 giver units segs p m g t at = ((s, there, of.5, of.6), (s, there, of.0, subst (λ (n : ℕ). slice_get s.records n ≡ Some of.0) rec of.1, of.2, of.3), first)
   where
-    r : (j : ℕ) × (m ≡ 0 + j) × (s : Segment) × (slice_get segs j ≡ Some s) × (d : ℕ) × IsOf s.file s.slot 0 s.records g d
-    r = numbered_is 0 segs p m g at
+    r : (s : Segment) × (slice_get segs m ≡ Some s) × (d : ℕ) × IsOf s.file s.slot 0 s.records g d
+    r = of_place segs p m g at
 
     s : Segment
-    s = r.2
+    s = r.0
 
     there : slice_get segs m ≡ Some s
-    there = subst (λ (n : ℕ). slice_get segs n ≡ Some s) (let a = r.1 in omega (arith, a)) r.3
+    there = r.1
 
-    of : IsOf s.file s.slot 0 s.records g r.4
-    of = r.5
+    of : IsOf s.file s.slot 0 s.records g r.2
+    of = r.3
 
-    rec : r.4 ≡ g.rec
+    rec : r.2 ≡ g.rec
     rec = let a = of.4 in omega (arith, a)
 
     first : (j k : ℕ) → Before (j ∷ k ∷ []) (m ∷ g.rec ∷ []) → Asks segs j k g.name → ⊥
@@ -335,14 +307,12 @@ giver units segs p m g t at = ((s, there, of.5, of.6), (s, there, of.0, subst (�
         let before : Before (j ∷ a.1.rec ∷ []) (m ∷ g.rec ∷ []) = subst (λ (n : ℕ). Before (j ∷ n ∷ []) (m ∷ g.rec ∷ [])) (sym a.5) b in
         elim (cases_order a.0 p) [
           | inl same ↦
-              let here : slice_get (numbered 0 segs) p ≡ Some (j, a.1) = subst (λ (i : ℕ). slice_get (numbered 0 segs) i ≡ Some (j, a.1)) same a.2 in
-              let one : tag j a.1 ≡ tag m g = cc in
-              let x : j ≡ m = ap (λ (n : Numbered). n.0) one in
-              let y : a.1 ≡ g = ap (λ (n : Numbered). n.1) one in
-              itself m g.rec (subst (λ (i : ℕ). Before (i ∷ g.rec ∷ []) (m ∷ g.rec ∷ [])) x (subst (λ (h : UnitReference). Before (j ∷ h.rec ∷ []) (m ∷ g.rec ∷ [])) y before))
+              let one = same_at segs p j m a.1 g (subst (λ (i : ℕ). IsReferenceOf segs i j a.1) same a.2) at in
+              let own = subst (λ (h : UnitReference). Before (j ∷ h.rec ∷ []) (m ∷ g.rec ∷ [])) one.1 before in
+              itself m g.rec (subst (λ (i : ℕ). Before (i ∷ g.rec ∷ []) (m ∷ g.rec ∷ [])) one.0 own)
           | inr u ↦ elim u [
             | inl l ↦ t.2 a.0 a.1 l a.3 a.4
-            | inr n ↦ not_both (j ∷ a.1.rec ∷ []) (m ∷ g.rec ∷ []) before (numbered_ascend 0 segs p a.0 m j g a.1 n at a.2)
+            | inr n ↦ not_both (j ∷ a.1.rec ∷ []) (m ∷ g.rec ∷ []) before (in_order segs p a.0 m j g a.1 n at a.2)
           ]
         ]
       where
@@ -500,7 +470,7 @@ module _ (order : Order) (host : List ℕ) (libs : List (List ℕ)) (fine : sour
       let t = requested_pair (own_units order host libs) [] (all_unit_references segs) j k g h (omega arith) l (at_queue j g e) (at_queue k h u) in
       let p = place_of segs t.0 g t.3.0 in
       let q = place_of segs t.1 h t.4.0 in
-      (p.0, q.0, giver (own_units order host libs) segs t.0 p.0 g t.3 p.1, giver (own_units order host libs) segs t.1 q.0 h t.4 q.1, numbered_ascend 0 segs t.0 t.1 p.0 q.0 g h t.2 p.1 q.1)
+      (p.0, q.0, giver (own_units order host libs) segs t.0 p.0 g t.3 p.1, giver (own_units order host libs) segs t.1 q.0 h t.4 q.1, in_order segs t.0 t.1 p.0 q.0 g h t.2 p.1 q.1)
 
   apart : (j k : ℕ) (g h : UnitReference) → j < k → slice_get (queue_of order host libs) j ≡ Some g → slice_get (queue_of order host libs) k ≡ Some h → g.name ≡ h.name → ⊥
   apart j k g h l e u same =

@@ -8,7 +8,7 @@ use Rattle.std.specs.Map.{lookup}
 use Rattle.std.specs.Option.{option_map_or, option_or, option_and_then}
 use Rattle.std.specs.Result.{result_ok}
 use Rattle.std.specs.Str.{bytes_eq}
-use Rattle.std.proofs.lemmas.Bool.{cases_lt, false≢true}
+use Rattle.std.proofs.lemmas.Bool.{cases_lt, false≢true, or_cases, or_left, or_right}
 use Rattle.std.proofs.lemmas.Bool.Decides.{Decides-at, Decides-and, Decides-like, Decides-eqb}
 use Rattle.std.proofs.lemmas.List.Folds.{list_any-append}
 use Rattle.std.proofs.lemmas.Option.{same_Some, none-some, slice_get_past}
@@ -44,37 +44,20 @@ queue_grows units queue (g ∷ gs) = go (is_already_known units queue g.name) (�
 
 -- a name that is known is known in a longer queue
 pub known_more : (units : List (List ℕ × ℕ)) (queue more : List UnitReference) (name : List ℕ) → is_already_known units queue name ≡ true → is_already_known units (queue ++ more) name ≡ true
-known_more units queue more name = go (is_some (lookup (bytes_eq name) units))
-  where
-    test : UnitReference → Bool
-    test g = bytes_eq g.name name
-
-    or_true : (a b : Bool) → a ≡ true → (a || b) ≡ true
-    or_true true b e = refl
-    or_true false b e = absurd (cc)
-
-    go : (b : Bool) → (b || list_any (λ (g : UnitReference). bytes_eq g.name name) queue) ≡ true → (b || list_any (λ (g : UnitReference). bytes_eq g.name name) (queue ++ more)) ≡ true
-    go true e = refl
-    go false e = list_any-append test queue more ∙ or_true (list_any test queue) (list_any test more) e
+known_more units queue more name e =
+    let test : UnitReference → Bool = λ g. bytes_eq g.name name in
+    elim (or_cases (is_some (lookup (bytes_eq name) units)) (list_any test queue) e) [
+      | inl h ↦ or_left (is_some (lookup (bytes_eq name) units)) _ h
+      | inr h ↦ or_right _ (list_any test (queue ++ more)) (list_any-append test queue more ∙ or_left (list_any test queue) _ h)
+    ]
 
 -- the name of the last reference of a queue is known
 pub known_last : (units : List (List ℕ × ℕ)) (queue : List UnitReference) (g : UnitReference) → is_already_known units (queue ++ g ∷ []) g.name ≡ true
-known_last units queue g = go (is_some (lookup (bytes_eq g.name) units))
-  where
-    test : UnitReference → Bool
-    test h = bytes_eq h.name g.name
-
-    itself : test g ≡ true
-    itself = (bytes_eq-Decides g.name g.name).1 refl
-
-    or_last : (a b : Bool) → b ≡ true → (a || (b || false)) ≡ true
-    or_last true b e = refl
-    or_last false true e = refl
-    or_last false false e = absurd (cc)
-
-    go : (b : Bool) → (b || list_any (λ (h : UnitReference). bytes_eq h.name g.name) (queue ++ g ∷ [])) ≡ true
-    go true = refl
-    go false = list_any-append test queue (g ∷ []) ∙ or_last (list_any test queue) (test g) itself
+known_last units queue g =
+    let test : UnitReference → Bool = λ h. bytes_eq h.name g.name in
+    let itself : test g ≡ true = (bytes_eq-Decides g.name g.name).1 refl in
+    let last = list_any-append test queue (g ∷ []) ∙ or_right (list_any test queue) (test g || false) (or_left (test g) false itself) in
+    or_right (is_some (lookup (bytes_eq g.name) units)) (list_any test (queue ++ g ∷ [])) last
 
 -- the name of each reference is known in the queue that they come to
 pub all_known : (units : List (List ℕ × ℕ)) (queue gs : List UnitReference) (g : UnitReference) (i : ℕ) → slice_get gs i ≡ Some g → is_already_known units (requested_from units queue gs) g.name ≡ true
@@ -293,10 +276,6 @@ units_named name segs =
 -- what is known has its segment
 abbrev pub HasUnit : List Segment → List ℕ → Type 0
 HasUnit segs name = SomeItem segs (λ k q. (is_unit q.role ≡ true) × (q.name ≡ name))
-
-pub or_cases : (a b : Bool) → (a || b) ≡ true → (a ≡ true) ⊎ (b ≡ true)
-or_cases true b e = inl refl
-or_cases false b e = inr e
 
 -- where the rounds end without a fault, a name that is known is that of a unit of the link
 pub known_has_unit : (order : Order) (host : List ℕ) (libs : List (List ℕ)) → added_fault order host libs ≡ None → (name : List ℕ) → is_already_known (own_units order host libs) (queue_of order host libs) name ≡ true → HasUnit (segments order host libs) name

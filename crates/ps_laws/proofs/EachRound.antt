@@ -1,10 +1,10 @@
 -- The rounds in which units are added: what holds of all of them, where it goes from each to the one
 -- before.
 use Rattle.std.proofs.Common.{◌≡◌, ℕ, ◌+◌, List, [], ◌∷◌, ◌++◌, length, Option, Some, None, Result, Ok, Err, Bool, true, false, refl, sym, ap, subst, ◌∙◌, arith, append_assoc, append-nil, is_none, take}
-use Rattle.std.specs.Prelude.{if◌then◌else◌, ◌||◌, not}
+use Rattle.std.specs.Prelude.{if◌then◌else◌, not}
 use Rattle.std.specs.List.{enumerate_from, slice_get, find}
 use Rattle.std.specs.Option.{option_map, option_or, option_and_then}
-use Rattle.std.proofs.lemmas.Bool.{false≢true}
+use Rattle.std.proofs.lemmas.Bool.{false≢true, or_parts}
 use Rattle.std.proofs.lemmas.Grind.{flat_map-append}
 use Rattle.ps_codefile.specs.Dictionary.{slots, is_nameless, entry_at, code_of}
 use Rattle.ps_codefile.specs.declared.entry.Role.{Role}
@@ -65,11 +65,9 @@ request_parts order host libs q = go (is_missing order libs q.name) refl
 
 -- such a request has a source
 pub unit_there : (order : Order) (name : List ℕ) (libs : List (List ℕ)) → is_missing order libs name ≡ false → unit_source order name libs ≡ None → ⊥
-unit_there order name libs is none = false≢true (sym (or_false (is_nameless name) (is_none (chosen_library order name libs)) is) ∙ unit_found order name libs none)
-  where
-    or_false : (a b : Bool) → (a || b) ≡ false → b ≡ false
-    or_false true b e = absurd (cc)
-    or_false false b e = e
+unit_there order name libs is none =
+    let found = (or_parts (is_nameless name) (is_none (chosen_library order name libs)) is).1 in
+    false≢true (sym found ∙ unit_found order name libs none)
 
 -- a name that has no fault in its slot brings its segment there
 brought : (order : Order) (host : List ℕ) (libs : List (List ℕ)) (g : UnitReference) (slot : ℕ) → placed_fault order host libs g slot ≡ None → added_segment order host libs g slot ≡ None → ⊥

@@ -1,10 +1,9 @@
 -- What is known of each segment of a link whose files were read without a fault.
-use Rattle.std.proofs.Common.{◌≡◌, ℕ, ◌<◌, zero, suc, ◌∷◌, List, [], Option, Some, None, true, refl, sym, ap, subst, ◌∙◌, inl, inr, is_some, arith}
+use Rattle.std.proofs.Common.{◌≡◌, ℕ, ◌<◌, List, Option, Some, None, true, refl, sym, ap, subst, ◌∙◌, inl, inr, is_some, arith}
 use Rattle.std.specs.Prelude.{◌⊎◌}
-use Rattle.std.specs.List.{slice_get}
 use Rattle.std.specs.Option.{option_and_then}
 use Rattle.std.specs.Result.{result_ok}
-use Rattle.ps_codefile.specs.Dictionary.{slots, entry_at, role_of, information_of}
+use Rattle.ps_codefile.specs.Dictionary.{entry_at, role_of, information_of}
 use Rattle.ps_codefile.specs.declared.entry.Role.{Role}
 use Rattle.ps_codefile.specs.declared.entry.Role.TheVariants as role
 use Rattle.ps_codefile.specs.Roles.{is_host}
@@ -15,26 +14,19 @@ use Rattle.ps_resolve.specs.AllFaults.{reading_fault}
 use Rattle.ps_resolve.specs.Faults.{code_fault, role_fault, source_fault, sources_fault, slots_fault, no_host_fault}
 use Rattle.ps_resolve.specs.OfLink.{IsOfFile, IsOfSlot, IsOfRound, IsOfLink}
 use Rattle.ps_resolve.specs.Requests.{request_by_slot}
-use Rattle.ps_resolve.specs.Searches.{first_of}
 use Rattle.ps_resolve.specs.Sources.{Segment, file_at, host_of, order_of, source_of, own_segment}
 use Rattle.ps_resolve.specs.Standing.Segments.{IsSegment}
 use Rattle.ps_resolve.specs.Standing.Slots.{HasRole}
 use Rattle.ps_resolve.specs.declared.reading.added.UnitReference.{UnitReference}
 use Rattle.ps_resolve.proofs.EachSegment.{IsMade, added_made, own_made}
 use Rattle.ps_resolve.proofs.FirstSlots.{none_mapped, or_none}
-use Rattle.ps_resolve.proofs.ReadingKnown.{host_there, one_host}
+use Rattle.ps_resolve.proofs.ReadingKnown.{host_there, none_at, one_host}
 use Rattle.ps_laws.proofs.Asked.{in_segments, own_or_added, segment_named}
 use Rattle.ps_laws.proofs.EachRound.{request_parts}
-use Rattle.ps_laws.proofs.Items.{in_range, of_all}
+use Rattle.ps_laws.proofs.Items.{of_all}
 use Rattle.ps_laws.proofs.Sources.{ok_is}
 use Rattle.ps_words.specs.declared.order.Order.{Order}
 use Rattle.ps_words.specs.declared.fault.Reason.{Reason}
-
--- where the first of what a queue of items gives is none, each of them gives none
-pub first_none : {A X : Type 0} (f : A → Option X) (xs : List A) (i : ℕ) (x : A) → first_of f xs ≡ None → slice_get xs i ≡ Some x → f x ≡ None
-first_none f [] i x e u = absurd (cc)
-first_none {A} f (y ∷ xs) zero x e u = let same : y ≡ x = cc in sym (ap f same) ∙ (or_none (f y) (first_of f xs) e).0
-first_none f (y ∷ xs) (suc i) x e u = first_none f xs i x (or_none (f y) (first_of f xs) e).1 u
 
 read_whole : (read : List Record × Option Reason) → read.1 ≡ None → read ≡ (read.0, None)
 read_whole (rs, o) h = ap (λ (o : Option Reason). (rs, o)) h
@@ -61,9 +53,7 @@ module _ (order : Order) (host : List ℕ) (libs : List (List ℕ)) where
   module _ (fine : sources_fault order host libs ≡ None) where
     source_none : (slot : ℕ) → slot < 16 → source_fault order host libs slot ≡ None
     unfolding sources_fault
-    source_none slot h =
-        let i = in_range 0 16 slot (omega arith) (omega (arith, h)) in
-        first_none (source_fault order host libs) slots i.0 slot fine i.1
+    source_none slot h = none_at (source_fault order host libs) 0 16 slot fine (omega arith) (omega (arith, h))
 
     -- a slot has none by its role
     pub role_none : (slot : ℕ) → slot < 16 → (r : Role) → HasRole order host slot r → role_fault order host libs slot r ≡ None

@@ -7,7 +7,7 @@ use Rattle.std.specs.Result.{result_ok, result_err}
 use Rattle.std.proofs.Math.Dec.{ltb}
 use Rattle.std.proofs.lemmas.Bool.{cases_order, false≢true, ltb-false, or_parts}
 use Rattle.std.proofs.lemmas.Option.{same_Some, some_pair_parts}
-use Rattle.ps_codefile.specs.Dictionary.{slots, entry_at, role_of, code_of, has_bad_length, is_nameless}
+use Rattle.ps_codefile.specs.Dictionary.{entry_at, role_of, code_of, has_bad_length, is_nameless}
 use Rattle.ps_resolve.specs.Added.{request_of, added_segments, added_at, added_fault, segments, empty_slots, requested_units}
 use Rattle.ps_resolve.specs.Standing.Phrases.{SomeItem}
 use Rattle.ps_resolve.specs.AllFaults.{reading_fault}
@@ -32,8 +32,9 @@ use Rattle.ps_resolve.specs.declared.reading.added.UnitReference.{UnitReference}
 use Rattle.ps_resolve.proofs.FirstSlots.{none_mapped as map_none}
 use Rattle.ps_laws.proofs.Items.{In, all_items, not_apart, in_range, in_filter, of_take, some_before}
 use Rattle.ps_laws.proofs.EachRound.{request_parts}
-use Rattle.ps_laws.proofs.OfLink.{first_none, of_link, own_known, round_known, rounds_fine, slots_fine, sources_fine}
+use Rattle.ps_laws.proofs.OfLink.{of_link, own_known, round_known, rounds_fine, slots_fine, sources_fine}
 use Rattle.ps_resolve.proofs.ReadingCodes.{whole_code}
+use Rattle.ps_resolve.proofs.ReadingKnown.{none_at}
 use Rattle.ps_laws.proofs.Sources.{OneStop}
 use Rattle.ps_laws.proofs.Segments.{own_in_slot, Ascends, ascend}
 use Rattle.ps_laws.proofs.Asked.{in_empty, empty_slot, empty_ascend, found_added, in_segments, own_at}
@@ -286,14 +287,16 @@ module _ (law : OneStop) (spells : OneSpelling) (host : List ℕ) (libs : List (
   -- 4. each slot that is not empty has a segment
   has_role : (slot : ℕ) → slot < 16 → (r : Role) × HasRole order host slot r
   unfolding slots_fault
-  has_role slot inside = go (role_of (entry_at order host slot)) refl
+  has_role slot inside = go (role_of (entry_at order host slot)) refl (both_none (result_err (role_of (entry_at order host slot))) _ no_reason).0
     where
       no_reason : slot_reason order host slot ≡ None
-      no_reason = let i = in_range 0 16 slot (omega arith) (omega (arith, inside)) in map_none (in_slot 0 slot) (slot_reason order host slot) (first_none (λ n. option_map (in_slot 0 n) (slot_reason order host n)) slots i.0 slot (slots_fine host libs no_fault) i.1)
+      no_reason =
+          map_none (in_slot 0 slot) (slot_reason order host slot)
+          (none_at (λ n. option_map (in_slot 0 n) (slot_reason order host n)) 0 16 slot (slots_fine host libs no_fault) (omega arith) (omega (arith, inside)))
 
-      go : (o : Result Role Reason) → role_of (entry_at order host slot) ≡ o → (r : Role) × HasRole order host slot r
-      go (Ok r) is = (r, is)
-      go (Err why) is = absurd (let a = (both_none (result_err (role_of (entry_at order host slot))) _ no_reason).0 in let b = sym (ap result_err is) ∙ a in cc)
+      go : (o : Result Role Reason) → role_of (entry_at order host slot) ≡ o → result_err o ≡ None → (r : Role) × HasRole order host slot r
+      go (Ok r) is e = (r, is)
+      go (Err why) is e = absurd (cc)
 
   pub one_each : HaveOneEach host (segments_of host libs)
   one_each slot inside filled =

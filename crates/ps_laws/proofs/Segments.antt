@@ -1,5 +1,5 @@
 -- The segments of a link, one slot after another.
-use Rattle.std.proofs.Common.{◌≡◌, ℕ, ◌+◌, ◌<◌, ◌≤◌, List, map, Option, Some, sym, ap, subst, arith}
+use Rattle.std.proofs.Common.{◌≡◌, ℕ, ◌+◌, ◌<◌, ◌≤◌, List, map, Option, Some, sym, subst, arith}
 use Rattle.std.specs.Prelude.{◌==◌}
 use Rattle.std.specs.List.{slice_get, find}
 use Rattle.std.specs.Option.{option_and_then}
@@ -8,11 +8,9 @@ use Rattle.ps_codefile.specs.Dictionary.{slots}
 use Rattle.ps_resolve.specs.Added.{segments, segment_at}
 use Rattle.ps_resolve.specs.Standing.Phrases.{SomeItem}
 use Rattle.ps_resolve.specs.Standing.Segments.{IsSegment, SomeSegment}
-use Rattle.ps_codefile.specs.declared.entry.Role.{Role}
 use Rattle.ps_resolve.specs.Searches.{first_of}
-use Rattle.ps_resolve.specs.Sources.{Segment, segment_from, own_segment}
+use Rattle.ps_resolve.specs.Sources.{Segment, own_segment}
 use Rattle.ps_resolve.specs.Linkable.{AscendFrom}
-use Rattle.ps_resolve.proofs.EachSegment.{is_made}
 pub use Rattle.ps_resolve.proofs.ReadingKnown.{ascend}
 use Rattle.ps_resolve.proofs.ReadingKnown.{own_parts, slot_parts}
 use Rattle.ps_laws.proofs.Least.{Least, least_same, least_then, least_within, first_of_filter_map}

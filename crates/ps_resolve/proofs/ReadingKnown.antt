@@ -135,7 +135,7 @@ stands_not true x h = cc
 stands_not false x h = refl
 
 -- where none of a range of numbers has a fault, each has none
-none_at : {X : Type 0} (f : ℕ → Option X) (a n i : ℕ) → first_of f (range_with_len a n) ≡ None → a ≤ i → i < a + n → f i ≡ None
+pub none_at : {X : Type 0} (f : ℕ → Option X) (a n i : ℕ) → first_of f (range_with_len a n) ≡ None → a ≤ i → i < a + n → f i ≡ None
 none_at f a zero i none low high = absurd (omega arith)
 none_at f a (suc n) i none low high = elim (cases_eq a i) [
   | inl same ↦ ap f (sym same) ∙ neither_first (f a) (first_of f (range_with_len (a + 1) n)) none
