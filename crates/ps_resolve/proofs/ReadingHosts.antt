@@ -8,7 +8,7 @@ use Rattle.ps_words.specs.declared.order.Order.{Order}
 use Rattle.ps_words.specs.declared.fault.Reason.{Reason}
 use Rattle.ps_words.specs.declared.fault.Reason.TheVariants as reason
 use Rattle.ps_words.specs.declared.fault.Fault.{Fault}
-use Rattle.ps_codefile.specs.Dictionary.{OpenedFile, FileOrder, Zero, Ordered, Mixed, file_order, opened_alone, opened_as}
+use Rattle.ps_codefile.specs.Dictionary.{OpenedFile, FileOrder, Zero, file_order, opened_alone, opened_as}
 use Rattle.ps_resolve.specs.Sources.{known_order, order_of}
 use Rattle.ps_resolve.specs.Faults.{slots_fault, no_host_fault, libraries_fault}
 use Rattle.ps_resolve.specs.AllFaults.{reading_fault, reading_rest}
