@@ -6,7 +6,7 @@ use Rattle.std.specs.Map.{lookup}
 use Rattle.std.specs.Option.{option_map, option_and_then}
 use Rattle.std.specs.Result.{result_ok}
 use Rattle.std.specs.Str.{bytes_eq}
-use Rattle.std.proofs.lemmas.Bool.{cases_lt, cases_order, false≢true, or_cases}
+use Rattle.std.proofs.lemmas.Bool.{cases_lt, cases_order, false_from_ne_true, false≢true, or_cases, or_left}
 use Rattle.std.proofs.lemmas.Option.{same_Some, slice_get_within, slice_get-map}
 use Rattle.std.proofs.lemmas.Slice.Eq.{bytes_eq-Decides}
 use Rattle.ps_codefile.specs.Dictionary.{entry_at, role_of, code_of, information_of}
@@ -194,12 +194,9 @@ IsEarliest units queue gs p g =
 
 -- a name that is not known with one more reference is not known without it, and is not its name
 known_by : (units : List (List ℕ × ℕ)) (queue : List UnitReference) (h : UnitReference) (name : List ℕ) → is_already_known units (queue ++ h ∷ []) name ≡ false → (is_already_known units queue name ≡ false) × (h.name ≢ name)
-known_by units queue h name e = (fewer (is_already_known units queue name) refl, other)
+known_by units queue h name e =
+    (false_from_ne_true (is_already_known units queue name) (λ is. false≢true (sym e ∙ known_more units queue (h ∷ []) name is)), other)
   where
-    fewer : (b : Bool) → is_already_known units queue name ≡ b → is_already_known units queue name ≡ false
-    fewer true is = absurd (false≢true (sym e ∙ known_more units queue (h ∷ []) name is))
-    fewer false is = is
-
     other : h.name ≢ name
     other same = false≢true (sym e ∙ ap (λ (n : List ℕ). is_already_known units (queue ++ h ∷ []) n) (sym same) ∙ known_last units queue h)
 
@@ -433,11 +430,7 @@ module _ (order : Order) (host : List ℕ) (libs : List (List ℕ)) (fine : sour
   at_queue k g e = sym (ap (λ (r : List UnitReference). slice_get r k) queue_is) ∙ e
 
   not_slot : (name : List ℕ) → is_already_known (own_units order host libs) [] name ≡ false → HasSlot order host name → ⊥
-  not_slot name none has = go (is_some (lookup (bytes_eq name) (own_units order host libs))) (unit_of_slot order host libs fine name has) none
-    where
-      go : (b : Bool) → b ≡ true → (b || false) ≡ false → ⊥
-      go true e n = absurd (cc)
-      go false e n = false≢true e
+  not_slot name none has = false≢true (sym none ∙ or_left (is_some (lookup (bytes_eq name) (own_units order host libs))) false (unit_of_slot order host libs fine name has))
 
   is_requested : (k : ℕ) (g : UnitReference) → slice_get (queue_of order host libs) k ≡ Some g
       → ((i : ℕ) × (i < length (own_segments order host libs) + k) × IsGiver (own_segments order host libs ++ added_segments order host libs) i g) × (HasSlot order host g.name → ⊥)

@@ -9,6 +9,7 @@ use Rattle.std.specs.Str.{bytes_eq}
 use Rattle.std.proofs.lemmas.Bool.{cases_lt, false≢true}
 use Rattle.std.proofs.Common.{leb-true, le-leb, unwrap_or, is_none}
 use Rattle.std.proofs.lemmas.Bool.Decides.{Decides-at, Decides-ltb, Decides-and, Decides-or, Decides-not, Decides-like, Decides-eqb}
+use Rattle.std.proofs.lemmas.Option.{none-some, same_Some}
 use Rattle.std.proofs.lemmas.Slice.Eq.{bytes_eq-Decides}
 use Rattle.ps_codefile.specs.Dictionary.{slots, entry_at, role_of, code_of, information_of, is_filled}
 use Rattle.ps_codefile.specs.Procedures.{table_of, procedures, content_of, dictionary_start, dictionary_len, is_placed, numbers, tables, tables_fault}
@@ -318,9 +319,6 @@ tables_rows order code host = go (nat_lt (length code) (dictionary_len code) || 
 abbrev pub OneStop : Type 0
 OneStop = (order : Order) (bytes : List ℕ) (rs : List Record) (why : Reason) → Stops order bytes rs why ↔ (reading order bytes ≡ (rs, Some why))
 
-abbrev read_of : List Record → Option Reason → List Record × Option Reason
-read_of rs o = (rs, o)
-
 -- the records
 records_least : OneStop → (order : Order) (file : List ℕ) (e : Entry) (k slot : ℕ) → Least (Precedes OfSources) (λ f. (rs : List Record) × (why : Reason) × (f ≡ in_record k slot (length rs) why) × Stops order (information_of file e) rs why) (information_fault order file e k slot)
 records_least law order file e k slot = go (reading order bytes) refl
@@ -329,17 +327,13 @@ records_least law order file e k slot = go (reading order bytes) refl
     bytes = information_of file e
 
     go : (read : List Record × Option Reason) → reading order bytes ≡ read → Least (Precedes OfSources) (λ f. (rs : List Record) × (why : Reason) × (f ≡ in_record k slot (length rs) why) × Stops order (information_of file e) rs why) (option_map (in_record k slot (length read.0)) read.1)
-    go (rs, None) is = nothing (λ f t. clash rs t.0 t.1 (sym is ∙ (law order bytes t.0 t.1).0 t.3))
-      where
-        clash : (rs qs : List Record) (w : Reason) → read_of rs None ≡ read_of qs (Some w) → ⊥
-        clash rs qs w e = let none : None ≡ Some w = ap (λ (p : List Record × Option Reason). p.1) e in cc
-    go (rs, Some why) is = this (in_record k slot (length rs) why) (rs, why, refl, (law order bytes rs why).1 is) (λ f t. inl (t.2 ∙ same t.0 t.1 (sym ((law order bytes t.0 t.1).0 t.3) ∙ is)))
-      where
-        same : (qs : List Record) (w : Reason) → read_of qs (Some w) ≡ read_of rs (Some why) → in_record k slot (length qs) w ≡ in_record k slot (length rs) why
-        same qs w e =
-            let reasons : Some w ≡ Some why = ap (λ (p : List Record × Option Reason). p.1) e in
-            let same_why : w ≡ why = cc in
-            ap (λ (q : List Record). in_record k slot (length q) w) (ap (λ (p : List Record × Option Reason). p.0) e) ∙ ap (in_record k slot (length rs)) same_why
+    go (rs, None) is = nothing (λ f t. none-some t.1 (ap (λ (p : List Record × Option Reason). p.1) (sym is ∙ (law order bytes t.0 t.1).0 t.3)))
+    go (rs, Some why) is =
+        this (in_record k slot (length rs) why) (rs, why, refl, (law order bytes rs why).1 is) (λ f t.
+        let e = sym ((law order bytes t.0 t.1).0 t.3) ∙ is in
+        let records = ap (λ (p : List Record × Option Reason). p.0) e in
+        let same = same_Some t.1 why (ap (λ (p : List Record × Option Reason). p.1) e) in
+        inl (t.2 ∙ ap (λ (q : List Record). in_record k slot (length q) t.1) records ∙ ap (in_record k slot (length rs)) same))
 
 -- a code
 abbrev IsMiddle : Reason → Type 0
