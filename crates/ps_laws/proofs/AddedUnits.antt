@@ -1,73 +1,49 @@
 -- The units that are added are those that are requested, as they are said plainly.
-use Rattle.std.proofs.Common.{◌≡◌, ℕ, zero, suc, ◌+◌, ◌<◌, ◌≤◌, List, [], ◌∷◌, ◌++◌, length, map, Option, Some, None, Result, Ok, Err, Bool, true, false, refl, sym, ap, subst, ◌∙◌, inl, inr, arith, is_some, unwrap_or, length-append, take}
+use Rattle.std.proofs.Common.{◌≡◌, ℕ, zero, suc, ◌+◌, ◌<◌, ◌≤◌, List, [], ◌∷◌, ◌++◌, length, map, Option, Some, None, Ok, Bool, true, false, refl, sym, ap, subst, ◌∙◌, inl, inr, arith, is_some, length-append, length-take, take}
 use Rattle.std.specs.Prelude.{◌⊎◌, ◌≢◌, if◌then◌else◌, ◌||◌}
-use Rattle.std.specs.List.{slice_get, list_any, find}
+use Rattle.std.specs.List.{slice_get, list_any}
 use Rattle.std.specs.Map.{lookup}
-use Rattle.std.specs.Option.{option_map, option_or, option_and_then}
+use Rattle.std.specs.Option.{option_map, option_and_then}
 use Rattle.std.specs.Result.{result_ok}
 use Rattle.std.specs.Str.{bytes_eq}
-use Rattle.std.proofs.lemmas.Bool.{cases_lt, false≢true}
-use Rattle.std.proofs.lemmas.List.{map-append}
-use Rattle.std.proofs.lemmas.Option.{option_and_then_some, slice_get_within, slice_get-map}
+use Rattle.std.proofs.lemmas.Bool.{cases_lt, cases_order, false_from_ne_true, false≢true, or_cases, or_left}
+use Rattle.std.proofs.lemmas.Option.{same_Some, slice_get_within, slice_get-map}
 use Rattle.std.proofs.lemmas.Slice.Eq.{bytes_eq-Decides}
-use Rattle.ps_codefile.specs.Dictionary.{slots, entry_at, role_of, code_of, information_of}
+use Rattle.ps_codefile.specs.Dictionary.{entry_at, role_of, code_of, information_of}
 use Rattle.ps_linkinfo.specs.RecordCounts.{is_unit_reference}
-use Rattle.ps_resolve.specs.Added.{unit_references, all_unit_references, is_already_known, requested_from, requested_units, added_segments, added_fault, as_added, added_segment}
+use Rattle.ps_resolve.specs.Added.{unit_references, all_unit_references, is_already_known, requested_from, requested_units, added_segments, added_fault}
 use Rattle.ps_resolve.specs.Standing.Phrases.{SomeItem}
-use Rattle.ps_resolve.specs.Standing.Slots.{HasRole}
-use Rattle.ps_resolve.specs.Standing.Sources.{HasEntry, IsNamed}
+use Rattle.ps_resolve.specs.OfLink.{IsOfFile}
+use Rattle.ps_resolve.specs.Standing.Slots.{HasRole, IsUnitSlot}
 use Rattle.ps_codefile.specs.declared.entry.Role.{Role}
 use Rattle.ps_codefile.specs.declared.entry.Role.TheVariants as role
 use Rattle.ps_linkinfo.specs.Records.{reading}
 use Rattle.ps_linkinfo.specs.declared.record.LinkRecord.{LinkRecord as Record}
-use Rattle.ps_resolve.specs.Faults.{sources_fault, source_fault, role_fault, code_fault}
+use Rattle.ps_resolve.specs.Faults.{sources_fault, role_fault, code_fault}
 use Rattle.ps_resolve.specs.Requests.{request_by_slot}
 use Rattle.ps_resolve.specs.First.{Before}
-use Rattle.ps_resolve.specs.Searches.{first_of}
-use Rattle.ps_codefile.specs.Roles.{is_unit}
-use Rattle.ps_resolve.specs.Sources.{Segment, is_named, chosen_library, unit_source, source_of, file_at, segment_from, own_segment, own_segments}
+use Rattle.ps_codefile.specs.Roles.{is_unit, needs_linking}
+use Rattle.ps_resolve.specs.Sources.{Segment, unit_source, source_of, segment_from, own_segment, own_segments}
 use Rattle.ps_resolve.specs.RequestedUnits.{Asks, HasSlot, IsGiver, AreGiven, IsOfFirstLibrary, AddedUnits}
 use Rattle.ps_resolve.specs.declared.reading.added.UnitReference.{UnitReference}
-use Rattle.ps_laws.proofs.Least.{Least, this, not_both}
+use Rattle.ps_laws.proofs.Least.{not_both}
 use Rattle.ps_laws.proofs.Looking.{any_of_items}
-use Rattle.ps_laws.proofs.Items.{In, at_left, at_seam, in_range, of_range, find_passes}
+use Rattle.ps_laws.proofs.Items.{not_apart, at_left, first_right, right_at}
 use Rattle.ps_resolve.proofs.EachSegment.{own_made as made_from}
-pub use Rattle.ps_resolve.proofs.FirstSlots.{or_none as both_none}
-use Rattle.ps_laws.proofs.Segments.{from_slot}
-use Rattle.ps_laws.proofs.Sources.{named, chosen, ok_is}
-use Rattle.ps_laws.proofs.Rounds.{own_units, references_of}
+pub use Rattle.ps_resolve.proofs.FirstSlots.{or_none as both_none, some_mapped}
+use Rattle.ps_laws.proofs.Sources.{ok_is}
+use Rattle.ps_laws.proofs.EachRound.{IsFine, own_units, references_of, request_parts, source_made, unit_there}
+use Rattle.ps_laws.proofs.OfLink.{role_none, round_known}
+use Rattle.ps_laws.proofs.UnitPlaces.{unit_place}
 use Rattle.ps_laws.proofs.OneQueue.{giver_of_front}
-use Rattle.ps_laws.proofs.Asked.{IsFine, source_made, request_parts, unit_there, added_is, queue_grows, all_known, known_more, known_last, or_cases, queue_of, name_placed, segment_named, in_empty, own_in, own_at, units_named}
+use Rattle.ps_laws.proofs.Asked.{HasRound, reference_of, round_at, queue_grows, all_known, known_more, known_last, queue_of, name_placed, segment_named, in_empty, own_in, own_at, units_named}
 use Rattle.ps_words.specs.declared.order.Order.{Order}
 use Rattle.ps_words.specs.declared.fault.Reason.{Reason}
 
--- 1. the references of a sequence of segments, each with the number of its segment
-abbrev Numbered : Type 0
-Numbered = ℕ × UnitReference
-
-abbrev tag : ℕ → UnitReference → Numbered
-tag i g = (i, g)
-
-abbrev numbered : ℕ → List Segment → List Numbered
-numbered i [] = []
-numbered i (s ∷ ss) = map (tag i) (references_of s) ++ numbered (i + 1) ss
-
--- without their numbers they are the unit references of the segments, one segment after another
-numbers_off : (i : ℕ) (segs : List Segment) → map (λ (n : Numbered). n.1) (numbered i segs) ≡ all_unit_references segs
-numbers_off i [] = refl
-numbers_off i (s ∷ ss) =
-    map-append (λ (n : Numbered). n.1) (map (tag i) (references_of s)) (numbered (i + 1) ss)
-    ∙ (ap (λ (gs : List UnitReference). gs ++ map (λ (n : Numbered). n.1) (numbered (i + 1) ss)) (go (references_of s)) ∙ ap (λ (gs : List UnitReference). references_of s ++ gs) (numbers_off (i + 1) ss))
-  where
-    go : (gs : List UnitReference) → map (λ (n : Numbered). n.1) (map (tag i) gs) ≡ gs
-    go [] = refl
-    go (g ∷ gs) = ap (λ (xs : List UnitReference). g ∷ xs) (go gs)
-
+-- 1. the references of a sequence of segments
 -- an item of a mapped list is what the function makes of the item at the same place
 pub mapped : {A C : Type 0} (f : A → C) (xs : List A) (k : ℕ) (y : C) → slice_get (map f xs) k ≡ Some y → (x : A) × (slice_get xs k ≡ Some x) × (f x ≡ y)
-mapped f [] k y e = absurd (cc)
-mapped f (x ∷ xs) zero y e = (x, refl, cc)
-mapped f (x ∷ xs) (suc k) y e = mapped f xs k y e
+mapped f xs k y e = let t = some_mapped f (slice_get xs k) y (sym (slice_get-map f xs k) ∙ e) in (t.0, t.1, sym t.2)
 
 -- an item of two joined lists is in the first at its place, or in the second, where it is as much
 -- earlier
@@ -80,14 +56,6 @@ split_at {A} (x ∷ xs) ys (suc p) a e = go (split_at xs ys p a e)
     go : (slice_get xs p ≡ Some a) ⊎ ((q : ℕ) × (p ≡ length xs + q) × (slice_get ys q ≡ Some a)) → (slice_get xs p ≡ Some a) ⊎ ((q : ℕ) × (suc p ≡ length (x ∷ xs) + q) × (slice_get ys q ≡ Some a))
     go (inl h) = inl h
     go (inr t) = inr (t.0, (let h = t.1 in omega (arith, h)), t.2)
-
--- an item of the second of two joined lists is as much later as the first is long
-pub at_right : {A : Type 0} (xs ys : List A) (q : ℕ) (a : A) → slice_get ys q ≡ Some a → slice_get (xs ++ ys) (length xs + q) ≡ Some a
-at_right {A} [] ys q a e = let same : q ≡ length {A = A} [] + q = omega arith in subst (λ (n : ℕ). slice_get ys n ≡ Some a) same e
-at_right {A} (x ∷ xs) ys q a e = let same : suc (length xs + q) ≡ length (x ∷ xs) + q = omega arith in subst (λ (n : ℕ). slice_get (x ∷ xs ++ ys) n ≡ Some a) same (next (length xs + q) (at_right xs ys q a e))
-  where
-    next : (n : ℕ) → slice_get (xs ++ ys) n ≡ Some a → slice_get (x ∷ xs ++ ys) (suc n) ≡ Some a
-    next n h = h
 
 -- those of one segment
 abbrev IsOf : ℕ → ℕ → ℕ → List Record → UnitReference → ℕ → Type 0
@@ -116,24 +84,6 @@ reference_is file slot n (q ∷ rs) p g e = go (is_unit_reference q.body) refl p
     go true is (suc k) e later = step (later k e)
     go false is k e later = step (later k e)
 
--- each UNITREF of a sequence of records has its unit reference, with its name and its number
-reference_of : (file slot n : ℕ) (rs : List Record) (j : ℕ) (r : Record) → slice_get rs j ≡ Some r → is_unit_reference r.body ≡ true → (p : ℕ) × (g : UnitReference) × (slice_get (unit_references file slot n rs) p ≡ Some g) × (g.name ≡ r.name) × (g.rec ≡ n + j)
-reference_of file slot n [] j r e u = absurd (cc)
-reference_of file slot n (q ∷ rs) j r e u = go (is_unit_reference q.body) refl j e (λ k h. reference_of file slot (n + 1) rs k r h u)
-  where
-    Q : UnitReference
-    Q = record { name = q.name; file = file; slot = slot; rec = n }
-
-    Found : ℕ → ℕ → List UnitReference → Type 0
-    Found m j gs = (p : ℕ) × (g : UnitReference) × (slice_get gs p ≡ Some g) × (g.name ≡ r.name) × (g.rec ≡ m + j)
-
-    go : (b : Bool) → is_unit_reference q.body ≡ b → (j : ℕ) → slice_get (q ∷ rs) j ≡ Some r → ((k : ℕ) → slice_get rs k ≡ Some r → Found (n + 1) k (unit_references file slot (n + 1) rs))
-        → Found n j (if b then record { name = q.name; file = file; slot = slot; rec = n } ∷ unit_references file slot (n + 1) rs else unit_references file slot (n + 1) rs)
-    go true is zero e later = let same : q ≡ r = cc in (zero, Q, refl, ap (λ (x : Record). x.name) same, omega arith)
-    go true is (suc k) e later = let t = later k e in (suc t.0, t.1, t.2, t.3, (let h = t.4 in omega (arith, h)))
-    go false is zero e later = let same : q ≡ r = cc in absurd (false≢true (sym is ∙ (ap (λ (x : Record). is_unit_reference x.body) same ∙ u)))
-    go false is (suc k) e later = let t = later k e in (t.0, t.1, t.2, t.3, (let h = t.4 in omega (arith, h)))
-
 -- the unit references of a sequence of records are in the order of the records
 references_ascend : (file slot n : ℕ) (rs : List Record) (p q : ℕ) (g h : UnitReference) → p < q → slice_get (unit_references file slot n rs) p ≡ Some g → slice_get (unit_references file slot n rs) q ≡ Some h → g.rec < h.rec
 references_ascend file slot n [] p q g h l e u = absurd (cc)
@@ -156,83 +106,86 @@ references_ascend file slot n (x ∷ rs) p q g h l e u = go (is_unit_reference x
         omega (arith, a, t)
     go true (suc p) (suc q) l e u later = later p q (omega (arith, l)) e u
 
--- those of all
-numbered_is : (i : ℕ) (segs : List Segment) (p m : ℕ) (g : UnitReference) → slice_get (numbered i segs) p ≡ Some (m, g) → (j : ℕ) × (m ≡ i + j) × (s : Segment) × (slice_get segs j ≡ Some s) × (d : ℕ) × IsOf s.file s.slot 0 s.records g d
-numbered_is i [] p m g e = absurd (cc)
-numbered_is i (s ∷ ss) p m g e = elim (split_at (map (tag i) (references_of s)) (numbered (i + 1) ss) p (m, g) e) [
-  | inl h ↦
-      let t = mapped (tag i) (references_of s) p (m, g) h in
-      let a : i ≡ m = ap (λ (n : Numbered). n.0) t.2 in
-      let b : t.0 ≡ g = ap (λ (n : Numbered). n.1) t.2 in
-      let r = reference_is s.file s.slot 0 s.records p g (t.1 ∙ ap (λ (x : UnitReference). Some x) b) in
-      (zero, omega (arith, a), s, refl, r.0, r.1)
-  | inr t ↦
-      let r = numbered_is (i + 1) ss t.0 m g t.2 in
-      (suc r.0, (let h = r.1 in omega (arith, h)), r.2, r.3, r.4, r.5)
-]
-
 -- what the function makes of an item is in the mapped list at the same place
 pub map_at : {A C : Type 0} (f : A → C) (xs : List A) (k : ℕ) (x : A) → slice_get xs k ≡ Some x → slice_get (map f xs) k ≡ Some (f x)
-map_at f [] k x e = absurd (cc)
-map_at {A} f (y ∷ xs) zero x e = let same : y ≡ x = cc in ap (λ (z : A). Some (f z)) same
-map_at f (y ∷ xs) (suc k) x e = map_at f xs k x e
+map_at f xs k x e = slice_get-map f xs k ∙ ap (option_map f) e
 
-renumbered : (xs : List Numbered) (p m n : ℕ) (g : UnitReference) → m ≡ n → slice_get xs p ≡ Some (m, g) → slice_get xs p ≡ Some (n, g)
-renumbered xs p m n g h e = subst (λ (k : ℕ). slice_get xs p ≡ Some (tag k g)) h e
+-- reference p of all of these segments is g, of segment m
+abbrev IsReferenceOf : List Segment → ℕ → ℕ → UnitReference → Type 0
+IsReferenceOf [] p m g = ⊥
+IsReferenceOf (s ∷ ss) p m g =
+    ((m ≡ 0) × (slice_get (references_of s) p ≡ Some g))
+    ⊎ ((q : ℕ) × (k : ℕ) × (p ≡ length (references_of s) + q) × (m ≡ suc k) × IsReferenceOf ss q k g)
 
--- each UNITREF of a segment has its unit reference among those of all, with the number of the
--- segment
-numbered_of : (i : ℕ) (segs : List Segment) (j : ℕ) (s : Segment) (rec : ℕ) (r : Record) → slice_get segs j ≡ Some s → slice_get s.records rec ≡ Some r → is_unit_reference r.body ≡ true
-    → (p : ℕ) × (g : UnitReference) × (slice_get (numbered i segs) p ≡ Some (i + j, g)) × (g.name ≡ r.name) × (g.rec ≡ rec)
-numbered_of i [] j s rec r e a u = absurd (cc)
-numbered_of i (q ∷ ss) zero s rec r e a u =
+-- each of them is of a segment
+place_of : (segs : List Segment) (p : ℕ) (g : UnitReference) → slice_get (all_unit_references segs) p ≡ Some g
+    → (m : ℕ) × IsReferenceOf segs p m g
+place_of [] p g e = absurd (cc)
+place_of (s ∷ ss) p g e = elim (split_at (references_of s) (all_unit_references ss) p g e) [
+  | inl h ↦ (0, inl (refl, h))
+  | inr t ↦ (let r = place_of ss t.0 g t.2 in (suc r.0, inr (t.0, r.0, t.1, refl, r.1)))
+]
+
+of_place : (segs : List Segment) (p m : ℕ) (g : UnitReference) → IsReferenceOf segs p m g
+    → (s : Segment) × (slice_get segs m ≡ Some s) × (d : ℕ) × IsOf s.file s.slot 0 s.records g d
+of_place [] p m g x = absurd x
+of_place (s ∷ ss) p m g (inl t) =
+    let r = reference_is s.file s.slot 0 s.records p g t.1 in
+    (s, ap (slice_get (s ∷ ss)) t.0, r.0, r.1)
+of_place (s ∷ ss) p m g (inr t) =
+    let r = of_place ss t.0 t.1 g t.4 in
+    (r.0, ap (slice_get (s ∷ ss)) t.3 ∙ r.1, r.2, r.3)
+
+-- each UNITREF of a segment has its unit reference among them
+reference_at : (segs : List Segment) (j : ℕ) (s : Segment) (rec : ℕ) (r : Record) → slice_get segs j ≡ Some s
+    → slice_get s.records rec ≡ Some r → is_unit_reference r.body ≡ true
+    → (p : ℕ) × (g : UnitReference) × IsReferenceOf segs p j g × (slice_get (all_unit_references segs) p ≡ Some g)
+    × (g.name ≡ r.name) × (g.rec ≡ rec)
+reference_at [] j s rec r e a u = absurd (cc)
+reference_at (q ∷ ss) zero s rec r e a u =
     let same : q ≡ s = cc in
-    let t = reference_of q.file q.slot 0 q.records rec r (subst (λ (x : Segment). slice_get x.records rec ≡ Some r) (sym same) a) u in (
-      t.0,
-      t.1,
-      at_left (map (tag i) (references_of q)) (numbered (i + 1) ss) t.0 (i + 0, t.1)
-          (renumbered (map (tag i) (references_of q)) t.0 i (i + 0) t.1 (omega arith) (map_at (tag i) (references_of q) t.0 t.1 t.2)),
-      t.3,
-      (let h = t.4 in omega (arith, h)),
-    )
-numbered_of i (q ∷ ss) (suc j) s rec r e a u =
-    let t = numbered_of (i + 1) ss j s rec r e a u in (
-      length (map (tag i) (references_of q)) + t.0,
-      t.1,
-      at_right (map (tag i) (references_of q)) (numbered (i + 1) ss) t.0 (i + suc j, t.1) (renumbered (numbered (i + 1) ss) t.0 (i + 1 + j) (i + suc j) t.1 (omega arith) t.2),
-      t.3,
-      t.4,
-    )
+    let there = subst (λ (x : Segment). slice_get x.records rec ≡ Some r) (sym same) a in
+    let t = reference_of q.file q.slot 0 q.records rec r there u in
+    let at = at_left (references_of q) (all_unit_references ss) t.0 t.1 t.2 in
+    (t.0, t.1, inl (refl, t.2), at, t.3, (let h = t.4 in omega (arith, h)))
+reference_at (q ∷ ss) (suc j) s rec r e a u =
+    let t = reference_at ss j s rec r e a u in
+    let own = references_of q in
+    let at = right_at own (all_unit_references ss) t.0 ∙ t.3 in
+    (length own + t.0, t.1, inr (t.0, j, refl, refl, t.2), at, t.4, t.5)
 
--- the unit references of all are in the order of their segments and, in each of these, of their
--- records
-numbered_ascend : (i : ℕ) (segs : List Segment) (p q m n : ℕ) (g h : UnitReference) → p < q → slice_get (numbered i segs) p ≡ Some (m, g) → slice_get (numbered i segs) q ≡ Some (n, h) → Before (m ∷ g.rec ∷ []) (n ∷ h.rec ∷ [])
-numbered_ascend i [] p q m n g h l e u = absurd (cc)
-numbered_ascend i (s ∷ ss) p q m n g h l e u = go (λ a b x y z. numbered_ascend (i + 1) ss a b m n g h x y z) (split_at prefix (numbered (i + 1) ss) p (m, g) e) (split_at prefix (numbered (i + 1) ss) q (n, h) u)
-  where
-    prefix : List Numbered
-    prefix = map (tag i) (references_of s)
+-- there is one at a place
+same_at : (segs : List Segment) (p m n : ℕ) (g h : UnitReference) → IsReferenceOf segs p m g → IsReferenceOf segs p n h
+    → (m ≡ n) × (g ≡ h)
+same_at [] p m n g h x y = absurd x
+same_at (s ∷ ss) p m n g h (inl a) (inl b) = (a.0 ∙ sym b.0, same_Some g h (sym a.1 ∙ b.1))
+same_at (s ∷ ss) p m n g h (inl a) (inr t) =
+    let w = slice_get_within (references_of s) p g a.1 in
+    absurd (let x = t.2 in omega (arith, w, x))
+same_at (s ∷ ss) p m n g h (inr t) (inl b) =
+    let w = slice_get_within (references_of s) p h b.1 in
+    absurd (let x = t.2 in omega (arith, w, x))
+same_at (s ∷ ss) p m n g h (inr t) (inr v) =
+    let same : v.0 ≡ t.0 = (let a = t.2 in let b = v.2 in omega (arith, a, b)) in
+    let r = same_at ss t.0 t.1 v.1 g h t.4 (subst (λ (q : ℕ). IsReferenceOf ss q v.1 h) same v.4) in
+    (t.3 ∙ ap suc r.0 ∙ sym v.3, r.1)
 
-    Behind : ℕ → ℕ → UnitReference → Type 0
-    Behind p m g = (d : ℕ) × (p ≡ length prefix + d) × (slice_get (numbered (i + 1) ss) d ≡ Some (m, g))
-
-    here : (p m : ℕ) (g : UnitReference) → slice_get prefix p ≡ Some (m, g) → (i ≡ m) × (slice_get (references_of s) p ≡ Some g)
-    here p m g e =
-        let t = mapped (tag i) (references_of s) p (m, g) e in
-        (ap (λ (x : Numbered). x.0) t.2, t.1 ∙ ap (λ (x : UnitReference). Some x) (ap (λ (y : Numbered). y.1) t.2))
-
-    go : ((a b : ℕ) → a < b → slice_get (numbered (i + 1) ss) a ≡ Some (m, g) → slice_get (numbered (i + 1) ss) b ≡ Some (n, h) → Before (m ∷ g.rec ∷ []) (n ∷ h.rec ∷ []))
-        → (slice_get prefix p ≡ Some (m, g)) ⊎ Behind p m g → (slice_get prefix q ≡ Some (n, h)) ⊎ Behind q n h → Before (m ∷ g.rec ∷ []) (n ∷ h.rec ∷ [])
-    go later (inl a) (inl b) =
-        let x = here p m g a in
-        let y = here q n h b in
-        inr (sym x.0 ∙ y.0, inl (references_ascend s.file s.slot 0 s.records p q g h l x.1 y.1))
-    go later (inl a) (inr t) =
-        let x = (here p m g a).0 in
-        let y = (numbered_is (i + 1) ss t.0 n h t.2).1 in
-        inl (omega (arith, x, y))
-    go later (inr t) (inl b) = let w = slice_get_within prefix q (n, h) b in let a = t.1 in absurd (omega (arith, a, w, l))
-    go later (inr t) (inr v) = later t.0 v.0 (let a = t.1 in let b = v.1 in omega (arith, a, b, l)) t.2 v.2
+-- they are in the order of their segments and, in each of these, of their records
+in_order : (segs : List Segment) (p q m n : ℕ) (g h : UnitReference) → p < q → IsReferenceOf segs p m g
+    → IsReferenceOf segs q n h → Before (m ∷ g.rec ∷ []) (n ∷ h.rec ∷ [])
+in_order [] p q m n g h l x y = absurd x
+in_order (s ∷ ss) p q m n g h l (inl a) (inl b) =
+    inr (a.0 ∙ sym b.0, inl (references_ascend s.file s.slot 0 s.records p q g h l a.1 b.1))
+in_order (s ∷ ss) p q m n g h l (inl a) (inr t) = inl (let x = a.0 in let y = t.3 in omega (arith, x, y))
+in_order (s ∷ ss) p q m n g h l (inr t) (inl b) =
+    let w = slice_get_within (references_of s) q h b.1 in
+    absurd (let x = t.2 in omega (arith, w, x, l))
+in_order (s ∷ ss) p q m n g h l (inr t) (inr v) =
+    let less : t.0 < v.0 = (let a = t.2 in let b = v.2 in omega (arith, a, b, l)) in
+    elim (in_order ss t.0 v.0 t.1 v.1 g h less t.4 v.4) [
+      | inl k ↦ inl (let a = t.3 in let b = v.3 in omega (arith, a, b, k))
+      | inr k ↦ inr (t.3 ∙ ap suc k.0 ∙ sym v.3, k.1)
+    ]
 
 -- 2. the queue: each name at the first of its references that is not known already
 abbrev IsEarliest : List (List ℕ × ℕ) → List UnitReference → List UnitReference → ℕ → UnitReference → Type 0
@@ -241,12 +194,9 @@ IsEarliest units queue gs p g =
 
 -- a name that is not known with one more reference is not known without it, and is not its name
 known_by : (units : List (List ℕ × ℕ)) (queue : List UnitReference) (h : UnitReference) (name : List ℕ) → is_already_known units (queue ++ h ∷ []) name ≡ false → (is_already_known units queue name ≡ false) × (h.name ≢ name)
-known_by units queue h name e = (fewer (is_already_known units queue name) refl, other)
+known_by units queue h name e =
+    (false_from_ne_true (is_already_known units queue name) (λ is. false≢true (sym e ∙ known_more units queue (h ∷ []) name is)), other)
   where
-    fewer : (b : Bool) → is_already_known units queue name ≡ b → is_already_known units queue name ≡ false
-    fewer true is = absurd (false≢true (sym e ∙ known_more units queue (h ∷ []) name is))
-    fewer false is = is
-
     other : h.name ≢ name
     other same = false≢true (sym e ∙ ap (λ (n : List ℕ). is_already_known units (queue ++ h ∷ []) n) (sym same) ∙ known_last units queue h)
 
@@ -276,7 +226,7 @@ new_here units queue gs x none = (refl, none, λ q h l e same. omega (arith, l))
 new_name : (units : List (List ℕ × ℕ)) (queue gs : List UnitReference) (x : UnitReference) (k : ℕ) (g : UnitReference) → k ≡ length queue → slice_get (requested_from units (queue ++ x ∷ []) gs) k ≡ Some g → x ≡ g
 new_name units queue gs x k g at e =
     let grown = queue_grows units (queue ++ x ∷ []) gs in
-    let there : slice_get (requested_from units (queue ++ x ∷ []) gs) k ≡ Some x = ap (λ (r : List UnitReference). slice_get r k) grown.1 ∙ at_left (queue ++ x ∷ []) grown.0 k x (at_seam queue x [] k at) in
+    let there : slice_get (requested_from units (queue ++ x ∷ []) gs) k ≡ Some x = ap (λ (r : List UnitReference). slice_get r k) grown.1 ∙ at_left (queue ++ x ∷ []) grown.0 k x (first_right queue (x ∷ []) k at) in
     cc
 
 -- each name that is after those in the queue is that of an earliest reference
@@ -321,59 +271,45 @@ requested_pair units queue (x ∷ gs) j k g h low l e u = go (is_already_known u
           (zero, suc t.0, omega arith, subst (λ (y : UnitReference). IsEarliest units queue (x ∷ gs) zero y) same (new_here units queue gs x none), past_new units queue gs x t.0 h t.1)
     ]
 
--- where a reference is
-place_of : (segs : List Segment) (p : ℕ) (g : UnitReference) → slice_get (all_unit_references segs) p ≡ Some g → (m : ℕ) × (slice_get (numbered 0 segs) p ≡ Some (m, g))
-place_of segs p g e =
-    let t = mapped (λ (n : Numbered). n.1) (numbered 0 segs) p g (ap (λ (gs : List UnitReference). slice_get gs p) (numbers_off 0 segs) ∙ e) in
-    (t.0.0, t.1 ∙ ap (λ (h : UnitReference). Some (tag t.0.0 h)) t.2)
-
--- a record that requests a name has its unit reference among those of all, with the number of its
--- segment
-asks_at : (segs : List Segment) (j rec : ℕ) (name : List ℕ) → Asks segs j rec name → (q : ℕ) × (h : UnitReference) × (slice_get (numbered 0 segs) q ≡ Some (j, h)) × (slice_get (all_unit_references segs) q ≡ Some h) × (h.name ≡ name) × (h.rec ≡ rec)
+-- a record that requests a name has its unit reference among those of all
+asks_at : (segs : List Segment) (j rec : ℕ) (name : List ℕ) → Asks segs j rec name
+    → (q : ℕ) × (h : UnitReference) × IsReferenceOf segs q j h × (slice_get (all_unit_references segs) q ≡ Some h)
+    × (h.name ≡ name) × (h.rec ≡ rec)
 asks_at segs j rec name t =
-    let r = numbered_of 0 segs j t.0 rec t.2 t.1 t.3 t.4 in (
-      r.0,
-      r.1,
-      r.2 ∙ ap (λ (n : ℕ). Some (tag n r.1)) (omega arith),
-      sym (ap (λ (gs : List UnitReference). slice_get gs r.0) (numbers_off 0 segs)) ∙ map_at (λ (n : Numbered). n.1) (numbered 0 segs) r.0 (0 + j, r.1) r.2,
-      r.3 ∙ t.5,
-      r.4,
-    )
+    let r = reference_at segs j t.0 rec t.2 t.1 t.3 t.4 in
+    (r.0, r.1, r.2, r.3, r.4 ∙ t.5, r.5)
 
 -- the earliest reference of a name is of the first record of all that requests it
-giver : (units : List (List ℕ × ℕ)) (segs : List Segment) (p m : ℕ) (g : UnitReference) → IsEarliest units [] (all_unit_references segs) p g → slice_get (numbered 0 segs) p ≡ Some (m, g) → IsGiver segs m g
+giver : (units : List (List ℕ × ℕ)) (segs : List Segment) (p m : ℕ) (g : UnitReference) → IsEarliest units [] (all_unit_references segs) p g → IsReferenceOf segs p m g → IsGiver segs m g
 giver units segs p m g t at = ((s, there, of.5, of.6), (s, there, of.0, subst (λ (n : ℕ). slice_get s.records n ≡ Some of.0) rec of.1, of.2, of.3), first)
   where
-    r : (j : ℕ) × (m ≡ 0 + j) × (s : Segment) × (slice_get segs j ≡ Some s) × (d : ℕ) × IsOf s.file s.slot 0 s.records g d
-    r = numbered_is 0 segs p m g at
+    r : (s : Segment) × (slice_get segs m ≡ Some s) × (d : ℕ) × IsOf s.file s.slot 0 s.records g d
+    r = of_place segs p m g at
 
     s : Segment
-    s = r.2
+    s = r.0
 
     there : slice_get segs m ≡ Some s
-    there = subst (λ (n : ℕ). slice_get segs n ≡ Some s) (let a = r.1 in omega (arith, a)) r.3
+    there = r.1
 
-    of : IsOf s.file s.slot 0 s.records g r.4
-    of = r.5
+    of : IsOf s.file s.slot 0 s.records g r.2
+    of = r.3
 
-    rec : r.4 ≡ g.rec
+    rec : r.2 ≡ g.rec
     rec = let a = of.4 in omega (arith, a)
 
     first : (j k : ℕ) → Before (j ∷ k ∷ []) (m ∷ g.rec ∷ []) → Asks segs j k g.name → ⊥
     first j k b asks =
         let a = asks_at segs j k g.name asks in
         let before : Before (j ∷ a.1.rec ∷ []) (m ∷ g.rec ∷ []) = subst (λ (n : ℕ). Before (j ∷ n ∷ []) (m ∷ g.rec ∷ [])) (sym a.5) b in
-        elim (cases_lt a.0 p) [
-          | inl l ↦ t.2 a.0 a.1 l a.3 a.4
-          | inr l ↦ elim (cases_lt p a.0) [
-            | inl n ↦ not_both (j ∷ a.1.rec ∷ []) (m ∷ g.rec ∷ []) before (numbered_ascend 0 segs p a.0 m j g a.1 n at a.2)
-            | inr n ↦
-                let same : a.0 ≡ p = omega (arith, l, n) in
-                let here : slice_get (numbered 0 segs) p ≡ Some (j, a.1) = subst (λ (i : ℕ). slice_get (numbered 0 segs) i ≡ Some (j, a.1)) same a.2 in
-                let one : tag j a.1 ≡ tag m g = cc in
-                let x : j ≡ m = ap (λ (n : Numbered). n.0) one in
-                let y : a.1 ≡ g = ap (λ (n : Numbered). n.1) one in
-                itself m g.rec (subst (λ (i : ℕ). Before (i ∷ g.rec ∷ []) (m ∷ g.rec ∷ [])) x (subst (λ (h : UnitReference). Before (j ∷ h.rec ∷ []) (m ∷ g.rec ∷ [])) y before))
+        elim (cases_order a.0 p) [
+          | inl same ↦
+              let one = same_at segs p j m a.1 g (subst (λ (i : ℕ). IsReferenceOf segs i j a.1) same a.2) at in
+              let own = subst (λ (h : UnitReference). Before (j ∷ h.rec ∷ []) (m ∷ g.rec ∷ [])) one.1 before in
+              itself m g.rec (subst (λ (i : ℕ). Before (i ∷ g.rec ∷ []) (m ∷ g.rec ∷ [])) one.0 own)
+          | inr u ↦ elim u [
+            | inl l ↦ t.2 a.0 a.1 l a.3 a.4
+            | inr n ↦ not_both (j ∷ a.1.rec ∷ []) (m ∷ g.rec ∷ []) before (in_order segs p a.0 m j g a.1 n at a.2)
           ]
         ]
       where
@@ -396,6 +332,13 @@ unit_role role.Unit e = inl refl
 unit_role role.Wanted e = inr refl
 unit_role other e = absurd (false≢true e)
 
+-- so a slot of a unit's role is a unit slot
+pub unit_slot : (order : Order) (host : List ℕ) (slot : ℕ) (r : Role) → is_unit r ≡ true → HasRole order host slot r → IsUnitSlot order host slot
+unit_slot order host slot r unit has = elim (unit_role r unit) [
+  | inl u ↦ inl (subst (HasRole order host slot) u has)
+  | inr u ↦ inr (subst (HasRole order host slot) u has)
+]
+
 -- a slot's own segment has the slot's role and its name
 pub own_is : (order : Order) (host : List ℕ) (libs : List (List ℕ)) (slot : ℕ) (s : Segment) → own_segment order host libs slot ≡ Some s → (r : Role) × HasRole order host slot r × (s.role ≡ r) × (s.name ≡ (entry_at order host slot).name)
 own_is order host libs slot s e = let t = made_from order host libs slot s e in (t.0, ok_is (role_of (entry_at order host slot)) t.0 t.1, ap (λ (q : Segment). q.role) t.3.is, ap (λ (q : Segment). q.name) t.3.is)
@@ -406,37 +349,7 @@ slot_of_unit order host libs name e =
     let t = (units_named name (own_segments order host libs)).0 e in
     let o = own_at order host libs t.1 (t.0, t.2) in
     let r = own_is order host libs o.0 t.1 o.2 in
-    let same = sym r.3 ∙ t.3.1 in
-    elim (unit_role r.0 (sym (ap is_unit r.2) ∙ t.3.0)) [
-      | inl u ↦ (o.0, o.1, (inl (subst (λ (x : Role). HasRole order host o.0 x) u r.1), same))
-      | inr u ↦ (o.0, o.1, (inr (subst (λ (x : Role). HasRole order host o.0 x) u r.1), same))
-    ]
-
--- where the first of what a queue of items gives is none, each of them gives none
-pub first_none : {A X : Type 0} (f : A → Option X) (xs : List A) (i : ℕ) (x : A) → first_of f xs ≡ None → slice_get xs i ≡ Some x → f x ≡ None
-first_none f [] i x e u = absurd (cc)
-first_none {A} {X} f (y ∷ xs) i x e u = go (λ n k h. first_none f xs k x n h) (f y) refl e i u
-  where
-    go : (first_of f xs ≡ None → (k : ℕ) → slice_get xs k ≡ Some x → f x ≡ None) → (o : Option X) → f y ≡ o → option_or o (first_of f xs) ≡ None → (i : ℕ) → slice_get (y ∷ xs) i ≡ Some x → f x ≡ None
-    go later (Some a) is e i u = absurd (cc)
-    go later None is e zero u = let same : y ≡ x = cc in sym (ap f same) ∙ is
-    go later None is e (suc i) u = later e i u
-
-source_none : (order : Order) (host : List ℕ) (libs : List (List ℕ)) → sources_fault order host libs ≡ None → (slot : ℕ) → slot < 16 → source_fault order host libs slot ≡ None
-unfolding sources_fault
-source_none order host libs fine slot h = let i = in_range 0 16 slot (omega arith) (omega (arith, h)) in first_none (source_fault order host libs) slots i.0 slot fine i.1
-
--- where the sources have no fault, a slot has none by its role
-role_none : (order : Order) (host : List ℕ) (libs : List (List ℕ)) → sources_fault order host libs ≡ None → (slot : ℕ) → slot < 16 → (r : Role) → HasRole order host slot r → role_fault order host libs slot r ≡ None
-role_none order host libs fine slot inside r has = sym (ap (option_and_then (role_fault order host libs slot)) (ap result_ok has)) ∙ source_none order host libs fine slot inside
-
--- and so its code has none
-pub code_none : (order : Order) (host : List ℕ) (libs : List (List ℕ)) → sources_fault order host libs ≡ None → (slot : ℕ) → slot < 16 → (r : Role) → HasRole order host slot r → option_and_then (code_fault order host libs slot r) (source_of order host libs slot r) ≡ None
-code_none order host libs fine slot inside r has = go r (role_none order host libs fine slot inside r has)
-  where
-    go : (r : Role) → role_fault order host libs slot r ≡ None → option_and_then (code_fault order host libs slot r) (source_of order host libs slot r) ≡ None
-    go role.Wanted e = (request_parts order host libs (request_by_slot order host slot) e).2
-    go other e = e
+    (o.0, o.1, (unit_slot order host o.0 r.0 (sym (ap is_unit r.2) ∙ t.3.0) r.1, sym r.3 ∙ t.3.1))
 
 -- a slot that has a source, in whose code there is no fault, has its own segment
 own_made : (order : Order) (host : List ℕ) (libs : List (List ℕ)) (slot : ℕ) (r : Role) (at : ℕ × ℕ) → HasRole order host slot r → source_of order host libs slot r ≡ Some at → code_fault order host libs slot r at ≡ None → (s : Segment) × (own_segment order host libs slot ≡ Some s)
@@ -480,110 +393,25 @@ unit_of_slot order host libs fine name t = elim t.2.0 [ inl has ↦ known role.U
         (units_named name (own_segments order host libs)).1 (i.0, m.0, i.1, (ap is_unit (o.2 ∙ same) ∙ unit, o.3 ∙ t.2.1))
 
 -- 5. where an added segment comes from
-made_is : (order : Order) (host : List ℕ) (libs : List (List ℕ)) (slot : ℕ) (name : List ℕ) (at : ℕ × ℕ) (s : Segment) → segment_from order host libs slot name role.Wanted at ≡ Some s
-    → (s.file ≡ at.0) × (s.index ≡ at.1) × (code_of (file_at host libs at.0) (entry_at order (file_at host libs at.0) at.1) ≡ Ok s.code) × (s.records ≡ (reading order (information_of (file_at host libs at.0) (entry_at order (file_at host libs at.0) at.1))).0)
-made_is order host libs slot name at s e = go (code_of file (entry_at order file at.1)) refl e
-  where
-    file : List ℕ
-    file = file_at host libs at.0
-
-    Made : List ℕ → Segment
-    Made c = record { slot = slot; name = name; role = role.Wanted; added = false; file = at.0; index = at.1; code = c; records = (reading order (information_of (file_at host libs at.0) (entry_at order (file_at host libs at.0) at.1))).0 }
-
-    go : (o : Result (List ℕ) Reason) → code_of (file_at host libs at.0) (entry_at order (file_at host libs at.0) at.1) ≡ o → option_map Made (result_ok o) ≡ Some s
-        → (s.file ≡ at.0) × (s.index ≡ at.1) × (code_of (file_at host libs at.0) (entry_at order (file_at host libs at.0) at.1) ≡ Ok s.code) × (s.records ≡ (reading order (information_of (file_at host libs at.0) (entry_at order (file_at host libs at.0) at.1))).0)
-    go (Err why) is e = absurd (cc)
-    go (Ok c) is e =
-        let x : Made c ≡ s = cc in
-        (sym (ap (λ (q : Segment). q.file) x), sym (ap (λ (q : Segment). q.index) x), is ∙ ap (λ (q : Segment). Ok q.code) x, sym (ap (λ (q : Segment). q.records) x))
-
--- what a search finds is in the list
-pub find_in : {A : Type 0} (test : A → Bool) (xs : List A) (x : A) → find test xs ≡ Some x → In x xs
-find_in test [] x e = absurd (cc)
-find_in {A} test (y ∷ xs) x e = go (test y) e (λ h. find_in test xs x h)
-  where
-    go : (b : Bool) → (if b then Some y else find test xs) ≡ Some x → (find test xs ≡ Some x → In x xs) → In x (y ∷ xs)
-    go true e later = (zero, e)
-    go false e later = let t = later e in (suc t.0, t.1)
-
--- it is marked as added
-marked : (order : Order) (host : List ℕ) (libs : List (List ℕ)) (g : UnitReference) (slot : ℕ) (s : Segment) → added_segment order host libs g slot ≡ Some s → s.added ≡ true
-marked order host libs g slot s e = go (option_and_then (segment_from order host libs slot g.name role.Wanted) (unit_source order g.name libs)) e
-  where
-    go : (o : Option Segment) → option_map as_added o ≡ Some s → s.added ≡ true
-    go None e = absurd (cc)
-    go (Some q) e = let x : as_added q ≡ s = cc in sym (ap (λ (y : Segment). y.added) x)
-
--- the first library that has the name, and that there is no smaller one
-abbrev IsFirstLibrary : Order → List ℕ → List (List ℕ) → ℕ × List ℕ → Type 0
-IsFirstLibrary order name libs p = (slice_get libs p.0 ≡ Some p.1) × ((lesser : ℕ) (other : List ℕ) → lesser < p.0 → slice_get libs lesser ≡ Some other → HasEntry order name other → ⊥)
-
--- the library that is chosen for a name is at its number, and no smaller one has an entry of the
--- name
-pub first_library : (order : Order) (name : List ℕ) (libs : List (List ℕ)) (p : ℕ × List ℕ) → chosen_library order name libs ≡ Some p → IsFirstLibrary order name libs p
-first_library order name libs p e = go (subst (λ (o : Option (ℕ × List ℕ)). Least (λ a b. a.0 < b.0) (λ q. SomeItem libs (λ k lib. HasEntry order name lib × (q ≡ (k, lib)))) o) e (chosen order name libs))
-  where
-    go : Least (λ a b. a.0 < b.0) (λ q. SomeItem libs (λ k lib. HasEntry order name lib × (q ≡ (k, lib)))) (Some p) → IsFirstLibrary order name libs p
-    go (this q s l) = (
-      subst (λ (z : ℕ × List ℕ). slice_get libs z.0 ≡ Some z.1) (sym s.3.1) s.2,
-      λ m other h u k. elim (l (m, other) (m, other, u, (k, refl))) [ inl x ↦ (let y = ap (λ (z : ℕ × List ℕ). z.0) x in omega (arith, y, h)) | inr x ↦ omega (arith, x, h) ],
+of_first_library : (order : Order) (host : List ℕ) (libs : List (List ℕ)) (s : Segment) → s.role ≡ role.Wanted
+    → IsOfFile order host libs s → unit_source order s.name libs ≡ Some (s.file, s.index) → IsOfFirstLibrary order libs s
+of_first_library order host libs s wanted h source =
+    let u = unit_place order s.name libs (s.file, s.index) source in
+    let records = ap (λ (p : List Record × Option Reason). p.0) (sym (h.records (ap needs_linking wanted))) in (
+      u.number,
+      u.library,
+      u.there,
+      (
+        u.first,
+        u.file,
+        u.within,
+        u.named,
+        subst (λ (f : List ℕ). code_of f (entry_at order f s.index) ≡ Ok s.code) (u.file_is host) h.code,
+        subst (λ (f : List ℕ). s.records ≡ (reading order (information_of f (entry_at order f s.index))).0) (u.file_is host) records,
+      ),
     )
 
--- the library at place k is file k + 1 of the link
-pub library_at : (host : List ℕ) (libs : List (List ℕ)) (k : ℕ) (lib : List ℕ) → slice_get libs k ≡ Some lib → file_at host libs (k + 1) ≡ lib
-library_at host libs k lib e = at (k + 1) (omega arith)
-  where
-    at : (n : ℕ) → n ≡ suc k → file_at host libs n ≡ lib
-    at zero h = absurd (omega (arith, h))
-    at (suc m) h = let same : m ≡ k = omega (arith, h) in rw same (ap (λ (o : Option (List ℕ)). unwrap_or o []) e)
-
--- the segment that a name brings is that of the first library that has the name
-of_first_library : (order : Order) (host : List ℕ) (libs : List (List ℕ)) (g : UnitReference) (slot : ℕ) (s : Segment) → added_segment order host libs g slot ≡ Some s → IsOfFirstLibrary order libs s
-of_first_library order host libs g slot s e = go (option_and_then (segment_from order host libs slot g.name role.Wanted) (unit_source order g.name libs)) refl e
-  where
-    found : (p : ℕ × List ℕ) → chosen_library order g.name libs ≡ Some p → (i : ℕ) → find (is_named order g.name p.1) slots ≡ Some i → (q : Segment) → segment_from order host libs slot g.name role.Wanted (p.0 + 1, i) ≡ Some q → as_added q ≡ s → IsOfFirstLibrary order libs s
-    found p is i entry q from it =
-        let first = first_library order g.name libs p is in
-        let file : file_at host libs (p.0 + 1) ≡ p.1 = library_at host libs p.0 p.1 first.0 in
-        let made = made_is order host libs slot g.name (p.0 + 1, i) q from in
-        let name : g.name ≡ s.name = sym (from_slot order host libs slot g.name role.Wanted (p.0 + 1, i) q from).1 ∙ ap (λ (x : Segment). x.name) it in
-        let index : i ≡ s.index = sym made.1 ∙ ap (λ (x : Segment). x.index) it in
-        let within = find_in (is_named order g.name p.1) slots i entry in
-        let below = (of_range 0 16 i within.0 within.1).1 in
-        let is_it : IsNamed order g.name p.1 i = (named order g.name p.1 i).0 (find_passes (is_named order g.name p.1) slots i entry) in
-        let code : code_of p.1 (entry_at order p.1 i) ≡ Ok q.code = subst (λ (f : List ℕ). code_of f (entry_at order f i) ≡ Ok q.code) file made.2 in
-        let records : q.records ≡ (reading order (information_of p.1 (entry_at order p.1 i))).0 = subst (λ (f : List ℕ). q.records ≡ (reading order (information_of f (entry_at order f i))).0) file made.3 in (
-          p.0,
-          p.1,
-          first.0,
-          (
-            subst (λ (n : List ℕ). (lesser : ℕ) (other : List ℕ) → lesser < p.0 → slice_get libs lesser ≡ Some other → HasEntry order n other → ⊥) name first.1,
-            sym (ap (λ (x : Segment). x.file) it) ∙ made.0,
-            omega (arith, below, index),
-            subst (λ (n : List ℕ). IsNamed order n p.1 s.index) name (subst (λ (j : ℕ). IsNamed order g.name p.1 j) index is_it),
-            subst (λ (j : ℕ). code_of p.1 (entry_at order p.1 j) ≡ Ok s.code) index (code ∙ ap (λ (x : Segment). Ok x.code) it),
-            subst (λ (j : ℕ). s.records ≡ (reading order (information_of p.1 (entry_at order p.1 j))).0) index (sym (ap (λ (x : Segment). x.records) it) ∙ records),
-          ),
-        )
-
-    go : (o : Option Segment) → option_and_then (segment_from order host libs slot g.name role.Wanted) (unit_source order g.name libs) ≡ o → option_map as_added o ≡ Some s → IsOfFirstLibrary order libs s
-    go None is e = absurd (cc)
-    go (Some q) is e =
-        let it : as_added q ≡ s = cc in
-        option_and_then_some (segment_from order host libs slot g.name role.Wanted) (unit_source order g.name libs) q is (λ at e1 h.
-        option_and_then_some (λ (lib : ℕ × List ℕ). option_map {U = ℕ × ℕ} (λ (i : ℕ). (lib.0 + 1, i)) (find (is_named order g.name lib.1) slots)) (chosen_library order g.name libs) at e1 (λ p e2 k.
-        inner p e2 (find (is_named order g.name p.1) slots) refl at k q h it))
-      where
-        inner : (p : ℕ × List ℕ) → chosen_library order g.name libs ≡ Some p → (o : Option ℕ) → find (is_named order g.name p.1) slots ≡ o → (at : ℕ × ℕ) → option_map {U = ℕ × ℕ} (λ (i : ℕ). (p.0 + 1, i)) o ≡ Some at → (q : Segment) → segment_from order host libs slot g.name role.Wanted at ≡ Some q → as_added q ≡ s → IsOfFirstLibrary order libs s
-        inner p is None entry at k q h it = absurd (cc)
-        inner p is (Some i) entry at k q h it = let same : at ≡ (p.0 + 1, i) = cc in found p is i entry q (subst (λ (a : ℕ × ℕ). segment_from order host libs slot g.name role.Wanted a ≡ Some q) same h) it
-
 -- 6. all of it
-at_most_taken : {A : Type 0} (k : ℕ) (xs : List A) → length (take k xs) ≤ k
-at_most_taken zero xs = omega arith
-at_most_taken (suc k) [] = omega arith
-at_most_taken (suc k) (x ∷ xs) = let h = at_most_taken k xs in omega (arith, h)
-
 pub same_items : {A : Type 0} (xs ys : List A) → ((k : ℕ) → slice_get xs k ≡ slice_get ys k) → xs ≡ ys
 same_items [] [] e = refl
 same_items [] (y ∷ ys) e = let h = e 0 in absurd (cc)
@@ -592,10 +420,6 @@ same_items {A} (x ∷ xs) (y ∷ ys) e =
     let h : x ≡ y = (let g = e 0 in cc) in
     let t : xs ≡ ys = same_items xs ys (λ k. e (suc k)) in
     cc
-
-some_of : {A : Type 0} (o : Option A) (P : Type 0) → ((a : A) → o ≡ Some a → P) → (o ≡ None → P) → P
-some_of None P f g = g refl
-some_of (Some a) P f g = f a refl
 
 module _ (order : Order) (host : List ℕ) (libs : List (List ℕ)) (fine : sources_fault order host libs ≡ None) (ended : added_fault order host libs ≡ None) where
   queue_is : queue_of order host libs ≡ requested_from (own_units order host libs) [] (all_unit_references (own_segments order host libs ++ added_segments order host libs))
@@ -606,11 +430,7 @@ module _ (order : Order) (host : List ℕ) (libs : List (List ℕ)) (fine : sour
   at_queue k g e = sym (ap (λ (r : List UnitReference). slice_get r k) queue_is) ∙ e
 
   not_slot : (name : List ℕ) → is_already_known (own_units order host libs) [] name ≡ false → HasSlot order host name → ⊥
-  not_slot name none has = go (is_some (lookup (bytes_eq name) (own_units order host libs))) (unit_of_slot order host libs fine name has) none
-    where
-      go : (b : Bool) → b ≡ true → (b || false) ≡ false → ⊥
-      go true e n = absurd (cc)
-      go false e n = false≢true e
+  not_slot name none has = false≢true (sym none ∙ or_left (is_some (lookup (bytes_eq name) (own_units order host libs))) false (unit_of_slot order host libs fine name has))
 
   is_requested : (k : ℕ) (g : UnitReference) → slice_get (queue_of order host libs) k ≡ Some g
       → ((i : ℕ) × (i < length (own_segments order host libs) + k) × IsGiver (own_segments order host libs ++ added_segments order host libs) i g) × (HasSlot order host g.name → ⊥)
@@ -618,10 +438,10 @@ module _ (order : Order) (host : List ℕ) (libs : List (List ℕ)) (fine : sour
       let own = own_segments order host libs in
       let segs = added_segments order host libs in
       let t = requested_at (own_units order host libs) [] (all_unit_references (own ++ segs)) k g (omega arith) (at_queue k g e) in
-      let p = given order host libs (take k segs) k g (name_placed order host libs ended k g e).6 in
+      let p = given order host libs (take k segs) k g (name_placed order host libs ended k g e).1.earlier in
       let within = slice_get_within (own ++ take k segs) p.0 p.1.0.0 p.1.0.1 in
       let joined = length-append own (take k segs) in
-      let front = at_most_taken k segs in
+      let front = length-take k segs in
       let below : p.0 < length own + k = omega (arith, within, joined, front) in
       ((p.0, below, giver_of_front own segs k p.0 g below p.1), not_slot g.name t.1.1)
 
@@ -643,7 +463,7 @@ module _ (order : Order) (host : List ℕ) (libs : List (List ℕ)) (fine : sour
       let t = requested_pair (own_units order host libs) [] (all_unit_references segs) j k g h (omega arith) l (at_queue j g e) (at_queue k h u) in
       let p = place_of segs t.0 g t.3.0 in
       let q = place_of segs t.1 h t.4.0 in
-      (p.0, q.0, giver (own_units order host libs) segs t.0 p.0 g t.3 p.1, giver (own_units order host libs) segs t.1 q.0 h t.4 q.1, numbered_ascend 0 segs t.0 t.1 p.0 q.0 g h t.2 p.1 q.1)
+      (p.0, q.0, giver (own_units order host libs) segs t.0 p.0 g t.3 p.1, giver (own_units order host libs) segs t.1 q.0 h t.4 q.1, in_order segs t.0 t.1 p.0 q.0 g h t.2 p.1 q.1)
 
   apart : (j k : ℕ) (g h : UnitReference) → j < k → slice_get (queue_of order host libs) j ≡ Some g → slice_get (queue_of order host libs) k ≡ Some h → g.name ≡ h.name → ⊥
   apart j k g h l e u same =
@@ -651,38 +471,28 @@ module _ (order : Order) (host : List ℕ) (libs : List (List ℕ)) (fine : sour
       t.3.2 t.0 g.rec t.4 (subst (λ (n : List ℕ). Asks (own_segments order host libs ++ added_segments order host libs) t.0 g.rec n) same t.2.1)
 
   is_once : (j k : ℕ) (g h : UnitReference) → slice_get (queue_of order host libs) j ≡ Some g → slice_get (queue_of order host libs) k ≡ Some h → g.name ≡ h.name → j ≡ k
-  is_once j k g h e u same = elim (cases_lt j k) [
-    | inl l ↦ absurd (apart j k g h l e u same)
-    | inr l ↦ elim (cases_lt k j) [ inl m ↦ absurd (apart k j h g m u e (sym same)) | inr m ↦ omega (arith, l, m) ]
-  ]
+  is_once j k g h e u same = not_apart j k (λ l. apart j k g h l e u same) (λ l. apart k j h g l u e (sym same))
 
   same_names : map (λ (s : Segment). s.name) (added_segments order host libs) ≡ map (λ (g : UnitReference). g.name) (queue_of order host libs)
-  same_names = same_items _ _ each
+  same_names =
+      same_items _ _ (λ k.
+      slice_get-map (λ (s : Segment). s.name) (added_segments order host libs) k
+      ∙ each k (round_at order host libs ended k)
+      ∙ sym (slice_get-map (λ (g : UnitReference). g.name) (queue_of order host libs) k))
     where
-      each : (k : ℕ) → slice_get (map (λ (s : Segment). s.name) (added_segments order host libs)) k ≡ slice_get (map (λ (g : UnitReference). g.name) (queue_of order host libs)) k
-      each k =
-          slice_get-map (λ (s : Segment). s.name) (added_segments order host libs) k
-          ∙ (some_of (slice_get (queue_of order host libs) k) (option_map (λ (s : Segment). s.name) (slice_get (added_segments order host libs) k) ≡ option_map (λ (g : UnitReference). g.name) (slice_get (queue_of order host libs) k))
-          (λ g e. let p = name_placed order host libs ended k g e in
-          ap (option_map (λ (s : Segment). s.name)) p.3 ∙ (ap (λ (n : List ℕ). Some n) (added_is order host libs g p.0 p.1 p.4).1 ∙ sym (ap (option_map (λ (x : UnitReference). x.name)) e)))
-          (λ e. some_of (slice_get (added_segments order host libs) k) (option_map (λ (s : Segment). s.name) (slice_get (added_segments order host libs) k) ≡ option_map (λ (g : UnitReference). g.name) (slice_get (queue_of order host libs) k))
-          (λ s u. let t = (segment_named order host libs ended k s u).1 in absurd (cc))
-          (λ u. ap (option_map (λ (s : Segment). s.name)) u ∙ sym (ap (option_map (λ (x : UnitReference). x.name)) e)))
-          ∙ sym (slice_get-map (λ (g : UnitReference). g.name) (queue_of order host libs) k))
+      each : (k : ℕ) → HasRound order host libs k
+          → option_map (λ (s : Segment). s.name) (slice_get (added_segments order host libs) k)
+          ≡ option_map (λ (g : UnitReference). g.name) (slice_get (queue_of order host libs) k)
+      each k (inl t) = rw (t.2.there, t.2.requested) (ap (λ (n : List ℕ). Some n) t.2.name)
+      each k (inr n) = rw (n.0, n.1) refl
 
   is_found : (k : ℕ) (s : Segment) → slice_get (added_segments order host libs) k ≡ Some s → IsOfFirstLibrary order libs s
   is_found k s e =
-      let g = segment_named order host libs ended k s e in
-      let p = name_placed order host libs ended k g.0 g.1 in
-      let same : p.1 ≡ s = (let a = p.3 in cc) in
-      subst (λ (x : Segment). IsOfFirstLibrary order libs x) same (of_first_library order host libs g.0 p.0 p.1 p.4)
+      let round = (segment_named order host libs ended k s e).1 in
+      of_first_library order host libs s round.role (round_known order host libs k _ s round) round.source
 
   is_wanted : (k : ℕ) (s : Segment) → slice_get (added_segments order host libs) k ≡ Some s → (s.role ≡ role.Wanted) × (s.added ≡ true)
-  is_wanted k s e =
-      let g = segment_named order host libs ended k s e in
-      let p = name_placed order host libs ended k g.0 g.1 in
-      let same : p.1 ≡ s = (let a = p.3 in cc) in
-      subst (λ (x : Segment). (x.role ≡ role.Wanted) × (x.added ≡ true)) same ((added_is order host libs g.0 p.0 p.1 p.4).2, marked order host libs g.0 p.0 p.1 p.4)
+  is_wanted k s e = let round = (segment_named order host libs ended k s e).1 in (round.role, round.is_added)
 
   pub units_are : AddedUnits order host libs (queue_of order host libs) (added_segments order host libs)
   units_are = record {

@@ -1,5 +1,6 @@
 -- The byte that the edits of a segment make is its linked byte, and no other byte is.
 use Rattle.std.proofs.Common.{◌≡◌, ℕ, zero, suc, ◌+◌, ◌-◌, ◌≤◌, List, [], ◌∷◌, length, Option, Some, None, Result, Ok, Err, Bool, true, false, refl, sym, ap, subst, ◌∙◌, inl, inr, arith}
+use Rattle.std.proofs.lemmas.Option.{same_Some}
 use Rattle.std.specs.Prelude.{◌⊎◌, if◌then◌else◌, slice_index}
 use Rattle.std.specs.List.{slice_get, find, cons_option}
 use Rattle.std.specs.Map.{lookup}
@@ -14,7 +15,7 @@ use Rattle.ps_linkinfo.specs.RecordCounts.{next_of}
 use Rattle.ps_resolve.specs.LinkedBytes.{IsReference, Reaches, IsSlotOf, IsPublic, IsBase, all_private_words, Becomes, IsNumberPlace, IsSizePlace, IsLinkedByte, IsOnePlace, summed_edits, summed_segment}
 use Rattle.ps_linkinfo.specs.Records.{refs_of}
 use Rattle.ps_linkinfo.specs.declared.record.Body.{Body}
-use Rattle.ps_linkinfo.specs.declared.record.Body.TheVariants.{UnitRef, PublRef, PrivRef, PublDef, ConstDef, Eof}
+use Rattle.ps_linkinfo.specs.declared.record.Body.TheVariants.{UnitRef, PublRef, PrivRef, PublDef, ConstDef}
 use Rattle.ps_linkinfo.specs.declared.record.LinkRecord.{LinkRecord as Record}
 use Rattle.ps_codefile.specs.Roles.{needs_linking, is_host, is_unit}
 use Rattle.ps_resolve.specs.Sources.{Segment, host_of, host_records, units_of}
@@ -27,12 +28,11 @@ use Rattle.ps_resolve.specs.declared.definitions.DefKind.{DefKind}
 use Rattle.ps_resolve.specs.declared.definitions.DefKind.TheVariants.{Public, Constant}
 use Rattle.ps_resolve.specs.declared.references.Target.{Target}
 use Rattle.ps_resolve.specs.declared.references.Target.TheVariants.{Slot, Base}
-use Rattle.ps_laws.proofs.Items.{In, find_passes}
+use Rattle.ps_laws.proofs.Items.{In, find_in, find_passes}
 use Rattle.ps_laws.proofs.Looking.{of_test, find_none}
 use Rattle.ps_laws.proofs.PrivateOffsets.{all_are}
-use Rattle.ps_laws.proofs.AddedUnits.{find_in}
 use Rattle.ps_laws.proofs.SoundCodes.{HasOuter}
-use Rattle.ps_laws.proofs.EditsAt.{edit_place, IsNumber, IsSize, IsOfReference, same_item, what_covers, number_covers, size_covers, reference_covers}
+use Rattle.ps_laws.proofs.EditsAt.{edit_place, IsNumber, IsSize, IsOfReference, what_covers, number_covers, size_covers, reference_covers}
 use Rattle.ps_words.specs.Words.{word_bytes, operand_bytes, displacement_at}
 use Rattle.ps_words.specs.Edits.{place_of, stored_bytes, covers}
 use Rattle.ps_words.specs.declared.order.Order.{Order}
@@ -54,7 +54,7 @@ unit_slot_is name (s ∷ segs) slot e = go (is_unit s.role) refl e (unit_slot_is
     go true unit e later = at (bytes_eq name s.name) (bytes_eq-Decides name s.name) e
       where
         at : (b : Bool) → Decides b (name ≡ s.name) → (if b then Some s.slot else lookup (bytes_eq name) (units_of segs)) ≡ Some slot → IsSlotOf (s ∷ segs) name slot
-        at true d e = (zero, s, refl, (unit, sym (d.0 refl), same_item s.slot slot e))
+        at true d e = (zero, s, refl, (unit, sym (d.0 refl), same_Some s.slot slot e))
         at false d e = further (later e)
 
 abbrev IsGiven : List Record → List ℕ → ℕ → Type 0
@@ -62,12 +62,9 @@ IsGiven rs name value = (k : ℕ) × (d : Record) × (slice_get rs k ≡ Some d)
 
 -- a record of a public definition is a PUBLDEF of its value
 public_in : (body : Body) (d : Def) → def_in body ≡ Some d → d.kind ≡ Public → body ≡ PublDef d.value
-public_in (PublDef value) d e k = ap (λ (x : Def). PublDef x.value) (same_item _ d e)
-public_in (ConstDef value) d e k = absurd (let same = ap (λ (x : Def). x.kind) (same_item _ d e) in cc)
-public_in (UnitRef refs) d e k = absurd (cc)
-public_in (PublRef refs) d e k = absurd (cc)
-public_in (PrivRef words refs) d e k = absurd (cc)
-public_in (Eof next) d e k = absurd (cc)
+public_in (PublDef value) d e k = ap (λ (x : Def). PublDef x.value) (same_Some _ d e)
+public_in (ConstDef value) d e k = absurd (let same = ap (λ (x : Def). x.kind) (same_Some _ d e) in cc)
+public_in other d e k = absurd (cc)
 
 -- a public definition that is found for a name is that of a PUBLDEF record, which gives the name
 -- its value
@@ -97,9 +94,6 @@ public_is segs name value = go (host_of segs) refl
 -- what the edit of a reference stores is what its operand becomes
 becomes : (order : Order) (segs : List Segment) → IsBase segs (next_of (host_records segs)) → (s : Segment) (rec : ℕ) (name : List ℕ) (body : Body) (i x : ℕ) (t : Target) → slice_get (refs_of body) i ≡ Some x → target_in (known_of segs) (private_offset segs s.slot rec) name body ≡ Ok t
     → Becomes segs s rec name body x (stored_bytes order (edit_of s.code t x))
-becomes order segs base s rec name (PublDef value) i x t g e = absurd (cc)
-becomes order segs base s rec name (ConstDef value) i x t g e = absurd (cc)
-becomes order segs base s rec name (Eof next) i x t g e = absurd (cc)
 becomes order segs base s rec name (PrivRef words refs) i x t g e = let is : Base (private_offset segs s.slot rec) ≡ t = cc in (next_of (host_records segs), base, ap (λ (u : Target). stored_bytes order (edit_of s.code u x)) (sym is))
 becomes order segs base s rec name (UnitRef refs) i x t g e = go (lookup (bytes_eq name) (units_of segs)) refl e
   where
@@ -115,6 +109,7 @@ becomes order segs base s rec name (PublRef refs) i x t g e = go (definition_of 
         at : (k : DefKind) → d.kind ≡ k → (elim k as (λ _. Result Target Reason) [ Public ↦ Ok (Base d.value) | Constant ↦ Err reason.IllKind ]) ≡ Ok t → Becomes segs s rec name (PublRef refs) x (stored_bytes order (edit_of s.code t x))
         at Constant k e = absurd (cc)
         at Public k e = let same : Base d.value ≡ t = cc in (d.value, public_is segs name d.value (given name (host_records segs) d is k), ap (λ (u : Target). stored_bytes order (edit_of s.code u x)) (sym same))
+becomes order segs base s rec name other i x t g e = absurd (cc)
 
 -- what names one thing becomes one
 abbrev pub OneUnit : List Segment → Type 0
@@ -132,9 +127,7 @@ one_becomes : (segs : List Segment) → OneUnit segs → OnePublic segs → OneB
 one_becomes segs units publics bases s rec name (UnitRef refs) x b c t u = t.2 ∙ (ap (λ (n : ℕ). n ∷ []) (units name t.0 u.0 t.1 u.1) ∙ sym u.2)
 one_becomes segs units publics bases s rec name (PublRef refs) x b c t u = t.2 ∙ (ap (λ (n : ℕ). operand_bytes (displacement_at s.code x + n)) (publics name t.0 u.0 t.1 u.1) ∙ sym u.2)
 one_becomes segs units publics bases s rec name (PrivRef words refs) x b c t u = t.2 ∙ (ap (λ (n : ℕ). operand_bytes (displacement_at s.code x + (n + words_before segs s.slot rec))) (bases t.0 u.0 t.1 u.1) ∙ sym u.2)
-one_becomes segs units publics bases s rec name (PublDef value) x b c t u = absurd t
-one_becomes segs units publics bases s rec name (ConstDef value) x b c t u = absurd t
-one_becomes segs units publics bases s rec name (Eof next) x b c t u = absurd t
+one_becomes segs units publics bases s rec name other x b c t u = absurd t
 
 -- 2. the byte
 module _ (order : Order) (segs : List Segment) (base : IsBase segs (next_of (host_records segs))) (s : Segment) (long : needs_linking s.role ≡ true → 2 ≤ length s.code) (outer : (t : ℕ) → is_host s.role ≡ true → table_of order s.code 1 ≡ Some t → HasOuter order s.code t)
@@ -207,7 +200,7 @@ module _ (order : Order) (segs : List Segment) (base : IsBase segs (next_of (hos
     where
       is_it : (t j : ℕ) → IsSizePlace order s t j p → byte_at (Some f) ≡ slice_index (word_bytes order (grown_data_size order s.code (all_private_words segs) t)) j
       is_it t j z =
-          let same : h.0 ≡ t = same_item h.0 t (sym h.2.1 ∙ z.1) in
+          let same : h.0 ≡ t = same_Some h.0 t (sym h.2.1 ∙ z.1) in
           let low = (outer t z.0 z.1).low in
           let at : p - (t - 8) ≡ j = (let e = z.3 in omega (arith, e, low)) in
           ap (λ (g : Edit). byte_at (Some g)) h.3
@@ -239,8 +232,8 @@ module _ (order : Order) (segs : List Segment) (base : IsBase segs (next_of (hos
       is_it : (rec i x : ℕ) (r : Record) → Reaches s rec r i x p → (bytes : List ℕ) × Becomes segs s rec r.name r.body x bytes × (byte_at (Some f) ≡ slice_index bytes (p - x))
       is_it rec i x r u =
           let one = apart.references h.0 h.1 h.2 rec i x h.3 r h.4 u in
-          let er : h.3 ≡ r = same_item h.3 r (sym h.4.0.0 ∙ (ap (λ (n : ℕ). slice_get s.records n) one.0 ∙ u.0.0)) in
-          let ex : h.2 ≡ x = same_item h.2 x (sym h.4.0.1 ∙ (ap (λ (n : ℕ). slice_get (refs_of h.3.body) n) one.1 ∙ (ap (λ (q : Record). slice_get (refs_of q.body) i) er ∙ u.0.1))) in
+          let er : h.3 ≡ r = same_Some h.3 r (sym h.4.0.0 ∙ (ap (λ (n : ℕ). slice_get s.records n) one.0 ∙ u.0.0)) in
+          let ex : h.2 ≡ x = same_Some h.2 x (sym h.4.0.1 ∙ (ap (λ (n : ℕ). slice_get (refs_of h.3.body) n) one.1 ∙ (ap (λ (q : Record). slice_get (refs_of q.body) i) er ∙ u.0.1))) in
           moved rec x r one.0 er ex mine
         where
           Fact : ℕ → Record → ℕ → Type 0

@@ -1,5 +1,6 @@
 -- The edits of a segment of a link: what each is, and which of them covers a place.
 use Rattle.std.proofs.Common.{◌≡◌, ℕ, zero, suc, ◌+◌, ◌-◌, ◌<◌, ◌≤◌, List, [], ◌∷◌, ◌++◌, length, map, Option, Some, None, Result, Ok, Err, Bool, true, false, refl, sym, ap, subst, ◌∙◌, inl, inr, arith}
+use Rattle.std.proofs.lemmas.Option.{same_Some}
 use Rattle.std.specs.Prelude.{◌⊎◌, if◌then◌else◌, ◌&&◌, nat_le, nat_lt}
 use Rattle.std.specs.List.{enumerate_from, slice_get, flat_map}
 use Rattle.std.specs.Map.{lookup}
@@ -13,7 +14,7 @@ use Rattle.ps_resolve.specs.Standing.Privates.{private_offset}
 use Rattle.ps_resolve.specs.LinkedBytes.{Reaches, IsNumberPlace, IsSizePlace, summed_edits}
 use Rattle.ps_linkinfo.specs.Records.{refs_of}
 use Rattle.ps_linkinfo.specs.declared.record.Body.{Body}
-use Rattle.ps_linkinfo.specs.declared.record.Body.TheVariants.{UnitRef, PublRef, PrivRef, PublDef, ConstDef, Eof}
+use Rattle.ps_linkinfo.specs.declared.record.Body.TheVariants.{UnitRef, PublRef, PrivRef}
 use Rattle.ps_linkinfo.specs.declared.record.LinkRecord.{LinkRecord as Record}
 use Rattle.ps_codefile.specs.Roles.{needs_linking, is_host}
 use Rattle.ps_resolve.specs.Sources.{Segment, host_records, units_of}
@@ -52,11 +53,8 @@ of_flat {A} {C} f (x ∷ xs) y t = elim (of_joined (f x) (flat_map f xs) y t) [
 of_numbered : {A : Type 0} (n : ℕ) (xs : List A) (k : ℕ) (p : ℕ × A) → slice_get (enumerate_from n xs) k ≡ Some p → (p.0 ≡ n + k) × (slice_get xs k ≡ Some p.1)
 of_numbered n [] k p e = absurd (cc)
 of_numbered {A} n (x ∷ xs) zero p e =
-    let same : (n, x) ≡ p = first (n, x) p e in
+    let same : (n, x) ≡ p = same_Some (n, x) p e in
     (sym (ap (λ (q : ℕ × A). q.0) same) ∙ omega arith, ap (λ (q : ℕ × A). Some q.1) same)
-  where
-    first : (a b : ℕ × A) → ◌≡◌ {A = Option (ℕ × A)} (Some a) (Some b) → a ≡ b
-    first a b e = cc
 of_numbered n (x ∷ xs) (suc k) p e = let r = of_numbered (n + 1) xs k p e in ((let h = r.0 in omega (arith, h)), r.1)
 
 -- an item is at the same place of the numbered list, with its number
@@ -86,9 +84,6 @@ edit_place code (Base base) x = refl
 
 -- what an operand becomes is as wide as the operand
 pub edit_width : (segs : List Segment) (off : ℕ) (name : List ℕ) (body : Body) (i x : ℕ) (code : List ℕ) (t : Target) → slice_get (refs_of body) i ≡ Some x → target_in (known_of segs) off name body ≡ Ok t → width (edit_of code t x) ≡ operand_width body
-edit_width segs off name (PublDef value) i x code t g e = absurd (cc)
-edit_width segs off name (ConstDef value) i x code t g e = absurd (cc)
-edit_width segs off name (Eof next) i x code t g e = absurd (cc)
 edit_width segs off name (PrivRef words refs) i x code t g e = let is : Base off ≡ t = cc in ap (λ (u : Target). width (edit_of code u x)) (sym is)
 edit_width segs off name (UnitRef refs) i x code t g e = go (lookup (bytes_eq name) (units_of segs)) e
   where
@@ -104,6 +99,7 @@ edit_width segs off name (PublRef refs) i x code t g e = go (definition_of name 
         at : (k : DefKind) → (elim k as (λ _. Result Target Reason) [ Public ↦ Ok (Base d.value) | Constant ↦ Err reason.IllKind ]) ≡ Ok t → width (edit_of code t x) ≡ 2
         at Constant e = absurd (cc)
         at Public e = let is : Base d.value ≡ t = cc in ap (λ (u : Target). width (edit_of code u x)) (sym is)
+edit_width segs off name other i x code t g e = absurd (cc)
 
 -- what an edit is that covers a place: the number, the data size, or what a reference becomes
 abbrev pub IsNumber : Segment → ℕ → Edit → Type 0
@@ -115,9 +111,6 @@ IsSize order segs s p f = (t : ℕ) × (j : ℕ) × IsSizePlace order s t j p ×
 abbrev pub IsOfReference : List Segment → Segment → ℕ → Edit → Type 0
 IsOfReference segs s p f =
     (rec : ℕ) × (i : ℕ) × (x : ℕ) × (r : Record) × Reaches s rec r i x p × ((t : Target) × (target_of (known_of segs) (private_offset segs s.slot rec) r ≡ Ok t) × (f ≡ edit_of s.code t x))
-
-pub same_item : {A : Type 0} (a b : A) → ◌≡◌ {A = Option A} (Some a) (Some b) → a ≡ b
-same_item a b e = cc
 
 module _ (order : Order) (segs : List Segment) (s : Segment) (long : needs_linking s.role ≡ true → 2 ≤ length s.code) (outer : (t : ℕ) → is_host s.role ≡ true → table_of order s.code 1 ≡ Some t → HasOuter order s.code t) where
   abbrev pub number : Edit
@@ -159,7 +152,7 @@ module _ (order : Order) (segs : List Segment) (s : Segment) (long : needs_linki
       go : (b : Bool) → is_host s.role ≡ b → (o : Option ℕ) → table_of order s.code 1 ≡ o → (k : ℕ) → slice_get (if b then option_map_or (λ t. size t ∷ []) o [] else []) k ≡ Some f → IsSize order segs s p f
       go false host o table k e = absurd (cc)
       go true host None table k e = absurd (cc)
-      go true host (Some t) table zero e = at t host table (same_item (size t) f e)
+      go true host (Some t) table zero e = at t host table (same_Some (size t) f e)
       go true host (Some t) table (suc k) e = absurd (cc)
 
   is_reference : (p : ℕ) (f : Edit) → In f others → covers p f ≡ true → IsOfReference segs s p f
@@ -187,7 +180,7 @@ module _ (order : Order) (segs : List Segment) (s : Segment) (long : needs_linki
     where
       go : (b : Bool) → needs_linking s.role ≡ b → (k : ℕ) → slice_get (if b then number ∷ (own ++ others) else []) k ≡ Some f → IsNumber s p f ⊎ (IsSize order segs s p f ⊎ IsOfReference segs s p f)
       go false h k e = absurd (cc)
-      go true h zero e = inl (is_number p f h (same_item number f e) on)
+      go true h zero e = inl (is_number p f h (same_Some number f e) on)
       go true h (suc k) e = elim (of_joined own others f (k, e)) [ inl u ↦ inr (inl (is_size p f u on)) | inr u ↦ inr (inr (is_reference p f u on)) ]
 
   -- and each of these has its edit

@@ -1,13 +1,16 @@
 pub mod Least
 pub mod Looking
 pub mod Items
+pub mod Parts
 pub mod Steps
 pub mod Segments
 pub mod Sources
-pub mod Parts
 pub mod Definitions
+pub mod EachRound
 pub mod Rounds
 pub mod Asked
+pub mod OfLink
+pub mod UnitPlaces
 pub mod DataSize
 pub mod PrivateOffsets
 pub mod Privates

@@ -1,14 +1,11 @@
 -- Where no fault applies, the edits of a link make the linked bytes, and each place has one.
-use Rattle.std.proofs.Common.{◌≡◌, ℕ, suc, ◌<◌, ◌≤◌, List, [], ◌∷◌, length, map, Some, None, Result, Ok, Err, Bool, true, refl, sym, subst, inl}
-use Rattle.std.specs.Prelude.{All}
-use Rattle.std.specs.List.{slice_get}
+use Rattle.std.proofs.Common.{◌≡◌, ℕ, ◌<◌, ◌≤◌, List, length, map, Some, None, Result, Ok, Err, true, refl, inl}
 use Rattle.std.specs.Result.{result_err}
-use Rattle.std.proofs.lemmas.List.Elements.{All-nil, All-cons, All-same, All-map}
+use Rattle.std.proofs.lemmas.List.Elements.{All-same, All-map}
 use Rattle.ps_codefile.specs.Procedures.{table_of}
-use Rattle.ps_resolve.specs.Added.{added_fault}
 use Rattle.ps_resolve.specs.Standing.Keys.{OfReferences}
 use Rattle.ps_resolve.specs.Standing.Segments.{IsSegment}
-use Rattle.ps_resolve.specs.Standing.Sources.{AreBad}
+use Rattle.ps_resolve.specs.OfLink.{IsOfFile}
 use Rattle.ps_resolve.specs.Standing.References.{RecordHas}
 use Rattle.ps_resolve.specs.Standing.Privates.{private_offset}
 use Rattle.ps_resolve.specs.LinkedBytes.{IsReference, IsLinkedByte, IsOnePlace, segments_of, summed_segment, HaveLinkedBytes, HaveOneLinkedByte, HaveApartPlaces}
@@ -16,7 +13,7 @@ use Rattle.ps_resolve.specs.Standing.{NoneStands}
 use Rattle.ps_linkinfo.specs.declared.record.LinkRecord.{LinkRecord as Record}
 use Rattle.ps_codefile.specs.Roles.{needs_linking, is_host}
 use Rattle.ps_resolve.specs.Sources.{Segment, order_of}
-use Rattle.ps_resolve.specs.Faults.{sources_fault}
+use Rattle.ps_resolve.specs.AllFaults.{reading_fault}
 use Rattle.ps_resolve.specs.References.{target_of}
 use Rattle.ps_resolve.specs.Linking.{Edited, edited_segments, known_of, linked_byte}
 use Rattle.ps_resolve.specs.declared.references.Target.{Target}
@@ -24,10 +21,12 @@ use Rattle.ps_laws.proofs.Least.{Least, this}
 use Rattle.ps_laws.proofs.Steps.{Ranked}
 use Rattle.ps_laws.proofs.Sources.{OneStop}
 use Rattle.ps_laws.proofs.Asked.{asked_is_there}
+use Rattle.ps_laws.proofs.Items.{all_items}
+use Rattle.ps_laws.proofs.OfLink.{of_link, rounds_fine}
 use Rattle.ps_laws.proofs.References.{record_rows}
-use Rattle.ps_laws.proofs.Whole.{unread, none_read}
+use Rattle.ps_laws.proofs.Whole.{unread}
 use Rattle.ps_laws.proofs.SummedOffsets.{offsets}
-use Rattle.ps_laws.proofs.SoundCodes.{IsWithoutFault, HasOuter, long, outer, all_sound}
+use Rattle.ps_laws.proofs.SoundCodes.{HasOuter, long, outer}
 use Rattle.ps_laws.proofs.OnePlace.{host_linked, one_place}
 use Rattle.ps_laws.proofs.OneName.{of_segments, one_unit}
 use Rattle.ps_laws.proofs.OneHost.{base_there, one_base, one_public}
@@ -35,35 +34,31 @@ use Rattle.ps_laws.proofs.ByteFacts.{facts, one_byte}
 use Rattle.ps_words.specs.FaultPlaces.{in_record}
 use Rattle.ps_words.specs.declared.fault.Reason.{Reason}
 
-pub all_items : {A : Type 0} (P : A → Type 0) (xs : List A) → ((k : ℕ) (x : A) → slice_get xs k ≡ Some x → P x) → All P xs
-all_items P [] h = All-nil P
-all_items P (x ∷ xs) h = All-cons P x xs (h 0 x refl) (all_items P xs (λ k y e. h (suc k) y e))
-
 module _ (law : OneStop) (host : List ℕ) (libs : List (List ℕ)) (none : NoneStands host libs) where
-  read : (sources_fault (order_of host) host libs ≡ None) × (added_fault (order_of host) host libs ≡ None)
-  read = none_read host libs (unread law host libs (λ step f r h. none step f h))
+  read : reading_fault host libs ≡ None
+  read = unread law host libs (λ step f r h. none step f h)
 
-  sound : (s : Segment) → IsSegment (order_of host) host libs s → IsWithoutFault (order_of host) s
-  sound s is = all_sound (order_of host) host libs read.0 read.1 s is
+  file : (s : Segment) → IsSegment (order_of host) host libs s → IsOfFile (order_of host) host libs s
+  file s is = (of_link host libs read s is).file
 
   apart : (s : Segment) → IsSegment (order_of host) host libs s → (p : ℕ) → IsOnePlace (order_of host) s p
-  apart s is p = one_place host libs none s is (sound s is) p
+  apart s is p = one_place host libs none s is (file s is) p
 
   pub places : HaveApartPlaces host libs
   places = all_items (λ (s : Segment). (p : ℕ) → IsOnePlace (order_of host) s p) (segments_of host libs) (λ k s e p. apart s (of_segments (order_of host) host libs k s e) p)
 
   module _ (s : Segment) (is : IsSegment (order_of host) host libs s) where
     long_code : needs_linking s.role ≡ true → 2 ≤ length s.code
-    long_code h = long (order_of host) s.code (is_host s.role) ((sound s is).tables h)
+    long_code h = long (order_of host) s.code (is_host s.role) ((file s is).tables h)
 
     outer_block : (t : ℕ) → is_host s.role ≡ true → table_of (order_of host) s.code 1 ≡ Some t → HasOuter (order_of host) s.code t
-    outer_block t h table = outer (order_of host) s.code t (λ bad. (sound s is).tables (host_linked s.role h) (subst (λ (b : Bool). AreBad (order_of host) s.code b) (sym h) bad)) table
+    outer_block t h table = outer (order_of host) s.code t (is_host s.role) h ((file s is).tables (host_linked s.role h)) table
 
     -- each reference of a record has what its operand becomes
     targets : (rec i x : ℕ) (r : Record) → IsReference s rec r i x → (t : Target) × (target_of (known_of (segments_of host libs)) (private_offset (segments_of host libs) s.slot rec) r ≡ Ok t)
     targets rec i x r u =
         go (target_of (known_of (segments_of host libs)) (private_offset (segments_of host libs) s.slot rec) r) refl
-        (record_rows (segments_of host libs) (private_offset (segments_of host libs) s.slot rec) r.name r.body (asked_is_there (order_of host) host libs read.1 s is rec r u.0))
+        (record_rows (segments_of host libs) (private_offset (segments_of host libs) s.slot rec) r.name r.body (asked_is_there (order_of host) host libs (rounds_fine host libs read) s is rec r u.0))
       where
         bad : (why : Reason) → Least Ranked (RecordHas (segments_of host libs) r.name r.body) (Some why) → ⊥
         bad why (this y h l) = none OfReferences (in_record s.file s.slot rec why) (record { stands = (s, is, (rec, r, u.0, inl (why, refl, h))) })
@@ -74,12 +69,12 @@ module _ (law : OneStop) (host : List ℕ) (libs : List (List ℕ)) (none : None
         go (Err why) e l = absurd (bad why l)
 
     is_byte : (p : ℕ) → IsLinkedByte (order_of host) (segments_of host libs) s p (linked_byte (order_of host) (summed_segment (order_of host) (segments_of host libs) s) p)
-    is_byte p = facts (order_of host) (segments_of host libs) (base_there host libs none read.0 read.1) s long_code outer_block (host_linked s.role) (sound s is).plain targets p (apart s is p)
+    is_byte p = facts (order_of host) (segments_of host libs) (base_there host libs none read) s long_code outer_block (host_linked s.role) (file s is).unread targets p (apart s is p)
 
     one_at : (p b c : ℕ) → IsLinkedByte (order_of host) (segments_of host libs) s p b → IsLinkedByte (order_of host) (segments_of host libs) s p c → b ≡ c
     one_at p b c x y =
-        one_byte (order_of host) (segments_of host libs) (base_there host libs none read.0 read.1) s long_code outer_block (host_linked s.role) (sound s is).plain targets p (apart s is p)
-        (one_unit host libs none read.0 read.1) (one_public host libs none read.0 read.1) (one_base host libs none read.0 read.1) b c x y
+        one_byte (order_of host) (segments_of host libs) (base_there host libs none read) s long_code outer_block (host_linked s.role) (file s is).unread targets p (apart s is p)
+        (one_unit host libs none read) (one_public host libs none read) (one_base host libs none read) b c x y
 
   abbrev IsMade : Edited → Type 0
   IsMade e = (p : ℕ) → p < length e.segment.code → IsLinkedByte (order_of host) (segments_of host libs) e.segment p (linked_byte (order_of host) e p)

@@ -5,7 +5,7 @@ use Rattle.std.specs.List.{slice_get}
 use Rattle.std.specs.Option.{option_map}
 use Rattle.std.proofs.lemmas.Bool.{cases_lt}
 use Rattle.std.proofs.lemmas.Option.{same_Some, slice_get-map}
-use Rattle.ps_resolve.specs.Added.{added_segments, added_fault}
+use Rattle.ps_resolve.specs.Added.{added_segments, added_fault, request_of}
 use Rattle.ps_resolve.specs.Faults.{sources_fault}
 use Rattle.ps_resolve.specs.Sources.{Segment}
 use Rattle.ps_resolve.specs.RequestedUnits.{AddedUnits}
@@ -68,7 +68,7 @@ module _ (order : Order) (host : List ℕ) (libs : List (List ℕ)) (fine : sour
           let s = named Segs Queue k g A.names e in
           let t = named others other k g B.names (sym same ∙ e) in
           let p = name_placed order host libs ended k g e in
-          let only = one_entry order libs g.name p.0 (no_entry_fault order host libs g p.0 p.5) in
+          let only = one_entry order libs g.name p.0.slot (no_entry_fault order host libs (request_of g p.0.slot) p.1.fits) in
           let slot = same_Some s.0.slot t.0.slot (sym (A.slots k s.0 s.1) ∙ B.slots k t.0 t.1) in
           let role = (A.roles k s.0 s.1).0 ∙ sym (B.roles k t.0 t.1).0 in
           let marked = (A.roles k s.0 s.1).1 ∙ sym (B.roles k t.0 t.1).1 in

@@ -1,10 +1,10 @@
 -- Where no fault applies, no place of a segment is covered twice.
-use Rattle.std.proofs.Common.{◌≡◌, ℕ, List, [], ◌∷◌, true, refl, sym, subst, inl, inr, arith}
-use Rattle.std.proofs.lemmas.Bool.{cases_lt, false≢true}
+use Rattle.std.proofs.Common.{◌≡◌, ℕ, List, [], ◌∷◌, true, refl, sym, inl, inr}
+use Rattle.std.proofs.lemmas.Bool.{false≢true}
 use Rattle.ps_codefile.specs.Procedures.{is_reserved}
 use Rattle.ps_resolve.specs.Standing.Keys.{OfReferences}
 use Rattle.ps_resolve.specs.Standing.Segments.{IsSegment}
-use Rattle.ps_resolve.specs.Standing.Sources.{AreBad}
+use Rattle.ps_resolve.specs.OfLink.{IsOfFile}
 use Rattle.ps_resolve.specs.Standing.References.{ReferenceHas}
 use Rattle.ps_resolve.specs.LinkedBytes.{IsReference, Reaches, IsSizePlace, IsOnePlace, segments_of}
 use Rattle.ps_resolve.specs.Standing.{NoneStands}
@@ -14,7 +14,8 @@ use Rattle.ps_linkinfo.specs.declared.record.LinkRecord.{LinkRecord as Record}
 use Rattle.ps_resolve.specs.First.{Before}
 use Rattle.ps_codefile.specs.Roles.{needs_linking, is_host}
 use Rattle.ps_resolve.specs.Sources.{Segment, order_of}
-use Rattle.ps_laws.proofs.SoundCodes.{IsWithoutFault, HasOuter, outer, number_reserved, size_reserved, own_apart}
+use Rattle.ps_laws.proofs.Items.{not_apart}
+use Rattle.ps_laws.proofs.SoundCodes.{HasOuter, outer, number_reserved, size_reserved, own_apart}
 use Rattle.ps_words.specs.FaultPlaces.{in_reference}
 use Rattle.ps_words.specs.declared.fault.Reason.{Reason}
 use Rattle.ps_words.specs.declared.fault.Reason.TheVariants as reason
@@ -23,7 +24,7 @@ pub host_linked : (r : Role) → is_host r ≡ true → needs_linking r ≡ true
 host_linked role.Host h = refl
 host_linked other h = absurd (false≢true h)
 
-module _ (host : List ℕ) (libs : List (List ℕ)) (none : NoneStands host libs) (s : Segment) (is : IsSegment (order_of host) host libs s) (sound : IsWithoutFault (order_of host) s) where
+module _ (host : List ℕ) (libs : List (List ℕ)) (none : NoneStands host libs) (s : Segment) (is : IsSegment (order_of host) host libs s) (file : IsOfFile (order_of host) host libs s) where
   -- no reference has a fault
   fine : (rec i x : ℕ) (r : Record) → IsReference s rec r i x → (why : Reason) → ReferenceHas (order_of host) (segments_of host libs) s rec r i x why → ⊥
   fine rec i x r t why h = none OfReferences (in_reference s.file s.slot rec i why) (record { stands = (s, is, (rec, r, t.0, inr (i, x, t.1, (why, refl, h)))) })
@@ -33,25 +34,17 @@ module _ (host : List ℕ) (libs : List (List ℕ)) (none : NoneStands host libs
   no_overlap rec i x other j y r q p a b h = fine other j y q b.0 reason.Overlap (rec, r, a.0.0, (i, x, a.0.1, (h, (p, b.1, a.1))))
 
   one_reference : (rec i x other j y : ℕ) (r q : Record) (p : ℕ) → Reaches s rec r i x p → Reaches s other q j y p → (rec ≡ other) × (i ≡ j)
-  one_reference rec i x other j y r q p a b = elim (cases_lt rec other) [
-    | inl h ↦ absurd (no_overlap rec i x other j y r q p a b (inl h))
-    | inr h ↦ elim (cases_lt other rec) [
-      | inl k ↦ absurd (no_overlap other j y rec i x q r p b a (inl k))
-      | inr k ↦
-          let same : rec ≡ other = omega (arith, h, k) in
-          elim (cases_lt i j) [
-            | inl l ↦ absurd (no_overlap rec i x other j y r q p a b (inr (same, inl l)))
-            | inr l ↦ elim (cases_lt j i) [
-              | inl m ↦ absurd (no_overlap other j y rec i x q r p b a (inr (sym same, inl m)))
-              | inr m ↦ (same, omega (arith, l, m))
-            ]
-          ]
-    ]
-  ]
+  one_reference rec i x other j y r q p a b =
+      let same =
+      not_apart rec other (λ h. no_overlap rec i x other j y r q p a b (inl h)) (λ h. no_overlap other j y rec i x q r p b a (inl h)) in (
+        same,
+        not_apart i j (λ h. no_overlap rec i x other j y r q p a b (inr (same, inl h)))
+            (λ h. no_overlap other j y rec i x q r p b a (inr (sym same, inl h))),
+      )
 
   -- where the outer block's table is
   pub outer_at : (t j p : ℕ) → IsSizePlace (order_of host) s t j p → HasOuter (order_of host) s.code t
-  outer_at t j p h = outer (order_of host) s.code t (λ bad. sound.tables (host_linked s.role h.0) (subst (λ b. AreBad (order_of host) s.code b) (sym h.0) bad)) h.1
+  outer_at t j p h = outer (order_of host) s.code t (is_host s.role) h.0 (file.tables (host_linked s.role h.0)) h.1
 
   not_reserved : (rec i x : ℕ) (r : Record) (p : ℕ) → Reaches s rec r i x p → is_reserved (order_of host) s.code p ≡ true → ⊥
   not_reserved rec i x r p a h = fine rec i x r a.0 reason.ReservedPlace (p, a.1, h)

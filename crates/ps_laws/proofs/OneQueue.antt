@@ -1,20 +1,18 @@
 -- Just one queue of names and one list of segments have what is said of the units that are added.
-use Rattle.std.proofs.Common.{◌≡◌, ℕ, zero, suc, ◌+◌, ◌<◌, List, [], ◌∷◌, ◌++◌, length, take, Option, Some, None, Ok, Result, Bool, refl, sym, ap, subst, ◌∙◌, inl, inr, arith}
+use Rattle.std.proofs.Common.{◌≡◌, ℕ, zero, suc, ◌+◌, ◌<◌, List, [], ◌∷◌, ◌++◌, length, take, Option, Some, None, Bool, refl, sym, ap, subst, ◌∙◌, inl, inr, arith}
 use Rattle.std.specs.List.{slice_get}
-use Rattle.std.proofs.lemmas.Bool.{cases_lt}
+use Rattle.std.proofs.lemmas.Bool.{cases_order}
 use Rattle.std.proofs.lemmas.Option.{same_Some}
-use Rattle.ps_codefile.specs.Dictionary.{entry_at, code_of, information_of}
 use Rattle.ps_codefile.specs.declared.entry.Role.{Role}
-use Rattle.ps_linkinfo.specs.Records.{reading}
 use Rattle.ps_linkinfo.specs.declared.record.LinkRecord.{LinkRecord as Record}
 use Rattle.ps_resolve.specs.Standing.Sources.{IsNamed, HasEntry}
 use Rattle.ps_resolve.specs.First.{Before}
 use Rattle.ps_resolve.specs.Sources.{Segment, own_segments}
 use Rattle.ps_resolve.specs.RequestedUnits.{Asks, IsGiver, IsOfFirstLibrary, AddedUnits}
 use Rattle.ps_resolve.specs.declared.reading.added.UnitReference.{UnitReference}
-use Rattle.ps_laws.proofs.Items.{some_before}
+use Rattle.ps_laws.proofs.Items.{not_apart, some_before}
+use Rattle.ps_laws.proofs.Least.{not_both}
 use Rattle.ps_words.specs.declared.order.Order.{Order}
-use Rattle.ps_words.specs.declared.fault.Reason.{Reason}
 
 -- 1. lists that are the same up to a place
 abbrev pub Agree : {A : Type 0} → ℕ → List A → List A → Type 0
@@ -50,34 +48,29 @@ giver_of_front own others k i g l t = giver_moves (own ++ take k others) (own ++
 
 -- two givers of a name are at one place
 same_place : (segs : List Segment) (i j : ℕ) (g h : UnitReference) → IsGiver segs i g → IsGiver segs j h → g.name ≡ h.name → (i ≡ j) × (g.rec ≡ h.rec)
-same_place segs i j g h a b same = elim (cases_lt i j) [
-  | inl l ↦ absurd (b.2 i g.rec (inl l) (subst (λ (n : List ℕ). Asks segs i g.rec n) same a.1))
-  | inr l ↦ elim (cases_lt j i) [
-    | inl m ↦ absurd (a.2 j h.rec (inl m) (subst (λ (n : List ℕ). Asks segs j h.rec n) (sym same) b.1))
-    | inr m ↦ records (omega (arith, l, m))
-  ]
-]
+same_place segs i j g h a b same = (at, not_apart g.rec h.rec (λ l. earlier (inr (at, inl l))) (λ l. later (inr (sym at, inl l))))
   where
-    records : i ≡ j → (i ≡ j) × (g.rec ≡ h.rec)
-    records e = elim (cases_lt g.rec h.rec) [
-      | inl x ↦ absurd (b.2 i g.rec (inr (e, inl x)) (subst (λ (n : List ℕ). Asks segs i g.rec n) same a.1))
-      | inr x ↦ elim (cases_lt h.rec g.rec) [
-        | inl y ↦ absurd (a.2 j h.rec (inr (sym e, inl y)) (subst (λ (n : List ℕ). Asks segs j h.rec n) (sym same) b.1))
-        | inr y ↦ (e, omega (arith, x, y))
-      ]
-    ]
+    earlier : Before (i ∷ g.rec ∷ []) (j ∷ h.rec ∷ []) → ⊥
+    earlier l = b.2 i g.rec l (subst (λ (n : List ℕ). Asks segs i g.rec n) same a.1)
+
+    later : Before (j ∷ h.rec ∷ []) (i ∷ g.rec ∷ []) → ⊥
+    later l = a.2 j h.rec l (subst (λ (n : List ℕ). Asks segs j h.rec n) (sym same) b.1)
+
+    at : i ≡ j
+    at = not_apart i j (λ l. earlier (inl l)) (λ l. later (inl l))
 
 reference : List ℕ → ℕ → ℕ → ℕ → UnitReference
 reference name file slot rec = record { name = name; file = file; slot = slot; rec = rec }
+
+alike : (g h : UnitReference) → g.name ≡ h.name → g.file ≡ h.file → g.slot ≡ h.slot → g.rec ≡ h.rec
+    → reference g.name g.file g.slot g.rec ≡ reference h.name h.file h.slot h.rec
+alike g h name file slot rec = cc
 
 -- and are one reference
 same_reference : (segs : List Segment) (i j : ℕ) (g h : UnitReference) → IsGiver segs i g → IsGiver segs j h → g.name ≡ h.name → g ≡ h
 unfolding reference
 same_reference segs i j g h a b same =
-    ap (λ (n : List ℕ). reference n g.file g.slot g.rec) same
-    ∙ (ap (λ (f : ℕ). reference h.name f g.slot g.rec) (a.0.2 ∙ ap (λ (s : Segment). s.file) segment ∙ sym b.0.2)
-    ∙ (ap (λ (n : ℕ). reference h.name h.file n g.rec) (a.0.3 ∙ ap (λ (s : Segment). s.slot) segment ∙ sym b.0.3)
-    ∙ ap (λ (n : ℕ). reference h.name h.file h.slot n) place.1))
+    alike g h same (a.0.2 ∙ ap (λ (s : Segment). s.file) segment ∙ sym b.0.2) (a.0.3 ∙ ap (λ (s : Segment). s.slot) segment ∙ sym b.0.3) place.1
   where
     place : (i ≡ j) × (g.rec ≡ h.rec)
     place = same_place segs i j g h a b same
@@ -87,19 +80,7 @@ same_reference segs i j g h a b same =
 
 -- 3. the queue
 before_at : {a b c d p q r s : ℕ} → a ≡ p → b ≡ q → c ≡ r → d ≡ s → Before (a ∷ b ∷ []) (c ∷ d ∷ []) → Before (p ∷ q ∷ []) (r ∷ s ∷ [])
-before_at {a} {b} {c} {d} {p} {q} {r} {s} e f g h t =
-    subst (λ (n : ℕ). Before (n ∷ q ∷ []) (r ∷ s ∷ [])) e (subst (λ (n : ℕ). Before (a ∷ n ∷ []) (r ∷ s ∷ [])) f (subst (λ (n : ℕ). Before (a ∷ b ∷ []) (n ∷ s ∷ [])) g (subst (λ (n : ℕ). Before (a ∷ b ∷ []) (c ∷ n ∷ [])) h t)))
-
-not_both : (a b c d : ℕ) → Before (a ∷ b ∷ []) (c ∷ d ∷ []) → Before (c ∷ d ∷ []) (a ∷ b ∷ []) → ⊥
-not_both a b c d (inl h) (inl k) = omega (arith, h, k)
-not_both a b c d (inl h) (inr k) = let e = k.0 in omega (arith, h, e)
-not_both a b c d (inr h) (inl k) = let e = h.0 in omega (arith, e, k)
-not_both a b c d (inr h) (inr k) = records h.1 k.1
-  where
-    records : Before (b ∷ []) (d ∷ []) → Before (d ∷ []) (b ∷ []) → ⊥
-    records (inl x) (inl y) = omega (arith, x, y)
-    records (inl x) (inr y) = y.1
-    records (inr x) y = x.1
+before_at e f g h t = rw (← e, ← f, ← g, ← h) t
 
 module _ (order : Order) (host : List ℕ) (libs : List (List ℕ)) (queue other : List UnitReference) (segs others : List Segment) (A : AddedUnits order host libs queue segs) (B : AddedUnits order host libs other others) where
   abbrev Own : List Segment
@@ -140,30 +121,25 @@ module _ (order : Order) (host : List ℕ) (libs : List (List ℕ)) (queue other
             let b = same_place (Own ++ segs) p.1 j z y p.3 back n in
             let c = same_place (Own ++ others) q.0 j y y q.2 giver refl in
             let d = same_place (Own ++ others) q.1 i h g q.3 there name in
-            not_both i g.rec j y.rec (before_at a.0 a.1 b.0 b.1 p.4) (before_at c.0 c.1 d.0 d.1 q.4)
+            not_both (i ∷ g.rec ∷ []) (j ∷ y.rec ∷ []) (before_at a.0 a.1 b.0 b.1 p.4) (before_at c.0 c.1 d.0 d.1 q.4)
 
         at_place : (m : ℕ) (z : UnitReference) → slice_get queue m ≡ Some z → z.name ≡ y.name → ⊥
-        at_place m z e n = elim (cases_lt m k) [
-          | inl l ↦ (let a = B.once m k z y (sym (same_queue m l) ∙ e) first n in omega (arith, a, l))
-          | inr l ↦ elim (cases_lt k m) [
-            | inl u ↦ crossed m z u e n
-            | inr u ↦
-                let one : z ≡ g = same_Some z g (sym e ∙ ap (λ (o : ℕ). slice_get queue o) (omega (arith, l, u)) ∙ at) in
-                let a = B.once k x y h first is (sym n ∙ ap (λ (r : UnitReference). r.name) one ∙ sym name) in
-                omega (arith, a, later)
+        at_place m z e n = elim (cases_order m k) [
+          | inl u ↦
+              let one : z ≡ g = same_Some z g (sym e ∙ ap (λ (o : ℕ). slice_get queue o) u ∙ at) in
+              let a = B.once k x y h first is (sym n ∙ ap (λ (r : UnitReference). r.name) one ∙ sym name) in
+              omega (arith, a, later)
+          | inr u ↦ elim u [
+            | inl l ↦ (let a = B.once m k z y (sym (same_queue m l) ∙ e) first n in omega (arith, a, l))
+            | inr l ↦ crossed m z l e n
           ]
         ]
 
     found : (x : ℕ) (h : UnitReference) → slice_get other x ≡ Some h → h.name ≡ g.name → slice_get other k ≡ Some g
-    found x h is name = elim (cases_lt x k) [
-      | inl l ↦ (let a = A.once x k h g (same_queue x l ∙ is) at name in absurd (omega (arith, a, l)))
-      | inr l ↦ elim (cases_lt k x) [
-        | inl u ↦ absurd (behind u (slice_get other k) refl)
-        | inr u ↦
-            let first : slice_get other k ≡ Some h = ap (λ (o : ℕ). slice_get other o) (omega (arith, l, u)) ∙ is in
-            first ∙ ap (λ (r : UnitReference). Some r) (same_reference (Own ++ others) (B.requested k h first).0.0 i h g (B.requested k h first).0.2 there name)
-      ]
-    ]
+    found x h is name =
+        let at_k = not_apart x k (λ l. let a = A.once x k h g (same_queue x l ∙ is) at name in omega (arith, a, l)) (λ l. behind l (slice_get other k) refl) in
+        let first : slice_get other k ≡ Some h = ap (λ (o : ℕ). slice_get other o) (sym at_k) ∙ is in
+        first ∙ ap (λ (r : UnitReference). Some r) (same_reference (Own ++ others) (B.requested k h first).0.0 i h g (B.requested k h first).0.2 there name)
       where
         behind : k < x → (o : Option UnitReference) → slice_get other k ≡ o → ⊥
         behind u None e = some_before other k x h (omega (arith, u)) is e
@@ -182,31 +158,20 @@ HasOneEntry order libs name =
 segment : ℕ → List ℕ → Role → Bool → ℕ → ℕ → List ℕ → List Record → Segment
 segment slot name role added file index code records = record { slot = slot; name = name; role = role; added = added; file = file; index = index; code = code; records = records }
 
-same_Ok : (x y : List ℕ) → ◌≡◌ {A = Result (List ℕ) Reason} (Ok x) (Ok y) → x ≡ y
-same_Ok x y e = cc
+made_alike : (s t : Segment) → s.slot ≡ t.slot → s.name ≡ t.name → s.role ≡ t.role → s.added ≡ t.added → s.file ≡ t.file → s.index ≡ t.index → s.code ≡ t.code → s.records ≡ t.records
+    → segment s.slot s.name s.role s.added s.file s.index s.code s.records ≡ segment t.slot t.name t.role t.added t.file t.index t.code t.records
+made_alike s t slot name role added file index code records = cc
 
 -- of one name and slot there is one segment from the first library that has the name
 pub same_segment : (order : Order) (libs : List (List ℕ)) (s t : Segment) → s.slot ≡ t.slot → s.name ≡ t.name → s.role ≡ t.role → s.added ≡ t.added
     → IsOfFirstLibrary order libs s → IsOfFirstLibrary order libs t → HasOneEntry order libs s.name → s ≡ t
 unfolding segment
-same_segment order libs s t slot name role added f u only =
-    ap (λ (x : ℕ). segment x s.name s.role s.added s.file s.index s.code s.records) slot
-    ∙ (ap (λ (x : List ℕ). segment t.slot x s.role s.added s.file s.index s.code s.records) name
-    ∙ (ap (λ (x : Role). segment t.slot t.name x s.added s.file s.index s.code s.records) role
-    ∙ (ap (λ (x : Bool). segment t.slot t.name t.role x s.file s.index s.code s.records) added
-    ∙ (ap (λ (x : ℕ). segment t.slot t.name t.role t.added x s.index s.code s.records) file
-    ∙ (ap (λ (x : ℕ). segment t.slot t.name t.role t.added t.file x s.code s.records) index
-    ∙ (ap (λ (x : List ℕ). segment t.slot t.name t.role t.added t.file t.index x s.records) code
-    ∙ ap (λ (x : List Record). segment t.slot t.name t.role t.added t.file t.index t.code x) records))))))
+same_segment order libs s t slot name role added f u only = made_alike s t slot name role added file index code records
   where
     number : f.0 ≡ u.0
-    number = elim (cases_lt f.0 u.0) [
-      | inl l ↦ absurd (u.3.0 f.0 f.1 l f.2 (s.index, f.3.2, subst (λ (n : List ℕ). IsNamed order n f.1 s.index) name f.3.3))
-      | inr l ↦ elim (cases_lt u.0 f.0) [
-        | inl m ↦ absurd (f.3.0 u.0 u.1 m u.2 (t.index, u.3.2, subst (λ (n : List ℕ). IsNamed order n u.1 t.index) (sym name) u.3.3))
-        | inr m ↦ omega (arith, l, m)
-      ]
-    ]
+    number =
+        not_apart f.0 u.0 (λ l. u.3.0 f.0 f.1 l f.2 (s.index, f.3.2, subst (λ (n : List ℕ). IsNamed order n f.1 s.index) name f.3.3))
+        (λ l. f.3.0 u.0 u.1 l u.2 (t.index, u.3.2, subst (λ (n : List ℕ). IsNamed order n u.1 t.index) (sym name) u.3.3))
 
     library : f.1 ≡ u.1
     library = same_Some f.1 u.1 (sym f.2 ∙ ap (λ (n : ℕ). slice_get libs n) number ∙ u.2)
@@ -218,7 +183,7 @@ same_segment order libs s t slot name role added f u only =
     index = only f.0 f.1 f.2 f.3.0 s.index t.index f.3.2 u.3.2 f.3.3 (subst (λ (l : List ℕ). IsNamed order s.name l t.index) (sym library) (subst (λ (n : List ℕ). IsNamed order n u.1 t.index) (sym name) u.3.3))
 
     code : s.code ≡ t.code
-    code = same_Ok s.code t.code (sym f.3.4 ∙ ap (λ (l : List ℕ). code_of l (entry_at order l s.index)) library ∙ ap (λ (n : ℕ). code_of u.1 (entry_at order u.1 n)) index ∙ u.3.4)
+    code = let a = f.3.4 in let b = u.3.4 in cc (library, index)
 
     records : s.records ≡ t.records
-    records = f.3.5 ∙ ap (λ (l : List ℕ). (reading order (information_of l (entry_at order l s.index))).0) library ∙ ap (λ (n : ℕ). (reading order (information_of u.1 (entry_at order u.1 n))).0) index ∙ sym u.3.5
+    records = let a = f.3.5 in let b = u.3.5 in cc (library, index)

@@ -40,8 +40,8 @@ use Rattle.ps_codefile.specs.Roles.{is_host}
 use Rattle.ps_resolve.specs.Sources.{Segment, file_at}
 
 -- each reason of an answer has P
-record Errs {X : Type 0} (P : Reason → Type 0) (r : Result X Reason) : Type 0 where
-  held : (why : Reason) → r ≡ Err why → P why
+pub record Errs {X : Type 0} (P : Reason → Type 0) (r : Result X Reason) : Type 0 where
+  pub held : (why : Reason) → r ≡ Err why → P why
 
 errs_if : {X : Type 0} {P : Reason → Type 0} (b : Bool) {x y : Result X Reason} → Errs P x → Errs P y → Errs P (if b then x else y)
 errs_if true p q = p
@@ -71,7 +71,7 @@ somes_or None y p q = q
 somes_or (Some why) y p q = p
 
 -- the reasons for which a slot has no role, and an entry no code
-role_errs : (P : Reason → Type 0) → P reason.SegmentProcedure → P reason.NativeSegment → P reason.Intrinsic → P reason.UnknownKind → (e : Entry) → Errs P (role_of e)
+pub role_errs : (P : Reason → Type 0) → P reason.SegmentProcedure → P reason.NativeSegment → P reason.Intrinsic → P reason.UnknownKind → (e : Entry) → Errs P (role_of e)
 role_errs P a b c d e =
     errs_if (e.kind == 3 && (e.address == 0 || e.length == 0) && not (is_nameless e.name)) (errs_ok _)
     (errs_if (e.kind == 3 && (e.address == 0 || e.length == 0)) (errs_ok _)
@@ -83,7 +83,7 @@ role_errs P a b c d e =
     (errs_if (e.kind == 4) (errs_err reason.NativeSegment b)
     (errs_if (nat_le e.kind 7) (errs_err reason.Intrinsic c) (errs_err reason.UnknownKind d)))))))))
 
-code_errs : (P : Reason → Type 0) → P reason.BadLength → P reason.BadAddress → P reason.Truncated → (file : List ℕ) (e : Entry) → Errs P (code_of file e)
+pub code_errs : (P : Reason → Type 0) → P reason.BadLength → P reason.BadAddress → P reason.Truncated → (file : List ℕ) (e : Entry) → Errs P (code_of file e)
 code_errs P a b c file e =
     errs_if (has_bad_length e) (errs_err reason.BadLength a) (errs_if (e.address == 0) (errs_err reason.BadAddress b) (errs_if (nat_lt (length file) (block_len * e.address + e.length)) (errs_err reason.Truncated c) (errs_ok _)))
 

@@ -1,9 +1,9 @@
 -- The offset of a private is the base offset of the host's end mark, and the words of all segments
 -- before and of the records before its own.
-use Rattle.std.proofs.Common.{◌≡◌, ℕ, ◌+◌, ◌<◌, ◌≤◌, List, [], ◌∷◌, ◌++◌, take, map, Bool, true, false, refl, sym, ap, subst, ◌∙◌, arith}
-use Rattle.std.specs.Prelude.{if◌then◌else◌, ◌==◌, nat_lt, sum_by}
+use Rattle.std.proofs.Common.{◌≡◌, ℕ, ◌+◌, ◌<◌, ◌≤◌, List, [], ◌∷◌, ◌++◌, take, map, refl, sym, ap, subst, arith}
+use Rattle.std.specs.Prelude.{sum_by}
 use Rattle.std.specs.List.{flat_map}
-use Rattle.std.proofs.lemmas.Bool.Decides.{nat_tests}
+use Rattle.std.proofs.lemmas.Bool.{eq-eqb, le-ltb, lt-ltb, ne_eqb}
 use Rattle.std.proofs.lemmas.Grind.{flat_map-append}
 use Rattle.std.proofs.lemmas.List.Sums.{sum_by-append, sum_by-cons}
 use Rattle.ps_linkinfo.specs.declared.record.LinkRecord.{LinkRecord as Record}
@@ -47,32 +47,20 @@ words_are (r ∷ rs) =
     omega (arith, a, b, c)
 
 -- which records of a segment are before one of a slot
-true_lt : (a b : ℕ) → a < b → nat_lt a b ≡ true
-true_lt a b h = grind (arith, nat_tests)
-
-false_lt : (a b : ℕ) → b ≤ a → nat_lt a b ≡ false
-false_lt a b h = grind (arith, nat_tests)
-
-false_eq : (a b : ℕ) → b < a → (a == b) ≡ false
-false_eq a b h = grind (arith, nat_tests)
-
-true_eq : (a : ℕ) → (a == a) ≡ true
-true_eq a = grind (arith, nat_tests)
-
 of_lesser : (slot rec : ℕ) (s : Segment) → s.slot < slot → records_before slot rec s ≡ s.records
-of_lesser slot rec s h = ap (λ (b : Bool). if b then s.records else (if s.slot == slot then take rec s.records else [])) (true_lt s.slot slot h)
+of_lesser slot rec s h = rw (lt-ltb s.slot slot h) refl
 
 -- of a greater slot no record is before
 of_greater : (slot rec : ℕ) (s : Segment) → slot < s.slot → records_before slot rec s ≡ []
 of_greater slot rec s h =
-    ap (λ (b : Bool). if b then s.records else (if s.slot == slot then take rec s.records else [])) (false_lt s.slot slot (omega (arith, h)))
-    ∙ ap (λ (b : Bool). if b then take rec s.records else []) (false_eq s.slot slot h)
+    let low : slot ≤ s.slot = omega (arith, h) in
+    rw (le-ltb s.slot slot low, ne_eqb s.slot slot (λ e. omega (arith, e, h))) refl
 
 -- of the slot itself as many records are before as the record's number says
 of_same : (rec : ℕ) (s : Segment) → records_before s.slot rec s ≡ take rec s.records
 of_same rec s =
-    ap (λ (b : Bool). if b then s.records else (if s.slot == s.slot then take rec s.records else [])) (false_lt s.slot s.slot (omega arith))
-    ∙ ap (λ (b : Bool). if b then take rec s.records else []) (true_eq s.slot)
+    let same : s.slot ≤ s.slot = omega arith in
+    rw (le-ltb s.slot s.slot same, eq-eqb s.slot s.slot refl) refl
 
 abbrev before : ℕ → ℕ → List Segment → ℕ
 before slot rec ss = words (flat_map (records_before slot rec) ss)

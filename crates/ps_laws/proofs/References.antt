@@ -1,8 +1,8 @@
 -- The first fault of the references is the smallest that is.
-use Rattle.std.proofs.Common.{◌≡◌, ℕ, zero, suc, ◌+◌, ◌<◌, ◌≤◌, List, [], ◌∷◌, ◌++◌, length, take, map, Option, Some, None, Result, Ok, Err, Bool, true, false, refl, sym, ap, subst, ◌∙◌, inl, inr, arith, append_assoc, append-nil, is_some, unwrap_or}
+use Rattle.std.proofs.Common.{◌≡◌, ℕ, ◌+◌, ◌<◌, ◌≤◌, List, [], ◌∷◌, ◌++◌, length, take, map, Option, Some, None, Result, Ok, Err, Bool, true, false, refl, sym, ap, subst, ◌∙◌, inl, inr, arith, append_assoc, append-nil, is_some, unwrap_or}
 use Rattle.std.specs.Prelude.{◌≢◌, ◌⊎◌, if◌then◌else◌, ◌||◌, nat_le, nat_lt}
 use Rattle.std.specs.Bool.{Decides}
-use Rattle.std.specs.List.{range_with_len, enumerate_from, slice_get, list_any, flat_map}
+use Rattle.std.specs.List.{range_with_len, enumerate_from, find, slice_get, list_any, flat_map}
 use Rattle.std.specs.Map.{lookup}
 use Rattle.std.specs.Option.{option_map, option_or}
 use Rattle.std.specs.Result.{result_err}
@@ -12,6 +12,7 @@ use Rattle.std.proofs.lemmas.Bool.Decides.{Decides-at, Decides-ltb, Decides-and,
 use Rattle.std.proofs.lemmas.Grind.{flat_map-append}
 use Rattle.std.proofs.lemmas.List.{map-append}
 use Rattle.std.proofs.lemmas.List.Folds.{list_any-append}
+use Rattle.std.proofs.lemmas.Option.{same_Some}
 use Rattle.std.proofs.lemmas.Slice.Eq.{bytes_eq-Decides}
 use Rattle.ps_codefile.specs.Procedures.{is_reserved}
 use Rattle.ps_linkinfo.specs.RecordCounts.{is_unit_reference, next_of}
@@ -42,7 +43,9 @@ use Rattle.ps_resolve.specs.declared.references.Target.TheVariants.{Slot, Base}
 use Rattle.ps_laws.proofs.Least.{Least, nothing, this, Precedes, least_same, least_or, least_if, least_items, at_apart}
 use Rattle.ps_laws.proofs.Asked.{HasUnit, units_named, asked_is_there}
 use Rattle.ps_laws.proofs.Steps.{Ranked, because, because_apart, any_of_range}
-use Rattle.ps_laws.proofs.Looking.{of_test, any_of_take, any_of_items}
+use Rattle.ps_resolve.proofs.FirstSlots.{none_mapped, some_mapped}
+use Rattle.ps_laws.proofs.Items.{not_apart}
+use Rattle.ps_laws.proofs.Looking.{of_test, any_of_take, any_of_items, find_none, find_some}
 use Rattle.ps_laws.proofs.Segments.{over_segments, Ascends, ascend}
 use Rattle.ps_laws.proofs.Definitions.{take_prefix, longer}
 use Rattle.ps_laws.proofs.PrivateOffsets.{AreBelow, below_from, below_more, offset_in, words_split}
@@ -72,49 +75,42 @@ map_map f g None = refl
 map_map f g (Some a) = refl
 
 -- 1. the record's name
-named_none : {D : Type 0} (name : List ℕ) (ds : List (List ℕ × D)) → lookup (bytes_eq name) ds ≡ None → SomeItem ds (λ k e. e.0 ≡ name) → ⊥
-named_none name [] e t = absurd (let g = t.2 in cc)
-named_none {D} name (d ∷ ds) e t = go (bytes_eq name d.0) (bytes_eq-Decides name d.0) (named_none name ds) e
+-- what is looked up is what the first item of the key has
+lookup_found : {D : Type 0} (test : List ℕ → Bool) (ds : List (List ℕ × D)) → lookup test ds ≡ option_map (λ (e : List ℕ × D). e.1) (find (λ (e : List ℕ × D). test e.0) ds)
+lookup_found test [] = refl
+lookup_found {D} test (d ∷ ds) = go (test d.0) (lookup_found test ds)
   where
-    at : ((SomeItem ds (λ k e. e.0 ≡ name)) → ⊥) → (name ≡ d.0 → ⊥) → (i : ℕ) (x : List ℕ × D) → slice_get (d ∷ ds) i ≡ Some x → x.0 ≡ name → ⊥
-    at rest differs zero x g h = differs (sym h ∙ ap (λ (y : List ℕ × D). y.0) (let u : x ≡ d = cc in u))
-    at rest differs (suc i) x g h = rest (i, x, g, h)
+    found : Option (List ℕ × D)
+    found = find (λ (e : List ℕ × D). test e.0) ds
 
-    go : (b : Bool) → Decides b (name ≡ d.0) → (lookup (bytes_eq name) ds ≡ None → SomeItem ds (λ k e. e.0 ≡ name) → ⊥) → (if b then Some d.1 else lookup (bytes_eq name) ds) ≡ None → ⊥
-    go true h rest e = absurd (cc)
-    go false h rest e = at (rest e) (λ same. false≢true (h.1 same)) t.0 t.1 t.2 t.3
+    go : (b : Bool) → lookup test ds ≡ option_map (λ (e : List ℕ × D). e.1) found
+        → (if b then Some d.1 else lookup test ds) ≡ option_map (λ (e : List ℕ × D). e.1) (if b then Some d else found)
+    go true h = refl
+    go false h = h
+
+is_name : {D : Type 0} (name : List ℕ) (e : List ℕ × D) → Decides (bytes_eq name e.0) (e.0 ≡ name)
+is_name name e = Decides-like (bytes_eq name e.0) (λ h. sym h) (λ h. sym h) (bytes_eq-Decides name e.0)
+
+named_none : {D : Type 0} (name : List ℕ) (ds : List (List ℕ × D)) → lookup (bytes_eq name) ds ≡ None → SomeItem ds (λ k e. e.0 ≡ name) → ⊥
+named_none {D} name ds e =
+    find_none (λ (d : List ℕ × D). bytes_eq name d.0) (λ d. d.0 ≡ name) (is_name name) ds (none_mapped _ _ (sym (lookup_found (bytes_eq name) ds) ∙ e))
 
 abbrev Earliest : {D : Type 0} → List (List ℕ × D) → List ℕ → ℕ → Type 0
 Earliest {D} ds name k = (lesser : ℕ) (other : List ℕ × D) → lesser < k → slice_get ds lesser ≡ Some other → other.0 ≢ name
 
 -- what is found for a name is what the first item of that name has
 named_some : {D : Type 0} (name : List ℕ) (ds : List (List ℕ × D)) (d : D) → lookup (bytes_eq name) ds ≡ Some d → SomeItem ds (λ k e. ((e.0 ≡ name) × (e.1 ≡ d)) × Earliest ds name k)
-named_some name [] d e = absurd (cc)
-named_some {D} name (x ∷ ds) d e = go (bytes_eq name x.0) (bytes_eq-Decides name x.0) (named_some name ds d) e
-  where
-    Found : List (List ℕ × D) → Type 0
-    Found xs = SomeItem xs (λ k e. ((e.0 ≡ name) × (e.1 ≡ d)) × Earliest xs name k)
-
-    later : (k : ℕ) → (name ≡ x.0 → ⊥) → Earliest ds name k → Earliest (x ∷ ds) name (suc k)
-    later k differs rest zero other l g h = differs (sym h ∙ ap (λ (y : List ℕ × D). y.0) (let u : other ≡ x = cc in u))
-    later k differs rest (suc j) other l g h = rest j other (omega (arith, l)) g h
-
-    go : (b : Bool) → Decides b (name ≡ x.0) → (lookup (bytes_eq name) ds ≡ Some d → Found ds) → (if b then Some x.1 else lookup (bytes_eq name) ds) ≡ Some d → Found (x ∷ ds)
-    go true h rest e = (zero, x, refl, ((sym (h.0 refl), cc), λ lesser other l g q. omega (arith, l)))
-    go false h rest e = let r = rest e in (suc r.0, r.1, r.2, (r.3.0, later r.0 (λ same. false≢true (h.1 same)) r.3.1))
+named_some {D} name ds d e =
+    let f = some_mapped (λ (x : List ℕ × D). x.1) (find (λ (x : List ℕ × D). bytes_eq name x.0) ds) d (sym (lookup_found (bytes_eq name) ds) ∙ e) in
+    let t = find_some (λ (x : List ℕ × D). bytes_eq name x.0) (λ x. x.0 ≡ name) (is_name name) ds f.0 f.1 in
+    (t.0, t.1, t.2, ((t.3.1, ap (λ (x : List ℕ × D). x.1) t.3.0 ∙ sym f.2), t.3.2))
 
 -- a name has no two first definitions
 one_definition : (ds : List (List ℕ × Def)) (name : List ℕ) (d e : Def) → Defines ds name d → Defines ds name e → d ≡ e
-one_definition ds name d e a b = elim (cases_lt a.0 b.0) [
-  | inl h ↦ absurd (b.3.1 a.0 a.1 h a.2 a.3.0.0)
-  | inr h ↦ elim (cases_lt b.0 a.0) [
-    | inl k ↦ absurd (a.3.1 b.0 b.1 k b.2 b.3.0.0)
-    | inr k ↦
-        let at : b.0 ≡ a.0 = omega (arith, h, k) in
-        let same : b.1 ≡ a.1 = (let p = a.2 in let q = b.2 in cc) in
-        sym a.3.0.1 ∙ (sym (ap (λ (x : List ℕ × Def). x.1) same) ∙ b.3.0.1)
-  ]
-]
+one_definition ds name d e a b =
+    let at = not_apart a.0 b.0 (λ h. b.3.1 a.0 a.1 h a.2 a.3.0.0) (λ h. a.3.1 b.0 b.1 h b.2 b.3.0.0) in
+    let same = same_Some a.1 b.1 (sym a.2 ∙ ap (slice_get ds) at ∙ b.2) in
+    sym a.3.0.1 ∙ ap (λ (x : List ℕ × Def). x.1) same ∙ b.3.0.1
 
 -- each unit that the record requests has its segment
 abbrev UnitIsThere : List Segment → List ℕ → Body → Type 0
@@ -123,10 +119,6 @@ UnitIsThere segs name body = is_unit_reference body ≡ true → HasUnit segs na
 -- the reason that is given for a record is the one of smallest rank that applies, where a unit it
 -- requests is there
 pub record_rows : (segs : List Segment) (off : ℕ) (name : List ℕ) (body : Body) → UnitIsThere segs name body → Least Ranked (RecordHas segs name body) (result_err (target_in (known_of segs) off name body))
-record_rows segs off name (PrivRef words refs) there = nothing (λ y h. h)
-record_rows segs off name (PublDef value) there = nothing (λ y h. h)
-record_rows segs off name (ConstDef value) there = nothing (λ y h. h)
-record_rows segs off name (Eof next) there = nothing (λ y h. h)
 record_rows segs off name (UnitRef refs) there = go (lookup (bytes_eq name) (units_of segs)) refl
   where
     go : (o : Option ℕ) → lookup (bytes_eq name) (units_of segs) ≡ o → Least Ranked (RecordHas segs name (UnitRef refs)) (result_err (unit_slot o))
@@ -165,6 +157,7 @@ record_rows segs off name (PublRef refs) there = go (definition_of name ds) refl
             none reason.MissingDefinition h = h (any d found)
             none reason.IllKind h = let same = one_definition ds name h.0 d h.1 found in let kind = h.2 in cc
             none other h = h
+record_rows segs off name other there = nothing (λ y h. h)
 
 -- 2. the operands
 abbrev operands_of : Record → List (ℕ × ℕ)
@@ -229,12 +222,10 @@ overlapping records rec i r x er =
 
 -- the operand of a reference has at least one byte
 pub wide : (body : Body) (i x : ℕ) → slice_get (refs_of body) i ≡ Some x → 0 < operand_width body
-wide (UnitRef refs) i x e = omega arith
-wide (PublRef refs) i x e = omega arith
-wide (PrivRef words refs) i x e = omega arith
 wide (PublDef value) i x e = absurd (cc)
 wide (ConstDef value) i x e = absurd (cc)
 wide (Eof next) i x e = absurd (cc)
+wide other i x e = omega arith
 
 -- an operand that is not empty ends after the code just where it covers a place that is not in the
 -- code
@@ -372,9 +363,6 @@ Fits segs s rec name body t = (refs_of body ≡ []) ⊎ ((width_of t ≡ operand
 
 -- where a record has a target, its operands have the width and the value that are said of them
 fits : (segs : List Segment) (s : Segment) (rec : ℕ) (name : List ℕ) (body : Body) (t : Target) → target_in (known_of segs) (private_offset segs s.slot rec) name body ≡ Ok t → Fits segs s rec name body t
-fits segs s rec name (PublDef value) t e = inl refl
-fits segs s rec name (ConstDef value) t e = inl refl
-fits segs s rec name (Eof next) t e = inl refl
 fits segs s rec name (PrivRef words refs) t e =
     let is : Base (private_offset segs s.slot rec) ≡ t = cc in
     subst (Fits segs s rec name (PrivRef words refs)) is (inr (refl, λ x. refl))
@@ -394,6 +382,7 @@ fits segs s rec name (PublRef refs) t e = go (definition_of name (definitions (h
         at Public e =
             let is : Base d.value ≡ t = cc in
             subst (Fits segs s rec name (PublRef refs)) is (inr (refl, λ x. rw found refl))
+fits segs s rec name other t e = inl refl
 
 -- the references of a record
 refs_of_record : (order : Order) (segs : List Segment) (s : Segment) (rec : ℕ) (r : Record) (t : Target) (taken : List (ℕ × ℕ)) → taken ≡ before s.records rec → Fits segs s rec r.name r.body t

@@ -1,14 +1,13 @@
 -- The first fault of the units that are added is the smallest that is.
-use Rattle.std.proofs.Common.{◌≡◌, ℕ, ◌+◌, ◌≤◌, List, [], ◌∷◌, ◌++◌, length, take, Option, Some, None, Bool, true, false, refl, sym, ap, subst, ◌∙◌, inl, inr, arith, append_assoc, append-nil, length-append, is_none, unwrap_or}
+use Rattle.std.proofs.Common.{◌≡◌, ℕ, ◌+◌, ◌≤◌, List, [], ◌∷◌, length, take, Option, Some, None, Bool, true, false, refl, sym, ap, subst, ◌∙◌, inl, inr, arith, append-nil, length-append, is_none, unwrap_or}
 use Rattle.std.specs.Prelude.{◌⊎◌, if◌then◌else◌}
 use Rattle.std.specs.Bool.{Decides}
 use Rattle.std.specs.List.{slice_get}
 use Rattle.std.specs.Option.{option_or, option_map, option_and_then}
 use Rattle.std.proofs.lemmas.Bool.{cases_lt, false≢true}
 use Rattle.std.proofs.lemmas.Bool.Decides.{Decides-or}
-use Rattle.std.proofs.lemmas.Grind.{flat_map-append}
 use Rattle.ps_codefile.specs.Dictionary.{is_nameless, entry_at}
-use Rattle.ps_resolve.specs.Added.{unit_references, all_unit_references, requested_from, empty_slots, is_missing, unplaced_fault, placed_fault, added_segment, RoundsOutcome, after, rounds_from, requested_units, rounds, added_segments, added_fault}
+use Rattle.ps_resolve.specs.Added.{empty_slots, is_missing, RoundsOutcome, after, requested_units, rounds, added_segments, added_fault}
 use Rattle.ps_resolve.specs.Standing.Phrases.{Because}
 use Rattle.ps_resolve.specs.Standing.Keys.{Step, OfSources, OfAdded, rank, part, record_read, key}
 use Rattle.ps_resolve.specs.Standing.Sources.{EntriesHave, CodeFault}
@@ -18,14 +17,13 @@ use Rattle.ps_codefile.specs.declared.entry.Role.{Role}
 use Rattle.ps_codefile.specs.declared.entry.Role.TheVariants as role
 use Rattle.ps_resolve.specs.Faults.{entry_fault, code_fault}
 use Rattle.ps_resolve.specs.First.{Before}
-use Rattle.ps_resolve.specs.Sources.{Segment, own_segments, units_of, unit_source, chosen_library, file_at}
+use Rattle.ps_resolve.specs.Sources.{Segment, unit_source, chosen_library, file_at}
 use Rattle.ps_resolve.specs.declared.reading.added.UnitReference.{UnitReference}
+use Rattle.ps_laws.proofs.EachRound.{IsTurn, all_rounds, round_fault, segments_before}
 use Rattle.ps_laws.proofs.Least.{Least, nothing, this, Precedes, least_same, least_order, least_map}
 use Rattle.ps_laws.proofs.Looking.{of_test}
-use Rattle.ps_laws.proofs.Definitions.{take_prefix, longer}
 use Rattle.ps_laws.proofs.Sources.{Late, late, OneStop, none_has, unit_least, code_late}
 use Rattle.ps_laws.proofs.Parts.{record_somes, RoundHas}
-use Rattle.ps_resolve.proofs.Adding.{requested-append}
 use Rattle.ps_words.specs.FaultPlaces.{in_slot, in_record}
 use Rattle.ps_words.specs.declared.order.Order.{Order}
 use Rattle.ps_words.specs.declared.fault.Reason.{Reason}
@@ -40,7 +38,6 @@ Reads f = record_read f.reason f.rec ≡ part f.rec
 -- where a fault has no record, none was read
 none_read : (why : Reason) → record_read why None ≡ 0
 none_read reason.MissingUnit = refl
-none_read reason.NoSlot = refl
 none_read other = refl
 
 reads_slot : {P : Reason → Type 0} (k slot : ℕ) (f : Fault) → Because (in_slot k slot) P f → Reads f
@@ -112,11 +109,6 @@ placed_least law order host libs k name slot =
 pub missing : (order : Order) (libs : List (List ℕ)) (name : List ℕ) → Decides (is_missing order libs name) (IsMissing order libs name)
 missing order libs name = Decides-or (is_nameless name) (is_none (chosen_library order name libs)) (of_test (is_nameless name)) (none_has order name libs)
 
--- the first fault of a name, where this slot, or none, is left for it
-abbrev round_fault : Order → List ℕ → List (List ℕ) → UnitReference → Option ℕ → Option Fault
-round_fault order host libs g None = Some (unplaced_fault order libs g)
-round_fault order host libs g (Some slot) = placed_fault order host libs g slot
-
 -- the first fault of a name in its round, with this slot or with none, is the smallest that applies
 round_least : OneStop → (order : Order) (host : List ℕ) (libs : List (List ℕ)) (k : ℕ) (g : UnitReference) (left : Option ℕ) → Least (Precedes (OfAdded k)) (RoundHas order host libs g left) (round_fault order host libs g left)
 round_least law order host libs k g None = go (is_missing order libs g.name) (missing order libs g.name)
@@ -154,24 +146,6 @@ round_least law order host libs k g (Some slot) = go (is_missing order libs g.na
         from f (inr (inl t)) = absurd (let e = t.1 in cc)
         from f (inr (inr t)) = let same : t.0 ≡ slot = (let e = t.1 in cc) in subst (λ (n : ℕ). PlacedFault order host libs g.name n f) same t.2
 
-abbrev pub own_units : Order → List ℕ → List (List ℕ) → List (List ℕ × ℕ)
-own_units order host libs = units_of (own_segments order host libs)
-
-abbrev pub references_of : Segment → List UnitReference
-references_of s = unit_references s.file s.slot 0 s.records
-
--- the names that further segments request come after those that are requested by the ones before
-pub requested_rest : (order : Order) (host : List ℕ) (libs : List (List ℕ)) (prefix rest : List Segment) → requested_units order host libs (prefix ++ rest) ≡ requested_from (own_units order host libs) (requested_units order host libs prefix) (all_unit_references rest)
-unfolding requested_units
-requested_rest order host libs prefix rest =
-    ap (λ (segs : List Segment). requested_from (own_units order host libs) [] (all_unit_references segs)) (sym (append_assoc (own_segments order host libs) prefix rest))
-    ∙ (ap (λ (gs : List UnitReference). requested_from (own_units order host libs) [] gs) (flat_map-append references_of (own_segments order host libs ++ prefix) rest)
-    ∙ requested-append (own_units order host libs) [] (all_unit_references (own_segments order host libs ++ prefix)) (all_unit_references rest))
-
-requested_more : (order : Order) (host : List ℕ) (libs : List (List ℕ)) (prefix : List Segment) (s : Segment) → requested_units order host libs (prefix ++ s ∷ []) ≡ requested_from (own_units order host libs) (requested_units order host libs prefix) (references_of s)
-requested_more order host libs prefix s =
-    requested_rest order host libs prefix (s ∷ []) ∙ ap (λ (gs : List UnitReference). requested_from (own_units order host libs) (requested_units order host libs prefix) gs) (append-nil (references_of s))
-
 -- 3. all rounds
 abbrev pub Place : Type 0
 Place = Step × Fault
@@ -187,31 +161,25 @@ tagged step l = least_map (λ f. (step, f)) l
 abbrev FromRound : Order → List ℕ → List (List ℕ) → ℕ → Place → Type 0
 FromRound order host libs k p = (j : ℕ) × (f : Fault) × (k ≤ j) × (p ≡ (OfAdded j, f)) × InRound order host libs j f
 
-abbrev pub rest_of : Order → List ℕ → List (List ℕ) → List ℕ → ℕ → List UnitReference → RoundsOutcome
-rest_of order host libs left k queue = rounds_from order host libs (own_units order host libs) left k queue
-
 -- the round that has this name, and this slot or none
 the_round : OneStop → (order : Order) (host : List ℕ) (libs : List (List ℕ)) (prefix rest : List Segment) (k : ℕ) (g : UnitReference) (left : Option ℕ)
-    → added_segments order host libs ≡ prefix ++ rest → k ≡ length prefix → slice_get (requested_units order host libs prefix) k ≡ Some g → slice_get (empty_slots order host) k ≡ left
+    → IsTurn order host libs prefix rest k g left
     → Least (Precedes (OfAdded k)) (InRound order host libs k) (round_fault order host libs g left)
-the_round law order host libs prefix rest k g left is at named slot_is = least_same to from (round_least law order host libs k g left)
+the_round law order host libs prefix rest k g left turn = least_same to from (round_least law order host libs k g left)
   where
-    prefix_is : take k (added_segments order host libs) ≡ prefix
-    prefix_is = ap (λ (ss : List Segment). take k ss) is ∙ (ap (λ (n : ℕ). take n (prefix ++ rest)) at ∙ take_prefix prefix rest)
-
     first : slice_get (requested_units order host libs (take k (added_segments order host libs))) k ≡ Some g
-    first = ap (λ (ss : List Segment). slice_get (requested_units order host libs ss) k) prefix_is ∙ named
+    first = ap (λ (ss : List Segment). slice_get (requested_units order host libs ss) k) (segments_before order host libs prefix rest k turn.all turn.many) ∙ turn.name
 
     within : k ≤ length (added_segments order host libs)
-    within = let n = ap (λ (ss : List Segment). length ss) is in let m = length-append prefix rest in omega (arith, n, m, at)
+    within = let n = ap (λ (ss : List Segment). length ss) turn.all in let m = length-append prefix rest in omega (arith, n, m, turn.many)
 
     to : (f : Fault) → RoundHas order host libs g left f → InRound order host libs k f
-    to f h = (g, (within, first), subst (λ (o : Option ℕ). RoundHas order host libs g o f) (sym slot_is) h)
+    to f h = (g, (within, first), subst (λ (o : Option ℕ). RoundHas order host libs g o f) (sym turn.slot_is) h)
 
     from : (f : Fault) → InRound order host libs k f → RoundHas order host libs g left f
     from f t =
         let same : t.0 ≡ g = (let e = t.1.1 in cc (e, first)) in
-        subst (λ (o : Option ℕ). RoundHas order host libs g o f) slot_is (subst (λ (h : UnitReference). RoundHas order host libs h (slice_get (empty_slots order host) k) f) same t.2)
+        subst (λ (o : Option ℕ). RoundHas order host libs g o f) turn.slot_is (subst (λ (h : UnitReference). RoundHas order host libs h (slice_get (empty_slots order host) k) f) same t.2)
 
 -- no round follows the one after the last that added a segment
 last_is : (order : Order) (host : List ℕ) (libs : List (List ℕ)) (prefix : List Segment) (k j : ℕ) (f : Fault) → added_segments order host libs ≡ prefix → k ≡ length prefix → k ≤ j → InRound order host libs j f → j ≡ k
@@ -232,115 +200,54 @@ no_name : (order : Order) (host : List ℕ) (libs : List (List ℕ)) (prefix : L
 no_name order host libs prefix k is at none p t =
     let same : t.0 ≡ k = last_is order host libs prefix k t.0 t.1 is at t.2 t.4 in
     let named = (subst (λ (n : ℕ). InRound order host libs n t.1) same t.4).1.1 in
-    let prefix_is : take k (added_segments order host libs) ≡ prefix =
-    ap (λ (ss : List Segment). take k ss) (is ∙ sym (append-nil prefix)) ∙ (ap (λ (n : ℕ). take n (prefix ++ [])) at ∙ take_prefix prefix []) in
+    let prefix_is = segments_before order host libs prefix [] k (is ∙ sym (append-nil prefix)) at in
     let first = ap (λ (ss : List Segment). slice_get (requested_units order host libs ss) k) prefix_is ∙ none in
     cc
 
--- the rounds from one on, with the faults' steps
-abbrev RoundsHave : Order → List ℕ → List (List ℕ) → List ℕ → Type 0
-RoundsHave order host libs left =
-    (prefix : List Segment) (used : List ℕ) (k : ℕ) (queue : List UnitReference)
-    → added_segments order host libs ≡ prefix ++ (rest_of order host libs left k queue).added → k ≡ length prefix → empty_slots order host ≡ used ++ left → k ≡ length used → requested_units order host libs prefix ≡ queue
-    → (o : Option Place) × Least Earlier (FromRound order host libs k) o × (option_map (λ (x : Place). x.1) o ≡ (rest_of order host libs left k queue).fault)
-
--- the slot that is used next
-pub next_slot : (xs ys : List ℕ) (k : ℕ) → k ≡ length xs → slice_get (xs ++ ys) k ≡ slice_get ys 0
-next_slot xs ys k e = ap (λ (n : ℕ). slice_get (xs ++ ys) n) e ∙ go xs
-  where
-    go : (zs : List ℕ) → slice_get (zs ++ ys) (length zs) ≡ slice_get ys 0
-    go [] = refl
-    go (z ∷ zs) = go zs
+-- the first fault of the rounds from one on, with its step
+abbrev RoundsHave : Order → List ℕ → List (List ℕ) → ℕ → RoundsOutcome → Type 0
+RoundsHave order host libs k r =
+    (o : Option Place) × Least Earlier (FromRound order host libs k) o × (option_map (λ (x : Place). x.1) o ≡ r.fault)
 
 quiet : {S : Fault → Type 0} {B : Fault → Fault → Type 0} → Least B S None → (f : Fault) → S f → ⊥
 quiet (nothing n) f s = n f s
 
-abbrev pub of_segment : Order → List ℕ → List (List ℕ) → List ℕ → ℕ → List UnitReference → Option Segment → RoundsOutcome
-of_segment order host libs left k queue None = record { added = []; fault = None }
-of_segment order host libs left k queue (Some s) = after s (rest_of order host libs left (k + 1) (requested_from (own_units order host libs) queue (references_of s)))
-
-abbrev pub of_fault : Order → List ℕ → List (List ℕ) → List ℕ → ℕ → List UnitReference → Option Segment → Option Fault → RoundsOutcome
-of_fault order host libs left k queue segment (Some fault) = record { added = []; fault = Some fault }
-of_fault order host libs left k queue segment None = of_segment order host libs left k queue segment
-
-abbrev pub of_name : Order → List ℕ → List (List ℕ) → ℕ → List ℕ → ℕ → List UnitReference → Option UnitReference → RoundsOutcome
-of_name order host libs slot left k queue None = record { added = []; fault = None }
-of_name order host libs slot left k queue (Some g) = of_fault order host libs left k queue (added_segment order host libs g slot) (placed_fault order host libs g slot)
-
--- the fault that ends the rounds, with these slots left, is the smallest that applies from this
--- round on
-rounds_have : OneStop → (order : Order) (host : List ℕ) (libs : List (List ℕ)) (left : List ℕ) → RoundsHave order host libs left
-rounds_have law order host libs [] prefix used k queue is at slots_are used_at queue_is = go (slice_get queue k) refl
+-- that of a round without a fault is that of the rounds after it
+round_more : (order : Order) (host : List ℕ) (libs : List (List ℕ)) (k : ℕ) (s : Segment) (rest : RoundsOutcome)
+    → ((f : Fault) → InRound order host libs k f → ⊥) → RoundsHave order host libs (k + 1) rest
+    → RoundsHave order host libs k (after s rest)
+round_more order host libs k s rest none r = (r.0, least_same to from r.1, r.2)
   where
-    ends : added_segments order host libs ≡ prefix
-    ends = is ∙ append-nil prefix
+    to : (p : Place) → FromRound order host libs (k + 1) p → FromRound order host libs k p
+    to p t = (t.0, t.1, (let a = t.2 in omega (arith, a)), t.3, t.4)
 
-    go : (x : Option UnitReference) → slice_get queue k ≡ x → (o : Option Place) × Least Earlier (FromRound order host libs k) o × (option_map (λ (p : Place). p.1) o ≡ option_map (unplaced_fault order libs) x)
-    go None e = (None, nothing (no_name order host libs prefix k ends at (ap (λ (r : List UnitReference). slice_get r k) queue_is ∙ e)), refl)
-    go (Some g) e = (
-      Some (OfAdded k, unplaced_fault order libs g),
-      last_round order host libs prefix k (Some (unplaced_fault order libs g)) ends at (the_round law order host libs prefix [] k g None is at (ap (λ (r : List UnitReference). slice_get r k) queue_is ∙ e) (ap (λ (xs : List ℕ). slice_get xs k) slots_are ∙ next_slot used [] k used_at)),
-      refl,
-    )
-rounds_have law order host libs (slot ∷ left) prefix used k queue is at slots_are used_at queue_is = go (rounds_have law order host libs left) (slice_get queue k) refl is
-  where
-    Have : RoundsOutcome → Type 0
-    Have r = (o : Option Place) × Least Earlier (FromRound order host libs k) o × (option_map (λ (x : Place). x.1) o ≡ r.fault)
-
-    slot_at : slice_get (empty_slots order host) k ≡ Some slot
-    slot_at = ap (λ (xs : List ℕ). slice_get xs k) slots_are ∙ next_slot used (slot ∷ left) k used_at
-
-    named : (g : UnitReference) → slice_get queue k ≡ Some g → slice_get (requested_units order host libs prefix) k ≡ Some g
-    named g e = ap (λ (r : List UnitReference). slice_get r k) queue_is ∙ e
-
-    segment : RoundsHave order host libs left → (g : UnitReference) → slice_get queue k ≡ Some g → (o : Option Segment) → added_segments order host libs ≡ prefix ++ (of_segment order host libs left k queue o).added → ((f : Fault) → InRound order host libs k f → ⊥) → Have (of_segment order host libs left k queue o)
-    segment later g e None is none = (None, nothing (λ p t. none t.1 (subst (λ (n : ℕ). InRound order host libs n t.1) (last_is order host libs prefix k t.0 t.1 (is ∙ append-nil prefix) at t.2 t.4) t.4)), refl)
-    segment later g e (Some s) is none = (r.0, least_same to from r.1, r.2)
-      where
-        r : (o : Option Place) × Least Earlier (FromRound order host libs (k + 1)) o × (option_map (λ (x : Place). x.1) o ≡ (rest_of order host libs left (k + 1) (requested_from (own_units order host libs) queue (references_of s))).fault)
-        r =
-            later (prefix ++ s ∷ []) (used ++ slot ∷ []) (k + 1) (requested_from (own_units order host libs) queue (references_of s))
-            (is ∙ sym (append_assoc prefix (s ∷ []) (rest_of order host libs left (k + 1) (requested_from (own_units order host libs) queue (references_of s))).added))
-            (let l = longer prefix s in omega (arith, l, at))
-            (slots_are ∙ sym (append_assoc used (slot ∷ []) left))
-            (let l = longer used slot in omega (arith, l, used_at))
-            (requested_more order host libs prefix s ∙ ap (λ (xs : List UnitReference). requested_from (own_units order host libs) xs (references_of s)) queue_is)
-
-        to : (p : Place) → FromRound order host libs (k + 1) p → FromRound order host libs k p
-        to p t = (t.0, t.1, (let a = t.2 in omega (arith, a)), t.3, t.4)
-
-        from : (p : Place) → FromRound order host libs k p → FromRound order host libs (k + 1) p
-        from p t = elim (cases_lt k t.0) [
-          | inl h ↦ (t.0, t.1, omega (arith, h), t.3, t.4)
-          | inr h ↦ absurd (none t.1 (subst (λ (n : ℕ). InRound order host libs n t.1) (let a = t.2 in omega (arith, a, h)) t.4))
-        ]
-
-    fault : RoundsHave order host libs left → (g : UnitReference) → slice_get queue k ≡ Some g → (o : Option Fault) → placed_fault order host libs g slot ≡ o
-        → added_segments order host libs ≡ prefix ++ (of_fault order host libs left k queue (added_segment order host libs g slot) o).added → Have (of_fault order host libs left k queue (added_segment order host libs g slot) o)
-    fault later g e (Some f) p is = (
-      Some (OfAdded k, f),
-      last_round order host libs prefix k (Some f) (is ∙ append-nil prefix) at
-          (subst (λ (o : Option Fault). Least (Precedes (OfAdded k)) (InRound order host libs k) o) p (the_round law order host libs prefix [] k g (Some slot) is at (named g e) slot_at)),
-      refl,
-    )
-    fault later g e None p is =
-        segment later g e (added_segment order host libs g slot) is
-        (quiet (subst (λ (o : Option Fault). Least (Precedes (OfAdded k)) (InRound order host libs k) o) p (the_round law order host libs prefix _ k g (Some slot) is at (named g e) slot_at)))
-
-    go : RoundsHave order host libs left → (x : Option UnitReference) → slice_get queue k ≡ x → added_segments order host libs ≡ prefix ++ (of_name order host libs slot left k queue x).added → Have (of_name order host libs slot left k queue x)
-    go later None e is = (None, nothing (no_name order host libs prefix k (is ∙ append-nil prefix) at (ap (λ (r : List UnitReference). slice_get r k) queue_is ∙ e)), refl)
-    go later (Some g) e is = fault later g e (placed_fault order host libs g slot) refl is
-
--- the rounds begin with the names that the host's own segments request
-pub first_round : (order : Order) (host : List ℕ) (libs : List (List ℕ)) → rounds order host libs ≡ rest_of order host libs (empty_slots order host) 0 (requested_units order host libs [])
-unfolding rounds requested_units
-first_round order host libs =
-    ap (λ (segs : List Segment). rest_of order host libs (empty_slots order host) 0 (requested_from (own_units order host libs) [] (all_unit_references segs))) (sym (append-nil (own_segments order host libs)))
+    from : (p : Place) → FromRound order host libs k p → FromRound order host libs (k + 1) p
+    from p t = elim (cases_lt k t.0) [
+      | inl h ↦ (t.0, t.1, omega (arith, h), t.3, t.4)
+      | inr h ↦ absurd (none t.1 (subst (λ (n : ℕ). InRound order host libs n t.1) (let a = t.2 in omega (arith, a, h)) t.4))
+    ]
 
 -- the fault that ends the rounds is the smallest that applies in any of them, by round and then by
 -- fault
 pub step_6 : OneStop → (order : Order) (host : List ℕ) (libs : List (List ℕ)) → (o : Option Place) × Least Earlier (λ p. (k : ℕ) × (f : Fault) × (p ≡ (OfAdded k, f)) × InRound order host libs k f) o × (option_map (λ (x : Place). x.1) o ≡ added_fault order host libs)
 step_6 law order host libs =
-    let same = first_round order host libs in
-    let r = rounds_have law order host libs (empty_slots order host) [] [] 0 (requested_units order host libs []) (ap (λ (x : RoundsOutcome). x.added) same) refl refl refl refl in
-    (r.0, least_same (λ p t. (t.0, t.1, t.3, t.4)) (λ p t. (t.0, t.1, omega arith, t.2, t.3)) r.1, r.2 ∙ ap (λ (x : RoundsOutcome). x.fault) (sym same))
+    (r.0, least_same (λ p t. (t.0, t.1, t.3, t.4)) (λ p t. (t.0, t.1, omega arith, t.2, t.3)) r.1, r.2)
+  where
+    here : (prefix rest : List Segment) (k : ℕ) (g : UnitReference) (slot : Option ℕ) (o : Option Fault)
+        → IsTurn order host libs prefix rest k g slot → round_fault order host libs g slot ≡ o
+        → Least (Precedes (OfAdded k)) (InRound order host libs k) o
+    here prefix rest k g slot o turn is =
+        subst (λ (o : Option Fault). Least (Precedes (OfAdded k)) (InRound order host libs k) o) is
+        (the_round law order host libs prefix rest k g slot turn)
+
+    r : RoundsHave order host libs 0 (rounds order host libs)
+    r =
+        all_rounds order host libs (RoundsHave order host libs)
+        (λ prefix k is at none. (None, nothing (no_name order host libs prefix k is at none), refl))
+        (λ prefix k g slot f turn is. (
+          Some (OfAdded k, f),
+          last_round order host libs prefix k (Some f) (turn.all ∙ append-nil prefix) turn.many (here prefix [] k g slot (Some f) turn is),
+          refl,
+        ))
+        (λ prefix k g slot s rest turn fits from later.
+        round_more order host libs k s rest (quiet (here prefix (s ∷ rest.added) k g (Some slot) None turn fits)) later)

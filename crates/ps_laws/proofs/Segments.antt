@@ -1,5 +1,5 @@
 -- The segments of a link, one slot after another.
-use Rattle.std.proofs.Common.{◌≡◌, ℕ, ◌+◌, ◌<◌, ◌≤◌, List, map, Option, Some, sym, ap, subst, arith}
+use Rattle.std.proofs.Common.{◌≡◌, ℕ, ◌+◌, ◌<◌, ◌≤◌, List, map, Option, Some, sym, subst, arith}
 use Rattle.std.specs.Prelude.{◌==◌}
 use Rattle.std.specs.List.{slice_get, find}
 use Rattle.std.specs.Option.{option_and_then}
@@ -8,21 +8,15 @@ use Rattle.ps_codefile.specs.Dictionary.{slots}
 use Rattle.ps_resolve.specs.Added.{segments, segment_at}
 use Rattle.ps_resolve.specs.Standing.Phrases.{SomeItem}
 use Rattle.ps_resolve.specs.Standing.Segments.{IsSegment, SomeSegment}
-use Rattle.ps_codefile.specs.declared.entry.Role.{Role}
 use Rattle.ps_resolve.specs.Searches.{first_of}
-use Rattle.ps_resolve.specs.Sources.{Segment, segment_from, own_segment}
+use Rattle.ps_resolve.specs.Sources.{Segment, own_segment}
 use Rattle.ps_resolve.specs.Linkable.{AscendFrom}
-use Rattle.ps_resolve.proofs.EachSegment.{is_made}
 pub use Rattle.ps_resolve.proofs.ReadingKnown.{ascend}
 use Rattle.ps_resolve.proofs.ReadingKnown.{own_parts, slot_parts}
 use Rattle.ps_laws.proofs.Least.{Least, least_same, least_then, least_within, first_of_filter_map}
 use Rattle.ps_laws.proofs.Looking.{find_some}
 use Rattle.ps_words.specs.declared.order.Order.{Order}
 use Rattle.ps_words.specs.declared.fault.Fault.{Fault}
-
--- a segment is in the slot that it is of, and has the name and the role that it is read with
-pub from_slot : (order : Order) (host : List ℕ) (libs : List (List ℕ)) (slot : ℕ) (name : List ℕ) (r : Role) (at : ℕ × ℕ) (s : Segment) → segment_from order host libs slot name r at ≡ Some s → (s.slot ≡ slot) × (s.name ≡ name) × (s.role ≡ r)
-from_slot order host libs slot name r at s h = let is = (is_made order host libs slot name r at s h).is in (ap (λ (q : Segment). q.slot) is, ap (λ (q : Segment). q.name) is, ap (λ (q : Segment). q.role) is)
 
 pub own_in_slot : (order : Order) (host : List ℕ) (libs : List (List ℕ)) (slot : ℕ) (s : Segment) → own_segment order host libs slot ≡ Some s → s.slot ≡ slot
 own_in_slot order host libs slot s h = (own_parts order host libs slot s h).0

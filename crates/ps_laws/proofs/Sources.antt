@@ -1,6 +1,6 @@
 -- The first fault of the sources is the smallest that is.
 use Rattle.std.proofs.Common.{◌≡◌, ℕ, ◌+◌, ◌-◌, ◌*◌, ◌<◌, ◌≤◌, List, [], ◌∷◌, length, Option, Some, None, Result, Ok, Err, Bool, true, false, refl, sym, ap, subst, ◌∙◌, inl, inr, arith}
-use Rattle.std.specs.Prelude.{◌↔◌, slice_index, ◌⊎◌, ◌≢◌, if◌then◌else◌, nat_lt, not, ◌&&◌, ◌||◌, ◌==◌, nat_le, ◌%◌}
+use Rattle.std.specs.Prelude.{◌↔◌, slice_index, ◌⊎◌, ◌≢◌, if◌then◌else◌, nat_lt, not, ◌&&◌, ◌||◌, ◌==◌, nat_le}
 use Rattle.std.specs.Bool.{Decides}
 use Rattle.std.specs.List.{range_with_len, enumerate_from, slice_get, list_any, filter_map, find, list_all, cons_option}
 use Rattle.std.specs.Option.{option_or, option_map, option_and_then, option_map_or}
@@ -9,6 +9,7 @@ use Rattle.std.specs.Str.{bytes_eq}
 use Rattle.std.proofs.lemmas.Bool.{cases_lt, false≢true}
 use Rattle.std.proofs.Common.{leb-true, le-leb, unwrap_or, is_none}
 use Rattle.std.proofs.lemmas.Bool.Decides.{Decides-at, Decides-ltb, Decides-and, Decides-or, Decides-not, Decides-like, Decides-eqb}
+use Rattle.std.proofs.lemmas.Option.{none-some, same_Some}
 use Rattle.std.proofs.lemmas.Slice.Eq.{bytes_eq-Decides}
 use Rattle.ps_codefile.specs.Dictionary.{slots, entry_at, role_of, code_of, information_of, is_filled}
 use Rattle.ps_codefile.specs.Procedures.{table_of, procedures, content_of, dictionary_start, dictionary_len, is_placed, numbers, tables, tables_fault}
@@ -29,7 +30,9 @@ use Rattle.ps_words.specs.FaultPlaces.{in_slot, in_record}
 use Rattle.ps_laws.proofs.Least.{Least, nothing, this, Precedes, least_same, least_or, least_if, least_then, least_range, least_items, least_guard}
 use Rattle.ps_resolve.specs.Standing.Rounds.{PlacedFault}
 use Rattle.ps_laws.proofs.Steps.{Ranked, because, any_of_range, any_lesser}
+use Rattle.ps_laws.proofs.Items.{not_apart}
 use Rattle.ps_laws.proofs.Looking.{of_test}
+use Rattle.ps_laws.proofs.Parts.{code_errs}
 use Rattle.ps_words.specs.declared.order.Order.{Order}
 use Rattle.ps_codefile.specs.declared.entry.Role.TheVariants as role
 use Rattle.ps_words.specs.declared.fault.Reason.{Reason}
@@ -125,10 +128,7 @@ entries_rows order name lib = go (list_any (λ i. is_named order name lib i && l
     First y = (i : ℕ) × (0 ≤ i) × (i < 0 + 16) × (IsNamed order name lib i × (y ≡ i))
 
     single : Decides false (Duplicate order name lib) → (i j : ℕ) → i < 16 → j < 16 → IsNamed order name lib i → IsNamed order name lib j → i ≡ j
-    single d i j a b m n = elim (cases_lt i j) [
-      | inl h ↦ absurd (false≢true (d.1 (j, b, (n, (i, h, m)))))
-      | inr h ↦ elim (cases_lt j i) [ inl k ↦ absurd (false≢true (d.1 (i, a, (m, (j, k, n))))) | inr k ↦ omega (arith, h, k) ]
-    ]
+    single d i j a b m n = not_apart i j (λ h. false≢true (d.1 (j, b, (n, (i, h, m))))) (λ h. false≢true (d.1 (i, a, (m, (j, h, n)))))
 
     go : (b : Bool) (o : Option ℕ) → Decides b (Duplicate order name lib) → Least (λ i j. i < j) First o → Least Ranked Has (if b then Some reason.DoubledUnit else option_and_then (λ i. fault_if (not ((entry_at order lib i).kind == 3)) (reason.NotAUnit (entry_at order lib i).kind)) o)
     go true o d l = this reason.DoubledUnit (d.0 refl) least
@@ -171,7 +171,7 @@ chosen order name libs =
     (λ i j a b x y h s t. let p = ap (λ (z : ℕ × List ℕ). z.0) s.1 in let q = ap (λ (z : ℕ × List ℕ). z.0) t.1 in omega (arith, p, q, h)))
 
 -- the library's entries of a name
-abbrev Found : Order → List ℕ → List (List ℕ) → ℕ × List ℕ → Type 0
+abbrev pub Found : Order → List ℕ → List (List ℕ) → ℕ × List ℕ → Type 0
 Found order name libs p = SomeItem libs (λ k lib. HasEntry order name lib × (p ≡ (k, lib)))
 
 -- no library is chosen just where none has an entry of the name
@@ -182,6 +182,22 @@ none_has order name libs = go (chosen_library order name libs) (chosen order nam
     go None (nothing n) = (λ e t. n (t.0, t.1) (t.0, t.1, t.2, (t.3, refl)), λ h. refl)
     go (Some p) (this q s l) = (λ e. absurd (false≢true e), λ h. absurd (h (s.0, s.1, s.2, s.3.0)))
 
+-- the library that is chosen is at its number, has an entry of the name, and no smaller one has
+pub record IsChosen (order : Order) (name : List ℕ) (libs : List (List ℕ)) (p : ℕ × List ℕ) : Type 0 where
+  pub there : slice_get libs p.0 ≡ Some p.1
+  pub has : HasEntry order name p.1
+  pub lesser : (m : ℕ) (other : List ℕ) → m < p.0 → slice_get libs m ≡ Some other → HasEntry order name other → ⊥
+
+pub is_chosen : (order : Order) (name : List ℕ) (libs : List (List ℕ)) (p : ℕ × List ℕ) → Least (λ p q. p.0 < q.0) (Found order name libs) (Some p) → IsChosen order name libs p
+is_chosen order name libs p (this q s l) = record {
+  there = subst (λ (z : ℕ × List ℕ). slice_get libs z.0 ≡ Some z.1) (sym s.3.1) s.2;
+  has = subst (λ (z : ℕ × List ℕ). HasEntry order name z.1) (sym s.3.1) s.3.0;
+  lesser = λ m other h e k. elim (l (m, other) (m, other, e, (k, refl))) [
+    | inl x ↦ (let y = ap (λ (z : ℕ × List ℕ). z.0) x in omega (arith, y, h))
+    | inr x ↦ omega (arith, x, h)
+  ];
+}
+
 -- the first fault of the chosen library's entries of a name is the smallest that applies
 pub entry_least : (order : Order) (name : List ℕ) (libs : List (List ℕ)) (slot : ℕ) → Least (Precedes OfSources) (EntryFault order name libs slot) (entry_fault order name libs slot)
 entry_least order name libs slot = go (chosen_library order name libs) (chosen order name libs)
@@ -191,22 +207,16 @@ entry_least order name libs slot = go (chosen_library order name libs) (chosen o
     go (Some p) (this q s l) =
         least_same to from (because OfSources (in_slot (p.0 + 1) slot) (λ a b h. inr (refl, inr (refl, inr (refl, inr (refl, inl h))))) (entries_rows order name p.1))
       where
-        get : slice_get libs p.0 ≡ Some p.1
-        get = subst (λ (z : ℕ × List ℕ). slice_get libs z.0 ≡ Some z.1) (sym s.3.1) s.2
-
-        does : HasEntry order name p.1
-        does = subst (λ (z : ℕ × List ℕ). HasEntry order name z.1) (sym s.3.1) s.3.0
-
-        lesser : (m : ℕ) (other : List ℕ) → m < p.0 → slice_get libs m ≡ Some other → HasEntry order name other → ⊥
-        lesser m other h e k = elim (l (m, other) (m, other, e, (k, refl))) [ inl x ↦ (let y = ap (λ (z : ℕ × List ℕ). z.0) x in omega (arith, y, h)) | inr x ↦ omega (arith, x, h) ]
+        c : IsChosen order name libs p
+        c = is_chosen order name libs p (this p s l)
 
         to : (f : Fault) → Because (in_slot (p.0 + 1) slot) (EntriesHave order name p.1) f → EntryFault order name libs slot f
-        to f b = (p.0, p.1, get, ((does, lesser), b))
+        to f b = (p.0, p.1, c.there, ((c.has, c.lesser), b))
 
         from : (f : Fault) → EntryFault order name libs slot f → Because (in_slot (p.0 + 1) slot) (EntriesHave order name p.1) f
         from f t = elim (l (t.0, t.1) (t.0, t.1, t.2, (t.3.0.0, refl))) [
           | inl e ↦ subst (λ (z : ℕ × List ℕ). Because (in_slot (z.0 + 1) slot) (EntriesHave order name z.1) f) e t.3.1
-          | inr h ↦ absurd (t.3.0.1 p.0 p.1 h get does)
+          | inr h ↦ absurd (t.3.0.1 p.0 p.1 h c.there c.has)
         ]
 
 -- the tables
@@ -309,9 +319,6 @@ tables_rows order code host = go (nat_lt (length code) (dictionary_len code) || 
 abbrev pub OneStop : Type 0
 OneStop = (order : Order) (bytes : List ℕ) (rs : List Record) (why : Reason) → Stops order bytes rs why ↔ (reading order bytes ≡ (rs, Some why))
 
-abbrev read_of : List Record → Option Reason → List Record × Option Reason
-read_of rs o = (rs, o)
-
 -- the records
 records_least : OneStop → (order : Order) (file : List ℕ) (e : Entry) (k slot : ℕ) → Least (Precedes OfSources) (λ f. (rs : List Record) × (why : Reason) × (f ≡ in_record k slot (length rs) why) × Stops order (information_of file e) rs why) (information_fault order file e k slot)
 records_least law order file e k slot = go (reading order bytes) refl
@@ -320,38 +327,21 @@ records_least law order file e k slot = go (reading order bytes) refl
     bytes = information_of file e
 
     go : (read : List Record × Option Reason) → reading order bytes ≡ read → Least (Precedes OfSources) (λ f. (rs : List Record) × (why : Reason) × (f ≡ in_record k slot (length rs) why) × Stops order (information_of file e) rs why) (option_map (in_record k slot (length read.0)) read.1)
-    go (rs, None) is = nothing (λ f t. clash rs t.0 t.1 (sym is ∙ (law order bytes t.0 t.1).0 t.3))
-      where
-        clash : (rs qs : List Record) (w : Reason) → read_of rs None ≡ read_of qs (Some w) → ⊥
-        clash rs qs w e = let none : None ≡ Some w = ap (λ (p : List Record × Option Reason). p.1) e in cc
-    go (rs, Some why) is = this (in_record k slot (length rs) why) (rs, why, refl, (law order bytes rs why).1 is) (λ f t. inl (t.2 ∙ same t.0 t.1 (sym ((law order bytes t.0 t.1).0 t.3) ∙ is)))
-      where
-        same : (qs : List Record) (w : Reason) → read_of qs (Some w) ≡ read_of rs (Some why) → in_record k slot (length qs) w ≡ in_record k slot (length rs) why
-        same qs w e =
-            let reasons : Some w ≡ Some why = ap (λ (p : List Record × Option Reason). p.1) e in
-            let same_why : w ≡ why = cc in
-            ap (λ (q : List Record). in_record k slot (length q) w) (ap (λ (p : List Record × Option Reason). p.0) e) ∙ ap (in_record k slot (length rs)) same_why
+    go (rs, None) is = nothing (λ f t. none-some t.1 (ap (λ (p : List Record × Option Reason). p.1) (sym is ∙ (law order bytes t.0 t.1).0 t.3)))
+    go (rs, Some why) is =
+        this (in_record k slot (length rs) why) (rs, why, refl, (law order bytes rs why).1 is) (λ f t.
+        let e = sym ((law order bytes t.0 t.1).0 t.3) ∙ is in
+        let records = ap (λ (p : List Record × Option Reason). p.0) e in
+        let same = same_Some t.1 why (ap (λ (p : List Record × Option Reason). p.1) e) in
+        inl (t.2 ∙ ap (λ (q : List Record). in_record k slot (length q) t.1) records ∙ ap (in_record k slot (length rs)) same))
 
 -- a code
-record Mid (r : Result (List ℕ) Reason) : Type 0 where
-  mid : (why : Reason) → r ≡ Err why → (15 ≤ rank why) × (rank why < 18)
-
-mid_if : (b : Bool) {x y : Result (List ℕ) Reason} → Mid x → Mid y → Mid (if b then x else y)
-mid_if true p q = p
-mid_if false p q = q
-
-mid_err : (why : Reason) → (15 ≤ rank why) × (rank why < 18) → Mid (Err why)
-mid_err why h = record { mid = λ other e. subst (λ w. (15 ≤ rank w) × (rank w < 18)) (cc) h }
-
-mid_ok : {code : List ℕ} → Mid (Ok code)
-mid_ok {code} = record { mid = λ why e. absurd (cc) }
+abbrev IsMiddle : Reason → Type 0
+IsMiddle why = (15 ≤ rank why) × (rank why < 18)
 
 -- a code is refused for a reason of rank 15 to 17
-code_mid : (file : List ℕ) (e : Entry) → Mid (code_of file e)
-code_mid file e =
-    mid_if (nat_lt 32767 e.length || ((e.kind == 1 || e.kind == 3) && (e.length % 2 == 1 || nat_lt e.length 4))) (mid_err reason.BadLength (omega arith, omega arith))
-    (mid_if (e.address == 0) (mid_err reason.BadAddress (omega arith, omega arith))
-    (mid_if (nat_lt (length file) (512 * e.address + e.length)) (mid_err reason.Truncated (omega arith, omega arith)) mid_ok))
+code_mid : (file : List ℕ) (e : Entry) (why : Reason) → code_of file e ≡ Err why → IsMiddle why
+code_mid file e = (code_errs IsMiddle (omega arith, omega arith) (omega arith, omega arith) (omega arith, omega arith) file e).held
 
 -- the reasons that apply to tables have rank 18 or 19
 tables_mid : (order : Order) (code : List ℕ) (host : Bool) (why : Reason) → TablesHave order code host why → (18 ≤ rank why) × (rank why < 20)
@@ -373,7 +363,7 @@ late_record k slot n rec why f e = (ap (λ (g : Fault). unwrap_or g.slot g.file)
 
 -- a fault of a code, its tables or its records is from rank 15 on, or of a record
 pub code_late : (order : Order) (file : List ℕ) (k : ℕ) (e : Entry) (slot : ℕ) (r : Role) (f : Fault) → CodeFault order file k e slot r f → Late slot 15 f
-code_late order file k e slot r f (inl t) = late k slot 15 f (λ why h. ((code_mid file e).mid why h).0) t
+code_late order file k e slot r f (inl t) = late k slot 15 f (λ why h. (code_mid file e why h).0) t
 code_late order file k e slot r f (inr t) = elim t.2.1 [
   | inl b ↦ late k slot 15 f (λ why h. let a = (tables_mid order t.0 (is_host r) why h).0 in omega (arith, a)) b
   | inr b ↦ late_record k slot 15 (length b.0) b.1 f b.2

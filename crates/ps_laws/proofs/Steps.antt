@@ -1,6 +1,6 @@
 -- The first fault of each step is the smallest that is.
 use Rattle.std.proofs.Common.{◌≡◌, ℕ, zero, suc, ◌+◌, ◌<◌, ◌≤◌, List, length, Option, Result, Ok, Err, Bool, true, false, refl, sym, subst, inl, inr, arith}
-use Rattle.std.specs.Prelude.{◌⊎◌, if◌then◌else◌, nat_lt, not, ◌&&◌, ◌||◌, ◌==◌, nat_le}
+use Rattle.std.specs.Prelude.{◌⊎◌, if◌then◌else◌, nat_lt, not, ◌&&◌, ◌||◌}
 use Rattle.std.specs.Bool.{Decides}
 use Rattle.std.specs.List.{range_with_len, list_any}
 use Rattle.std.specs.Option.{option_map, option_map_or}
@@ -9,7 +9,7 @@ use Rattle.std.specs.Str.{bytes_eq}
 use Rattle.std.proofs.lemmas.Bool.{cases_lt, false≢true}
 use Rattle.std.proofs.lemmas.Bool.Decides.{Decides-ltb, Decides-and, Decides-or, Decides-not, Decides-like}
 use Rattle.std.proofs.lemmas.Slice.Eq.{bytes_eq-Decides}
-use Rattle.ps_codefile.specs.Dictionary.{slots, is_nameless, OpenedFile, FileOrder, Zero, Ordered, Mixed, file_order, opened_alone, opened_as, opened_beside_as, same_order, entry_at, role_of, role_of_kind}
+use Rattle.ps_codefile.specs.Dictionary.{slots, OpenedFile, FileOrder, Zero, Ordered, Mixed, file_order, opened_alone, opened_as, opened_beside_as, same_order, entry_at, role_of}
 use Rattle.ps_resolve.specs.Standing.Phrases.{Because, SomeBelow}
 use Rattle.ps_resolve.specs.Standing.Hosts.{HostHas, InHost}
 use Rattle.ps_resolve.specs.Standing.Slots.{HasRole, IsUnitSlot, SlotHas, InSlots, InNoHost}
@@ -20,6 +20,7 @@ use Rattle.ps_codefile.specs.declared.entry.Role.{Role}
 use Rattle.ps_resolve.specs.Faults.{host_fault, is_role, slot_reason, slots_fault, no_host_fault, library_reason, library_fault, libraries_fault}
 use Rattle.ps_codefile.specs.Roles.{is_host, is_unit}
 use Rattle.ps_words.specs.FaultPlaces.{in_file, in_slot}
+use Rattle.ps_laws.proofs.Parts.{role_errs}
 use Rattle.ps_laws.proofs.Least.{Least, nothing, this, Precedes, least_same, least_order, least_or, least_if, least_map, least_range, least_each}
 use Rattle.ps_words.specs.declared.order.Order.{Order}
 use Rattle.ps_words.specs.declared.order.Order.TheVariants.{Little, Big}
@@ -159,43 +160,19 @@ step_4 order libs =
     (λ i j a b x y h. because_apart OfLibraries (in_file i) (in_file j) (λ r q. inr (refl, inl h)) x y))
 
 -- 2
-record Low (r : Result Role Reason) : Type 0 where
-  low : (why : Reason) → r ≡ Err why → rank why < 9
-
-low_if : (b : Bool) {x y : Result Role Reason} → Low x → Low y → Low (if b then x else y)
-low_if true p q = p
-low_if false p q = q
-
-low_ok : {r : Role} → Low (Ok r)
-low_ok {r} = record { low = λ why e. absurd (cc) }
-
-low_err : (why : Reason) → rank why < 9 → Low (Err why)
-low_err why h = record { low = λ other e. subst (λ w. rank w < 9) (cc) h }
-
-low_kind : (kind : ℕ) → Low (role_of_kind kind)
-low_kind kind =
-    low_if (kind == 0) low_ok (low_if (kind == 1) low_ok (low_if (kind == 2) (low_err reason.SegmentProcedure (omega arith)) (low_if (kind == 3) low_ok (low_if (kind == 4) (low_err reason.NativeSegment (omega arith)) (low_if (nat_le kind 7) (low_err reason.Intrinsic (omega arith)) (low_err reason.UnknownKind (omega arith)))))))
-
-role_low : (e : Entry) → Low (role_of e)
-role_low e = low_if (e.kind == 3 && (e.address == 0 || e.length == 0) && not (is_nameless e.name)) low_ok (low_if (e.kind == 3 && (e.address == 0 || e.length == 0)) low_ok (low_if (e.length == 0) low_ok (low_kind e.kind)))
+role_low : (e : Entry) (why : Reason) → role_of e ≡ Err why → rank why < 9
+role_low e = (role_errs (λ why. rank why < 9) (omega arith) (omega arith) (omega arith) (omega arith) e).held
 
 -- the test of a role passes just where there is one, and it is Host
 pub host_role : (r : Result Role Reason) → Decides (option_map_or is_host (result_ok r) false) (r ≡ Ok role.Host)
-host_role (Err why) = (λ e. absurd (false≢true e), λ p. absurd (cc))
 host_role (Ok role.Host) = (λ e. refl, λ p. refl)
-host_role (Ok role.Empty) = (λ e. absurd (false≢true e), λ p. absurd (cc))
-host_role (Ok role.Wanted) = (λ e. absurd (false≢true e), λ p. absurd (cc))
-host_role (Ok role.Plain) = (λ e. absurd (false≢true e), λ p. absurd (cc))
-host_role (Ok role.Unit) = (λ e. absurd (false≢true e), λ p. absurd (cc))
+host_role other = (λ e. absurd (false≢true e), λ p. absurd (cc))
 
 -- the test of a role passes just where there is one, and it is Unit or Wanted
 pub unit_role : (r : Result Role Reason) → Decides (option_map_or is_unit (result_ok r) false) ((r ≡ Ok role.Unit) ⊎ (r ≡ Ok role.Wanted))
-unit_role (Err why) = (λ e. absurd (false≢true e), elim [ inl p ↦ absurd (cc) | inr p ↦ absurd (cc) ])
-unit_role (Ok role.Host) = (λ e. absurd (false≢true e), elim [ inl p ↦ absurd (cc) | inr p ↦ absurd (cc) ])
-unit_role (Ok role.Empty) = (λ e. absurd (false≢true e), elim [ inl p ↦ absurd (cc) | inr p ↦ absurd (cc) ])
 unit_role (Ok role.Wanted) = (λ e. inr refl, λ p. refl)
-unit_role (Ok role.Plain) = (λ e. absurd (false≢true e), elim [ inl p ↦ absurd (cc) | inr p ↦ absurd (cc) ])
 unit_role (Ok role.Unit) = (λ e. inl refl, λ p. refl)
+unit_role other = (λ e. absurd (false≢true e), elim [ inl p ↦ absurd (cc) | inr p ↦ absurd (cc) ])
 
 -- the reason that is given for a slot is the one of smallest rank that applies
 slot_rows : (order : Order) (host : List ℕ) (slot : ℕ) → Least Ranked (SlotHas order host slot) (slot_reason order host slot)
@@ -224,7 +201,7 @@ slot_rows order host slot =
     units i = unit_role (role_of (entry_at order host i))
 
     low : (x : Reason) → role_of (entry_at order host slot) ≡ Err x → rank x < 9
-    low x e = (role_low (entry_at order host slot)).low x e
+    low x e = role_low (entry_at order host slot) x e
 
     Second : Reason → Type 0
     Second x = (x ≡ reason.TwoHosts) × (HasRole order host slot role.Host × SomeBelow slot (λ i. HasRole order host i role.Host))

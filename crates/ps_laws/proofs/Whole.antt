@@ -34,29 +34,13 @@ steps = OfHost ∷ OfHost ∷ OfSlots ∷ OfNoHost ∷ OfLibraries ∷ OfSources
 -- a step that is no round is the one at its turn
 turn_back : (s : Step) → turn s ≢ 6 → slice_get steps (turn s) ≡ Some s
 unfolding steps
-turn_back OfHost h = refl
-turn_back OfSlots h = refl
-turn_back OfNoHost h = refl
-turn_back OfLibraries h = refl
-turn_back OfSources h = refl
 turn_back (OfAdded k) h = absurd (h refl)
-turn_back OfDefinitions h = refl
-turn_back OfPrivates h = refl
-turn_back OfDataSize h = refl
-turn_back OfReferences h = refl
+turn_back other h = refl
 
 -- the turns of the steps are 1 to 10
 turn_bounds : (s : Step) → (1 ≤ turn s) × (turn s < 11)
 turn_bounds OfHost = (omega arith, omega arith)
-turn_bounds OfSlots = (omega arith, omega arith)
-turn_bounds OfNoHost = (omega arith, omega arith)
-turn_bounds OfLibraries = (omega arith, omega arith)
-turn_bounds OfSources = (omega arith, omega arith)
-turn_bounds (OfAdded k) = (omega arith, omega arith)
-turn_bounds OfDefinitions = (omega arith, omega arith)
-turn_bounds OfPrivates = (omega arith, omega arith)
-turn_bounds OfDataSize = (omega arith, omega arith)
-turn_bounds OfReferences = (omega arith, omega arith)
+turn_bounds other = (omega arith, omega arith)
 
 same_turn : (s t : Step) → turn s ≡ turn t → turn t ≢ 6 → s ≡ t
 same_turn s t e h = let a = turn_back s (λ x. h (sym e ∙ x)) in let b = turn_back t h in cc
@@ -64,28 +48,12 @@ same_turn s t e h = let a = turn_back s (λ x. h (sym e ∙ x)) in let b = turn_
 -- a step of turn 6 is a round
 round_of : (s : Step) → turn s ≡ 6 → (k : ℕ) × (s ≡ OfAdded k)
 round_of (OfAdded k) e = (k, refl)
-round_of OfHost e = absurd (omega (arith, e))
-round_of OfSlots e = absurd (omega (arith, e))
-round_of OfNoHost e = absurd (omega (arith, e))
-round_of OfLibraries e = absurd (omega (arith, e))
-round_of OfSources e = absurd (omega (arith, e))
-round_of OfDefinitions e = absurd (omega (arith, e))
-round_of OfPrivates e = absurd (omega (arith, e))
-round_of OfDataSize e = absurd (omega (arith, e))
-round_of OfReferences e = absurd (omega (arith, e))
+round_of other e = absurd (omega (arith, e))
 
 -- a key begins with its step's turn
 key_turn : (s : Step) (f : Fault) → (rest : List ℕ) × (key s f ≡ turn s ∷ rest)
 key_turn OfHost f = (_, refl)
-key_turn OfSlots f = (_, refl)
-key_turn OfNoHost f = (_, refl)
-key_turn OfLibraries f = (_, refl)
-key_turn OfSources f = (_, refl)
-key_turn (OfAdded k) f = (_, refl)
-key_turn OfDefinitions f = (_, refl)
-key_turn OfPrivates f = (_, refl)
-key_turn OfDataSize f = (_, refl)
-key_turn OfReferences f = (_, refl)
+key_turn other f = (_, refl)
 
 -- a fault of an earlier turn comes earlier
 earlier_turn : (x y : Place) → turn x.0 < turn y.0 → Earlier x y
@@ -271,29 +239,19 @@ only law host libs f a = go (first_fault host libs) refl
 
 -- what is computed for the steps of reading, and what applies in them
 turn_read : (s : Step) → is_of_reading s ≡ true → turn s < 7
-turn_read OfHost e = omega arith
-turn_read OfSlots e = omega arith
-turn_read OfNoHost e = omega arith
-turn_read OfLibraries e = omega arith
-turn_read OfSources e = omega arith
-turn_read (OfAdded k) e = omega arith
 turn_read OfDefinitions e = absurd (cc)
 turn_read OfPrivates e = absurd (cc)
 turn_read OfDataSize e = absurd (cc)
 turn_read OfReferences e = absurd (cc)
+turn_read other e = omega arith
 
 -- a step of turn 1 to 6 is one of reading
 read_turn : (s : Step) → turn s < 7 → is_of_reading s ≡ true
-read_turn OfHost h = refl
-read_turn OfSlots h = refl
-read_turn OfNoHost h = refl
-read_turn OfLibraries h = refl
-read_turn OfSources h = refl
-read_turn (OfAdded k) h = refl
 read_turn OfDefinitions h = absurd (omega (arith, h))
 read_turn OfPrivates h = absurd (omega (arith, h))
 read_turn OfDataSize h = absurd (omega (arith, h))
 read_turn OfReferences h = absurd (omega (arith, h))
+read_turn other h = refl
 
 -- where no fault of reading is found, none applies
 pub read : OneStop → (host : List ℕ) (libs : List (List ℕ)) → reading_fault host libs ≡ None → NoneStandsInReading host libs

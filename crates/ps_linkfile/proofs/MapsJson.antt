@@ -4,8 +4,7 @@ use Rattle.std.proofs.lemmas.Option.{unwrap_or-slice_get}
 use Rattle.ps_resolve.specs.Added.{segments, slot_names}
 use Rattle.ps_linkinfo.specs.RecordCounts.{next_of}
 use Rattle.ps_resolve.specs.Privates.{all_allotted, owner_of, total_words}
-use Rattle.ps_resolve.specs.Sources.{Segment, order_of, host_records}
-use Rattle.ps_resolve.specs.Linking.{data_size}
+use Rattle.ps_resolve.specs.Sources.{order_of, host_records}
 use Rattle.ps_resolve.specs.Symbols.{definitions}
 use Rattle.ps_resolve.specs.Plans.{Planned, Origin, origin_of, origin_of_source, IsPlan}
 use Rattle.ps_resolve.specs.declared.definitions.Def.{Def}

@@ -71,9 +71,9 @@ have_edits order known words free (s ∷ ss) [] h = absurd h
 have_edits order known words free (s ∷ ss) (d ∷ ds) h = (h.0.ready, have_edits order known words (free + private_words s.records) ss ds h.1)
 
 -- codes that are patched alike are padded alike
-map_alike : (f g : ℕ → ℕ) → ((p : ℕ) → f p ≡ g p) → (xs : List ℕ) → map f xs ≡ map g xs
+pub map_alike : {Y : Type 0} (f g : ℕ → Y) → ((p : ℕ) → f p ≡ g p) → (xs : List ℕ) → map f xs ≡ map g xs
 map_alike f g h [] = refl
-map_alike f g h (x ∷ xs) = ap (λ y. y ∷ map f xs) (h x) ∙ ap (λ (ys : List ℕ). g x ∷ ys) (map_alike f g h xs)
+map_alike {Y} f g h (x ∷ xs) = ap (λ (y : Y). y ∷ map f xs) (h x) ∙ ap (λ (ys : List Y). g x ∷ ys) (map_alike f g h xs)
 
 tested : (b : Bool) (x y : ℕ) → (b ≡ true → x ≡ y) → cond b x 0 ≡ cond b y 0
 tested true x y h = h refl

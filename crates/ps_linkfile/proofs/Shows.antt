@@ -44,8 +44,7 @@ pub beside_fault : (short : Bool) (of : FileOrder) (file : List ℕ) (why other 
     → (if short then Err reason.ShortFile else opened_beside_as Little file of) ≡ Err other → (if short then Some (in_file 0 reason.ShortFile) else order_fault of) ≡ Some (in_file 0 other)
 beside_fault true of file why other h k = cc
 beside_fault false Zero file why other h k = cc
-beside_fault false (Ordered order) file why other h k = cc
-beside_fault false Mixed file why other h k = cc
+beside_fault false kind file why other h k = cc
 
 pub shown_is : (file : List ℕ) (found : FileOrder) (o : OpenedFile) → found ≡ file_order file → o ≡ record { order = known_order (file_order file); file = file } → shown_file found o.order o.file ≡ show_of file
 unfolding show_of

@@ -1,7 +1,8 @@
 -- The sources of a plan, seen as codes of the file.
-use Rattle.std.proofs.Common.{◌≡◌, ℕ, zero, suc, ◌+◌, ◌≤◌, ◌<◌, List, [], ◌∷◌, length, map, get_or, drop, Some, false, refl, sym, ◌∙◌, ap, subst, add-one}
+use Rattle.std.proofs.Common.{◌≡◌, ℕ, ◌+◌, ◌≤◌, ◌<◌, List, [], ◌∷◌, length, map, get_or, drop, Some, false, refl, sym, ◌∙◌, ap, subst}
 use Rattle.std.specs.Prelude.{All, slice_get}
 use Rattle.std.proofs.lemmas.List.{drop-map, drop_more, length-map, get_or-map}
+use Rattle.std.proofs.lemmas.Option.{get_or_from_slice_get, slice_get_within}
 use Rattle.ps_words.specs.declared.edit.Edit.{Edit}
 use Rattle.ps_codefile.specs.Dictionary.{max_code_len}
 use Rattle.ps_resolve.specs.Plans.{Origin, origin_of_source}
@@ -69,13 +70,8 @@ start_at ss starts i h lt =
     ∙ ap (λ (c : Extent). block_of all c.slot) (get_or-map extent_of_source ss i no_source (extent_of_source no_source) lt))
 
 -- an item and those after it
-got_next : {X : Type 0} (xs : List X) (i : ℕ) (x : X) → slice_get xs i ≡ Some x → drop i xs ≡ x ∷ drop (suc i) xs
-got_next [] i x h = cc
-got_next {X} (y ∷ ys) zero x h = let is : y ≡ x = cc in ap (λ (z : X). z ∷ ys) is
-got_next (y ∷ ys) (suc i) x h = got_next ys i x h
-
 pub got : {X : Type 0} (xs : List X) (i : ℕ) (x : X) → slice_get xs i ≡ Some x → drop i xs ≡ x ∷ drop (i + 1) xs
-got xs i x h = got_next xs i x h ∙ ap (λ j. x ∷ drop j xs) (sym (add-one i))
+got {X} xs i x h = drop_more xs i x (slice_get_within xs i x h) ∙ ap (λ (y : X). y ∷ drop (i + 1) xs) (get_or_from_slice_get xs i x x h)
 
 -- a source and its edits
 pub is_at : (ss : List Source) (os : List Origin) (ds : List (List Edit)) (i : ℕ) (d : List Edit) → map origin_of_source ss ≡ os → i < length ss → slice_get ds i ≡ Some d → IsAt os ds i (origin_of_source (get_or ss i no_source)) d

@@ -12,7 +12,7 @@ use Rattle.ps_linkinfo.specs.RecordCounts.{is_unit_reference, units_in as units_
 use Rattle.ps_resolve.specs.Added.{is_already_known, unit_references, all_unit_references, requested_from, unplaced_fault, placed_fault, added_segment, RoundsOutcome, after, rounds_from}
 use Rattle.ps_words.specs.declared.fault.Fault.{Fault}
 use Rattle.ps_linkinfo.specs.declared.record.Body.{Body}
-use Rattle.ps_linkinfo.specs.declared.record.Body.TheVariants.{UnitRef, PublRef, PrivRef, PublDef, ConstDef, Eof}
+use Rattle.ps_linkinfo.specs.declared.record.Body.TheVariants.{UnitRef}
 use Rattle.ps_linkinfo.specs.declared.record.LinkRecord.{LinkRecord as Record}
 use Rattle.ps_resolve.proofs.Apart.{one_more}
 use Rattle.ps_resolve.specs.Sources.{Segment}
@@ -26,11 +26,7 @@ Enqueues units file slot all old queue n rs = take 10 (requested_from units queu
 -- what requests a unit is counted
 asks_is : (b : Body) → is_unit_reference b ≡ is_unit_reference b
 asks_is (UnitRef refs) = refl
-asks_is (PublRef refs) = refl
-asks_is (PrivRef words refs) = refl
-asks_is (PublDef value) = refl
-asks_is (ConstDef value) = refl
-asks_is (Eof next) = refl
+asks_is other = refl
 
 -- where none requests a unit, there is no reference to one
 pub no_references : (file slot n : ℕ) (rs : List Record) → units_asked rs ≡ 0 → unit_references file slot n rs ≡ []

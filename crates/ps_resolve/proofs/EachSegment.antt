@@ -53,17 +53,23 @@ module _ (order : Order) (host : List ℕ) (libs : List (List ℕ)) where
       by (Ok code) e k = record { code = code; given = e; is = sym (same_Some _ _ k) }
 
   -- a slot's own segment is made from its source, by its role
-  pub own_made : (slot : ℕ) (s : Segment) → own_segment order host libs slot ≡ Some s → (r : Role) × (result_ok (role_of (entry_at order host slot)) ≡ Some r) × (place : ℕ × ℕ) × IsMade order host libs slot (entry_at order host slot).name r place s
+  pub own_made : (slot : ℕ) (s : Segment) → own_segment order host libs slot ≡ Some s
+      → (r : Role) × (result_ok (role_of (entry_at order host slot)) ≡ Some r)
+      × (place : ℕ × ℕ) × IsMade order host libs slot (entry_at order host slot).name r place s
+      × (source_of order host libs slot r ≡ Some place)
   own_made slot s h =
       let name = (entry_at order host slot).name in
       option_and_then_some (λ (r : Role). option_and_then (segment_from order host libs slot name r) (source_of order host libs slot r)) (result_ok (role_of (entry_at order host slot))) s h (λ r is rest.
-      option_and_then_some (segment_from order host libs slot name r) (source_of order host libs slot r) s rest (λ place there from. (r, is, place, is_made slot name r place s from)))
+      option_and_then_some (segment_from order host libs slot name r) (source_of order host libs slot r) s rest (λ place there from. (r, is, place, is_made slot name r place s from, there)))
 
   -- an added segment is made from its unit, and marked
-  pub added_made : (g : UnitReference) (slot : ℕ) (s : Segment) → added_segment order host libs g slot ≡ Some s → (place : ℕ × ℕ) × (q : Segment) × (s ≡ as_added q) × IsMade order host libs slot g.name Wanted place q
+  pub added_made : (g : UnitReference) (slot : ℕ) (s : Segment) → added_segment order host libs g slot ≡ Some s
+      → (place : ℕ × ℕ) × (q : Segment) × (s ≡ as_added q) × IsMade order host libs slot g.name Wanted place q
+      × (unit_source order g.name libs ≡ Some place)
   added_made g slot s h =
       let marked = some_mapped as_added (option_and_then (segment_from order host libs slot g.name Wanted) (unit_source order g.name libs)) s h in
-      option_and_then_some (segment_from order host libs slot g.name Wanted) (unit_source order g.name libs) marked.0 marked.1 (λ place there from. (place, marked.0, marked.2, is_made slot g.name Wanted place marked.0 from))
+      option_and_then_some (segment_from order host libs slot g.name Wanted) (unit_source order g.name libs) marked.0 marked.1
+      (λ place there from. (place, marked.0, marked.2, is_made slot g.name Wanted place marked.0 from, there))
 
   -- 2. what holds of each
   -- of those that the rounds add P holds where it holds of the unit of each name of which Q holds,

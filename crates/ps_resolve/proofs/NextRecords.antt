@@ -7,7 +7,7 @@ use Rattle.ps_linkinfo.specs.Records.{refs_of}
 use Rattle.ps_linkinfo.specs.RecordCounts.{is_private_reference, is_public_reference, is_unit_reference, privates_in, publics_in, units_in as units_asked}
 use Rattle.ps_resolve.specs.Privates.{private_words}
 use Rattle.ps_linkinfo.specs.declared.record.Body.{Body}
-use Rattle.ps_linkinfo.specs.declared.record.Body.TheVariants.{UnitRef, PublRef, PrivRef, PublDef, ConstDef, Eof}
+use Rattle.ps_linkinfo.specs.declared.record.Body.TheVariants.{UnitRef, PublRef, PrivRef}
 use Rattle.ps_linkinfo.specs.declared.record.LinkRecord.{LinkRecord as Record}
 use Rattle.ps_words.specs.declared.fault.Reason.{Reason}
 use Rattle.ps_words.specs.declared.edit.Edit.{Edit}
@@ -120,6 +120,4 @@ module _ (known : Known) (R : ℕ → Bool) (code : List ℕ) where
       at rest (UnitRef refs) e = let x = one_unit true (ap is_unit_reference e) in absurd (omega arith)
       at rest (PublRef refs) e = let x = one_public true (ap is_public_reference e) in absurd (omega arith)
       at rest (PrivRef words refs) e = let x = one_private true (ap is_private_reference e) in absurd (omega arith)
-      at rest (PublDef value) e = skips rest (ap is_unit_reference e) (ap is_public_reference e) (ap is_private_reference e) (ap (target_in known off r.name) e) (ap refs_of e) (ap words_taken e)
-      at rest (ConstDef value) e = skips rest (ap is_unit_reference e) (ap is_public_reference e) (ap is_private_reference e) (ap (target_in known off r.name) e) (ap refs_of e) (ap words_taken e)
-      at rest (Eof next) e = skips rest (ap is_unit_reference e) (ap is_public_reference e) (ap is_private_reference e) (ap (target_in known off r.name) e) (ap refs_of e) (ap words_taken e)
+      at rest other e = skips rest (ap is_unit_reference e) (ap is_public_reference e) (ap is_private_reference e) (ap (target_in known off r.name) e) (ap refs_of e) (ap words_taken e)

@@ -9,7 +9,7 @@ use Rattle.ps_codefile.specs.declared.entry.Entry.{Entry}
 use Rattle.ps_codefile.specs.Dictionary.{code_of, has_bad_length, kind_needs_linking}
 
 -- a code that is given has no bad length, is not cut short, and is the slice of its file
-whole_code : (bad zero short : Bool) (x code : List ℕ) → (if bad then Err reason.BadLength else (if zero then Err reason.BadAddress else (if short then Err reason.Truncated else Ok x))) ≡ Ok code → (bad ≡ false) × (short ≡ false) × (x ≡ code)
+pub whole_code : (bad zero short : Bool) (x code : List ℕ) → (if bad then Err reason.BadLength else (if zero then Err reason.BadAddress else (if short then Err reason.Truncated else Ok x))) ≡ Ok code → (bad ≡ false) × (short ≡ false) × (x ≡ code)
 whole_code true zero short x code h = cc
 whole_code false true short x code h = cc
 whole_code false false true x code h = cc

@@ -8,7 +8,7 @@ use Rattle.ps_words.specs.declared.order.Order.{Order}
 use Rattle.ps_words.specs.declared.fault.Reason.{Reason}
 use Rattle.ps_words.specs.declared.fault.Reason.TheVariants as reason
 use Rattle.ps_words.specs.declared.fault.Fault.{Fault}
-use Rattle.ps_codefile.specs.Dictionary.{OpenedFile, FileOrder, Zero, Ordered, Mixed, file_order, opened_alone, opened_as}
+use Rattle.ps_codefile.specs.Dictionary.{OpenedFile, FileOrder, Zero, file_order, opened_alone, opened_as}
 use Rattle.ps_resolve.specs.Sources.{known_order, order_of}
 use Rattle.ps_resolve.specs.Faults.{slots_fault, no_host_fault, libraries_fault}
 use Rattle.ps_resolve.specs.AllFaults.{reading_fault, reading_rest}
@@ -17,8 +17,7 @@ use Rattle.ps_resolve.specs.AllFaults.{reading_fault, reading_rest}
 read_as : (short : Bool) (of : FileOrder) (file : List ℕ) (o : OpenedFile) → (if short then Err reason.ShortFile else opened_as file of) ≡ Ok o → o ≡ record { order = known_order of; file = file }
 read_as true of file o h = cc
 read_as false Zero file o h = cc
-read_as false (Ordered order) file o h = cc
-read_as false Mixed file o h = cc
+read_as false other file o h = cc
 
 pub host_refused : (host : List ℕ) (libs : List (List ℕ)) (why : Reason) → opened_alone host ≡ Err why → reading_fault host libs ≡ Some (in_file 0 why)
 unfolding reading_fault

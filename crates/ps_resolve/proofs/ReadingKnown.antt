@@ -1,11 +1,14 @@
 -- What is known of the segments of a link once the files were read without a fault: they rise by
 -- slot, and one of them is the host's own.
-use Rattle.std.proofs.Common.{◌≡◌, ℕ, zero, suc, ◌+◌, ◌≤◌, List, [], ◌∷◌, map, Bool, true, false, ◌||◌, ◌&&◌, not, Option, Some, None, is_some, Result, Ok, Err, refl, sym, ◌∙◌, ap, inl, inr, arith, add-zero}
+use Rattle.std.proofs.Common.{◌≡◌, ℕ, zero, suc, ◌+◌, ◌<◌, ◌≤◌, List, [], ◌∷◌, map, length, get_or, Bool, true, false, ◌&&◌, not, Option, Some, None, is_some, Result, Ok, Err, refl, sym, ◌∙◌, ap, subst, inl, inr, arith}
 use Rattle.std.specs.List.{range_with_len, filter_map, find, list_any}
 use Rattle.std.specs.Prelude.{All, ⊤}
 use Rattle.std.specs.Option.{option_or, option_map, option_map_or}
 use Rattle.std.specs.Result.{result_ok}
-use Rattle.std.proofs.lemmas.List.Elements.{All-nil, All-cons, All-weaker}
+use Rattle.std.proofs.lemmas.Bool.{and_from, cases_eq, cases_order, false≢true}
+use Rattle.std.proofs.lemmas.List.Folds.{list_any_at}
+use Rattle.std.proofs.lemmas.List.FromFn.{get_or-range_with_len, length-range_with_len}
+use Rattle.std.proofs.lemmas.Option.{same_Some}
 use Rattle.ps_words.specs.FaultPlaces.{in_slot}
 use Rattle.ps_words.specs.declared.order.Order.{Order}
 use Rattle.ps_words.specs.declared.fault.Reason.{Reason}
@@ -21,8 +24,8 @@ use Rattle.ps_codefile.specs.Roles.{is_host, is_empty}
 use Rattle.ps_resolve.specs.Sources.{Segment, own_segment, host_of}
 use Rattle.ps_resolve.specs.Faults.{is_role, slot_reason, slots_fault, no_host_fault, sources_fault, source_fault, information_fault}
 use Rattle.ps_resolve.specs.Linkable.{AscendFrom, HasOneHost}
-use Rattle.ps_resolve.proofs.EachSegment.{added_made, at_slot, each_added, own_made, segment_with}
-use Rattle.ps_resolve.proofs.FirstSlots.{neither_first, neither_second, none_mapped}
+use Rattle.ps_resolve.proofs.EachSegment.{added_made, at_slot, each_added, each_slot, find_has, own_made, segment_with}
+use Rattle.ps_resolve.proofs.FirstSlots.{any_found, neither_first, neither_second, none_mapped}
 use Rattle.ps_resolve.proofs.ReadingSources.{own_fault, read_from_host, is_own_host}
 
 -- the own segment of a slot is in the slot and has the role of it
@@ -41,12 +44,8 @@ added_wanted order host libs =
 
 -- a slot whose role is Empty has not that of the host
 empty_role : (q : Result Role Reason) → option_map_or is_empty (result_ok q) false ≡ true → option_map_or is_host (result_ok q) false ≡ false
-empty_role (Err why) h = cc
 empty_role (Ok role.Empty) h = refl
-empty_role (Ok role.Wanted) h = cc
-empty_role (Ok role.Plain) h = cc
-empty_role (Ok role.Host) h = cc
-empty_role (Ok role.Unit) h = cc
+empty_role other h = cc
 
 -- the segment of a slot, its own or one that was added there, is in the slot and is the host's just
 -- where the slot's role is
@@ -72,12 +71,8 @@ is_ok_by order file e slot (Ok code) h = (code, refl)
 
 -- what passes the test for the role of the host is the role Host
 host_of_role : (q : Result Role Reason) → option_map_or is_host (result_ok q) false ≡ true → q ≡ Ok role.Host
-host_of_role (Err why) h = cc
-host_of_role (Ok role.Empty) h = cc
-host_of_role (Ok role.Wanted) h = cc
-host_of_role (Ok role.Plain) h = cc
 host_of_role (Ok role.Host) h = refl
-host_of_role (Ok role.Unit) h = cc
+host_of_role other h = cc
 
 -- a slot with the role of the host has a segment, where its source has no fault
 slot_host : (order : Order) (host : List ℕ) (libs : List (List ℕ)) (slot : ℕ) → source_fault order host libs slot ≡ None → is_role is_host order host slot ≡ true → (s : Segment) × (segment_at order host libs slot ≡ Some s)
@@ -135,94 +130,69 @@ unfolding segments
 ascend order host libs = ascend_from order host libs 16 0 0 (omega arith)
 
 -- no other is
-or_false : (b : Bool) → (b || false) ≡ b
-or_false true = refl
-or_false false = refl
-
-or_assoc : (a b c : Bool) → (a || (b || c)) ≡ ((a || b) || c)
-or_assoc true b c = refl
-or_assoc false b c = refl
-
--- a test holds of one of n + 1 numbers where it holds of one of the first n or of the last
-any_more : (p : ℕ → Bool) (a n : ℕ) → list_any p (range_with_len a (n + 1)) ≡ (list_any p (range_with_len a n) || p (a + n))
-any_more p a zero = or_false (p a) ∙ ap p (sym (add-zero a))
-any_more p a (suc n) =
-    let long : suc n + 1 ≡ suc (n + 1) = omega arith in
-    let last : a + 1 + n ≡ a + suc n = omega arith in
-    ap (λ (k : ℕ). list_any p (range_with_len a k)) long
-    ∙ (ap (λ (b : Bool). p a || b) (any_more p (a + 1) n)
-    ∙ (or_assoc (p a) (list_any p (range_with_len (a + 1) n)) (p (a + 1 + n))
-    ∙ ap (λ (k : ℕ). (p a || list_any p (range_with_len (a + 1) n)) || p k) last))
-
--- a test holds of one of the numbers up to a where it holds of one below a or of a
-any_below : (p : ℕ → Bool) (a : ℕ) (b c : Bool) → list_any p (range_with_len 0 a) ≡ b → p a ≡ c → list_any p (range_with_len 0 (a + 1)) ≡ (b || c)
-any_below p a b c below here =
-    let same : 0 + a ≡ a = omega arith in
-    any_more p 0 a ∙ (ap (λ (x : Bool). x || p (0 + a)) below ∙ ap (λ (x : Bool). b || x) (ap p same ∙ here))
-
 stands_not : {X : Type 0} (b : Bool) (x : X) → fault_if b x ≡ None → b ≡ false
 stands_not true x h = cc
 stands_not false x h = refl
 
-abbrev slot_fault : Order → List ℕ → ℕ → Option Fault
-slot_fault order host slot = option_map (in_slot 0 slot) (slot_reason order host slot)
+-- where none of a range of numbers has a fault, each has none
+pub none_at : {X : Type 0} (f : ℕ → Option X) (a n i : ℕ) → first_of f (range_with_len a n) ≡ None → a ≤ i → i < a + n → f i ≡ None
+none_at f a zero i none low high = absurd (omega arith)
+none_at f a (suc n) i none low high = elim (cases_eq a i) [
+  | inl same ↦ ap f (sym same) ∙ neither_first (f a) (first_of f (range_with_len (a + 1) n)) none
+  | inr differs ↦
+      let later = neither_second (f a) (first_of f (range_with_len (a + 1) n)) none in
+      none_at f (a + 1) n i later (omega (arith, differs)) (omega arith)
+]
 
-not_again : (order : Order) (host : List ℕ) (slot : ℕ) → slot_fault order host slot ≡ None → (is_role is_host order host slot && list_any (is_role is_host order host) (range_with_len 0 slot)) ≡ false
-not_again order host slot h = stands_not _ _ (neither_first _ _ (neither_second _ _ (none_mapped (in_slot 0 slot) (slot_reason order host slot) h)))
+module _ (order : Order) (host : List ℕ) (libs : List (List ℕ)) where
+  -- a segment is that of its slot
+  abbrev IsAt : Segment → Type 0
+  IsAt s = (s.slot < 16) × (segment_at order host libs s.slot ≡ Some s)
 
-both_not : (a b : Bool) → (a && b) ≡ false → b ≡ true → a ≡ false
-both_not true b h t = sym t ∙ h
-both_not false b h t = refl
+  pub all_at : All IsAt (segments order host libs)
+  unfolding segments
+  all_at =
+      each_slot IsAt (segment_at order host libs) (λ x s lt h.
+      let at = (slot_parts order host libs x s h).0 in
+      (omega (arith, at, lt), subst (λ (n : ℕ). segment_at order host libs n ≡ Some s) (sym at) h))
 
--- after a slot with the role of the host no segment is a host's, where no slot has a fault
-not_host : (order : Order) (host : List ℕ) (libs : List (List ℕ)) (n a : ℕ) → first_of (slot_fault order host) (range_with_len a n) ≡ None → list_any (is_role is_host order host) (range_with_len 0 a) ≡ true
-    → All (λ (s : Segment). is_host s.role ≡ false) (filter_map (segment_at order host libs) (range_with_len a n))
-not_host order host libs zero a none below = All-nil (λ (s : Segment). is_host s.role ≡ false)
-not_host order host libs (suc n) a none below =
-    let other : is_role is_host order host a ≡ false = both_not _ _ (not_again order host a (neither_first (slot_fault order host a) _ none)) below in
-    by other (not_host order host libs n (a + 1) (neither_second (slot_fault order host a) _ none) (any_below (is_role is_host order host) a true false below other)) (segment_at order host libs a) refl
-  where
-    by : is_role is_host order host a ≡ false → All (λ (s : Segment). is_host s.role ≡ false) (filter_map (segment_at order host libs) (range_with_len (a + 1) n)) → (o : Option Segment) → segment_at order host libs a ≡ o
-        → All (λ (s : Segment). is_host s.role ≡ false) (filter_map (segment_at order host libs) (a ∷ range_with_len (a + 1) n))
-    by other rest None o = rw o rest
-    by other rest (Some s) o = rw o (All-cons (λ (t : Segment). is_host t.role ≡ false) s (filter_map (segment_at order host libs) (range_with_len (a + 1) n)) (sym (host_role order host libs a s o) ∙ other) rest)
+  module _ (none : slots_fault order host ≡ None) where
+    -- the second of two hosts would have a fault
+    not_two : (s q : Segment) → IsAt s → IsAt q → is_host s.role ≡ true → is_host q.role ≡ true → s.slot < q.slot → ⊥
+    unfolding slots_fault
+    not_two s q a b u v lt =
+        let test = is_role is_host order host in
+        let fine = none_at (λ slot. option_map (in_slot 0 slot) (slot_reason order host slot)) 0 16 q.slot none (omega arith) (omega (arith, b.0)) in
+        let reason = none_mapped (in_slot 0 q.slot) (slot_reason order host q.slot) fine in
+        let two : (test q.slot && list_any test (range_with_len 0 q.slot)) ≡ false = stands_not _ _ (neither_first _ _ (neither_second _ _ reason)) in
+        let earlier = ap test (get_or-range_with_len 0 q.slot s.slot 0 lt ∙ omega arith) ∙ host_role order host libs s.slot s a.1 ∙ u in
+        let within : s.slot < length (range_with_len 0 q.slot) = omega (arith, length-range_with_len 0 q.slot, lt) in
+        let there = list_any_at test (range_with_len 0 q.slot) s.slot 0 within earlier in
+        false≢true (sym two ∙ and_from _ _ (host_role order host libs q.slot q b.1 ∙ v) there)
 
-abbrev IsFound : List Segment → Segment → Type 0
-IsFound segs s = is_host s.role ≡ true → find (λ (t : Segment). is_host t.role) segs ≡ Some s
+    pub one_host : HasOneHost (segments order host libs)
+    one_host i d lt is = by (host_of segs) refl
+      where
+        segs : List Segment
+        segs = segments order host libs
 
-none_found : (segs : List Segment) (rest : List Segment) → All (λ (s : Segment). is_host s.role ≡ false) rest → All (IsFound segs) rest
-none_found segs rest all = All-weaker (λ (s : Segment). is_host s.role ≡ false) (IsFound segs) (λ s no yes. let never : false ≡ true = sym no ∙ yes in cc) rest all
+        s : Segment
+        s = get_or segs i d
 
-abbrev rest_of : Order → List ℕ → List (List ℕ) → ℕ → ℕ → List Segment
-rest_of order host libs n a = filter_map (segment_at order host libs) (range_with_len a n)
+        test : Segment → Bool
+        test q = is_host q.role
 
--- of the segments of slots without a fault, after slots that are no host's, a host's is the first
--- such
-one_from : (order : Order) (host : List ℕ) (libs : List (List ℕ)) (n a : ℕ) → first_of (slot_fault order host) (range_with_len a n) ≡ None → list_any (is_role is_host order host) (range_with_len 0 a) ≡ false
-    → All (IsFound (rest_of order host libs n a)) (rest_of order host libs n a)
-one_from order host libs zero a none below = All-nil (IsFound (rest_of order host libs zero a))
-one_from order host libs (suc n) a none below =
-    by (λ b. one_from order host libs n (a + 1) later b) (λ b. not_host order host libs n (a + 1) later b) (is_role is_host order host a) refl (segment_at order host libs a) refl
-  where
-    later : first_of (slot_fault order host) (range_with_len (a + 1) n) ≡ None
-    later = neither_second (slot_fault order host a) (first_of (slot_fault order host) (range_with_len (a + 1) n)) none
+        same : (q : Segment) → IsAt q → is_host q.role ≡ true → q ≡ s
+        same q at its = elim (cases_order q.slot s.slot) [
+          | inl e ↦ same_Some q s (sym at.1 ∙ ap (segment_at order host libs) e ∙ (all_at i d lt).1)
+          | inr u ↦ elim u [
+            | inl h ↦ absurd (not_two q s at (all_at i d lt) its is h)
+            | inr h ↦ absurd (not_two s q (all_at i d lt) at is its h)
+          ]
+        ]
 
-    by : (list_any (is_role is_host order host) (range_with_len 0 (a + 1)) ≡ false → All (IsFound (rest_of order host libs n (a + 1))) (rest_of order host libs n (a + 1)))
-        → (list_any (is_role is_host order host) (range_with_len 0 (a + 1)) ≡ true → All (λ (s : Segment). is_host s.role ≡ false) (rest_of order host libs n (a + 1)))
-        → (b : Bool) → is_role is_host order host a ≡ b → (o : Option Segment) → segment_at order host libs a ≡ o
-        → All (IsFound (filter_map (segment_at order host libs) (a ∷ range_with_len (a + 1) n))) (filter_map (segment_at order host libs) (a ∷ range_with_len (a + 1) n))
-    by further others true b None o = rw o (none_found (rest_of order host libs n (a + 1)) (rest_of order host libs n (a + 1)) (others (any_below (is_role is_host order host) a false true below b)))
-    by further others false b None o = rw o (further (any_below (is_role is_host order host) a false false below b))
-    by further others true b (Some s) o =
-        let rest = rest_of order host libs n (a + 1) in
-        let is : is_host s.role ≡ true = sym (host_role order host libs a s o) ∙ b in
-        rw o (All-cons (IsFound (s ∷ rest)) s rest (λ yes. rw is) (none_found (s ∷ rest) rest (others (any_below (is_role is_host order host) a false true below b))))
-    by further others false b (Some s) o =
-        let rest = rest_of order host libs n (a + 1) in
-        let is : is_host s.role ≡ false = sym (host_role order host libs a s o) ∙ b in
-        let found = further (any_below (is_role is_host order host) a false false below b) in
-        rw o (All-cons (IsFound (s ∷ rest)) s rest (λ yes. let never : false ≡ true = sym is ∙ yes in cc) (All-weaker (IsFound rest) (IsFound (s ∷ rest)) (λ t h yes. rw is (h yes)) rest found))
-
-pub one_host : (order : Order) (host : List ℕ) (libs : List (List ℕ)) → slots_fault order host ≡ None → HasOneHost (segments order host libs)
-unfolding slots_fault segments
-one_host order host libs none = one_from order host libs 16 0 none refl
+        by : (o : Option Segment) → find test segs ≡ o → o ≡ Some s
+        by None e = absurd (false≢true (ap is_some (sym e) ∙ sym (any_found test segs) ∙ list_any_at test segs i d lt is))
+        by (Some q) e =
+            let has = find_has IsAt test segs q e all_at in
+            ap (λ (x : Segment). Some x) (same q has.1 has.0)

@@ -158,10 +158,6 @@ host_of_files host libs v h =
     ap (λ (o : OpenedFile). record { order = o.order; file = o.file; libs = v.libs }) (host_is host (record { order = v.order; file = v.file }) t.0)
     ∙ ap (λ (xs : List (List ℕ)). record { order = order_of host; file = host; libs = xs }) t.1
 
-pub opened_as : (host : List ℕ) (libs : List (List ℕ)) (r : Result OpenedFile Reason) → opened_alone host ≡ r
-    → opened_host host libs ≡ (elim r [ Err why ↦ Err why | Ok o ↦ Ok (record { order = o.order; file = o.file; libs = libs }) ])
-opened_as host libs r e = rw (e, opened_host) refl
-
 -- what is read of a slot
 module _ (order : Order) (host : List ℕ) (files : List (List ℕ)) (slot : ℕ) where
   abbrev added : RoundsOutcome
@@ -187,9 +183,6 @@ module _ (order : Order) (host : List ℕ) (files : List (List ℕ)) (slot : ℕ
   reading_by segs o fine all found =
       ap (λ (f : Option Fault). elim f [ Some fault ↦ Some (Err fault) | None ↦ option_map Ok (find (is_in_slot slot) (all_read order host files)) ]) fine
       ∙ ap (option_map (λ (s : Segment). Ok s)) (sym (found ∙ ap (find (is_in_slot slot)) all))
-
-  pub faulty_by : (fault : Fault) → slot_fault order host files slot ≡ Some fault → slot_reading order host files slot ≡ Some (Err fault)
-  faulty_by fault e = ap (λ (f : Option Fault). elim f [ Some fault ↦ Some (Err fault) | None ↦ option_map Ok (find (is_in_slot slot) (all_read order host files)) ]) e
 
   -- the request of a slot
   abbrev own : Option Request

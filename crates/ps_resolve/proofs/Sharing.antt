@@ -95,12 +95,8 @@ have_targets known R code (r ∷ rs) n off os h = at (λ m free ps k. have_targe
 
 -- a record that does not request a private takes no words
 no_words : (b : Body) → is_private_reference b ≡ false → words_taken b ≡ 0
-no_words (UnitRef refs) h = refl
-no_words (PublRef refs) h = refl
 no_words (PrivRef words refs) h = cc
-no_words (PublDef value) h = refl
-no_words (ConstDef value) h = refl
-no_words (Eof next) h = refl
+no_words other h = refl
 
 -- where none of them has a reference or requests a private, there is no edit, no fault and no word
 pub no_references : (known : Known) (R : ℕ → Bool) (code : List ℕ) (rs : List Record) (n off : ℕ) (os : List (ℕ × ℕ)) → HaveTargets known rs → references_in rs ≡ 0 → privates_in rs ≡ 0 → NoLinks known R code n off os rs

@@ -26,4 +26,5 @@ pub mod EditTables
 pub mod LinkedBytes
 pub mod Builders
 pub mod Origins
+pub mod OfLink
 pub mod Causes

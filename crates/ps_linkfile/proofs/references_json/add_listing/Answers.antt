@@ -1,8 +1,8 @@
-use Rattle.std.proofs.Common.{◌≡◌, ◌∙◌, ◌+◌, ◌++◌, ◌∷◌, [], ℕ, List, Option, Some, None, drop, get_or, length, arith, refl, sym, ap, subst}
+use Rattle.std.proofs.Common.{◌≡◌, ◌∙◌, ◌+◌, ◌++◌, ◌∷◌, [], ℕ, List, Option, None, drop, get_or, length, arith, refl, ap, subst}
 use Rattle.std.specs.List.{flat_map, enumerate_from}
 use Rattle.std.proofs.lemmas.List.{drop_more, drop_all}
 use Rattle.ps_linkfile.specs.declared.cause.Cause.{Cause}
-use Rattle.ps_linkfile.specs.ReferencesJson.{listed_items, place_item}
+use Rattle.ps_linkfile.specs.ReferencesJson.{place_item}
 use Rattle.ps_linkfile.specs.ReferencesText.{Listed}
 use Rattle.ps_linkfile.specs.JsonText.{separator}
 use Rattle.ps_linkfile.proofs.Written.{adds_is, adds_none, all_stopped, all_written, none_yet, some_more}

@@ -1,5 +1,4 @@
 use Rattle.std.proofs.Common.{◌≡◌, ◌∙◌, ◌+◌, ◌∷◌, ℕ, List, drop, ap, arith, refl, sym}
-use Rattle.std.specs.Prelude.{slice_index}
 use Rattle.std.proofs.lemmas.List.{drop_more}
 use Rattle.ps_linkfile.specs.ShowJson.{reference_item}
 use Rattle.ps_linkfile.proofs.Numbered.{numbered_left, numbered_over}

@@ -1,4 +1,4 @@
-use Rattle.std.proofs.Common.{◌∙◌, length, ap, arith, rules}
+use Rattle.std.proofs.Common.{◌∙◌, length, ap, arith}
 use Rattle.ps_linkinfo.specs.Records.{reading}
 use Rattle.ps_linkinfo.specs.Walk.{whole_walk}
 use Rattle.ps_linkinfo.specs.Left.{items_left}
