@@ -5,7 +5,6 @@ use Rattle.ps_words.specs.declared.order.Order.{Order}
 use Rattle.ps_words.specs.declared.edit.Edit.{Edit}
 use Rattle.ps_words.specs.declared.fault.Reason.{Reason}
 use Rattle.ps_codefile.specs.Dictionary.{OpenedFile, slots, entry_at, role_of}
-use Rattle.ps_codefile.specs.declared.entry.Entry.{Entry}
 use Rattle.ps_codefile.specs.declared.entry.Role.{Role}
 use Rattle.ps_codefile.specs.Places.{IsWhole}
 use Rattle.ps_codefile.specs.Procedures.{procedures, table_of}
@@ -19,11 +18,9 @@ use Rattle.ps_resolve.specs.Views.{segment_of, IsSound, IsLike, AreAlike}
 use Rattle.ps_resolve.specs.Views.{SegmentView}
 use Rattle.ps_resolve.specs.declared.reading.host.HostSegment.{HostSegment}
 
--- These are the entries of all slots of a host, and what each slot is for, or why its kind is
--- refused.
-pub record AreSlots (dict : OpenedFile) (entries : List Entry) (roles : List (Result Role Reason)) : Type 0 where
-  pub are_entries : entries ≡ map (entry_at dict.order dict.file) slots
-  pub are_roles : roles ≡ map (λ slot. role_of (entry_at dict.order dict.file slot)) slots
+-- This is what each slot of a host is for, or why its kind is refused.
+abbrev pub AreSlots : OpenedFile → List (Result Role Reason) → Type 0
+AreSlots dict roles = roles ≡ map (λ slot. role_of (entry_at dict.order dict.file slot)) slots
 
 -- the numbers rise strictly, from `from` on
 abbrev pub AscendFrom : ℕ → List ℕ → Type 0
