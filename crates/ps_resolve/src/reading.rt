@@ -498,7 +498,7 @@ pub(crate) struct Segments<'r, 'a> {
     /// The names of all slots in the linked file.
     pub(crate) names: [Name; 16],
     /// The host's own segment.
-    pub(crate) own: HostSegment<'a>,
+    pub(crate) own: HostSegment<'r, 'a>,
     /// All segments by slot ascending.
     pub(crate) items: &'r ArrayVec<Segment<'a>, 16>,
 }

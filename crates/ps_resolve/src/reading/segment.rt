@@ -58,19 +58,6 @@ impl<'a> Model for Segment<'a> {
     ghost invariant = { λ s. is_some s.resolvable ≡ needs_linking s.role };
 }
 
-impl<'a> Resolvable<'a> {
-    /// A copy, which borrows the same bytes.
-    fn copy(&self) -> Resolvable<'a>
-        ensures { result ≡ self.now }
-    {
-        Resolvable {
-            procedures: self.procedures.copy(),
-            block: self.block,
-            records: self.records.copy(),
-        }
-    }
-}
-
 impl<'a> Segment<'a> {
     /// Its slot in the host, 0 to 15.
     /// Source: UCSD Pascal II.0 manual, code file format.
@@ -148,22 +135,6 @@ impl<'a> Segment<'a> {
         match &self.resolvable {
             None => None,
             Some(resolvable) => Some(&resolvable.records),
-        }
-    }
-
-    /// A copy of the segment, which borrows the same bytes.
-    pub(crate) fn copy(&self) -> Segment<'a>
-        ensures { result ≡ self.now }
-    {
-        Segment {
-            slot: self.slot,
-            name: self.name,
-            role: self.role,
-            added: self.added,
-            file: self.file,
-            index: self.index,
-            code: self.code,
-            resolvable: self.resolvable.as_ref().map(|resolvable| resolvable.copy()),
         }
     }
 
