@@ -13,10 +13,10 @@ use Rattle.ps_resolve.specs.Faults.{is_role}
 use Rattle.ps_resolve.proofs.ReadingKnown.{own_parts}
 
 -- each number's segment is in its slot
-abbrev InPlace : (ℕ → Option Segment) → Type 0
+abbrev pub InPlace : (ℕ → Option Segment) → Type 0
 InPlace f = (i : ℕ) (s : Segment) → f i ≡ Some s → s.slot ≡ i
 
-other_slot : (j : ℕ) (s : Segment) → s.slot ≢ j → is_in_slot j s ≡ false
+pub other_slot : (j : ℕ) (s : Segment) → s.slot ≢ j → is_in_slot j s ≡ false
 other_slot j s differs = ne_eqb s.slot j differs
 
 -- of the segments of the numbers from a on none applies in a slot below a
@@ -29,7 +29,7 @@ none_before f place j (suc n) a lt = by (f a) refl (none_before f place j n (a +
     by (Some s) e rest = let is = place a s e in rw (e, other_slot j s (λ same. omega (arith, is, same, lt))) rest
 
 -- the segment that is found in a slot is that of the number of the slot
-found_there : (f : ℕ → Option Segment) → InPlace f → (j n a : ℕ) → a ≤ j → j < a + n → find (is_in_slot j) (filter_map f (range_with_len a n)) ≡ f j
+pub found_there : (f : ℕ → Option Segment) → InPlace f → (j n a : ℕ) → a ≤ j → j < a + n → find (is_in_slot j) (filter_map f (range_with_len a n)) ≡ f j
 found_there f place j zero a le lt = absurd (omega arith)
 found_there f place j (suc n) a le lt = by (λ h. found_there f place j n (a + 1) (omega (arith, h)) (omega (arith, lt))) (cases_lt a j)
   where
@@ -47,7 +47,7 @@ found_there f place j (suc n) a le lt = by (λ h. found_there f place j n (a + 1
 
 -- f and g keep the same segments of a list of numbers, where they give the same of each number
 -- below its end
-same_kept : (f g : ℕ → Option Segment) (n a : ℕ) → ((i : ℕ) → i < a + n → f i ≡ g i) → filter_map f (range_with_len a n) ≡ filter_map g (range_with_len a n)
+pub same_kept : (f g : ℕ → Option Segment) (n a : ℕ) → ((i : ℕ) → i < a + n → f i ≡ g i) → filter_map f (range_with_len a n) ≡ filter_map g (range_with_len a n)
 same_kept f g zero a same = refl
 same_kept f g (suc n) a same = by (g a) refl (same_kept f g n (a + 1) (λ i h. same i (omega arith)))
   where

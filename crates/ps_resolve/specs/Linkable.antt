@@ -5,7 +5,6 @@ use Rattle.ps_words.specs.declared.order.Order.{Order}
 use Rattle.ps_words.specs.declared.edit.Edit.{Edit}
 use Rattle.ps_words.specs.declared.fault.Reason.{Reason}
 use Rattle.ps_codefile.specs.Dictionary.{OpenedFile, slots, entry_at, role_of}
-use Rattle.ps_codefile.specs.declared.entry.Entry.{Entry}
 use Rattle.ps_codefile.specs.declared.entry.Role.{Role}
 use Rattle.ps_codefile.specs.Places.{IsWhole}
 use Rattle.ps_codefile.specs.Procedures.{procedures, table_of}
@@ -19,11 +18,9 @@ use Rattle.ps_resolve.specs.Views.{segment_of, IsSound, IsLike, AreAlike}
 use Rattle.ps_resolve.specs.Views.{SegmentView}
 use Rattle.ps_resolve.specs.declared.reading.host.HostSegment.{HostSegment}
 
--- These are the entries of all slots of a host, and what each slot is for, or why its kind is
--- refused.
-pub record AreSlots (dict : OpenedFile) (entries : List Entry) (roles : List (Result Role Reason)) : Type 0 where
-  pub are_entries : entries ≡ map (entry_at dict.order dict.file) slots
-  pub are_roles : roles ≡ map (λ slot. role_of (entry_at dict.order dict.file slot)) slots
+-- This is what each slot of a host is for, or why its kind is refused.
+abbrev pub AreSlots : OpenedFile → List (Result Role Reason) → Type 0
+AreSlots dict roles = roles ≡ map (λ slot. role_of (entry_at dict.order dict.file slot)) slots
 
 -- the numbers rise strictly, from `from` on
 abbrev pub AscendFrom : ℕ → List ℕ → Type 0
@@ -37,16 +34,16 @@ HasOneHost segs = All (λ s. is_host s.role ≡ true → host_of segs ≡ Some s
 -- a host's own segment: its records, and the place of the attribute table of its outer block, which
 -- lies in its code before the procedure dictionary
 pub record IsHost (order : Order) (h : HostSegment) : Type 0 where
-  pub records : h.records ≡ h.segment.records
-  pub procedure : 1 ≤ procedures h.segment.code
-  pub table : table_of order h.segment.code 1 ≡ Some h.outer_block
-  pub whole : IsWhole h.segment.code h.outer_block
+  pub records : h.records.now ≡ h.segment.now.records
+  pub procedure : 1 ≤ procedures h.segment.now.code
+  pub table : table_of order h.segment.now.code 1 ≡ Some h.outer_block
+  pub whole : IsWhole h.segment.now.code h.outer_block
 
 -- The segments of a link, by slot: each sound, one of them the host's, those that share link
 -- information alike; and the names of the slots of the linked file.
 pub record AreSegments (order : Order) (host : List ℕ) (names : List (List ℕ)) (host_segment : HostSegment) (ss : List SegmentView) : Type 0 where
   pub sound : All (IsSound order) ss
-  pub found : host_of (map segment_of ss) ≡ Some (segment_of host_segment.segment)
+  pub found : host_of (map segment_of ss) ≡ Some (segment_of host_segment.segment.now)
   pub own : IsHost order host_segment
   pub one_host : HasOneHost (map segment_of ss)
   pub ascending : AscendFrom 0 (map (λ s. s.slot) (map segment_of ss))

@@ -118,13 +118,6 @@ pub record HostFiles : Type 0 where
   pub file : List ℕ
   pub libs : List (List ℕ)
 
--- what was read of the own slots of such a host
-pub record IsOwnReading (order : Order) (host : List ℕ) (libs : List (List ℕ)) (segments : List SegmentView) (fault : Option Fault) : Type 0 where
-  pub whole : 512 ≤ length host
-  pub own : map segment_of segments ≡ read_segments order host (opened_files order libs)
-  pub read : All (IsRead order host (opened_files order libs)) segments
-  pub first : fault ≡ own_reading_fault order host libs
-
 -- what was read of such files
 pub record IsReading (order : Order) (host : List ℕ) (libs : List (List ℕ)) (empty : List ℕ) (segments : List SegmentView) (queue : List UnitReference) (next : Option ℕ) (last : Option Fault) (fault : Option Fault) : Type 0 where
   pub whole : 512 ≤ length host

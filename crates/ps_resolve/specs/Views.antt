@@ -1,7 +1,7 @@
 -- The segments that the files have, seen as the segments of the link, and what is known of them
 -- once the files were read without a fault.
 -- Source: this project's profile.
-use Rattle.std.specs.Prelude.{◌≡◌, ◌≤◌, ◌*◌, ◌==◌, if◌then◌else◌, ℕ, All, List, length, drop, Bool, true, Option, Some, None, ◌&&◌}
+use Rattle.std.specs.Prelude.{◌≡◌, ◌≤◌, ◌*◌, ◌==◌, nat_lt, if◌then◌else◌, ℕ, All, List, [], ◌∷◌, length, drop, Bool, true, Option, Some, None, ◌&&◌}
 use Rattle.std.specs.List.{find, filter_map, list_any, Contains}
 use Rattle.std.specs.Option.{option_or}
 use Rattle.ps_words.specs.declared.order.Order.{Order}
@@ -79,6 +79,11 @@ has_records_at file block = list_any (λ s. needs_linking s.role && s.file == fi
 -- the segment is in this slot
 abbrev pub is_in_slot : ℕ → Segment → Bool
 is_in_slot slot s = s.slot == slot
+
+-- the segment among others that are by slot ascending, in its place
+abbrev pub put_by_slot : Segment → List Segment → List Segment
+put_by_slot s [] = s ∷ []
+put_by_slot s (x ∷ xs) = if nat_lt s.slot x.slot then s ∷ x ∷ xs else x ∷ put_by_slot s xs
 
 -- the own segment that is in a slot, or in an empty slot the added one
 abbrev pub segment_in_slot : Order → List ℕ → List Segment → List Segment → ℕ → Option Segment

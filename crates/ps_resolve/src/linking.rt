@@ -95,7 +95,7 @@ pub(crate) fn link_segments<'a, A: Allocator + Copy>(
         file: HOST_FILE,
         slot: own.segment.slot(),
     };
-    let definitions = Definitions::of_records(alloc, place, &own.records)?;
+    let definitions = Definitions::of_records(alloc, place, own.records)?;
     let base = own.records.next();
     let allotment = Allotment::of_segments(alloc, base, all)?;
     let size = grown_data_size(order, own, allotment.words())?;

@@ -1,16 +1,15 @@
-ghost use Rattle.std.specs.Prelude.{◌≡◌, ◌<◌, ◌≤◌, ◌++◌, [], List, ℕ, length, map, take, slice_get, None, Some, Ok, Err, IfOk, IfErr, IfSome, All, option_and_then};
+ghost use Rattle.std.specs.Prelude.{◌≡◌, ◌<◌, ◌≤◌, [], List, ℕ, length, map, slice_get, None, Some, Ok, Err, IfOk, IfErr, IfSome, All, option_and_then};
 ghost use Rattle.ps_words.specs.declared.order.Order.{Order as ByteOrder};
 ghost use Rattle.std.specs.List.{find};
-ghost use Rattle.std.specs.Option.{option_map, option_or, option_to_list};
+ghost use Rattle.std.specs.Option.{option_map, option_or};
 ghost use Rattle.std.specs.Result.{result_ok};
-ghost use Rattle.arrayvec.specs.ArrayVec.{array_vec_len};
 ghost use Rattle.ps_codefile.specs.Dictionary.{entry_at, role_of, opened_beside};
-ghost use Rattle.ps_resolve.specs.Sources.{order_of, contents, opened, opened_files, units_of};
-ghost use Rattle.ps_resolve.specs.Added.{request_of, all_unit_references, requested_from, rounds_in, segments as all_segments, slot_name as slot_name_spec, slot_names as slot_names_spec};
+ghost use Rattle.ps_resolve.specs.Sources.{order_of, contents, opened, opened_files};
+ghost use Rattle.ps_resolve.specs.Added.{request_of, empty_slots as empty_slots_spec, segments as all_segments, slot_name as slot_name_spec, slot_names as slot_names_spec};
 ghost use Rattle.ps_resolve.specs.Faults.{slots_fault as slots_fault_spec, no_host_fault as no_host_fault_spec, libraries_fault as libraries_fault_spec};
 ghost use Rattle.ps_resolve.specs.AllFaults.{reading_fault};
-ghost use Rattle.ps_resolve.specs.Readings.{all_read, host_reading_fault, opened_host, own_reading_fault, queued_request as queued_request_spec, read_requests, named_entry, slot_entry, slot_fault, slot_reading, slot_request, wanted_request};
-ghost use Rattle.ps_resolve.specs.Views.{segment_of, AreAlike, IsRead, IsSound, is_in_slot, segment_in_slot, segments_in_slots};
+ghost use Rattle.ps_resolve.specs.Readings.{all_read, host_reading_fault, opened_host, own_reading_fault, queued_request as queued_request_spec, read_requests, read_rounds, read_segments, named_entry, slot_after, slot_entry, slot_fault, slot_reading, slot_request, wanted_request};
+ghost use Rattle.ps_resolve.specs.Views.{segment_of, IsRead, IsSound, is_in_slot};
 
 pub(crate) mod added;
 pub(crate) mod entries;
@@ -24,14 +23,12 @@ pub(crate) mod unit_slots;
 pub(crate) mod units;
 
 use crate::linkage::EntryPlace;
-use crate::reading::added::{UnitReference, add_units, empty_slots, requested_by};
-use crate::reading::host::{HostSegment, host_of};
+use crate::reading::added::{UnitReference, add_units, empty_slots, requested_by, slot_at};
+use crate::reading::host::HostSegment;
 use crate::reading::libraries::libraries_fault;
 use crate::reading::request::{Request, unit_named};
 use crate::reading::segment::Segment;
-use crate::reading::slots::{
-    HOST_FILE, HostSlots, is_empty, library_file, no_host_fault, slots_fault,
-};
+use crate::reading::slots::{HOST_FILE, HostSlots, library_file, no_host_fault, slots_fault};
 use crate::reading::sources::{read_slot, read_slots};
 use crate::reading::unit_slots::UnitSlots;
 use arrayvec::ArrayVec;
@@ -56,64 +53,6 @@ fn segment_in<'s, 'a>(segments: &'s [Segment<'a>], slot: u8) -> Option<&'s Segme
     None
 }
 
-/// The slot's own segment, or in an empty slot the one that was added there.
-fn segment_of_slot<'s, 'a>(
-    host: &HostSlots<'a>,
-    own: &'s [Segment<'a>],
-    added: &'s [Segment<'a>],
-    slot: u8,
-) -> Option<&'s Segment<'a>>
-    requires { slot < 16 }
-    ensures found { option_map (λ s. segment_of s.now) result
-        ≡ segment_in_slot host.now.order host.now.file (map segment_of own.now)
-        (map segment_of added.now) slot }
-    ensures read { (libs : List (List ℕ))
-        → All (IsRead host.now.order host.now.file libs) own.now
-        → All (IsRead host.now.order host.now.file libs) added.now
-        → IfSome result (λ s. IsRead host.now.order host.now.file libs s.now) }
-{
-    if let Some(segment) = segment_in(own, slot) {
-        return Some(segment);
-    }
-    if is_empty(host, slot) {
-        return segment_in(added, slot);
-    }
-    None
-}
-
-/// Adds a copy of the segment, where there is one.
-fn add_copy<'a>(segments: &mut ArrayVec<Segment<'a>, 16>, segment: Option<&Segment<'a>>)
-    requires { array_vec_len segments.old < 16 }
-    ensures { segments.new.items
-        ≡ segments.old.items ++ option_to_list (option_map (λ s. s.now) segment.entry) }
-{
-    if let Some(segment) = segment {
-        segments.push(segment.copy());
-    }
-}
-
-/// Fills the table with copies of the segments of all slots, by slot.
-#[inline(never)]
-fn by_slot<'s, 'a>(
-    host: &HostSlots<'a>,
-    own: &'s [Segment<'a>],
-    added: &'s [Segment<'a>],
-    segments: &mut ArrayVec<Segment<'a>, 16>,
-)
-    requires { segments.old.items ≡ [] }
-    ensures segments { map segment_of segments.new.items
-        ≡ segments_in_slots host.now.order host.now.file (map segment_of own.now)
-        (map segment_of added.now) }
-    ensures read { (libs : List (List ℕ))
-        → All (IsRead host.now.order host.now.file libs) own.now
-        → All (IsRead host.now.order host.now.file libs) added.now
-        → All (IsRead host.now.order host.now.file libs) segments.new.items }
-{
-    for slot in 0..SLOTS {
-        add_copy(segments, segment_of_slot(host, own, added, slot));
-    }
-}
-
 /// The name of a slot in the linked file.
 fn slot_name(host: &HostSlots, segments: &[Segment], slot: u8) -> Name
     requires { slot < 16 }
@@ -126,7 +65,7 @@ fn slot_name(host: &HostSlots, segments: &[Segment], slot: u8) -> Name
 }
 
 /// The names of all slots in the linked file.
-fn slot_names(host: &HostSlots, segments: &[Segment]) -> [Name; 16]
+pub(crate) fn slot_names(host: &HostSlots, segments: &[Segment]) -> [Name; 16]
     ensures { result ≡ slot_names_spec host.now.file (map segment_of segments.now) }
 {
     let mut names = [[0; 8]; SLOTS as usize];
@@ -151,129 +90,74 @@ fn files_fault(host: &HostSlots, libs: &[&[u8]]) -> Option<Fault>
     libraries_fault(host.order(), libs)
 }
 
-/// The units that are added to the own segments of a host.
+/// What was asked for in the rounds that add units to the own segments of a host.
 #[derive(Drop)]
-struct AddedUnits<'a> {
-    /// Their segments, by slot ascending.
-    segments: ArrayVec<Segment<'a>, 9>,
+pub(crate) struct AddedUnits {
+    /// The empty slots that a unit may be added in, ascending.
+    empty: ArrayVec<u8, 9>,
     /// The names that are requested, each with the record that first gave it, ten at most.
     queue: ArrayVec<UnitReference, 10>,
     /// The empty slot that is next, if one is left.
     next: Option<u8>,
     /// The first fault, which ends the rounds.
-    fault: Option<Fault>,
+    pub(crate) fault: Option<Fault>,
 }
 
-/// Adds units to the own segments of a host, in its empty slots.
-#[inline(never)]
-fn add_to<'a>(
+/// Reads the own slots of a host and its libraries: fills the table with the own segments that have
+/// no fault, by slot ascending, and answers the first fault.
+pub(crate) fn read_own<'a>(
     host: &HostSlots<'a>,
     libs: &'a [&'a [u8]],
-    own: &[Segment<'a>],
-    empty: &[u8],
-) -> AddedUnits<'a>
-    requires alike { AreAlike own.now }
-    requires most { length own.now ≤ 16 }
-    requires few { length empty.now ≤ 9 }
-    requires in_range { All (λ slot. slot < 16) empty.now }
-    ensures segments { map segment_of result.segments.items
-        ≡ (rounds_in host.now.order host.now.file (opened host.now.order libs.now)
-        (map segment_of own.now) empty.now).added }
-    ensures fault { result.fault
-        ≡ (rounds_in host.now.order host.now.file (opened host.now.order libs.now)
-        (map segment_of own.now) empty.now).fault }
-    ensures queue { result.queue.items ≡ take 10 (requested_from
-        (units_of (map segment_of own.now)) [] (all_unit_references
-        (map segment_of own.now ++ map segment_of result.segments.items))) }
-    ensures next { result.next ≡ slice_get empty.now (length result.segments.items) }
+    segments: &mut ArrayVec<Segment<'a>, 16>,
+) -> Option<Fault>
+    requires { segments.old.items ≡ [] }
+    ensures first { result
+        ≡ own_reading_fault host.now.order host.now.file (contents libs.now) }
+    ensures segments { map segment_of segments.new.items
+        ≡ read_segments host.now.order host.now.file (opened host.now.order libs.now) }
     ensures read { All (IsRead host.now.order host.now.file (opened host.now.order libs.now))
-        result.segments.items }
+        segments.new.items }
 {
-    let units = UnitSlots::of(own);
-    let mut queue = requested_by(&units, own);
-    let mut segments = ArrayVec::new();
-    let rounds = add_units(host, libs, &units, empty, &mut queue, &mut segments);
-    let next = empty.get(segments.len()).copied();
+    let sources = read_slots(host, libs, segments);
+    files_fault(host, libs).or(sources)
+}
+
+/// Adds units to the own segments of a host, each in its place by slot. A function by itself, so
+/// that the queue takes room of the stack only until it returns.
+#[inline(never)]
+pub(crate) fn add_to<'a>(
+    host: &HostSlots<'a>,
+    libs: &'a [&'a [u8]],
+    segments: &mut ArrayVec<Segment<'a>, 16>,
+) -> AddedUnits
+    requires own { map segment_of segments.old.items
+        ≡ read_segments host.now.order host.now.file (opened host.now.order libs.now) }
+    requires read { All (IsRead host.now.order host.now.file (opened host.now.order libs.now))
+        segments.old.items }
+    ensures all { map segment_of segments.new.items
+        ≡ all_read host.now.order host.now.file (opened host.now.order libs.now) }
+    ensures read { All (IsRead host.now.order host.now.file (opened host.now.order libs.now))
+        segments.new.items }
+    ensures empty { result.empty.items ≡ empty_slots_spec host.now.order host.now.file }
+    ensures requested { result.queue.items
+        ≡ read_requests host.now.order host.now.file (opened host.now.order libs.now) }
+    ensures following { result.next
+        ≡ slot_after (read_rounds host.now.order host.now.file (opened host.now.order libs.now))
+        (empty_slots_spec host.now.order host.now.file) }
+    ensures ends { result.fault
+        ≡ (read_rounds host.now.order host.now.file (opened host.now.order libs.now)).fault }
+{
+    let own = segments.len();
+    let empty = empty_slots(host);
+    let units = UnitSlots::of(segments.as_slice());
+    let mut queue = requested_by(&units, segments.as_slice());
+    let rounds = add_units(host, libs, &units, empty.as_slice(), &mut queue, segments);
+    let next = slot_at(&empty, segments.len() - own);
     AddedUnits {
-        segments,
+        empty,
         queue,
         next,
         fault: rounds.err(),
-    }
-}
-
-/// What was read of a host's own slots and of its libraries, before units are added.
-#[derive(Drop)]
-pub(crate) struct OwnReading<'a> {
-    slots: HostSlots<'a>,
-    libs: &'a [&'a [u8]],
-    /// The own segments that have no fault, by slot ascending.
-    segments: ArrayVec<Segment<'a>, 16>,
-    /// The first fault.
-    fault: Option<Fault>,
-}
-
-impl<'a> Model for OwnReading<'a> {
-    ghost use Rattle.ps_resolve.specs.Sources.{contents};
-    ghost use Rattle.ps_resolve.specs.Readings.{HostFiles, IsOwnReading};
-
-    ghost Value = { HostFiles };
-
-    ghost view = { λ r. record { order = r.slots.order; file = r.slots.file; libs = contents r.libs.now } };
-
-    ghost invariant = { λ r. IsOwnReading r.slots.order r.slots.file (contents r.libs.now) r.segments.items r.fault };
-}
-
-impl<'a> OwnReading<'a> {
-    /// Reads the own slots of a host that was opened, and its libraries. A function by itself, as
-    /// `complete` is.
-    #[inline(never)]
-    pub(crate) fn of(dict: Dict<'a>, libs: &'a [&'a [u8]]) -> OwnReading<'a>
-        requires { 512 ≤ length dict.file }
-        ensures { result
-            ≡ record { order = dict.entry.order; file = dict.entry.file; libs = contents libs.now } }
-    {
-        let slots = HostSlots::of(dict);
-        let mut segments = ArrayVec::new();
-        let sources = read_slots(&slots, libs, &mut segments);
-        let fault = files_fault(&slots, libs).or(sources);
-        OwnReading {
-            slots,
-            libs,
-            segments,
-            fault,
-        }
-    }
-
-    /// The first fault: of the host's slots, of its want of a host segment, of the libraries, or of
-    /// the sources of its slots.
-    pub(crate) fn fault(&self) -> Option<Fault>
-        ensures { result ≡ own_reading_fault self.now.order self.now.file self.now.libs }
-    {
-        self.fault
-    }
-
-    /// The reading of the host, once units are added. A function by itself, so that the tables
-    /// that it fills take room of the stack only until it returns.
-    #[inline(never)]
-    pub(crate) fn complete(&self) -> HostReading<'a>
-        ensures { result ≡ self.now }
-    {
-        let own = self.segments.as_slice();
-        let empty = empty_slots(&self.slots);
-        let added = add_to(&self.slots, self.libs, own, empty.as_slice());
-        let mut segments = ArrayVec::new();
-        by_slot(&self.slots, own, added.segments.as_slice(), &mut segments);
-        HostReading {
-            slots: self.slots.copy(),
-            libs: self.libs,
-            empty,
-            segments,
-            queue: added.queue,
-            next: added.next,
-            last: added.fault,
-            fault: self.fault.or(added.fault),
-        }
     }
 }
 
@@ -347,6 +231,28 @@ impl<'a> Model for HostReading<'a> {
 }
 
 impl<'a> HostReading<'a> {
+    /// Reads the slots of a host that was opened, and its libraries.
+    fn of(dict: Dict<'a>, libs: &'a [&'a [u8]]) -> HostReading<'a>
+        requires { 512 ≤ length dict.file }
+        ensures { result
+            ≡ record { order = dict.entry.order; file = dict.entry.file; libs = contents libs.now } }
+    {
+        let slots = HostSlots::of(dict);
+        let mut segments = ArrayVec::new();
+        let own = read_own(&slots, libs, &mut segments);
+        let added = add_to(&slots, libs, &mut segments);
+        HostReading {
+            slots,
+            libs,
+            empty: added.empty,
+            segments,
+            queue: added.queue,
+            next: added.next,
+            last: added.fault,
+            fault: own.or(added.fault),
+        }
+    }
+
     /// The first fault of the host and its libraries, in their order: of the host's slots, of its
     /// want of a host segment, of the libraries, of the sources of its slots, and of the units that
     /// are added.
@@ -531,7 +437,7 @@ pub fn read<'a>(host: &'a [u8], libs: &'a [&'a [u8]]) -> Reading<'a>
 {
     let read = match Dict::read(host) {
         Err(reason) => Err(reason),
-        Ok(dict) => Ok(OwnReading::of(dict, libs).complete()),
+        Ok(dict) => Ok(HostReading::of(dict, libs)),
     };
     Reading {
         file: host,
@@ -582,38 +488,6 @@ impl<'a> Reading<'a> {
     }
 }
 
-impl<'a> HostReading<'a> {
-    /// The segments to be linked, or the first fault of reading; `file` is the host.
-    pub(crate) fn linkable<'r>(&'r self, file: &'a [u8]) -> Result<Segments<'r, 'a>, Fault>
-        requires { file.now ≡ self.now.file }
-        ensures order { IfOk result (λ r. r.order ≡ self.now.order) }
-        ensures host { IfOk result (λ r. r.host ≡ self.now.file) }
-        ensures segments { IfOk result (λ r. map segment_of r.items
-            ≡ all_segments self.now.order self.now.file self.now.libs) }
-        ensures faultless { IfOk result (λ _.
-            host_reading_fault self.now.order self.now.file self.now.libs ≡ None) }
-        ensures fault { IfErr result (λ f.
-            host_reading_fault self.now.order self.now.file self.now.libs ≡ Some f) }
-    {
-        if let Some(fault) = self.fault {
-            return Err(fault);
-        }
-        let order = self.slots.order();
-        let all = self.segments.as_slice();
-        let names = slot_names(&self.slots, all);
-        match host_of(order, all) {
-            None => Err(Fault::in_file(HOST_FILE, Reason::NoHost)),
-            Some(own) => Ok(Segments {
-                order,
-                host: file,
-                names,
-                own,
-                items: &self.segments,
-            }),
-        }
-    }
-}
-
 /// The segments of a link, as its files have them, where reading found no fault.
 #[derive(Drop)]
 pub(crate) struct Segments<'r, 'a> {
@@ -624,7 +498,7 @@ pub(crate) struct Segments<'r, 'a> {
     /// The names of all slots in the linked file.
     pub(crate) names: [Name; 16],
     /// The host's own segment.
-    pub(crate) own: HostSegment<'a>,
+    pub(crate) own: HostSegment<'r, 'a>,
     /// All segments by slot ascending.
     pub(crate) items: &'r ArrayVec<Segment<'a>, 16>,
 }

@@ -1,17 +1,21 @@
-ghost use Rattle.std.specs.Prelude.{◌≡◌, IfOk, IfErr, None, Ok};
+ghost use Rattle.std.specs.Prelude.{◌≡◌, IfOk, IfErr, None, Ok, All, map};
 ghost use Rattle.ps_codefile.specs.Dictionary.{opened_alone};
-ghost use Rattle.ps_resolve.specs.Sources.{contents};
+ghost use Rattle.ps_resolve.specs.Sources.{contents, opened};
 ghost use Rattle.ps_resolve.specs.Plans.{IsPlan, IsStopped};
 ghost use Rattle.ps_resolve.specs.AllFaults.{first_fault};
-ghost use Rattle.ps_resolve.specs.Readings.{opened_host};
+ghost use Rattle.ps_resolve.specs.Readings.{own_reading_fault, read_segments};
+ghost use Rattle.ps_resolve.specs.Views.{segment_of, IsRead};
 
 use crate::linkage::Stop;
 use crate::linking::link_segments;
 use crate::plan::Plan;
-use crate::reading::OwnReading;
-use crate::reading::slots::HOST_FILE;
+use crate::reading::host::host_of;
+use crate::reading::segment::Segment;
+use crate::reading::slots::{HOST_FILE, HostSlots};
+use crate::reading::{Segments, add_to, read_own, slot_names};
+use arrayvec::ArrayVec;
 use ps_codefile::Dict;
-use ps_words::Fault;
+use ps_words::{Fault, Reason};
 use std::alloc::Allocator;
 
 /// Plans the link of a host file with the libraries that have the units it wants, in their order.
@@ -39,8 +43,8 @@ pub fn resolve<'a, A: Allocator + Copy>(
 }
 
 /// Plans the link of a host that was opened. Its own slots are read first, and units are added only
-/// where these have no fault. A function by itself, so that a host that cannot be opened needs no
-/// room for a reading.
+/// where these have no fault. All segments are in one table, which is here. A function by itself, so
+/// that a host that cannot be opened needs no room for it.
 #[inline(never)]
 fn link_opened<'a, A: Allocator + Copy>(
     alloc: A,
@@ -53,29 +57,52 @@ fn link_opened<'a, A: Allocator + Copy>(
     ensures sound { IfOk result (λ _. first_fault host.now (contents libs.now) ≡ None) }
     ensures stop { IfErr result (IsStopped host.now (contents libs.now)) }
 {
-    let own = OwnReading::of(dict, libs);
-    match own.fault() {
+    let slots = HostSlots::of(dict);
+    let mut segments = ArrayVec::new();
+    match read_own(&slots, libs, &mut segments) {
         Some(fault) => Err(Stop::Refused(fault)),
-        None => link_units(alloc, host, &own),
+        None => link_units(alloc, host, libs, &slots, &mut segments),
     }
 }
 
-/// Plans the link of files whose own slots were read, once units are added. A function by itself,
-/// so that only a host that gets so far needs room for a whole reading.
+/// Plans the link of files whose own slots were read, once units are added to their segments. A
+/// function by itself, so that only a host that gets so far needs room for what a link has.
 #[inline(never)]
 fn link_units<'a, A: Allocator + Copy>(
     alloc: A,
     host: &'a [u8],
-    own: &OwnReading<'a>,
+    libs: &'a [&'a [u8]],
+    slots: &HostSlots<'a>,
+    segments: &mut ArrayVec<Segment<'a>, 16>,
 ) -> Result<Plan<'a, A>, Stop>
-    requires { Ok own.now ≡ opened_host host.now own.now.libs }
-    ensures plan { IfOk result (IsPlan host.now own.now.libs) }
-    ensures sound { IfOk result (λ _. first_fault host.now own.now.libs ≡ None) }
-    ensures stop { IfErr result (IsStopped host.now own.now.libs) }
+    requires opened { Ok slots.now ≡ opened_alone host.now }
+    requires own { map segment_of segments.old.items
+        ≡ read_segments slots.now.order slots.now.file (opened slots.now.order libs.now) }
+    requires read { All (IsRead slots.now.order slots.now.file
+        (opened slots.now.order libs.now)) segments.old.items }
+    requires faultless { own_reading_fault slots.now.order slots.now.file (contents libs.now)
+        ≡ None }
+    ensures plan { IfOk result (IsPlan host.now (contents libs.now)) }
+    ensures sound { IfOk result (λ _. first_fault host.now (contents libs.now) ≡ None) }
+    ensures stop { IfErr result (IsStopped host.now (contents libs.now)) }
 {
-    let reading = own.complete();
-    match reading.linkable(host) {
-        Err(fault) => Err(Stop::Refused(fault)),
-        Ok(segments) => link_segments(alloc, &segments),
+    if let Some(fault) = add_to(slots, libs, segments).fault {
+        return Err(Stop::Refused(fault));
+    }
+    let order = slots.order();
+    let all = segments.as_slice();
+    let names = slot_names(slots, all);
+    match host_of(order, all) {
+        None => Err(Stop::Refused(Fault::in_file(HOST_FILE, Reason::NoHost))),
+        Some(own) => {
+            let linkable = Segments {
+                order,
+                host,
+                names,
+                own,
+                items: segments,
+            };
+            link_segments(alloc, &linkable)
+        }
     }
 }

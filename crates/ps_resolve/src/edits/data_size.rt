@@ -42,18 +42,18 @@ pub(crate) fn grown_data_size(
     words: u16,
 ) -> Result<DataSize, Stop>
     requires { IsHost order host.now }
-    ensures edit { IfOk result (λ d. data_edits order words host.now.segment.code
+    ensures edit { IfOk result (λ d. data_edits order words host.now.segment.now.code
         ≡ Word d.size d.place ∷ []) }
-    ensures size { IfOk result (λ d. d.size ≡ data_size_of order words host.now.segment.code) }
-    ensures table { IfOk result (λ d. IsOfTable order host.now.segment.code
+    ensures size { IfOk result (λ d. d.size ≡ data_size_of order words host.now.segment.now.code) }
+    ensures table { IfOk result (λ d. IsOfTable order host.now.segment.now.code
         (Word d.size d.place)) }
-    ensures fits { IfOk result (λ _. size_fault order words (segment_of host.now.segment) ≡ None) }
-    ensures stop { IfErr result (IsOfSize order words (segment_of host.now.segment)) }
+    ensures fits { IfOk result (λ _. size_fault order words (segment_of host.now.segment.now) ≡ None) }
+    ensures stop { IfErr result (IsOfSize order words (segment_of host.now.segment.now)) }
 {
     let place = host.outer_block - DATA_SIZE_BEFORE_TABLE;
-    let size = get(order, host.segment.code, place) as usize + WORD_LEN * words as usize;
+    let size = get(order, host.segment.code(), place) as usize + WORD_LEN * words as usize;
     if size > u16::MAX as usize {
-        let slot = host.segment.slot;
+        let slot = host.segment.slot();
         let fault = Fault::in_slot(HOST_FILE, slot, Reason::DataTooLarge);
         return Err(Stop::Refused(fault));
     }

@@ -1,13 +1,15 @@
-ghost use Rattle.std.specs.Prelude.{◌≡◌, ◌<◌, ◌≤◌, ◌++◌, ◌∷◌, [], List, All, if◌then◌else◌, length, map, take, slice_get};
-ghost use Rattle.std.specs.List.{list_any};
+ghost use Rattle.std.specs.Prelude.{◌≡◌, ◌<◌, ◌≤◌, ◌+◌, ◌++◌, ◌∷◌, [], ℕ, List, All, if◌then◌else◌, length, map, take, slice_get};
+ghost use Rattle.std.specs.List.{insert, list_any};
 ghost use Rattle.std.specs.Result.{result_err};
 ghost use Rattle.std.specs.Str.{bytes_eq};
 ghost use Rattle.arrayvec.specs.ArrayVec.{array_vec_len};
 ghost use Rattle.ps_codefile.specs.Roles.{is_empty as is_empty_role};
-ghost use Rattle.ps_resolve.specs.Sources.{opened};
+ghost use Rattle.ps_words.specs.declared.order.Order.{Order as ByteOrder};
+ghost use Rattle.ps_resolve.specs.Sources.{opened, Segment as SegmentOfLink};
 ghost use Rattle.ps_resolve.specs.Added.{unit_references, all_unit_references, is_already_known as is_already_known_spec, requested_from, request_of, empty_slots as empty_slots_spec, unplaced_fault, rounds_from};
 ghost use Rattle.ps_resolve.specs.Faults.{is_role};
-ghost use Rattle.ps_resolve.specs.Views.{segment_of, IsRead, AreAlike};
+ghost use Rattle.ps_resolve.specs.Readings.{read_segments};
+ghost use Rattle.ps_resolve.specs.Views.{segment_of, put_by_slot, segments_in_slots, IsRead, AreAlike};
 
 use crate::linkage::{RecordPlace, SegmentPlace};
 use crate::reading::request::{Request, Requester, read_unit, unit_named};
@@ -224,8 +226,43 @@ fn requested_at(queue: &ArrayVec<UnitReference, 10>, k: usize) -> Option<UnitRef
     queue.get(k).copied()
 }
 
-/// Fills the table with the segments that are added in these slots, in order, or answers their
-/// first fault, with those before it in the table.
+/// The k-th of the empty slots, from 0; `None` if there are fewer.
+pub(crate) fn slot_at(empty: &ArrayVec<u8, 9>, k: usize) -> Option<u8>
+    ensures { result ≡ slice_get empty.now.items k }
+{
+    empty.get(k).copied()
+}
+
+/// How many of these segments, which are by slot ascending, are before a segment of this slot.
+fn count_before(segments: &[Segment], slot: u8) -> usize
+    ensures fits { result ≤ length segments.now }
+    ensures place { (s : SegmentOfLink) → s.slot ≡ slot
+        → insert (map segment_of segments.now) result s ≡ put_by_slot s (map segment_of segments.now) }
+{
+    for (count, segment) in segments.iter().enumerate() {
+        if slot < segment.slot {
+            return count;
+        }
+    }
+    segments.len()
+}
+
+/// Puts the segment into the table, which is by slot ascending.
+fn put<'a>(segments: &mut ArrayVec<Segment<'a>, 16>, segment: Segment<'a>)
+    requires { array_vec_len segments.old < 16 }
+    ensures segments { map segment_of segments.new.items
+        ≡ put_by_slot (segment_of segment.entry) (map segment_of segments.old.items) }
+    ensures len { length segments.new.items ≡ length segments.old.items + 1 }
+    ensures read { (order : ByteOrder) (host : List ℕ) (libs : List (List ℕ))
+        → All (IsRead order host libs) segments.old.items → IsRead order host libs segment.entry
+        → All (IsRead order host libs) segments.new.items }
+{
+    let count = count_before(segments.as_slice(), segment.slot);
+    segments.insert(count, segment);
+}
+
+/// Adds segments in these slots, which are the empty ones, to the own segments in the table, each in
+/// its place by slot, or answers their first fault, with those before it in the table.
 ///
 /// Each name of the queue gets the next of the slots, and in it the unit of that name of the first
 /// library that has one. The names that an added unit requests are appended to the queue.
@@ -235,9 +272,13 @@ pub(crate) fn add_units<'a>(
     units: &UnitSlots,
     slots: &[u8],
     queue: &mut ArrayVec<UnitReference, 10>,
-    added: &mut ArrayVec<Segment<'a>, 9>,
+    segments: &mut ArrayVec<Segment<'a>, 16>,
 ) -> Result<(), Fault>
-    requires empty { added.old.items ≡ [] }
+    requires own { map segment_of segments.old.items
+        ≡ read_segments host.now.order host.now.file (opened host.now.order libs.now) }
+    requires read { All (IsRead host.now.order host.now.file (opened host.now.order libs.now))
+        segments.old.items }
+    requires empty { slots.now ≡ empty_slots_spec host.now.order host.now.file }
     requires few { length slots.now ≤ 9 }
     requires short { length queue.old.items ≤ 10 }
     requires in_range { All (λ slot. slot < 16) slots.now }
@@ -245,27 +286,33 @@ pub(crate) fn add_units<'a>(
         → result_err result ≡ (rounds_from host.now.order host.now.file
         (opened host.now.order libs.now) units.now slots.now 0 whole).fault }
     ensures added { (whole : List UnitReference) → queue.old.items ≡ take 10 whole
-        → map segment_of added.new.items ≡ (rounds_from host.now.order host.now.file
+        → map segment_of segments.new.items ≡ segments_in_slots host.now.order host.now.file
+        (map segment_of segments.old.items) (rounds_from host.now.order host.now.file
         (opened host.now.order libs.now) units.now slots.now 0 whole).added }
+    ensures count { (whole : List UnitReference) → queue.old.items ≡ take 10 whole
+        → length segments.new.items ≡ length segments.old.items
+        + length (rounds_from host.now.order host.now.file
+        (opened host.now.order libs.now) units.now slots.now 0 whole).added }
+    ensures more { length segments.old.items ≤ length segments.new.items }
     ensures requested { (whole : List UnitReference) → queue.old.items ≡ take 10 whole
         → queue.new.items ≡ take 10 (requested_from units.now whole
-        (all_unit_references (map segment_of added.new.items))) }
+        (all_unit_references (rounds_from host.now.order host.now.file
+        (opened host.now.order libs.now) units.now slots.now 0 whole).added)) }
     ensures read { All (IsRead host.now.order host.now.file (opened host.now.order libs.now))
-        added.new.items }
+        segments.new.items }
 {
-    for slot in slots {
-        match requested_at(queue, added.len()) {
+    for (round, slot) in slots.iter().enumerate() {
+        match requested_at(queue, round) {
             None => return Ok(()),
             Some(requested) => {
                 let request = requested.in_slot(*slot);
-                let segment = read_unit(host, libs, &request, added.as_slice())?;
+                let segment = read_unit(host, libs, &request, segments.as_slice())?;
                 enqueue_segment(units, queue, &segment);
-                added.push(segment);
+                put(segments, segment);
             }
         }
     }
-    let placed = added.len();
-    match requested_at(queue, placed) {
+    match requested_at(queue, slots.len()) {
         None => Ok(()),
         Some(requested) => Err(no_slot(host, libs, &requested)),
     }

@@ -22,21 +22,23 @@ pub(crate) struct Resolvable<'a> {
 }
 
 /// A segment of the linked file, as the files have it: views of them, and no copy.
+///
+/// A link has a table of sixteen, so its small fields are together.
 /// Source: UCSD Pascal II.0 manual, code file format, and the published II.0 Linker source.
 #[derive(Drop)]
 pub struct Segment<'a> {
     /// Its slot in the host, 0 to 15.
     pub(crate) slot: u8,
-    /// The host's name of that slot, or that of the unit that was added there.
-    pub(crate) name: Name,
     /// What the slot is for; never `Empty`.
     pub(crate) role: Role,
     /// It was added in an empty slot, for a UNITREF; its role is that of a wanted unit.
     pub(crate) added: bool,
+    /// The slot of its entry in its file, 0 to 15.
+    pub(crate) index: u8,
+    /// The host's name of its slot, or that of the unit that was added there.
+    pub(crate) name: Name,
     /// The file that its code comes from: 0 for the host, k for the k-th library.
     pub(crate) file: usize,
-    /// The slot of its entry in that file, 0 to 15.
-    pub(crate) index: u8,
     pub(crate) code: &'a [u8],
     /// What only a segment has whose references are resolved; `None` for one that is linked
     /// already, as its role says.
@@ -54,19 +56,6 @@ impl<'a> Model for Segment<'a> {
     ghost view = { λ s. record { slot = s.slot; name = s.name; role = s.role; added = s.added; file = s.file; index = s.index; code = s.code.now; tables = option_map (λ c. c.procedures) s.resolvable; block = option_map_or (λ c. c.block) s.resolvable 0; records = option_map_or (λ c. c.records) s.resolvable [] } };
 
     ghost invariant = { λ s. is_some s.resolvable ≡ needs_linking s.role };
-}
-
-impl<'a> Resolvable<'a> {
-    /// A copy, which borrows the same bytes.
-    fn copy(&self) -> Resolvable<'a>
-        ensures { result ≡ self.now }
-    {
-        Resolvable {
-            procedures: self.procedures.copy(),
-            block: self.block,
-            records: self.records.copy(),
-        }
-    }
 }
 
 impl<'a> Segment<'a> {
@@ -146,22 +135,6 @@ impl<'a> Segment<'a> {
         match &self.resolvable {
             None => None,
             Some(resolvable) => Some(&resolvable.records),
-        }
-    }
-
-    /// A copy of the segment, which borrows the same bytes.
-    pub(crate) fn copy(&self) -> Segment<'a>
-        ensures { result ≡ self.now }
-    {
-        Segment {
-            slot: self.slot,
-            name: self.name,
-            role: self.role,
-            added: self.added,
-            file: self.file,
-            index: self.index,
-            code: self.code,
-            resolvable: self.resolvable.as_ref().map(|resolvable| resolvable.copy()),
         }
     }
 

@@ -23,22 +23,10 @@ pub(crate) fn library_file(library: usize) -> usize
     library + 1
 }
 
-/// The entry of an empty slot.
-const NO_ENTRY: Entry = Entry {
-    address: 0,
-    length: 0,
-    name: [0; 8],
-    kind: 0,
-    text: 0,
-};
-
-/// A host's segment dictionary, of which each entry is read once, and the role of each slot is
-/// decided once.
+/// A host's segment dictionary, in which the role of each slot is decided once.
 #[derive(Drop)]
 pub(crate) struct HostSlots<'a> {
     dict: Dict<'a>,
-    /// What the dictionary says of each slot.
-    entries: [Entry; 16],
     /// The role of each slot, or why its kind is refused.
     roles: [Result<Role, Reason>; 16],
 }
@@ -51,7 +39,7 @@ impl<'a> Model for HostSlots<'a> {
 
     ghost view = { λ s. s.dict };
 
-    ghost invariant = { λ s. AreSlots s.dict s.entries s.roles };
+    ghost invariant = { λ s. AreSlots s.dict s.roles };
 }
 
 impl<'a> HostSlots<'a> {
@@ -59,28 +47,11 @@ impl<'a> HostSlots<'a> {
     pub(crate) fn of(dict: Dict<'a>) -> HostSlots<'a>
         ensures { result ≡ dict.entry }
     {
-        let mut entries = [NO_ENTRY; SLOTS as usize];
         let mut roles = [Ok(Role::Empty); SLOTS as usize];
         for slot in 0..SLOTS {
-            entries[slot as usize] = dict.entry(slot);
             roles[slot as usize] = dict.role(slot);
         }
-        HostSlots {
-            dict,
-            entries,
-            roles,
-        }
-    }
-
-    /// The same slots, of the same file.
-    pub(crate) fn copy(&self) -> HostSlots<'a>
-        ensures { result ≡ self.now }
-    {
-        HostSlots {
-            dict: self.dict.copy(),
-            entries: self.entries,
-            roles: self.roles,
-        }
+        HostSlots { dict, roles }
     }
 
     /// The dictionary itself.
@@ -102,7 +73,7 @@ impl<'a> HostSlots<'a> {
         requires { slot < 16 }
         ensures { result ≡ entry_at self.now.order self.now.file slot }
     {
-        self.entries[slot as usize]
+        self.dict.entry(slot)
     }
 
     /// What a slot is for, or why its kind is refused.

@@ -11,7 +11,7 @@ use crate::linkage::SegmentPlace;
 use crate::reading::entries::read_segment;
 use crate::reading::request::{Request, read_unit};
 use crate::reading::segment::Segment;
-use crate::reading::slots::{HOST_FILE, HostSlots};
+use crate::reading::slots::{HOST_FILE, HostSlots, is_empty};
 use arrayvec::ArrayVec;
 use ps_codefile::Role;
 use ps_codefile::dictionary_layout::SLOTS;
@@ -95,6 +95,9 @@ pub(crate) fn read_slots<'a>(
 {
     let mut first = None;
     for slot in 0..SLOTS {
+        if is_empty(host, slot) {
+            continue;
+        }
         let read = read_slot(host, libs, slot, segments.as_slice());
         keep(segments, &mut first, read);
     }

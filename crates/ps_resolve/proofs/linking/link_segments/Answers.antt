@@ -23,12 +23,12 @@ use Rattle.ps_resolve.proofs.linking.link_segments.Goals as goal
 given : {order : Order} {host : List ℕ} {names : List (List ℕ)} {own : HostSegment} {items lent : List SegmentView} → lent ≡ items → AreSegments order host names own items → AreSegments order host names own lent
 given {order} {host} {names} {own} same h = subst (AreSegments order host names own) (sym same) h
 
--- the host's own segment, with the records that are kept beside it
+-- the host's own segment, with the records that are lent beside it
 abbrev own_of : HostSegment → SegmentView
-own_of h = record h.segment { records = h.records }
+own_of h = record h.segment.now { records = h.records.now }
 
 found_own : {order : Order} {host : List ℕ} {names : List (List ℕ)} {own : HostSegment} {ss : List SegmentView} → AreSegments order host names own ss → host_of (map segment_of ss) ≡ Some (segment_of (own_of own))
-found_own {order} {host} {names} {own} h = h.found ∙ ap (λ (rs : List Record). Some (segment_of (record own.segment { records = rs }))) (sym h.own.records)
+found_own {order} {host} {names} {own} h = h.found ∙ ap (λ (rs : List Record). Some (segment_of (record own.segment.now { records = rs }))) (sym h.own.records)
 
 pub returns-in_err-definitions-clause-stop : goal.returns-in_err-definitions-clause-stop
 returns-in_err-definitions-clause-stop g c =

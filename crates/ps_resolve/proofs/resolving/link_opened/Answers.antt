@@ -1,4 +1,4 @@
-use Rattle.std.proofs.Common.{◌≡◌, ℕ, List, Ok, Some, refl, sym, ◌∙◌, ap, subst}
+use Rattle.std.proofs.Common.{◌≡◌, ℕ, List, Ok, Some, refl, sym, ◌∙◌, ap}
 use Rattle.ps_codefile.specs.Dictionary.{OpenedFile, opened_alone}
 use Rattle.ps_resolve.specs.Sources.{contents}
 use Rattle.ps_resolve.specs.Readings.{HostFiles, opened_host, own_reading_fault}
@@ -17,14 +17,17 @@ pub returns-in-Some-clause-stop : goal.returns-in-Some-clause-stop
 returns-in-Some-clause-stop g c =
     let host = c.args.host.now in
     let libs = contents c.args.libs.now in
-    let v = files_of c.args.dict libs in
+    let slots : OpenedFile = c.of-slots.result in
+    let v = files_of slots libs in
     let fault = c.in-Some.fault in
-    let found : own_reading_fault v.order v.file v.libs ≡ Some fault =
-    ap (λ (x : HostFiles). own_reading_fault x.order x.file x.libs) (sym c.of-own.ensures) ∙ (sym c.fault.ensures ∙ c.in-Some.is) in
-    first_read host libs fault (sym (fault_of_host host libs v (opened_is host libs c.args.dict (sym c.requires))) ∙ first_own v.order v.file v.libs fault found)
+    let found : own_reading_fault v.order v.file v.libs ≡ Some fault = sym c.read_own.ensures.first ∙ c.in-Some.is in
+    let opened : opened_alone host ≡ Ok slots = sym (ap (λ (o : OpenedFile). Ok o) c.of-slots.ensures ∙ c.requires) in
+    first_read host libs fault (sym (fault_of_host host libs v (opened_is host libs slots opened)) ∙ first_own v.order v.file v.libs fault found)
 
 pub link_units-requires : goal.link_units-requires
-link_units-requires g c =
-    let host = c.args.host.now in
-    let libs = contents c.args.libs.now in
-    subst (λ (x : HostFiles). Ok x ≡ opened_host host x.libs) (sym c.of-own.ensures) (sym (opened_is host libs c.args.dict (sym c.requires)))
+link_units-requires g c = record {
+  opened = ap (λ (o : OpenedFile). Ok o) c.of-slots.ensures ∙ c.requires;
+  own = c.read_own.ensures.segments;
+  read = c.read_own.ensures.read;
+  faultless = sym c.read_own.ensures.first ∙ c.in-None.is;
+}

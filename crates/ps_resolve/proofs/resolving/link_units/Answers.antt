@@ -1,50 +1,121 @@
-use Rattle.std.proofs.Common.{◌≡◌, ℕ, List, map, None, sym, ◌∙◌, ap, subst}
+use Rattle.std.proofs.Common.{◌≡◌, ◌≤◌, ℕ, List, length, map, Bool, true, false, if◌then◌else◌, Option, None, Ok, Err, is_some, refl, sym, ◌∙◌, ap, subst, arith}
+use Rattle.std.proofs.Math.Dec.{ltb}
+use Rattle.std.proofs.lemmas.Bool.Decides.{nat_tests}
+use Rattle.std.specs.Option.{option_or}
 use Rattle.std.specs.Prelude.{IfOk}
 use Rattle.std.proofs.lemmas.Result.{IfErr-weaker, IfOk-weaker}
+use Rattle.ps_words.specs.declared.fault.Fault.{Fault}
 use Rattle.ps_words.specs.declared.order.Order.{Order}
-use Rattle.ps_resolve.specs.Sources.{Segment, order_of}
-use Rattle.ps_resolve.specs.Added.{segments}
-use Rattle.ps_resolve.specs.Views.{segment_of}
-use Rattle.ps_resolve.specs.Faults.{linking_fault}
-use Rattle.ps_resolve.specs.AllFaults.{first_fault, reading_fault}
+use Rattle.ps_words.specs.declared.fault.Reason.TheVariants as reason
+use Rattle.ps_codefile.specs.Dictionary.{OpenedFile, FileOrder, file_order, opened_alone, opened_as}
+use Rattle.ps_resolve.specs.Sources.{Segment, contents, host_of, opened_files, order_of}
+use Rattle.ps_resolve.specs.Added.{added_fault, segments, slot_names}
+use Rattle.ps_resolve.specs.Views.{SegmentView, segment_of}
+use Rattle.ps_resolve.specs.Faults.{linking_fault, slots_fault, no_host_fault, libraries_fault, sources_fault}
+use Rattle.ps_resolve.specs.AllFaults.{first_fault, reading_fault, reading_rest}
 use Rattle.ps_resolve.specs.Plans.{AreStopped, IsPlanOf, IsStopped}
-use Rattle.ps_resolve.specs.Readings.{HostFiles, host_reading_fault}
+use Rattle.ps_resolve.specs.Readings.{host_reading_fault, own_reading_fault, read_rounds}
 use Rattle.ps_resolve.proofs.FirstFaults.{first_read, first_linked, stopped}
-use Rattle.ps_resolve.proofs.ReadingSlots.{fault_of_host, host_of_files}
+use Rattle.ps_resolve.proofs.FirstSlots.{neither_first, neither_second}
+use Rattle.ps_resolve.proofs.ReadingHosts.{host_is, host_read, rest_of}
+use Rattle.ps_resolve.proofs.ReadingKnown.{ascend, host_there, one_host}
+use Rattle.ps_resolve.proofs.ReadingSlots.{reading_is, segments_are, units_last}
+use Rattle.ps_resolve.proofs.Sharing.{all_sound, read_alike}
 use Rattle.ps_resolve.proofs.resolving.link_units.Goals as goal
 
-pub returns-in-Err-clause-stop : goal.returns-in-Err-clause-stop
-returns-in-Err-clause-stop g c =
-    let v : HostFiles = c.args.own.now in
-    let is = c.complete-reading.ensures in
-    first_read c.args.host.now v.libs c.in-Err.fault
-    (sym (fault_of_host c.args.host.now v.libs v (sym c.requires)) ∙ (ap (λ (x : HostFiles). host_reading_fault x.order x.file x.libs) (sym is) ∙ c.in-Err.ensures.fault))
+-- the first fault of reading a host that was opened
+fault_of : (host : List ℕ) (libs : List (List ℕ)) (o : OpenedFile) → Ok o ≡ opened_alone host → host_reading_fault o.order o.file libs ≡ reading_fault host libs
+fault_of host libs o h = reading_is o.order o.file libs ∙ sym (host_read host libs o (sym h))
 
-pub linkable-requires : goal.linkable-requires
-linkable-requires g c =
-    let v : HostFiles = c.args.own.now in
-    sym (ap (λ (x : HostFiles). x.file) (c.complete-reading.ensures ∙ host_of_files c.args.host.now v.libs v (sym c.requires)))
+-- the files have no fault
+none_of : (order : Order) (host : List ℕ) (libs : List (List ℕ)) → host_reading_fault order host libs ≡ None → (slots_fault order host ≡ None) × (no_host_fault order host ≡ None) × (sources_fault order host libs ≡ None)
+none_of order host libs none =
+    let h : rest_of order host libs ≡ None = sym (reading_is order host libs) ∙ none in
+    let behind_libraries = option_or (libraries_fault order libs) (reading_rest order host libs) in
+    let behind_slots = option_or (no_host_fault order host) behind_libraries in
+    let slots = neither_second (slots_fault order host) behind_slots h in
+    let has = neither_second (no_host_fault order host) behind_libraries slots in
+    (neither_first (slots_fault order host) behind_slots h, neither_first (no_host_fault order host) behind_libraries slots, neither_first (sources_fault order host libs) (added_fault order host libs) (neither_second (libraries_fault order libs) (reading_rest order host libs) has))
 
-pub returns-in-Ok : goal.returns-in-Ok
-returns-in-Ok g c =
+pub returns-in-Some-clause-stop : goal.returns-in-Some-clause-stop
+returns-in-Some-clause-stop g c =
     let host : List ℕ = c.args.host.now in
-    let v : HostFiles = c.args.own.now in
-    let libs : List (List ℕ) = v.libs in
-    let opened = sym c.requires in
-    let is = c.complete-reading.ensures ∙ host_of_files host libs v opened in
-    let order : Order = c.in-Ok.segments.order in
-    let given : List Segment = map segment_of c.in-Ok.segments.items in
+    let libs = contents c.args.libs.now in
+    let o : OpenedFile = c.args.slots.now in
+    let fault : Fault = c.in-Some.fault in
+    first_read host libs fault
+    (sym (fault_of host libs o c.requires.opened) ∙ (sym (units_last o.order o.file libs None c.add_to.result.fault (sym c.requires.faultless) c.add_to.ensures.ends) ∙ c.in-Some.is))
+
+-- what is read of the units too has no fault
+faultless : (o : OpenedFile) (libs : List (List ℕ)) (last : Option Fault) → own_reading_fault o.order o.file libs ≡ None → last ≡ (read_rounds o.order o.file (opened_files o.order libs)).fault → last ≡ None → host_reading_fault o.order o.file libs ≡ None
+faultless o libs last own ends none = sym (units_last o.order o.file libs None last (sym own) ends) ∙ none
+
+-- a host that was opened has a whole dictionary
+not_short : (short : Bool) (of : FileOrder) (file : List ℕ) (o : OpenedFile) → (if short then Err reason.ShortFile else opened_as file of) ≡ Ok o → short ≡ false
+not_short true of file o h = cc
+not_short false of file o h = refl
+
+whole_of : (host : List ℕ) (o : OpenedFile) → Ok o ≡ opened_alone host → 512 ≤ length host
+whole_of host o h = let e : ltb (length host) 512 ≡ false = not_short (ltb (length host) 512) (file_order host) host o (sym h) in grind (arith, nat_tests)
+
+pub host_of-requires : goal.host_of-requires
+host_of-requires g c =
+    let o : OpenedFile = c.args.slots.now in
+    rw (c.as_slice-all.ensures.value, c.order-order.ensures) (all_sound o.order o.file (opened_files o.order (contents c.args.libs.now)) c.add_to.new.segments.items c.add_to.ensures.read)
+
+pub returns-in-None-clause-stop : goal.returns-in-None-clause-stop
+returns-in-None-clause-stop g c =
+    let o : OpenedFile = c.args.slots.now in
+    let libs = contents c.args.libs.now in
+    let none = faultless o libs c.add_to.result.fault c.requires.faultless c.add_to.ensures.ends c.in_default.is in
+    let t = none_of o.order o.file libs none in
+    let has = host_there o.order o.file libs t.1 t.2 in
+    let lacks = c.in-None.ensures.found ∙ ap (λ (ss : List SegmentView). host_of (map segment_of ss)) c.as_slice-all.ensures.value ∙ ap host_of (c.add_to.ensures.all ∙ segments_are o.order o.file libs none) in
+    let no : is_some (host_of (segments o.order o.file libs)) ≡ false = ap is_some (sym lacks) in
+    let wrong : true ≡ false = sym has ∙ no in
+    cc
+
+pub invariant_of-linkable : goal.invariant_of-linkable
+invariant_of-linkable g c =
+    let o : OpenedFile = c.args.slots.now in
+    let libs = contents c.args.libs.now in
+    let files = opened_files o.order libs in
+    let items : List SegmentView = c.add_to.new.segments.items in
+    let none = faultless o libs c.add_to.result.fault c.requires.faultless c.add_to.ensures.ends c.in_default.is in
+    let t = none_of o.order o.file libs none in
+    let all : map segment_of items ≡ segments o.order o.file libs = c.add_to.ensures.all ∙ segments_are o.order o.file libs none in
+    let file : o.file ≡ c.args.host.now = ap (λ (x : OpenedFile). x.file) (host_is c.args.host.now o (sym c.requires.opened)) in
+    record {
+      sound = rw c.order-order.ensures (all_sound o.order o.file files items c.add_to.ensures.read);
+      found = sym (c.in-Some-host_of.ensures.found ∙ ap (λ (ss : List SegmentView). host_of (map segment_of ss)) c.as_slice-all.ensures.value);
+      own = c.in-Some-host_of.ensures.is;
+      one_host = rw all (one_host o.order o.file libs t.0);
+      ascending = rw all (ascend o.order o.file libs);
+      whole = whole_of c.args.host.now o c.requires.opened;
+      alike = read_alike o.order o.file files items c.add_to.ensures.read;
+      most = subst (λ (ss : List SegmentView). length ss ≤ 16) c.as_slice-all.ensures.value c.as_slice-all.ensures.fits;
+      named = c.slot_names-names.ensures
+          ∙ (ap (λ (xs : List ℕ). slot_names xs (map segment_of c.as_slice-all.result.now)) file
+          ∙ ap (λ (ss : List SegmentView). slot_names c.args.host.now (map segment_of ss)) c.as_slice-all.ensures.value);
+    }
+
+pub returns-in-Some-host_of : goal.returns-in-Some-host_of
+returns-in-Some-host_of g c =
+    let host : List ℕ = c.args.host.now in
+    let o : OpenedFile = c.args.slots.now in
+    let libs = contents c.args.libs.now in
+    let is = host_is host o (sym c.requires.opened) in
+    let order : Order = c.order-order.result in
+    let given : List Segment = map segment_of c.add_to.new.segments.items in
     let all : List Segment = segments (order_of host) host libs in
-    let order_is : order ≡ order_of host = c.in-Ok.ensures.order ∙ ap (λ (x : HostFiles). x.order) is in
-    let host_is : c.in-Ok.segments.host ≡ host = c.in-Ok.ensures.host ∙ ap (λ (x : HostFiles). x.file) is in
-    let given_is : given ≡ all = c.in-Ok.ensures.segments ∙ ap (λ (x : HostFiles). segments x.order x.file x.libs) is in
-    let none : reading_fault host libs ≡ None =
-    sym (fault_of_host host libs v opened) ∙ (ap (λ (x : HostFiles). host_reading_fault x.order x.file x.libs) (sym c.complete-reading.ensures) ∙ c.in-Ok.ensures.faultless) in
+    let read = faultless o libs c.add_to.result.fault c.requires.faultless c.add_to.ensures.ends c.in_default.is in
+    let order_is : order ≡ order_of host = c.order-order.ensures ∙ ap (λ (x : OpenedFile). x.order) is in
+    let given_is : given ≡ all = c.add_to.ensures.all ∙ (segments_are o.order o.file libs read ∙ ap (λ (x : OpenedFile). segments x.order x.file libs) is) in
+    let none : reading_fault host libs ≡ None = sym (fault_of host libs o c.requires.opened) ∙ read in
     let same : linking_fault order given ≡ linking_fault (order_of host) all = ap (linking_fault order) given_is ∙ ap (λ (o : Order). linking_fault o all) order_is in
     record {
       plan = subst (λ (o : Order). IfOk c.link_segments.result (IsPlanOf o host all)) order_is
-          (subst (λ (file : List ℕ). IfOk c.link_segments.result (IsPlanOf order file all)) host_is
-          (subst (λ (segs : List Segment). IfOk c.link_segments.result (IsPlanOf order c.in-Ok.segments.host segs)) given_is c.link_segments.ensures.plan));
+          (subst (λ (segs : List Segment). IfOk c.link_segments.result (IsPlanOf order host segs)) given_is c.link_segments.ensures.plan);
       sound = IfOk-weaker c.link_segments.result (λ _. linking_fault order given ≡ None) (λ _. first_fault host libs ≡ None) (λ _ h. first_linked host libs none ∙ sym same ∙ h) c.link_segments.ensures.sound;
       stop = IfErr-weaker c.link_segments.result (AreStopped order given) (IsStopped host libs)
           (λ stop d. stopped host libs none stop (subst (λ (o : Order). AreStopped o all stop) order_is (subst (λ (segs : List Segment). AreStopped order segs stop) given_is d))) c.link_segments.ensures.stop;

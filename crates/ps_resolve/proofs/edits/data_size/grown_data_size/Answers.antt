@@ -1,4 +1,4 @@
-use Rattle.std.proofs.Common.{◌≡◌, ℕ, zero, suc, ◌+◌, ◌-◌, ◌≤◌, ◌&&◌, ◌||◌, Bool, true, false, Option, Some, refl, ap, subst, arith}
+use Rattle.std.proofs.Common.{◌≡◌, ℕ, zero, suc, ◌+◌, ◌-◌, ◌≤◌, ◌&&◌, ◌||◌, Bool, true, false, Option, Some, refl, subst, arith}
 use Rattle.std.specs.Prelude.{nat_le, nat_lt}
 use Rattle.std.specs.List.{list_any, filter_map, range_with_len}
 use Rattle.std.proofs.lemmas.Bool.Decides.{nat_tests}
@@ -21,18 +21,15 @@ some_table f q zero t h k s = absurd (omega arith)
 some_table f q (suc n) t h k s = rw k (rw s refl)
 
 -- what is eight bytes before the place of the outer block's table, its data size, is reserved
-stored : (order : Order) (h : HostSegment) (v : ℕ) → IsHost order h → IsOfTable order h.segment.code (Word v (h.outer_block - 8))
+stored : (order : Order) (h : HostSegment) (v : ℕ) → IsHost order h → IsOfTable order h.segment.now.code (Word v (h.outer_block - 8))
 stored order h v is = record { storable = tt; before = let end = is.whole.high in let start = is.whole.low in omega arith; reserved = reserved }
   where
     low_of : (x p : ℕ) → (nat_le x p && nat_lt p (x + 2)) ≡ true → (nat_le x p && nat_le p (x + 8 + 1)) ≡ true
     low_of x p h = grind (arith, nat_tests)
 
-    reserved : (p : ℕ) → covers p (Word v (h.outer_block - 8)) ≡ true → is_reserved order h.segment.code p ≡ true
-    reserved p covered = or_right _ _ (some_table (table_of order h.segment.code) (λ t. nat_le (t - 8) p && nat_le p (t + 1)) (procedures h.segment.code) h.outer_block is.procedure is.table
+    reserved : (p : ℕ) → covers p (Word v (h.outer_block - 8)) ≡ true → is_reserved order h.segment.now.code p ≡ true
+    reserved p covered = or_right _ _ (some_table (table_of order h.segment.now.code) (λ t. nat_le (t - 8) p && nat_le p (t + 1)) (procedures h.segment.now.code) h.outer_block is.procedure is.table
         (let e : h.outer_block - 8 + 8 ≡ h.outer_block = (let start = is.whole.low in omega arith) in subst (λ (n : ℕ). (nat_le (h.outer_block - 8) p && nat_le p (n + 1)) ≡ true) e (low_of (h.outer_block - 8) p covered)))
 
 pub returns-clause-table : goal.returns-clause-table
-returns-clause-table c =
-    let host = c.args.host.now in
-    rw (ap (λ (h : HostSegment). h.outer_block) c.host.view_is)
-    (stored c.args.order host _ c.requires)
+returns-clause-table c = stored c.args.order c.args.host.now _ c.requires

@@ -1,4 +1,4 @@
-use Rattle.std.proofs.Common.{◌≡◌, ◌+◌, ◌<◌, ◌∙◌, ◌++◌, ◌-◌, ℕ, List, append-nil, if◌then◌else◌, map, Option, Some, None, Result, Ok, Err, refl, sym, ap, subst, arith}
+use Rattle.std.proofs.Common.{◌≡◌, ◌+◌, ◌<◌, ◌∙◌, ◌++◌, ◌-◌, ℕ, List, append-nil, if◌then◌else◌, map, [], true, Option, Some, None, Result, Ok, Err, refl, sym, ap, subst, arith}
 use Rattle.std.specs.Prelude.{is_none, IfOk, IfSome, option_and_then}
 use Rattle.std.specs.List.{filter_map, range_with_len}
 use Rattle.std.specs.Option.{option_map, option_or}
@@ -6,10 +6,12 @@ use Rattle.std.specs.Result.{result_err, result_ok}
 use Rattle.std.proofs.lemmas.List.Elements.{All-nil}
 use Rattle.ps_words.specs.declared.fault.Fault.{Fault}
 use Rattle.ps_resolve.specs.Sources.{Segment, own_segment, opened}
-use Rattle.ps_resolve.specs.Faults.{source_fault, sources_fault}
+use Rattle.ps_codefile.specs.Roles.{is_empty}
+use Rattle.ps_resolve.specs.Faults.{is_role, source_fault, sources_fault}
 use Rattle.ps_resolve.specs.Readings.{read_segment, read_segments}
 use Rattle.ps_resolve.specs.Views.{SegmentView, segment_of, IsRead}
 use Rattle.ps_resolve.specs.Searches.{first_of}
+use Rattle.ps_resolve.proofs.BySlot.{fine_of_empty, none_of_empty}
 use Rattle.ps_resolve.proofs.FirstSlots.{first_more}
 use Rattle.ps_resolve.proofs.ReadingSources.{all_with, kept_on, few_more}
 use Rattle.ps_resolve.proofs.reading.sources.read_slots.Goals as goal
@@ -66,6 +68,26 @@ loop-slot-preserved c =
 last_fault : (o : Option Fault) → option_or o None ≡ o
 last_fault None = refl
 last_fault (Some x) = refl
+
+-- an empty slot has neither
+pub loop-slot-preserved-then-is_empty : goal.loop-slot-preserved-then-is_empty
+loop-slot-preserved-then-is_empty c =
+    let host = c.args.host.now in
+    let libs = opened host.order c.args.libs.now in
+    let inv = c.loop-slot.invariant in
+    let old : List SegmentView = c.loop-slot.segments.items in
+    let i : ℕ = c.loop-slot.slot in
+    let empty : is_role is_empty host.order host.file i ≡ true = sym c.is_empty.ensures ∙ c.if-is_empty.true in
+    let none : Option SegmentView = None in
+    let same : old ++ [] ≡ old = append-nil old in
+    record {
+      faults = inv.faults ∙ (more_faults (source_fault host.order host.file libs) c.loop-slot.first None i c.loop-slot-test.true (sym (fine_of_empty host.order host.file libs i empty))
+          ∙ ap (λ (o : Option Fault). option_or o (first_of (source_fault host.order host.file libs) (range_with_len (i + 1) (16 - (i + 1))))) (last_fault c.loop-slot.first));
+      all = inv.all ∙ (kept_on segment_of (read_segment host.order host.file libs) old none i 16 c.loop-slot-test.true (sym (none_of_empty host.order host.file libs i empty))
+          ∙ ap (λ (ss : List SegmentView). map segment_of ss ++ filter_map (read_segment host.order host.file libs) (range_with_len (i + 1) (16 - (i + 1)))) same);
+      read = inv.read;
+      few = omega (arith, inv.few);
+    }
 
 pub returns : goal.returns
 returns c =
