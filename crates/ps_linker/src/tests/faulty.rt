@@ -1,7 +1,7 @@
 //! Files that fail.
 ghost use Rattle.std.specs.Prelude.{⊤};
 
-use crate::files::CodeFiles;
+use ps_command::CodeFiles;
 use std::alloc::{Alloc, Global};
 use std::cell::Cell;
 use std::io::{Read, Write};

@@ -1,7 +1,7 @@
 //! What a run returns and writes.
 use super::inputs::Image;
-use crate::files::CodeFiles;
-use crate::running::run;
+use crate::run;
+use ps_command::CodeFiles;
 use std::alloc::{Allocator, Global};
 use std::fmt::Debug;
 use std::fs;

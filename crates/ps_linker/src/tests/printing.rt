@@ -6,7 +6,7 @@ use super::inputs::{
 };
 use super::outcome::{clean, holds_image, text};
 use super::writers::{Limited, Stuck};
-use crate::running::run;
+use crate::run;
 use std::fs;
 use std::process::Abort;
 use std::rt::Files;

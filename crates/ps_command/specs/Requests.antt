@@ -1,0 +1,95 @@
+-- What a request stands for, by the command and the files that clap finds named in the arguments.
+-- Source: this project's profile.
+use Rattle.std.specs.Prelude.{◌≡◌, ◌⊎◌, Any, Bool, true, false, List, [], Option, Some, None, codes, map, unwrap_or}
+use Rattle.std.specs.List.{list_any}
+use Rattle.std.specs.Option.{option_map_or}
+use Rattle.std.specs.Str.{bytes_eq}
+use Rattle.clap.specs.Words.{Row, Text, all_of, first_of, kind_of}
+use Rattle.clap.specs.declared.error.ErrorKind.TheVariants.{DisplayHelp, DisplayVersion}
+use Rattle.ps_command.specs.declared.request.Inputs.{Inputs}
+use Rattle.ps_command.specs.declared.request.Request.{Request}
+use Rattle.ps_command.specs.declared.request.Request.TheVariants as request
+
+-- the libraries that are named, in their order
+abbrev pub libraries_of : List Row → List Text
+libraries_of rows = unwrap_or (all_of (codes "LIB") rows) []
+
+-- the files that are named for a list, in their order
+abbrev pub files_of : List Row → List Text
+files_of rows = unwrap_or (all_of (codes "FILE") rows) []
+
+-- the files that are named as HOST and as libraries
+abbrev pub NamesInputs : {A : Type 0} → Inputs A → List Row → Type 0
+NamesInputs inputs rows = (first_of (codes "HOST") rows ≡ Some inputs.host.now)
+    × (map (λ path. path.now) inputs.libraries.items ≡ libraries_of rows)
+
+-- the path is one of these, byte for byte
+abbrev pub is_library : Text → List Text → Bool
+is_library path libraries = list_any (λ library. bytes_eq library path) libraries
+
+-- the flag of this name is given
+abbrev pub has_flag : Text → List Row → Bool
+has_flag name rows = option_map_or (λ value. bytes_eq value (codes "true")) (first_of name rows) false
+
+-- the flags `--strict`, `--unit`, `--references` and `--json` are given
+abbrev pub is_strict : List Row → Bool
+is_strict rows = has_flag (codes "strict") rows
+
+abbrev pub is_unit : List Row → Bool
+is_unit rows = has_flag (codes "unit") rows
+
+abbrev pub has_references : List Row → Bool
+has_references rows = has_flag (codes "references") rows
+
+abbrev pub is_json : List Row → Bool
+is_json rows = has_flag (codes "json") rows
+
+-- the command that is named, with the files that are named for it; a link writes no file that is
+-- named as a library
+abbrev pub IsNamedCommand : {A : Type 0} → Request A → Option (Text × List Row) → Type 0
+IsNamedCommand (request.Text text) named = ⊥
+IsNamedCommand (request.Link inputs out) named = (rows : List Row) × (named ≡ Some (codes "link", rows)) × NamesInputs inputs rows × (first_of (codes "OUT") rows ≡ Some out.now)
+    × (is_library out.now (libraries_of rows) ≡ false)
+IsNamedCommand (request.Map inputs references json) named = (rows : List Row) × (named ≡ Some (codes "map", rows)) × NamesInputs inputs rows × (references ≡ has_references rows) × (json ≡ is_json rows)
+IsNamedCommand (request.Show file json) named = (rows : List Row) × (named ≡ Some (codes "show", rows)) × (first_of (codes "FILE") rows ≡ Some file.now) × (json ≡ is_json rows)
+IsNamedCommand (request.Check inputs strict unit json) named = (rows : List Row) × (named ≡ Some (codes "check", rows)) × NamesInputs inputs rows × (strict ≡ is_strict rows) × (unit ≡ is_unit rows) × (json ≡ is_json rows)
+IsNamedCommand (request.List files json) named = (rows : List Row) × (named ≡ Some (codes "list", rows)) × (map (λ path. path.now) files.items ≡ files_of rows) × (json ≡ is_json rows)
+
+-- the help or the version, or the command that is named
+abbrev pub IsAsked : {A : Type 0} → Request A → Option (Text × List Row) → Type 0
+IsAsked {A} (request.Text text) named = (kind_of text ≡ DisplayHelp) ⊎ (kind_of text ≡ DisplayVersion)
+IsAsked {A} (request.Link inputs out) named = IsNamedCommand {A = A} (request.Link inputs out) named
+IsAsked {A} (request.Map inputs references json) named = IsNamedCommand {A = A} (request.Map inputs references json) named
+IsAsked {A} (request.Show file json) named = IsNamedCommand {A = A} (request.Show file json) named
+IsAsked {A} (request.Check inputs strict unit json) named = IsNamedCommand {A = A} (request.Check inputs strict unit json) named
+IsAsked {A} (request.List files json) named = IsNamedCommand {A = A} (request.List files json) named
+
+-- the command that is named leaves out a file that it needs, or no command is named
+abbrev pub LeavesOut : Option (Text × List Row) → Type 0
+LeavesOut named = (rows : List Row) → (named ≡ Some (codes "link", rows) → (first_of (codes "HOST") rows ≡ None) ⊎ (first_of (codes "OUT") rows ≡ None))
+    × (named ≡ Some (codes "map", rows) → first_of (codes "HOST") rows ≡ None)
+    × (named ≡ Some (codes "show", rows) → first_of (codes "FILE") rows ≡ None)
+    × (named ≡ Some (codes "check", rows) → first_of (codes "HOST") rows ≡ None)
+    × (named ≡ Some (codes "list", rows) → first_of (codes "FILE") rows ≡ None)
+
+-- a link is named that would write a file which is named as a library too
+abbrev pub WritesLibrary : Option (Text × List Row) → Type 0
+WritesLibrary named = (rows : List Row) × (out : Text) × (named ≡ Some (codes "link", rows)) × (first_of (codes "OUT") rows ≡ Some out) × (is_library out (libraries_of rows) ≡ true)
+
+-- a link is named that would write a file which is a library too, since both paths lead there, as
+-- `one_file` says
+abbrev pub WritesLibraryFile : (Text → Text → Type 0) → Option (Text × List Row) → Type 0
+WritesLibraryFile one_file named = (rows : List Row) × (out : Text) × (named ≡ Some (codes "link", rows)) × (first_of (codes "OUT") rows ≡ Some out)
+    × Any (one_file out) (libraries_of rows)
+
+-- a link is named that would write a library, by its path or by another that leads there
+abbrev pub OverwritesLibrary : (Text → Text → Type 0) → Option (Text × List Row) → Type 0
+OverwritesLibrary one_file named = WritesLibrary named ⊎ WritesLibraryFile one_file named
+
+-- a check is named
+abbrev pub NamesCheck : Option (Text × List Row) → Type 0
+NamesCheck named = (rows : List Row) × (named ≡ Some (codes "check", rows))
+
+-- a list is named
+abbrev pub NamesList : Option (Text × List Row) → Type 0
+NamesList named = (rows : List Row) × (named ≡ Some (codes "list", rows))

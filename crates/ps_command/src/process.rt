@@ -1,0 +1,127 @@
+//! The command that a process was started with.
+ghost use Rattle.std.specs.Prelude.{◌≡◌, ◌≢◌, ◌≤◌, ◌⊎◌, IfErr, IfOk, map, string_bytes};
+ghost use Rattle.std.specs.Process.{exit_status};
+ghost use Rattle.ps_command.specs.CommandLine.{AreAccepted, named_in};
+ghost use Rattle.ps_command.specs.Printed.{Prints};
+ghost use Rattle.ps_command.specs.Reading.{Reads, Writes};
+ghost use Rattle.ps_command.specs.Requests.{NamesCheck, NamesList, OverwritesLibrary, WritesLibrary};
+
+use crate::error::{CommandError, WrongArgument};
+use crate::files::CodeFiles;
+use crate::running::run;
+use std::alloc::Global;
+use std::env;
+use std::io::{ErrorKind, Write};
+use std::process::ExitCode;
+use std::rt::Env;
+
+/// Does the command that the process was started with, as `run` does, with memory from `rt` alone, and
+/// returns its status as the exit code of the process.
+///
+/// The arguments are those of the process, the program's name first. If one of them is not UTF-8, the
+/// status is 2, and if there is no memory for them 4; then nothing is written to `out`, and one line
+/// to `err`. Source: this project's profile.
+pub fn run_process<R: CodeFiles + Env + AllocGlobal, O: Write, E: Write>(
+    rt: &R,
+    out: &mut O,
+    err: &mut E,
+) -> ExitCode
+    ensures known { exit_status result ≤ 4 }
+    ensures silent { exit_status result ≡ 0 → err.new ≡ err.old }
+    // Status 1 leaves anything there only if the report of a check or a list names the refusal.
+    ensures unprinted { exit_status result ≢ 0 → exit_status result ≢ 1 → exit_status result ≢ 3
+        → out.new ≡ out.old }
+{
+    match given_args(rt) {
+        Ok(args) => run_args(rt, args.as_slice(), out, err),
+        Err(error) => ExitCode::from(error.report(err)),
+    }
+}
+
+/// The arguments of the command line, the program's name first.
+fn given_args<R: Env + AllocGlobal>(rt: &R) -> Result<Vec<String>, CommandError<'static>>
+    ensures { IfErr result (λ e. (e ≡ CommandError.Memory)
+        ⊎ ((argument : WrongArgument) × (e ≡ CommandError.NotText argument))) }
+{
+    match env::args(rt) {
+        Ok(args) => Ok(args.collect(rt.alloc())?),
+        Err(error) => Err(args_fault(error.kind(), wrong_argument(rt))),
+    }
+}
+
+/// The longest argument that is read to find one that is not UTF-8, in bytes: as long as Linux takes
+/// any.
+const LONGEST_ARGUMENT: usize = 131_072;
+
+/// The first argument that is not UTF-8; none where one before it is too long to be read.
+fn wrong_argument<R: Env>(rt: &R) -> WrongArgument {
+    let mut room = [0u8; LONGEST_ARGUMENT];
+    for number in 0..usize::MAX {
+        let Ok(length) = rt.arg(number, &mut room) else {
+            return WrongArgument(None);
+        };
+        let argument = room.get(..length).unwrap_or(&[]);
+        if str::from_utf8(argument).is_err() {
+            return WrongArgument(Some(number));
+        }
+    }
+    WrongArgument(None)
+}
+
+/// Why there are no arguments, by the kind of the error that reading them gave.
+fn args_fault(kind: ErrorKind, argument: WrongArgument) -> CommandError<'static>
+    ensures memory { kind ≡ ErrorKind.OutOfMemory → result ≡ CommandError.Memory }
+    ensures text { kind ≢ ErrorKind.OutOfMemory → result ≡ CommandError.NotText argument }
+    ensures either { (result ≡ CommandError.Memory) ⊎ (result ≡ CommandError.NotText argument) }
+{
+    match kind {
+        ErrorKind::OutOfMemory => CommandError::Memory,
+        _ => CommandError::NotText(argument),
+    }
+}
+
+/// Runs the command of these arguments, as `run` does, and returns its status.
+fn run_args<R: CodeFiles + AllocGlobal, O: Write, E: Write>(
+    rt: &R,
+    given: &[String],
+    out: &mut O,
+    err: &mut E,
+) -> ExitCode
+    ensures known { exit_status result ≤ 4 }
+    ensures silent { exit_status result ≡ 0 → err.new ≡ err.old }
+    ensures printed { AreAccepted (map string_bytes given.now) → exit_status result ≡ 0
+        → Prints (Reads (R.opened rt.now) R.Opened.remaining)
+        (Writes (R.created rt.now) (R.closed rt.now) R.Created.contents)
+        (named_in (map string_bytes given.now)) 0 (O.contents out.old) (O.contents out.new) }
+    ensures reported { AreAccepted (map string_bytes given.now) → exit_status result ≡ 1
+        → (out.new ≡ out.old) ⊎ Prints (Reads (R.opened rt.now) R.Opened.remaining)
+        (Writes (R.created rt.now) (R.closed rt.now) R.Created.contents)
+        (named_in (map string_bytes given.now)) 1 (O.contents out.old) (O.contents out.new) }
+    ensures misused { AreAccepted (map string_bytes given.now)
+        → WritesLibrary (named_in (map string_bytes given.now)) → exit_status result ≢ 4
+        → exit_status result ≡ 2 }
+    ensures usage { AreAccepted (map string_bytes given.now) → exit_status result ≡ 2
+        → OverwritesLibrary (R.one_file rt.now) (named_in (map string_bytes given.now)) }
+    ensures unprinted { exit_status result ≢ 0 → exit_status result ≢ 3
+        → (out.new ≡ out.old)
+        ⊎ ((exit_status result ≡ 1) × (NamesCheck (named_in (map string_bytes given.now))
+        ⊎ NamesList (named_in (map string_bytes given.now)))) }
+{
+    match slices(rt.alloc(), given) {
+        Ok(args) => ExitCode::from(run(rt, rt.alloc(), args.as_slice(), out, err)),
+        Err(error) => ExitCode::from(error.report(err)),
+    }
+}
+
+/// The arguments, in their order.
+fn slices<'w>(alloc: Global, given: &'w [String]) -> Result<Vec<&'w str>, CommandError<'static>>
+    ensures ok { IfOk result (λ args. map (λ arg. arg.now) args.items
+        ≡ map string_bytes given.now) }
+    ensures err { IfErr result (λ e. e ≡ CommandError.Memory) }
+{
+    let mut args = Vec::new(alloc);
+    for arg in given {
+        args.push(arg.as_str())?;
+    }
+    Ok(args)
+}

@@ -1,0 +1,582 @@
+//! What the arguments of a command line ask the program to do.
+ghost use Rattle.std.specs.Prelude.{◌≡◌, ◌≢◌, ◌⊎◌, IfErr, IfOk, Some, None, codes, map, false};
+ghost use Rattle.clap.specs.Words.{App, app_of, first_of, found_of, kind_of, rows_of, rule_of, subcommand_rows_of, with_subcommand};
+ghost use Rattle.clap.specs.declared.Command.TheViews.{out-Command};
+ghost use Rattle.ps_command.specs.CommandLine.{AreAccepted, check_app, file_rule, files_rule, inputs_app, json_rule, libraries_rule, link_app, list_app, map_app, named_in, pslink_app, references_rule, show_app, strict_rule, texts, unit_rule};
+ghost use Rattle.ps_command.specs.Requests.{IsAsked, IsNamedCommand, LeavesOut, NamesInputs, WritesLibrary, files_of, has_flag as has_flag_spec, libraries_of};
+ghost use Rattle.ps_command.specs.Statuses.{status_of};
+
+use crate::error::CommandError;
+use clap::error::ErrorKind;
+use clap::{Arg, ArgAction, ArgMatches, Command};
+use std::alloc::{AllocError, Allocator, Global};
+
+/// What the help of the program ends with.
+const ENDING: &str = "Example:
+  pslink link host.code linked.code library.code
+
+Exit status:
+  0  the command was done
+  1  the files are refused
+  2  wrong usage
+  3  a file could not be read or written, or standard output failed
+  4  out of memory
+
+A name that begins with a dash is given as ./-name, or after --. See pslink(1).";
+
+/// What the help of `link` ends with.
+const LINK_ENDING: &str = "Example:
+  pslink link host.code linked.code library.code
+
+OUT is opened once everything was checked, and is written in place. If a write fails,
+OUT has the first part of the linked file. A linked file is no host any more, so keep
+the host:
+  pslink link host.code linked.new library.code &&
+      mv linked.new linked.code
+The second file is always OUT. If it is forgotten, the first LIB is taken as OUT, and
+is overwritten if the link succeeds. With /dev/stdout as OUT the summary and the file
+are mixed: use /dev/fd/3 and 3>&1. A file is read from a pipe as /dev/stdin.
+
+Exit status:
+  0  the command was done
+  1  the files are refused
+  2  wrong usage
+  3  a file could not be read or written, or standard output failed
+  4  out of memory
+
+A name that begins with a dash is given as ./-name, or after --. See pslink(1).";
+
+/// What the help of `map` ends with.
+const MAP_ENDING: &str = "Example:
+  pslink map host.code library.code
+
+With --references a line follows for each place at which the link stores bytes: its
+offset in the code and in the linked file, the bytes there before and after the link,
+and the record. With --json the same values are printed as one JSON document.
+
+Exit status:
+  0  the map was printed
+  1  the files are refused
+  2  wrong usage
+  3  a file could not be read, or standard output failed
+  4  out of memory
+
+A name that begins with a dash is given as ./-name, or after --. See pslink(1).";
+
+/// What the help of `show` ends with.
+const SHOW_ENDING: &str = "Example:
+  pslink show library.code
+
+With --json the same values are printed as one JSON document.
+
+Exit status:
+  0  the segments were printed
+  1  the file is refused
+  2  wrong usage
+  3  the file could not be read, or standard output failed
+  4  out of memory
+
+A name that begins with a dash is given as ./-name, or after --. See pslink(1).";
+
+/// What the help of `check` ends with.
+const CHECK_ENDING: &str = "Example:
+  pslink check host.code library.code
+
+The report is for a person: the files, where each segment comes from, whether they
+are linked, and if not what is wrong and what to do. A line that begins with
+'warning: ' reports what looks wrong and is no fault. No file is written. With --json
+the verdict, the warnings and the report are printed as one JSON document.
+
+With --unit the files are listed as by list, and after the lines of each file comes a
+line of each unit that it has, with its first fault in a link with a host that would
+define each name: so a unit can be checked before there is a host. The other options
+then change nothing, and a file without a unit is refused.
+
+Exit status:
+  0  the files link, and there may be warnings
+  1  the files are refused; with --strict, or there is a warning
+  2  wrong usage
+  3  a file could not be read, or standard output failed
+  4  out of memory
+
+A name that begins with a dash is given as ./-name, or after --. See pslink(1).";
+
+/// What the help of `list` ends with.
+const LIST_ENDING: &str = "Example:
+  pslink list *.code | grep 'uses AUX'
+
+Each line begins with the name of its file: first a line of the file, and then one
+for each of its segments. A segment whose code, procedure tables or link information
+are refused ends with the number of the fault. A file that can't be read is reported,
+and those after it are listed. With --json the same values are printed as one JSON
+document.
+
+Exit status, the greatest that applies:
+  0  all files were listed
+  1  a file or a segment is refused
+  2  wrong usage
+  3  a file could not be read, or standard output failed
+  4  out of memory
+
+A name that begins with a dash is given as ./-name, or after --. See pslink(1).";
+
+/// What the arguments of a command line ask the program to do.
+/// Source: this project's profile.
+#[derive(Drop)]
+pub(crate) enum Request<'a, A: Allocator> {
+    /// Prints the help or the version.
+    Text(clap::Error),
+    /// Links the inputs, and writes the linked file to `out`.
+    Link {
+        inputs: Inputs<'a, A>,
+        out: &'a str,
+    },
+    /// Prints the map of a link of the inputs, and with `references` what the link stores; with
+    /// `json` as JSON.
+    Map {
+        inputs: Inputs<'a, A>,
+        references: bool,
+        json: bool,
+    },
+    /// Prints what `file` has, with `json` as JSON.
+    Show {
+        file: &'a str,
+        json: bool,
+    },
+    /// Prints the report of a check of the inputs, with `json` as JSON; if it is `strict`, a
+    /// warning is reported by the status too. With `unit` a list of each of the inputs, with its
+    /// units by themselves, and neither a report nor JSON.
+    Check {
+        inputs: Inputs<'a, A>,
+        strict: bool,
+        unit: bool,
+        json: bool,
+    },
+    /// Prints a line of each of these files and of each of its segments, or the same with `json` as
+    /// JSON.
+    List {
+        files: Vec<&'a str, A>,
+        json: bool,
+    },
+}
+
+/// The paths of a host and of the libraries, in the order in which units are looked up in them.
+/// Source: this project's profile.
+#[derive(Drop)]
+pub(crate) struct Inputs<'a, A: Allocator> {
+    pub(crate) host: &'a str,
+    pub(crate) libraries: Vec<&'a str, A>,
+}
+
+/// Reads the arguments, of which the first is the program's name.
+/// Source: this project's profile.
+pub(crate) fn parse<'a, A: Allocator + Copy>(
+    heap: Global,
+    alloc: A,
+    args: &'a [&'a str],
+) -> Result<Request<'a, A>, CommandError<'a>>
+    ensures asked { IfOk result (λ r. IsAsked r (named_in (texts args.now))) }
+
+    // Arguments that clap accepts name a command, and ask for no help.
+    ensures named { AreAccepted (texts args.now)
+        → IfOk result (λ r. IsNamedCommand r (named_in (texts args.now))) }
+
+    // Arguments that clap accepts are refused because memory runs out, or as wrong usage because
+    // OUT is named as a library too.
+    ensures refused { AreAccepted (texts args.now)
+        → IfErr result (λ e. e ≢ CommandError.Memory
+        → (status_of e ≡ 2) × WritesLibrary (named_in (texts args.now))) }
+{
+    match matches(heap, args) {
+        Ok(matches) => request_of(heap, alloc, &matches),
+        Err(error) => match error.kind() {
+            ErrorKind::DisplayHelp | ErrorKind::DisplayVersion => Ok(Request::Text(error)),
+            _ => Err(CommandError::from(error)),
+        },
+    }
+}
+
+/// What `clap` finds in the arguments.
+fn matches<'a>(heap: Global, args: &'a [&'a str]) -> Result<ArgMatches<'a>, clap::Error>
+    ensures found { IfOk result (λ m. subcommand_rows_of m ≡ named_in (texts args.now)) }
+    ensures memory { AreAccepted (texts args.now)
+        → IfErr result (λ e. kind_of e ≡ ErrorKind.OutOfMemory) }
+{
+    command(heap)?.try_get_matches_from(args)
+}
+
+/// The command that was found, with its files.
+fn request_of<'a, A: Allocator + Copy>(
+    heap: Global,
+    alloc: A,
+    matches: &ArgMatches<'a>,
+) -> Result<Request<'a, A>, CommandError<'a>>
+    ensures named { IfOk result (λ r. IsNamedCommand r (subcommand_rows_of matches.now)) }
+    ensures refused { IfErr result (λ e. e ≢ CommandError.Memory
+        → LeavesOut (subcommand_rows_of matches.now)
+        ⊎ ((status_of e ≡ 2) × WritesLibrary (subcommand_rows_of matches.now))) }
+{
+    match matches.subcommand() {
+        Some(("link", found)) => link_of(heap, alloc, found),
+        Some(("map", found)) => map_of(heap, alloc, found),
+        Some(("show", found)) => show_of(heap, found),
+        Some(("check", found)) => check_of(heap, alloc, found),
+        Some(("list", found)) => list_of(alloc, found),
+        _ => Err(missing_argument(heap)),
+    }
+}
+
+fn link_of<'a, A: Allocator + Copy>(
+    heap: Global,
+    alloc: A,
+    found: &ArgMatches<'a>,
+) -> Result<Request<'a, A>, CommandError<'a>>
+    ensures named { IfOk result (λ r. IsNamedCommand r
+        (Some (codes "link", rows_of (found_of found.now)))) }
+    ensures refused { IfErr result (λ e. e ≢ CommandError.Memory
+        → LeavesOut (Some (codes "link", rows_of (found_of found.now)))
+        ⊎ ((status_of e ≡ 2) × WritesLibrary (Some (codes "link", rows_of (found_of found.now))))) }
+{
+    let inputs = inputs_of(heap, alloc, found)?;
+    let out = file_of(heap, found, "OUT")?;
+    if inputs.libraries.contains(&out) {
+        return Err(written_library(heap, out, out));
+    }
+    Ok(Request::Link { inputs, out })
+}
+
+fn map_of<'a, A: Allocator + Copy>(
+    heap: Global,
+    alloc: A,
+    found: &ArgMatches<'a>,
+) -> Result<Request<'a, A>, CommandError<'a>>
+    ensures named { IfOk result (λ r. IsNamedCommand r
+        (Some (codes "map", rows_of (found_of found.now)))) }
+    ensures refused { IfErr result (λ e. e ≢ CommandError.Memory
+        → LeavesOut (Some (codes "map", rows_of (found_of found.now)))) }
+{
+    let inputs = inputs_of(heap, alloc, found)?;
+    let references = has_flag(found, "references");
+    let json = has_flag(found, "json");
+    Ok(Request::Map {
+        inputs,
+        references,
+        json,
+    })
+}
+
+fn show_of<'a, A: Allocator + Copy>(
+    heap: Global,
+    found: &ArgMatches<'a>,
+) -> Result<Request<'a, A>, CommandError<'a>>
+    ensures named { IfOk result (λ r. IsNamedCommand r
+        (Some (codes "show", rows_of (found_of found.now)))) }
+    ensures refused { IfErr result (λ e. e ≢ CommandError.Memory
+        → LeavesOut (Some (codes "show", rows_of (found_of found.now)))) }
+{
+    let file = file_of(heap, found, "FILE")?;
+    let json = has_flag(found, "json");
+    Ok(Request::Show { file, json })
+}
+
+fn check_of<'a, A: Allocator + Copy>(
+    heap: Global,
+    alloc: A,
+    found: &ArgMatches<'a>,
+) -> Result<Request<'a, A>, CommandError<'a>>
+    ensures named { IfOk result (λ r. IsNamedCommand r
+        (Some (codes "check", rows_of (found_of found.now)))) }
+    ensures refused { IfErr result (λ e. e ≢ CommandError.Memory
+        → LeavesOut (Some (codes "check", rows_of (found_of found.now)))) }
+{
+    let inputs = inputs_of(heap, alloc, found)?;
+    let strict = has_flag(found, "strict");
+    let unit = has_flag(found, "unit");
+    let json = has_flag(found, "json");
+    Ok(Request::Check {
+        inputs,
+        strict,
+        unit,
+        json,
+    })
+}
+
+fn list_of<'a, A: Allocator + Copy>(
+    alloc: A,
+    found: &ArgMatches<'a>,
+) -> Result<Request<'a, A>, CommandError<'a>>
+    ensures named { IfOk result (λ r. IsNamedCommand r
+        (Some (codes "list", rows_of (found_of found.now)))) }
+    ensures refused { IfErr result (λ e. e ≡ CommandError.Memory) }
+{
+    let files = files(alloc, found)?;
+    let json = has_flag(found, "json");
+    Ok(Request::List { files, json })
+}
+
+/// The flag of this name is given.
+fn has_flag(found: &ArgMatches<'_>, name: &str) -> bool
+    ensures { result ≡ has_flag_spec name.now (rows_of (found_of found.now)) }
+{
+    match found.get_str(name) {
+        Some(value) => value == "true",
+        None => false,
+    }
+}
+
+fn inputs_of<'a, A: Allocator + Copy>(
+    heap: Global,
+    alloc: A,
+    found: &ArgMatches<'a>,
+) -> Result<Inputs<'a, A>, CommandError<'a>>
+    ensures named { IfOk result (λ inputs. NamesInputs inputs (rows_of (found_of found.now))) }
+    ensures refused { IfErr result (λ e. e ≢ CommandError.Memory
+        → first_of (codes "HOST") (rows_of (found_of found.now)) ≡ None) }
+{
+    let host = file_of(heap, found, "HOST")?;
+    let libraries = libraries(alloc, found)?;
+    Ok(Inputs { host, libraries })
+}
+
+/// The path that is given for an argument.
+fn file_of<'a>(
+    heap: Global,
+    found: &ArgMatches<'a>,
+    argument: &str,
+) -> Result<&'a str, CommandError<'a>>
+    ensures named { IfOk result (λ path. first_of argument.now (rows_of (found_of found.now))
+        ≡ Some path.now) }
+    ensures refused { IfErr result (λ _. first_of argument.now (rows_of (found_of found.now))
+        ≡ None) }
+{
+    match found.get_str(argument) {
+        Some(path) => Ok(path),
+        None => Err(missing_argument(heap)),
+    }
+}
+
+/// The error of arguments that leave out a command or a file of one, which `clap` does not accept.
+fn missing_argument(heap: Global) -> CommandError<'static> {
+    let Ok(mut command) = command(heap) else {
+        return CommandError::Memory;
+    };
+    match command.error(
+        ErrorKind::MissingSubcommand,
+        "a command and its files have to be named",
+    ) {
+        Ok(error) => CommandError::from(error),
+        Err(_) => CommandError::Memory,
+    }
+}
+
+/// The error of arguments that name the file to write as a library too, at this path or another.
+pub(crate) fn written_library(heap: Global, out: &str, library: &str) -> CommandError<'static>
+    ensures either { status_of result ≢ 4 → status_of result ≡ 2 }
+    ensures memory { result ≢ CommandError.Memory → status_of result ≡ 2 }
+{
+    match written_library_error(heap, out, library) {
+        Ok(error) => CommandError::from(error),
+        Err(_) => CommandError::Memory,
+    }
+}
+
+fn written_library_error(heap: Global, out: &str, library: &str) -> Result<clap::Error, AllocError>
+    ensures { IfOk result (λ e. kind_of e ≡ ErrorKind.ValueValidation) }
+{
+    let message = if out == library {
+        format!(in heap; "invalid value '{out}' for '<OUT>': it is named as a library too")?
+    } else {
+        format!(in heap; "invalid value '{out}' for '<OUT>': it is the library '{library}'")?
+    };
+    let mut link = link_command(heap)?.bin_name("pslink link")?;
+    link.error(ErrorKind::ValueValidation, message.as_str())
+}
+
+fn libraries<'a, A: Allocator + Copy>(
+    alloc: A,
+    found: &ArgMatches<'a>,
+) -> Result<Vec<&'a str, A>, AllocError>
+    ensures { IfOk result (λ paths. map (λ path. path.now) paths.items
+        ≡ libraries_of (rows_of (found_of found.now))) }
+{
+    match found.get_strs("LIB") {
+        Some(paths) => Vec::from_slice(alloc, paths),
+        None => Ok(Vec::new(alloc)),
+    }
+}
+
+fn files<'a, A: Allocator + Copy>(
+    alloc: A,
+    found: &ArgMatches<'a>,
+) -> Result<Vec<&'a str, A>, AllocError>
+    ensures { IfOk result (λ paths. map (λ path. path.now) paths.items
+        ≡ files_of (rows_of (found_of found.now))) }
+{
+    match found.get_strs("FILE") {
+        Some(paths) => Vec::from_slice(alloc, paths),
+        None => Ok(Vec::new(alloc)),
+    }
+}
+
+/// What the command line accepts.
+fn command<'a>(heap: Global) -> Result<Command<'a>, AllocError>
+    ensures { IfOk result (λ c. app_of c ≡ pslink_app) }
+{
+    let app = Command::new(heap, "pslink")
+        .version("0.1.0")
+        .about("The Linker of UCSD Pascal II.0 for Pascal hosts and units")
+        .after_help(ENDING)
+        .subcommand_required(true);
+    let with_link = with_command(app, link_command(heap))?;
+    let with_map = with_command(with_link, map_command(heap))?;
+    let with_show = with_command(with_map, show_command(heap))?;
+    let with_check = with_command(with_show, check_command(heap))?;
+    with_command(with_check, list_command(heap))
+}
+
+/// Adds a command, for which there is memory or not.
+fn with_command<'a>(
+    app: Command<'a>,
+    made: Result<Command<'a>, AllocError>,
+) -> Result<Command<'a>, AllocError>
+    ensures { (sub : App)
+        → IfOk made.entry (λ c. (app_of c ≡ sub) × ((out-Command c).has_globals ≡ false))
+        → IfOk result (λ c. app_of c ≡ with_subcommand (app_of app.entry) sub.top) }
+{
+    app.subcommand(made?)
+}
+
+fn link_command<'a>(heap: Global) -> Result<Command<'a>, AllocError>
+    ensures { IfOk result (λ c. (app_of c ≡ link_app) × ((out-Command c).has_globals ≡ false)) }
+{
+    Command::new(heap, "link")
+        .about("Links a host with the units that it names, and writes the linked file")
+        .after_help(LINK_ENDING)
+        .arg(file(heap, "HOST", "The code file that holds the host program"))?
+        .arg(file(heap, "OUT", "The code file to write; it may be HOST"))?
+        .arg(libraries_argument(heap))
+}
+
+/// A command of this name, which takes a host and libraries.
+fn inputs_command<'a>(heap: Global, name: &'a str) -> Result<Command<'a>, AllocError>
+    ensures { IfOk result (λ c. (app_of c ≡ inputs_app name.entry.now)
+        × ((out-Command c).has_globals ≡ false)) }
+{
+    Command::new(heap, name)
+        .arg(file(heap, "HOST", "The code file that holds the host program"))?
+        .arg(libraries_argument(heap))
+}
+
+fn map_command<'a>(heap: Global) -> Result<Command<'a>, AllocError>
+    ensures { IfOk result (λ c. (app_of c ≡ map_app) × ((out-Command c).has_globals ≡ false)) }
+{
+    inputs_command(heap, "map")?
+        .about("Prints where a link would put each segment and private, and writes no file")
+        .after_help(MAP_ENDING)
+        .arg(references_argument(heap))?
+        .arg(json_argument(heap))
+}
+
+fn show_command<'a>(heap: Global) -> Result<Command<'a>, AllocError>
+    ensures { IfOk result (λ c. (app_of c ≡ show_app) × ((out-Command c).has_globals ≡ false)) }
+{
+    Command::new(heap, "show")
+        .about("Prints the segments of one code file and the link information of each")
+        .after_help(SHOW_ENDING)
+        .arg(file(
+            heap,
+            "FILE",
+            "The code file to show: a host, a library, or a linked file",
+        ))?
+        .arg(json_argument(heap))
+}
+
+fn check_command<'a>(heap: Global) -> Result<Command<'a>, AllocError>
+    ensures { IfOk result (λ c. (app_of c ≡ check_app) × ((out-Command c).has_globals ≡ false)) }
+{
+    inputs_command(heap, "check")?
+        .about("Says in words what is wrong with the files and what only looks right")
+        .after_help(CHECK_ENDING)
+        .arg(strict_argument(heap))?
+        .arg(unit_argument(heap))?
+        .arg(json_argument(heap))
+}
+
+fn list_command<'a>(heap: Global) -> Result<Command<'a>, AllocError>
+    ensures { IfOk result (λ c. (app_of c ≡ list_app) × ((out-Command c).has_globals ≡ false)) }
+{
+    Command::new(heap, "list")
+        .about("Prints a line of each file and of each of its segments, made for grep")
+        .after_help(LIST_ENDING)
+        .arg(files_argument(heap))?
+        .arg(json_argument(heap))
+}
+
+fn file<'a>(heap: Global, name: &'a str, help: &'a str) -> Arg<'a>
+    ensures rule { rule_of result ≡ file_rule name.entry.now }
+    ensures global { result.global ≡ false }
+{
+    Arg::new(heap, name)
+        .required(true)
+        .action(ArgAction::Set)
+        .help(help)
+}
+
+fn libraries_argument<'a>(heap: Global) -> Arg<'a>
+    ensures rule { rule_of result ≡ libraries_rule }
+    ensures global { result.global ≡ false }
+{
+    Arg::new(heap, "LIB")
+        .action(ArgAction::Append)
+        .help("A library to search for units, in the order given")
+}
+
+fn files_argument<'a>(heap: Global) -> Arg<'a>
+    ensures rule { rule_of result ≡ files_rule }
+    ensures global { result.global ≡ false }
+{
+    Arg::new(heap, "FILE")
+        .required(true)
+        .action(ArgAction::Append)
+        .help("A file of any kind, as a host, a library, or a linked file")
+}
+
+fn strict_argument<'a>(heap: Global) -> Arg<'a>
+    ensures rule { rule_of result ≡ strict_rule }
+    ensures global { result.global ≡ false }
+{
+    Arg::new(heap, "strict")
+        .long("strict")
+        .action(ArgAction::SetTrue)
+        .help("Ends with status 1 on a warning too")
+}
+
+fn unit_argument<'a>(heap: Global) -> Arg<'a>
+    ensures rule { rule_of result ≡ unit_rule }
+    ensures global { result.global ≡ false }
+{
+    Arg::new(heap, "unit")
+        .long("unit")
+        .action(ArgAction::SetTrue)
+        .help("Lists each file, and what refuses each of its units by itself")
+}
+
+fn references_argument<'a>(heap: Global) -> Arg<'a>
+    ensures rule { rule_of result ≡ references_rule }
+    ensures global { result.global ≡ false }
+{
+    Arg::new(heap, "references")
+        .long("references")
+        .action(ArgAction::SetTrue)
+        .help("Prints what the link stores at each place, too")
+}
+
+fn json_argument<'a>(heap: Global) -> Arg<'a>
+    ensures rule { rule_of result ≡ json_rule }
+    ensures global { result.global ≡ false }
+{
+    Arg::new(heap, "json")
+        .long("json")
+        .action(ArgAction::SetTrue)
+        .help("Prints the same values as one JSON document")
+}
