@@ -250,6 +250,23 @@ def without_slots(given):
 fault("35", "The slots from 10 to 15 are filled, so none is left for MORE.", without_slots, 1, 7, 2,
       two_libraries=True)
 
+def requesting_seven(there):
+    """UTIL requests MORE and six more names, of which the second library has units of so many. Six slots are empty, from 10 on."""
+
+    def change(given):
+        for k in range(6):
+            given.segment("util").records.insert(-1, unit_ref(f"MORE{k}", []))
+        for k in range(there):
+            given.second.slots[4 + k] = Segment(f"MORE{k}", UNITSEG, shares=3)
+
+    return change
+
+
+fault("35-seventh", "UTIL requests seven units, and six slots are empty.", requesting_seven(6), 1, 7, 8, two_libraries=True)
+fault("13-seventh", "UTIL requests seven units, the seventh is missing, and six slots are empty.", requesting_seven(5), 1, 7, 8,
+      two_libraries=True)
+fault("13-sixth", "UTIL requests seven units, and the last two are missing.", requesting_seven(4), 1, 7, 7, two_libraries=True)
+
 # 17, 18: procedures. The table is at byte 20, the dictionary's one word at 22, the number of procedures at 25
 
 for name, where, number, slot, _, _ in each("demo util aux more"):

@@ -1,6 +1,6 @@
 """Files that are linked and meet a limit exactly, variables of 0 words, and slots, codes and files of special forms."""
 from .links import (
-    DEMO, UTIL, linked, one_unit, private, program, public, unit, unit_of, using, wanting,
+    DEMO, ORDERS, UTIL, linked, one_unit, private, program, public, unit, unit_of, using, wanting,
 )
 from .model import (
     HOSTSEG, LINKED, UNITSEG, File, Procedure, Segment, eof_mark, priv_ref, publ_def, publ_ref, unit_ref,
@@ -92,6 +92,12 @@ def slots():
     yield linked("slots-16", "All slots are filled: a unit in slot 0, a wanted one in 5 and the program in 15.", host,
                  [{2: unit_of("UTIL", ["CD", unit("LOW"), "01"], [unit_ref("LOW", [1])])}], placed,
                  [(0, "STATE", 8, 2), (15, "OWN", 10, 3)], 13, 20)
+    tools = Segment("TOOLS", LINKED, code=b"\x01\x02\x03\x04\x05")
+    util = unit_of("UTIL", ["A5", public()], [publ_ref("COUNT", [1])])
+    for order in ORDERS:
+        yield linked(f"slots-16-program-first-{order}-endian", "All slots are filled: the program in slot 0, a unit in slot 7.",
+                     {**{slot: tools for slot in range(16)}, 0: program(), 7: util}, [], [(slot, 0, slot) for slot in range(16)],
+                     order=order)
     host = {1: program(text=7), 7: Segment("UTIL", text=9), 12: Segment("EMPTY", LINKED, text=5, address=4)}
     yield linked("texts-and-tail", "Text addresses, an address without a length, and a tail of other bytes.",
                  File(host, tail={place: place % 256 for place in range(256, 512)}),
@@ -107,6 +113,12 @@ def slots():
             8: Segment("AUX", UNITSEG, shares=7)}
     yield linked("shared-code", "Two units of the host have one code: each gets the number of its slot.", host, [],
                  [DEMO, (7, 0, 7), (8, 0, 8)])
+
+
+    parts, records = ["AB", private(displacement=2)], [priv_ref("STATE", 4, [1])]
+    library = {2: unit_of("UTIL", parts, records), 3: Segment("AUX", UNITSEG, shares=2)}
+    yield linked("shared-code-of-a-library", "Two units of the library have one code: each has its own private words.",
+                 wanting("UTIL", "AUX"), [library], [DEMO, UTIL, (8, 1, 3)], [(7, "STATE", 8, 4), (8, "STATE", 12, 4)], 16, 26)
 
 
 def files():
@@ -132,6 +144,10 @@ def files():
     host = {1: program(), 9: Segment("TOOLS", LINKED, code=b"\x01\x02\x03\x04\x05")}
     yield linked("cut-after-the-code", "The host ends with the last byte of a plain segment.",
                  File(host, cut=512 * 3 + 5), [], [DEMO, (9, 0, 9)])
+    # the code of the host program ends at byte 530, that of UTIL at 528
+    yield linked("padding", "The bytes between a code and the end of its block are not 0: they are not copied.",
+                 File(wanting("UTIL"), changes={530: "D7 D7", 1023: "D7"}), [File({2: unit_of("UTIL")}, changes={528: "D7"})],
+                 [DEMO, UTIL])
     yield linked("longer", "Bytes after the last block that the link does not read.", File({1: program()}, more=b"\x1a" * 700),
                  [File({2: using("OTHER", "NOBODY")}, more=b"\xff")], [DEMO])
 

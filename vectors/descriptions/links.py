@@ -202,6 +202,17 @@ def added():
     host = {**wanting("UTIL"), 9: Segment("MORE", LINKED, code=b"\xd7\xad")}
     yield linked("added-beside-a-plain-one", "A plain segment has the name of the unit: it is not what UTIL uses.", host,
                  [{2: using("UTIL", "MORE"), 3: unit_of("MORE")}], [DEMO, UTIL, (8, 1, 3, True), (9, 0, 9)])
+    host = {**wanting("UTIL"), 8: Segment(bytes(8), address=0, length=24)}
+    yield linked("added-in-a-slot-of-zeros", "The added unit takes an empty slot of kind 3 that is named by zero bytes.", host,
+                 [{2: using("UTIL", "MORE"), 3: unit_of("MORE")}], [DEMO, UTIL, (8, 1, 3, True)])
+    # in slot 0 TOOLS names B and C, then the host program C and A, then UTIL E and A; each of these units names AUX
+    host = {0: using("TOOLS", "B", "C"), 1: host_using("C", "A"), 2: Segment("UTIL")}
+    letters = {0: using("A", "AUX"), 1: using("B", "AUX"), 2: using("C", "AUX"), 4: using("E", "AUX")}
+    aux = unit_of("AUX", ["A5", public(), "AB", private(displacement=2)], [publ_ref("COUNT", [1]), priv_ref("STATE", 4, [4])])
+    yield linked("added-by-first-record", "Names are requested in the order of the first record of each: B, C, A, E, AUX.", host,
+                 [{2: using("UTIL", "E", "A"), 3: aux}, letters],
+                 [(0, 0, 0), (1, 0, 1), (2, 1, 2), (7, 2, 1, True), (8, 2, 2, True), (9, 2, 0, True), (10, 2, 4, True),
+                  (11, 1, 3, True)], [(11, "STATE", 8, 4)], 12, 18)
     host = {1: host_using("MORE", "DEMO"), 9: Segment("MORE", LINKED, code=b"\xd7\xad")}
     yield linked("added-of-names-of-the-host", "The host uses units of the names of its plain segment and of itself.", host,
                  [{3: unit_of("MORE"), 4: unit_of("DEMO")}], [DEMO, (7, 1, 3, True), (8, 1, 4, True), (9, 0, 9)])
@@ -239,6 +250,19 @@ def names():
     host = {1: host_using(""), 7: unit_of("", ["D7"])}
     yield linked("unit-without-a-name", "A unit in the host has a blank name, and so does the UNITREF to it.", host, [],
                  [DEMO, (7, 0, 7)])
+    tools = Segment("UTIL", LINKED, code=b"\x01\x02\x03\x04\x05")
+    yield linked("plain-of-the-name", "A plain segment has the name of the unit before it.",
+                 {1: program(), 7: unit_of("UTIL", ["A5", public()], [publ_ref("COUNT", [1])]), 8: tools}, [],
+                 [DEMO, (7, 0, 7), (8, 0, 8)])
+    # of the names that USER uses, UTIL and LATE are units of this file and WANTED is a unit that it wants
+    user = using("USER", "USER", "UTIL", "PLAIN", "OTHER", "WANTED", "LATE", "NOBODY")
+    user.records[-1:-1] = [publ_ref("NOBODY", []), priv_ref("NOBODY", 4, []), unit_ref(bytes(8), [])]
+    first = {0: Segment("WANTED"), 2: unit_of("UTIL"), 3: Segment("PLAIN", LINKED, code=b"\xd7"), 4: Segment("OTHER", 5, shares=2),
+             6: user, 9: unit_of(bytes(8), length=0), 15: unit_of("LATE", address=900, fault=16)}
+    zeros = unit_of(bytes(8), (), [unit_ref(bytes(8), []), unit_ref(b"\1" * 8, [])])
+    host = {1: program(unit_ref("UTIL", [2]), parts=["CD", "D7", unit("UTIL")]), 7: Segment("UTIL")}
+    yield linked("unlisted", "UNITREF records of units that their file has, that it wants, and that it has not.", host,
+                 [first, {2: zeros}], [DEMO, UTIL])
     host = {1: program(publ_def("", 9), publ_def(bytes(8), 10)), 7: Segment("UTIL")}
     yield linked("definitions-without-a-name", "Definitions with names of eight blanks and of eight zero bytes.", host,
                  [{2: unit_of("UTIL", ["A5", public(""), "A5", public(bytes(8))],

@@ -65,7 +65,7 @@ PAIRS = {
     "27": ["28-demo", "29-util"],
     # references
     "28-demo": ["31-util", "29-util", "33-util"],
-    "28-util": ["34-private", "32-aux"],
+    "28-util": ["34-private", "32-aux", "31-util"],
     "29-demo": ["28-util", "34-util"],
     "29-util": ["33-unit"],
     "31-demo": ["28-util", "32-util"],
