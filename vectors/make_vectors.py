@@ -9,8 +9,8 @@ import sys
 
 sys.dont_write_bytecode = True
 from descriptions import faults, limits, links, pairs
-from descriptions.cases import described, linked_file, map_of, summary
-from descriptions.model import REASONS, file_bytes, show_of
+from descriptions.cases import described, map_of, summary
+from descriptions.model import REASONS, file_bytes, laid_out, show_of
 
 FORMAT = 1  # of the index
 
@@ -38,13 +38,13 @@ class Folder:
         (self.path / name).write_bytes(content)
         return name
 
-    def write_file(self, stem, file):
+    def write_file(self, stem, file, laid):
         """Writes a code file and its show, and gives what show answers."""
-        self.write(f"{stem}.code", file_bytes(file))
+        self.write(f"{stem}.code", file_bytes(file, laid))
         if file.refused:
             line = f"pslink: refused {file.refused} {REASONS[file.refused]} file 0\n"
             return {"status": 1, "stdout": None, "stderr": line}
-        return {"status": 0, "stdout": self.write(f"{stem}.show", text(show_of(file))), "stderr": ""}
+        return {"status": 0, "stdout": self.write(f"{stem}.show", text(show_of(file, laid))), "stderr": ""}
 
     def digest(self):
         """The SHA-256 of all files of the case, one after another by name."""
@@ -56,7 +56,7 @@ def written(top, case):
     """Writes the files of a case, and gives its entry of the index."""
     folder = Folder(top / "cases" / case.name)
     stems = ["host", *(f"library-{k}" for k in range(1, len(case.libraries) + 1))]
-    shows = {f"{stem}.code": folder.write_file(stem, file) for stem, file in zip(stems, case.files())}
+    shows = {f"{stem}.code": folder.write_file(stem, file, laid_out(file)) for stem, file in zip(stems, case.files())}
     entry = {
         "name": case.name, "about": case.about, "folder": f"cases/{case.name}",
         "host": "host.code", "libraries": [f"library-{k}.code" for k in case.order_given()],
@@ -66,7 +66,7 @@ def written(top, case):
     if case.fault:
         entry["stderr"] = f"pslink: {case.fault.line()}\n"
     else:
-        shows["linked.code"] = folder.write_file("linked", linked_file(case))
+        shows["linked.code"] = folder.write_file("linked", *case.linked)
         entry |= {"stdout": f"{summary(case)}\n", "linked": "linked.code", "link": described(case),
                   "map": folder.write("linked.map", text(map_of(case)))}
     entry["sha256"] = folder.digest()
@@ -81,13 +81,13 @@ def index_text(entries):
     return f'{{"format": {FORMAT}, "cases": [\n{cases}\n]}}\n'
 
 
-def write(top):
-    """Writes the index and the cases. A folder of cases without an index is not one that this script made."""
+def write(top, cases=None):
+    """Writes the index and these cases, or all that are kept. A folder of cases without an index is not one that this script made."""
     if (top / "cases").exists():
         if not (top / "index.json").exists():
             sys.exit(f"make_vectors.py: {top} has a folder 'cases' and no index.json")
         shutil.rmtree(top / "cases")
-    entries = [written(top, case) for case in all_cases()]
+    entries = [written(top, case) for case in cases or all_cases()]
     names = [entry["name"] for entry in entries]
     assert len(names) == len(set(names)), "two cases have one name"
     (top / "index.json").write_text(index_text(entries))

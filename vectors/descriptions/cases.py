@@ -2,6 +2,7 @@
 where, the offset of each private variable); its bytes and its map follow from that and from the descriptions of the files
 (docs/LINKING.md, What a reference becomes, The linked file, Map)."""
 import dataclasses
+import functools
 
 from .model import (
     BLOCK, CONSTDEF, LINKED, PRIVREF, PUBLDEF, PUBLREF, REASONS, UNITREF, UNITSEG, File, Segment, code_bytes, laid_out,
@@ -97,6 +98,12 @@ class Case:
     def is_host(self, placed):
         return placed.file == 0 and self.host.slots[placed.entry].kind == 1
 
+    @functools.cached_property
+    def linked(self):
+        """The linked file, and what `laid_out` says of it."""
+        file = linked_file(self)
+        return file, laid_out(file)
+
     def definitions(self):
         return [record for record in self.host_segment().records if record.type in (PUBLDEF, CONSTDEF)]
 
@@ -134,7 +141,7 @@ def linked_file(case):
 
 def blocks_of(case):
     """By slot, the first block of each segment of the linked file and its length; and the blocks of the file."""
-    entries, blocks = laid_out(linked_file(case))
+    entries, blocks = case.linked[1]
     return entries, 1 + len(blocks) // BLOCK
 
 

@@ -210,6 +210,7 @@ fault("13-address", "The library's UTIL has address 0, so its slot is not filled
       setting(segment_named("util"), address=0), 0, 7)
 fault("13-length", "The library's UTIL has length 0, so its slot is not filled.",
       setting(segment_named("util"), length=0), 0, 7)
+fault("13-program", "Slot 12 wants a unit of the name of the host program.", slot_with(12, lambda: Segment("DEMO")), 0, 12)
 fault("13-requested", "No library has MORE, which only UTIL uses.", setting(segment_named("more"), name="MOST"), 1, 7, 2,
       two_libraries=True)
 for name, where, number, slot, first, _ in each("demo util aux"):
@@ -233,6 +234,27 @@ fault("13-blank-there", "The UNITREF and a unit of the library have a name of ei
 fault("13-zeros-there", "The UNITREF and a unit of the library have a name of eight zero bytes.", requesting(bytes(8)), 1, 7, UNIT)
 for kind in (0, 4, 5):
     fault(f"14-kind-{kind}", f"The library's UTIL has kind {kind}.", setting(segment_named("util"), kind=kind), 1, 7, kind=kind)
+
+
+def two_of_util(given):
+    """The second library has UTIL too."""
+    given.second.slots[5] = Segment("UTIL", UNITSEG, shares=3)
+
+
+def other_kind_first(given):
+    two_of_util(given)
+    given.first.slots[2].kind = 5
+
+
+def other_kind_second(given):
+    two_of_util(given)
+    given.first.slots[2].length = 0
+    given.second.slots[5].kind = 5
+
+
+fault("14-first", "The first library has UTIL with kind 5, and the second as a unit.", other_kind_first, 1, 7, kind=5,
+      two_libraries=True)
+fault("14-second", "The first library has UTIL with length 0, and the second with kind 5.", other_kind_second, 2, 7, kind=5)
 fault("14-added", "The second library's MORE has kind 4.", setting(segment_named("more"), kind=4), 2, 10, kind=4)
 fault("15-wanted", "The first library has UTIL twice.",
       slot_with(3, shared("UTIL", UNITSEG, 2), name="first"), 1, 7)
@@ -275,10 +297,13 @@ for name, where, number, slot, _, _ in each("demo util aux more"):
 for name, where, number, slot, _, _ in each("util aux more"):
     fault(f"18-{name}", f"The procedure of {where} has number 0: it is native code.",
           setting(segment_named(name), changes={20: "00"}), number, slot)
-fault("17-table-util", "The table of the wanted unit is at byte 7: its data size would be before the code.",
-      setting(segment_named("util"), changes={22: "0F 00"}), 1, 7)
-fault("17-inside-util", "The table of the wanted unit is at byte 21: its lex level is in the dictionary.",
-      setting(segment_named("util"), changes={22: "01 00"}), 1, 7)
+for name, where in [("util", "the wanted unit"), ("demo", "the host program")]:
+    fault(f"17-table-{name}", f"The table of {where} is at byte 7: its data size would be before the code.",
+          setting(segment_named(name), changes={22: "0F 00"}), *CODES[name][:2])
+    fault(f"17-inside-{name}", f"The table of {where} is at byte 21: its lex level is in the dictionary.",
+          setting(segment_named(name), changes={22: "01 00"}), *CODES[name][:2])
+fault("17-before-aux", "The table of the unit in the host would be before the code.",
+      setting(segment_named("aux"), changes={22: "15 00"}), 0, 8)
 fault("17-before-demo", "The table of the host program would be before the code.",
       setting(segment_named("demo"), changes={22: "FF FF"}), 0, 1)
 fault("17-no-outer-block", "The host program has no procedure 1.",
@@ -326,7 +351,11 @@ for type in (2, 5, 6, 10):
 for type in (11, 12, 14):
     fault(f"22-type-{type}", f"A record has type {type}, of separate procedures.",
           words_of("util", 1, 22, type=type), 1, 7, 1)
-fault("20-type-256", "A record has type 256.", words_of("util", 1, 20, type=256), 1, 7, 1)
+for type in (256, 65535):
+    fault(f"20-type-{type}", f"A record has type {type}.", words_of("util", 1, 20, type=type), 1, 7, 1)
+for number, format in [(21, 0), (23, 1)]:
+    fault(f"{number}-cut-list", f"A PUBLREF has format {format} and 65535 references, of which the file has not all.",
+          words_of("util", 0, number, words=[format, 65535]), 1, 7, 0)
 for index, kind in enumerate(("publref", "privref", "unitref")):
     fault(f"21-format-{kind}", f"A {kind.upper()} has format 0, of native code.",
           words_of("util", index, 21, words=[0, 1, 4][: 3 if index == 1 else 2]), 1, 7, index)
@@ -340,6 +369,18 @@ fault("19-list", "The first library ends inside the list of UTIL's UNITREF.",
       setting(file_named("first"), cut=1119, stops={2: (2, 19)}), 1, 7, 2)
 fault("16-cut", "The first library ends one byte before the end of UTIL's code.",
       setting(file_named("first"), cut=537, stops={2: (None, 16)}), 1, 7)
+
+# (the code of the host program ends at byte 538, and its information begins with two records at byte 1024)
+AFTER_DEMO = {slot: (None, 16) for slot in (7, 8)}
+for number, name, about, cut, left in [
+    (16, "cut", "one byte before the end of its program's code", 537, None),
+    (19, "no-information", "after its program's code", 538, 0),
+    (19, "block", "one byte before its program's information", 1023, 0),
+    (19, "first-record", "one byte before the end of its program's first record", 1039, 0),
+    (19, "second-record", "one byte before the end of its program's second record", 1055, 1),
+]:
+    fault(f"{number}-{name}-demo", f"The host ends {about}.",
+          setting(file_named("host"), cut=cut, stops={1: (left, number), **AFTER_DEMO}), 0, 1, left)
 
 # 24 to 27: definitions, private variables, data. With the second library ten words are private, without it nine
 
@@ -395,6 +436,8 @@ for name, where, number, slot, first, _ in each("demo util"):
           setting(record_at(name, first + PRIVATE), references=[2]), number, slot, first + PRIVATE, 0)
     fault(f"34-{name}", f"The PUBLREF's operand of {where} has the displacement 32767.",
           setting(operand_of(name, PUBLREF), old=32767), number, slot, first, 0)
+fault("28-next", "A second PUBLREF of the wanted unit has the name CUONT, and no reference.",
+      appended("util", lambda: publ_ref("CUONT", [])), 1, 7, 3)
 fault("28-no-reference", "The PUBLREF has the name CUONT and no reference.",
       setting(record_at("util", 0), name="CUONT", words=[2, 0], references=[]), 1, 7, 0)
 
@@ -419,11 +462,14 @@ def later_operand(references):
 fault("28-of-a-unit", "The PUBLREF has the name CUONT, which only a unit defines.", defined_by_a_unit, 1, 7, 0)
 fault("31-unit", "The UNITREF refers to byte 26, behind the code.", setting(record_at("util", UNIT), references=[26]), 1, 7, 2, 0)
 fault("31-far", "The PRIVREF refers to byte 65535.", setting(record_at("util", PRIVATE), references=[65535]), 1, 7, 1, 0)
+fault("32-twice", "The PUBLREF refers to byte 11 twice.", setting(record_at("util", 0), words=[2, 2], references=[11, 11]), 1, 7, 0, 0)
 fault("32-dictionary", "The UNITREF refers to byte 25.", setting(record_at("util", UNIT), references=[25]), 1, 7, 2, 0)
 fault("33-twice", "The PUBLREF refers to one byte twice.",
       setting(record_at("util", 0), words=[2, 2], references=[1, 1]), 1, 7, 0, 1)
 fault("33-first-byte", "The PUBLREF refers to byte 1 and then to byte 0.",
       setting(record_at("util", 0), words=[2, 2], references=[1, 0]), 1, 7, 0, 1)
+fault("33-second-byte", "The PUBLREF refers to byte 1 and then to byte 2.",
+      setting(record_at("util", 0), words=[2, 2], references=[1, 2]), 1, 7, 0, 1)
 fault("33-unit", "The UNITREF refers to byte 5, the second of the PRIVREF's operand.",
       setting(record_at("util", UNIT), references=[5]), 1, 7, 2, 0)
 fault("34-private", "The PRIVREF's operand has the displacement 32758, and its variable the base offset 10.",
@@ -440,6 +486,11 @@ BIG_ENDIAN = """1-first 4-no-segment 5-slot-2 6-wanted 9-slot-5 11-odd-util 12-t
     16-util 17-count-demo 18-util 19-util 20-type-256 21-util 22-util 23-util 24 25-util 26-word 27-exact 28-util 29-util 31-util
     32-util 33-util 34-exact 35""".split()
 
+# Changes that are made also where UTIL is in slot 7 of the host itself
+IN_PLACE = """1-host 2-host 4-unknown 4-no-segment 5-slot-0 5-slot-2 6-wanted 7-slot-3 8-slot-4 9-kind-6 10-slot-6 10-kind-255
+    11-odd-demo 12-demo 16-cut-demo 17-no-outer-block 17-before-demo 17-table-demo 17-inside-demo 19-no-information-demo
+    19-block-demo 19-first-record-demo 19-second-record-demo 24 24-constant""".split()
+
 
 def cases():
     for name, made in CHANGES.items():
@@ -454,6 +505,12 @@ def cases():
         made.change(given)
         about = f"{made.about} The files are big-endian."
         yield Case(f"faults/{name}-big-endian", about, given.host, given.libraries(), fault=made.fault)
+    for name in IN_PLACE:
+        made = CHANGES[name]
+        given = files(False)
+        given.host.slots[7] = given.first.slots.pop(2)
+        made.change(given)
+        yield Case(f"faults/{name}-in-place", f"{made.about} UTIL is in the host, without a library.", given.host, [], fault=made.fault)
 
 
 def unchanged():

@@ -4,6 +4,7 @@ have the rules; the comments name their sections."""
 import dataclasses
 import functools
 import pathlib
+import struct
 import sys
 
 sys.path.insert(0, str(pathlib.Path(__file__).resolve().parents[2] / "samples"))
@@ -110,7 +111,7 @@ def code_bytes(segment, number, order, value=None, data=None):
     def word(content):
         return content.to_bytes(2, order)
 
-    code, tables = b"", {}
+    code, tables = bytearray(), {}
     for procedure in segment.procedures:
         start = len(code)
         for part in parts_of(procedure):
@@ -129,7 +130,7 @@ def code_bytes(segment, number, order, value=None, data=None):
     count = max(tables, default=0)
     for number_of in range(count, 0, -1):
         code += word(len(code) - tables[number_of] if tables.get(number_of) else 0)
-    return code + bytes([number, count])
+    return bytes(code) + bytes([number, count])
 
 
 # Link information (FORMAT.md, Link information) -----------------------------------------------------------------------
@@ -148,13 +149,11 @@ class Record:
     rest: bytes = b"\0"
 
     def encoded(self, order):
-        def word(content):
-            return content.to_bytes(2, order)
-
-        listed = b"".join(map(word, self.references or []))
-        padding = self.rest * 16
+        references = self.references or []
+        mark = "<" if order == "little" else ">"
+        listed = struct.pack(f"{mark}{len(references)}H", *references)
         words = [self.type, *self.words, 0, 0, 0][:4]
-        return name_bytes(self.name) + b"".join(map(word, words)) + listed + padding[: -len(listed) % 16]
+        return struct.pack(f"{mark}8s4H", name_bytes(self.name), *words) + listed + (self.rest * 16)[: -len(listed) % 16]
 
 
 def unit_ref(name, references):
@@ -268,8 +267,9 @@ def dictionary_bytes(entries, names, kinds, texts, order, tail):
     return bytes(block)
 
 
-def file_bytes(file):
-    entries, blocks = laid_out(file)
+def file_bytes(file, laid):
+    """The bytes of a file, of which `laid_out` says this."""
+    entries, blocks = laid
     names, kinds, texts = (
         {slot: getattr(segment, part) for slot, segment in file.slots.items()} for part in ("name", "kind", "text")
     )
@@ -326,9 +326,9 @@ def slot_line(slot, name, kind, address, length, text):
     return f"slot {slot:02} {printed(name)} kind {kind} address {address} length {length} text {text}"
 
 
-def show_of(file):
-    """The lines of the show of a file that show does not refuse."""
-    entries, _ = laid_out(file)
+def show_of(file, laid):
+    """The lines of the show of a file that show does not refuse, and of which `laid_out` says this."""
+    entries, _ = laid
     unknown = file.is_unknown()
     # words of a file of unknown order are shown as little-endian
     seen = swapped if unknown and file.order == "big" else int
