@@ -1,12 +1,13 @@
 -- Edits of a segment's code: where each is, what it stores, and the byte that is found at a place
 -- after them.
 -- Source: this project's profile.
-use Rattle.std.specs.Prelude.{ℕ, ◌+◌, ◌-◌, ◌<◌, ◌≤◌, ◌&&◌, List, [], ◌∷◌, slice_index, nat_le, nat_lt, Bool, ⊤, All, find}
+use Rattle.std.specs.Prelude.{ℕ, ◌+◌, ◌-◌, ◌≤◌, ◌&&◌, List, [], ◌∷◌, slice_index, nat_le, nat_lt, Bool, ⊤, All, find}
 use Rattle.std.specs.Option.{option_map_or}
 use Rattle.ps_words.specs.Words.{word_bytes, operand_bytes}
 use Rattle.ps_words.specs.declared.order.Order.{Order}
 use Rattle.ps_words.specs.declared.edit.Edit.{Edit}
 use Rattle.ps_words.specs.declared.edit.Edit.TheVariants.{Big, Byte, Word}
+use Rattle.ps_words.specs.declared.words.TheConstants.{MAX_OPERAND}
 
 -- the first place of an edit
 abbrev pub place_of : Edit → ℕ
@@ -38,7 +39,7 @@ patched_byte order code edits p =
 
 -- a BIG operand holds 15 bits
 abbrev pub IsStorable : Edit → Type 0
-IsStorable (Big value place) = value < 32768
+IsStorable (Big value place) = value ≤ MAX_OPERAND
 IsStorable (Byte value place) = ⊤
 IsStorable (Word value place) = ⊤
 
@@ -52,7 +53,7 @@ abbrev pub AreApart : ℕ → List Edit → Type 0
 AreApart from [] = ⊤
 AreApart from (e ∷ es) = (from ≤ place_of e) × AreApart (place_of e + width e) es
 
--- edits of a code of n bytes: inside it, ascending by place, disjoint, each BIG value below 32768
+-- edits of a code of n bytes: inside it, ascending by place, disjoint, each BIG value MAX_OPERAND at most
 pub record AreEdits (n : ℕ) (edits : List Edit) : Type 0 where
   pub inside : All (IsInside n) edits
   pub apart : AreApart 0 edits

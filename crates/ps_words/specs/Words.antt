@@ -27,7 +27,7 @@ displacement a b = (a % 128) * 256 + b
 abbrev pub displacement_at : List ℕ → ℕ → ℕ
 displacement_at bytes place = displacement (slice_index bytes place) (slice_index bytes (place + 1))
 
--- the two bytes of a BIG operand whose displacement is v, which is below 32768, in either byte
+-- the two bytes of a BIG operand whose displacement is v, at most MAX_OPERAND, in either byte
 -- order
 abbrev pub operand_bytes : ℕ → List ℕ
 operand_bytes v = (128 + v / 256) ∷ (v % 256) ∷ []

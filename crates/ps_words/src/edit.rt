@@ -11,8 +11,8 @@ ghost use Rattle.ps_words.specs.Edits.{place_of, width as width_spec};
 pub enum Edit {
     /// A BIG operand, in two bytes, the high byte first in either byte order.
     Big {
-        /// The value that the operand will have, 0 to 32767: the displacement that it had, plus
-        /// what it refers to.
+        /// The value that the operand will have, 0 to `MAX_OPERAND`: the displacement that it had,
+        /// plus what it refers to.
         value: u16,
         /// The offset of the operand's first byte, which gets the high byte and the mark of two
         /// bytes.

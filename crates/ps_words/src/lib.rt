@@ -11,4 +11,7 @@ mod words;
 pub use edit::Edit;
 pub use fault::{Fault, Reason};
 pub use order::Order;
-pub use words::{BLOCK_SIZE, NAME_LEN, Name, WORD_LEN, blocks_of, get, get_big, put, put_big};
+pub use words::{
+    BLOCK_SIZE, MAX_OPERAND, MAX_WORD, NAME_LEN, Name, WORD_LEN, blocks_of, get, get_big, put,
+    put_big,
+};

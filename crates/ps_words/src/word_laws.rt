@@ -5,21 +5,23 @@ ghost use Rattle.ps_words.specs.Edits.{AreApart, covers, patched_byte, place_of,
 ghost use Rattle.ps_words.specs.Words.{blocks, displacement_at, operand_bytes, word, word_at, word_bytes};
 ghost use Rattle.ps_words.specs.declared.edit.Edit.{Edit as AnEdit};
 ghost use Rattle.ps_words.specs.declared.order.Order.{Order as AnOrder};
+ghost use Rattle.ps_words.specs.declared.words.TheConstants.{MAX_OPERAND, MAX_WORD};
 
-/// A law: the two bytes of a word, 0 to 65535, are read back as that word, in either byte order,
+/// A law: the two bytes of a word, 0 to `MAX_WORD`, are read back as that word, in either byte order,
 /// and two bytes are those of the word that they are read as.
 /// Source: UCSD Pascal II.0 manual, code file format.
 pub fn words_read_back()
-    ensures word { (order : AnOrder) (v : ℕ) → v < 65536
+    ensures word { (order : AnOrder) (v : ℕ) → v ≤ MAX_WORD
         → word_at order (word_bytes order v) 0 ≡ v }
     ensures bytes { (order : AnOrder) (a b : ℕ) → a < 256 → b < 256
         → word_bytes order (word order a b) ≡ a ∷ b ∷ [] }
 {}
 
-/// A law: the two bytes of a BIG operand are read back as its displacement, 0 to 32767.
+/// A law: the two bytes of a BIG operand are read back as its displacement, 0 to
+/// `MAX_OPERAND`.
 /// Source: UCSD Pascal II.0 manual, code file format.
 pub fn operands_read_back()
-    ensures { (v : ℕ) → v < 32768 → displacement_at (operand_bytes v) 0 ≡ v }
+    ensures { (v : ℕ) → v ≤ MAX_OPERAND → displacement_at (operand_bytes v) 0 ≡ v }
 {}
 
 /// A law: edits that are apart patch a code alike in whatever order they are listed.

@@ -24,10 +24,20 @@ pub const NAME_LEN: usize = 8;
 /// Source: UCSD Pascal II.0 manual, code file format.
 pub type Name = [u8; NAME_LEN];
 
-/// The high bit of a BIG operand's first byte, which says that the operand has two bytes.
-const BIG_MARK: u16 = 0x8000;
+/// The greatest word.
+///
+/// Source: UCSD Pascal II.0 manual, code file format.
+pub const MAX_WORD: u16 = 65535;
 
-/// The word, 0 to 65535, whose two bytes are at `place` and after it, in the given order.
+/// The greatest displacement of a BIG operand of two bytes, which has 15 bits for it.
+///
+/// Source: UCSD Pascal II.0 manual, code file format.
+pub const MAX_OPERAND: u16 = 32767;
+
+/// The high bit of a BIG operand's first byte, which says that the operand has two bytes.
+const BIG_MARK: u16 = MAX_OPERAND + 1;
+
+/// The word, 0 to `MAX_WORD`, whose two bytes are at `place` and after it, in the given order.
 ///
 /// `place` counts bytes from 0; both bytes have to be there.
 /// Source: UCSD Pascal II.0 manual, code file format.
@@ -41,7 +51,7 @@ pub fn get(order: Order, bytes: &[u8], place: usize) -> u16
     }
 }
 
-/// Stores the word `v`, 0 to 65535, in the bytes at `place` and after it, in the given order.
+/// Stores the word `v`, 0 to `MAX_WORD`, in the bytes at `place` and after it, in the given order.
 ///
 /// `place` counts bytes from 0; both bytes have to be there. Every other byte stays as it was.
 /// Source: UCSD Pascal II.0 manual, code file format.
@@ -59,8 +69,8 @@ pub fn put(order: Order, bytes: &mut [u8], place: usize, v: u16)
     }
 }
 
-/// The displacement, 0 to 32767, of the BIG operand whose two bytes are at `place` and after
-/// it.
+/// The displacement, 0 to `MAX_OPERAND`, of the BIG operand whose two bytes are at `place` and
+/// after it.
 ///
 /// A BIG operand has its high byte first in files of either order. Bit 7 of that byte is not
 /// looked at. `place` counts bytes from 0; both bytes have to be there.
@@ -72,15 +82,15 @@ pub fn get_big(bytes: &[u8], place: usize) -> u16
     get(Order::Big, bytes, place) % BIG_MARK
 }
 
-/// Stores a BIG operand of the displacement `v`, 0 to 32767, in the bytes at `place` and after
-/// it.
+/// Stores a BIG operand of the displacement `v`, 0 to `MAX_OPERAND`, in the bytes at `place` and
+/// after it.
 ///
 /// The high byte comes first in files of either order, and its bit 7 is set. `place` counts bytes
 /// from 0; both bytes have to be there. Every other byte stays as it was.
 /// Source: UCSD Pascal II.0 manual, code file format.
 pub fn put_big(bytes: &mut [u8], place: usize, v: u16)
     requires inside { place + 2 ≤ length bytes.old }
-    requires storable { v < 32768 }
+    requires storable { v ≤ MAX_OPERAND }
     ensures first { slice_index bytes.new place ≡ slice_index (operand_bytes v) 0 }
     ensures second { slice_index bytes.new (place + 1) ≡ slice_index (operand_bytes v) 1 }
     ensures others { (p : ℕ) → p ≢ place → p ≢ place + 1
