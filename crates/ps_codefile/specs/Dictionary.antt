@@ -12,6 +12,9 @@ use Rattle.ps_codefile.specs.declared.entry.Role.TheVariants as role
 use Rattle.ps_codefile.specs.declared.entry.Entry.{Entry}
 use Rattle.ps_words.specs.declared.fault.Reason.{Reason}
 use Rattle.ps_words.specs.declared.fault.Reason.TheVariants as reason
+use Rattle.ps_words.specs.declared.words.TheConstants.{BLOCK_SIZE}
+use Rattle.ps_codefile.specs.declared.code_layout.TheConstants.{MAX_CODE_LEN}
+use Rattle.ps_codefile.specs.declared.dictionary_layout.TheConstants.{NAMES, KINDS, TEXTS, TAIL}
 
 -- the slots of a dictionary
 abbrev pub slots : List ℕ
@@ -19,27 +22,23 @@ slots = 0 ∷ 1 ∷ 2 ∷ 3 ∷ 4 ∷ 5 ∷ 6 ∷ 7 ∷ 8 ∷ 9 ∷ 10 ∷ 11 �
 
 -- the length of a block in bytes, and so of the dictionary
 abbrev pub block_len : ℕ
-block_len = 512
+block_len = BLOCK_SIZE
 
 -- the offset of the names; the pairs of address and length begin at 0
 abbrev pub names_start : ℕ
-names_start = 64
+names_start = NAMES
 
 -- the offset of the kind words
 abbrev pub kinds_start : ℕ
-kinds_start = 192
+kinds_start = KINDS
 
 -- the offset of the text addresses
 abbrev pub texts_start : ℕ
-texts_start = 224
+texts_start = TEXTS
 
 -- the offset of the tail, which ends with the block
 abbrev pub tail_start : ℕ
-tail_start = 256
-
--- the longest code, in bytes
-abbrev pub max_code_len : ℕ
-max_code_len = 32767
+tail_start = TAIL
 
 -- What the sixteen kind words say of a file's byte order: nothing, for all are 0; this order; or no
 -- one order.
@@ -111,7 +110,7 @@ kind_needs_linking kind = kind == 1 || kind == 3
 -- a segment with link information has at least one procedure word's place and a whole number of
 -- words
 abbrev pub has_bad_length : Entry → Bool
-has_bad_length e = nat_lt max_code_len e.length || (kind_needs_linking e.kind && (e.length % 2 == 1 || nat_lt e.length 4))
+has_bad_length e = nat_lt MAX_CODE_LEN e.length || (kind_needs_linking e.kind && (e.length % 2 == 1 || nat_lt e.length 4))
 
 -- the code of a filled entry, or the first reason why it has none
 abbrev pub code_of : List ℕ → Entry → Result (List ℕ) Reason

@@ -192,8 +192,8 @@ impl<'a> Dict<'a> {
 
     /// The code of a filled slot.
     ///
-    /// Refuses, in this order, `BadLength` over 32767 bytes, or for kinds 1 and 3 where the
-    /// length is odd or under 4; `BadAddress` at address 0; `Truncated` where the file ends
+    /// Refuses, in this order, `BadLength` over `MAX_CODE_LEN` bytes, or for kinds 1 and 3 where
+    /// the length is odd or under 4; `BadAddress` at address 0; `Truncated` where the file ends
     /// before the code does.
     /// Source: UCSD Pascal II.0 manual, code file format.
     pub fn code(&self, slot: u8) -> Result<&'a [u8], Reason>

@@ -3,11 +3,10 @@ ghost use Rattle.std.specs.List.{list_all};
 ghost use Rattle.ps_codefile.specs.Dictionary.{is_nameless as nameless_spec, role_of, is_filled as filled_spec, has_bad_length as bad_length_spec};
 ghost use Rattle.ps_codefile.specs.Roles.{needs_linking as needs_linking_spec, is_host as is_host_spec, is_unit as is_unit_spec};
 
+use crate::code_layout::MAX_CODE_LEN;
 use crate::kinds::{FIRST_INTRINSIC, HOSTSEG, LAST_INTRINSIC, LINKED, SEGPROC, SEPRTSEG, UNITSEG};
 use ps_words::{Name, Reason};
 
-/// The longest code.
-const MAX_CODE_LEN: u16 = 32767;
 /// The shortest code of a segment that is linked.
 const MIN_LEN_TO_LINK: u16 = 4;
 

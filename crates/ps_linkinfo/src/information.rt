@@ -176,8 +176,8 @@ impl<'a> LinkInformation<'a> {
         self.counts.references
     }
 
-    /// The next free base offset in words, the value of the EOFMARK: 0 to 65535, and 0 where there
-    /// are no records.
+    /// The next free base offset in words, the value of the EOFMARK: 0 to `MAX_WORD`, and 0 where
+    /// there are no records.
     /// Source: the published II.0 Linker source.
     pub fn next(&self) -> u16
         ensures { result ≡ next_of self.now }

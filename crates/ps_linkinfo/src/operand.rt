@@ -3,12 +3,13 @@ ghost use Rattle.ps_linkinfo.specs.Operands.{operand_of as operand_of_spec, oper
 ghost use Rattle.ps_linkinfo.specs.Records.{refs_of};
 
 use crate::record::{Body, LinkRecord};
+use crate::record_layout::MAX_REFERENCES;
 
 /// An operand in a code.
 /// Source: the published II.0 Linker source.
 #[derive(Clone, Copy, Debug, PartialEq, Eq)]
 pub struct Operand {
-    /// The place of its first byte in the code, 0 to 65535.
+    /// The place of its first byte in the code, 0 to `MAX_WORD`.
     pub place: u16,
     /// How many bytes it has: 1, or 2 of a BIG operand.
     pub width: u8,
@@ -28,12 +29,12 @@ impl LinkRecord<'_> {
         }
     }
 
-    /// How many references its list has, at most 65535; 0 of a record that has no list.
+    /// How many references its list has, at most `MAX_REFERENCES`; 0 of a record that has no list.
     /// Source: the published II.0 Linker source.
     #[inline(always)]
     pub fn references(&self) -> usize
         ensures count { result ≡ length (refs_of self.now.body) }
-        ensures few { result ≤ 65535 }
+        ensures few { result ≤ MAX_REFERENCES }
     {
         match &self.body {
             Body::UnitRef(refs) | Body::PublRef(refs) | Body::PrivRef { refs, .. } => refs.len(),

@@ -1,8 +1,8 @@
-ghost use Rattle.std.specs.Prelude.{◌≡◌, ◌≤◌};
+ghost use Rattle.std.specs.Prelude.{◌≡◌, ◌+◌, ◌≤◌};
 ghost use Rattle.ps_linkinfo.specs.RecordCounts.{declares_name as declares_name_spec};
 ghost use Rattle.ps_linkinfo.specs.Records.{size_of, is_eof as is_eof_spec};
 
-use crate::record_layout::{RECORD_LEN, list_len};
+use crate::record_layout::{MAX_LIST_LEN, RECORD_LEN, list_len};
 use crate::refs::Refs;
 use ps_words::Name;
 
@@ -15,8 +15,8 @@ pub enum Body<'a> {
     UnitRef(Refs<'a>),
     /// PUBLREF: BIG operands to which the value of the host's public variable is added.
     PublRef(Refs<'a>),
-    /// PRIVREF: a private variable of the segment, of `words` words, 0 to 65535, and the BIG
-    /// operands to which its base offset is added.
+    /// PRIVREF: a private variable of the segment, of `words` words, 0 to `MAX_WORD`, and
+    /// the BIG operands to which its base offset is added.
     PrivRef { words: u16, refs: Refs<'a> },
     /// PUBLDEF: a public variable of the host, and its base offset in words.
     PublDef(u16),
@@ -39,13 +39,13 @@ pub struct LinkRecord<'a> {
 
 impl LinkRecord<'_> {
     /// How many bytes its spelling takes: 16, and 16 for each piece of eight references, of which
-    /// the last may be begun. At most 131088.
+    /// the last may be begun. At most `RECORD_LEN + MAX_LIST_LEN`.
     ///
     /// Source: the published II.0 Linker source; the pieces are this project's profile.
     #[inline(always)]
     pub fn size(&self) -> usize
         ensures size { result ≡ size_of self.now }
-        ensures bounded { result ≤ 131088 }
+        ensures bounded { result ≤ RECORD_LEN + MAX_LIST_LEN }
     {
         RECORD_LEN + list_len(self.references())
     }

@@ -3,6 +3,8 @@
 ghost use Rattle.std.specs.Prelude.{◌≡◌, ◌≤◌};
 ghost use Rattle.ps_linkinfo.specs.Records.{list_len as list_len_spec};
 
+use ps_words::MAX_WORD;
+
 /// How many bytes a record has, without its list.
 pub const RECORD_LEN: usize = 16;
 /// The place of the type's number, after the name of eight bytes.
@@ -18,6 +20,11 @@ pub(crate) const WORDS_PLACE: usize = 14;
 pub(crate) const LIST_PIECE_WORDS: usize = 8;
 /// How many bytes a piece of a list has.
 pub(crate) const LIST_PIECE_LEN: usize = 16;
+/// How many references a record has at most: their number is a word.
+pub const MAX_REFERENCES: usize = MAX_WORD as usize;
+/// How many bytes the list of so many takes.
+pub const MAX_LIST_LEN: usize = LIST_PIECE_LEN
+    * ((MAX_REFERENCES + LIST_PIECE_WORDS - 1) / LIST_PIECE_WORDS);
 
 /// The end of link information.
 pub(crate) const EOFMARK: u16 = 0;
@@ -59,9 +66,9 @@ pub(crate) const BIG_FORMAT: u16 = 2;
 
 /// How many bytes the list of so many references takes: its pieces, the last one whole.
 pub(crate) fn list_len(count: usize) -> usize
-    requires { count ≤ 65535 }
+    requires { count ≤ MAX_REFERENCES }
     ensures len { result ≡ list_len_spec count }
-    ensures bounded { result ≤ 131072 }
+    ensures bounded { result ≤ MAX_LIST_LEN }
 {
     LIST_PIECE_LEN * count.div_ceil(LIST_PIECE_WORDS)
 }

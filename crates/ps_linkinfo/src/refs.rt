@@ -1,11 +1,12 @@
 ghost use Rattle.std.specs.Prelude.{◌≡◌, ◌<◌, ◌≤◌, ◌*◌, ◌↔◌, [], IsTrue, length, slice_index};
 ghost use Rattle.ps_linkinfo.specs.Refs.{order_with as order_with_spec, words_of};
 
+use crate::record_layout::MAX_REFERENCES;
 use ps_words::{Order, WORD_LEN, get};
 use std::marker::Model;
 
 /// The references of a record, a view of its list: each is the byte offset of an operand's first
-/// byte from the segment's first byte. There are at most 65535.
+/// byte from the segment's first byte. There are at most `MAX_REFERENCES`.
 ///
 /// Source: the published II.0 Linker source; that the offset counts from the segment's first byte
 /// is this project's profile.
@@ -21,12 +22,13 @@ pub struct Refs<'a> {
 impl<'a> Model for Refs<'a> {
     ghost use Rattle.std.specs.Prelude.{List, ℕ, ◌≤◌, ◌*◌, length};
     ghost use Rattle.ps_linkinfo.specs.Refs.{order_with, words_of};
+    ghost use Rattle.ps_linkinfo.specs.declared.record_layout.TheConstants.{MAX_REFERENCES};
 
     ghost Value = { List ℕ };
 
     ghost view = { λ r. words_of (order_with r.low) r.bytes.now };
 
-    ghost invariant = { λ r. length r.bytes.now ≤ 2 * 65535 };
+    ghost invariant = { λ r. length r.bytes.now ≤ 2 * MAX_REFERENCES };
 }
 
 /// Which byte of a word is its low byte.
@@ -52,7 +54,7 @@ fn order_with(low: usize) -> Order
 impl<'a> Refs<'a> {
     /// The words of the bytes, in that order.
     pub(crate) fn new(order: Order, bytes: &'a [u8]) -> Self
-        requires { length bytes.now ≤ 2 * 65535 }
+        requires { length bytes.now ≤ 2 * MAX_REFERENCES }
         ensures { result ≡ words_of order bytes.now }
     {
         Refs {
@@ -61,12 +63,12 @@ impl<'a> Refs<'a> {
         }
     }
 
-    /// How many references there are, at most 65535.
+    /// How many references there are, at most `MAX_REFERENCES`.
     /// Source: the published II.0 Linker source.
     #[tactic(auto, using(crate::proofs::Words::words_len))]
     pub fn len(&self) -> usize
         ensures len { result ≡ length self.now }
-        ensures few { result ≤ 65535 }
+        ensures few { result ≤ MAX_REFERENCES }
     {
         self.bytes.len() / WORD_LEN
     }

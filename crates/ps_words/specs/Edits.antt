@@ -53,7 +53,8 @@ abbrev pub AreApart : ℕ → List Edit → Type 0
 AreApart from [] = ⊤
 AreApart from (e ∷ es) = (from ≤ place_of e) × AreApart (place_of e + width e) es
 
--- edits of a code of n bytes: inside it, ascending by place, disjoint, each BIG value MAX_OPERAND at most
+-- edits of a code of n bytes: inside it, ascending by place, disjoint, each BIG value at most
+-- MAX_OPERAND
 pub record AreEdits (n : ℕ) (edits : List Edit) : Type 0 where
   pub inside : All (IsInside n) edits
   pub apart : AreApart 0 edits
