@@ -128,7 +128,7 @@ impl<'a> Patcher<'a> {
     ///
     /// Words are stored in the given order, operands in their one form. The edits have to lie
     /// inside the code, in ascending order of place, no two on one byte, and each BIG value has
-    /// to be below 32768.
+    /// to be at most `MAX_OPERAND`.
     /// Source: this project's profile.
     pub fn new(order: Order, code: &'a [u8], edits: &'a [Edit]) -> Self
         requires { AreEdits (length code.now) edits.now }

@@ -19,8 +19,8 @@ fn store(order: Order, code: &mut [u8], edit: Edit)
 /// Patches a segment's code in place: each edit is stored, and every other byte stays as it was.
 ///
 /// Words are stored in the given order, operands in their one form. The edits have to lie inside
-/// the code, in ascending order of place, no two on one byte, and each BIG value has to be below
-/// 32768.
+/// the code, in ascending order of place, no two on one byte, and each BIG value has to be at
+/// most `MAX_OPERAND`.
 /// Source: this project's profile.
 pub fn apply(order: Order, code: &mut [u8], edits: &[Edit])
     requires { AreEdits (length code.old) edits.now }

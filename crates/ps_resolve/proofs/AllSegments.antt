@@ -19,6 +19,7 @@ use Rattle.ps_resolve.specs.declared.linkage.Stop.TheVariants.{Refused, Memory}
 use Rattle.std.proofs.lemmas.List.{drop_all}
 use Rattle.ps_resolve.proofs.Segs.{drop_at}
 use Rattle.ps_resolve.proofs.Stages.{skip, keep}
+use Rattle.ps_words.specs.declared.words.TheConstants.{MAX_WORD}
 
 module _ (order : Order) (known : Known) (ss : List SegmentView) (i : ℕ) (v : SegmentView) (lt : i < length ss) (is : v ≡ get_or ss i v) (free : ℕ) where
   head_is : map segment_of (drop i ss) ≡ segment_of v ∷ map segment_of (drop (i + 1) ss)
@@ -27,7 +28,7 @@ module _ (order : Order) (known : Known) (ss : List SegmentView) (i : ℕ) (v : 
   words_head : all_words (map owner_of (map segment_of (drop i ss))) ≡ private_words (segment_of v).records + all_words (map owner_of (map segment_of (drop (i + 1) ss)))
   words_head = ap (λ (xs : List Segment). all_words (map owner_of xs)) head_is
 
-  pub room_at : (total : ℕ) → free + all_words (map owner_of (map segment_of (drop i ss))) ≡ total → total < 65536 → free + private_words (segment_of v).records < 65536
+  pub room_at : (total : ℕ) → free + all_words (map owner_of (map segment_of (drop i ss))) ≡ total → total ≤ MAX_WORD → free + private_words (segment_of v).records ≤ MAX_WORD
   room_at total h lt = omega (arith, words_head)
 
   pub stop_at : (base : ℕ) (stop : Stop) → references_fault_from order known free (map segment_of (drop i ss)) ≡ references_fault_from order known base (map segment_of ss)

@@ -22,8 +22,9 @@ use Rattle.ps_resolve.specs.declared.linkage.Stop.{Stop}
 use Rattle.ps_resolve.specs.declared.linkage.Stop.TheVariants.{Refused, Memory}
 use Rattle.ps_words.specs.declared.fault.Fault.{Fault}
 use Rattle.ps_resolve.specs.declared.allotment.Private.{Private}
+use Rattle.ps_resolve.specs.declared.allotment.TheConstants.{MAX_NEXT_FREE}
 
-fits_test : (n : ℕ) → n ≤ 32767 → nat_lt 32767 n ≡ false
+fits_test : (n : ℕ) → n ≤ MAX_NEXT_FREE → nat_lt MAX_NEXT_FREE n ≡ false
 fits_test n h = grind (arith, nat_tests)
 
 module _ (slot rec next : ℕ) (seen : List (List ℕ)) (ps : List Private) (r : Record) (rs : List Record) where
@@ -43,7 +44,7 @@ module _ (slot rec next : ℕ) (seen : List (List ℕ)) (ps : List Private) (r :
   pub more_words : (w : ℕ) → words_in r.body ≡ Some w → private_words (r ∷ rs) ≡ w + private_words rs
   more_words w h = rw (h, private_words) refl
 
-  pub more_fault : (w : ℕ) → words_in r.body ≡ Some w → list_any (bytes_eq r.name) seen ≡ false → next + w ≤ 32767
+  pub more_fault : (w : ℕ) → words_in r.body ≡ Some w → list_any (bytes_eq r.name) seen ≡ false → next + w ≤ MAX_NEXT_FREE
       → private_fault rec next seen (r ∷ rs) ≡ private_fault (rec + 1) (next + w) (seen ++ r.name ∷ []) rs
   more_fault w h k le = rw (h, private_fault) (rw (k, fits_test (next + w) le) refl)
 
@@ -90,10 +91,10 @@ module _ (n next : ℕ) (seen : List (List ℕ)) (r : Record) (rs : List Record)
   pub again_fault : list_any (bytes_eq r.name) seen ≡ true → private_fault n next seen (r ∷ rs) ≡ Some (n, reason.DoubledPrivate)
   again_fault k = rw (asks, private_fault) (rw k refl)
 
-  pub far_fault : list_any (bytes_eq r.name) seen ≡ false → 32767 < next + w → private_fault n next seen (r ∷ rs) ≡ Some (n, reason.NoRoom)
+  pub far_fault : list_any (bytes_eq r.name) seen ≡ false → MAX_NEXT_FREE < next + w → private_fault n next seen (r ∷ rs) ≡ Some (n, reason.NoRoom)
   far_fault k lt = rw (asks, private_fault) (rw (k, far_test (next + w) lt) refl)
     where
-      far_test : (m : ℕ) → 32767 < m → nat_lt 32767 m ≡ true
+      far_test : (m : ℕ) → MAX_NEXT_FREE < m → nat_lt MAX_NEXT_FREE m ≡ true
       far_test m h = grind (arith, nat_tests)
 
 -- With the privates so far, those of the records from this index on are all, and so with words and
@@ -180,7 +181,7 @@ module _ (slot next : ℕ) (duplicate : Option ℕ) (before : List Private) (all
         not_seen true h = absurd (h refl)
         not_seen false h = refl
 
-    pub allot_more : (duplicate ≡ Some n → ⊥) → free + w ≤ 32767
+    pub allot_more : (duplicate ≡ Some n → ⊥) → free + w ≤ MAX_NEXT_FREE
         → Allots slot next duplicate before all (ps ++ record { slot = slot; rec = n; name = r.name; offset = free; words = w } ∷ []) (free + w) (n + 1) rs
     allot_more other fits = record {
       stands = further all n r rs a.stands;
@@ -196,7 +197,7 @@ module _ (slot next : ℕ) (duplicate : Option ℕ) (before : List Private) (all
     pub duplicate_fault : duplicate ≡ Some n → private_fault 0 next [] all ≡ Some (n, reason.DoubledPrivate)
     duplicate_fault e = sym a.first ∙ again_fault n free (names a.stands.prefix) r rs w some (is_seen.1 (duplicate_here e))
 
-    pub room_fault : (duplicate ≡ Some n → ⊥) → 32767 < free + w → private_fault 0 next [] all ≡ Some (n, reason.NoRoom)
+    pub room_fault : (duplicate ≡ Some n → ⊥) → MAX_NEXT_FREE < free + w → private_fault 0 next [] all ≡ Some (n, reason.NoRoom)
     room_fault other lt = sym a.first ∙ far_fault n free (names a.stands.prefix) r rs w some (fresh other) lt
 
 -- a stop at the first segment that is left is one at all

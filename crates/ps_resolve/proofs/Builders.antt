@@ -35,6 +35,7 @@ use Rattle.ps_resolve.proofs.Apart.{one_more as counted}
 use Rattle.ps_resolve.proofs.Duplicates.{definitions_counted}
 use Rattle.ps_resolve.proofs.FirstSlots.{none_mapped, or_none, some_mapped}
 use Rattle.ps_resolve.proofs.Rises.{behind}
+use Rattle.ps_resolve.specs.declared.allotment.TheConstants.{MAX_NEXT_FREE}
 
 -- the first that f gives of a list's items and their numbers
 record Given {A X : Type 0} (f : ℕ × A → Option X) (n : ℕ) (items : List A) (x : X) : Type 0 where
@@ -186,12 +187,12 @@ module _ (base : ℕ) (ss : List Owner) where
 
   module _ (k : ℕ) (s : Owner) (rec : ℕ) (r : Record) where
     abbrev full : Bool
-    full = is_private_reference r.body && nat_lt 32767 (offset_at base ss k s rec + words_taken r.body)
+    full = is_private_reference r.body && nat_lt MAX_NEXT_FREE (offset_at base ss k s rec + words_taken r.body)
 
-    is_full : Decides full ((is_private_reference r.body ≡ true) × (32767 < offset_at base ss k s rec + words_taken r.body))
+    is_full : Decides full ((is_private_reference r.body ≡ true) × (MAX_NEXT_FREE < offset_at base ss k s rec + words_taken r.body))
     is_full =
-        Decides-and (is_private_reference r.body) (nat_lt 32767 (offset_at base ss k s rec + words_taken r.body)) (of_test (is_private_reference r.body))
-        (Decides-ltb 32767 (offset_at base ss k s rec + words_taken r.body))
+        Decides-and (is_private_reference r.body) (nat_lt MAX_NEXT_FREE (offset_at base ss k s rec + words_taken r.body)) (of_test (is_private_reference r.body))
+        (Decides-ltb MAX_NEXT_FREE (offset_at base ss k s rec + words_taken r.body))
 
     neither : record_faults (k, s) (rec, r) ≡ None → (fault_if (is_again is_private_reference s.records (rec, r)) reason.DoubledPrivate ≡ None) × (fault_if full reason.NoRoom ≡ None)
     neither e = or_none _ _ (none_mapped (λ why. in_record s.file s.slot rec why) (reason_at (λ n. offset_at base ss k s n) s.records (rec, r)) e)
@@ -206,7 +207,7 @@ module _ (base : ℕ) (ss : List Owner) where
     unfit : (why : Reason) → reason_at (λ n. offset_at base ss k s n) s.records (rec, r) ≡ Some why → IsUnfit base ss k s rec r why
     unfit why e = go (is_again is_private_reference s.records (rec, r)) full (again is_private_reference s.records rec r) is_full e
       where
-        go : (b c : Bool) → Decides b (HasEarlierNamesake is_private_reference s.records rec r) → Decides c ((is_private_reference r.body ≡ true) × (32767 < offset_at base ss k s rec + words_taken r.body))
+        go : (b c : Bool) → Decides b (HasEarlierNamesake is_private_reference s.records rec r) → Decides c ((is_private_reference r.body ≡ true) × (MAX_NEXT_FREE < offset_at base ss k s rec + words_taken r.body))
             → option_or (fault_if b reason.DoubledPrivate) (fault_if c reason.NoRoom) ≡ Some why → IsUnfit base ss k s rec r why
         go true c d f h = let is : reason.DoubledPrivate ≡ why = cc in subst (IsUnfit base ss k s rec r) is (d.0 refl)
         go false true d f h =
@@ -226,7 +227,7 @@ module _ (base : ℕ) (ss : List Owner) where
 
   pub room : first_private_fault base ss ≡ None → HaveRoom base ss
   room e k rec s r of there asks =
-      elim (cases_lt 32767 (offset_at base ss k s rec + words_taken r.body)) [
+      elim (cases_lt MAX_NEXT_FREE (offset_at base ss k s rec + words_taken r.body)) [
         | inl lt ↦ absurd (none_unfit e k s rec r of there reason.NoRoom (λ (a : HasEarlierNamesake is_private_reference s.records rec r). distinct_names e k s of rec r there a, asks, lt))
         | inr le ↦ le
       ]

@@ -17,13 +17,14 @@ use Rattle.ps_resolve.specs.declared.references.Target.{Target}
 use Rattle.ps_resolve.specs.declared.references.Target.TheVariants.{Slot, Base}
 use Rattle.ps_resolve.proofs.FirstSlots.{or_none, none_mapped}
 use Rattle.ps_resolve.proofs.NextRecords.{record_refused, record_by}
+use Rattle.ps_words.specs.declared.words.TheConstants.{MAX_OPERAND}
 
 -- where none of four reasons is given, none of their tests holds
 reasons_none : (a b c d : Bool) (r s t u : Reason) → option_or (fault_if a r) (option_or (fault_if b s) (option_or (fault_if c t) (fault_if d u))) ≡ None
     → (a ≡ false) × (b ≡ false) × (c ≡ false) × (d ≡ false)
 reasons_none a b c d r s t u h = grind arith
 
-inside_of : (code : List ℕ) (t : Target) (x : ℕ) → x + width_of t ≤ length code → value_of code t x ≤ 32767 → IsInside (length code) (edit_of code t x)
+inside_of : (code : List ℕ) (t : Target) (x : ℕ) → x + width_of t ≤ length code → value_of code t x ≤ MAX_OPERAND → IsInside (length code) (edit_of code t x)
 inside_of code (Slot slot) x h k = record { storable = tt; within = h }
 inside_of code (Base base) x h k = record { storable = omega arith; within = h }
 
@@ -31,8 +32,8 @@ inside_of code (Base base) x h k = record { storable = omega arith; within = h }
 one_inside : (R : ℕ → Bool) (code : List ℕ) (t : Target) (x : ℕ) (os : List (ℕ × ℕ)) → reference_reason R code os t x ≡ None → IsInside (length code) (edit_of code t x)
 one_inside R code t x os h =
     let places = range_with_len x (width_of t) in
-    let e = reasons_none (nat_lt (length code) (x + width_of t)) (list_any R places) (list_any (λ p. list_any (is_in p) os) places) (nat_lt 32767 (value_of code t x)) reason.OutsideCode reason.ReservedPlace reason.Overlap reason.OperandTooLarge h in
-    inside_of code t x (ltb-false (length code) (x + width_of t) e.0) (ltb-false 32767 (value_of code t x) e.3)
+    let e = reasons_none (nat_lt (length code) (x + width_of t)) (list_any R places) (list_any (λ p. list_any (is_in p) os) places) (nat_lt MAX_OPERAND (value_of code t x)) reason.OutsideCode reason.ReservedPlace reason.Overlap reason.OperandTooLarge h in
+    inside_of code t x (ltb-false (length code) (x + width_of t) e.0) (ltb-false MAX_OPERAND (value_of code t x) e.3)
 
 -- where no reference of a record has a fault, the edits of them lie in the code and can be stored
 refs_inside : (R : ℕ → Bool) (code : List ℕ) (t : Target) (xs : List ℕ) (i : ℕ) (os : List (ℕ × ℕ)) → refs_fault R code t i os xs ≡ None → All (IsInside (length code)) (map (edit_of code t) xs)

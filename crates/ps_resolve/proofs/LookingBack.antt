@@ -23,6 +23,7 @@ use Rattle.ps_resolve.specs.Standing.Phrases.{SomeBelow}
 use Rattle.ps_resolve.specs.Standing.Definitions.{HasEarlierNamesake}
 use Rattle.ps_linkinfo.specs.RecordCounts.{is_definition, is_private_reference}
 use Rattle.ps_resolve.specs.References.{words_taken}
+use Rattle.ps_resolve.specs.declared.allotment.TheConstants.{MAX_NEXT_FREE}
 
 pub of_test : (b : Bool) → Decides b (b ≡ true)
 of_test b = (λ e. e, λ e. e)
@@ -124,7 +125,7 @@ more_words (q ∷ prefix) r = omega (arith, words_before q (prefix ++ r ∷ []),
 abbrev pub reason_at : (ℕ → ℕ) → List Record → ℕ × Record → Option Reason
 reason_at offset records r =
     option_or (fault_if (is_again is_private_reference records r) reason.DoubledPrivate)
-    (fault_if (is_private_reference r.1.body && nat_lt 32767 (offset r.0 + words_taken r.1.body)) reason.NoRoom)
+    (fault_if (is_private_reference r.1.body && nat_lt MAX_NEXT_FREE (offset r.0 + words_taken r.1.body)) reason.NoRoom)
 
 abbrev pub record_fault : (Reason → ℕ → Fault) → (ℕ → ℕ) → List Record → ℕ × Record → Option Fault
 record_fault h offset records r = option_map (λ why. h why r.0) (reason_at offset records r)

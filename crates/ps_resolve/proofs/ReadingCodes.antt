@@ -7,6 +7,7 @@ use Rattle.std.proofs.lemmas.Bool.Decides.{nat_tests}
 use Rattle.ps_words.specs.declared.fault.Reason.TheVariants as reason
 use Rattle.ps_codefile.specs.declared.entry.Entry.{Entry}
 use Rattle.ps_codefile.specs.Dictionary.{code_of, has_bad_length, kind_needs_linking}
+use Rattle.ps_codefile.specs.declared.code_layout.TheConstants.{MAX_CODE_LEN}
 
 -- a code that is given has no bad length, is not cut short, and is the slice of its file
 pub whole_code : (bad zero short : Bool) (x code : List ℕ) → (if bad then Err reason.BadLength else (if zero then Err reason.BadAddress else (if short then Err reason.Truncated else Ok x))) ≡ Ok code → (bad ≡ false) × (short ≡ false) × (x ≡ code)
@@ -21,11 +22,11 @@ length_within xs a n h =
     let le : a + n ≤ length xs = grind (arith, nat_tests) in
     omega (arith, length-take (a + n - a) (drop a xs), length-drop a xs)
 
--- a length that is not refused is 32767 at most
-small_code : (n : ℕ) (other : Bool) → (ltb 32767 n || other) ≡ false → n ≤ 32767
-small_code n other h = at (ltb 32767 n) refl
+-- a length that is not refused is MAX_CODE_LEN at most
+small_code : (n : ℕ) (other : Bool) → (ltb MAX_CODE_LEN n || other) ≡ false → n ≤ MAX_CODE_LEN
+small_code n other h = at (ltb MAX_CODE_LEN n) refl
   where
-    at : (b : Bool) → ltb 32767 n ≡ b → n ≤ 32767
+    at : (b : Bool) → ltb MAX_CODE_LEN n ≡ b → n ≤ MAX_CODE_LEN
     at true q = let e : true ≡ false = rw q at h in cc
     at false q = grind (arith, nat_tests)
 
@@ -37,7 +38,7 @@ large_code n false false h = grind (arith, nat_tests)
 
 pub record IsWholeCode (e : Entry) (code : List ℕ) : Type 0 where
   pub len : length code ≡ e.length
-  pub small : e.length ≤ 32767
+  pub small : e.length ≤ MAX_CODE_LEN
   pub large : kind_needs_linking e.kind ≡ true → 4 ≤ e.length
 
 -- a code with which nothing is wrong has the length of its entry, which is within its limits
@@ -47,5 +48,5 @@ whole file e code h =
     record {
       len = ap length (sym parts.2) ∙ length_within file (512 * e.address) e.length parts.1;
       small = small_code e.length _ parts.0;
-      large = λ linked. large_code e.length (ltb 32767 e.length) (e.length % 2 == 1) (rw linked at parts.0);
+      large = λ linked. large_code e.length (ltb MAX_CODE_LEN e.length) (e.length % 2 == 1) (rw linked at parts.0);
     }

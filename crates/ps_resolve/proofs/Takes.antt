@@ -21,6 +21,7 @@ use Rattle.ps_resolve.specs.Operands.{edit_of, is_in, operands, width_of, value_
 use Rattle.ps_resolve.specs.Searches.{fault_if}
 use Rattle.ps_resolve.specs.declared.references.Target.{Target}
 use Rattle.ps_resolve.specs.declared.references.Target.TheVariants.{Slot, Base}
+use Rattle.ps_words.specs.declared.words.TheConstants.{MAX_OPERAND}
 
 pub drop_one : (xs : List ℕ) (i : ℕ) → i < length xs → drop i xs ≡ get_or xs i 0 ∷ drop (i + 1) xs
 drop_one xs i h = rw (add-one, drop-cons xs i 0)
@@ -122,7 +123,7 @@ module _ (tables : ProcedureTables) (ts : List PlaceState) (os : List (ℕ × �
       rw (inside, none, covered) refl
 
   -- an operand of which no place is taken
-  pub stands_free : list_any (is_taken_at ts) places ≡ false → reason_in tables os t x ≡ fault_if (nat_lt 32767 (value_of tables.code t x)) reason.OperandTooLarge
+  pub stands_free : list_any (is_taken_at ts) places ≡ false → reason_in tables os t x ≡ fault_if (nat_lt MAX_OPERAND (value_of tables.code t x)) reason.OperandTooLarge
   stands_free none =
       let neither = or_parts (list_any Reserved places) (list_any Covered places) (sym any_taken ∙ none) in
       rw (inside, neither.0, neither.1) refl

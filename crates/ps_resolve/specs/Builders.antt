@@ -21,6 +21,7 @@ use Rattle.ps_words.specs.FaultPlaces.{in_record}
 use Rattle.ps_words.specs.declared.fault.Fault.{Fault}
 use Rattle.ps_words.specs.declared.fault.Reason.{Reason}
 use Rattle.ps_words.specs.declared.fault.Reason.TheVariants as reason
+use Rattle.ps_resolve.specs.declared.allotment.TheConstants.{MAX_NEXT_FREE}
 
 -- 1. definitions
 -- no record of this kind has the name of an earlier record of this kind
@@ -60,18 +61,18 @@ offset_at base ss k s rec = base + words_taken_by (flat_map (λ q. q.records) (t
 abbrev pub HaveDistinctPrivates : List Owner → Type 0
 HaveDistinctPrivates ss = (k : ℕ) (s : Owner) → slice_get ss k ≡ Some s → HaveNoNamesakes is_private_reference s.records
 
--- every private ends at 32767 at most
+-- every private ends at MAX_NEXT_FREE at most
 abbrev pub HaveRoom : ℕ → List Owner → Type 0
 HaveRoom base ss =
     (k rec : ℕ) (s : Owner) (r : Record) → slice_get ss k ≡ Some s → slice_get s.records rec ≡ Some r
-    → is_private_reference r.body ≡ true → offset_at base ss k s rec + words_taken r.body ≤ 32767
+    → is_private_reference r.body ≡ true → offset_at base ss k s rec + words_taken r.body ≤ MAX_NEXT_FREE
 
 -- why the private of a record is refused: an earlier private of its segment has its name, or else
--- it ends past 32767
+-- it ends past MAX_NEXT_FREE
 abbrev pub IsUnfit : ℕ → List Owner → ℕ → Owner → ℕ → Record → Reason → Type 0
 IsUnfit base ss k s rec r reason.DoubledPrivate = HasEarlierNamesake is_private_reference s.records rec r
 IsUnfit base ss k s rec r reason.NoRoom =
-    (HasEarlierNamesake is_private_reference s.records rec r → ⊥) × (is_private_reference r.body ≡ true) × (32767 < offset_at base ss k s rec + words_taken r.body)
+    (HasEarlierNamesake is_private_reference s.records rec r → ⊥) × (is_private_reference r.body ≡ true) × (MAX_NEXT_FREE < offset_at base ss k s rec + words_taken r.body)
 IsUnfit base ss k s rec r other = ⊥
 
 -- the fault is that of the first private that is refused: by segment, and then by record

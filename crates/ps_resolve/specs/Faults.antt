@@ -27,6 +27,7 @@ use Rattle.ps_resolve.specs.declared.reading.request.Request.{Request}
 use Rattle.ps_resolve.specs.Symbols.{first_duplicate}
 use Rattle.ps_resolve.specs.References.{Known, records_fault}
 use Rattle.ps_resolve.specs.Linking.{known_of, grown_data_size}
+use Rattle.ps_resolve.specs.declared.edits.data_size.TheConstants.{MAX_DATA_SIZE}
 
 -- 1. the host by itself: too short, of no byte order, or without any kind
 abbrev pub host_fault : List ℕ → Option Fault
@@ -121,7 +122,7 @@ privates_fault segs = first_private_fault (next_of (host_records segs)) (map own
 -- 9. the host's data size
 abbrev pub size_fault : Order → ℕ → Segment → Option Fault
 size_fault order words s =
-    option_and_then (λ t. fault_if (nat_lt 65535 (grown_data_size order s.code words t)) (in_slot 0 s.slot reason.DataTooLarge)) (table_of order s.code 1)
+    option_and_then (λ t. fault_if (nat_lt MAX_DATA_SIZE (grown_data_size order s.code words t)) (in_slot 0 s.slot reason.DataTooLarge)) (table_of order s.code 1)
 
 -- the fault of the host's data size
 unfoldable pub data_fault : Order → List Segment → Option Fault

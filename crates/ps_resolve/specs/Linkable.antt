@@ -1,6 +1,6 @@
 -- What is known of the segments of a link, once the files were read without a fault.
 -- Source: this project's profile.
-use Rattle.std.specs.Prelude.{◌≡◌, ℕ, ◌+◌, ◌<◌, ◌≤◌, List, [], ◌∷◌, length, map, true, Some, Result, All, ⊤}
+use Rattle.std.specs.Prelude.{◌≡◌, ℕ, ◌+◌, ◌≤◌, List, [], ◌∷◌, length, map, true, Some, Result, All, ⊤}
 use Rattle.ps_words.specs.declared.order.Order.{Order}
 use Rattle.ps_words.specs.declared.edit.Edit.{Edit}
 use Rattle.ps_words.specs.declared.fault.Reason.{Reason}
@@ -17,6 +17,7 @@ use Rattle.ps_resolve.specs.References.{Known, HaveTargets}
 use Rattle.ps_resolve.specs.Views.{segment_of, IsSound, IsLike, AreAlike}
 use Rattle.ps_resolve.specs.Views.{SegmentView}
 use Rattle.ps_resolve.specs.declared.reading.host.HostSegment.{HostSegment}
+use Rattle.ps_words.specs.declared.words.TheConstants.{MAX_WORD}
 
 -- This is what each slot of a host is for, or why its kind is refused.
 abbrev pub AreSlots : OpenedFile → List (Result Role Reason) → Type 0
@@ -65,7 +66,7 @@ pub record ReadSegments : Type 0 where
 -- `size`, suits.
 pub record AreLinkable (order : Order) (size : Edit) (base : ℕ) (ss : List SegmentView) : Type 0 where
   pub sound : All (IsSound order) ss
-  pub room : base + all_words (map owner_of (map segment_of ss)) < 65536
+  pub room : base + all_words (map owner_of (map segment_of ss)) ≤ MAX_WORD
   pub table : All (λ s. is_host s.role ≡ true → IsOfTable order s.code size) (map segment_of ss)
   pub alike : AreAlike ss
 
@@ -73,7 +74,7 @@ pub record AreLinkable (order : Order) (size : Edit) (base : ℕ) (ss : List Seg
 -- offset of the first of its privates
 pub record IsNext (order : Order) (known : Known) (size : Edit) (earlier : List SegmentView) (s : SegmentView) (free : ℕ) : Type 0 where
   pub sound : IsSound order s
-  pub room : free + private_words s.records < 65536
+  pub room : free + private_words s.records ≤ MAX_WORD
   pub table : is_host s.role ≡ true → IsOfTable order s.code size
   pub alike : All (IsLike s) earlier
   pub named : All (λ q. HaveTargets known q.records) earlier

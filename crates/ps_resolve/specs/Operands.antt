@@ -11,6 +11,7 @@ use Rattle.ps_words.specs.declared.fault.Reason.{Reason}
 use Rattle.ps_words.specs.declared.fault.Reason.TheVariants as reason
 use Rattle.ps_resolve.specs.declared.references.Target.{Target}
 use Rattle.ps_resolve.specs.declared.references.Target.TheVariants.{Slot, Base}
+use Rattle.ps_words.specs.declared.words.TheConstants.{MAX_OPERAND}
 
 -- how many bytes an operand has that becomes this
 abbrev pub width_of : Target → ℕ
@@ -38,7 +39,7 @@ reference_reason reserved code taken target x =
     option_or (fault_if (nat_lt (length code) (x + width_of target)) reason.OutsideCode)
     (option_or (fault_if (list_any reserved places) reason.ReservedPlace)
     (option_or (fault_if (list_any (λ p. list_any (is_in p) taken) places) reason.Overlap)
-    (fault_if (nat_lt 32767 (value_of code target x)) reason.OperandTooLarge)))
+    (fault_if (nat_lt MAX_OPERAND (value_of code target x)) reason.OperandTooLarge)))
 
 -- the operands of a record's references, each as its place and its width
 abbrev pub operands : Target → List ℕ → List (ℕ × ℕ)

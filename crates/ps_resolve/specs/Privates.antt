@@ -17,6 +17,7 @@ use Rattle.ps_linkinfo.specs.declared.record.Body.{Body}
 use Rattle.ps_linkinfo.specs.declared.record.Body.TheVariants.{UnitRef, PublRef, PrivRef, PublDef, ConstDef, Eof}
 use Rattle.ps_linkinfo.specs.declared.record.LinkRecord.{LinkRecord as Record}
 use Rattle.ps_resolve.specs.declared.allotment.Private.{Private}
+use Rattle.ps_resolve.specs.declared.allotment.TheConstants.{MAX_NEXT_FREE}
 
 -- how many words a private of a record takes
 abbrev pub words_in : Body → Option ℕ
@@ -42,7 +43,7 @@ private_words [] = 0
 private_words (r ∷ rs) = elim (words_in r.body) [ None ↦ private_words rs | Some words ↦ words + private_words rs ]
 
 -- the first that has the name of one before it, of the names `seen` or of the records, or that ends
--- past 32767
+-- past MAX_NEXT_FREE
 abbrev pub private_fault : ℕ → ℕ → List (List ℕ) → List Record → Option (ℕ × Reason)
 private_fault rec next seen [] = None
 private_fault rec next seen (r ∷ rs) =
@@ -50,7 +51,7 @@ private_fault rec next seen (r ∷ rs) =
       | None ↦ private_fault (rec + 1) next seen rs
       | Some words ↦
           if list_any (bytes_eq r.name) seen then Some (rec, reason.DoubledPrivate)
-          else (if nat_lt 32767 (next + words) then Some (rec, reason.NoRoom)
+          else (if nat_lt MAX_NEXT_FREE (next + words) then Some (rec, reason.NoRoom)
           else private_fault (rec + 1) (next + words) (seen ++ r.name ∷ []) rs)
     ]
 

@@ -1,4 +1,4 @@
-ghost use Rattle.std.specs.Prelude.{◌≡◌, ◌<◌, ◌+◌, ◌++◌, [], IfOk, IfErr, None, length, map, unwrap_or};
+ghost use Rattle.std.specs.Prelude.{◌≡◌, ◌<◌, ◌≤◌, ◌+◌, ◌++◌, [], IfOk, IfErr, None, length, map, unwrap_or};
 ghost use Rattle.ps_resolve.specs.Linkable.{AscendFrom};
 ghost use Rattle.ps_resolve.specs.Offsets.{FollowOn, offset_listed};
 ghost use Rattle.ps_resolve.specs.declared.linkage.Stop.TheVariants.{Memory};
@@ -11,12 +11,14 @@ use crate::linkage::{Linkage, SegmentPlace, Stop};
 use crate::namesakes::first_duplicate_private;
 use crate::reading::segment::Segment;
 use ps_linkinfo::{Body, LinkInformation};
-use ps_words::{Name, Reason};
+use ps_words::{MAX_OPERAND, MAX_WORD, Name, Reason};
 use std::alloc::{Allocator, Global};
 use std::marker::Model;
 
-/// The last offset that may be free after a private, in words.
-const MAX_NEXT_FREE: usize = 32767;
+/// The greatest base offset in words that may be free after a private: one that a BIG operand can
+/// hold.
+/// Source: this project's profile.
+pub const MAX_NEXT_FREE: usize = MAX_OPERAND as usize;
 
 /// A private variable of a segment, which its PRIVREF record requests. A link may have millions, so
 /// its fields are by their widths, and it takes 24 bytes.
@@ -26,9 +28,9 @@ const MAX_NEXT_FREE: usize = 32767;
 pub struct Private {
     /// The index, from 0, of its record in the segment's link information.
     pub rec: usize,
-    /// Its base offset in words, 0 to 32767.
+    /// Its base offset in words, 0 to `MAX_NEXT_FREE`.
     pub offset: u16,
-    /// How many words it takes, 0 to 32767.
+    /// How many words it takes, 0 to `MAX_NEXT_FREE`.
     pub words: u16,
     /// Its name, which no other private of its segment has.
     pub name: Name,
@@ -181,9 +183,9 @@ impl<A: Allocator + Copy> Allotment<A> {
     ///
     /// The link information has to read without a fault: up to the first fault its records are
     /// taken. Refuses, at the first private where one of them is, `DoubledPrivate` where an earlier
-    /// one of its segment has its name, and then `NoRoom` where the offset after it is over 32767,
-    /// with the file and the slot of its segment. Returns `Memory` only where memory was refused,
-    /// and there is a private.
+    /// one of its segment has its name, and then `NoRoom` where the offset after it is over
+    /// `MAX_NEXT_FREE`, with the file and the slot of its segment. Returns `Memory` only where
+    /// memory was refused, and there is a private.
     ///
     /// Source: this project's profile.
     pub fn build(alloc: A, next: u16, segments: &[Linkage]) -> Result<Self, Stop>
@@ -231,8 +233,9 @@ impl<A: Allocator + Copy> Allotment<A> {
         })
     }
 
-    /// The base offset in words, 0 to 32767, of the private that a record requests: the record of
-    /// index `rec`, from 0, of the segment in slot `slot`. `None` where that is no PRIVREF record.
+    /// The base offset in words, 0 to `MAX_NEXT_FREE`, of the private that a record requests: the
+    /// record of index `rec`, from 0, of the segment in slot `slot`. `None` where that is no PRIVREF
+    /// record.
     /// Source: this project's profile.
     pub fn offset(&self, slot: u8, rec: usize) -> Option<u16>
         ensures { result ≡ offset_listed slot rec self.now.privates }
@@ -253,7 +256,7 @@ impl<A: Allocator + Copy> Allotment<A> {
         self.privates.as_slice()
     }
 
-    /// How many words all of them take, 0 to 32767.
+    /// How many words all of them take, 0 to `MAX_NEXT_FREE`.
     /// Source: this project's profile.
     pub fn words(&self) -> u16
         ensures { result ≡ self.now.words }
@@ -264,7 +267,7 @@ impl<A: Allocator + Copy> Allotment<A> {
     /// The base offset in words after the last of them: the first where there is none.
     /// Source: the published II.0 Linker source.
     pub fn next_free(&self) -> u16
-        ensures range { self.now.next_free < 65536 }
+        ensures range { self.now.next_free ≤ MAX_WORD }
         ensures value { result ≡ self.now.next_free }
     {
         self.next_free

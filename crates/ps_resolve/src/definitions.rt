@@ -31,7 +31,7 @@ pub enum DefKind {
 pub struct Def {
     /// What it is of.
     pub kind: DefKind,
-    /// The variable's base offset in words, or the constant's value: 0 to 65535.
+    /// The variable's base offset in words, or the constant's value: 0 to `MAX_WORD`.
     pub value: u16,
 }
 

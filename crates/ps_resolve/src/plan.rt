@@ -105,7 +105,7 @@ impl<'a, A: Allocator + Copy> Plan<'a, A> {
     }
 
     /// What is stored in the code of the k-th source, from 0, which exists: by place ascending,
-    /// apart from one another and inside the code, each BIG value below 32768.
+    /// apart from one another and inside the code, each BIG value at most `MAX_OPERAND`.
     ///
     /// A linked segment has the Byte edit of its number and one edit for each of its references,
     /// the host's segment the Word edit of its data size too, also where they change nothing. A
@@ -136,7 +136,7 @@ impl<'a, A: Allocator + Copy> Plan<'a, A> {
         &self.allotment
     }
 
-    /// How many words all private variables take, 0 to 32767.
+    /// How many words all private variables take, 0 to `MAX_NEXT_FREE`.
     /// Source: this project's profile.
     pub fn private_words(&self) -> u16
         ensures { result ≡ self.now.private_words }
@@ -144,8 +144,8 @@ impl<'a, A: Allocator + Copy> Plan<'a, A> {
         self.allotment.words()
     }
 
-    /// The base offset in words, 0 to 65535, after the last private variable: the one that the end
-    /// mark of the host's link information gives where there is none.
+    /// The base offset in words, 0 to `MAX_WORD`, after the last private variable: the one that the
+    /// end mark of the host's link information gives where there is none.
     /// Source: the published II.0 Linker source.
     pub fn next_free(&self) -> u16
         ensures { result ≡ self.now.next_free }
@@ -153,7 +153,7 @@ impl<'a, A: Allocator + Copy> Plan<'a, A> {
         self.allotment.next_free()
     }
 
-    /// The data size of the host's outer block in the linked file, in bytes, 0 to 65535.
+    /// The data size of the host's outer block in the linked file, in bytes, 0 to `MAX_DATA_SIZE`.
     /// Source: UCSD Pascal II.0 manual, code file format.
     pub fn data_size(&self) -> u16
         ensures { result ≡ self.now.data_size }

@@ -18,11 +18,8 @@ use crate::edit_table::EditTable;
 use crate::linkage::{RecordPlace, Stop};
 use ps_codefile::Procs;
 use ps_linkinfo::{Body, Refs};
-use ps_words::{Edit, Reason, get_big};
+use ps_words::{Edit, MAX_OPERAND, MAX_WORD, Reason, get_big};
 use std::alloc::Allocator;
-
-/// The greatest BIG operand.
-const MAX_OPERAND: usize = 32767;
 
 /// What a reference's operand becomes: the number of a slot, or its displacement and a base.
 /// Source: this project's profile.
@@ -58,7 +55,7 @@ fn is_any_taken<A: Allocator + Copy>(edits: &EditTable<A>, target: Target, x: us
 
 /// Whether one of the places of the operand is reserved.
 fn is_any_reserved(procedures: &Procs, target: Target, x: usize) -> bool
-    requires { x < 65536 }
+    requires { x ≤ MAX_WORD }
     ensures { result ≡ list_any (is_reserved procedures.now.order procedures.now.code)
         (range_with_len x (width_of_spec target)) }
 {
@@ -74,7 +71,7 @@ fn stored_at(code: &[u8], target: Target, x: usize) -> Result<Edit, Reason>
     requires inside { x + width_of_spec target ≤ length code.now }
     ensures edit { IfOk result (λ edit. edit ≡ edit_of code.now target x) }
     ensures reason { result_err result
-        ≡ fault_if (nat_lt 32767 (value_of code.now target x)) OperandTooLarge }
+        ≡ fault_if (nat_lt MAX_OPERAND (value_of code.now target x)) OperandTooLarge }
 {
     match target {
         Target::Slot(slot) => Ok(Edit::Byte {
@@ -83,7 +80,7 @@ fn stored_at(code: &[u8], target: Target, x: usize) -> Result<Edit, Reason>
         }),
         Target::Base(base) => {
             let value = get_big(code, x) as usize + base as usize;
-            if value > MAX_OPERAND {
+            if value > MAX_OPERAND as usize {
                 return Err(Reason::OperandTooLarge);
             }
             Ok(Edit::Big {
@@ -118,7 +115,7 @@ pub(crate) struct ReferenceEdits<'a, A: Allocator> {
 impl<A: Allocator + Copy> ReferenceEdits<'_, A> {
     /// The edit of the operand at x, or why there is none.
     fn edit_at(&self, target: Target, x: usize) -> Result<Edit, Reason>
-        requires low { x < 65536 }
+        requires low { x ≤ MAX_WORD }
         requires len { length self.now.edits.states.items ≡ length self.now.procedures.code }
         ensures inside { IfOk result (λ _. x + width_of_spec target
             ≤ length self.now.procedures.code) }

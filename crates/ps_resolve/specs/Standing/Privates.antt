@@ -15,6 +15,7 @@ use Rattle.std.specs.List.{flat_map}
 use Rattle.ps_resolve.specs.Standing.Phrases.{Because, SomeItem}
 use Rattle.ps_resolve.specs.Standing.Segments.{SomeSegment}
 use Rattle.ps_resolve.specs.Standing.Definitions.{HasEarlierNamesake}
+use Rattle.ps_resolve.specs.declared.allotment.TheConstants.{MAX_NEXT_FREE}
 
 -- the records of a segment that are before record `rec` of slot `slot`: all of a smaller slot, and
 -- the first `rec` of the slot itself
@@ -30,10 +31,10 @@ words_before segs slot rec = words_taken_by (flat_map (records_before slot rec) 
 abbrev pub private_offset : List Segment → ℕ → ℕ → ℕ
 private_offset segs slot rec = next_of (host_records segs) + words_before segs slot rec
 
--- A PRIVREF has the name of an earlier one of its segment, or its private ends after offset 32767.
+-- A PRIVREF has the name of an earlier one of its segment, or its private ends after offset MAX_NEXT_FREE.
 abbrev pub PrivateHas : List Segment → Segment → ℕ → Record → Reason → Type 0
 PrivateHas segs s rec r reason.DoubledPrivate = HasEarlierNamesake is_private_reference s.records rec r
-PrivateHas segs s rec r reason.NoRoom = (is_private_reference r.body ≡ true) × (32767 < private_offset segs s.slot rec + words_taken r.body)
+PrivateHas segs s rec r reason.NoRoom = (is_private_reference r.body ≡ true) × (MAX_NEXT_FREE < private_offset segs s.slot rec + words_taken r.body)
 PrivateHas segs s rec r other = ⊥
 
 -- a fault of a private variable, reported with its record

@@ -23,6 +23,7 @@ use Rattle.ps_words.specs.declared.fault.Reason.TheVariants as reason
 use Rattle.ps_resolve.specs.Standing.Phrases.{Because, SomeItem}
 use Rattle.ps_resolve.specs.Standing.Segments.{SomeSegment}
 use Rattle.ps_resolve.specs.Standing.Privates.{private_offset}
+use Rattle.ps_words.specs.declared.words.TheConstants.{MAX_OPERAND}
 
 -- the name's definition is this one: the first that has the name
 abbrev pub Defines : List (List ℕ × Def) → List ℕ → Def → Type 0
@@ -66,7 +67,7 @@ ReferenceHas order segs s rec r i x reason.OutsideCode = (p : ℕ) × Covers r.b
 ReferenceHas order segs s rec r i x reason.ReservedPlace = (p : ℕ) × Covers r.body x p × (is_reserved order s.code p ≡ true)
 ReferenceHas order segs s rec r i x reason.Overlap =
     SomeItem s.records (λ lesser q. SomeItem (refs_of q.body) (λ j y. Before (lesser ∷ j ∷ []) (rec ∷ i ∷ []) × Meet r.body x q.body y))
-ReferenceHas order segs s rec r i x reason.OperandTooLarge = 32767 < operand_value segs s rec r.name r.body x
+ReferenceHas order segs s rec r i x reason.OperandTooLarge = MAX_OPERAND < operand_value segs s rec r.name r.body x
 ReferenceHas order segs s rec r i x other = ⊥
 
 -- a fault of a record of a segment of the link, reported with the record; or of one of its

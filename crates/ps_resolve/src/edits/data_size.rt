@@ -10,7 +10,11 @@ use crate::linkage::Stop;
 use crate::reading::host::HostSegment;
 use crate::reading::slots::HOST_FILE;
 use ps_codefile::code_layout::DATA_SIZE_BEFORE_TABLE;
-use ps_words::{Edit, Fault, Order, Reason, WORD_LEN, get};
+use ps_words::{Edit, Fault, MAX_WORD, Order, Reason, WORD_LEN, get};
+
+/// The greatest data size of an outer block, in bytes: the greatest word.
+/// Source: UCSD Pascal II.0 manual, code file format.
+pub const MAX_DATA_SIZE: usize = MAX_WORD as usize;
 
 /// The data size of the host's outer block, grown by the private words.
 #[derive(Clone, Copy)]
@@ -35,7 +39,7 @@ impl DataSize {
 
 /// The data size of the outer block of the host's segment, grown by two bytes for each private
 /// word.
-/// Refuses `DataTooLarge` where it is over 65535.
+/// Refuses `DataTooLarge` where it is over `MAX_DATA_SIZE`.
 pub(crate) fn grown_data_size(
     order: Order,
     host: &HostSegment,
@@ -52,7 +56,7 @@ pub(crate) fn grown_data_size(
 {
     let place = host.outer_block - DATA_SIZE_BEFORE_TABLE;
     let size = get(order, host.segment.code(), place) as usize + WORD_LEN * words as usize;
-    if size > u16::MAX as usize {
+    if size > MAX_DATA_SIZE {
         let slot = host.segment.slot();
         let fault = Fault::in_slot(HOST_FILE, slot, Reason::DataTooLarge);
         return Err(Stop::Refused(fault));

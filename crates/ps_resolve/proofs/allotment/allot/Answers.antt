@@ -9,6 +9,7 @@ use Rattle.ps_resolve.proofs.Allots.{Allots, allot_more, allot_on, allots, dupli
 use Rattle.ps_resolve.proofs.Duplicates.{positive}
 use Rattle.ps_resolve.proofs.Numbers.{one, none}
 use Rattle.ps_resolve.proofs.allotment.allot.Goals as goal
+use Rattle.ps_resolve.specs.declared.allotment.TheConstants.{MAX_NEXT_FREE}
 
 pub returns-then-privates-eq0 : goal.returns-then-privates-eq0
 returns-then-privates-eq0 g c =
@@ -94,7 +95,7 @@ loop-rec-preserved-in-Some-words_of_private g c =
     let n = c.in-Some-words_of_private.words in
     let some = sym c.words_of_private.ensures ∙ c.in-Some-words_of_private.is in
     let rest = step.0 in
-    let fits : l.free + n ≤ 32767 = omega (arith, c.if-free-words-gt-MAX_NEXT_FREE.false) in
+    let fits : l.free + n ≤ MAX_NEXT_FREE = omega (arith, c.if-free-words-gt-MAX_NEXT_FREE.false) in
     let more = allot_more c.args.place.slot c.args.next d before rs ps l.free rec r step.0 found step.2 n some (not_duplicate d rec (sym c.eq.ensures ∙ c.if-eq.false)) fits in
     (rec + 1, rest, step.1, subst (λ (qs : List Private). Allots c.args.place.slot c.args.next d before rs qs (l.free + n) (rec + 1) rest) (sym c.in_ok-push.ensures.items) more)
 
