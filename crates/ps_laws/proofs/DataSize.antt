@@ -16,12 +16,13 @@ use Rattle.ps_laws.proofs.Least.{Least, Precedes, least_if, least_then}
 use Rattle.ps_words.specs.FaultPlaces.{in_slot}
 use Rattle.ps_words.specs.declared.order.Order.{Order}
 use Rattle.ps_words.specs.declared.fault.Reason.TheVariants as reason
+use Rattle.ps_resolve.specs.declared.edits.data_size.TheConstants.{MAX_DATA_SIZE}
 
 -- the first fault of the host's data size is the smallest that applies
 pub step_9 : (order : Order) (host : List ℕ) (libs : List (List ℕ)) → Least (Precedes OfDataSize) (InDataSize order host libs) (data_fault order (segments order host libs))
 unfolding data_fault
 step_9 order host libs =
     let total = total_words (segments order host libs) in
-    least_then (λ s. option_and_then (λ t. fault_if (nat_lt 65535 (grown_data_size order s.code total t)) (in_slot 0 s.slot reason.DataTooLarge)) (table_of order s.code 1)) (host_of (segments order host libs))
-    (λ s is_it. least_then (λ t. fault_if (nat_lt 65535 (grown_data_size order s.code total t)) (in_slot 0 s.slot reason.DataTooLarge)) (table_of order s.code 1)
-    (λ t e. least_if (nat_lt 65535 (grown_data_size order s.code total t)) (in_slot 0 s.slot reason.DataTooLarge) (Decides-ltb 65535 (grown_data_size order s.code total t))))
+    least_then (λ s. option_and_then (λ t. fault_if (nat_lt MAX_DATA_SIZE (grown_data_size order s.code total t)) (in_slot 0 s.slot reason.DataTooLarge)) (table_of order s.code 1)) (host_of (segments order host libs))
+    (λ s is_it. least_then (λ t. fault_if (nat_lt MAX_DATA_SIZE (grown_data_size order s.code total t)) (in_slot 0 s.slot reason.DataTooLarge)) (table_of order s.code 1)
+    (λ t e. least_if (nat_lt MAX_DATA_SIZE (grown_data_size order s.code total t)) (in_slot 0 s.slot reason.DataTooLarge) (Decides-ltb MAX_DATA_SIZE (grown_data_size order s.code total t))))

@@ -20,6 +20,7 @@ use Rattle.ps_laws.proofs.Looking.{of_test}
 use Rattle.ps_laws.proofs.Segments.{over_segments, Ascends, ascend}
 use Rattle.ps_laws.proofs.PrivateOffsets.{AreBelow, below_from, below_more, offset_in, words_split}
 use Rattle.ps_resolve.proofs.LookingBack.{is_again, again, reason_at, record_fault, privates_carried}
+use Rattle.ps_resolve.specs.declared.allotment.TheConstants.{MAX_NEXT_FREE}
 pub use Rattle.ps_resolve.proofs.LookingBack.{more_words}
 use Rattle.ps_words.specs.FaultPlaces.{in_record}
 use Rattle.ps_words.specs.declared.order.Order.{Order}
@@ -53,8 +54,8 @@ private_rows : (segs : List Segment) (s : Segment) (rec : ℕ) (r : Record) → 
 private_rows segs s rec r =
     least_same to from
     (least_or (least_if (is_again is_private_reference s.records (rec, r)) reason.DoubledPrivate (again is_private_reference s.records rec r))
-    (least_if (is_private_reference r.body && nat_lt 32767 (private_offset segs s.slot rec + words_taken r.body)) reason.NoRoom
-    (Decides-and (is_private_reference r.body) (nat_lt 32767 (private_offset segs s.slot rec + words_taken r.body)) (of_test (is_private_reference r.body)) (Decides-ltb 32767 (private_offset segs s.slot rec + words_taken r.body))))
+    (least_if (is_private_reference r.body && nat_lt MAX_NEXT_FREE (private_offset segs s.slot rec + words_taken r.body)) reason.NoRoom
+    (Decides-and (is_private_reference r.body) (nat_lt MAX_NEXT_FREE (private_offset segs s.slot rec + words_taken r.body)) (of_test (is_private_reference r.body)) (Decides-ltb MAX_NEXT_FREE (private_offset segs s.slot rec + words_taken r.body))))
     (at_apart Ranked reason.DoubledPrivate reason.NoRoom (omega arith)))
   where
     to : (x : Reason) → ((x ≡ reason.DoubledPrivate) × PrivateHas segs s rec r reason.DoubledPrivate) ⊎ ((x ≡ reason.NoRoom) × PrivateHas segs s rec r reason.NoRoom) → PrivateHas segs s rec r x

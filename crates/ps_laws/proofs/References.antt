@@ -56,6 +56,7 @@ use Rattle.ps_words.specs.declared.order.Order.{Order}
 use Rattle.ps_words.specs.declared.fault.Reason.{Reason}
 use Rattle.ps_words.specs.declared.fault.Reason.TheVariants as reason
 use Rattle.ps_words.specs.declared.fault.Fault.{Fault}
+use Rattle.ps_words.specs.declared.words.TheConstants.{MAX_OPERAND}
 
 -- tests of lists that are made of others
 any_map : {A C : Type 0} (test : C → Bool) (f : A → C) (xs : List A) → list_any test (map f xs) ≡ list_any (λ x. test (f x)) xs
@@ -242,7 +243,7 @@ reason_with reserved code taken w v x =
     option_or (fault_if (nat_lt (length code) (x + w)) reason.OutsideCode)
     (option_or (fault_if (list_any reserved (range_with_len x w)) reason.ReservedPlace)
     (option_or (fault_if (list_any (λ p. list_any (is_in p) taken) (range_with_len x w)) reason.Overlap)
-    (fault_if (nat_lt 32767 v) reason.OperandTooLarge)))
+    (fault_if (nat_lt MAX_OPERAND v) reason.OperandTooLarge)))
 
 abbrev reason_at : Order → List Segment → Segment → ℕ → Record → ℕ × ℕ → Option Reason
 reason_at order segs s rec r ref = reason_with (is_reserved order s.code) s.code (before s.records rec ++ own r.body ref.0) (operand_width r.body) (operand_value segs s rec r.name r.body ref.1) ref.1
@@ -254,7 +255,7 @@ reference_rows order segs s rec r i x er ex =
     (least_or (least_if (nat_lt (length s.code) (x + operand_width r.body)) reason.OutsideCode (past (length s.code) x (operand_width r.body) (wide r.body i x ex)))
     (least_or (least_if (list_any (is_reserved order s.code) (range_with_len x (operand_width r.body))) reason.ReservedPlace reserved)
     (least_or (least_if (overlaps s.records rec i r.body x) reason.Overlap (overlapping s.records rec i r x er))
-    (least_if (nat_lt 32767 (operand_value segs s rec r.name r.body x)) reason.OperandTooLarge (Decides-ltb 32767 (operand_value segs s rec r.name r.body x)))
+    (least_if (nat_lt MAX_OPERAND (operand_value segs s rec r.name r.body x)) reason.OperandTooLarge (Decides-ltb MAX_OPERAND (operand_value segs s rec r.name r.body x)))
     (at_apart Ranked reason.Overlap reason.OperandTooLarge (omega arith)))
     (λ y z t. elim [ inl u ↦ at_apart Ranked reason.ReservedPlace reason.Overlap (omega arith) y z t u | inr u ↦ at_apart Ranked reason.ReservedPlace reason.OperandTooLarge (omega arith) y z t u ]))
     (λ y z t. elim [
