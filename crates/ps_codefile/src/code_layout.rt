@@ -3,16 +3,12 @@
 //!
 //! Source: UCSD Pascal II.0 manual, code file format. The lengths are this project's profile.
 
-use crate::dictionary_layout::SLOT_COUNT;
 use ps_words::BLOCK_SIZE;
 
 /// The length of the longest code.
 pub const MAX_CODE_LEN: u16 = 32767;
 /// How many blocks the longest code takes.
 pub const MAX_CODE_BLOCKS: usize = (MAX_CODE_LEN as usize + BLOCK_SIZE - 1) / BLOCK_SIZE;
-/// How many blocks a file has that has the longest code in each slot: one for its segment
-/// dictionary, and those of the codes.
-pub const MAX_FILE_BLOCKS: usize = 1 + SLOT_COUNT * MAX_CODE_BLOCKS;
 /// How many bytes follow the procedure words: the segment number and the number of procedures.
 pub const NUMBERS: usize = 2;
 /// How many bytes of an attribute table precede its offset: four words.

@@ -10,7 +10,7 @@ use Rattle.std.proofs.lemmas.List.Sums.{sum_by-cons}
 use Rattle.std.proofs.lemmas.List.Elements.{All-nil, All-cons, All-head, All-tail}
 use Rattle.ps_words.specs.Words.{word_bytes, blocks}
 use Rattle.ps_words.specs.declared.order.Order.{Order}
-use Rattle.ps_codefile.specs.Dictionary.{max_code_len}
+use Rattle.ps_codefile.specs.declared.code_layout.TheConstants.{MAX_CODE_LEN, MAX_CODE_BLOCKS}
 use Rattle.ps_linkfile.specs.LinkedFile.{Extent, all_blocks, block_of, pair_of}
 use Rattle.ps_linkfile.specs.Writing.{starts_of, Ascend}
 
@@ -22,12 +22,12 @@ pub few_codes : (from : ℕ) (cs : List Extent) → from ≤ 16 → Ascend from 
 few_codes from [] k h = omega arith
 few_codes from (c ∷ cs) k h = let rest = few_codes (c.slot + 1) cs (omega (arith, h.1)) h.2 in omega (arith, rest, h.0)
 
--- a code takes at most 64 blocks
-pub few_blocks : (cs : List Extent) → All (λ c. c.size ≤ max_code_len) cs → all_blocks cs ≤ 64 * length cs
+-- a code takes at most MAX_CODE_BLOCKS blocks
+pub few_blocks : (cs : List Extent) → All (λ c. c.size ≤ MAX_CODE_LEN) cs → all_blocks cs ≤ MAX_CODE_BLOCKS * length cs
 few_blocks [] h = omega arith
 few_blocks (c ∷ cs) h =
-    let P : Extent → Type 0 = λ d. d.size ≤ max_code_len in
-    let one : c.size ≤ 32767 = All-head P c cs h in
+    let P : Extent → Type 0 = λ d. d.size ≤ MAX_CODE_LEN in
+    let one : c.size ≤ MAX_CODE_LEN = All-head P c cs h in
     let rest = few_blocks cs (All-tail P c cs h) in
     omega (arith, all_blocks-cons c cs, one, rest)
 
@@ -115,7 +115,7 @@ blocks_more (d ∷ ds) c = all_blocks-cons d (ds ++ c ∷ []) ∙ omega (arith, 
 pub record LaidSoFar (all : List Extent) (count : ℕ) (starts : List ℕ) (block from : ℕ) : Type 0 where
   pub left : Left all from block (drop count all)
   pub few : count ≤ from
-  pub small : block ≤ 1 + 64 * count
+  pub small : block ≤ 1 + MAX_CODE_BLOCKS * count
   pub many : length starts ≡ count
   pub begins : starts ≡ map (λ c. block_of all c.slot) (take count all)
   pub blocks : block ≡ 1 + all_blocks (take count all)
@@ -147,7 +147,7 @@ laid_next all count starts block from c is h =
 -- with one code more laid out, its start is the block that was reached, and the next begins after
 -- its blocks
 pub laid_more : (all : List Extent) (count : ℕ) (starts : List ℕ) (block from : ℕ) (c : Extent)
-    → drop count all ≡ c ∷ drop (count + 1) all → c.size ≤ 32767 → LaidSoFar all count starts block from → LaidSoFar all (count + 1) (starts ++ block ∷ []) (block + blocks c.size) (c.slot + 1)
+    → drop count all ≡ c ∷ drop (count + 1) all → c.size ≤ MAX_CODE_LEN → LaidSoFar all count starts block from → LaidSoFar all (count + 1) (starts ++ block ∷ []) (block + blocks c.size) (c.slot + 1)
 laid_more all count starts block from c is size h =
     let at = laid_here all count starts block from c is h in
     let more : take (count + 1) all ≡ take count all ++ c ∷ [] = took all count c is in

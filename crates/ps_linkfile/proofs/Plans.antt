@@ -9,7 +9,8 @@ use Rattle.ps_words.specs.Words.{blocks}
 use Rattle.ps_words.specs.Edits.{patched_byte}
 use Rattle.ps_words.specs.declared.order.Order.{Order}
 use Rattle.ps_words.specs.declared.edit.Edit.{Edit}
-use Rattle.ps_codefile.specs.Dictionary.{block_len, max_code_len}
+use Rattle.ps_codefile.specs.Dictionary.{block_len}
+use Rattle.ps_codefile.specs.declared.code_layout.TheConstants.{MAX_CODE_LEN}
 use Rattle.ps_resolve.specs.Added.{segments, slot_names}
 use Rattle.ps_linkinfo.specs.RecordCounts.{next_of}
 use Rattle.ps_resolve.specs.Privates.{private_words, total_words}
@@ -132,7 +133,7 @@ plan_ready host libs plan h long =
       host = long;
       names = ap (λ (names : List (List ℕ)). length names) h.names;
       slots = subst (λ (cs : List Extent). Ascend 0 cs) (sym is) (segments_ascend order host libs);
-      sizes = subst (λ (cs : List Extent). All (λ c. c.size ≤ max_code_len) cs) (sym is) (segments_small order host libs);
+      sizes = subst (λ (cs : List Extent). All (λ c. c.size ≤ MAX_CODE_LEN) cs) (sym is) (segments_small order host libs);
       edits = subst (λ (os : List Origin). HaveEdits os plan.edits) (sym h.origins) (have_edits order (known_of ss) (total_words ss) (next_of (host_records ss)) ss plan.edits h.edits);
     }
 

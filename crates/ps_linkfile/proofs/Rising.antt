@@ -4,7 +4,8 @@ use Rattle.std.specs.Prelude.{All, min}
 use Rattle.std.proofs.lemmas.Bool.Decides.{nat_tests}
 use Rattle.std.specs.declared.io.Error.{Error}
 use Rattle.ps_words.specs.Words.{blocks}
-use Rattle.ps_codefile.specs.Dictionary.{max_code_len}
+use Rattle.ps_codefile.specs.declared.code_layout.TheConstants.{MAX_CODE_LEN}
+use Rattle.ps_linkfile.specs.declared.block_layout.TheConstants.{MAX_FILE_BLOCKS}
 use Rattle.ps_linkfile.specs.Counts.{AreAtMost, CanCount, counts_after, Rises, NoneFailed, OneError, OneStall, OneFailed, IfDevice, IfStalled}
 use Rattle.ps_resolve.specs.Plans.{Origin}
 use Rattle.ps_linkfile.specs.declared.counts.Counts.{Counts}
@@ -79,7 +80,7 @@ room_left a b size m x n room h none le = record {
 }
 
 -- a file has few blocks
-pub few_of_all : (cs : List Extent) → Ascend 0 cs → All (λ c. c.size ≤ max_code_len) cs → all_blocks cs ≤ 1024
+pub few_of_all : (cs : List Extent) → Ascend 0 cs → All (λ c. c.size ≤ MAX_CODE_LEN) cs → 1 + all_blocks cs ≤ MAX_FILE_BLOCKS
 few_of_all cs slots sizes = omega (arith, few_blocks cs sizes, few_codes 0 cs (omega arith) slots)
 
 abbrev pub blocks_in : List Origin → ℕ

@@ -1,9 +1,10 @@
--- The segments of a link are by slot, and no code is longer than 32767 bytes.
+-- The segments of a link are by slot, and no code is longer than MAX_CODE_LEN bytes.
 use Rattle.std.proofs.Common.{ℕ, ◌+◌, ◌<◌, ◌≤◌, List, [], ◌∷◌, length, map, sym, subst, inl, inr, arith}
 use Rattle.std.specs.Prelude.{All, ⊤}
 use Rattle.std.proofs.lemmas.List.Elements.{All-map, All-tail}
 use Rattle.ps_words.specs.declared.order.Order.{Order}
-use Rattle.ps_codefile.specs.Dictionary.{max_code_len, entry_at}
+use Rattle.ps_codefile.specs.Dictionary.{entry_at}
+use Rattle.ps_codefile.specs.declared.code_layout.TheConstants.{MAX_CODE_LEN}
 use Rattle.ps_codefile.specs.declared.entry.Role.{Role}
 use Rattle.ps_codefile.specs.declared.entry.Role.TheVariants.{Wanted}
 use Rattle.ps_resolve.specs.Added.{segments, segment_at, added_segments}
@@ -19,15 +20,15 @@ abbrev pub extent_at : Segment → Extent
 extent_at s = record { slot = s.slot; size = length s.code }
 
 abbrev IsSmall : Segment → Type 0
-IsSmall s = length s.code ≤ max_code_len
+IsSmall s = length s.code ≤ MAX_CODE_LEN
 
 made_small : (order : Order) (host : List ℕ) (libs : List (List ℕ)) (slot : ℕ) (name : List ℕ) (r : Role) (at : ℕ × ℕ) (s : Segment) → IsMade order host libs slot name r at s → IsSmall s
 made_small order host libs slot name r at s h =
     let is = whole (file_at host libs at.0) (entry_at order (file_at host libs at.0) at.1) h.code h.given in
-    let small : length h.code ≤ max_code_len = omega (arith, is.len, is.small) in
+    let small : length h.code ≤ MAX_CODE_LEN = omega (arith, is.len, is.small) in
     subst IsSmall (sym h.is) small
 
--- no code is longer than 32767 bytes
+-- no code is longer than MAX_CODE_LEN bytes
 all_small : (order : Order) (host : List ℕ) (libs : List (List ℕ)) → All IsSmall (segments order host libs)
 unfolding segments
 all_small order host libs = each_slot IsSmall (segment_at order host libs) (λ x s lt h. elim (at_slot order host libs IsSmall added x s h) [ inl own ↦ (let t = own_made order host libs x s own in made_small order host libs x (entry_at order host x).name t.0 t.2 s t.3) | inr t ↦ t.2 ])
@@ -48,5 +49,5 @@ extents_ascend from (s ∷ ss) rises within = (rises.0, within 0 s (omega arith)
 pub segments_ascend : (order : Order) (host : List ℕ) (libs : List (List ℕ)) → Ascend 0 (map extent_at (segments order host libs))
 segments_ascend order host libs = extents_ascend 0 (segments order host libs) (ascend order host libs) (all_within order host libs)
 
-pub segments_small : (order : Order) (host : List ℕ) (libs : List (List ℕ)) → All (λ c. c.size ≤ max_code_len) (map extent_at (segments order host libs))
-segments_small order host libs = All-map (λ (c : Extent). c.size ≤ max_code_len) extent_at (segments order host libs) (all_small order host libs)
+pub segments_small : (order : Order) (host : List ℕ) (libs : List (List ℕ)) → All (λ c. c.size ≤ MAX_CODE_LEN) (map extent_at (segments order host libs))
+segments_small order host libs = All-map (λ (c : Extent). c.size ≤ MAX_CODE_LEN) extent_at (segments order host libs) (all_small order host libs)

@@ -4,7 +4,7 @@ use Rattle.std.specs.Prelude.{All, slice_get}
 use Rattle.std.proofs.lemmas.List.{drop-map, drop_more, length-map, get_or-map}
 use Rattle.std.proofs.lemmas.Option.{get_or_from_slice_get, slice_get_within}
 use Rattle.ps_words.specs.declared.edit.Edit.{Edit}
-use Rattle.ps_codefile.specs.Dictionary.{max_code_len}
+use Rattle.ps_codefile.specs.declared.code_layout.TheConstants.{MAX_CODE_LEN}
 use Rattle.ps_resolve.specs.Plans.{Origin, origin_of_source}
 use Rattle.ps_resolve.specs.declared.plan.Source.{Source}
 use Rattle.ps_linkfile.specs.LinkedFile.{Extent, block_of}
@@ -39,14 +39,14 @@ seen ss os h = ap (λ (ps : List Origin). map extent_of_origin ps) (sym h) ∙ b
 pub seen_ascend : (ss : List Source) (os : List Origin) → map origin_of_source ss ≡ os → Ascend 0 (map extent_of_origin os) → Ascend 0 (map extent_of_source ss)
 seen_ascend ss os h k = subst (λ (cs : List Extent). Ascend 0 cs) (seen ss os h) k
 
-pub seen_small : (ss : List Source) (os : List Origin) → map origin_of_source ss ≡ os → All (λ c. c.size ≤ max_code_len) (map extent_of_origin os) → All (λ c. c.size ≤ max_code_len) (map extent_of_source ss)
-seen_small ss os h k = subst (λ (cs : List Extent). All (λ c. c.size ≤ max_code_len) cs) (seen ss os h) k
+pub seen_small : (ss : List Source) (os : List Origin) → map origin_of_source ss ≡ os → All (λ c. c.size ≤ MAX_CODE_LEN) (map extent_of_origin os) → All (λ c. c.size ≤ MAX_CODE_LEN) (map extent_of_source ss)
+seen_small ss os h k = subst (λ (cs : List Extent). All (λ c. c.size ≤ MAX_CODE_LEN) cs) (seen ss os h) k
 
 -- a source's code is small
-pub size_at : (ss : List Source) (i : ℕ) → All (λ c. c.size ≤ max_code_len) (map extent_of_source ss) → i < length ss → length (get_or ss i no_source).code.now ≤ 32767
+pub size_at : (ss : List Source) (i : ℕ) → All (λ c. c.size ≤ MAX_CODE_LEN) (map extent_of_source ss) → i < length ss → length (get_or ss i no_source).code.now ≤ MAX_CODE_LEN
 size_at ss i h lt =
     let within : i < length (map extent_of_source ss) = subst (λ (n : ℕ). i < n) (sym (length-map ss extent_of_source)) lt in
-    subst (λ (c : Extent). c.size ≤ 32767) (get_or-map extent_of_source ss i no_source (extent_of_source no_source) lt) (h i (extent_of_source no_source) within)
+    subst (λ (c : Extent). c.size ≤ MAX_CODE_LEN) (get_or-map extent_of_source ss i no_source (extent_of_source no_source) lt) (h i (extent_of_source no_source) within)
 
 -- its slot is one of sixteen
 pub slot_at : (ss : List Source) (i : ℕ) → Ascend 0 (map extent_of_source ss) → i < length ss → (get_or ss i no_source).slot < 16

@@ -4,7 +4,8 @@ use Rattle.std.specs.Prelude.{◌≡◌, ℕ, ◌+◌, ◌<◌, ◌≤◌, List,
 use Rattle.ps_words.specs.Edits.{AreEdits}
 use Rattle.ps_words.specs.declared.order.Order.{Order}
 use Rattle.ps_words.specs.declared.edit.Edit.{Edit}
-use Rattle.ps_codefile.specs.Dictionary.{block_len, max_code_len}
+use Rattle.ps_codefile.specs.Dictionary.{block_len}
+use Rattle.ps_codefile.specs.declared.code_layout.TheConstants.{MAX_CODE_LEN}
 use Rattle.ps_resolve.specs.Plans.{Planned, Origin}
 use Rattle.ps_linkfile.specs.LinkedFile.{Extent, all_blocks, block_of, dictionary, padded_code, LinkedFile, summary_of}
 use Rattle.ps_linkfile.specs.declared.summary.Summary.{Summary}
@@ -54,12 +55,12 @@ HaveEdits (o ∷ os) [] = ⊥
 HaveEdits (o ∷ os) (edits ∷ rest) = AreEdits (length o.code) edits × HaveEdits os rest
 
 -- a plan that can be written: a whole dictionary, sixteen names, each slot once, codes of at most
--- 32767 bytes, and edits inside them
+-- MAX_CODE_LEN bytes, and edits inside them
 pub record IsReady (plan : Planned) : Type 0 where
   pub host : block_len ≤ length plan.host
   pub names : length plan.names ≡ 16
   pub slots : Ascend 0 (extents_in plan)
-  pub sizes : All (λ c. c.size ≤ max_code_len) (extents_in plan)
+  pub sizes : All (λ c. c.size ≤ MAX_CODE_LEN) (extents_in plan)
   pub edits : HaveEdits plan.origins plan.edits
 
 -- the first block of each code

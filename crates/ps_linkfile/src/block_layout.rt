@@ -1,17 +1,23 @@
 //! Where the code of each segment is in the linked file.
 ghost use Rattle.std.specs.Prelude.{◌≡◌, ◌≤◌, ◌+◌, map, All};
-ghost use Rattle.ps_codefile.specs.Dictionary.{max_code_len};
 ghost use Rattle.ps_resolve.specs.Plans.{origin_of_source};
 ghost use Rattle.ps_linkfile.specs.LinkedFile.{all_blocks};
 ghost use Rattle.ps_linkfile.specs.Writing.{extent_of_origin, extents_in, starts_of, Ascend, IsReady};
 
 use arrayvec::ArrayVec;
+use ps_codefile::code_layout::{MAX_CODE_BLOCKS, MAX_CODE_LEN};
+use ps_codefile::dictionary_layout::SLOT_COUNT;
 use ps_resolve::{Plan, Source};
 use ps_words::blocks_of;
 use std::alloc::Allocator;
 
 /// How many segments a linked file has at most: one in each slot.
-const MAX_SEGMENTS: usize = 16;
+const MAX_SEGMENTS: usize = SLOT_COUNT;
+
+/// How many blocks a linked file has at most: one for its segment dictionary, and those of the
+/// longest code in each slot.
+/// Source: this project's profile.
+pub const MAX_FILE_BLOCKS: usize = 1 + MAX_SEGMENTS * MAX_CODE_BLOCKS;
 
 /// The blocks of a linked file.
 #[derive(Drop)]
@@ -25,7 +31,7 @@ pub(crate) struct Layout {
 /// Lays the codes of these sources out, by slot, one after another from block 1 on.
 fn layout_of(sources: &[Source]) -> Layout
     requires slots { Ascend 0 (map (λ s. extent_of_origin (origin_of_source s)) sources.now) }
-    requires sizes { All (λ c. c.size ≤ max_code_len)
+    requires sizes { All (λ c. c.size ≤ MAX_CODE_LEN)
         (map (λ s. extent_of_origin (origin_of_source s)) sources.now) }
     ensures starts { result.starts.items
         ≡ starts_of (map (λ s. extent_of_origin (origin_of_source s)) sources.now) }

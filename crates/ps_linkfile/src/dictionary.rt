@@ -1,10 +1,10 @@
 ghost use Rattle.std.specs.Prelude.{◌≡◌, ◌≤◌, ◌+◌, ◌++◌, map, length, take, drop, All};
-ghost use Rattle.ps_codefile.specs.Dictionary.{max_code_len};
 ghost use Rattle.ps_resolve.specs.Plans.{origin_of_source};
 ghost use Rattle.ps_linkfile.specs.LinkedFile.{all_pairs, dictionary};
 ghost use Rattle.ps_linkfile.specs.Writing.{extent_of_origin, extents_in, starts_of, Ascend, IsReady};
 
 use crate::block_layout::lay_out;
+use ps_codefile::code_layout::MAX_CODE_LEN;
 use ps_codefile::dictionary_layout::{NAMES, PAIR, TAIL};
 use ps_resolve::{Plan, Source};
 use ps_words::{BLOCK_SIZE, Order, WORD_LEN, put};
@@ -14,7 +14,7 @@ use std::alloc::Allocator;
 /// in and the code's length, and zeros for any other.
 fn pairs_of(order: Order, sources: &[Source], starts: &[u16]) -> [u8; NAMES]
     requires slots { Ascend 0 (map (λ s. extent_of_origin (origin_of_source s)) sources.now) }
-    requires sizes { All (λ c. c.size ≤ max_code_len)
+    requires sizes { All (λ c. c.size ≤ MAX_CODE_LEN)
         (map (λ s. extent_of_origin (origin_of_source s)) sources.now) }
     requires starts { starts.now
         ≡ starts_of (map (λ s. extent_of_origin (origin_of_source s)) sources.now) }

@@ -27,6 +27,7 @@ mod told;
 mod write_counter;
 mod writing;
 
+pub use block_layout::MAX_FILE_BLOCKS;
 pub use error::{LinkError, WriteFault};
 pub use json::{add_json_name, comma, separator};
 pub use lines::{add_number, add_slot_name, shown_codes};

@@ -11,7 +11,7 @@ ghost use Rattle.ps_linkfile.specs.Writing.{file_in, summary_in, IsReady, Stands
 ghost use Rattle.ps_linkfile.specs.Outcomes.{AppendsPrefix, AppendsLinkedFile, HasUsedNumber, NamesFirst, IsUnprepared, IsUnlinked, LeavesUntouched, LeavesPrefix};
 ghost use Rattle.ps_linkfile.specs.Counts.{AreAtMost, IfDevice, IfStalled, NoneFailed, OneError, OneStall, RisesByBytes, RisesByPieces};
 
-use crate::block_layout::lay_out;
+use crate::block_layout::{MAX_FILE_BLOCKS, lay_out};
 use crate::counts::Counts;
 use crate::error::{LinkError, WriteFault};
 use crate::map::{LinkMap, add_map};
@@ -50,11 +50,11 @@ impl<'a, A: Allocator + Copy> Model for Linked<'a, A> {
 impl<'a, A: Allocator + Copy> Linked<'a, A> {
     /// What the linked file has, in numbers, before it is written: its segments, the words of all
     /// its private variables, and its blocks of 512 bytes, the segment dictionary's counted, of
-    /// which there are at most 1025. So many bytes `write` writes.
+    /// which there are at most `MAX_FILE_BLOCKS`. So many bytes `write` writes.
     /// Source: this project's profile.
     pub fn summary(&self) -> Summary
         ensures value { result ≡ summary_in self.now }
-        ensures bounded { result.blocks ≤ 1 + 16 * 64 }
+        ensures bounded { result.blocks ≤ MAX_FILE_BLOCKS }
     {
         Summary {
             segments: self.plan.sources().len(),

@@ -12,12 +12,12 @@ use ps_linkinfo::Refs;
 pub(crate) const PIECE_REFERENCES: usize = 64;
 
 /// How many bytes their text takes at most: six for each, a blank and five digits.
-const PIECE_TEXT_LEN: usize = 384;
+const PIECE_TEXT_LEN: usize = 6 * PIECE_REFERENCES;
 
 /// Writes the text of a reference so that it ends at `end`. Returns where it begins.
 fn write_reference(place: u16, piece: &mut [u8; PIECE_TEXT_LEN], end: usize) -> usize
     requires room { 6 ≤ end }
-    requires inside { end ≤ 384 }
+    requires inside { end ≤ PIECE_TEXT_LEN }
     ensures begins { end ≤ result + 6 }
     ensures before { result < end }
     ensures text { drop result piece.new ≡ reference place ++ drop end piece.old }
@@ -33,8 +33,8 @@ fn write_reference(place: u16, piece: &mut [u8; PIECE_TEXT_LEN], end: usize) -> 
 fn write_piece(refs: &Refs, from: usize, end: usize, piece: &mut [u8; PIECE_TEXT_LEN]) -> usize
     requires ordered { from ≤ end }
     requires within { end ≤ length refs.now }
-    requires few { end ≤ from + 64 }
-    ensures inside { result ≤ 384 }
+    requires few { end ≤ from + PIECE_REFERENCES }
+    ensures inside { result ≤ PIECE_TEXT_LEN }
     ensures text { drop result piece.new
         ≡ flat_map reference (take (end - from) (drop from refs.now)) }
 {
@@ -45,11 +45,11 @@ fn write_piece(refs: &Refs, from: usize, end: usize, piece: &mut [u8; PIECE_TEXT
     start
 }
 
-/// Adds the text of the references from the index `from` on, of 64 at most.
+/// Adds the text of the references from the index `from` on, of at most `PIECE_REFERENCES`.
 pub(crate) fn add_piece<S: TextWriter>(text: &mut S, refs: &Refs, from: usize)
     requires { from ≤ length refs.now }
     ensures { Adds S.added text.old
-        (flat_map reference (take 64 (drop from refs.now))) text.new }
+        (flat_map reference (take PIECE_REFERENCES (drop from refs.now))) text.new }
 {
     let mut piece = [0; PIECE_TEXT_LEN];
     let end = refs.len().min(from + PIECE_REFERENCES);

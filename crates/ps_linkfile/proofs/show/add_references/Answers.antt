@@ -3,6 +3,7 @@ use Rattle.std.specs.List.{flat_map}
 use Rattle.ps_linkfile.specs.ShowText.{reference, references}
 use Rattle.ps_linkfile.proofs.InPieces.{one_piece}
 use Rattle.ps_linkfile.proofs.Written.{none_yet, some_more}
+use Rattle.ps_linkfile.specs.declared.pieces.TheConstants.{PIECE_REFERENCES}
 use Rattle.ps_linkfile.proofs.show.add_references.Goals as goal
 
 pub loop-index-init : goal.loop-index-init
@@ -14,6 +15,6 @@ pub loop-index-preserved : goal.loop-index-preserved
 loop-index-preserved g c =
     let refs : List ℕ = c.args.refs.now in
     let i : ℕ = c.loop-index.index in
-    let next : 64 * (i + 1) ≡ 64 * i + 64 = omega arith in
-    let split = ap (λ (n : ℕ). flat_map reference (take 64 (drop (64 * i) refs)) ++ flat_map reference (drop n refs)) next ∙ one_piece reference refs (64 * i) 64 in
+    let next : PIECE_REFERENCES * (i + 1) ≡ PIECE_REFERENCES * i + PIECE_REFERENCES = omega arith in
+    let split = ap (λ (n : ℕ). flat_map reference (take PIECE_REFERENCES (drop (PIECE_REFERENCES * i) refs)) ++ flat_map reference (drop n refs)) next ∙ one_piece reference refs (PIECE_REFERENCES * i) PIECE_REFERENCES in
     some_more _ _ _ c.loop-index.text _ _ _ _ (sym split) c.loop-index.invariant c.add_piece.ensures

@@ -2,10 +2,11 @@ use Rattle.std.proofs.Common.{◌*◌, ℕ, List, drop}
 use Rattle.std.specs.List.{flat_map}
 use Rattle.ps_linkfile.specs.ShowText.{reference, references}
 use Rattle.ps_linkfile.proofs.Written.{Written}
+use Rattle.ps_linkfile.specs.declared.pieces.TheConstants.{PIECE_REFERENCES}
 use Rattle.ps_linkfile.proofs.show.add_references.Given as goal
 
 -- the references that are left are still to be written
 abbrev pub invariant-loop-index : goal.invariant-loop-index
 invariant-loop-index g l =
     let refs : List ℕ = l.refs in
-    Written g.S.TextWriter.added l.fn.text (references refs) (flat_map reference (drop (64 * l.index) refs)) l.text
+    Written g.S.TextWriter.added l.fn.text (references refs) (flat_map reference (drop (PIECE_REFERENCES * l.index) refs)) l.text

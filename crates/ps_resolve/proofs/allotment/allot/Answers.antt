@@ -8,8 +8,8 @@ use Rattle.ps_resolve.specs.declared.allotment.Private.{Private}
 use Rattle.ps_resolve.proofs.Allots.{Allots, allot_more, allot_on, allots, duplicate_fault, is_duplicate, no_privates, not_duplicate, privates_counted, room_fault}
 use Rattle.ps_resolve.proofs.Duplicates.{positive}
 use Rattle.ps_resolve.proofs.Numbers.{one, none}
-use Rattle.ps_resolve.proofs.allotment.allot.Goals as goal
 use Rattle.ps_resolve.specs.declared.allotment.TheConstants.{MAX_NEXT_FREE}
+use Rattle.ps_resolve.proofs.allotment.allot.Goals as goal
 
 pub returns-then-privates-eq0 : goal.returns-then-privates-eq0
 returns-then-privates-eq0 g c =
