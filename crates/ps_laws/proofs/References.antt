@@ -22,7 +22,7 @@ use Rattle.ps_resolve.specs.Standing.Phrases.{Because, SomeBelow, SomeItem}
 use Rattle.ps_resolve.specs.Standing.Keys.{OfReferences, part}
 use Rattle.ps_resolve.specs.Standing.Privates.{private_offset}
 use Rattle.ps_linkinfo.specs.Operands.{operand_width}
-use Rattle.ps_resolve.specs.Standing.References.{Defines, RecordHas, operand_value, Covers, Meet, ReferenceHas, InReferences}
+use Rattle.ps_resolve.specs.Standing.References.{Defines, RecordHas, IsTooLarge, Covers, Meet, ReferenceHas, InReferences}
 use Rattle.ps_linkinfo.specs.Records.{refs_of}
 use Rattle.ps_linkinfo.specs.declared.record.Body.{Body}
 use Rattle.ps_linkinfo.specs.declared.record.Body.TheVariants.{UnitRef, PublRef, PrivRef, PublDef, ConstDef, Eof}
@@ -32,7 +32,7 @@ use Rattle.ps_resolve.specs.Searches.{first_of, fault_if}
 use Rattle.ps_resolve.specs.Sources.{Segment, host_records, units_of}
 use Rattle.ps_resolve.specs.Symbols.{definitions, definition_of}
 use Rattle.ps_resolve.specs.Operands.{width_of, value_of, is_in, reference_reason, operands, refs_fault}
-use Rattle.ps_resolve.specs.References.{Known, public_base, unit_slot, target_in, target_of, words_taken, records_fault}
+use Rattle.ps_resolve.specs.References.{Known, known_definition, known_unit, public_base, unit_slot, target_in, target_of, words_taken, records_fault}
 use Rattle.ps_resolve.specs.Linking.{known_of}
 use Rattle.ps_resolve.specs.Faults.{in_segment, segment_fault, references_fault_from, references_fault}
 use Rattle.ps_resolve.specs.declared.definitions.Def.{Def}
@@ -245,6 +245,23 @@ reason_with reserved code taken w v x =
     (option_or (fault_if (list_any (λ p. list_any (is_in p) taken) (range_with_len x w)) reason.Overlap)
     (fault_if (nat_lt MAX_OPERAND v) reason.OperandTooLarge)))
 
+-- what an operand at x becomes by a target; 0 where there is none
+abbrev value_by : List ℕ → ℕ → Result Target Reason → ℕ
+value_by code x (Err why) = 0
+value_by code x (Ok t) = value_of code t x
+
+too_large_by : (code : List ℕ) (x : ℕ) (o : Result Target Reason) → Decides (nat_lt MAX_OPERAND (value_by code x o)) ((t : Target) × (o ≡ Ok t) × (MAX_OPERAND < value_of code t x))
+too_large_by code x (Err why) =
+    Decides-like (nat_lt MAX_OPERAND 0) (λ h. absurd (omega (arith, h))) (λ u. let no = u.1 in absurd (cc)) (Decides-ltb MAX_OPERAND 0)
+too_large_by code x (Ok t) =
+    Decides-like (nat_lt MAX_OPERAND (value_of code t x)) (λ h. (t, refl, h))
+    (λ u. let is : t ≡ u.0 = let same = u.1 in cc in subst (λ (q : Target). MAX_OPERAND < value_of code q x) (sym is) u.2)
+    (Decides-ltb MAX_OPERAND (value_of code t x))
+
+-- what the operand at x of a record becomes
+abbrev operand_value : List Segment → Segment → ℕ → List ℕ → Body → ℕ → ℕ
+operand_value segs s rec name body x = value_by s.code x (target_in (known_of segs) (private_offset segs s.slot rec) name body)
+
 abbrev reason_at : Order → List Segment → Segment → ℕ → Record → ℕ × ℕ → Option Reason
 reason_at order segs s rec r ref = reason_with (is_reserved order s.code) s.code (before s.records rec ++ own r.body ref.0) (operand_width r.body) (operand_value segs s rec r.name r.body ref.1) ref.1
 
@@ -255,7 +272,7 @@ reference_rows order segs s rec r i x er ex =
     (least_or (least_if (nat_lt (length s.code) (x + operand_width r.body)) reason.OutsideCode (past (length s.code) x (operand_width r.body) (wide r.body i x ex)))
     (least_or (least_if (list_any (is_reserved order s.code) (range_with_len x (operand_width r.body))) reason.ReservedPlace reserved)
     (least_or (least_if (overlaps s.records rec i r.body x) reason.Overlap (overlapping s.records rec i r x er))
-    (least_if (nat_lt MAX_OPERAND (operand_value segs s rec r.name r.body x)) reason.OperandTooLarge (Decides-ltb MAX_OPERAND (operand_value segs s rec r.name r.body x)))
+    (least_if (nat_lt MAX_OPERAND (operand_value segs s rec r.name r.body x)) reason.OperandTooLarge (too_large_by s.code x (target_of (known_of segs) (private_offset segs s.slot rec) r)))
     (at_apart Ranked reason.Overlap reason.OperandTooLarge (omega arith)))
     (λ y z t. elim [ inl u ↦ at_apart Ranked reason.ReservedPlace reason.Overlap (omega arith) y z t u | inr u ↦ at_apart Ranked reason.ReservedPlace reason.OperandTooLarge (omega arith) y z t u ]))
     (λ y z t. elim [
@@ -362,28 +379,32 @@ refs_carried order segs s rec r t w v done (x ∷ xs) i is at =
 abbrev Fits : List Segment → Segment → ℕ → List ℕ → Body → Target → Type 0
 Fits segs s rec name body t = (refs_of body ≡ []) ⊎ ((width_of t ≡ operand_width body) × ((x : ℕ) → value_of s.code t x ≡ operand_value segs s rec name body x))
 
--- where a record has a target, its operands have the width and the value that are said of them
-fits : (segs : List Segment) (s : Segment) (rec : ℕ) (name : List ℕ) (body : Body) (t : Target) → target_in (known_of segs) (private_offset segs s.slot rec) name body ≡ Ok t → Fits segs s rec name body t
-fits segs s rec name (PrivRef words refs) t e =
-    let is : Base (private_offset segs s.slot rec) ≡ t = cc in
-    subst (Fits segs s rec name (PrivRef words refs)) is (inr (refl, λ x. refl))
-fits segs s rec name (UnitRef refs) t e = go (lookup (bytes_eq name) (units_of segs)) e
+-- where a record has a target, its operands have the width that is said of them
+wide_as : (known : Known) (off : ℕ) (name : List ℕ) (body : Body) (t : Target) → target_in known off name body ≡ Ok t → (refs_of body ≡ []) ⊎ (width_of t ≡ operand_width body)
+wide_as known off name (PrivRef words refs) t e = let is : Base off ≡ t = cc in inr (ap width_of (sym is))
+wide_as known off name (UnitRef refs) t e = go (known_unit known name) e
   where
-    go : (o : Option ℕ) → unit_slot o ≡ Ok t → Fits segs s rec name (UnitRef refs) t
+    go : (o : Option ℕ) → unit_slot o ≡ Ok t → (refs ≡ []) ⊎ (width_of t ≡ 1)
     go None e = absurd (cc)
-    go (Some slot) e = let is : Slot slot ≡ t = cc in subst (Fits segs s rec name (UnitRef refs)) is (inr (refl, λ x. refl))
-fits segs s rec name (PublRef refs) t e = go (definition_of name (definitions (host_records segs))) refl e
+    go (Some slot) e = let is : Slot slot ≡ t = cc in inr (ap width_of (sym is))
+wide_as known off name (PublRef refs) t e = go (known_definition known name) e
   where
-    go : (o : Option Def) → definition_of name (definitions (host_records segs)) ≡ o → public_base o ≡ Ok t → Fits segs s rec name (PublRef refs) t
-    go None d e = absurd (cc)
-    go (Some d) found e = at d.kind e
+    go : (o : Option Def) → public_base o ≡ Ok t → (refs ≡ []) ⊎ (width_of t ≡ 2)
+    go None e = absurd (cc)
+    go (Some d) e = at d.kind e
       where
-        at : (k : DefKind) → (elim k as (λ _. Result Target Reason) [ Public ↦ Ok (Base d.value) | Constant ↦ Err reason.IllKind ]) ≡ Ok t → Fits segs s rec name (PublRef refs) t
+        at : (k : DefKind) → (elim k as (λ _. Result Target Reason) [ Public ↦ Ok (Base d.value) | Constant ↦ Err reason.IllKind ]) ≡ Ok t → (refs ≡ []) ⊎ (width_of t ≡ 2)
         at Constant e = absurd (cc)
-        at Public e =
-            let is : Base d.value ≡ t = cc in
-            subst (Fits segs s rec name (PublRef refs)) is (inr (refl, λ x. rw found refl))
-fits segs s rec name other t e = inl refl
+        at Public e = let is : Base d.value ≡ t = cc in inr (ap width_of (sym is))
+wide_as known off name other t e = inl refl
+
+-- and the value
+fits : (segs : List Segment) (s : Segment) (rec : ℕ) (name : List ℕ) (body : Body) (t : Target) → target_in (known_of segs) (private_offset segs s.slot rec) name body ≡ Ok t → Fits segs s rec name body t
+fits segs s rec name body t e =
+    elim (wide_as (known_of segs) (private_offset segs s.slot rec) name body t e) [
+      | inl none ↦ inl none
+      | inr w ↦ inr (w, λ x. sym (ap (value_by s.code x) e))
+    ]
 
 -- the references of a record
 refs_of_record : (order : Order) (segs : List Segment) (s : Segment) (rec : ℕ) (r : Record) (t : Target) (taken : List (ℕ × ℕ)) → taken ≡ before s.records rec → Fits segs s rec r.name r.body t

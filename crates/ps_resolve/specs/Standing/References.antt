@@ -1,21 +1,23 @@
 -- Faults of the references: of the record, and of each place that it names.
 -- Source: this project's profile.
-use Rattle.std.specs.Prelude.{◌≡◌, ◌≢◌, ◌⊎◌, ℕ, ◌+◌, ◌<◌, ◌≤◌, List, [], ◌∷◌, length, slice_get, true, Some}
-use Rattle.std.specs.Option.{option_map_or}
+use Rattle.std.specs.Prelude.{◌≡◌, ◌≢◌, ◌⊎◌, ℕ, ◌+◌, ◌<◌, ◌≤◌, List, [], ◌∷◌, length, slice_get, true, Some, Ok}
 use Rattle.ps_codefile.specs.Procedures.{is_reserved}
 use Rattle.ps_linkinfo.specs.Operands.{operand_width}
 use Rattle.ps_linkinfo.specs.Records.{refs_of}
 use Rattle.ps_linkinfo.specs.declared.record.Body.{Body}
-use Rattle.ps_linkinfo.specs.declared.record.Body.TheVariants.{UnitRef, PublRef, PrivRef, PublDef, ConstDef, Eof}
+use Rattle.ps_linkinfo.specs.declared.record.Body.TheVariants.{PublRef}
 use Rattle.ps_linkinfo.specs.declared.record.LinkRecord.{LinkRecord as Record}
 use Rattle.ps_resolve.specs.First.{Before}
 use Rattle.ps_resolve.specs.Sources.{Segment, host_records}
 use Rattle.ps_resolve.specs.Added.{segments}
-use Rattle.ps_resolve.specs.Symbols.{definitions, definition_of}
+use Rattle.ps_resolve.specs.Linking.{known_of}
+use Rattle.ps_resolve.specs.Operands.{value_of}
+use Rattle.ps_resolve.specs.References.{target_of}
+use Rattle.ps_resolve.specs.Symbols.{definitions}
 use Rattle.ps_resolve.specs.declared.definitions.Def.{Def}
 use Rattle.ps_resolve.specs.declared.definitions.DefKind.TheVariants.{Constant}
+use Rattle.ps_resolve.specs.declared.references.Target.{Target}
 use Rattle.ps_words.specs.FaultPlaces.{in_record, in_reference}
-use Rattle.ps_words.specs.Words.{displacement_at}
 use Rattle.ps_words.specs.declared.order.Order.{Order}
 use Rattle.ps_words.specs.declared.fault.Reason.{Reason}
 use Rattle.ps_words.specs.declared.fault.Fault.{Fault}
@@ -37,19 +39,10 @@ RecordHas segs name (PublRef refs) reason.MissingDefinition = SomeItem (definiti
 RecordHas segs name (PublRef refs) reason.IllKind = (d : Def) × Defines (definitions (host_records segs)) name d × (d.kind ≡ Constant)
 RecordHas segs name body other = ⊥
 
--- the value of a public definition; 0 where there is none
-abbrev pub definition_value : List Segment → List ℕ → ℕ
-definition_value segs name = option_map_or (λ d. d.value) (definition_of name (definitions (host_records segs))) 0
-
--- what a BIG operand becomes: its displacement and its definition's value; there is nothing to
--- check for a byte
-abbrev pub operand_value : List Segment → Segment → ℕ → List ℕ → Body → ℕ → ℕ
-operand_value segs s rec name (UnitRef refs) x = 0
-operand_value segs s rec name (PublRef refs) x = displacement_at s.code x + definition_value segs name
-operand_value segs s rec name (PrivRef words refs) x = displacement_at s.code x + private_offset segs s.slot rec
-operand_value segs s rec name (PublDef value) x = 0
-operand_value segs s rec name (ConstDef value) x = 0
-operand_value segs s rec name (Eof next) x = 0
+-- the BIG operand at x of record `rec` becomes more than it can hold, by what the record's name or
+-- its private stands for
+abbrev pub IsTooLarge : List Segment → Segment → ℕ → Record → ℕ → Type 0
+IsTooLarge segs s rec r x = (t : Target) × (target_of (known_of segs) (private_offset segs s.slot rec) r ≡ Ok t) × (MAX_OPERAND < value_of s.code t x)
 
 -- the operand at x covers the place
 abbrev pub Covers : Body → ℕ → ℕ → Type 0
@@ -67,7 +60,7 @@ ReferenceHas order segs s rec r i x reason.OutsideCode = (p : ℕ) × Covers r.b
 ReferenceHas order segs s rec r i x reason.ReservedPlace = (p : ℕ) × Covers r.body x p × (is_reserved order s.code p ≡ true)
 ReferenceHas order segs s rec r i x reason.Overlap =
     SomeItem s.records (λ lesser q. SomeItem (refs_of q.body) (λ j y. Before (lesser ∷ j ∷ []) (rec ∷ i ∷ []) × Meet r.body x q.body y))
-ReferenceHas order segs s rec r i x reason.OperandTooLarge = MAX_OPERAND < operand_value segs s rec r.name r.body x
+ReferenceHas order segs s rec r i x reason.OperandTooLarge = IsTooLarge segs s rec r x
 ReferenceHas order segs s rec r i x other = ⊥
 
 -- a fault of a record of a segment of the link, reported with the record; or of one of its
