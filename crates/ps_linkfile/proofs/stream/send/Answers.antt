@@ -1,4 +1,4 @@
-use Rattle.std.proofs.Common.{◌≡◌, ◌+◌, ◌-◌, arith, drop, length, length-take, length-drop, rules, subst, sym, take}
+use Rattle.std.proofs.Common.{◌≡◌, ◌-◌, arith, drop, length, length-take, length-drop, rules, take}
 use Rattle.ps_linkfile.proofs.Prefixes.{appends_more}
 use Rattle.ps_linkfile.proofs.stream.send.Goals as goal
 
