@@ -3,9 +3,11 @@ use Rattle.std.proofs.Common.{◌≡◌, ℕ, List, [], ◌++◌, true, false, O
 use Rattle.std.specs.Prelude.{is_some}
 use Rattle.std.proofs.lemmas.Bool.{false≢true}
 use Rattle.std.specs.Io.KnownBytes.{Appends}
-use Rattle.ps_linkfile.specs.Adding.{IsSent, IsKept}
+use Rattle.ps_linkfile.specs.Adding.{IsNoted, IsSent, IsKept}
+use Rattle.ps_linkfile.specs.Failures.{failures_with}
 use Rattle.ps_linkfile.specs.Outcomes.{AppendsPrefix}
 use Rattle.ps_linkfile.specs.declared.error.WriteFault.{WriteFault}
+use Rattle.ps_linkfile.specs.declared.failures.Failures.{Failures}
 use Rattle.ps_linkfile.proofs.Prefixes.{appends_twice, prefix_last, prefix_then}
 
 -- of what was gathered and of these bytes, some was sent, and the rest is gathered
@@ -44,6 +46,15 @@ sent_front first mid last text gathered h k = subst (λ (xs : List ℕ). Appends
 pub sent_no_more : (first now : Option (List ℕ)) (text gathered bytes : List ℕ) (fault : Option WriteFault) → is_some fault ≡ true → IsSent first text now gathered fault → IsSent first (text ++ bytes) now gathered fault
 sent_no_more first now text gathered bytes None e h = absurd (false≢true e)
 sent_no_more first now text gathered bytes (Some fault) e h = prefix_then first now text bytes h
+
+-- where no write had failed, and none did or one does
+pub noted_more : (first old new : Failures) (fault : Option WriteFault) → is_some fault ≡ false → IsNoted first old fault → new ≡ old → IsNoted first new fault
+noted_more first old new None e h k = k ∙ h
+noted_more first old new (Some fault) e h k = absurd (false≢true (sym e))
+
+pub noted_fault : (first old new : Failures) (before : Option WriteFault) (fault : WriteFault) → is_some before ≡ false → IsNoted first old before → new ≡ failures_with fault old → new ≡ failures_with fault first
+noted_fault first old new None fault e h k = k ∙ ap (λ (failures : Failures). failures_with fault failures) h
+noted_fault first old new (Some before) fault e h k = absurd (false≢true (sym e))
 
 -- where memory was refused, what is added is not kept
 pub kept_no_more : {E : Type 0} (first text now bytes : List ℕ) (error : Option E) → is_some error ≡ true → IsKept first text now error → IsKept first (text ++ bytes) now error

@@ -3,6 +3,8 @@ pub mod Writing
 pub mod Outcomes
 pub mod Counts
 pub mod Told
+pub mod Failures
+pub mod Noted
 pub mod Lines
 pub mod JsonText
 pub mod MapJson

@@ -9,6 +9,7 @@ ghost use Rattle.ps_linkfile.specs.MapJson.{map_json_in, map_json_of};
 ghost use Rattle.ps_linkfile.specs.MapText.{map_in, map_of};
 ghost use Rattle.ps_linkfile.specs.Writing.{file_in, summary_in, IsReady, StandsFor};
 ghost use Rattle.ps_linkfile.specs.Outcomes.{AppendsPrefix, AppendsLinkedFile, HasUsedNumber, NamesFirst, IsUnprepared, IsUnlinked, LeavesUntouched, LeavesPrefix};
+ghost use Rattle.ps_linkfile.specs.Failures.{failures_with};
 ghost use Rattle.ps_linkfile.specs.Counts.{AreAtMost, IfDevice, IfStalled, NoneFailed, OneError, OneStall, RisesByBytes, RisesByPieces};
 
 use crate::block_layout::{MAX_FILE_BLOCKS, lay_out};
@@ -16,7 +17,8 @@ use crate::counts::Counts;
 use crate::error::{LinkError, WriteFault};
 use crate::map::{LinkMap, add_map};
 use crate::map_json::JsonMap;
-use crate::stream::write_text;
+use crate::noted::NotedWriter;
+use crate::stream::{write_text, write_text_noted};
 use crate::summary::Summary;
 use crate::text_writer::TextWriter;
 use crate::told::ToldWriter;
@@ -136,6 +138,24 @@ impl<'a, A: Allocator + Copy> Linked<'a, A> {
             (map_in self.now)) }
     {
         write_text(&LinkMap(self), out)
+    }
+
+    /// Writes the map of the link as `write_map` does, by calls of `noted_write` alone.
+    ///
+    /// After Ok none of them failed. Refuses `Device` where a write returned an error: that was one
+    /// write, and none stalled. Refuses `Stalled` where a write of at least one byte took none: that
+    /// was one write, and none returned an error. The writer then has a prefix of the map.
+    /// Source: this project's profile.
+    pub fn write_map_noted<W: NotedWriter>(&self, out: &mut W) -> Result<(), WriteFault>
+        ensures map { OnOk result (Appends (W.contents out.old) (W.contents out.new)
+            (map_in self.now)) }
+        ensures prefix { OnErr result (AppendsPrefix (W.contents out.old) (W.contents out.new)
+            (map_in self.now)) }
+        ensures ok { OnOk result (W.failures out.new ≡ W.failures out.old) }
+        ensures failed { IfErr result (λ fault. W.failures out.new
+            ≡ failures_with fault (W.failures out.old)) }
+    {
+        write_text_noted(&LinkMap(self), out)
     }
 
     /// Writes the map of the link as one JSON document, in pieces: the values of its lines, of each

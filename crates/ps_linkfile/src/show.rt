@@ -11,14 +11,15 @@ ghost use Rattle.ps_codefile.specs.Roles.{is_unit as is_unit_role};
 ghost use Rattle.ps_resolve.specs.Sources.{known_order};
 ghost use Rattle.ps_linkfile.specs.Adding.{Adds};
 ghost use Rattle.ps_linkfile.specs.Lines.{line, shown_name};
-ghost use Rattle.ps_linkfile.specs.Outcomes.{LeavesTextPrefix, LeavesUntouched};
+ghost use Rattle.ps_linkfile.specs.Outcomes.{LeavesFailure, LeavesTextPrefix, LeavesUntouched};
 ghost use Rattle.ps_linkfile.specs.ShowText.{order_words, slot_line, references, unit_names as unit_names_spec, is_listed as is_listed_spec, unlisted_word as unlisted_word_spec, record_line, fault_line, record_lines, has_links as has_links_spec, links_lines, show_of, order_shown, show_fault, IsUnshown, IsUnwritten};
 
 use crate::error::LinkError;
 use crate::in_memory::in_memory;
 use crate::lines::{add_fault, add_number, add_slot_name, shown_codes, two_digits};
+use crate::noted::NotedWriter;
 use crate::pieces::{PIECE_REFERENCES, add_piece};
-use crate::stream::write_text;
+use crate::stream::{write_text, write_text_noted};
 use crate::text_writer::{Text, TextWriter};
 use arrayvec::ArrayVec;
 use ps_codefile::dictionary_layout::{SLOT_COUNT, SLOTS};
@@ -347,4 +348,25 @@ pub fn write_show<W: Write>(file: &[u8], out: &mut W) -> Result<(), LinkError>
         (W.contents out.old) (W.contents out.new)) }
 {
     Ok(write_text(&read(file)?, out)?)
+}
+
+/// Writes the text as `write_show` does, by calls of `noted_write` alone.
+///
+/// After Ok none of them failed, and after a refusal of the file none was made. Refuses `Device`
+/// where a write returned an error: that was one write, and none stalled. Refuses `Stalled` where a
+/// write of at least one byte took none: that was one write, and none returned an error.
+/// Source: UCSD Pascal II.0 manual, code file format; the text is this project's profile.
+pub fn write_show_noted<W: NotedWriter>(file: &[u8], out: &mut W) -> Result<(), LinkError>
+    ensures written { OnOk result (Appends (W.contents out.old) (W.contents out.new)
+        (show_of file.now)) }
+    ensures sound { OnOk result (show_fault file.now ≡ None) }
+    ensures error { IfErr result (IsUnwritten file.now) }
+    ensures untouched { IfErr result (λ e. LeavesUntouched e out.old out.new) }
+    ensures prefix { IfErr result (λ e. LeavesTextPrefix (show_of file.now) e
+        (W.contents out.old) (W.contents out.new)) }
+    ensures ok { OnOk result (W.failures out.new ≡ W.failures out.old) }
+    ensures failed { IfErr result (λ e. LeavesFailure e (W.failures out.old)
+        (W.failures out.new)) }
+{
+    Ok(write_text_noted(&read(file)?, out)?)
 }

@@ -1,12 +1,14 @@
 //! Text that is written to a writer in pieces.
-ghost use Rattle.std.specs.Prelude.{◌≡◌, ◌++◌, [], List, ℕ, OnOk, OnErr};
+ghost use Rattle.std.specs.Prelude.{◌≡◌, ◌++◌, [], List, ℕ, IfErr, OnOk, OnErr};
 ghost use Rattle.std.specs.Io.KnownBytes.{Appends};
+ghost use Rattle.ps_linkfile.specs.Failures.{failures_with};
 ghost use Rattle.ps_linkfile.specs.Outcomes.{AppendsPrefix};
 
-use crate::counts::Counts;
 use crate::error::WriteFault;
+use crate::failure_counter::{ByNotes, FailureCounter};
+use crate::failures::Failures;
+use crate::noted::NotedWriter;
 use crate::text_writer::{Text, TextWriter};
-use crate::writing::write_all_of;
 use arrayvec::ArrayVec;
 use std::io::Write;
 
@@ -16,55 +18,95 @@ const BUFFER_LEN: usize = 16384;
 /// The text that was gathered and not yet written.
 type Gathered = ArrayVec<u8, BUFFER_LEN>;
 
+/// Writes all bytes, by one write a turn. No write is made again after an error.
+fn send<W: Write, C: FailureCounter<W>>(
+    out: &mut W,
+    counter: &mut C,
+    bytes: &[u8],
+) -> Result<(), WriteFault>
+    ensures all { OnOk result (Appends (W.contents out.old) (W.contents out.new) bytes.now) }
+    ensures prefix { OnErr result (AppendsPrefix (W.contents out.old) (W.contents out.new)
+        bytes.now) }
+    ensures ok { OnOk result (C.failures counter.new out.new ≡ C.failures counter.old out.old) }
+    ensures failed { IfErr result (λ fault. C.failures counter.new out.new
+        ≡ failures_with fault (C.failures counter.old out.old)) }
+{
+    let mut at = 0;
+    while at < bytes.len() {
+        match counter.write(out, &bytes[at..]) {
+            Err(error) => return Err(WriteFault::Device(error)),
+            Ok(0) => return Err(WriteFault::Stalled),
+            Ok(taken) => at += taken,
+        }
+    }
+    Ok(())
+}
+
 /// Writes what was gathered.
-fn flush<W: Write>(out: &mut W, gathered: &mut Gathered) -> Result<(), WriteFault>
+fn flush<W: Write, C: FailureCounter<W>>(
+    out: &mut W,
+    counter: &mut C,
+    gathered: &mut Gathered,
+) -> Result<(), WriteFault>
     ensures bytes { OnOk result (Appends (W.contents out.old) (W.contents out.new)
         gathered.old.items) }
     ensures empty { OnOk result (gathered.new.items ≡ []) }
     ensures prefix { OnErr result (AppendsPrefix (W.contents out.old) (W.contents out.new)
         gathered.old.items) }
+    ensures ok { OnOk result (C.failures counter.new out.new ≡ C.failures counter.old out.old) }
+    ensures failed { IfErr result (λ fault. C.failures counter.new out.new
+        ≡ failures_with fault (C.failures counter.old out.old)) }
 {
-    write_all_of(out, &mut Counts::new(), gathered.as_slice())?;
+    send(out, counter, gathered.as_slice())?;
     gathered.clear();
     Ok(())
 }
 
 /// Gathers these bytes, and writes what was gathered before where there is no room for them.
-fn gather<W: Write>(out: &mut W, gathered: &mut Gathered, bytes: &[u8]) -> Result<(), WriteFault>
+fn gather<W: Write, C: FailureCounter<W>>(
+    out: &mut W,
+    counter: &mut C,
+    gathered: &mut Gathered,
+    bytes: &[u8],
+) -> Result<(), WriteFault>
     ensures sent { OnOk result ((sent : List ℕ)
         × Appends (W.contents out.old) (W.contents out.new) sent
         × (sent ++ gathered.new.items ≡ gathered.old.items ++ bytes.now)) }
     ensures prefix { OnErr result (AppendsPrefix (W.contents out.old) (W.contents out.new)
         (gathered.old.items ++ bytes.now)) }
+    ensures ok { OnOk result (C.failures counter.new out.new ≡ C.failures counter.old out.old) }
+    ensures failed { IfErr result (λ fault. C.failures counter.new out.new
+        ≡ failures_with fault (C.failures counter.old out.old)) }
 {
     if gathered.try_extend_from_slice(bytes).is_ok() {
         return Ok(());
     }
-    flush(out, gathered)?;
+    flush(out, counter, gathered)?;
     if gathered.try_extend_from_slice(bytes).is_ok() {
         return Ok(());
     }
-    write_all_of(out, &mut Counts::new(), bytes)
+    send(out, counter, bytes)
 }
 
 /// A writer of text in front of a writer of bytes, which is not called again once it failed.
-struct Stream<'w, W: Write> {
+struct Stream<'w, W: Write, C: FailureCounter<W>> {
     out: &'w mut W,
+    counter: &'w mut C,
     gathered: Gathered,
     fault: Option<WriteFault>,
 }
 
-impl<W: Write> TextWriter for Stream<'_, W> {
+impl<W: Write, C: FailureCounter<W>> TextWriter for Stream<'_, W, C> {
     ghost use Rattle.std.specs.Prelude.{◌≡◌};
-    ghost use Rattle.ps_linkfile.specs.Adding.{IsSent};
+    ghost use Rattle.ps_linkfile.specs.Adding.{IsNoted, IsSent};
 
-    ghost added = { λ first text now. (now.out.ghost_name ≡ first.out.ghost_name) × IsSent (W.contents first.out.now) text (W.contents now.out.now) now.gathered.items now.fault };
+    ghost added = { λ first text now. (now.out.ghost_name ≡ first.out.ghost_name) × (now.counter.ghost_name ≡ first.counter.ghost_name) × IsSent (W.contents first.out.now) text (W.contents now.out.now) now.gathered.items now.fault × IsNoted (C.failures first.counter.now first.out.now) (C.failures now.counter.now now.out.now) now.fault };
 
     fn add(&mut self, bytes: &[u8]) {
         if self.fault.is_some() {
             return;
         }
-        match gather(self.out, &mut self.gathered, bytes) {
+        match gather(self.out, self.counter, &mut self.gathered, bytes) {
             Ok(()) => {}
             Err(fault) => self.fault = Some(fault),
         }
@@ -72,6 +114,39 @@ impl<W: Write> TextWriter for Stream<'_, W> {
 
     fn has_failed(&self) -> bool {
         self.fault.is_some()
+    }
+}
+
+/// Writes the text in pieces, and counts the write that fails.
+fn write_counted<W: Write, C: FailureCounter<W>, T: Text>(
+    text: &T,
+    out: &mut W,
+    counter: &mut C,
+) -> Result<(), WriteFault>
+    ensures all { OnOk result (Appends (W.contents out.old) (W.contents out.new)
+        (T.bytes text.now)) }
+    ensures prefix { OnErr result (AppendsPrefix (W.contents out.old) (W.contents out.new)
+        (T.bytes text.now)) }
+    ensures ok { OnOk result (C.failures counter.new out.new ≡ C.failures counter.old out.old) }
+    ensures failed { IfErr result (λ fault. C.failures counter.new out.new
+        ≡ failures_with fault (C.failures counter.old out.old)) }
+{
+    let mut stream = Stream {
+        out,
+        counter,
+        gathered: ArrayVec::new(),
+        fault: None,
+    };
+    text.add_to(&mut stream);
+    let Stream {
+        out,
+        counter,
+        mut gathered,
+        fault,
+    } = stream;
+    match fault {
+        Some(fault) => Err(fault),
+        None => flush(out, counter, &mut gathered),
     }
 }
 
@@ -85,19 +160,23 @@ pub fn write_text<W: Write, T: Text>(text: &T, out: &mut W) -> Result<(), WriteF
     ensures prefix { OnErr result (AppendsPrefix (W.contents out.old) (W.contents out.new)
         (T.bytes text.now)) }
 {
-    let mut stream = Stream {
-        out,
-        gathered: ArrayVec::new(),
-        fault: None,
-    };
-    text.add_to(&mut stream);
-    let Stream {
-        out,
-        mut gathered,
-        fault,
-    } = stream;
-    match fault {
-        Some(fault) => Err(fault),
-        None => flush(out, &mut gathered),
-    }
+    write_counted(text, out, &mut Failures::new())
+}
+
+/// Writes the text as `write_text` does, by calls of `noted_write` alone.
+///
+/// After Ok none of them failed. Refuses `Device` where a write returned an error: that was one
+/// write, and none stalled. Refuses `Stalled` where a write of at least one byte took none: that
+/// was one write, and none returned an error. The writer then has a prefix of the text.
+/// Source: this project's profile.
+pub fn write_text_noted<W: NotedWriter, T: Text>(text: &T, out: &mut W) -> Result<(), WriteFault>
+    ensures all { OnOk result (Appends (W.contents out.old) (W.contents out.new)
+        (T.bytes text.now)) }
+    ensures prefix { OnErr result (AppendsPrefix (W.contents out.old) (W.contents out.new)
+        (T.bytes text.now)) }
+    ensures ok { OnOk result (W.failures out.new ≡ W.failures out.old) }
+    ensures failed { IfErr result (λ fault. W.failures out.new
+        ≡ failures_with fault (W.failures out.old)) }
+{
+    write_counted(text, out, &mut ByNotes)
 }

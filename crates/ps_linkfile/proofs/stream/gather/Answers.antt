@@ -17,15 +17,15 @@ pub returns-clause-sent : goal.returns-clause-sent
 returns-clause-sent g c =
     let same : c.try_extend_from_slice.new.self.items ≡ c.args.gathered.now.items = search rules in
     let none : c.try_extend_from_slice-2.new.self.items ≡ [] = search rules in
-    on_ok_weaker c.write_all_of.result
+    on_ok_weaker c.send.result
     (sends_both _ _ _ c.args.gathered.now.items c.args.bytes.now c.try_extend_from_slice-2.new.self.items
     (subst (λ (bytes : List ℕ). Appends (g.W.Write.contents c.args.out.now) (g.W.Write.contents c.flush.new.out) bytes) same c.in_ok-flush.ensures.bytes) none)
-    c.write_all_of.ensures.all
+    c.send.ensures.all
 
 pub returns-clause-prefix : goal.returns-clause-prefix
 returns-clause-prefix g c =
     let same : c.try_extend_from_slice.new.self.items ≡ c.args.gathered.now.items = search rules in
-    on_err_weaker c.write_all_of.result
+    on_err_weaker c.send.result
     (prefix_last _ _ _ c.args.gathered.now.items c.args.bytes.now
     (subst (λ (bytes : List ℕ). Appends (g.W.Write.contents c.args.out.now) (g.W.Write.contents c.flush.new.out) bytes) same c.in_ok-flush.ensures.bytes))
-    c.write_all_of.ensures.prefix
+    c.send.ensures.prefix
