@@ -23,7 +23,7 @@ use Rattle.ps_laws.proofs.EachRound.{IsTurn, all_rounds, round_fault, segments_b
 use Rattle.ps_laws.proofs.Least.{Least, nothing, this, Precedes, least_same, least_order, least_map}
 use Rattle.ps_laws.proofs.Looking.{of_test}
 use Rattle.ps_laws.proofs.Sources.{Late, late, OneStop, none_has, unit_least, code_late}
-use Rattle.ps_laws.proofs.Parts.{record_somes, RoundHas}
+use Rattle.ps_laws.proofs.Parts.{record_reason}
 use Rattle.ps_words.specs.FaultPlaces.{in_slot, in_record}
 use Rattle.ps_words.specs.declared.order.Order.{Order}
 use Rattle.ps_words.specs.declared.fault.Reason.{Reason}
@@ -31,6 +31,13 @@ use Rattle.ps_words.specs.declared.fault.Reason.TheVariants as reason
 use Rattle.ps_words.specs.declared.fault.Fault.{Fault}
 
 -- 1. one round
+-- what is wrong with the unit of a reference, where this slot, or none, is left for it
+abbrev RoundHas : Order → List ℕ → List (List ℕ) → UnitReference → Option ℕ → Fault → Type 0
+RoundHas order host libs g left f =
+    ((f ≡ in_record g.file g.slot g.rec reason.MissingUnit) × IsMissing order libs g.name)
+    ⊎ (((f ≡ in_record g.file g.slot g.rec reason.NoSlot) × (left ≡ None))
+    ⊎ ((slot : ℕ) × (left ≡ Some slot) × PlacedFault order host libs g.name slot f))
+
 -- the fault's record is one that was read
 abbrev Reads : Fault → Type 0
 Reads f = record_read f.reason f.rec ≡ part f.rec
@@ -48,7 +55,7 @@ reads_code : (order : Order) (file : List ℕ) (k : ℕ) (e : Entry) (slot : ℕ
 reads_code order file k e slot r f (inl t) = reads_slot k slot f t
 reads_code order file k e slot r f (inr t) = elim t.2.1 [
   | inl b ↦ reads_slot k slot f b
-  | inr b ↦ subst Reads (sym b.2) ((record_somes (λ why. record_read why (Some (length b.0)) ≡ length b.0 + 1) refl refl refl refl refl order _).held b.1 b.3.stops)
+  | inr b ↦ subst Reads (sym b.2) (record_reason (λ why. record_read why (Some (length b.0)) ≡ length b.0 + 1) refl refl refl refl refl order _ b.1 b.3.stops)
 ]
 
 reads_placed : (order : Order) (host : List ℕ) (libs : List (List ℕ)) (name : List ℕ) (slot : ℕ) (f : Fault) → PlacedFault order host libs name slot f → Reads f
