@@ -64,11 +64,7 @@ late k slot n f high t = grind arith
 -- the first that passes is the first of those
 find_first : {X : Type 0} (p : X → Bool) (xs : List X) → find p xs ≡ first_of (λ x. if p x then Some x else None) xs
 find_first p [] = refl
-find_first {X} p (x ∷ xs) = go (p x) (find_first p xs)
-  where
-    go : (b : Bool) → find p xs ≡ first_of (λ x. if p x then Some x else None) xs → (if b then Some x else find p xs) ≡ option_or (if b then Some x else None) (first_of (λ x. if p x then Some x else None) xs)
-    go true e = refl
-    go false e = e
+find_first {X} p (x ∷ xs) = grind (arith, find_first p xs)
 
 -- the library's entries
 pub named : (order : Order) (name file : List ℕ) (i : ℕ) → Decides (is_named order name file i) (IsNamed order name file i)
@@ -191,20 +187,12 @@ entry_least order name libs slot = go (chosen_library order name libs) (chosen o
 -- the tables
 any_of_filter : {X Y : Type 0} (p : Y → Bool) (g : X → Option Y) (xs : List X) → list_any p (filter_map g xs) ≡ list_any (λ x. option_map_or p (g x) false) xs
 any_of_filter p g [] = refl
-any_of_filter {X} {Y} p g (x ∷ xs) = go (g x) (filter_map g xs) (any_of_filter p g xs)
-  where
-    go : (o : Option Y) (ys : List Y) → list_any p ys ≡ list_any (λ x. option_map_or p (g x) false) xs → list_any p (cons_option o ys) ≡ (option_map_or p o false || list_any (λ x. option_map_or p (g x) false) xs)
-    go None ys e = e
-    go (Some y) ys e = ap (λ b. p y || b) e
+any_of_filter {X} {Y} p g (x ∷ xs) = grind (arith, any_of_filter p g xs)
 
 -- not all items pass a test just where one fails it
 not_all : {X : Type 0} (p : X → Bool) (xs : List X) → not (list_all p xs) ≡ list_any (λ x. not (p x)) xs
 not_all p [] = refl
-not_all {X} p (x ∷ xs) = go (p x) (not_all p xs)
-  where
-    go : (b : Bool) → not (list_all p xs) ≡ list_any (λ x. not (p x)) xs → not (b && list_all p xs) ≡ (not b || list_any (λ x. not (p x)) xs)
-    go true e = e
-    go false e = refl
+not_all {X} p (x ∷ xs) = grind (arith, not_all p xs)
 
 -- a table fails the test of its place just where its content c is not 0, and it begins too low or
 -- ends too high

@@ -32,10 +32,6 @@ use Rattle.ps_words.specs.declared.fault.Fault.{Fault}
 abbrev pub Ranked : Reason → Reason → Type 0
 Ranked a b = rank a < rank b
 
--- what a test that failed says
-pub not_below : (m n : ℕ) → Decides false (m < n) → n ≤ m
-not_below m n d = elim (cases_lt m n) [ inl h ↦ absurd (false≢true (d.1 h)) | inr h ↦ h ]
-
 -- reasons at one place, by rank
 pub because : {P : Reason → Type 0} {o : Option Reason} (step : Step) (h : Reason → Fault) → ((a b : Reason) → Ranked a b → Precedes step (h a) (h b)) → Least Ranked P o → Least (Precedes step) (Because h P) (option_map h o)
 because step h ranked l = least_map h (least_order (λ x y s t r. ranked x y r) l)
