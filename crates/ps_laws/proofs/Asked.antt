@@ -1,6 +1,6 @@
 -- Each unit that a record of the link requests has its segment there, where the rounds end without
 -- a fault.
-use Rattle.std.proofs.Common.{◌≡◌, ℕ, zero, suc, ◌+◌, ◌<◌, ◌≤◌, List, [], ◌∷◌, ◌++◌, length, Option, Some, None, Bool, true, false, refl, sym, ap, subst, ◌∙◌, inl, inr, arith, append_assoc, append-nil, is_some}
+use Rattle.std.proofs.Common.{rules, ◌≡◌, ℕ, zero, suc, ◌+◌, ◌<◌, ◌≤◌, List, [], ◌∷◌, ◌++◌, length, Option, Some, None, Bool, true, false, refl, sym, ap, subst, ◌∙◌, inl, inr, arith, append_assoc, append-nil, is_some}
 use Rattle.std.specs.Prelude.{◌⊎◌, if◌then◌else◌, ◌&&◌, ◌||◌, ◌==◌}
 use Rattle.std.specs.Bool.{Decides}
 use Rattle.std.specs.List.{slice_get, list_any, find, cons_option}
@@ -44,20 +44,11 @@ queue_grows units queue (g ∷ gs) = go (is_already_known units queue g.name) (�
 
 -- a name that is known is known in a longer queue
 pub known_more : (units : List (List ℕ × ℕ)) (queue more : List UnitReference) (name : List ℕ) → is_already_known units queue name ≡ true → is_already_known units (queue ++ more) name ≡ true
-known_more units queue more name e =
-    let test : UnitReference → Bool = λ g. bytes_eq g.name name in
-    elim (or_cases (is_some (lookup (bytes_eq name) units)) (list_any test queue) e) [
-      | inl h ↦ or_left (is_some (lookup (bytes_eq name) units)) _ h
-      | inr h ↦ or_right _ (list_any test (queue ++ more)) (list_any-append test queue more ∙ or_left (list_any test queue) _ h)
-    ]
+known_more units queue more name e = grind (arith, or_cases, or_left, or_right, list_any-append)
 
 -- the name of the last reference of a queue is known
 pub known_last : (units : List (List ℕ × ℕ)) (queue : List UnitReference) (g : UnitReference) → is_already_known units (queue ++ g ∷ []) g.name ≡ true
-known_last units queue g =
-    let test : UnitReference → Bool = λ h. bytes_eq h.name g.name in
-    let itself : test g ≡ true = (bytes_eq-Decides g.name g.name).1 refl in
-    let last = list_any-append test queue (g ∷ []) ∙ or_right (list_any test queue) (test g || false) (or_left (test g) false itself) in
-    or_right (is_some (lookup (bytes_eq g.name) units)) (list_any test (queue ++ g ∷ [])) last
+known_last units queue g = grind (arith, bytes_eq-Decides, list_any-append, or_right, or_left)
 
 -- the name of each reference is known in the queue that they come to
 pub all_known : (units : List (List ℕ × ℕ)) (queue gs : List UnitReference) (g : UnitReference) (i : ℕ) → slice_get gs i ≡ Some g → is_already_known units (requested_from units queue gs) g.name ≡ true
@@ -69,8 +60,7 @@ all_known units queue (h ∷ gs) g zero e =
     (subst (λ (r : List UnitReference). is_already_known units r h.name ≡ true) (sym grown.1) (known_more units (if is_already_known units queue h.name then queue else queue ++ h ∷ []) grown.0 h.name (first (is_already_known units queue h.name) refl)))
   where
     first : (b : Bool) → is_already_known units queue h.name ≡ b → is_already_known units (if b then queue else queue ++ h ∷ []) h.name ≡ true
-    first true is = is
-    first false is = known_last units queue h
+    first b k = grind (arith, known_last)
 all_known units queue (h ∷ gs) g (suc i) e = all_known units (if is_already_known units queue h.name then queue else queue ++ h ∷ []) gs g i e
 
 -- 3. where the rounds end without a fault, each name in the queue has its round and its segment
@@ -122,10 +112,7 @@ module _ (order : Order) (host : List ℕ) (libs : List (List ℕ)) where
       past = omega (arith, ap (λ (ss : List Segment). length ss) is, many, low)
 
       no_name : (o : Option UnitReference) → slice_get queue_of j ≡ o → o ≡ None
-      no_name None e = refl
-      no_name (Some g) e =
-          let there = sym (ap (λ (ss : List Segment). slice_get (requested_units order host libs ss) j) is) ∙ e in
-          absurd (some_before (requested_units order host libs prefix) k j g low there none)
+      no_name o h = grind (arith, some_before)
 
   -- from each round on
   abbrev HaveRounds : ℕ → RoundsOutcome → Type 0
@@ -169,12 +156,7 @@ empty_ascend order host i j x y h e u = filter_ascends (is_role is_empty order h
 
 -- an empty slot has no segment of its own
 not_own : (order : Order) (host : List ℕ) (libs : List (List ℕ)) (slot : ℕ) → is_role is_empty order host slot ≡ true → own_segment order host libs slot ≡ None
-not_own order host libs slot e = go (result_ok (role_of (entry_at order host slot))) e
-  where
-    go : (o : Option Role) → option_map_or is_empty o false ≡ true → option_and_then (λ (r : Role). option_and_then (segment_from order host libs slot (entry_at order host slot).name r) (source_of order host libs slot r)) o ≡ None
-    go None e = refl
-    go (Some role.Empty) e = refl
-    go (Some other) e = absurd (false≢true e)
+not_own order host libs slot e = search rules
 
 -- it is found there
 pub found_added : (order : Order) (host : List ℕ) (libs : List (List ℕ)) → added_fault order host libs ≡ None → (j : ℕ) (s : Segment) → slice_get (added_segments order host libs) j ≡ Some s → segment_at order host libs s.slot ≡ Some s
@@ -189,10 +171,7 @@ found_added order host libs fine j s e =
     empty = (empty_slot order host j s.slot at).2
 
     one : (i : ℕ) (q : Segment) → slice_get (added_segments order host libs) i ≡ Some q → q.slot ≡ s.slot → i ≡ j
-    one i q u same =
-        let there = in_empty order host libs fine i q u in
-        not_apart i j (λ h. let a = empty_ascend order host i j q.slot s.slot h there at in omega (arith, a, same))
-        (λ h. let a = empty_ascend order host j i s.slot q.slot h at there in omega (arith, a, same))
+    one i q u same = grind (arith, in_empty, not_apart, empty_ascend)
 
     go : (o : Option Segment) → find (λ (q : Segment). q.slot == s.slot) (added_segments order host libs) ≡ o → o ≡ Some s
     go None is = absurd (find_none (λ (q : Segment). q.slot == s.slot) (λ (q : Segment). q.slot ≡ s.slot) (λ q. Decides-eqb q.slot s.slot) (added_segments order host libs) is (j, s, e, refl))
@@ -259,12 +238,7 @@ units_known name (s ∷ segs) = go (is_unit s.role) (units_known name segs)
   where
     go : (b : Bool) → is_some (lookup (bytes_eq name) (units_of segs)) ≡ list_any (unit_named name) segs
         → is_some (lookup (bytes_eq name) (cons_option (if b then Some (s.name, s.slot) else None) (units_of segs))) ≡ ((b && bytes_eq name s.name) || list_any (unit_named name) segs)
-    go false e = e
-    go true e = at (bytes_eq name s.name)
-      where
-        at : (b : Bool) → is_some (if b then Some s.slot else lookup (bytes_eq name) (units_of segs)) ≡ (b || list_any (unit_named name) segs)
-        at true = refl
-        at false = e
+    go b h = grind arith
 
 -- a name is found among the slots of the units just where some segment is the unit of that name
 pub units_named : (name : List ℕ) (segs : List Segment) → Decides (is_some (lookup (bytes_eq name) (units_of segs))) (SomeItem segs (λ k q. (is_unit q.role ≡ true) × (q.name ≡ name)))

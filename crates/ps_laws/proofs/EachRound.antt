@@ -26,11 +26,7 @@ use Rattle.ps_words.specs.declared.fault.Fault.{Fault}
 
 -- 1. what is known of a unit's source where there is no fault
 pub source_made : (order : Order) (host : List ℕ) (libs : List (List ℕ)) (slot : ℕ) (name : List ℕ) (r : Role) (at : ℕ × ℕ) → code_fault order host libs slot r at ≡ None → segment_from order host libs slot name r at ≡ None → ⊥
-source_made order host libs slot name r at e n = go (code_of (file_at host libs at.0) (entry_at order (file_at host libs at.0) at.1)) refl
-  where
-    go : (o : Result (List ℕ) Reason) → code_of (file_at host libs at.0) (entry_at order (file_at host libs at.0) at.1) ≡ o → ⊥
-    go (Err why) is = let a = rw (is, code_fault) at e in cc
-    go (Ok code) is = let a = rw (is, segment_from) at n in cc
+source_made order host libs slot name r at e n = grind arith
 
 -- where a name has no source, no library was chosen for it
 pub unit_found : (order : Order) (name : List ℕ) (libs : List (List ℕ)) → unit_source order name libs ≡ None → is_none (chosen_library order name libs) ≡ true
@@ -60,14 +56,11 @@ request_parts order host libs q = go (is_missing order libs q.name) refl
     Code = option_and_then (code_fault order host libs q.slot role.Wanted) (unit_source order q.name libs)
 
     go : (b : Bool) → is_missing order libs q.name ≡ b → (if b then Some (missing_at q.slot q.requester) else option_or (entry_fault order q.name libs q.slot) Code) ≡ None → IsFine order host libs q
-    go true is e = absurd (cc)
-    go false is e = (is, neither_first (entry_fault order q.name libs q.slot) Code e, neither_second (entry_fault order q.name libs q.slot) Code e)
+    go b h k = grind (arith, neither_first, neither_second)
 
 -- such a request has a source
 pub unit_there : (order : Order) (name : List ℕ) (libs : List (List ℕ)) → is_missing order libs name ≡ false → unit_source order name libs ≡ None → ⊥
-unit_there order name libs is none =
-    let found = (or_parts (is_nameless name) (is_none (chosen_library order name libs)) is).1 in
-    false≢true (sym found ∙ unit_found order name libs none)
+unit_there order name libs is none = grind (arith, or_parts, is_none, unit_found)
 
 -- a name that has no fault in its slot brings its segment there
 brought : (order : Order) (host : List ℕ) (libs : List (List ℕ)) (g : UnitReference) (slot : ℕ) → placed_fault order host libs g slot ≡ None → added_segment order host libs g slot ≡ None → ⊥
@@ -81,8 +74,7 @@ brought order host libs g slot e n = made (unit_source order g.name libs) refl p
     made (Some at) is e n = inner (segment_from order host libs slot g.name role.Wanted at) refl n
       where
         inner : (o : Option Segment) → segment_from order host libs slot g.name role.Wanted at ≡ o → option_map as_added o ≡ None → ⊥
-        inner None is n = source_made order host libs slot g.name role.Wanted at e is
-        inner (Some s) is n = absurd (cc)
+        inner o h k = grind (arith, source_made)
 
 -- 2. the rounds
 abbrev pub own_units : Order → List ℕ → List (List ℕ) → List (List ℕ × ℕ)
@@ -94,14 +86,10 @@ references_of s = unit_references s.file s.slot 0 s.records
 -- the names that further segments request come after those that are requested by the ones before
 pub requested_rest : (order : Order) (host : List ℕ) (libs : List (List ℕ)) (prefix rest : List Segment) → requested_units order host libs (prefix ++ rest) ≡ requested_from (own_units order host libs) (requested_units order host libs prefix) (all_unit_references rest)
 unfolding requested_units
-requested_rest order host libs prefix rest =
-    ap (λ (segs : List Segment). requested_from (own_units order host libs) [] (all_unit_references segs)) (sym (append_assoc (own_segments order host libs) prefix rest))
-    ∙ (ap (λ (gs : List UnitReference). requested_from (own_units order host libs) [] gs) (flat_map-append references_of (own_segments order host libs ++ prefix) rest)
-    ∙ requested-append (own_units order host libs) [] (all_unit_references (own_segments order host libs ++ prefix)) (all_unit_references rest))
+requested_rest order host libs prefix rest = grind (arith, append_assoc, flat_map-append, requested-append)
 
 requested_more : (order : Order) (host : List ℕ) (libs : List (List ℕ)) (prefix : List Segment) (s : Segment) → requested_units order host libs (prefix ++ s ∷ []) ≡ requested_from (own_units order host libs) (requested_units order host libs prefix) (references_of s)
-requested_more order host libs prefix s =
-    requested_rest order host libs prefix (s ∷ []) ∙ ap (λ (gs : List UnitReference). requested_from (own_units order host libs) (requested_units order host libs prefix) gs) (append-nil (references_of s))
+requested_more order host libs prefix s = grind (arith, requested_rest, append-nil)
 
 abbrev pub rest_of : Order → List ℕ → List (List ℕ) → List ℕ → ℕ → List UnitReference → RoundsOutcome
 rest_of order host libs left k queue = rounds_from order host libs (own_units order host libs) left k queue
@@ -114,8 +102,7 @@ round_fault order host libs g (Some slot) = placed_fault order host libs g slot
 -- the rounds begin with the names that the host's own segments request
 first_round : (order : Order) (host : List ℕ) (libs : List (List ℕ)) → rounds order host libs ≡ rest_of order host libs (empty_slots order host) 0 (requested_units order host libs [])
 unfolding rounds requested_units
-first_round order host libs =
-    ap (λ (segs : List Segment). rest_of order host libs (empty_slots order host) 0 (requested_from (own_units order host libs) [] (all_unit_references segs))) (sym (append-nil (own_segments order host libs)))
+first_round order host libs = grind (arith, append-nil)
 
 -- the rounds before round k added these segments, in these slots, and left these
 record SoFar (order : Order) (host : List ℕ) (libs : List (List ℕ)) (left : List ℕ) (prefix : List Segment) (used : List ℕ) (k : ℕ) (queue : List UnitReference) : Type 0 where
@@ -142,13 +129,7 @@ module _ (order : Order) (host : List ℕ) (libs : List (List ℕ)) where
       → SoFar order host libs (slot ∷ left) prefix used k queue
       → SoFar order host libs left (prefix ++ s ∷ []) (used ++ slot ∷ []) (k + 1)
       (requested_from (own_units order host libs) queue (references_of s))
-  one_more slot left prefix used k queue s h = record {
-    many = omega (arith, longer prefix s, h.many);
-    slots_are = h.slots_are ∙ sym (append_assoc used (slot ∷ []) left);
-    used_at = omega (arith, longer used slot, h.used_at);
-    queue_is = requested_more order host libs prefix s
-        ∙ ap (λ (xs : List UnitReference). requested_from (own_units order host libs) xs (references_of s)) h.queue_is;
-  }
+  one_more slot left prefix used k queue s h = grind (arith, longer, append_assoc, requested_more)
 
   -- P holds of the rounds from each on, where it holds of the last, which has no name or a fault, and
   -- of each that adds a segment if of those after it
@@ -185,12 +166,7 @@ module _ (order : Order) (host : List ℕ) (libs : List (List ℕ)) where
 
         turn : (g : UnitReference) → slice_get queue k ≡ Some g → (rest : List Segment) → added_segments order host libs ≡ prefix ++ rest
             → IsTurn order host libs prefix rest k g (Some slot)
-        turn g e rest all = record {
-          all = all;
-          many = h.many;
-          name = rw h.queue_is e;
-          slot_is = ap (λ (xs : List ℕ). slice_get xs k) h.slots_are ∙ first_right used (slot ∷ left) k h.used_at;
-        }
+        turn g e rest all = grind (arith, first_right)
 
         at_segment : Later → (g : UnitReference) → slice_get queue k ≡ Some g → placed_fault order host libs g slot ≡ None
             → (o : Option Segment) → added_segment order host libs g slot ≡ o → P k (rest_of order host libs (slot ∷ left) k queue)

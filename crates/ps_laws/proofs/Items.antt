@@ -34,9 +34,7 @@ at_left (x ∷ xs) ys (suc i) a e = at_left xs ys i a e
 -- after the first of two joined lists is the second
 pub right_at : {A : Type 0} (xs ys : List A) (q : ℕ) → slice_get (xs ++ ys) (length xs + q) ≡ slice_get ys q
 right_at {A} [] ys q = let same : length {A = A} [] + q ≡ q = omega arith in ap (slice_get ys) same
-right_at {A} (x ∷ xs) ys q =
-    let same : length (x ∷ xs) + q ≡ suc (length xs + q) = omega arith in
-    ap (slice_get (x ∷ xs ++ ys)) same ∙ right_at xs ys q
+right_at {A} (x ∷ xs) ys q = grind (arith, right_at xs)
 
 -- its first item is right after the first
 pub first_right : {A : Type 0} (xs ys : List A) (k : ℕ) → k ≡ length xs → slice_get (xs ++ ys) k ≡ slice_get ys 0

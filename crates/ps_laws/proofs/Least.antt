@@ -110,8 +110,4 @@ least_guard false d l = nothing (λ x t. false≢true (d.1 t.0))
 -- the first over the list of what all items give is the first over the items themselves
 pub first_of_filter_map : {W X Y : Type 0} (f : X → Option Y) (g : W → Option X) (ws : List W) → first_of f (filter_map g ws) ≡ first_of (λ w. option_and_then f (g w)) ws
 first_of_filter_map f g [] = refl
-first_of_filter_map {W} {X} {Y} f g (w ∷ ws) = go (g w) (filter_map g ws) (first_of_filter_map f g ws)
-  where
-    go : (o : Option X) (xs : List X) → first_of f xs ≡ first_of (λ v. option_and_then f (g v)) ws → first_of f (cons_option o xs) ≡ option_or (option_and_then f o) (first_of (λ v. option_and_then f (g v)) ws)
-    go None xs e = e
-    go (Some x) xs e = ap (option_or (f x)) e
+first_of_filter_map {W} {X} {Y} f g (w ∷ ws) = grind (arith, first_of_filter_map f g ws)

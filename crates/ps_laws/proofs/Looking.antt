@@ -25,11 +25,7 @@ any_of_items {A} test P d (a ∷ items) =
 -- a search finds nothing just where no item passes its test
 pub none_of_items : {A : Type 0} (test : A → Bool) (items : List A) → is_none (find test items) ≡ not (list_any test items)
 none_of_items test [] = refl
-none_of_items {A} test (a ∷ items) = go (test a) (none_of_items test items)
-  where
-    go : (b : Bool) → is_none (find test items) ≡ not (list_any test items) → is_none (if b then Some a else find test items) ≡ not (b || list_any test items)
-    go true e = refl
-    go false e = e
+none_of_items {A} test (a ∷ items) = grind (arith, none_of_items test items)
 
 pub find_none : {A : Type 0} (test : A → Bool) (P : A → Type 0) → ((a : A) → Decides (test a) (P a)) → (items : List A) → find test items ≡ None → SomeItem items (λ i q. P q) → ⊥
 find_none test P d items e t = false≢true (sym (ap not ((any_of_items test P d items).1 t)) ∙ sym (none_of_items test items) ∙ ap is_none e)

@@ -52,15 +52,11 @@ of_lesser slot rec s h = rw (lt-ltb s.slot slot h) refl
 
 -- of a greater slot no record is before
 of_greater : (slot rec : ℕ) (s : Segment) → slot < s.slot → records_before slot rec s ≡ []
-of_greater slot rec s h =
-    let low : slot ≤ s.slot = omega (arith, h) in
-    rw (le-ltb s.slot slot low, ne_eqb s.slot slot (λ e. omega (arith, e, h))) refl
+of_greater slot rec s h = grind arith
 
 -- of the slot itself as many records are before as the record's number says
 of_same : (rec : ℕ) (s : Segment) → records_before s.slot rec s ≡ take rec s.records
-of_same rec s =
-    let same : s.slot ≤ s.slot = omega arith in
-    rw (le-ltb s.slot s.slot same, eq-eqb s.slot s.slot refl) refl
+of_same rec s = grind arith
 
 abbrev before : ℕ → ℕ → List Segment → ℕ
 before slot rec ss = words (flat_map (records_before slot rec) ss)
@@ -106,9 +102,7 @@ offset_is prefix s rest rec below ascends =
 -- the offsets of a segment among all
 pub offset_in : (all prefix : List Segment) (s : Segment) (rest : List Segment) (from : ℕ) → all ≡ prefix ++ s ∷ rest → AreBelow from prefix → Ascends from (s ∷ rest)
     → (rec : ℕ) → private_offset all s.slot rec ≡ next_of (host_records all) + all_words (map owner_of prefix) + private_words (take rec s.records)
-offset_in all prefix s rest from is below ascends rec =
-    subst (λ (segs : List Segment). private_offset segs s.slot rec ≡ next_of (host_records segs) + all_words (map owner_of prefix) + private_words (take rec s.records)) (sym is)
-    (offset_is prefix s rest rec (below_from from s.slot prefix ascends.0 below) ascends.1)
+offset_in all prefix s rest from is below ascends rec = grind (arith, offset_is, below_from)
 
 -- the words of all privates, segment by segment and record by record
 pub all_are : (ss : List Segment) → all_private_words ss ≡ total_words ss

@@ -59,13 +59,10 @@ private_rows segs s rec r =
     (at_apart Ranked reason.DoubledPrivate reason.NoRoom (omega arith)))
   where
     to : (x : Reason) → ((x ≡ reason.DoubledPrivate) × PrivateHas segs s rec r reason.DoubledPrivate) ⊎ ((x ≡ reason.NoRoom) × PrivateHas segs s rec r reason.NoRoom) → PrivateHas segs s rec r x
-    to x (inl t) = subst (PrivateHas segs s rec r) (sym t.0) t.1
-    to x (inr t) = subst (PrivateHas segs s rec r) (sym t.0) t.1
+    to x h = grind arith
 
     from : (x : Reason) → PrivateHas segs s rec r x → ((x ≡ reason.DoubledPrivate) × PrivateHas segs s rec r reason.DoubledPrivate) ⊎ ((x ≡ reason.NoRoom) × PrivateHas segs s rec r reason.NoRoom)
-    from reason.DoubledPrivate h = inl (refl, h)
-    from reason.NoRoom h = inr (refl, h)
-    from other h = absurd h
+    from x h = grind arith
 
 -- the first fault of the privates is the smallest that applies
 pub step_8 : (order : Order) (host : List ℕ) (libs : List (List ℕ)) → Least (Precedes OfPrivates) (InPrivates order host libs) (privates_fault (segments order host libs))

@@ -68,12 +68,10 @@ any_flat test f [] = refl
 any_flat test f (x ∷ xs) = list_any-append test (f x) (flat_map f xs) ∙ ap (λ (b : Bool). list_any test (f x) || b) (any_flat test f xs)
 
 map_or : {A C : Type 0} (f : A → C) (o p : Option A) → option_map f (option_or o p) ≡ option_or (option_map f o) (option_map f p)
-map_or f None p = refl
-map_or f (Some a) p = refl
+map_or f o p = grind arith
 
 map_map : {A C D : Type 0} (f : C → D) (g : A → C) (o : Option A) → option_map f (option_map g o) ≡ option_map (λ a. f (g a)) o
-map_map f g None = refl
-map_map f g (Some a) = refl
+map_map f g o = grind arith
 
 -- 1. the record's name
 -- what is looked up is what the first item of the key has
@@ -86,8 +84,7 @@ lookup_found {D} test (d ∷ ds) = go (test d.0) (lookup_found test ds)
 
     go : (b : Bool) → lookup test ds ≡ option_map (λ (e : List ℕ × D). e.1) found
         → (if b then Some d.1 else lookup test ds) ≡ option_map (λ (e : List ℕ × D). e.1) (if b then Some d else found)
-    go true h = refl
-    go false h = h
+    go b h = grind arith
 
 is_name : {D : Type 0} (name : List ℕ) (e : List ℕ × D) → Decides (bytes_eq name e.0) (e.0 ≡ name)
 is_name name e = Decides-like (bytes_eq name e.0) (λ h. sym h) (λ h. sym h) (bytes_eq-Decides name e.0)
@@ -108,10 +105,7 @@ named_some {D} name ds d e =
 
 -- a name has no two first definitions
 one_definition : (ds : List (List ℕ × Def)) (name : List ℕ) (d e : Def) → Defines ds name d → Defines ds name e → d ≡ e
-one_definition ds name d e a b =
-    let at = not_apart a.0 b.0 (λ h. b.3.1 a.0 a.1 h a.2 a.3.0.0) (λ h. a.3.1 b.0 b.1 h b.2 b.3.0.0) in
-    let same = same_Some a.1 b.1 (sym a.2 ∙ ap (slice_get ds) at ∙ b.2) in
-    sym a.3.0.1 ∙ ap (λ (x : List ℕ × Def). x.1) same ∙ b.3.0.1
+one_definition ds name d e a b = grind arith
 
 -- each unit that the record requests has its segment
 abbrev UnitIsThere : List Segment → List ℕ → Body → Type 0
@@ -223,19 +217,12 @@ overlapping records rec i r x er =
 
 -- the operand of a reference has at least one byte
 pub wide : (body : Body) (i x : ℕ) → slice_get (refs_of body) i ≡ Some x → 0 < operand_width body
-wide (PublDef value) i x e = absurd (cc)
-wide (ConstDef value) i x e = absurd (cc)
-wide (Eof next) i x e = absurd (cc)
-wide other i x e = omega arith
+wide body i x h = grind arith
 
 -- an operand that is not empty ends after the code just where it covers a place that is not in the
 -- code
 past : (len x w : ℕ) → 0 < w → Decides (nat_lt len (x + w)) ((p : ℕ) × ((x ≤ p) × (p < x + w)) × (len ≤ p))
-past len x w h =
-    Decides-like (nat_lt len (x + w))
-    (λ b. elim (cases_lt len x) [ inl a ↦ (x, (omega arith, omega (arith, h)), omega (arith, a)) | inr a ↦ (len, (a, b), omega arith) ])
-    (λ t. let a = t.1.1 in let b = t.2 in omega (arith, a, b))
-    (Decides-ltb len (x + w))
+past len x w h = grind arith
 
 -- why there is no operand of so many bytes at x that becomes v, where these are taken
 abbrev reason_with : (ℕ → Bool) → List ℕ → List (ℕ × ℕ) → ℕ → ℕ → ℕ → Option Reason
@@ -290,17 +277,10 @@ reference_rows order segs s rec r i x er ex =
     reserved = Decides-like (list_any (is_reserved order s.code) (range_with_len x (operand_width r.body))) (λ t. (t.0, (t.1, t.2), t.3)) (λ t. (t.0, t.1.0, t.1.1, t.2)) (any_of_range (is_reserved order s.code) (λ p. is_reserved order s.code p ≡ true) (λ p. of_test (is_reserved order s.code p)) x (operand_width r.body))
 
     to : (y : Reason) → Parts y → Has y
-    to y (inl t) = subst Has (sym t.0) t.1
-    to y (inr (inl t)) = subst Has (sym t.0) t.1
-    to y (inr (inr (inl t))) = subst Has (sym t.0) t.1
-    to y (inr (inr (inr t))) = subst Has (sym t.0) t.1
+    to y h = grind arith
 
     from : (y : Reason) → Has y → Parts y
-    from reason.OutsideCode h = inl (refl, h)
-    from reason.ReservedPlace h = inr (inl (refl, h))
-    from reason.Overlap h = inr (inr (inl (refl, h)))
-    from reason.OperandTooLarge h = inr (inr (inr (refl, h)))
-    from other h = absurd h
+    from y h = grind arith
 
 -- the places of a record's faults
 abbrev At : ℕ → ℕ → Fault → Type 0
@@ -313,8 +293,7 @@ RecordFaults order segs s rec r f =
     ⊎ SomeItem (refs_of r.body) (λ i x. Because (in_reference s.file s.slot rec i) (ReferenceHas order segs s rec r i x) f)
 
 at_record : (order : Order) (segs : List Segment) (s : Segment) (rec : ℕ) (r : Record) (f : Fault) → RecordFaults order segs s rec r f → At s.slot rec f
-at_record order segs s rec r f (inl t) = (ap (λ (g : Fault). unwrap_or g.slot g.file) t.1, ap (λ (g : Fault). part g.rec) t.1)
-at_record order segs s rec r f (inr t) = (ap (λ (g : Fault). unwrap_or g.slot g.file) t.3.1, ap (λ (g : Fault). part g.rec) t.3.1)
+at_record order segs s rec r f h = grind arith
 
 abbrev references_of : Order → List Segment → Segment → ℕ → Record → ℕ × ℕ → Option Fault
 references_of order segs s rec r ref = option_map (in_reference s.file s.slot rec ref.0) (reason_at order segs s rec r ref)
@@ -370,55 +349,26 @@ refs_carried order segs s rec r t w v done (x ∷ xs) i is at =
         ∙ ap (λ (ys : List ℕ). reason_with R s.code (before s.records rec ++ map operand ys) (operand_width r.body) (operand_value segs s rec r.name r.body x) x) (sym done_is))
 
     more : taken ++ (x, width_of t) ∷ [] ≡ before s.records rec ++ map operand (done ++ x ∷ [])
-    more =
-        ap (λ (n : ℕ). taken ++ (x, n) ∷ []) w
-        ∙ (append_assoc (before s.records rec) (map operand done) (operand x ∷ [])
-        ∙ ap (λ (os : List (ℕ × ℕ)). before s.records rec ++ os) (sym (map-append operand done (x ∷ []))))
+    more = grind (arith, append_assoc, map-append)
 
 -- what a record's references become has its width and its value
 abbrev Fits : List Segment → Segment → ℕ → List ℕ → Body → Target → Type 0
 Fits segs s rec name body t = (refs_of body ≡ []) ⊎ ((width_of t ≡ operand_width body) × ((x : ℕ) → value_of s.code t x ≡ operand_value segs s rec name body x))
 
--- where a record has a target, its operands have the width that is said of them
-wide_as : (known : Known) (off : ℕ) (name : List ℕ) (body : Body) (t : Target) → target_in known off name body ≡ Ok t → (refs_of body ≡ []) ⊎ (width_of t ≡ operand_width body)
-wide_as known off name (PrivRef words refs) t e = let is : Base off ≡ t = cc in inr (ap width_of (sym is))
-wide_as known off name (UnitRef refs) t e = go (known_unit known name) e
-  where
-    go : (o : Option ℕ) → unit_slot o ≡ Ok t → (refs ≡ []) ⊎ (width_of t ≡ 1)
-    go None e = absurd (cc)
-    go (Some slot) e = let is : Slot slot ≡ t = cc in inr (ap width_of (sym is))
-wide_as known off name (PublRef refs) t e = go (known_definition known name) e
-  where
-    go : (o : Option Def) → public_base o ≡ Ok t → (refs ≡ []) ⊎ (width_of t ≡ 2)
-    go None e = absurd (cc)
-    go (Some d) e = at d.kind e
-      where
-        at : (k : DefKind) → (elim k as (λ _. Result Target Reason) [ Public ↦ Ok (Base d.value) | Constant ↦ Err reason.IllKind ]) ≡ Ok t → (refs ≡ []) ⊎ (width_of t ≡ 2)
-        at Constant e = absurd (cc)
-        at Public e = let is : Base d.value ≡ t = cc in inr (ap width_of (sym is))
-wide_as known off name other t e = inl refl
-
--- and the value
+-- where a record has a target, its operands have the width and the value that are said of them
 fits : (segs : List Segment) (s : Segment) (rec : ℕ) (name : List ℕ) (body : Body) (t : Target) → target_in (known_of segs) (private_offset segs s.slot rec) name body ≡ Ok t → Fits segs s rec name body t
-fits segs s rec name body t e =
-    elim (wide_as (known_of segs) (private_offset segs s.slot rec) name body t e) [
-      | inl none ↦ inl none
-      | inr w ↦ inr (w, λ x. sym (ap (value_by s.code x) e))
-    ]
+fits segs s rec name body t h = grind arith
 
 -- the references of a record
 refs_of_record : (order : Order) (segs : List Segment) (s : Segment) (rec : ℕ) (r : Record) (t : Target) (taken : List (ℕ × ℕ)) → taken ≡ before s.records rec → Fits segs s rec r.name r.body t
     → option_map (λ (f : ℕ × Reason). in_reference s.file s.slot rec f.0 f.1) (refs_fault (is_reserved order s.code) s.code t 0 taken (refs_of r.body)) ≡ first_of (references_of order segs s rec r) (enumerate_from 0 (refs_of r.body))
-refs_of_record order segs s rec r t taken is (inl none) =
-    ap (λ (xs : List ℕ). option_map (λ (f : ℕ × Reason). in_reference s.file s.slot rec f.0 f.1) (refs_fault (is_reserved order s.code) s.code t 0 taken xs)) none
-    ∙ sym (ap (λ (xs : List ℕ). first_of (references_of order segs s rec r) (enumerate_from 0 xs)) none)
+refs_of_record order segs s rec r t taken is (inl none) = grind arith
 refs_of_record order segs s rec r t taken is (inr fit) =
     ap (λ (os : List (ℕ × ℕ)). option_map (λ (f : ℕ × Reason). in_reference s.file s.slot rec f.0 f.1) (refs_fault (is_reserved order s.code) s.code t 0 os (refs_of r.body))) (is ∙ sym (append-nil (before s.records rec)))
     ∙ refs_carried order segs s rec r t fit.0 fit.1 [] (refs_of r.body) 0 refl refl
 
 operands_are : (segs : List Segment) (s : Segment) (rec : ℕ) (r : Record) (t : Target) → Fits segs s rec r.name r.body t → operands t (refs_of r.body) ≡ operands_of r
-operands_are segs s rec r t (inl none) = ap (λ (xs : List ℕ). operands t xs) none ∙ sym (ap (λ (xs : List ℕ). map (λ (y : ℕ). (y, operand_width r.body)) xs) none)
-operands_are segs s rec r t (inr fit) = ap (λ (n : ℕ). map (λ (y : ℕ). (y, n)) (refs_of r.body)) fit.0
+operands_are segs s rec r t h = grind arith
 
 -- the search that carries the operands and the offset through a segment's records finds the first
 -- fault of these

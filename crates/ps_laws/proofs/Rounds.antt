@@ -1,5 +1,5 @@
 -- The first fault of the units that are added is the smallest that is.
-use Rattle.std.proofs.Common.{◌≡◌, ℕ, ◌+◌, ◌≤◌, List, [], ◌∷◌, length, take, Option, Some, None, Bool, true, false, refl, sym, ap, subst, ◌∙◌, inl, inr, arith, append-nil, length-append, is_none, unwrap_or}
+use Rattle.std.proofs.Common.{rules, ◌≡◌, ℕ, ◌+◌, ◌≤◌, List, [], ◌∷◌, length, take, Option, Some, None, Bool, true, false, refl, sym, ap, subst, ◌∙◌, inl, inr, arith, append-nil, length-append, is_none, unwrap_or}
 use Rattle.std.specs.Prelude.{◌⊎◌, if◌then◌else◌}
 use Rattle.std.specs.Bool.{Decides}
 use Rattle.std.specs.List.{slice_get}
@@ -23,7 +23,7 @@ use Rattle.ps_laws.proofs.EachRound.{IsTurn, all_rounds, round_fault, segments_b
 use Rattle.ps_laws.proofs.Least.{Least, nothing, this, Precedes, least_same, least_order, least_map}
 use Rattle.ps_laws.proofs.Looking.{of_test}
 use Rattle.ps_laws.proofs.Sources.{Late, late, OneStop, none_has, unit_least, code_late}
-use Rattle.ps_laws.proofs.Parts.{record_somes, RoundHas}
+use Rattle.ps_laws.proofs.Parts.{record_reason}
 use Rattle.ps_words.specs.FaultPlaces.{in_slot, in_record}
 use Rattle.ps_words.specs.declared.order.Order.{Order}
 use Rattle.ps_words.specs.declared.fault.Reason.{Reason}
@@ -31,14 +31,20 @@ use Rattle.ps_words.specs.declared.fault.Reason.TheVariants as reason
 use Rattle.ps_words.specs.declared.fault.Fault.{Fault}
 
 -- 1. one round
+-- what is wrong with the unit of a reference, where this slot, or none, is left for it
+abbrev RoundHas : Order → List ℕ → List (List ℕ) → UnitReference → Option ℕ → Fault → Type 0
+RoundHas order host libs g left f =
+    ((f ≡ in_record g.file g.slot g.rec reason.MissingUnit) × IsMissing order libs g.name)
+    ⊎ (((f ≡ in_record g.file g.slot g.rec reason.NoSlot) × (left ≡ None))
+    ⊎ ((slot : ℕ) × (left ≡ Some slot) × PlacedFault order host libs g.name slot f))
+
 -- the fault's record is one that was read
 abbrev Reads : Fault → Type 0
 Reads f = record_read f.reason f.rec ≡ part f.rec
 
 -- where a fault has no record, none was read
 none_read : (why : Reason) → record_read why None ≡ 0
-none_read reason.MissingUnit = refl
-none_read other = refl
+none_read why = grind arith
 
 reads_slot : {P : Reason → Type 0} (k slot : ℕ) (f : Fault) → Because (in_slot k slot) P f → Reads f
 reads_slot k slot f t = subst Reads (sym t.1) (none_read t.0)
@@ -48,7 +54,7 @@ reads_code : (order : Order) (file : List ℕ) (k : ℕ) (e : Entry) (slot : ℕ
 reads_code order file k e slot r f (inl t) = reads_slot k slot f t
 reads_code order file k e slot r f (inr t) = elim t.2.1 [
   | inl b ↦ reads_slot k slot f b
-  | inr b ↦ subst Reads (sym b.2) ((record_somes (λ why. record_read why (Some (length b.0)) ≡ length b.0 + 1) refl refl refl refl refl order _).held b.1 b.3.stops)
+  | inr b ↦ subst Reads (sym b.2) (record_reason (λ why. record_read why (Some (length b.0)) ≡ length b.0 + 1) refl refl refl refl refl order _ b.1 b.3.stops)
 ]
 
 reads_placed : (order : Order) (host : List ℕ) (libs : List (List ℕ)) (name : List ℕ) (slot : ℕ) (f : Fault) → PlacedFault order host libs name slot f → Reads f
@@ -57,9 +63,7 @@ reads_placed order host libs name slot f (inr t) = reads_code order (file_at hos
 
 -- the faults of a unit that was found come after that of one that was not
 entries_high : (order : Order) (name lib : List ℕ) (why : Reason) → EntriesHave order name lib why → 13 ≤ rank why
-entries_high order name lib reason.DoubledUnit h = omega arith
-entries_high order name lib (reason.NotAUnit kind) h = omega arith
-entries_high order name lib other h = absurd h
+entries_high order name lib why h = grind arith
 
 lower_late : (slot n m : ℕ) (f : Fault) → m ≤ n → Late slot n f → Late slot m f
 lower_late slot n m f h t = (t.0, elim t.1 [ inl u ↦ inl (u.0, u.1, (let a = u.2 in omega (arith, a, h))) | inr u ↦ inr u ])
@@ -71,32 +75,11 @@ placed_late order host libs name slot f (inr t) = lower_late slot 15 13 f (omega
 -- that a unit is missing comes before a fault of rank 13 or above, and before one of a record that
 -- was read
 missing_first : (k slot : ℕ) (g : UnitReference) (f : Fault) → Late slot 13 f → Reads f → Precedes (OfAdded k) (in_record g.file g.slot g.rec reason.MissingUnit) f
-missing_first k slot g f l r =
-    inr (
-      refl,
-      inr (
-        refl,
-        elim l.1 [
-          | inl t ↦ inr (sym (r ∙ t.0), inr (sym t.1, inl (let a = t.2 in omega (arith, a))))
-          | inr h ↦ inl (omega (arith, r, h))
-        ],
-      ),
-    )
+missing_first k slot g f l r = grind arith
 
 -- what comes first in a slot comes first in its round
 within_round : (k : ℕ) (x y : Fault) → unwrap_or x.slot x.file ≡ unwrap_or y.slot y.file → Reads x → Reads y → Precedes OfSources x y → Precedes (OfAdded k) x y
-within_round k x y e a b (inl h) = absurd (omega (arith, h))
-within_round k x y e a b (inr t) = elim t.1 [
-  | inl h ↦ absurd (omega (arith, e, h))
-  | inr u ↦ inr (
-    refl,
-    inr (
-      refl,
-      subst (λ (n : ℕ). Before (n ∷ part x.reference ∷ rank x.reason ∷ []) (record_read y.reason y.rec ∷ part y.reference ∷ rank y.reason ∷ [])) (sym a)
-          (subst (λ (n : ℕ). Before (part x.rec ∷ part x.reference ∷ rank x.reason ∷ []) (n ∷ part y.reference ∷ rank y.reason ∷ [])) (sym b) u.1),
-    ),
-  )
-]
+within_round k x y h m p q = grind arith
 
 -- the first fault of a name's unit in a slot is the smallest of its round
 placed_least : OneStop → (order : Order) (host : List ℕ) (libs : List (List ℕ)) (k : ℕ) (name : List ℕ) (slot : ℕ)
@@ -117,15 +100,11 @@ round_least law order host libs k g None = go (is_missing order libs g.name) (mi
     go true d = this (in_record g.file g.slot g.rec reason.MissingUnit) (inl (refl, d.0 refl)) least
       where
         least : (f : Fault) → RoundHas order host libs g None f → (f ≡ in_record g.file g.slot g.rec reason.MissingUnit) ⊎ Precedes (OfAdded k) (in_record g.file g.slot g.rec reason.MissingUnit) f
-        least f (inl t) = inl t.0
-        least f (inr (inl t)) = inr (subst (λ (y : Fault). Precedes (OfAdded k) (in_record g.file g.slot g.rec reason.MissingUnit) y) (sym t.0) (inr (refl, inr (refl, inr (refl, inr (refl, inl (omega arith)))))))
-        least f (inr (inr t)) = absurd (let e = t.1 in cc)
+        least f h = grind arith
     go false d = this (in_record g.file g.slot g.rec reason.NoSlot) (inr (inl (refl, refl))) least
       where
         least : (f : Fault) → RoundHas order host libs g None f → (f ≡ in_record g.file g.slot g.rec reason.NoSlot) ⊎ Precedes (OfAdded k) (in_record g.file g.slot g.rec reason.NoSlot) f
-        least f (inl t) = absurd (false≢true (d.1 t.1))
-        least f (inr (inl t)) = inl t.0
-        least f (inr (inr t)) = absurd (let e = t.1 in cc)
+        least f h = search rules
 round_least law order host libs k g (Some slot) = go (is_missing order libs g.name) (missing order libs g.name)
   where
     Here : Fault → Type 0
@@ -191,9 +170,7 @@ last_round : (order : Order) (host : List ℕ) (libs : List (List ℕ)) (prefix 
 last_round order host libs prefix k o is at l = least_same (λ p t. (k, t.0, omega arith, t.1, t.2)) from (tagged (OfAdded k) l)
   where
     from : (p : Place) → FromRound order host libs k p → (f : Fault) × (p ≡ (OfAdded k, f)) × InRound order host libs k f
-    from p t =
-        let same : t.0 ≡ k = last_is order host libs prefix k t.0 t.1 is at t.2 t.4 in
-        (t.1, subst (λ (n : ℕ). p ≡ (OfAdded n, t.1)) same t.3, subst (λ (n : ℕ). InRound order host libs n t.1) same t.4)
+    from p t = grind arith
 
 -- where no name is left, nothing applies
 no_name : (order : Order) (host : List ℕ) (libs : List (List ℕ)) (prefix : List Segment) (k : ℕ) → added_segments order host libs ≡ prefix → k ≡ length prefix → slice_get (requested_units order host libs prefix) k ≡ None → (p : Place) → FromRound order host libs k p → ⊥
@@ -236,9 +213,7 @@ step_6 law order host libs =
     here : (prefix rest : List Segment) (k : ℕ) (g : UnitReference) (slot : Option ℕ) (o : Option Fault)
         → IsTurn order host libs prefix rest k g slot → round_fault order host libs g slot ≡ o
         → Least (Precedes (OfAdded k)) (InRound order host libs k) o
-    here prefix rest k g slot o turn is =
-        subst (λ (o : Option Fault). Least (Precedes (OfAdded k)) (InRound order host libs k) o) is
-        (the_round law order host libs prefix rest k g slot turn)
+    here prefix rest k g slot o turn is = grind (arith, the_round)
 
     r : RoundsHave order host libs 0 (rounds order host libs)
     r =

@@ -32,7 +32,7 @@ use Rattle.ps_resolve.specs.Standing.Rounds.{PlacedFault}
 use Rattle.ps_laws.proofs.Steps.{Ranked, because, any_of_range, any_lesser}
 use Rattle.ps_laws.proofs.Items.{not_apart}
 use Rattle.ps_laws.proofs.Looking.{of_test}
-use Rattle.ps_laws.proofs.Parts.{code_errs}
+use Rattle.ps_laws.proofs.Parts.{code_reason}
 use Rattle.ps_words.specs.declared.order.Order.{Order}
 use Rattle.ps_codefile.specs.declared.entry.Role.TheVariants as role
 use Rattle.ps_words.specs.declared.fault.Reason.{Reason}
@@ -51,46 +51,20 @@ Late slot n f = (unwrap_or f.slot f.file ≡ slot) × (((part f.rec ≡ 0) × (p
 
 -- of a slot's faults, one before rank n comes before one from it on, and before one of a record
 pub early_late : (slot n : ℕ) (x y : Fault) → Early slot n x → Late slot n y → Precedes OfSources x y
-early_late slot n x y a b =
-    inr (
-      refl,
-      inr (
-        a.0 ∙ sym b.0,
-        elim b.1 [
-          | inl t ↦ inr (a.1 ∙ sym t.0, inr (a.2 ∙ sym t.1, inl (let h = a.3 in let k = t.2 in omega (arith, h, k))))
-          | inr h ↦ inl (let k = a.1 in omega (arith, h, k))
-        ],
-      ),
-    )
+early_late slot n x y a b = grind arith
 
 -- a fault of a slot is before rank n where each reason that it may have is
 early : {P : Reason → Type 0} (k slot n : ℕ) (f : Fault) → ((why : Reason) → P why → rank why < n) → Because (in_slot k slot) P f → Early slot n f
-early k slot n f low t = (
-  ap (λ (g : Fault). unwrap_or g.slot g.file) t.1,
-  ap (λ (g : Fault). part g.rec) t.1,
-  ap (λ (g : Fault). part g.reference) t.1,
-  let a = ap (λ (g : Fault). rank g.reason) t.1 in let b = low t.0 t.2 in omega (arith, a, b),
-)
+early k slot n f low t = grind arith
 
 -- a fault of a slot is from rank n on where each reason that it may have is
 pub late : {P : Reason → Type 0} (k slot n : ℕ) (f : Fault) → ((why : Reason) → P why → n ≤ rank why) → Because (in_slot k slot) P f → Late slot n f
-late k slot n f high t = (
-  ap (λ (g : Fault). unwrap_or g.slot g.file) t.1,
-  inl (
-    ap (λ (g : Fault). part g.rec) t.1,
-    ap (λ (g : Fault). part g.reference) t.1,
-    let a = ap (λ (g : Fault). rank g.reason) t.1 in let b = high t.0 t.2 in omega (arith, a, b),
-  ),
-)
+late k slot n f high t = grind arith
 
 -- the first that passes is the first of those
 find_first : {X : Type 0} (p : X → Bool) (xs : List X) → find p xs ≡ first_of (λ x. if p x then Some x else None) xs
 find_first p [] = refl
-find_first {X} p (x ∷ xs) = go (p x) (find_first p xs)
-  where
-    go : (b : Bool) → find p xs ≡ first_of (λ x. if p x then Some x else None) xs → (if b then Some x else find p xs) ≡ option_or (if b then Some x else None) (first_of (λ x. if p x then Some x else None) xs)
-    go true e = refl
-    go false e = e
+find_first {X} p (x ∷ xs) = grind (arith, find_first p xs)
 
 -- the library's entries
 pub named : (order : Order) (name file : List ℕ) (i : ℕ) → Decides (is_named order name file i) (IsNamed order name file i)
@@ -131,18 +105,13 @@ entries_rows order name lib = go (list_any (λ i. is_named order name lib i && l
     single d i j a b m n = not_apart i j (λ h. false≢true (d.1 (j, b, (n, (i, h, m))))) (λ h. false≢true (d.1 (i, a, (m, (j, h, n)))))
 
     go : (b : Bool) (o : Option ℕ) → Decides b (Duplicate order name lib) → Least (λ i j. i < j) First o → Least Ranked Has (if b then Some reason.DoubledUnit else option_and_then (λ i. fault_if (not ((entry_at order lib i).kind == 3)) (reason.NotAUnit (entry_at order lib i).kind)) o)
-    go true o d l = this reason.DoubledUnit (d.0 refl) least
+    go true o d l = this reason.DoubledUnit (d.0 refl) (λ y h. grind arith)
+    go false None d (nothing n) = nothing none
       where
-        least : (y : Reason) → Has y → (y ≡ reason.DoubledUnit) ⊎ Ranked reason.DoubledUnit y
-        least reason.DoubledUnit h = inl refl
-        least (reason.NotAUnit kind) h = inr (omega arith)
-        least other h = absurd h
-    go false None d (nothing n) = nothing least
-      where
-        least : (y : Reason) → Has y → ⊥
-        least reason.DoubledUnit h = false≢true (d.1 h)
-        least (reason.NotAUnit kind) h = n h.0 (h.0, omega arith, (let a = h.1 in omega (arith, a)), (h.2.0, refl))
-        least other h = h
+        none : (y : Reason) → Has y → ⊥
+        none reason.DoubledUnit h = false≢true (d.1 h)
+        none (reason.NotAUnit kind) h = n h.0 (h.0, omega arith, (let a = h.1 in omega (arith, a)), (h.2.0, refl))
+        none other h = h
     go false (Some i) d (this j s l) =
         least_same to from (least_if (not ((entry_at order lib i).kind == 3)) (reason.NotAUnit (entry_at order lib i).kind) (Decides-not ((entry_at order lib i).kind == 3) (Decides-eqb (entry_at order lib i).kind 3)))
       where
@@ -156,11 +125,7 @@ entries_rows order name lib = go (list_any (λ i. is_named order name lib i && l
         to y t = subst Has (sym t.0) (i, within, (here, λ j b n. single d j i b within n here, refl, t.1))
 
         from : (y : Reason) → Has y → (y ≡ reason.NotAUnit (entry_at order lib i).kind) × ((entry_at order lib i).kind ≢ 3)
-        from reason.DoubledUnit h = absurd (false≢true (d.1 h))
-        from (reason.NotAUnit kind) h =
-            let same : kind ≡ (entry_at order lib i).kind = h.2.2 ∙ ap (λ k. (entry_at order lib k).kind) (single d h.0 i h.1 within h.2.0 here) in
-            (ap (λ k. reason.NotAUnit k) same, λ e. h.2.3 (same ∙ e))
-        from other h = absurd h
+        from y h = grind arith
 
 -- the library
 pub chosen : (order : Order) (name : List ℕ) (libs : List (List ℕ)) → Least (λ p q. p.0 < q.0) (λ p. SomeItem libs (λ k lib. HasEntry order name lib × (p ≡ (k, lib)))) (chosen_library order name libs)
@@ -222,30 +187,17 @@ entry_least order name libs slot = go (chosen_library order name libs) (chosen o
 -- the tables
 any_of_filter : {X Y : Type 0} (p : Y → Bool) (g : X → Option Y) (xs : List X) → list_any p (filter_map g xs) ≡ list_any (λ x. option_map_or p (g x) false) xs
 any_of_filter p g [] = refl
-any_of_filter {X} {Y} p g (x ∷ xs) = go (g x) (filter_map g xs) (any_of_filter p g xs)
-  where
-    go : (o : Option Y) (ys : List Y) → list_any p ys ≡ list_any (λ x. option_map_or p (g x) false) xs → list_any p (cons_option o ys) ≡ (option_map_or p o false || list_any (λ x. option_map_or p (g x) false) xs)
-    go None ys e = e
-    go (Some y) ys e = ap (λ b. p y || b) e
+any_of_filter {X} {Y} p g (x ∷ xs) = grind (arith, any_of_filter p g xs)
 
 -- not all items pass a test just where one fails it
 not_all : {X : Type 0} (p : X → Bool) (xs : List X) → not (list_all p xs) ≡ list_any (λ x. not (p x)) xs
 not_all p [] = refl
-not_all {X} p (x ∷ xs) = go (p x) (not_all p xs)
-  where
-    go : (b : Bool) → not (list_all p xs) ≡ list_any (λ x. not (p x)) xs → not (b && list_all p xs) ≡ (not b || list_any (λ x. not (p x)) xs)
-    go true e = e
-    go false e = refl
+not_all {X} p (x ∷ xs) = grind (arith, not_all p xs)
 
 -- a table fails the test of its place just where its content c is not 0, and it begins too low or
 -- ends too high
 not_placed : (c place q start : ℕ) → Decides (not (c == 0 || (nat_le (c + 8) place && nat_lt q start))) ((c ≢ 0) × ((place < c + 8) ⊎ (start ≤ q)))
-not_placed c place q start =
-    Decides-like (not (c == 0 || (nat_le (c + 8) place && nat_lt q start)))
-    (λ n. (λ e. n (inl e), elim (cases_lt place (c + 8)) [ inl h ↦ inl h | inr h ↦ elim (cases_lt q start) [ inl k ↦ absurd (n (inr (h, k))) | inr k ↦ inr k ] ]))
-    (λ t. elim [ inl e ↦ t.0 e | inr u ↦ elim t.1 [ inl h ↦ (let a = u.0 in omega (arith, h, a)) | inr h ↦ (let a = u.1 in omega (arith, h, a)) ] ])
-    (Decides-not (c == 0 || (nat_le (c + 8) place && nat_lt q start))
-    (Decides-or (c == 0) (nat_le (c + 8) place && nat_lt q start) (Decides-eqb c 0) (Decides-and (nat_le (c + 8) place) (nat_lt q start) (at_most (c + 8) place) (Decides-ltb q start))))
+not_placed c place q start = grind arith
 
 -- the test of all tables for their places says whether one is bad
 bad_table : (order : Order) (code : List ℕ) → Decides (not (list_all (is_placed order code) (numbers code))) (HasBadTable order code)
@@ -281,39 +233,13 @@ native_table order code =
 
 -- the reason that is given for the tables of a code is the one of smallest rank that applies
 pub tables_rows : (order : Order) (code : List ℕ) (host : Bool) → Least Ranked (TablesHave order code host) (tables_fault order code host)
-tables_rows order code host = go (nat_lt (length code) (dictionary_len code) || not (list_all (is_placed order code) (numbers code)) || (host && (procedures code == 0 || content_of order code 1 == 0))) (are_bad order code host)
+tables_rows order code host = go (nat_lt (length code) (dictionary_len code) || not (list_all (is_placed order code) (numbers code)) || (host && (procedures code == 0 || content_of order code 1 == 0))) (list_any (λ t. slice_index code t == 0) (tables order code)) (are_bad order code host) (native_table order code)
   where
-    Has : Reason → Type 0
-    Has = TablesHave order code host
-
-    go : (b : Bool) → Decides b (AreBad order code host) → Least Ranked Has (if b then Some reason.BadProcDict else (if list_any (λ t. slice_index code t == 0) (tables order code) then Some reason.NativeProcedure else None))
-    go true d = this reason.BadProcDict (d.0 refl) least
-      where
-        least : (y : Reason) → Has y → (y ≡ reason.BadProcDict) ⊎ Ranked reason.BadProcDict y
-        least reason.BadProcDict h = inl refl
-        least reason.NativeProcedure h = inr (omega arith)
-        least other h = absurd h
-    go false d = inner (list_any (λ t. slice_index code t == 0) (tables order code)) (native_table order code)
-      where
-        Native : Type 0
-        Native = (p : ℕ) × (1 ≤ p) × (p ≤ procedures code) × (t : ℕ) × (table_of order code p ≡ Some t) × (slice_index code t ≡ 0)
-
-        fine : AreBad order code host → ⊥
-        fine h = false≢true (d.1 h)
-
-        inner : (b : Bool) → Decides b Native → Least Ranked Has (if b then Some reason.NativeProcedure else None)
-        inner true n = this reason.NativeProcedure (fine, n.0 refl) least
-          where
-            least : (y : Reason) → Has y → (y ≡ reason.NativeProcedure) ⊎ Ranked reason.NativeProcedure y
-            least reason.BadProcDict h = absurd (fine h)
-            least reason.NativeProcedure h = inl refl
-            least other h = absurd h
-        inner false n = nothing least
-          where
-            least : (y : Reason) → Has y → ⊥
-            least reason.BadProcDict h = fine h
-            least reason.NativeProcedure h = false≢true (n.1 h.1)
-            least other h = h
+    go : (b n : Bool) → Decides b (AreBad order code host) → Decides n ((p : ℕ) × (1 ≤ p) × (p ≤ procedures code) × (t : ℕ) × (table_of order code p ≡ Some t) × (slice_index code t ≡ 0))
+        → Least Ranked (TablesHave order code host) (if b then Some reason.BadProcDict else (if n then Some reason.NativeProcedure else None))
+    go true n d e = this reason.BadProcDict (d.0 refl) (λ y h. grind arith)
+    go false true d e = this reason.NativeProcedure (λ h. false≢true (d.1 h), e.0 refl) (λ y h. grind arith)
+    go false false d e = nothing (λ y h. grind arith)
 
 -- what is read is the only stop: the law of link information
 abbrev pub OneStop : Type 0
@@ -341,19 +267,15 @@ IsMiddle why = (15 ≤ rank why) × (rank why < 18)
 
 -- a code is refused for a reason of rank 15 to 17
 code_mid : (file : List ℕ) (e : Entry) (why : Reason) → code_of file e ≡ Err why → IsMiddle why
-code_mid file e = (code_errs IsMiddle (omega arith, omega arith) (omega arith, omega arith) (omega arith, omega arith) file e).held
+code_mid = code_reason IsMiddle (omega arith, omega arith) (omega arith, omega arith) (omega arith, omega arith)
 
 -- the reasons that apply to tables have rank 18 or 19
 tables_mid : (order : Order) (code : List ℕ) (host : Bool) (why : Reason) → TablesHave order code host why → (18 ≤ rank why) × (rank why < 20)
-tables_mid order code host reason.BadProcDict h = (omega arith, omega arith)
-tables_mid order code host reason.NativeProcedure h = (omega arith, omega arith)
-tables_mid order code host other h = absurd h
+tables_mid order code host why h = grind arith
 
 -- the reasons that apply to a library's entries have a rank below 15
 entries_low : (order : Order) (name lib : List ℕ) (why : Reason) → EntriesHave order name lib why → rank why < 15
-entries_low order name lib reason.DoubledUnit h = omega arith
-entries_low order name lib (reason.NotAUnit kind) h = omega arith
-entries_low order name lib other h = absurd h
+entries_low order name lib why h = grind arith
 
 pub entry_early : (order : Order) (name : List ℕ) (libs : List (List ℕ)) (slot : ℕ) (f : Fault) → EntryFault order name libs slot f → Early slot 15 f
 entry_early order name libs slot f t = early (t.0 + 1) slot 15 f (entries_low order name t.1) t.3.1
@@ -363,11 +285,7 @@ late_record k slot n rec why f e = (ap (λ (g : Fault). unwrap_or g.slot g.file)
 
 -- a fault of a code, its tables or its records is from rank 15 on, or of a record
 pub code_late : (order : Order) (file : List ℕ) (k : ℕ) (e : Entry) (slot : ℕ) (r : Role) (f : Fault) → CodeFault order file k e slot r f → Late slot 15 f
-code_late order file k e slot r f (inl t) = late k slot 15 f (λ why h. (code_mid file e why h).0) t
-code_late order file k e slot r f (inr t) = elim t.2.1 [
-  | inl b ↦ late k slot 15 f (λ why h. let a = (tables_mid order t.0 (is_host r) why h).0 in omega (arith, a)) b
-  | inr b ↦ late_record k slot 15 (length b.0) b.1 f b.2
-]
+code_late order file k e slot r f t = grind (arith, late, code_mid, tables_mid, late_record)
 
 -- the first fault of a code, its tables and its records is the smallest that applies
 pub code_least : OneStop → (order : Order) (slot : ℕ) (r : Role) (host : List ℕ) (libs : List (List ℕ)) (at : ℕ × ℕ) → Least (Precedes OfSources) (CodeFault order (file_at host libs at.0) at.0 (entry_at order (file_at host libs at.0) at.1) slot r) (code_fault order host libs slot r at)
@@ -413,12 +331,10 @@ unit_least law order host libs name slot =
     (λ x y s t. early_late slot 15 x y (entry_early order name libs slot x s) (code_late order (file_at host libs t.0.0) t.0.0 (entry_at order (file_at host libs t.0.0) t.0.1) slot role.Wanted y t.2))
 
 pub ok_is : {X E : Type 0} (o : Result X E) (x : X) → result_ok o ≡ Some x → o ≡ Ok x
-ok_is (Ok y) x e = cc
-ok_is (Err y) x e = absurd (cc)
+ok_is o x h = grind arith
 
 pub is_ok : {X E : Type 0} (o : Result X E) (x : X) → o ≡ Ok x → result_ok o ≡ Some x
-is_ok (Ok y) x e = cc
-is_ok (Err y) x e = absurd (cc)
+is_ok o x h = grind arith
 
 -- what applies to a slot of this role: a fault of a wanted unit's source, or one of the code, its
 -- tables or its records
@@ -462,9 +378,7 @@ of_role law order host libs slot r has =
     (least_then (code_fault order host libs slot r) (source_of order host libs slot r) (λ at e. code_least law order slot r host libs at))
 
 in_place : (order : Order) (host : List ℕ) (libs : List (List ℕ)) (slot : ℕ) (r : Role) (f : Fault) → SourceFaults order host libs slot r f → unwrap_or f.slot f.file ≡ slot
-in_place order host libs slot r f (inl (w, inl t)) = ap (λ (g : Fault). unwrap_or g.slot g.file) t.0
-in_place order host libs slot r f (inl (w, inr t)) = (entry_early order (entry_at order host slot).name libs slot f t).0
-in_place order host libs slot r f (inr t) = (code_late order (file_at host libs t.0.0) t.0.0 (entry_at order (file_at host libs t.0.0) t.0.1) slot r f t.2).0
+in_place order host libs slot r f h = grind (arith, entry_early, code_late)
 
 -- the first fault of the sources is the smallest that applies
 pub step_5 : OneStop → (order : Order) (host : List ℕ) (libs : List (List ℕ)) → Least (Precedes OfSources) (InSources order host libs) (sources_fault order host libs)

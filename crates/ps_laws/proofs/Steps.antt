@@ -20,7 +20,7 @@ use Rattle.ps_codefile.specs.declared.entry.Role.{Role}
 use Rattle.ps_resolve.specs.Faults.{host_fault, is_role, slot_reason, slots_fault, no_host_fault, library_reason, library_fault, libraries_fault}
 use Rattle.ps_codefile.specs.Roles.{is_host, is_unit}
 use Rattle.ps_words.specs.FaultPlaces.{in_file, in_slot}
-use Rattle.ps_laws.proofs.Parts.{role_errs}
+use Rattle.ps_laws.proofs.Parts.{role_reason}
 use Rattle.ps_laws.proofs.Least.{Least, nothing, this, Precedes, least_same, least_order, least_or, least_if, least_map, least_range, least_each}
 use Rattle.ps_words.specs.declared.order.Order.{Order}
 use Rattle.ps_words.specs.declared.order.Order.TheVariants.{Little, Big}
@@ -31,10 +31,6 @@ use Rattle.ps_words.specs.declared.fault.Fault.{Fault}
 
 abbrev pub Ranked : Reason → Reason → Type 0
 Ranked a b = rank a < rank b
-
--- what a test that failed says
-pub not_below : (m n : ℕ) → Decides false (m < n) → n ≤ m
-not_below m n d = elim (cases_lt m n) [ inl h ↦ absurd (false≢true (d.1 h)) | inr h ↦ h ]
 
 -- reasons at one place, by rank
 pub because : {P : Reason → Type 0} {o : Option Reason} (step : Step) (h : Reason → Fault) → ((a b : Reason) → Ranked a b → Precedes step (h a) (h b)) → Least Ranked P o → Least (Precedes step) (Because h P) (option_map h o)
@@ -65,88 +61,21 @@ host_reason : (host : List ℕ) → Least Ranked (HostHas host) (result_err (ope
 host_reason host = go (nat_lt (length host) 512) (file_order host) (Decides-ltb (length host) 512) refl
   where
     go : (b : Bool) (o : FileOrder) → Decides b (length host < 512) → file_order host ≡ o → Least Ranked (HostHas host) (result_err (if b then Err reason.ShortFile else opened_as host o))
-    go true o d e = this reason.ShortFile (d.0 refl) least
-      where
-        least : (y : Reason) → HostHas host y → (y ≡ reason.ShortFile) ⊎ Ranked reason.ShortFile y
-        least reason.ShortFile h = inl refl
-        least reason.NoOrder h = inr (omega arith)
-        least reason.NoHost h = inr (omega arith)
-        least other h = absurd h
-    go false Zero d e = this reason.NoHost (not_below (length host) 512 d, e) least
-      where
-        least : (y : Reason) → HostHas host y → (y ≡ reason.NoHost) ⊎ Ranked reason.NoHost y
-        least reason.ShortFile h = absurd (false≢true (d.1 h))
-        least reason.NoOrder h = absurd (let a = h.1 in cc)
-        least reason.NoHost h = inl refl
-        least other h = absurd h
-    go false Mixed d e = this reason.NoOrder (not_below (length host) 512 d, e) least
-      where
-        least : (y : Reason) → HostHas host y → (y ≡ reason.NoOrder) ⊎ Ranked reason.NoOrder y
-        least reason.ShortFile h = absurd (false≢true (d.1 h))
-        least reason.NoOrder h = inl refl
-        least reason.NoHost h = inr (omega arith)
-        least other h = absurd h
-    go false (Ordered order) d e = nothing least
-      where
-        least : (y : Reason) → HostHas host y → ⊥
-        least reason.ShortFile h = false≢true (d.1 h)
-        least reason.NoOrder h = let a = h.1 in cc
-        least reason.NoHost h = let a = h.1 in cc
-        least other h = h
+    go b o d e = grind (arith, this, nothing)
 
 pub step_1 : (host : List ℕ) → Least (Precedes OfHost) (InHost host) (host_fault host)
 step_1 host = because OfHost (in_file 0) (λ a b r. inr (refl, inr (refl, inr (refl, inr (refl, inl r))))) (host_reason host)
 
 -- 4
 is_same : (other order : Order) → Decides (same_order other order) (other ≡ order)
-is_same Little Little = (λ e. refl, λ e. refl)
-is_same Little Big = (λ e. absurd (false≢true e), λ e. cc)
-is_same Big Little = (λ e. absurd (false≢true e), λ e. cc)
-is_same Big Big = (λ e. refl, λ e. refl)
+is_same other order = grind arith
 
 -- the reason that is given for a library is the one of smallest rank that applies
 library_reasons : (order : Order) (lib : List ℕ) → Least Ranked (LibraryHas order lib) (library_reason order lib)
 library_reasons order lib = go (nat_lt (length lib) 512) (file_order lib) (Decides-ltb (length lib) 512) refl
   where
     go : (b : Bool) (o : FileOrder) → Decides b (length lib < 512) → file_order lib ≡ o → Least Ranked (LibraryHas order lib) (result_err (if b then Err reason.ShortFile else opened_beside_as order lib o))
-    go true o d e = this reason.ShortFile (d.0 refl) least
-      where
-        least : (y : Reason) → LibraryHas order lib y → (y ≡ reason.ShortFile) ⊎ Ranked reason.ShortFile y
-        least reason.ShortFile h = inl refl
-        least reason.NoOrder h = inr (omega arith)
-        least reason.OrderMismatch h = inr (omega arith)
-        least other h = absurd h
-    go false Zero d e = nothing least
-      where
-        least : (y : Reason) → LibraryHas order lib y → ⊥
-        least reason.ShortFile h = false≢true (d.1 h)
-        least reason.NoOrder h = let a = h.1 in cc
-        least reason.OrderMismatch h = let a = h.2 in cc
-        least other h = h
-    go false Mixed d e = this reason.NoOrder (not_below (length lib) 512 d, e) least
-      where
-        least : (y : Reason) → LibraryHas order lib y → (y ≡ reason.NoOrder) ⊎ Ranked reason.NoOrder y
-        least reason.ShortFile h = absurd (false≢true (d.1 h))
-        least reason.NoOrder h = inl refl
-        least reason.OrderMismatch h = inr (omega arith)
-        least other h = absurd h
-    go false (Ordered other) d e = of (same_order other order) (is_same other order)
-      where
-        of : (same : Bool) → Decides same (other ≡ order) → Least Ranked (LibraryHas order lib) (result_err {T = OpenedFile} (if same then Ok (record { order = order; file = lib }) else Err reason.OrderMismatch))
-        of true s = nothing least
-          where
-            least : (y : Reason) → LibraryHas order lib y → ⊥
-            least reason.ShortFile h = false≢true (d.1 h)
-            least reason.NoOrder h = let a = h.1 in cc
-            least reason.OrderMismatch h = h.3 (let a = h.2 in let b = s.0 refl in cc)
-            least another h = h
-        of false s = this reason.OrderMismatch (not_below (length lib) 512 d, other, e, λ p. false≢true (s.1 p)) least
-          where
-            least : (y : Reason) → LibraryHas order lib y → (y ≡ reason.OrderMismatch) ⊎ Ranked reason.OrderMismatch y
-            least reason.ShortFile h = absurd (false≢true (d.1 h))
-            least reason.NoOrder h = absurd (let a = h.1 in cc)
-            least reason.OrderMismatch h = inl refl
-            least another h = absurd h
+    go b o d e = grind (arith, this, nothing, is_same)
 
 -- the first fault of the libraries is the smallest that applies
 pub step_4 : (order : Order) (libs : List (List ℕ)) → Least (Precedes OfLibraries) (InLibraries order libs) (libraries_fault order libs)
@@ -161,18 +90,15 @@ step_4 order libs =
 
 -- 2
 role_low : (e : Entry) (why : Reason) → role_of e ≡ Err why → rank why < 9
-role_low e = (role_errs (λ why. rank why < 9) (omega arith) (omega arith) (omega arith) (omega arith) e).held
+role_low e = role_reason (λ why. rank why < 9) (omega arith) (omega arith) (omega arith) (omega arith) e
 
 -- the test of a role passes just where there is one, and it is Host
 pub host_role : (r : Result Role Reason) → Decides (option_map_or is_host (result_ok r) false) (r ≡ Ok role.Host)
-host_role (Ok role.Host) = (λ e. refl, λ p. refl)
-host_role other = (λ e. absurd (false≢true e), λ p. absurd (cc))
+host_role r = grind arith
 
 -- the test of a role passes just where there is one, and it is Unit or Wanted
 pub unit_role : (r : Result Role Reason) → Decides (option_map_or is_unit (result_ok r) false) ((r ≡ Ok role.Unit) ⊎ (r ≡ Ok role.Wanted))
-unit_role (Ok role.Wanted) = (λ e. inr refl, λ p. refl)
-unit_role (Ok role.Unit) = (λ e. inl refl, λ p. refl)
-unit_role other = (λ e. absurd (false≢true e), elim [ inl p ↦ absurd (cc) | inr p ↦ absurd (cc) ])
+unit_role r = grind arith
 
 -- the reason that is given for a slot is the one of smallest rank that applies
 slot_rows : (order : Order) (host : List ℕ) (slot : ℕ) → Least Ranked (SlotHas order host slot) (slot_reason order host slot)
@@ -210,9 +136,7 @@ slot_rows order host slot =
     Third x = (x ≡ reason.DoubledSegment) × (IsUnitSlot order host slot × SomeBelow slot (λ i. IsUnitSlot order host i × (name i ≡ name slot)))
 
     keep : (x : Reason) → rank x < 9 → role_of (entry_at order host slot) ≡ Err x → SlotHas order host slot x
-    keep reason.TwoHosts h e = absurd (omega (arith, h))
-    keep reason.DoubledSegment h e = absurd (omega (arith, h))
-    keep other h e = e
+    keep x h e = grind arith
 
     to : (x : Reason) → (role_of (entry_at order host slot) ≡ Err x) ⊎ (Second x ⊎ Third x) → SlotHas order host slot x
     to x (inr (inl t)) = subst (SlotHas order host slot) (sym t.0) t.1
@@ -220,9 +144,7 @@ slot_rows order host slot =
     to x (inl e) = keep x (low x e) e
 
     from : (x : Reason) → SlotHas order host slot x → (role_of (entry_at order host slot) ≡ Err x) ⊎ (Second x ⊎ Third x)
-    from reason.TwoHosts h = inr (inl (refl, h))
-    from reason.DoubledSegment h = inr (inr (refl, h))
-    from other h = inl h
+    from x h = grind arith
 
     apart : (x y : Reason) → role_of (entry_at order host slot) ≡ Err x → Second y ⊎ Third y → Ranked x y
     apart x y e = let h = low x e in elim [ inl t ↦ subst (λ w. Ranked x w) (sym t.0) h | inr t ↦ subst (λ w. Ranked x w) (sym t.0) (omega (arith, h)) ]
