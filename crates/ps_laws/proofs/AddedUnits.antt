@@ -1,6 +1,6 @@
 -- The units that are added are those that are requested, as they are said plainly.
 use Rattle.std.proofs.Common.{◌≡◌, ℕ, zero, suc, ◌+◌, ◌<◌, ◌≤◌, List, [], ◌∷◌, ◌++◌, length, map, Option, Some, None, Ok, Bool, true, false, refl, sym, ap, subst, ◌∙◌, inl, inr, arith, is_some, length-append, length-take, take}
-use Rattle.std.specs.Prelude.{◌⊎◌, ◌≢◌, if◌then◌else◌, ◌||◌}
+use Rattle.std.specs.Prelude.{◌⊎◌, ◌≢◌, if◌then◌else◌}
 use Rattle.std.specs.List.{slice_get, list_any}
 use Rattle.std.specs.Map.{lookup}
 use Rattle.std.specs.Option.{option_map, option_and_then}
@@ -32,11 +32,13 @@ use Rattle.ps_laws.proofs.Items.{not_apart, at_left, first_right, right_at}
 use Rattle.ps_resolve.proofs.EachSegment.{own_made as made_from}
 pub use Rattle.ps_resolve.proofs.FirstSlots.{or_none as both_none, some_mapped}
 use Rattle.ps_laws.proofs.Sources.{ok_is}
-use Rattle.ps_laws.proofs.EachRound.{IsFine, own_units, references_of, request_parts, source_made, unit_there}
-use Rattle.ps_laws.proofs.OfLink.{role_none, round_known}
+use Rattle.ps_resolve.proofs.EachRound.{IsFine, own_units, references_of, request_parts, source_made, unit_there}
+use Rattle.ps_resolve.proofs.OfLink.{role_none, round_known}
 use Rattle.ps_laws.proofs.UnitPlaces.{unit_place}
 use Rattle.ps_laws.proofs.OneQueue.{giver_of_front}
-use Rattle.ps_laws.proofs.Asked.{HasRound, reference_of, round_at, queue_grows, all_known, known_more, known_last, queue_of, name_placed, segment_named, in_empty, own_in, own_at, units_named}
+use Rattle.ps_resolve.proofs.OfRounds.{HasRound, in_empty, name_placed, queue_of, round_at, segment_named}
+use Rattle.ps_resolve.proofs.Requesting.{grown, known_last, known_longer}
+use Rattle.ps_laws.proofs.Asked.{reference_of, all_known, own_in, own_at, units_named}
 use Rattle.ps_words.specs.declared.order.Order.{Order}
 use Rattle.ps_words.specs.declared.fault.Reason.{Reason}
 
@@ -195,7 +197,7 @@ IsEarliest units queue gs p g =
 -- a name that is not known with one more reference is not known without it, and is not its name
 known_by : (units : List (List ℕ × ℕ)) (queue : List UnitReference) (h : UnitReference) (name : List ℕ) → is_already_known units (queue ++ h ∷ []) name ≡ false → (is_already_known units queue name ≡ false) × (h.name ≢ name)
 known_by units queue h name e =
-    (false_from_ne_true (is_already_known units queue name) (λ is. false≢true (sym e ∙ known_more units queue (h ∷ []) name is)), other)
+    (false_from_ne_true (is_already_known units queue name) (λ is. false≢true (sym e ∙ known_longer units queue (h ∷ []) name is)), other)
   where
     other : h.name ≢ name
     other same = false≢true (sym e ∙ ap (λ (n : List ℕ). is_already_known units (queue ++ h ∷ []) n) (sym same) ∙ known_last units queue h)
@@ -225,8 +227,8 @@ new_here units queue gs x none = (refl, none, λ q h l e same. omega (arith, l))
 -- the name that a new one of the queue is
 new_name : (units : List (List ℕ × ℕ)) (queue gs : List UnitReference) (x : UnitReference) (k : ℕ) (g : UnitReference) → k ≡ length queue → slice_get (requested_from units (queue ++ x ∷ []) gs) k ≡ Some g → x ≡ g
 new_name units queue gs x k g at e =
-    let grown = queue_grows units (queue ++ x ∷ []) gs in
-    let there : slice_get (requested_from units (queue ++ x ∷ []) gs) k ≡ Some x = ap (λ (r : List UnitReference). slice_get r k) grown.1 ∙ at_left (queue ++ x ∷ []) grown.0 k x (first_right queue (x ∷ []) k at) in
+    let more = grown units (queue ++ x ∷ []) gs in
+    let there : slice_get (requested_from units (queue ++ x ∷ []) gs) k ≡ Some x = ap (λ (r : List UnitReference). slice_get r k) more.1 ∙ at_left (queue ++ x ∷ []) more.0 k x (first_right queue (x ∷ []) k at) in
     cc
 
 -- each name that is after those in the queue is that of an earliest reference
@@ -488,11 +490,11 @@ module _ (order : Order) (host : List ℕ) (libs : List (List ℕ)) (fine : sour
 
   is_found : (k : ℕ) (s : Segment) → slice_get (added_segments order host libs) k ≡ Some s → IsOfFirstLibrary order libs s
   is_found k s e =
-      let round = (segment_named order host libs ended k s e).1 in
+      let round = (segment_named order host libs k s e).1 in
       of_first_library order host libs s round.role (round_known order host libs k _ s round) round.source
 
   is_wanted : (k : ℕ) (s : Segment) → slice_get (added_segments order host libs) k ≡ Some s → (s.role ≡ role.Wanted) × (s.added ≡ true)
-  is_wanted k s e = let round = (segment_named order host libs ended k s e).1 in (round.role, round.is_added)
+  is_wanted k s e = let round = (segment_named order host libs k s e).1 in (round.role, round.is_added)
 
   pub units_are : AddedUnits order host libs (queue_of order host libs) (added_segments order host libs)
   units_are = record {
@@ -501,7 +503,7 @@ module _ (order : Order) (host : List ℕ) (libs : List (List ℕ)) (fine : sour
     once = is_once;
     ordered = are_given;
     names = same_names;
-    slots = in_empty order host libs ended;
+    slots = in_empty order host libs;
     roles = is_wanted;
     found = is_found;
   }

@@ -1,6 +1,6 @@
 -- Each unit that a record of the link requests has its segment there, where the rounds end without
 -- a fault.
-use Rattle.std.proofs.Common.{rules, ◌≡◌, ℕ, zero, suc, ◌+◌, ◌<◌, ◌≤◌, List, [], ◌∷◌, ◌++◌, length, Option, Some, None, Bool, true, false, refl, sym, ap, subst, ◌∙◌, inl, inr, arith, append_assoc, append-nil, is_some}
+use Rattle.std.proofs.Common.{◌≡◌, ℕ, zero, suc, ◌+◌, ◌<◌, ◌≤◌, List, [], ◌∷◌, ◌++◌, Option, Some, None, Bool, true, false, refl, sym, ap, subst, ◌∙◌, inl, inr, arith, is_some}
 use Rattle.std.specs.Prelude.{◌⊎◌, if◌then◌else◌, ◌&&◌, ◌||◌, ◌==◌}
 use Rattle.std.specs.Bool.{Decides}
 use Rattle.std.specs.List.{slice_get, list_any, find, cons_option}
@@ -8,143 +8,42 @@ use Rattle.std.specs.Map.{lookup}
 use Rattle.std.specs.Option.{option_map_or, option_or, option_and_then}
 use Rattle.std.specs.Result.{result_ok}
 use Rattle.std.specs.Str.{bytes_eq}
-use Rattle.std.proofs.lemmas.Bool.{cases_lt, false≢true, or_cases, or_left, or_right}
+use Rattle.std.proofs.lemmas.Bool.{false≢true, or_cases}
 use Rattle.std.proofs.lemmas.Bool.Decides.{Decides-at, Decides-and, Decides-like, Decides-eqb}
-use Rattle.std.proofs.lemmas.List.Folds.{list_any-append}
-use Rattle.std.proofs.lemmas.Option.{same_Some, none-some, slice_get_past}
 use Rattle.std.proofs.lemmas.Slice.Eq.{bytes_eq-Decides}
 use Rattle.ps_codefile.specs.Dictionary.{slots, entry_at, role_of}
 use Rattle.ps_linkinfo.specs.RecordCounts.{is_unit_reference}
-use Rattle.ps_resolve.specs.Added.{unit_references, all_unit_references, is_already_known, requested_from, empty_slots, placed_fault, as_added, added_segment, RoundsOutcome, requested_units, added_segments, added_fault, added_at, segment_at, segments}
+use Rattle.ps_resolve.specs.Added.{unit_references, all_unit_references, is_already_known, requested_from, empty_slots, requested_units, added_segments, added_fault, added_at, segment_at, segments}
 use Rattle.ps_resolve.specs.Standing.Phrases.{SomeItem}
 use Rattle.ps_resolve.specs.Standing.Segments.{IsSegment}
 use Rattle.ps_codefile.specs.declared.entry.Role.{Role}
 use Rattle.ps_codefile.specs.declared.entry.Role.TheVariants as role
 use Rattle.ps_linkinfo.specs.declared.record.LinkRecord.{LinkRecord as Record}
 use Rattle.ps_resolve.specs.Faults.{is_role}
-use Rattle.ps_resolve.specs.OfLink.{IsOfRound}
 use Rattle.ps_codefile.specs.Roles.{is_unit, is_empty}
-use Rattle.ps_resolve.specs.Sources.{Segment, unit_source, source_of, segment_from, own_segment, own_segments, units_of}
+use Rattle.ps_resolve.specs.Sources.{Segment, source_of, segment_from, own_segment, own_segments, units_of}
 use Rattle.ps_resolve.specs.declared.reading.added.UnitReference.{UnitReference}
 use Rattle.ps_laws.proofs.Looking.{of_test, any_of_items, find_none}
-use Rattle.ps_laws.proofs.Items.{In, all_in, not_apart, at_left, first_right, in_left, in_right, some_before, in_flat, in_filter_map, of_filter_map, in_range, of_range, of_filter, filter_ascends}
-use Rattle.ps_resolve.proofs.EachSegment.{added_made, at_slot, segment_with}
+use Rattle.ps_laws.proofs.Items.{In, all_in, not_apart, in_left, in_right, in_flat, in_filter_map, of_filter_map, in_range, of_range, of_filter, filter_ascends}
+use Rattle.ps_resolve.proofs.EachSegment.{at_slot}
 use Rattle.ps_laws.proofs.Segments.{found_in_slot}
-use Rattle.ps_laws.proofs.EachRound.{IsTurn, all_rounds, own_units, references_of, requested_rest, segments_before}
+use Rattle.ps_resolve.proofs.EachRound.{own_units, references_of}
+use Rattle.ps_resolve.proofs.OfRounds.{in_empty, name_placed, queue_of}
+use Rattle.ps_resolve.proofs.Requesting.{grown, known_last, known_longer}
 use Rattle.ps_words.specs.declared.order.Order.{Order}
-
--- 2. the queue of names grows, and has each name that is requested
-pub queue_grows : (units : List (List ℕ × ℕ)) (queue gs : List UnitReference) → (more : List UnitReference) × (requested_from units queue gs ≡ queue ++ more)
-queue_grows units queue [] = ([], sym (append-nil queue))
-queue_grows units queue (g ∷ gs) = go (is_already_known units queue g.name) (λ xs. queue_grows units xs gs)
-  where
-    go : (b : Bool) → ((xs : List UnitReference) → (more : List UnitReference) × (requested_from units xs gs ≡ xs ++ more)) → (more : List UnitReference) × (requested_from units (if b then queue else queue ++ g ∷ []) gs ≡ queue ++ more)
-    go true later = later queue
-    go false later = let r = later (queue ++ g ∷ []) in (g ∷ r.0, r.1 ∙ append_assoc queue (g ∷ []) r.0)
-
--- a name that is known is known in a longer queue
-pub known_more : (units : List (List ℕ × ℕ)) (queue more : List UnitReference) (name : List ℕ) → is_already_known units queue name ≡ true → is_already_known units (queue ++ more) name ≡ true
-known_more units queue more name e = grind (arith, or_cases, or_left, or_right, list_any-append)
-
--- the name of the last reference of a queue is known
-pub known_last : (units : List (List ℕ × ℕ)) (queue : List UnitReference) (g : UnitReference) → is_already_known units (queue ++ g ∷ []) g.name ≡ true
-known_last units queue g = grind (arith, bytes_eq-Decides, list_any-append, or_right, or_left)
 
 -- the name of each reference is known in the queue that they come to
 pub all_known : (units : List (List ℕ × ℕ)) (queue gs : List UnitReference) (g : UnitReference) (i : ℕ) → slice_get gs i ≡ Some g → is_already_known units (requested_from units queue gs) g.name ≡ true
 all_known units queue [] g i e = absurd (cc)
 all_known units queue (h ∷ gs) g zero e =
     let same : h ≡ g = cc in
-    let grown = queue_grows units (if is_already_known units queue h.name then queue else queue ++ h ∷ []) gs in
+    let more = grown units (if is_already_known units queue h.name then queue else queue ++ h ∷ []) gs in
     subst (λ (x : UnitReference). is_already_known units (requested_from units (if is_already_known units queue h.name then queue else queue ++ h ∷ []) gs) x.name ≡ true) same
-    (subst (λ (r : List UnitReference). is_already_known units r h.name ≡ true) (sym grown.1) (known_more units (if is_already_known units queue h.name then queue else queue ++ h ∷ []) grown.0 h.name (first (is_already_known units queue h.name) refl)))
+    (subst (λ (r : List UnitReference). is_already_known units r h.name ≡ true) (sym more.1) (known_longer units (if is_already_known units queue h.name then queue else queue ++ h ∷ []) more.0 h.name (first (is_already_known units queue h.name) refl)))
   where
     first : (b : Bool) → is_already_known units queue h.name ≡ b → is_already_known units (if b then queue else queue ++ h ∷ []) h.name ≡ true
     first b k = grind (arith, known_last)
 all_known units queue (h ∷ gs) g (suc i) e = all_known units (if is_already_known units queue h.name then queue else queue ++ h ∷ []) gs g i e
-
--- 3. where the rounds end without a fault, each name in the queue has its round and its segment
-module _ (order : Order) (host : List ℕ) (libs : List (List ℕ)) where
-  abbrev pub queue_of : List UnitReference
-  queue_of = requested_units order host libs (added_segments order host libs)
-
-  -- the segment that a round adds
-  round_is : (prefix rest : List Segment) (k : ℕ) (g : UnitReference) (slot : ℕ) (s : Segment)
-      → IsTurn order host libs prefix (s ∷ rest) k g (Some slot) → placed_fault order host libs g slot ≡ None
-      → added_segment order host libs g slot ≡ Some s → IsOfRound order host libs k g s
-  round_is prefix rest k g slot s turn fits from =
-      let before = segments_before order host libs prefix (s ∷ rest) k turn.all turn.many in
-      let requested = requested_units order host libs prefix in
-      let grown = queue_grows (own_units order host libs) requested (all_unit_references (s ∷ rest)) in
-      let all : queue_of ≡ requested ++ grown.0 = ap (requested_units order host libs) turn.all ∙ requested_rest order host libs prefix (s ∷ rest) ∙ grown.1 in
-      let made = added_made order host libs g slot s from in
-      let is : s ≡ as_added (segment_with order host libs slot g.name role.Wanted made.0 made.3.code) = made.2 ∙ ap as_added made.3.is in
-      let slot_is : slot ≡ s.slot = sym (ap (λ (q : Segment). q.slot) is) in
-      let name : s.name ≡ g.name = ap (λ (q : Segment). q.name) is in
-      record {
-        earlier = ap (λ (ss : List Segment). slice_get (requested_units order host libs ss) k) before ∙ turn.name;
-        requested = ap (λ (gs : List UnitReference). slice_get gs k) all ∙ at_left requested grown.0 k g turn.name;
-        there = ap (λ (ss : List Segment). slice_get ss k) turn.all ∙ first_right prefix (s ∷ rest) k turn.many;
-        slot = turn.slot_is ∙ ap (λ (n : ℕ). Some n) slot_is;
-        fits = subst (λ (n : ℕ). placed_fault order host libs g n ≡ None) slot_is fits;
-        brought = subst (λ (n : ℕ). added_segment order host libs g n ≡ Some s) slot_is from;
-        name = name;
-        role = ap (λ (q : Segment). q.role) is;
-        is_added = ap (λ (q : Segment). q.added) is;
-        source = ap (λ (n : List ℕ). unit_source order n libs) name ∙ made.4 ∙ ap (λ (q : Segment). Some (source_at q)) (sym is);
-      }
-    where
-      source_at : Segment → ℕ × ℕ
-      source_at q = (q.file, q.index)
-
-  -- a round has a name and its segment, or neither
-  abbrev pub HasRound : ℕ → Type 0
-  HasRound j =
-      ((g : UnitReference) × (s : Segment) × IsOfRound order host libs j g s)
-      ⊎ ((slice_get queue_of j ≡ None) × (slice_get (added_segments order host libs) j ≡ None))
-
-  -- no name is left, and no segment
-  ended : (prefix : List Segment) (k : ℕ) → added_segments order host libs ≡ prefix → k ≡ length prefix
-      → slice_get (requested_units order host libs prefix) k ≡ None → (j : ℕ) → k ≤ j → HasRound j
-  ended prefix k is many none j low = inr (no_name (slice_get queue_of j) refl, slice_get_past (added_segments order host libs) j past)
-    where
-      past : length (added_segments order host libs) ≤ j
-      past = omega (arith, ap (λ (ss : List Segment). length ss) is, many, low)
-
-      no_name : (o : Option UnitReference) → slice_get queue_of j ≡ o → o ≡ None
-      no_name o h = grind (arith, some_before)
-
-  -- from each round on
-  abbrev HaveRounds : ℕ → RoundsOutcome → Type 0
-  HaveRounds k r = r.fault ≡ None → (j : ℕ) → k ≤ j → HasRound j
-
-  module _ (fine : added_fault order host libs ≡ None) where
-    pub round_at : (j : ℕ) → HasRound j
-    round_at j =
-        all_rounds order host libs HaveRounds (λ prefix k is many none e. ended prefix k is many none)
-        (λ prefix k g slot f turn is e. absurd (cc))
-        (λ prefix k g slot s rest turn fits from later e j low. elim (cases_lt k j) [
-          | inl h ↦ later e j (omega (arith, h))
-          | inr h ↦ subst HasRound (omega (arith, h, low)) (inl (g, s, round_is prefix rest.added k g slot s turn fits from))
-        ]) fine j (omega arith)
-
-    pub name_placed : (j : ℕ) (g : UnitReference) → slice_get queue_of j ≡ Some g → (s : Segment) × IsOfRound order host libs j g s
-    name_placed j g e = elim (round_at j) [
-      | inl t ↦ (t.1, subst (λ (h : UnitReference). IsOfRound order host libs j h t.1) (same_Some t.0 g (sym t.2.requested ∙ e)) t.2)
-      | inr n ↦ absurd (none-some g (sym n.0 ∙ e))
-    ]
-
-    pub segment_named : (j : ℕ) (s : Segment) → slice_get (added_segments order host libs) j ≡ Some s
-        → (g : UnitReference) × IsOfRound order host libs j g s
-    segment_named j s e = elim (round_at j) [
-      | inl t ↦ (t.0, subst (IsOfRound order host libs j t.0) (same_Some t.1 s (sym t.2.there ∙ e)) t.2)
-      | inr n ↦ absurd (none-some s (sym n.1 ∙ e))
-    ]
-
-    -- an added segment is in its empty slot
-    pub in_empty : (j : ℕ) (s : Segment) → slice_get (added_segments order host libs) j ≡ Some s
-        → slice_get (empty_slots order host) j ≡ Some s.slot
-    in_empty j s e = (segment_named j s e).1.slot
 
 pub empty_slot : (order : Order) (host : List ℕ) (j slot : ℕ) → slice_get (empty_slots order host) j ≡ Some slot → (7 ≤ slot) × (slot < 7 + 9) × (is_role is_empty order host slot ≡ true)
 unfolding empty_slots
@@ -159,19 +58,22 @@ not_own : (order : Order) (host : List ℕ) (libs : List (List ℕ)) (slot : ℕ
 not_own order host libs slot e = search rules
 
 -- it is found there
-pub found_added : (order : Order) (host : List ℕ) (libs : List (List ℕ)) → added_fault order host libs ≡ None → (j : ℕ) (s : Segment) → slice_get (added_segments order host libs) j ≡ Some s → segment_at order host libs s.slot ≡ Some s
-found_added order host libs fine j s e =
+pub found_added : (order : Order) (host : List ℕ) (libs : List (List ℕ)) (j : ℕ) (s : Segment) → slice_get (added_segments order host libs) j ≡ Some s → segment_at order host libs s.slot ≡ Some s
+found_added order host libs j s e =
     ap (λ (o : Option Segment). option_or o (added_at order host libs s.slot)) (not_own order host libs s.slot empty)
     ∙ (ap (λ (b : Bool). if b then find (λ (q : Segment). q.slot == s.slot) (added_segments order host libs) else None) empty ∙ go (find (λ (q : Segment). q.slot == s.slot) (added_segments order host libs)) refl)
   where
     at : slice_get (empty_slots order host) j ≡ Some s.slot
-    at = in_empty order host libs fine j s e
+    at = in_empty order host libs j s e
 
     empty : is_role is_empty order host s.slot ≡ true
     empty = (empty_slot order host j s.slot at).2
 
     one : (i : ℕ) (q : Segment) → slice_get (added_segments order host libs) i ≡ Some q → q.slot ≡ s.slot → i ≡ j
-    one i q u same = grind (arith, in_empty, not_apart, empty_ascend)
+    one i q u same =
+        let there = in_empty order host libs i q u in
+        not_apart i j (λ h. let a = empty_ascend order host i j q.slot s.slot h there at in omega (arith, a, same))
+        (λ h. let a = empty_ascend order host j i s.slot q.slot h at there in omega (arith, a, same))
 
     go : (o : Option Segment) → find (λ (q : Segment). q.slot == s.slot) (added_segments order host libs) ≡ o → o ≡ Some s
     go None is = absurd (find_none (λ (q : Segment). q.slot == s.slot) (λ (q : Segment). q.slot ≡ s.slot) (λ q. Decides-eqb q.slot s.slot) (added_segments order host libs) is (j, s, e, refl))
@@ -182,7 +84,7 @@ found_added order host libs fine j s e =
         let a = t.3.0 in
         cc
 
--- 4. all segments
+-- all segments
 pub in_segments : (order : Order) (host : List ℕ) (libs : List (List ℕ)) (slot : ℕ) (s : Segment) → slot < 16 → segment_at order host libs slot ≡ Some s → In s (segments order host libs)
 unfolding segments
 in_segments order host libs slot s h e = in_filter_map (segment_at order host libs) slots slot s (in_range 0 16 slot (omega arith) (omega (arith, h))) e
@@ -264,7 +166,7 @@ known_has_unit order host libs fine name known = elim (or_cases (is_some (lookup
       let p = name_placed order host libs fine t.0 t.1 t.2 in
       let s = p.0 in
       let at = (empty_slot order host t.0 s.slot p.1.slot).1 in
-      let i = in_segments order host libs s.slot s (omega (arith, at)) (found_added order host libs fine t.0 s p.1.there) in
+      let i = in_segments order host libs s.slot s (omega (arith, at)) (found_added order host libs t.0 s p.1.there) in
       (i.0, s, i.1, (ap is_unit p.1.role, p.1.name ∙ t.3))
 ]
 

@@ -1,57 +1,21 @@
 -- What is in a list, by its place there.
-use Rattle.std.proofs.Common.{◌≡◌, ℕ, zero, suc, ◌+◌, ◌<◌, ◌≤◌, List, [], ◌∷◌, ◌++◌, length, get_or, take, add-zero, Option, Some, None, Bool, true, false, refl, sym, ap, subst, ◌∙◌, inl, inr, arith}
-use Rattle.std.specs.Prelude.{if◌then◌else◌, All, ⊤}
+use Rattle.std.proofs.Common.{◌≡◌, ℕ, zero, suc, ◌+◌, ◌<◌, ◌≤◌, List, [], ◌∷◌, ◌++◌, length, take, Option, Some, None, Bool, true, false, refl, sym, ap, subst, ◌∙◌, inl, inr, arith}
+use Rattle.std.specs.Prelude.{if◌then◌else◌}
 use Rattle.std.specs.List.{range_with_len, slice_get, filter, filter_map, flat_map, cons_option, find}
 use Rattle.std.proofs.lemmas.Bool.{cases_lt, cases_order}
-use Rattle.std.proofs.lemmas.List.Elements.{All-get_or}
-use Rattle.std.proofs.lemmas.Option.{get_or_from_slice_get, slice_get-get_or, slice_get_within}
 use Rattle.ps_resolve.proofs.EachSegment.{find_has}
-
-abbrev pub In : {A : Type 0} → A → List A → Type 0
-In a xs = (i : ℕ) × (slice_get xs i ≡ Some a)
+pub use Rattle.ps_resolve.proofs.Items.{In, of_all, all_items, all_in, at_left, right_at, first_right, some_before, find_passes}
 
 -- numbers of which none is before the other
 pub not_apart : (i j : ℕ) → (i < j → ⊥) → (j < i → ⊥) → i ≡ j
 not_apart i j h k = elim (cases_order i j) [ inl e ↦ e | inr u ↦ elim u [ inl l ↦ absurd (h l) | inr l ↦ absurd (k l) ] ]
 
--- what holds of all items holds of the item at a place
-pub of_all : {A : Type 0} (P : A → Type 0) (xs : List A) → All P xs → (i : ℕ) (x : A) → slice_get xs i ≡ Some x → P x
-of_all P xs all i x e = subst P (get_or_from_slice_get xs i x x e) (All-get_or P xs i x (slice_get_within xs i x e) all)
-
-pub all_items : {A : Type 0} (P : A → Type 0) (xs : List A) → ((k : ℕ) (x : A) → slice_get xs k ≡ Some x → P x) → All P xs
-all_items P xs h i x lt = h i (get_or xs i x) (slice_get-get_or xs i x lt)
-
--- each item is in the list
-pub all_in : {A : Type 0} (xs : List A) → All (λ x. In x xs) xs
-all_in xs i x lt = (i, slice_get-get_or xs i x lt)
-
 -- joined lists
-pub at_left : {A : Type 0} (xs ys : List A) (i : ℕ) (a : A) → slice_get xs i ≡ Some a → slice_get (xs ++ ys) i ≡ Some a
-at_left [] ys i a e = absurd (cc)
-at_left (x ∷ xs) ys zero a e = e
-at_left (x ∷ xs) ys (suc i) a e = at_left xs ys i a e
-
--- after the first of two joined lists is the second
-pub right_at : {A : Type 0} (xs ys : List A) (q : ℕ) → slice_get (xs ++ ys) (length xs + q) ≡ slice_get ys q
-right_at {A} [] ys q = let same : length {A = A} [] + q ≡ q = omega arith in ap (slice_get ys) same
-right_at {A} (x ∷ xs) ys q = grind (arith, right_at xs)
-
--- its first item is right after the first
-pub first_right : {A : Type 0} (xs ys : List A) (k : ℕ) → k ≡ length xs → slice_get (xs ++ ys) k ≡ slice_get ys 0
-first_right xs ys k e = ap (slice_get (xs ++ ys)) (e ∙ sym (add-zero (length xs))) ∙ right_at xs ys 0
-
 pub in_left : {A : Type 0} (xs ys : List A) (a : A) → In a xs → In a (xs ++ ys)
 in_left xs ys a t = (t.0, at_left xs ys t.0 a t.1)
 
 pub in_right : {A : Type 0} (xs ys : List A) (a : A) → In a ys → In a (xs ++ ys)
 in_right xs ys a t = (length xs + t.0, right_at xs ys t.0 ∙ t.1)
-
--- the place before one that is taken is taken
-pub some_before : {A : Type 0} (xs : List A) (i j : ℕ) (a : A) → i ≤ j → slice_get xs j ≡ Some a → slice_get xs i ≡ None → ⊥
-some_before [] i j a h e n = absurd (cc)
-some_before (x ∷ xs) zero j a h e n = absurd (cc)
-some_before (x ∷ xs) (suc i) zero a h e n = omega (arith, h)
-some_before (x ∷ xs) (suc i) (suc j) a h e n = some_before xs i j a (omega (arith, h)) e n
 
 -- lists that are made of others
 pub in_flat : {A C : Type 0} (f : A → List C) (xs : List A) (x : A) (y : C) → In x xs → In y (f x) → In y (flat_map f xs)
@@ -160,10 +124,6 @@ filter_ascends test a (suc n) i j x y h e u = go (λ k l m f g. filter_ascends t
     go later true zero (suc j) h e u = let same : a ≡ x = cc in let r = (of_filter test (a + 1) n y j u).0 in omega (arith, same, r)
     go later true (suc i) (suc j) h e u = later i j (omega (arith, h)) e u
 
--- what a search finds passes its test
-pub find_passes : {A : Type 0} (test : A → Bool) (xs : List A) (x : A) → find test xs ≡ Some x → test x ≡ true
-find_passes test xs x e = (find_has (λ q. ⊤) test xs x e (λ i q lt. tt)).0
-
--- and is in the list
+-- what a search finds is in the list
 pub find_in : {A : Type 0} (test : A → Bool) (xs : List A) (x : A) → find test xs ≡ Some x → In x xs
 find_in test xs x e = (find_has (λ q. In q xs) test xs x e (all_in xs)).1

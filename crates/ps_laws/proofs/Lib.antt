@@ -6,7 +6,6 @@ pub mod Steps
 pub mod Segments
 pub mod Sources
 pub mod Definitions
-pub mod EachRound
 pub mod Rounds
 pub mod Asked
 pub mod OfLink

@@ -22,7 +22,8 @@ use Rattle.ps_laws.proofs.Steps.{Ranked}
 use Rattle.ps_laws.proofs.Sources.{OneStop}
 use Rattle.ps_laws.proofs.Asked.{asked_is_there}
 use Rattle.ps_laws.proofs.Items.{all_items}
-use Rattle.ps_laws.proofs.OfLink.{of_link, rounds_fine}
+use Rattle.ps_resolve.proofs.OfLink.{rounds_fine}
+use Rattle.ps_laws.proofs.OfLink.{of_link}
 use Rattle.ps_laws.proofs.References.{record_rows}
 use Rattle.ps_laws.proofs.Whole.{unread}
 use Rattle.ps_laws.proofs.SummedOffsets.{offsets}

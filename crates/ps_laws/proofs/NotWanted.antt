@@ -1,15 +1,15 @@
 -- The slot of a record that requests a unit does not itself want one that no library has.
-use Rattle.std.proofs.Common.{◌≡◌, ℕ, zero, suc, ◌+◌, List, ◌++◌, take, add-zero, Option, Some, None, true, false, refl, sym, ap, subst, ◌∙◌, inl, inr, is_none, arith}
+use Rattle.std.proofs.Common.{◌≡◌, ℕ, ◌+◌, List, ◌++◌, take, Option, Some, None, true, false, refl, sym, ap, subst, ◌∙◌, inl, inr, is_none}
 use Rattle.std.specs.List.{slice_get, find}
 use Rattle.std.specs.Option.{option_map, option_map_or, option_and_then}
 use Rattle.std.specs.Result.{result_ok}
 use Rattle.std.proofs.lemmas.Bool.{false≢true}
-use Rattle.std.proofs.lemmas.Option.{none-some, same_Some}
+use Rattle.std.proofs.lemmas.Option.{none-some}
 use Rattle.ps_codefile.specs.Dictionary.{slots, entry_at, role_of}
 use Rattle.ps_codefile.specs.Roles.{is_empty}
 use Rattle.ps_codefile.specs.declared.entry.Role.{Role}
 use Rattle.ps_codefile.specs.declared.entry.Role.TheVariants as role
-use Rattle.ps_resolve.specs.Added.{RoundsOutcome, after, as_added, empty_slots, added_segments, rounds}
+use Rattle.ps_resolve.specs.Added.{added_segments}
 use Rattle.ps_resolve.specs.Faults.{is_role}
 use Rattle.ps_resolve.specs.Parts.{WantsMissing}
 use Rattle.ps_resolve.specs.Sources.{Segment, is_named, chosen_library, unit_source, source_of, own_segment, own_segments}
@@ -21,30 +21,16 @@ use Rattle.ps_resolve.specs.declared.reading.added.UnitReference.{UnitReference}
 use Rattle.ps_laws.proofs.Items.{of_take}
 use Rattle.ps_laws.proofs.Segments.{own_in_slot}
 use Rattle.ps_laws.proofs.Sources.{none_has, ok_is}
-use Rattle.ps_laws.proofs.EachRound.{all_rounds}
-use Rattle.ps_resolve.proofs.EachSegment.{added_made, own_made}
+use Rattle.ps_resolve.proofs.EachSegment.{own_made}
+use Rattle.ps_resolve.proofs.OfRounds.{in_empty}
 use Rattle.ps_laws.proofs.Asked.{empty_slot, own_at}
 use Rattle.ps_laws.proofs.AddedUnits.{given, split_at}
 use Rattle.ps_words.specs.declared.order.Order.{Order}
 
 -- 1. an added segment is in an empty slot, also where a later round has a fault
 module _ (order : Order) (host : List ℕ) (libs : List (List ℕ)) where
-  abbrev HaveSlots : ℕ → RoundsOutcome → Type 0
-  HaveSlots k r = (j : ℕ) (s : Segment) → slice_get r.added j ≡ Some s → slice_get (empty_slots order host) (k + j) ≡ Some s.slot
-
   added_slot : (j : ℕ) (s : Segment) → slice_get (added_segments order host libs) j ≡ Some s → is_role is_empty order host s.slot ≡ true
-  added_slot j s e = (empty_slot order host (0 + j) s.slot (slots_are j s e)).2
-    where
-      more : (k : ℕ) (slot : ℕ) (t : Segment) (rest : RoundsOutcome) → slice_get (empty_slots order host) k ≡ Some slot → t.slot ≡ slot → HaveSlots (k + 1) rest → HaveSlots k (after t rest)
-      more k slot t rest e at later zero q h = rw add-zero (e ∙ ap (λ (n : ℕ). Some n) (sym at ∙ ap (λ (x : Segment). x.slot) (same_Some t q h)))
-      more k slot t rest e at later (suc j) q h = subst (λ (n : ℕ). slice_get (empty_slots order host) n ≡ Some q.slot) (omega arith) (later j q h)
-
-      slots_are : HaveSlots 0 (rounds order host libs)
-      slots_are =
-          all_rounds order host libs HaveSlots (λ prefix k is many none j s h. absurd (cc)) (λ prefix k g slot f turn is j s h. absurd (cc))
-          (λ prefix k g slot t rest turn fits from later.
-          let made = added_made order host libs g slot t from in
-          more k slot t rest turn.slot_is (ap (λ (x : Segment). x.slot) (made.2 ∙ ap as_added made.3.is)) later)
+  added_slot j s e = (empty_slot order host j s.slot (in_empty order host libs j s e)).2
 
   not_empty : (slot : ℕ) → HasRole order host slot role.Wanted → is_role is_empty order host slot ≡ true → ⊥
   not_empty slot has e = false≢true (sym (ap (λ r. option_map_or is_empty (result_ok r) false) has) ∙ e)

@@ -1,137 +1,16 @@
--- What is known of each segment of a link whose files were read without a fault.
-use Rattle.std.proofs.Common.{◌≡◌, ℕ, ◌<◌, List, Option, Some, None, true, refl, sym, ap, subst, ◌∙◌, inl, inr, is_some, arith}
-use Rattle.std.specs.Prelude.{◌⊎◌}
-use Rattle.std.specs.Option.{option_and_then}
-use Rattle.std.specs.Result.{result_ok}
-use Rattle.ps_codefile.specs.Dictionary.{entry_at, role_of, information_of}
-use Rattle.ps_codefile.specs.declared.entry.Role.{Role}
-use Rattle.ps_codefile.specs.declared.entry.Role.TheVariants as role
-use Rattle.ps_codefile.specs.Roles.{is_host}
-use Rattle.ps_linkinfo.specs.Records.{reading}
-use Rattle.ps_linkinfo.specs.declared.record.LinkRecord.{LinkRecord as Record}
-use Rattle.ps_resolve.specs.Added.{added_fault, as_added, request_of, segments}
+-- What is known of a segment of a link, by its slot.
+use Rattle.std.proofs.Common.{◌≡◌, ℕ, List, None}
 use Rattle.ps_resolve.specs.AllFaults.{reading_fault}
-use Rattle.ps_resolve.specs.Faults.{code_fault, role_fault, source_fault, sources_fault, slots_fault, no_host_fault}
-use Rattle.ps_resolve.specs.OfLink.{IsOfFile, IsOfSlot, IsOfRound, IsOfLink}
-use Rattle.ps_resolve.specs.Requests.{request_by_slot}
-use Rattle.ps_resolve.specs.Sources.{Segment, file_at, host_of, order_of, source_of, own_segment}
+use Rattle.ps_resolve.specs.Added.{segments}
+use Rattle.ps_resolve.specs.OfLink.{IsOfLink}
+use Rattle.ps_resolve.specs.Sources.{Segment, order_of}
 use Rattle.ps_resolve.specs.Standing.Segments.{IsSegment}
-use Rattle.ps_resolve.specs.Standing.Slots.{HasRole}
-use Rattle.ps_resolve.specs.declared.reading.added.UnitReference.{UnitReference}
-use Rattle.ps_resolve.proofs.EachSegment.{IsMade, added_made, own_made}
-use Rattle.ps_resolve.proofs.FirstSlots.{none_mapped, or_none}
-use Rattle.ps_resolve.proofs.ReadingKnown.{host_there, none_at, one_host}
-use Rattle.ps_laws.proofs.Asked.{in_segments, own_or_added, segment_named}
-use Rattle.ps_laws.proofs.EachRound.{request_parts}
+use Rattle.ps_resolve.proofs.OfLink.{of_link as all_of_link}
+use Rattle.ps_laws.proofs.Asked.{in_segments}
 use Rattle.ps_laws.proofs.Items.{of_all}
-use Rattle.ps_laws.proofs.Sources.{ok_is}
-use Rattle.ps_words.specs.declared.order.Order.{Order}
-use Rattle.ps_words.specs.declared.fault.Reason.{Reason}
 
-read_whole : (read : List Record × Option Reason) → read.1 ≡ None → read ≡ (read.0, None)
-read_whole (rs, o) h = ap (λ (o : Option Reason). (rs, o)) h
-
-module _ (order : Order) (host : List ℕ) (libs : List (List ℕ)) where
-  -- 1. the entry of a segment, whose code has no fault
-  of_file : (slot : ℕ) (name : List ℕ) (r : Role) (place : ℕ × ℕ) (s : Segment) → IsMade order host libs slot name r place s
-      → code_fault order host libs slot r place ≡ None → IsOfFile order host libs s
-  of_file slot name r place s made fine =
-      let file = file_at host libs place.0 in
-      let entry = entry_at order file place.1 in
-      let linked = rw (made.given, code_fault) at fine in
-      subst (IsOfFile order host libs) (sym made.is) (record {
-        code = made.given;
-        tables = λ h. none_mapped _ _ (or_none _ _ (rw h at linked)).0;
-        records = λ h. rw h (read_whole (reading order (information_of file entry)) (none_mapped _ _ (or_none _ _ (rw h at linked)).1));
-        unread = λ h. rw h refl;
-      })
-
-  as_added_file : (s : Segment) → IsOfFile order host libs s → IsOfFile order host libs (as_added s)
-  as_added_file s h = record { code = h.code; tables = h.tables; records = h.records; unread = h.unread }
-
-  -- 2. a slot's own segment, where the sources have no fault
-  module _ (fine : sources_fault order host libs ≡ None) where
-    source_none : (slot : ℕ) → slot < 16 → source_fault order host libs slot ≡ None
-    unfolding sources_fault
-    source_none slot h = none_at (source_fault order host libs) 0 16 slot fine (omega arith) (omega (arith, h))
-
-    -- a slot has none by its role
-    pub role_none : (slot : ℕ) → slot < 16 → (r : Role) → HasRole order host slot r → role_fault order host libs slot r ≡ None
-    role_none slot inside r has = sym (ap (option_and_then (role_fault order host libs slot)) (ap result_ok has)) ∙ source_none slot inside
-
-    pub own_known : (slot : ℕ) (s : Segment) → slot < 16 → own_segment order host libs slot ≡ Some s
-        → IsOfFile order host libs s × IsOfSlot order host libs s
-    own_known slot s inside e =
-        let t = own_made order host libs slot s e in
-        let r = t.0 in
-        let has = ok_is (role_of (entry_at order host slot)) r t.1 in
-        let fits = role_none slot inside r has in
-        let made = t.3 in (
-          of_file slot (entry_at order host slot).name r t.2 s made
-              (sym (ap (option_and_then (code_fault order host libs slot r)) t.4) ∙ by_role slot r fits),
-          subst (IsOfSlot order host libs) (sym made.is) (record {
-            own = e ∙ ap (λ (q : Segment). Some q) made.is;
-            role = has;
-            name = refl;
-            source = t.4;
-            fits = fits;
-            not_added = refl;
-          }),
-        )
-      where
-        by_role : (slot : ℕ) (r : Role) → role_fault order host libs slot r ≡ None
-            → option_and_then (code_fault order host libs slot r) (source_of order host libs slot r) ≡ None
-        by_role slot role.Wanted h = (request_parts order host libs (request_by_slot order host slot) h).2
-        by_role slot other h = h
-
-  -- 3. a segment that was added
-  pub round_known : (j : ℕ) (g : UnitReference) (s : Segment) → IsOfRound order host libs j g s → IsOfFile order host libs s
-  round_known j g s round =
-      let made = added_made order host libs g s.slot s round.brought in
-      let parts = request_parts order host libs (request_of g s.slot) round.fits in
-      subst (IsOfFile order host libs) (sym made.2) (as_added_file made.1
-      (of_file s.slot g.name role.Wanted made.0 made.1 made.3
-      (sym (ap (option_and_then (code_fault order host libs s.slot role.Wanted)) made.4) ∙ parts.2)))
-
--- 4. each segment of a link
-module _ (host : List ℕ) (libs : List (List ℕ)) (read : reading_fault host libs ≡ None) where
-  abbrev order : Order
-  order = order_of host
-
-  parts : (slots_fault order host ≡ None) × (no_host_fault order host ≡ None)
-      × (sources_fault order host libs ≡ None) × (added_fault order host libs ≡ None)
-  unfolding reading_fault
-  parts =
-      let a = or_none _ _ (or_none _ _ read).1 in
-      let b = or_none _ _ a.1 in
-      let c = or_none _ _ (or_none _ _ b.1).1 in
-      (a.0, b.0, c.0, c.1)
-
-  pub slots_fine : slots_fault order host ≡ None
-  slots_fine = parts.0
-
-  pub sources_fine : sources_fault order host libs ≡ None
-  sources_fine = parts.2
-
-  pub rounds_fine : added_fault order host libs ≡ None
-  rounds_fine = parts.3
-
-  pub has_host : is_some (host_of (segments order host libs)) ≡ true
-  has_host = host_there order host libs parts.1 parts.2
-
-  pub of_link : (s : Segment) → IsSegment order host libs s → IsOfLink order host libs s
-  of_link s is =
-      let segs = segments order host libs in
-      let i = in_segments order host libs s.slot s is.0 is.1 in
-      let known : IsOfFile order host libs s × (IsOfSlot order host libs s ⊎ ((j : ℕ) × (g : UnitReference) × IsOfRound order host libs j g s)) =
-      elim (own_or_added order host libs s is) [
-        | inl own ↦ (let k = own_known order host libs parts.2 s.slot s is.0 own in (k.0, inl k.1))
-        | inr added ↦ (let k = segment_named order host libs parts.3 added.0 s added.1 in (round_known order host libs added.0 k.0 s k.1, inr (added.0, k.0, k.1)))
-      ] in
-      record {
-        slot = is.0;
-        there = is.1;
-        file = known.0;
-        one_host = of_all (λ q. is_host q.role ≡ true → host_of segs ≡ Some q) segs (one_host order host libs parts.0) i.0 s i.1;
-        asked = known.1;
-      }
+pub of_link : (host : List ℕ) (libs : List (List ℕ)) → reading_fault host libs ≡ None → (s : Segment) → IsSegment (order_of host) host libs s
+    → IsOfLink (order_of host) host libs s
+of_link host libs read s is =
+    let i = in_segments (order_of host) host libs s.slot s is.0 is.1 in
+    of_all (IsOfLink (order_of host) host libs) (segments (order_of host) host libs) (all_of_link host libs read) i.0 s i.1

@@ -18,7 +18,8 @@ use Rattle.ps_resolve.specs.Sources.{Segment, order_of, host_of, host_records}
 use Rattle.ps_resolve.specs.Standing.{NoneStands}
 use Rattle.ps_resolve.specs.Standing.Keys.{OfDefinitions}
 use Rattle.ps_laws.proofs.Items.{find_in, find_passes, not_apart}
-use Rattle.ps_laws.proofs.OfLink.{has_host, of_link}
+use Rattle.ps_resolve.proofs.OfLink.{has_host}
+use Rattle.ps_laws.proofs.OfLink.{of_link}
 use Rattle.ps_laws.proofs.OneName.{of_segments}
 use Rattle.ps_laws.proofs.OnePlace.{host_linked}
 use Rattle.ps_laws.proofs.SoundCodes.{ends_once}

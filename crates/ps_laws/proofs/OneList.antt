@@ -11,7 +11,7 @@ use Rattle.ps_resolve.specs.Sources.{Segment}
 use Rattle.ps_resolve.specs.RequestedUnits.{AddedUnits}
 use Rattle.ps_resolve.specs.declared.reading.added.UnitReference.{UnitReference}
 use Rattle.ps_laws.proofs.AddedUnits.{mapped, same_items, units_are}
-use Rattle.ps_laws.proofs.Asked.{queue_of, name_placed}
+use Rattle.ps_resolve.proofs.OfRounds.{queue_of, name_placed}
 use Rattle.ps_laws.proofs.OneQueue.{Agree, HasOneEntry, same_name, same_segment}
 use Rattle.ps_laws.proofs.UnitSources.{no_entry_fault, one_entry}
 use Rattle.ps_words.specs.declared.order.Order.{Order}

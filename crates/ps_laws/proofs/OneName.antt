@@ -17,9 +17,10 @@ use Rattle.ps_resolve.specs.Standing.Segments.{IsSegment}
 use Rattle.ps_resolve.specs.Standing.Slots.{IsUnitSlot}
 use Rattle.ps_resolve.specs.declared.reading.added.UnitReference.{UnitReference}
 use Rattle.ps_laws.proofs.AddedUnits.{unit_slot, units_are}
-use Rattle.ps_laws.proofs.Asked.{queue_of}
+use Rattle.ps_resolve.proofs.OfRounds.{queue_of}
 use Rattle.ps_laws.proofs.Items.{not_apart, of_all}
-use Rattle.ps_laws.proofs.OfLink.{of_link, rounds_fine, sources_fine}
+use Rattle.ps_resolve.proofs.OfLink.{rounds_fine, sources_fine}
+use Rattle.ps_laws.proofs.OfLink.{of_link}
 use Rattle.ps_resolve.proofs.ReadingKnown.{all_at}
 use Rattle.ps_words.specs.FaultPlaces.{in_slot}
 use Rattle.ps_words.specs.declared.order.Order.{Order}

@@ -31,13 +31,15 @@ use Rattle.ps_resolve.specs.RequestedUnits.{HasSlot, Asks, IsGiver}
 use Rattle.ps_resolve.specs.declared.reading.added.UnitReference.{UnitReference}
 use Rattle.ps_resolve.proofs.FirstSlots.{none_mapped as map_none}
 use Rattle.ps_laws.proofs.Items.{In, all_items, not_apart, in_range, in_filter, of_take, some_before}
-use Rattle.ps_laws.proofs.EachRound.{request_parts}
-use Rattle.ps_laws.proofs.OfLink.{of_link, own_known, round_known, rounds_fine, slots_fine, sources_fine}
+use Rattle.ps_resolve.proofs.EachRound.{request_parts}
+use Rattle.ps_resolve.proofs.OfLink.{own_known, round_known, rounds_fine, slots_fine, sources_fine}
+use Rattle.ps_laws.proofs.OfLink.{of_link}
 use Rattle.ps_resolve.proofs.ReadingCodes.{whole_code}
 use Rattle.ps_resolve.proofs.ReadingKnown.{none_at}
 use Rattle.ps_laws.proofs.Sources.{OneStop}
 use Rattle.ps_laws.proofs.Segments.{own_in_slot, Ascends, ascend}
-use Rattle.ps_laws.proofs.Asked.{in_empty, empty_slot, empty_ascend, found_added, in_segments, own_at}
+use Rattle.ps_resolve.proofs.OfRounds.{in_empty}
+use Rattle.ps_laws.proofs.Asked.{empty_slot, empty_ascend, found_added, in_segments, own_at}
 use Rattle.ps_laws.proofs.AddedUnits.{both_none, has_own, given, units_are, split_at}
 use Rattle.ps_laws.proofs.Whole.{unread}
 use Rattle.ps_laws.proofs.OneName.{of_segments}
@@ -171,8 +173,8 @@ module _ (law : OneStop) (spells : OneSpelling) (host : List ℕ) (libs : List (
 
   added_listed : (k : ℕ) (s : Segment) → slice_get (added_segments order host libs) k ≡ Some s → In s (segments order host libs)
   added_listed k s e =
-      let b = (empty_slot order host k s.slot (in_empty order host libs fine.1 k s e)).1 in
-      in_segments order host libs s.slot s (omega (arith, b)) (found_added order host libs fine.1 k s e)
+      let b = (empty_slot order host k s.slot (in_empty order host libs k s e)).1 in
+      in_segments order host libs s.slot s (omega (arith, b)) (found_added order host libs k s e)
 
   module _ (j : ℕ) (s : Segment) (in_round : slice_get (added_segments order host libs) j ≡ Some s) where
     -- the slot of each round is the next empty one
@@ -191,7 +193,7 @@ module _ (law : OneStop) (spells : OneSpelling) (host : List ℕ) (libs : List (
     none_left slot low lt has = go (slice_get (added_segments order host libs) i.0) refl
       where
         at : slice_get (empty_slots order host) j ≡ Some s.slot
-        at = in_empty order host libs fine.1 j s in_round
+        at = in_empty order host libs j s in_round
 
         i : In slot (empty_slots order host)
         i = is_empty_slot slot low (let b = (empty_slot order host j s.slot at).1 in omega (arith, b, lt)) has
@@ -201,7 +203,7 @@ module _ (law : OneStop) (spells : OneSpelling) (host : List ℕ) (libs : List (
 
         go : (o : Option Segment) → slice_get (added_segments order host libs) i.0 ≡ o → IsTaken (segments order host libs) slot
         go None e = absurd (some_before (added_segments order host libs) i.0 j s (let h = before in omega (arith, h)) in_round e)
-        go (Some q) e = let l = added_listed i.0 q e in (l.0, q, l.1, same_Some q.slot slot (sym (in_empty order host libs fine.1 i.0 q e) ∙ i.1))
+        go (Some q) e = let l = added_listed i.0 q e in (l.0, q, l.1, same_Some q.slot slot (sym (in_empty order host libs i.0 q e) ∙ i.1))
 
     -- what requests it was there in its round
     asked_before : (g : UnitReference) → slice_get (requested_units order host libs (take j (added_segments order host libs))) j ≡ Some g → s.name ≡ g.name
@@ -214,8 +216,8 @@ module _ (law : OneStop) (spells : OneSpelling) (host : List ℕ) (libs : List (
       | inr t ↦
           let u = of_take j (added_segments order host libs) t.0 asks.0 t.2 in
           let l = added_listed t.0 asks.0 u.1 in
-          let a = in_empty order host libs fine.1 t.0 asks.0 u.1 in
-          (l.0, asks.0, l.1, (inr (empty_ascend order host t.0 j asks.0.slot s.slot u.0 a (in_empty order host libs fine.1 j s in_round)), asking))
+          let a = in_empty order host libs t.0 asks.0 u.1 in
+          (l.0, asks.0, l.1, (inr (empty_ascend order host t.0 j asks.0.slot s.slot u.0 a (in_empty order host libs j s in_round)), asking))
     ]
       where
         giver : (i : ℕ) × IsGiver (own_segments order host libs ++ take j (added_segments order host libs)) i g

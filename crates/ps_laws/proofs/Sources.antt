@@ -27,6 +27,7 @@ use Rattle.ps_codefile.specs.Roles.{is_host, needs_linking}
 use Rattle.ps_resolve.specs.Sources.{is_named, has_entry, chosen_library, source_of, unit_source, file_at}
 use Rattle.ps_resolve.proofs.Requested.{has_name}
 use Rattle.ps_words.specs.FaultPlaces.{in_slot, in_record}
+pub use Rattle.ps_resolve.proofs.FirstSlots.{ok_is}
 use Rattle.ps_laws.proofs.Least.{Least, nothing, this, Precedes, least_same, least_or, least_if, least_then, least_range, least_items, least_guard}
 use Rattle.ps_resolve.specs.Standing.Rounds.{PlacedFault}
 use Rattle.ps_laws.proofs.Steps.{Ranked, because, any_of_range, any_lesser}
@@ -329,9 +330,6 @@ unit_least law order host libs name slot =
     least_or (entry_least order name libs slot)
     (least_then (code_fault order host libs slot role.Wanted) (unit_source order name libs) (λ at e. code_least law order slot role.Wanted host libs at))
     (λ x y s t. early_late slot 15 x y (entry_early order name libs slot x s) (code_late order (file_at host libs t.0.0) t.0.0 (entry_at order (file_at host libs t.0.0) t.0.1) slot role.Wanted y t.2))
-
-pub ok_is : {X E : Type 0} (o : Result X E) (x : X) → result_ok o ≡ Some x → o ≡ Ok x
-ok_is o x h = grind arith
 
 pub is_ok : {X E : Type 0} (o : Result X E) (x : X) → o ≡ Ok x → result_ok o ≡ Some x
 is_ok o x h = grind arith

@@ -15,7 +15,7 @@ use Rattle.ps_laws.proofs.Items.{not_apart}
 use Rattle.ps_resolve.specs.declared.reading.request.Request.{Request}
 use Rattle.ps_laws.proofs.OneQueue.{HasOneEntry}
 use Rattle.ps_laws.proofs.Sources.{entry_least}
-use Rattle.ps_laws.proofs.EachRound.{request_parts}
+use Rattle.ps_resolve.proofs.EachRound.{request_parts}
 use Rattle.ps_laws.proofs.UnitPlaces.{UnitPlace, unit_place}
 use Rattle.ps_words.specs.FaultPlaces.{in_slot}
 use Rattle.ps_words.specs.declared.order.Order.{Order}

@@ -1,24 +1,22 @@
--- What a segment of a link is made of, and what holds of each: of the host's own slots, and of the
--- rounds.
-use Rattle.std.proofs.Common.{◌≡◌, ℕ, ◌+◌, ◌<◌, List, [], ◌∷◌, Bool, true, false, Option, Some, None, Result, Ok, Err, refl, sym, ◌∙◌, subst, ◌==◌, inl, inr, arith}
+-- What a segment of a link is made of, and what holds of each.
+use Rattle.std.proofs.Common.{◌≡◌, ℕ, ◌<◌, List, [], ◌∷◌, Bool, true, false, Option, Some, None, Result, Ok, Err, refl, sym, ◌∙◌, subst, ◌==◌, inl, inr, arith}
 use Rattle.std.specs.Prelude.{◌⊎◌, All}
-use Rattle.std.specs.List.{filter_map, cons_option, find, slice_get}
+use Rattle.std.specs.List.{filter_map, cons_option, find}
 use Rattle.std.specs.Option.{option_and_then, option_map}
 use Rattle.std.specs.Result.{result_ok}
 use Rattle.std.proofs.lemmas.Bool.{eqb-true}
-use Rattle.std.proofs.lemmas.Option.{get_or_from_slice_get, option_and_then_some, same_Some, slice_get_within}
-use Rattle.std.proofs.lemmas.List.Elements.{All-nil, All-cons, All-tail, All-get_or, All-from_get_or}
+use Rattle.std.proofs.lemmas.Option.{option_and_then_some, same_Some}
+use Rattle.std.proofs.lemmas.List.Elements.{All-nil, All-cons, All-tail, All-from_get_or}
 use Rattle.std.proofs.lemmas.List.FromFn.{get_or-range_with_len}
 use Rattle.ps_words.specs.declared.order.Order.{Order}
 use Rattle.ps_words.specs.declared.fault.Reason.{Reason}
-use Rattle.ps_words.specs.declared.fault.Fault.{Fault}
 use Rattle.ps_codefile.specs.Dictionary.{slots, entry_at, role_of, code_of}
 use Rattle.ps_codefile.specs.Roles.{is_empty, needs_linking}
 use Rattle.ps_codefile.specs.declared.entry.Role.{Role}
 use Rattle.ps_codefile.specs.declared.entry.Role.TheVariants.{Wanted}
-use Rattle.ps_resolve.specs.Added.{added_segment, added_segments, all_unit_references, as_added, empty_slots, placed_fault, requested_from, rounds, rounds_from, segment_at, unit_references}
+use Rattle.ps_resolve.specs.Added.{added_segment, added_segments, as_added, segment_at}
 use Rattle.ps_resolve.specs.Faults.{is_role}
-use Rattle.ps_resolve.specs.Sources.{Segment, file_at, own_segment, own_segments, records_of, segment_from, source_of, unit_source, units_of}
+use Rattle.ps_resolve.specs.Sources.{Segment, file_at, own_segment, records_of, segment_from, source_of, unit_source}
 use Rattle.ps_resolve.specs.declared.reading.added.UnitReference.{UnitReference}
 use Rattle.ps_resolve.proofs.FirstSlots.{some_mapped}
 
@@ -72,31 +70,6 @@ module _ (order : Order) (host : List ℕ) (libs : List (List ℕ)) where
       (λ place there from. (place, marked.0, marked.2, is_made slot g.name Wanted place marked.0 from, there))
 
   -- 2. what holds of each
-  -- of those that the rounds add P holds where it holds of the unit of each name of which Q holds,
-  -- and Q of the names that such a unit requests
-  module _ (P : Segment → Type 0) (Q : UnitReference → Type 0) (adds : (g : UnitReference) (slot : ℕ) (s : Segment) → Q g → added_segment order host libs g slot ≡ Some s → P s)
-      (requests : (units : List (List ℕ × ℕ)) (queue : List UnitReference) (s : Segment) → All Q queue → P s → All Q (requested_from units queue (unit_references s.file s.slot 0 s.records))) where
-    each_round : (units : List (List ℕ × ℕ)) (left : List ℕ) (k : ℕ) (queue : List UnitReference) → All Q queue → All P (rounds_from order host libs units left k queue).added
-    each_round units [] k queue all = All-nil P
-    each_round units (slot ∷ left) k queue all = by (λ next h. each_round units left (k + 1) next h) (slice_get queue k) refl
-      where
-        at : ((next : List UnitReference) → All Q next → All P (rounds_from order host libs units left (k + 1) next).added) → (g : UnitReference) (p : Option Fault) → placed_fault order host libs g slot ≡ p → (o : Option Segment) → added_segment order host libs g slot ≡ o → slice_get queue k ≡ Some g
-            → All P (rounds_from order host libs units (slot ∷ left) k queue).added
-        at rest g (Some fault) e o f h = rw (h, rounds_from) (rw (e, rounds_from) (All-nil P))
-        at rest g None e None f h = rw (h, rounds_from) (rw (e, rounds_from) (rw (f, rounds_from) (All-nil P)))
-        at rest g None e (Some s) f h =
-            let here = adds g slot s (subst Q (get_or_from_slice_get queue k g g h) (All-get_or Q queue k g (slice_get_within queue k g h) all)) f in
-            let next = requested_from units queue (unit_references s.file s.slot 0 s.records) in
-            rw (h, rounds_from) (rw (e, rounds_from) (rw (f, rounds_from) (All-cons P s (rounds_from order host libs units left (k + 1) next).added here (rest next (requests units queue s all here)))))
-
-        by : ((next : List UnitReference) → All Q next → All P (rounds_from order host libs units left (k + 1) next).added) → (o : Option UnitReference) → slice_get queue k ≡ o → All P (rounds_from order host libs units (slot ∷ left) k queue).added
-        by rest None h = rw (h, rounds_from) (All-nil P)
-        by rest (Some g) h = at rest g (placed_fault order host libs g slot) refl (added_segment order host libs g slot) refl h
-
-    pub each_added : (let own = own_segments order host libs in All Q (requested_from (units_of own) [] (all_unit_references own))) → All P (added_segments order host libs)
-    unfolding rounds
-    each_added first = let own = own_segments order host libs in each_round (units_of own) (empty_slots order host) 0 (requested_from (units_of own) [] (all_unit_references own)) first
-
   -- the segment of a slot is its own, or of an empty slot one that was added
   pub at_slot : (P : Segment → Type 0) → All P (added_segments order host libs) → (slot : ℕ) (s : Segment) → segment_at order host libs slot ≡ Some s
       → (own_segment order host libs slot ≡ Some s) ⊎ ((is_role is_empty order host slot ≡ true) × (s.slot ≡ slot) × P s)

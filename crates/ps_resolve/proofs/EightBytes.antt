@@ -1,6 +1,6 @@
 -- The names of all slots of a linked file have eight bytes each: those of the host's dictionary,
 -- and those of UNITREF records.
-use Rattle.std.proofs.Common.{◌≡◌, ℕ, ◌+◌, ◌*◌, ◌-◌, ◌<◌, ◌≤◌, ◌==◌, List, [], ◌∷◌, ◌++◌, length, length-append, map, drop, Bool, true, false, if◌then◌else◌, Option, Some, None, refl, sym, subst, inl, inr, arith}
+use Rattle.std.proofs.Common.{◌≡◌, ℕ, ◌+◌, ◌*◌, ◌-◌, ◌<◌, ◌≤◌, ◌==◌, List, [], ◌∷◌, ◌++◌, length, length-append, map, drop, Bool, true, false, if◌then◌else◌, Option, Some, None, refl, sym, ap, ◌∙◌, subst, inl, inr, arith}
 use Rattle.std.specs.Prelude.{All}
 use Rattle.std.specs.List.{flat_map, find}
 use Rattle.std.specs.Option.{option_map_or}
@@ -10,7 +10,7 @@ use Rattle.std.proofs.lemmas.List.FromFn.{get_or-range_with_len}
 use Rattle.std.proofs.lemmas.Bool.{cond_both}
 use Rattle.ps_words.specs.declared.order.Order.{Order}
 use Rattle.ps_codefile.specs.Dictionary.{slots, name_at, entry_at, information_of}
-use Rattle.ps_resolve.specs.Added.{is_already_known, unit_references, all_unit_references, requested_from, added_segment, added_segments, segment_at, segments, slot_name, slot_names}
+use Rattle.ps_resolve.specs.Added.{is_already_known, unit_references, all_unit_references, requested_from, added_segments, requested_units, segment_at, segments, slot_name, slot_names}
 use Rattle.ps_linkinfo.specs.RecordCounts.{is_unit_reference}
 use Rattle.ps_codefile.specs.declared.entry.Entry.{Entry}
 use Rattle.ps_codefile.specs.declared.entry.Role.{Role}
@@ -20,7 +20,9 @@ use Rattle.ps_linkinfo.specs.declared.record.LinkRecord.{LinkRecord as Record}
 use Rattle.ps_codefile.specs.Roles.{needs_linking}
 use Rattle.ps_resolve.specs.Sources.{Segment, own_segment, own_segments, units_of, records_of, file_at}
 use Rattle.ps_resolve.specs.declared.reading.added.UnitReference.{UnitReference}
-use Rattle.ps_resolve.proofs.EachSegment.{IsMade, added_made, at_slot, each_added, each_slot, find_has, own_made}
+use Rattle.ps_resolve.proofs.EachSegment.{IsMade, added_made, at_slot, each_slot, find_has, own_made}
+use Rattle.ps_resolve.proofs.Items.{of_all}
+use Rattle.ps_resolve.proofs.OfRounds.{each_added, queue_of}
 
 -- the law of link information
 abbrev pub ReadWhole : Type 0
@@ -32,10 +34,9 @@ HasWholeName r = length r.name ≡ 8
 abbrev IsNamed : UnitReference → Type 0
 IsNamed g = length g.name ≡ 8
 
--- a segment whose name has eight bytes, and those of whose records have
-record HasNames (s : Segment) : Type 0 where
-  own : length s.name ≡ 8
-  records : All HasWholeName s.records
+-- the names of the records of a segment have eight bytes
+abbrev HasWholeNames : Segment → Type 0
+HasWholeNames s = All HasWholeName s.records
 
 -- where the names of records have eight bytes, so have those of the UNITREF records among them
 references_named : (file slot rec : ℕ) (rs : List Record) → All HasWholeName rs → All IsNamed (unit_references file slot rec rs)
@@ -45,10 +46,10 @@ references_named file slot rec (r ∷ rs) all =
     cond_both (is_unit_reference r.body) _ _ (All IsNamed) (λ _. All-cons IsNamed (record { name = r.name; file = file; slot = slot; rec = rec }) _ (all 0 r (omega arith)) rest) (λ _. rest)
 
 -- so it is with the UNITREF records of all segments
-all_references_named : (ss : List Segment) → All HasNames ss → All IsNamed (all_unit_references ss)
+all_references_named : (ss : List Segment) → All HasWholeNames ss → All IsNamed (all_unit_references ss)
 all_references_named [] all = All-nil IsNamed
 all_references_named (s ∷ ss) all =
-    All-append IsNamed (unit_references s.file s.slot 0 s.records) (all_unit_references ss) (references_named s.file s.slot 0 s.records (all 0 s (omega arith)).records) (all_references_named ss (All-tail HasNames s ss all))
+    All-append IsNamed (unit_references s.file s.slot 0 s.records) (all_unit_references ss) (references_named s.file s.slot 0 s.records (all 0 s (omega arith))) (all_references_named ss (All-tail HasWholeNames s ss all))
 
 -- a sequence of names of eight bytes stays one, where the names that are then requested have eight
 -- bytes
@@ -62,49 +63,49 @@ records_whole : ReadWhole → (order : Order) (file : List ℕ) (e : Entry) (b :
 records_whole law order file e true = law order (information_of file e)
 records_whole law order file e false = All-nil HasWholeName
 
--- a segment that is made with a name of eight bytes has that name, and records whose names have
--- eight
-made_named : ReadWhole → (order : Order) (host : List ℕ) (libs : List (List ℕ)) (slot : ℕ) (name : List ℕ) (r : Role) (at : ℕ × ℕ) (s : Segment) → length name ≡ 8 → IsMade order host libs slot name r at s → HasNames s
-made_named law order host libs slot name r at s long h =
+-- a segment that is made has such records
+made_whole : ReadWhole → (order : Order) (host : List ℕ) (libs : List (List ℕ)) (slot : ℕ) (name : List ℕ) (r : Role) (at : ℕ × ℕ) (s : Segment) → IsMade order host libs slot name r at s → HasWholeNames s
+made_whole law order host libs slot name r at s h =
     let file = file_at host libs at.0 in
-    subst HasNames (sym h.is) (record { own = long; records = records_whole law order file (entry_at order file at.1) (needs_linking r) })
+    subst HasWholeNames (sym h.is) (records_whole law order file (entry_at order file at.1) (needs_linking r))
 
 name_long : (host : List ℕ) (slot : ℕ) → 512 ≤ length host → slot < 16 → length (name_at host slot) ≡ 8
 name_long host slot long lt = omega (arith, length-take (64 + 8 * slot + 8 - (64 + 8 * slot)) (drop (64 + 8 * slot) host), length-drop (64 + 8 * slot) host)
 
--- where the host has its whole dictionary, the own segment of a slot and its records have names of
--- eight bytes
-own_named : ReadWhole → (order : Order) (host : List ℕ) (libs : List (List ℕ)) (slot : ℕ) (s : Segment) → 512 ≤ length host → slot < 16 → own_segment order host libs slot ≡ Some s → HasNames s
-own_named law order host libs slot s long lt h =
-    let t = own_made order host libs slot s h in made_named law order host libs slot (entry_at order host slot).name t.0 t.2 s (name_long host slot long lt) t.3
+abbrev HasName : Segment → Type 0
+HasName s = length s.name ≡ 8
 
--- so have a segment that is added for a name of eight bytes, and its records
-added_named : ReadWhole → (order : Order) (host : List ℕ) (libs : List (List ℕ)) (g : UnitReference) (slot : ℕ) (s : Segment) → IsNamed g → added_segment order host libs g slot ≡ Some s → HasNames s
-added_named law order host libs g slot s long h =
-    let t = added_made order host libs g slot s h in
-    let named = made_named law order host libs slot g.name Wanted t.0 t.1 long t.3 in
-    subst HasNames (sym t.2) (record { own = named.own; records = named.records })
-
--- and so have all segments of a link
-all_named : ReadWhole → (order : Order) (host : List ℕ) (libs : List (List ℕ)) → 512 ≤ length host → All HasNames (segments order host libs)
-unfolding segments own_segments
-all_named law order host libs long = each_slot HasNames (segment_at order host libs) (λ x s lt h. elim (at_slot order host libs HasNames added x s h) [ inl own ↦ own_named law order host libs x s long lt own | inr t ↦ t.2 ])
+-- where the host has its whole dictionary, all segments of a link have names of eight bytes
+all_named : ReadWhole → (order : Order) (host : List ℕ) (libs : List (List ℕ)) → 512 ≤ length host → All HasName (segments order host libs)
+unfolding segments own_segments requested_units
+all_named law order host libs long =
+    each_slot HasName (segment_at order host libs) (λ x s lt h. elim (at_slot order host libs HasName named x s h) [
+      | inl own ↦ (let t = own_made order host libs x s own in ap (λ (q : Segment). length q.name) t.3.is ∙ name_long host x long lt)
+      | inr t ↦ t.2
+    ])
   where
-    own : All HasNames (own_segments order host libs)
-    own = each_slot HasNames (own_segment order host libs) (λ x s lt h. own_named law order host libs x s long lt h)
+    own : All HasWholeNames (own_segments order host libs)
+    own = each_slot HasWholeNames (own_segment order host libs) (λ x s lt h. let t = own_made order host libs x s h in made_whole law order host libs x (entry_at order host x).name t.0 t.2 s t.3)
 
-    added : All HasNames (added_segments order host libs)
-    added =
-        each_added order host libs HasNames IsNamed (added_named law order host libs) (λ units queue s all h. queue_named units queue (unit_references s.file s.slot 0 s.records) all (references_named s.file s.slot 0 s.records h.records))
-        (queue_named (units_of (own_segments order host libs)) [] (all_unit_references (own_segments order host libs)) (All-nil IsNamed) (all_references_named (own_segments order host libs) own))
+    added : All HasWholeNames (added_segments order host libs)
+    added = each_added order host libs HasWholeNames (λ j g s round. let t = added_made order host libs g s.slot s round.brought in subst HasWholeNames (sym t.2) (made_whole law order host libs s.slot g.name Wanted t.0 t.1 t.3))
+
+    queue : All IsNamed (queue_of order host libs)
+    queue =
+        let all = own_segments order host libs ++ added_segments order host libs in
+        queue_named (units_of (own_segments order host libs)) [] (all_unit_references all) (All-nil IsNamed)
+        (all_references_named all (All-append HasWholeNames (own_segments order host libs) (added_segments order host libs) own added))
+
+    named : All HasName (added_segments order host libs)
+    named = each_added order host libs HasName (λ j g s round. ap (λ (n : List ℕ). length n) round.name ∙ of_all IsNamed (queue_of order host libs) queue j g round.requested)
 
 -- where the host has its whole dictionary, each slot of the linked file has a name of eight bytes
-eight : (host : List ℕ) (ss : List Segment) → 512 ≤ length host → All HasNames ss → (slot : ℕ) → slot < 16 → length (slot_name host ss slot) ≡ 8
+eight : (host : List ℕ) (ss : List Segment) → 512 ≤ length host → All HasName ss → (slot : ℕ) → slot < 16 → length (slot_name host ss slot) ≡ 8
 eight host ss long all slot lt = by (find (λ (x : Segment). x.slot == slot) ss) refl
   where
     by : (o : Option Segment) → find (λ (x : Segment). x.slot == slot) ss ≡ o → length (option_map_or (λ (s : Segment). s.name) o (name_at host slot)) ≡ 8
     by None e = name_long host slot long lt
-    by (Some s) e = (find_has HasNames (λ (x : Segment). x.slot == slot) ss s e all).1.own
+    by (Some s) e = (find_has HasName (λ (x : Segment). x.slot == slot) ss s e all).1
 
 -- names of eight bytes each, one after another, have eight times as many bytes as there are names
 run : (f : ℕ → List ℕ) → (xs : List ℕ) → ((x : ℕ) → x < 16 → length (f x) ≡ 8) → All (λ (x : ℕ). x < 16) xs → length (flat_map (λ name. name) (map f xs)) ≡ 8 * length xs

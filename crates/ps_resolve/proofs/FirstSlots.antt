@@ -1,7 +1,8 @@
 -- The first of several slots, from one of them on.
-use Rattle.std.proofs.Common.{◌≡◌, ℕ, suc, ◌+◌, ◌-◌, ◌<◌, ◌≤◌, List, [], ◌∷◌, Bool, true, false, Option, Some, None, is_some, refl, ◌∙◌, ap, arith}
+use Rattle.std.proofs.Common.{◌≡◌, ℕ, suc, ◌+◌, ◌-◌, ◌<◌, ◌≤◌, List, [], ◌∷◌, Bool, true, false, Option, Some, None, Result, Ok, Err, is_some, refl, ◌∙◌, ap, arith}
 use Rattle.std.specs.List.{range_with_len, find, list_any}
 use Rattle.std.specs.Option.{option_or, option_map}
+use Rattle.std.specs.Result.{result_ok}
 use Rattle.ps_resolve.specs.Searches.{first_of}
 
 -- the numbers from i up to n are i and those after it
@@ -54,3 +55,8 @@ none_mapped f (Some x) h = cc
 pub some_mapped : {X Y : Type 0} (f : X → Y) (o : Option X) (y : Y) → option_map f o ≡ Some y → (x : X) × (o ≡ Some x) × (y ≡ f x)
 some_mapped f None y h = cc
 some_mapped f (Some x) y h = (x, refl, cc)
+
+-- a result that gives a value is it
+pub ok_is : {X E : Type 0} (o : Result X E) (x : X) → result_ok o ≡ Some x → o ≡ Ok x
+ok_is (Ok y) x e = cc
+ok_is (Err y) x e = absurd (cc)

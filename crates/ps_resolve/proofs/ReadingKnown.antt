@@ -2,7 +2,7 @@
 -- slot, and one of them is the host's own.
 use Rattle.std.proofs.Common.{◌≡◌, ℕ, zero, suc, ◌+◌, ◌<◌, ◌≤◌, List, [], ◌∷◌, map, length, get_or, Bool, true, false, ◌&&◌, not, Option, Some, None, is_some, Result, Ok, Err, refl, sym, ◌∙◌, ap, subst, inl, inr, arith}
 use Rattle.std.specs.List.{range_with_len, filter_map, find, list_any}
-use Rattle.std.specs.Prelude.{All, ⊤}
+use Rattle.std.specs.Prelude.{All}
 use Rattle.std.specs.Option.{option_or, option_map, option_map_or}
 use Rattle.std.specs.Result.{result_ok}
 use Rattle.std.proofs.lemmas.Bool.{and_from, cases_eq, cases_order, false≢true}
@@ -24,8 +24,9 @@ use Rattle.ps_codefile.specs.Roles.{is_host, is_empty}
 use Rattle.ps_resolve.specs.Sources.{Segment, own_segment, host_of}
 use Rattle.ps_resolve.specs.Faults.{is_role, slot_reason, slots_fault, no_host_fault, sources_fault, source_fault, information_fault}
 use Rattle.ps_resolve.specs.Linkable.{AscendFrom, HasOneHost}
-use Rattle.ps_resolve.proofs.EachSegment.{added_made, at_slot, each_added, each_slot, find_has, own_made, segment_with}
+use Rattle.ps_resolve.proofs.EachSegment.{at_slot, each_slot, find_has, own_made, segment_with}
 use Rattle.ps_resolve.proofs.FirstSlots.{any_found, neither_first, neither_second, none_mapped}
+use Rattle.ps_resolve.proofs.OfRounds.{each_added}
 use Rattle.ps_resolve.proofs.ReadingSources.{own_fault, read_from_host, is_own_host}
 
 -- the own segment of a slot is in the slot and has the role of it
@@ -37,10 +38,7 @@ IsWanted s = s.role ≡ role.Wanted
 
 -- each added segment has the role of a wanted unit
 added_wanted : (order : Order) (host : List ℕ) (libs : List (List ℕ)) → All IsWanted (added_segments order host libs)
-added_wanted order host libs =
-    each_added order host libs IsWanted (λ g. ⊤)
-    (λ g slot s _ h. let t = added_made order host libs g slot s h in ap (λ (x : Segment). x.role) t.2 ∙ ap (λ (x : Segment). x.role) t.3.is)
-    (λ units queue s all h i g lt. tt) (λ i g lt. tt)
+added_wanted order host libs = each_added order host libs IsWanted (λ j g s round. round.role)
 
 -- a slot whose role is Empty has not that of the host
 empty_role : (q : Result Role Reason) → option_map_or is_empty (result_ok q) false ≡ true → option_map_or is_host (result_ok q) false ≡ false

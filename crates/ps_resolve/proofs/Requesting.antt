@@ -30,18 +30,18 @@ or_right false b h = h
 
 module _ (units : List (List ℕ × ℕ)) where
   -- what is known stays so
-  known_longer : (queue more : List UnitReference) (name : List ℕ) → is_already_known units queue name ≡ true → is_already_known units (queue ++ more) name ≡ true
+  pub known_longer : (queue more : List UnitReference) (name : List ℕ) → is_already_known units queue name ≡ true → is_already_known units (queue ++ more) name ≡ true
   known_longer queue more name h =
       ap (λ (b : Bool). is_some (lookup (bytes_eq name) units) || b) (list_any-append (λ (g : UnitReference). bytes_eq g.name name) queue more)
       ∙ or_left (is_some (lookup (bytes_eq name) units)) (list_any (λ (g : UnitReference). bytes_eq g.name name) queue) (list_any (λ (g : UnitReference). bytes_eq g.name name) more) h
 
-  known_last : (queue : List UnitReference) (g : UnitReference) → is_already_known units (queue ++ g ∷ []) g.name ≡ true
+  pub known_last : (queue : List UnitReference) (g : UnitReference) → is_already_known units (queue ++ g ∷ []) g.name ≡ true
   known_last queue g =
       ap (λ (b : Bool). is_some (lookup (bytes_eq g.name) units) || b) (list_any-append (λ (f : UnitReference). bytes_eq f.name g.name) queue (g ∷ []))
       ∙ or_right (is_some (lookup (bytes_eq g.name) units)) _ (or_right (list_any (λ (f : UnitReference). bytes_eq f.name g.name) queue) _ (ap (λ (b : Bool). b || false) ((bytes_eq-Decides g.name g.name).1 refl)))
 
   -- a queue grows at its end
-  grown : (queue gs : List UnitReference) → (more : List UnitReference) × (requested_from units queue gs ≡ queue ++ more)
+  pub grown : (queue gs : List UnitReference) → (more : List UnitReference) × (requested_from units queue gs ≡ queue ++ more)
   grown queue [] = ([], sym (append-nil queue))
   grown queue (g ∷ gs) = by (λ r. grown r gs) (is_already_known units queue g.name) refl
     where

@@ -1,6 +1,6 @@
 -- What is known of each segment of a link whose files were read without a fault.
 -- Source: this project's profile.
-use Rattle.std.specs.Prelude.{◌≡◌, ◌⊎◌, ◌<◌, ℕ, List, [], take, slice_get, true, false, Ok, Some, None}
+use Rattle.std.specs.Prelude.{◌≡◌, ◌⊎◌, ◌<◌, ℕ, List, [], take, slice_get, true, false, Ok, Some, None, All}
 use Rattle.ps_words.specs.declared.order.Order.{Order}
 use Rattle.ps_codefile.specs.Dictionary.{entry_at, code_of, information_of}
 use Rattle.ps_codefile.specs.Procedures.{tables_fault}
@@ -9,7 +9,7 @@ use Rattle.ps_codefile.specs.declared.entry.Role.TheVariants.{Wanted}
 use Rattle.ps_linkinfo.specs.Records.{reading}
 use Rattle.ps_resolve.specs.Added.{added_segment, added_segments, empty_slots, placed_fault, requested_units, segment_at, segments}
 use Rattle.ps_resolve.specs.Faults.{role_fault}
-use Rattle.ps_resolve.specs.Sources.{Segment, file_at, source_of, unit_source, own_segment, host_of}
+use Rattle.ps_resolve.specs.Sources.{Segment, file_at, order_of, source_of, unit_source, own_segment, host_of}
 use Rattle.ps_resolve.specs.Standing.Slots.{HasRole}
 use Rattle.ps_resolve.specs.declared.reading.added.UnitReference.{UnitReference}
 
@@ -54,3 +54,7 @@ pub record IsOfLink (order : Order) (host : List ℕ) (libs : List (List ℕ)) (
   pub file : IsOfFile order host libs s
   pub one_host : is_host s.role ≡ true → host_of (segments order host libs) ≡ Some s
   pub asked : IsOfSlot order host libs s ⊎ ((j : ℕ) × (g : UnitReference) × IsOfRound order host libs j g s)
+
+-- So it is with all of these segments, which are those of a link.
+abbrev pub AreOfLink : List ℕ → List (List ℕ) → List Segment → Type 0
+AreOfLink host libs segs = All (IsOfLink (order_of host) host libs) segs

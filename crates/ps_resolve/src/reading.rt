@@ -8,6 +8,7 @@ ghost use Rattle.ps_resolve.specs.Sources.{order_of, contents, opened, opened_fi
 ghost use Rattle.ps_resolve.specs.Added.{request_of, empty_slots as empty_slots_spec, segments as all_segments, slot_name as slot_name_spec, slot_names as slot_names_spec};
 ghost use Rattle.ps_resolve.specs.Faults.{slots_fault as slots_fault_spec, no_host_fault as no_host_fault_spec, libraries_fault as libraries_fault_spec};
 ghost use Rattle.ps_resolve.specs.AllFaults.{reading_fault};
+ghost use Rattle.ps_resolve.specs.OfLink.{AreOfLink};
 ghost use Rattle.ps_resolve.specs.Readings.{all_read, host_reading_fault, opened_host, own_reading_fault, queued_request as queued_request_spec, read_requests, read_rounds, read_segments, named_entry, slot_after, slot_entry, slot_fault, slot_reading, slot_request, wanted_request};
 ghost use Rattle.ps_resolve.specs.Views.{segment_of, IsRead, IsSound, is_in_slot};
 
@@ -478,8 +479,10 @@ impl<'a> Reading<'a> {
     /// fault.
     /// Source: this project's profile.
     pub fn segments(&self) -> &[Segment<'a>]
-        ensures { reading_fault self.now.host self.now.libs ≡ None → map segment_of result.now
+        ensures all { reading_fault self.now.host self.now.libs ≡ None → map segment_of result.now
             ≡ all_segments (order_of self.now.host) self.now.host self.now.libs }
+        ensures known { reading_fault self.now.host self.now.libs ≡ None
+            → AreOfLink self.now.host self.now.libs (map segment_of result.now) }
     {
         match &self.host {
             Err(_) => &[],

@@ -1,6 +1,8 @@
 ghost use Rattle.std.specs.Prelude.{◌≡◌, IfOk, IfErr, None, Ok, All, map};
 ghost use Rattle.ps_codefile.specs.Dictionary.{opened_alone};
 ghost use Rattle.ps_resolve.specs.Sources.{contents, opened};
+ghost use Rattle.ps_resolve.specs.LinkedBytes.{segments_of};
+ghost use Rattle.ps_resolve.specs.OfLink.{AreOfLink};
 ghost use Rattle.ps_resolve.specs.Plans.{IsPlan, IsStopped};
 ghost use Rattle.ps_resolve.specs.AllFaults.{first_fault};
 ghost use Rattle.ps_resolve.specs.Readings.{own_reading_fault, read_segments};
@@ -34,6 +36,8 @@ pub fn resolve<'a, A: Allocator + Copy>(
 ) -> Result<Plan<'a, A>, Stop>
     ensures plan { IfOk result (IsPlan host.now (contents libs.now)) }
     ensures sound { IfOk result (λ _. first_fault host.now (contents libs.now) ≡ None) }
+    ensures known { IfOk result (λ _. AreOfLink host.now (contents libs.now)
+        (segments_of host.now (contents libs.now))) }
     ensures stop { IfErr result (IsStopped host.now (contents libs.now)) }
 {
     match Dict::read(host) {
@@ -55,6 +59,8 @@ fn link_opened<'a, A: Allocator + Copy>(
     requires { Ok dict ≡ opened_alone host.now }
     ensures plan { IfOk result (IsPlan host.now (contents libs.now)) }
     ensures sound { IfOk result (λ _. first_fault host.now (contents libs.now) ≡ None) }
+    ensures known { IfOk result (λ _. AreOfLink host.now (contents libs.now)
+        (segments_of host.now (contents libs.now))) }
     ensures stop { IfErr result (IsStopped host.now (contents libs.now)) }
 {
     let slots = HostSlots::of(dict);
@@ -84,6 +90,8 @@ fn link_units<'a, A: Allocator + Copy>(
         ≡ None }
     ensures plan { IfOk result (IsPlan host.now (contents libs.now)) }
     ensures sound { IfOk result (λ _. first_fault host.now (contents libs.now) ≡ None) }
+    ensures known { IfOk result (λ _. AreOfLink host.now (contents libs.now)
+        (segments_of host.now (contents libs.now))) }
     ensures stop { IfErr result (IsStopped host.now (contents libs.now)) }
 {
     if let Some(fault) = add_to(slots, libs, segments).fault {

@@ -13,10 +13,12 @@ use Rattle.ps_resolve.specs.Added.{added_fault, segments, slot_names}
 use Rattle.ps_resolve.specs.Views.{SegmentView, segment_of}
 use Rattle.ps_resolve.specs.Faults.{linking_fault, slots_fault, no_host_fault, libraries_fault, sources_fault}
 use Rattle.ps_resolve.specs.AllFaults.{first_fault, reading_fault, reading_rest}
+use Rattle.ps_resolve.specs.OfLink.{AreOfLink}
 use Rattle.ps_resolve.specs.Plans.{AreStopped, IsPlanOf, IsStopped}
 use Rattle.ps_resolve.specs.Readings.{host_reading_fault, own_reading_fault, read_rounds}
 use Rattle.ps_resolve.proofs.FirstFaults.{first_read, first_linked, stopped}
 use Rattle.ps_resolve.proofs.FirstSlots.{neither_first, neither_second}
+use Rattle.ps_resolve.proofs.OfLink.{of_link}
 use Rattle.ps_resolve.proofs.ReadingHosts.{host_is, host_read, rest_of}
 use Rattle.ps_resolve.proofs.ReadingKnown.{ascend, host_there, one_host}
 use Rattle.ps_resolve.proofs.ReadingSlots.{reading_is, segments_are, units_last}
@@ -117,6 +119,7 @@ returns-in-Some-host_of g c =
       plan = subst (λ (o : Order). IfOk c.link_segments.result (IsPlanOf o host all)) order_is
           (subst (λ (segs : List Segment). IfOk c.link_segments.result (IsPlanOf order host segs)) given_is c.link_segments.ensures.plan);
       sound = IfOk-weaker c.link_segments.result (λ _. linking_fault order given ≡ None) (λ _. first_fault host libs ≡ None) (λ _ h. first_linked host libs none ∙ sym same ∙ h) c.link_segments.ensures.sound;
+      known = IfOk-weaker c.link_segments.result (λ _. linking_fault order given ≡ None) (λ _. AreOfLink host libs all) (λ _ h. of_link host libs none) c.link_segments.ensures.sound;
       stop = IfErr-weaker c.link_segments.result (AreStopped order given) (IsStopped host libs)
           (λ stop d. stopped host libs none stop (subst (λ (o : Order). AreStopped o all stop) order_is (subst (λ (segs : List Segment). AreStopped order segs stop) given_is d))) c.link_segments.ensures.stop;
     }

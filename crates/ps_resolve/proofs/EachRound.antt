@@ -1,11 +1,10 @@
 -- The rounds in which units are added: what holds of all of them, where it goes from each to the one
 -- before.
-use Rattle.std.proofs.Common.{◌≡◌, ℕ, ◌+◌, List, [], ◌∷◌, ◌++◌, length, Option, Some, None, Result, Ok, Err, Bool, true, false, refl, sym, ap, subst, ◌∙◌, arith, append_assoc, append-nil, is_none, take}
-use Rattle.std.specs.Prelude.{if◌then◌else◌, not}
+use Rattle.std.proofs.Common.{◌≡◌, ℕ, ◌+◌, List, [], ◌∷◌, ◌++◌, length, Option, Some, None, Result, Ok, Err, Bool, true, false, refl, sym, ap, subst, ◌∙◌, arith, append_assoc, append-nil, is_none, is_some, take}
+use Rattle.std.specs.Prelude.{if◌then◌else◌}
 use Rattle.std.specs.List.{enumerate_from, slice_get, find}
 use Rattle.std.specs.Option.{option_map, option_or, option_and_then}
 use Rattle.std.proofs.lemmas.Bool.{false≢true, or_parts}
-use Rattle.std.proofs.lemmas.Grind.{flat_map-append}
 use Rattle.ps_codefile.specs.Dictionary.{slots, is_nameless, entry_at, code_of}
 use Rattle.ps_codefile.specs.declared.entry.Role.{Role}
 use Rattle.ps_codefile.specs.declared.entry.Role.TheVariants as role
@@ -15,11 +14,10 @@ use Rattle.ps_resolve.specs.Requests.{missing_at}
 use Rattle.ps_resolve.specs.Sources.{Segment, is_named, has_entry, chosen_library, unit_source, file_at, segment_from, own_segments, units_of}
 use Rattle.ps_resolve.specs.declared.reading.added.UnitReference.{UnitReference}
 use Rattle.ps_resolve.specs.declared.reading.request.Request.{Request}
-use Rattle.ps_resolve.proofs.Adding.{requested-append}
-use Rattle.ps_resolve.proofs.FirstSlots.{neither_first, neither_second}
-use Rattle.ps_laws.proofs.Definitions.{longer, take_prefix}
-use Rattle.ps_laws.proofs.Items.{find_passes, first_right}
-use Rattle.ps_laws.proofs.Looking.{none_of_items}
+use Rattle.ps_resolve.proofs.Adding.{no_name_left, references_both, requested-append, round_adds, round_refused}
+use Rattle.ps_resolve.proofs.FirstSlots.{any_found, neither_first, neither_second}
+use Rattle.ps_resolve.proofs.Items.{find_passes, first_right}
+use Rattle.ps_resolve.proofs.LookingBack.{longer, take_prefix}
 use Rattle.ps_words.specs.declared.order.Order.{Order}
 use Rattle.ps_words.specs.declared.fault.Reason.{Reason}
 use Rattle.ps_words.specs.declared.fault.Fault.{Fault}
@@ -40,8 +38,8 @@ unit_found order name libs n = go (chosen_library order name libs) refl n
         inner (Some i) is_it n = absurd (cc)
         inner None is_it n =
             let a : has_entry order name lib.1 ≡ true = find_passes (λ (l : ℕ × List ℕ). has_entry order name l.1) (enumerate_from 0 libs) lib is in
-            let b = none_of_items (is_named order name lib.1) slots in
-            absurd (false≢true (sym (ap not a) ∙ (sym b ∙ ap is_none is_it)))
+            let b : has_entry order name lib.1 ≡ false = any_found (is_named order name lib.1) slots ∙ ap is_some is_it in
+            absurd (false≢true (sym b ∙ a))
 
 -- a request is not missing, and neither the library's entries nor the code of its unit have a fault
 abbrev pub IsFine : Order → List ℕ → List (List ℕ) → Request → Type 0
@@ -174,7 +172,7 @@ module _ (order : Order) (host : List ℕ) (libs : List (List ℕ)) where
         at_segment later g e p (Some s) a =
             let next = requested_from (own_units order host libs) queue (references_of s) in
             let rest = rest_of order host libs left (k + 1) next in
-            let goes_on : rest_of order host libs (slot ∷ left) k queue ≡ after s rest = rw (e, rounds_from) (rw (p, rounds_from) (rw (a, rounds_from) refl)) in
+            let goes_on : rest_of order host libs (slot ∷ left) k queue ≡ after s rest = round_adds order host libs (own_units order host libs) k queue slot left g s e p a in
             let all : added_segments order host libs ≡ prefix ++ s ∷ rest.added = is ∙ ap (λ (r : RoundsOutcome). prefix ++ r.added) goes_on in
             subst (P k) (sym goes_on)
             (goes prefix k g slot s rest (turn g e (s ∷ rest.added) all) p a
@@ -183,13 +181,13 @@ module _ (order : Order) (host : List ℕ) (libs : List (List ℕ)) where
         at_fault : Later → (g : UnitReference) → slice_get queue k ≡ Some g → (o : Option Fault) → placed_fault order host libs g slot ≡ o
             → P k (rest_of order host libs (slot ∷ left) k queue)
         at_fault later g e (Some f) p =
-            let ends : rest_of order host libs (slot ∷ left) k queue ≡ record { added = []; fault = Some f } = rw (e, rounds_from) (rw (p, rounds_from) refl) in
+            let ends : rest_of order host libs (slot ∷ left) k queue ≡ record { added = []; fault = Some f } = round_refused order host libs (own_units order host libs) k queue slot left g f e p in
             subst (P k) (sym ends) (stops prefix k g (Some slot) f (turn g e [] (is ∙ ap (λ (r : RoundsOutcome). prefix ++ r.added) ends)) p)
         at_fault later g e None p = at_segment later g e p (added_segment order host libs g slot) refl
 
         at_name : Later → (o : Option UnitReference) → slice_get queue k ≡ o → P k (rest_of order host libs (slot ∷ left) k queue)
         at_name later None e =
-            let ends : rest_of order host libs (slot ∷ left) k queue ≡ record { added = []; fault = None } = rw (e, rounds_from) refl in
+            let ends : rest_of order host libs (slot ∷ left) k queue ≡ record { added = []; fault = None } = no_name_left order host libs (own_units order host libs) k queue (slot ∷ left) e in
             subst (P k) (sym ends) (none prefix k (is ∙ ap (λ (r : RoundsOutcome). prefix ++ r.added) ends ∙ append-nil prefix) h.many (rw h.queue_is e))
         at_name later (Some g) e = at_fault later g e (placed_fault order host libs g slot) refl
 
