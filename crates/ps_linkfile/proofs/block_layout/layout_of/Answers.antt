@@ -14,6 +14,14 @@ overflow_cast-blocks c =
     let (count, block) = laid_next (map extent_of_source ss) i _ _ _ (extent_of_source (get_or ss i no_source)) (view_at extent_of_source ss i no_source c.loop-source-test.true) c.loop-source.invariant.1 in
     omega (arith, block)
 
+pub overflow_add-blocks : goal.overflow_add-blocks
+overflow_add-blocks c =
+    let ss = c.args.sources.now in
+    let i = c.loop-source.source-index in
+    let (count, block) = laid_next (map extent_of_source ss) i _ _ _ (extent_of_source (get_or ss i no_source)) (view_at extent_of_source ss i no_source c.loop-source-test.true) c.loop-source.invariant.1 in
+    let size = size_at ss i c.requires.sizes c.loop-source-test.true in
+    omega (arith, block, size, c.blocks_of-blocks.ensures)
+
 pub push-requires : goal.push-requires
 push-requires c =
     let ss = c.args.sources.now in
