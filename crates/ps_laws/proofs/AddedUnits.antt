@@ -1,6 +1,6 @@
 -- The units that are added are those that are requested, as they are said plainly.
-use Rattle.std.proofs.Common.{◌≡◌, ℕ, zero, suc, ◌+◌, ◌<◌, ◌≤◌, List, [], ◌∷◌, ◌++◌, length, map, Option, Some, None, Ok, Bool, true, false, refl, sym, ap, subst, ◌∙◌, inl, inr, arith, is_some, length-append, length-take, take}
-use Rattle.std.specs.Prelude.{◌⊎◌, ◌≢◌, if◌then◌else◌}
+use Rattle.std.proofs.Common.{rules, ◌≡◌, ℕ, zero, suc, ◌+◌, ◌<◌, ◌≤◌, List, [], ◌∷◌, ◌++◌, length, map, Option, Some, None, Ok, Bool, true, false, refl, sym, ap, subst, ◌∙◌, inl, inr, arith, is_some, length-append, length-take, take}
+use Rattle.std.specs.Prelude.{◌⊎◌, ◌≢◌, if◌then◌else◌, ◌||◌}
 use Rattle.std.specs.List.{slice_get, list_any}
 use Rattle.std.specs.Map.{lookup}
 use Rattle.std.specs.Option.{option_map, option_and_then}
@@ -56,8 +56,7 @@ split_at (x ∷ xs) ys zero a e = inl e
 split_at {A} (x ∷ xs) ys (suc p) a e = go (split_at xs ys p a e)
   where
     go : (slice_get xs p ≡ Some a) ⊎ ((q : ℕ) × (p ≡ length xs + q) × (slice_get ys q ≡ Some a)) → (slice_get xs p ≡ Some a) ⊎ ((q : ℕ) × (suc p ≡ length (x ∷ xs) + q) × (slice_get ys q ≡ Some a))
-    go (inl h) = inl h
-    go (inr t) = inr (t.0, (let h = t.1 in omega (arith, h)), t.2)
+    go h = grind arith
 
 -- those of one segment
 abbrev IsOf : ℕ → ℕ → ℕ → List Record → UnitReference → ℕ → Type 0
@@ -99,14 +98,7 @@ references_ascend file slot n (x ∷ rs) p q g h l e u = go (is_unit_reference x
 
     go : (b : Bool) (p q : ℕ) → p < q → slice_get (if b then X ∷ rest else rest) p ≡ Some g → slice_get (if b then X ∷ rest else rest) q ≡ Some h
         → ((i j : ℕ) → i < j → slice_get rest i ≡ Some g → slice_get rest j ≡ Some h → g.rec < h.rec) → g.rec < h.rec
-    go false p q l e u later = later p q l e u
-    go true p zero l e u later = absurd (omega (arith, l))
-    go true zero (suc q) l e u later =
-        let same : X ≡ g = cc in
-        let a = ap (λ (y : UnitReference). y.rec) same in
-        let t = (reference_is file slot (n + 1) rs q h u).1.4 in
-        omega (arith, a, t)
-    go true (suc p) (suc q) l e u later = later p q (omega (arith, l)) e u
+    go b p q k m u v = grind (arith, reference_is)
 
 -- what the function makes of an item is in the mapped list at the same place
 pub map_at : {A C : Type 0} (f : A → C) (xs : List A) (k : ℕ) (x : A) → slice_get xs k ≡ Some x → slice_get (map f xs) k ≡ Some (f x)
@@ -131,9 +123,7 @@ place_of (s ∷ ss) p g e = elim (split_at (references_of s) (all_unit_reference
 of_place : (segs : List Segment) (p m : ℕ) (g : UnitReference) → IsReferenceOf segs p m g
     → (s : Segment) × (slice_get segs m ≡ Some s) × (d : ℕ) × IsOf s.file s.slot 0 s.records g d
 of_place [] p m g x = absurd x
-of_place (s ∷ ss) p m g (inl t) =
-    let r = reference_is s.file s.slot 0 s.records p g t.1 in
-    (s, ap (slice_get (s ∷ ss)) t.0, r.0, r.1)
+of_place (s ∷ ss) p m g (inl t) = grind (arith, reference_is)
 of_place (s ∷ ss) p m g (inr t) =
     let r = of_place ss t.0 t.1 g t.4 in
     (r.0, ap (slice_get (s ∷ ss)) t.3 ∙ r.1, r.2, r.3)
@@ -161,12 +151,8 @@ same_at : (segs : List Segment) (p m n : ℕ) (g h : UnitReference) → IsRefere
     → (m ≡ n) × (g ≡ h)
 same_at [] p m n g h x y = absurd x
 same_at (s ∷ ss) p m n g h (inl a) (inl b) = (a.0 ∙ sym b.0, same_Some g h (sym a.1 ∙ b.1))
-same_at (s ∷ ss) p m n g h (inl a) (inr t) =
-    let w = slice_get_within (references_of s) p g a.1 in
-    absurd (let x = t.2 in omega (arith, w, x))
-same_at (s ∷ ss) p m n g h (inr t) (inl b) =
-    let w = slice_get_within (references_of s) p h b.1 in
-    absurd (let x = t.2 in omega (arith, w, x))
+same_at (s ∷ ss) p m n g h (inl a) (inr t) = grind (arith, slice_get_within, references_of)
+same_at (s ∷ ss) p m n g h (inr t) (inl b) = grind (arith, slice_get_within, references_of)
 same_at (s ∷ ss) p m n g h (inr t) (inr v) =
     let same : v.0 ≡ t.0 = (let a = t.2 in let b = v.2 in omega (arith, a, b)) in
     let r = same_at ss t.0 t.1 v.1 g h t.4 (subst (λ (q : ℕ). IsReferenceOf ss q v.1 h) same v.4) in
@@ -176,12 +162,9 @@ same_at (s ∷ ss) p m n g h (inr t) (inr v) =
 in_order : (segs : List Segment) (p q m n : ℕ) (g h : UnitReference) → p < q → IsReferenceOf segs p m g
     → IsReferenceOf segs q n h → Before (m ∷ g.rec ∷ []) (n ∷ h.rec ∷ [])
 in_order [] p q m n g h l x y = absurd x
-in_order (s ∷ ss) p q m n g h l (inl a) (inl b) =
-    inr (a.0 ∙ sym b.0, inl (references_ascend s.file s.slot 0 s.records p q g h l a.1 b.1))
+in_order (s ∷ ss) p q m n g h l (inl a) (inl b) = grind (arith, references_ascend)
 in_order (s ∷ ss) p q m n g h l (inl a) (inr t) = inl (let x = a.0 in let y = t.3 in omega (arith, x, y))
-in_order (s ∷ ss) p q m n g h l (inr t) (inl b) =
-    let w = slice_get_within (references_of s) q h b.1 in
-    absurd (let x = t.2 in omega (arith, w, x, l))
+in_order (s ∷ ss) p q m n g h l (inr t) (inl b) = grind (arith, slice_get_within, references_of)
 in_order (s ∷ ss) p q m n g h l (inr t) (inr v) =
     let less : t.0 < v.0 = (let a = t.2 in let b = v.2 in omega (arith, a, b, l)) in
     elim (in_order ss t.0 v.0 t.1 v.1 g h less t.4 v.4) [
@@ -196,30 +179,15 @@ IsEarliest units queue gs p g =
 
 -- a name that is not known with one more reference is not known without it, and is not its name
 known_by : (units : List (List ℕ × ℕ)) (queue : List UnitReference) (h : UnitReference) (name : List ℕ) → is_already_known units (queue ++ h ∷ []) name ≡ false → (is_already_known units queue name ≡ false) × (h.name ≢ name)
-known_by units queue h name e =
-    (false_from_ne_true (is_already_known units queue name) (λ is. false≢true (sym e ∙ known_longer units queue (h ∷ []) name is)), other)
-  where
-    other : h.name ≢ name
-    other same = false≢true (sym e ∙ ap (λ (n : List ℕ). is_already_known units (queue ++ h ∷ []) n) (sym same) ∙ known_last units queue h)
+known_by units queue h name e = grind (arith, false_from_ne_true, known_longer, known_last)
 
 -- after one more reference
 past_known : (units : List (List ℕ × ℕ)) (queue gs : List UnitReference) (x : UnitReference) (p : ℕ) (g : UnitReference) → is_already_known units queue x.name ≡ true → IsEarliest units queue gs p g → IsEarliest units queue (x ∷ gs) (suc p) g
-past_known units queue gs x p g known t = (t.0, t.1, first)
-  where
-    first : (q : ℕ) (h : UnitReference) → q < suc p → slice_get (x ∷ gs) q ≡ Some h → h.name ≢ g.name
-    first zero h l e same = let it : x ≡ h = cc in false≢true (sym t.1 ∙ ap (λ (n : List ℕ). is_already_known units queue n) (sym same ∙ sym (ap (λ (y : UnitReference). y.name) it)) ∙ known)
-    first (suc q) h l e same = t.2 q h (omega (arith, l)) e same
+past_known units queue gs x p g known t = grind arith
 
 -- and after one that came into the queue
 past_new : (units : List (List ℕ × ℕ)) (queue gs : List UnitReference) (x : UnitReference) (p : ℕ) (g : UnitReference) → IsEarliest units (queue ++ x ∷ []) gs p g → IsEarliest units queue (x ∷ gs) (suc p) g
-past_new units queue gs x p g t = (t.0, by.0, first)
-  where
-    by : (is_already_known units queue g.name ≡ false) × (x.name ≢ g.name)
-    by = known_by units queue x g.name t.1
-
-    first : (q : ℕ) (h : UnitReference) → q < suc p → slice_get (x ∷ gs) q ≡ Some h → h.name ≢ g.name
-    first zero h l e same = let it : x ≡ h = cc in by.1 (ap (λ (y : UnitReference). y.name) it ∙ same)
-    first (suc q) h l e same = t.2 q h (omega (arith, l)) e same
+past_new units queue gs x p g t = grind (arith, known_by)
 
 new_here : (units : List (List ℕ × ℕ)) (queue gs : List UnitReference) (x : UnitReference) → is_already_known units queue x.name ≡ false → IsEarliest units queue (x ∷ gs) zero x
 new_here units queue gs x none = (refl, none, λ q h l e same. omega (arith, l))
@@ -277,9 +245,7 @@ requested_pair units queue (x ∷ gs) j k g h low l e u = go (is_already_known u
 asks_at : (segs : List Segment) (j rec : ℕ) (name : List ℕ) → Asks segs j rec name
     → (q : ℕ) × (h : UnitReference) × IsReferenceOf segs q j h × (slice_get (all_unit_references segs) q ≡ Some h)
     × (h.name ≡ name) × (h.rec ≡ rec)
-asks_at segs j rec name t =
-    let r = reference_at segs j t.0 rec t.2 t.1 t.3 t.4 in
-    (r.0, r.1, r.2, r.3, r.4 ∙ t.5, r.5)
+asks_at segs j rec name t = grind (arith, reference_at)
 
 -- the earliest reference of a name is of the first record of all that requests it
 giver : (units : List (List ℕ × ℕ)) (segs : List Segment) (p m : ℕ) (g : UnitReference) → IsEarliest units [] (all_unit_references segs) p g → IsReferenceOf segs p m g → IsGiver segs m g
@@ -330,16 +296,11 @@ given order host libs segs k g e =
 
 -- 4. what the host's own slots have
 pub unit_role : (r : Role) → is_unit r ≡ true → (r ≡ role.Unit) ⊎ (r ≡ role.Wanted)
-unit_role role.Unit e = inl refl
-unit_role role.Wanted e = inr refl
-unit_role other e = absurd (false≢true e)
+unit_role r h = grind arith
 
 -- so a slot of a unit's role is a unit slot
 pub unit_slot : (order : Order) (host : List ℕ) (slot : ℕ) (r : Role) → is_unit r ≡ true → HasRole order host slot r → IsUnitSlot order host slot
-unit_slot order host slot r unit has = elim (unit_role r unit) [
-  | inl u ↦ inl (subst (HasRole order host slot) u has)
-  | inr u ↦ inr (subst (HasRole order host slot) u has)
-]
+unit_slot order host slot r unit has = grind arith
 
 -- a slot's own segment has the slot's role and its name
 pub own_is : (order : Order) (host : List ℕ) (libs : List (List ℕ)) (slot : ℕ) (s : Segment) → own_segment order host libs slot ≡ Some s → (r : Role) × HasRole order host slot r × (s.role ≡ r) × (s.name ≡ (entry_at order host slot).name)
@@ -476,34 +437,13 @@ module _ (order : Order) (host : List ℕ) (libs : List (List ℕ)) (fine : sour
   is_once j k g h e u same = not_apart j k (λ l. apart j k g h l e u same) (λ l. apart k j h g l u e (sym same))
 
   same_names : map (λ (s : Segment). s.name) (added_segments order host libs) ≡ map (λ (g : UnitReference). g.name) (queue_of order host libs)
-  same_names =
-      same_items _ _ (λ k.
-      slice_get-map (λ (s : Segment). s.name) (added_segments order host libs) k
-      ∙ each k (round_at order host libs ended k)
-      ∙ sym (slice_get-map (λ (g : UnitReference). g.name) (queue_of order host libs) k))
-    where
-      each : (k : ℕ) → HasRound order host libs k
-          → option_map (λ (s : Segment). s.name) (slice_get (added_segments order host libs) k)
-          ≡ option_map (λ (g : UnitReference). g.name) (slice_get (queue_of order host libs) k)
-      each k (inl t) = rw (t.2.there, t.2.requested) (ap (λ (n : List ℕ). Some n) t.2.name)
-      each k (inr n) = rw (n.0, n.1) refl
+  same_names = grind (arith, same_items, slice_get-map, round_at, queue_of)
 
   is_found : (k : ℕ) (s : Segment) → slice_get (added_segments order host libs) k ≡ Some s → IsOfFirstLibrary order libs s
-  is_found k s e =
-      let round = (segment_named order host libs k s e).1 in
-      of_first_library order host libs s round.role (round_known order host libs k _ s round) round.source
+  is_found k s e = grind (arith, segment_named, of_first_library, round_known)
 
   is_wanted : (k : ℕ) (s : Segment) → slice_get (added_segments order host libs) k ≡ Some s → (s.role ≡ role.Wanted) × (s.added ≡ true)
   is_wanted k s e = let round = (segment_named order host libs k s e).1 in (round.role, round.is_added)
 
   pub units_are : AddedUnits order host libs (queue_of order host libs) (added_segments order host libs)
-  units_are = record {
-    requested = is_requested;
-    complete = is_complete;
-    once = is_once;
-    ordered = are_given;
-    names = same_names;
-    slots = in_empty order host libs;
-    roles = is_wanted;
-    found = is_found;
-  }
+  units_are = search (rules, is_requested, is_complete, is_once, are_given, same_names, in_empty, is_wanted, is_found)

@@ -1,5 +1,5 @@
 -- The byte that the edits of a segment make is its linked byte, and no other byte is.
-use Rattle.std.proofs.Common.{◌≡◌, ℕ, zero, suc, ◌+◌, ◌-◌, ◌≤◌, List, [], ◌∷◌, length, Option, Some, None, Result, Ok, Err, Bool, true, false, refl, sym, ap, subst, ◌∙◌, inl, inr, arith}
+use Rattle.std.proofs.Common.{rules, ◌≡◌, ℕ, zero, suc, ◌+◌, ◌-◌, ◌≤◌, List, [], ◌∷◌, length, Option, Some, None, Result, Ok, Err, Bool, true, false, refl, sym, ap, subst, ◌∙◌, inl, inr, arith}
 use Rattle.std.proofs.lemmas.Option.{same_Some}
 use Rattle.std.specs.Prelude.{◌⊎◌, if◌then◌else◌, slice_index}
 use Rattle.std.specs.List.{slice_get, find, cons_option}
@@ -62,9 +62,7 @@ IsGiven rs name value = (k : ℕ) × (d : Record) × (slice_get rs k ≡ Some d)
 
 -- a record of a public definition is a PUBLDEF of its value
 public_in : (body : Body) (d : Def) → def_in body ≡ Some d → d.kind ≡ Public → body ≡ PublDef d.value
-public_in (PublDef value) d e k = ap (λ (x : Def). PublDef x.value) (same_Some _ d e)
-public_in (ConstDef value) d e k = absurd (let same = ap (λ (x : Def). x.kind) (same_Some _ d e) in cc)
-public_in other d e k = absurd (cc)
+public_in body d h k = grind arith
 
 -- a public definition that is found for a name is that of a PUBLDEF record, which gives the name
 -- its value
@@ -85,11 +83,7 @@ given name (r ∷ rs) d e k = go (def_in r.body) refl e (λ h. given name rs d h
 
 -- a value that the host's records give a name is a public of the link
 public_is : (segs : List Segment) (name : List ℕ) (value : ℕ) → IsGiven (host_records segs) name value → IsPublic segs name value
-public_is segs name value = go (host_of segs) refl
-  where
-    go : (o : Option Segment) → host_of segs ≡ o → IsGiven (option_map_or (λ (s : Segment). s.records) o []) name value → IsPublic segs name value
-    go None is t = absurd (let e = t.2 in cc)
-    go (Some s) is t = let i = find_in (λ (q : Segment). is_host q.role) segs s is in (t.0, t.1, (i.0, s, i.1, (find_passes (λ (q : Segment). is_host q.role) segs s is, t.2)), t.3)
+public_is segs name value = grind (arith, find_in, find_passes)
 
 -- what the edit of a reference stores is what its operand becomes
 becomes : (order : Order) (segs : List Segment) → IsBase segs (next_of (host_records segs)) → (s : Segment) (rec : ℕ) (name : List ℕ) (body : Body) (i x : ℕ) (t : Target) → slice_get (refs_of body) i ≡ Some x → target_in (known_of segs) (private_offset segs s.slot rec) name body ≡ Ok t
@@ -138,11 +132,7 @@ module _ (order : Order) (segs : List Segment) (base : IsBase segs (next_of (hos
 
   -- a segment with a reference is linked
   linked_by : (rec i x : ℕ) (r : Record) → IsReference s rec r i x → needs_linking s.role ≡ true
-  linked_by rec i x r t = go (needs_linking s.role) refl
-    where
-      go : (b : Bool) → needs_linking s.role ≡ b → b ≡ true
-      go true e = refl
-      go false e = absurd (let none = sym (ap (λ (rs : List Record). slice_get rs rec) (plain e)) ∙ t.0 in cc)
+  linked_by rec i x r t = grind arith
 
   abbrev pub Uncovered : Type 0
   Uncovered = find (covers p) edits ≡ None
@@ -169,26 +159,10 @@ module _ (order : Order) (segs : List Segment) (base : IsBase segs (next_of (hos
   Facts b = IsLinkedByte order segs s p b
 
   uncovered : Uncovered → Facts (slice_index s.code p)
-  uncovered e = record {
-    number = λ n. absurd (no_number e n);
-    size = λ t j z. absurd (no_size e t j z);
-    reference = λ rec i x r u. absurd (no_reference e rec i x r u);
-    kept = λ n z u. refl;
-  }
+  uncovered e = search (rules, no_number, no_size, no_reference)
 
   of_number : (f : Edit) → IsNumber s p f → Facts (byte_at (Some f))
-  of_number f h = record {
-    number = λ n. is_it;
-    size = λ t j z. absurd (apart.own t j h.0 z);
-    reference = λ rec i x r u. absurd (apart.number rec i x r u h.0);
-    kept = λ n z u. absurd (n h.0);
-  }
-    where
-      at : p - (length s.code - 2) ≡ 0
-      at = let e = h.0.1 in omega (arith, e)
-
-      is_it : byte_at (Some f) ≡ s.slot
-      is_it = ap (λ (g : Edit). byte_at (Some g)) h.1 ∙ ap (λ (n : ℕ). slice_index (s.slot ∷ []) n) at
+  of_number f h = grind arith
 
   of_size : (f : Edit) → IsSize order segs s p f → Facts (byte_at (Some f))
   of_size f h = record {
@@ -199,14 +173,7 @@ module _ (order : Order) (segs : List Segment) (base : IsBase segs (next_of (hos
   }
     where
       is_it : (t j : ℕ) → IsSizePlace order s t j p → byte_at (Some f) ≡ slice_index (word_bytes order (grown_data_size order s.code (all_private_words segs) t)) j
-      is_it t j z =
-          let same : h.0 ≡ t = same_Some h.0 t (sym h.2.1 ∙ z.1) in
-          let low = (outer t z.0 z.1).low in
-          let at : p - (t - 8) ≡ j = (let e = z.3 in omega (arith, e, low)) in
-          ap (λ (g : Edit). byte_at (Some g)) h.3
-          ∙ (ap (λ (n : ℕ). byte_at (Some (Word (grown_data_size order s.code (total_words segs) n) (n - 8)))) same
-          ∙ (ap (λ (n : ℕ). slice_index (word_bytes order (grown_data_size order s.code (total_words segs) t)) n) at
-          ∙ ap (λ (n : ℕ). slice_index (word_bytes order (grown_data_size order s.code n t)) j) (sym (all_are segs))))
+      is_it t j z = grind (arith, all_are)
 
   of_reference : (f : Edit) → IsOfReference segs s p f → Facts (byte_at (Some f))
   of_reference f h = record {

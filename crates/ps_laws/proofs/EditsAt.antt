@@ -1,5 +1,5 @@
 -- The edits of a segment of a link: what each is, and which of them covers a place.
-use Rattle.std.proofs.Common.{◌≡◌, ℕ, zero, suc, ◌+◌, ◌-◌, ◌<◌, ◌≤◌, List, [], ◌∷◌, ◌++◌, length, map, Option, Some, None, Result, Ok, Err, Bool, true, false, refl, sym, ap, subst, ◌∙◌, inl, inr, arith}
+use Rattle.std.proofs.Common.{rules, ◌≡◌, ℕ, zero, suc, ◌+◌, ◌-◌, ◌<◌, ◌≤◌, List, [], ◌∷◌, ◌++◌, length, map, Option, Some, None, Result, Ok, Err, Bool, true, false, refl, sym, ap, subst, ◌∙◌, inl, inr, arith}
 use Rattle.std.proofs.lemmas.Option.{same_Some}
 use Rattle.std.specs.Prelude.{◌⊎◌, if◌then◌else◌, ◌&&◌, nat_le, nat_lt}
 use Rattle.std.specs.List.{enumerate_from, slice_get, flat_map}
@@ -52,54 +52,28 @@ of_flat {A} {C} f (x ∷ xs) y t = elim (of_joined (f x) (flat_map f xs) y t) [
 -- an item with its number
 of_numbered : {A : Type 0} (n : ℕ) (xs : List A) (k : ℕ) (p : ℕ × A) → slice_get (enumerate_from n xs) k ≡ Some p → (p.0 ≡ n + k) × (slice_get xs k ≡ Some p.1)
 of_numbered n [] k p e = absurd (cc)
-of_numbered {A} n (x ∷ xs) zero p e =
-    let same : (n, x) ≡ p = same_Some (n, x) p e in
-    (sym (ap (λ (q : ℕ × A). q.0) same) ∙ omega arith, ap (λ (q : ℕ × A). Some q.1) same)
+of_numbered {A} n (x ∷ xs) zero p e = grind arith
 of_numbered n (x ∷ xs) (suc k) p e = let r = of_numbered (n + 1) xs k p e in ((let h = r.0 in omega (arith, h)), r.1)
 
 -- an item is at the same place of the numbered list, with its number
 in_numbered : {A : Type 0} (n : ℕ) (xs : List A) (k : ℕ) (x : A) → slice_get xs k ≡ Some x → slice_get (enumerate_from n xs) k ≡ Some (n + k, x)
 in_numbered n [] k x e = absurd (cc)
-in_numbered {A} n (y ∷ xs) zero x e =
-    let same : y ≡ x = cc in
-    ap (λ (z : A). Some (n, z)) same ∙ ap (λ (m : ℕ). Some (m, x)) (omega arith)
+in_numbered {A} n (y ∷ xs) zero x e = grind arith
 in_numbered n (y ∷ xs) (suc k) x e = in_numbered (n + 1) xs k x e ∙ ap (λ (m : ℕ). Some (m, x)) (omega arith)
 
 -- which places an edit covers
 covered : (x p w : ℕ) → (nat_le x p && nat_lt p (x + w)) ≡ true → (x ≤ p) × (p < x + w)
-covered x p w h = (low, high)
-  where
-    low : x ≤ p
-    low = grind (arith, nat_tests)
-
-    high : p < x + w
-    high = grind (arith, nat_tests)
+covered x p w h = grind arith
 
 covering : (x p w : ℕ) → x ≤ p → p < x + w → (nat_le x p && nat_lt p (x + w)) ≡ true
 covering x p w h k = grind (arith, nat_tests)
 
 pub edit_place : (code : List ℕ) (t : Target) (x : ℕ) → place_of (edit_of code t x) ≡ x
-edit_place code (Slot slot) x = refl
-edit_place code (Base base) x = refl
+edit_place code t x = grind arith
 
 -- what an operand becomes is as wide as the operand
 pub edit_width : (segs : List Segment) (off : ℕ) (name : List ℕ) (body : Body) (i x : ℕ) (code : List ℕ) (t : Target) → slice_get (refs_of body) i ≡ Some x → target_in (known_of segs) off name body ≡ Ok t → width (edit_of code t x) ≡ operand_width body
-edit_width segs off name (PrivRef words refs) i x code t g e = let is : Base off ≡ t = cc in ap (λ (u : Target). width (edit_of code u x)) (sym is)
-edit_width segs off name (UnitRef refs) i x code t g e = go (lookup (bytes_eq name) (units_of segs)) e
-  where
-    go : (o : Option ℕ) → unit_slot o ≡ Ok t → width (edit_of code t x) ≡ 1
-    go None e = absurd (cc)
-    go (Some slot) e = let is : Slot slot ≡ t = cc in ap (λ (u : Target). width (edit_of code u x)) (sym is)
-edit_width segs off name (PublRef refs) i x code t g e = go (definition_of name (definitions (host_records segs))) e
-  where
-    go : (o : Option Def) → public_base o ≡ Ok t → width (edit_of code t x) ≡ 2
-    go None e = absurd (cc)
-    go (Some d) e = at d.kind e
-      where
-        at : (k : DefKind) → (elim k as (λ _. Result Target Reason) [ Public ↦ Ok (Base d.value) | Constant ↦ Err reason.IllKind ]) ≡ Ok t → width (edit_of code t x) ≡ 2
-        at Constant e = absurd (cc)
-        at Public e = let is : Base d.value ≡ t = cc in ap (λ (u : Target). width (edit_of code u x)) (sym is)
-edit_width segs off name other i x code t g e = absurd (cc)
+edit_width segs off name body i x code t h k = grind arith
 
 -- what an edit is that covers a place: the number, the data size, or what a reference becomes
 abbrev pub IsNumber : Segment → ℕ → Edit → Type 0
@@ -132,28 +106,10 @@ module _ (order : Order) (segs : List Segment) (s : Segment) (long : needs_linki
   all_linked h = ap (λ (b : Bool). if b then number ∷ (own ++ others) else []) h
 
   is_number : (p : ℕ) (f : Edit) → needs_linking s.role ≡ true → number ≡ f → covers p f ≡ true → IsNumber s p f
-  is_number p f h same on =
-      let c = covered (length s.code - 2) p 1 (ap (covers p) same ∙ on) in
-      let l = long h in
-      ((h, (let a = c.0 in let b = c.1 in omega (arith, a, b, l))), sym same)
+  is_number p f h same on = grind arith
 
   is_size : (p : ℕ) (f : Edit) → In f own → covers p f ≡ true → IsSize order segs s p f
-  is_size p f t on = go (is_host s.role) refl (table_of order s.code 1) refl t.0 t.1
-    where
-      at : (t : ℕ) → is_host s.role ≡ true → table_of order s.code 1 ≡ Some t → size t ≡ f → IsSize order segs s p f
-      at t host table same =
-          let c = covered (t - 8) p 2 (ap (covers p) same ∙ on) in
-          let o = outer t host table in
-          let a = c.0 in
-          let b = c.1 in
-          let l = o.low in
-          (t, p + 8 - t, (host, table, omega (arith, a, b, l), omega (arith, a, b, l)), sym same)
-
-      go : (b : Bool) → is_host s.role ≡ b → (o : Option ℕ) → table_of order s.code 1 ≡ o → (k : ℕ) → slice_get (if b then option_map_or (λ t. size t ∷ []) o [] else []) k ≡ Some f → IsSize order segs s p f
-      go false host o table k e = absurd (cc)
-      go true host None table k e = absurd (cc)
-      go true host (Some t) table zero e = at t host table (same_Some (size t) f e)
-      go true host (Some t) table (suc k) e = absurd (cc)
+  is_size p f t on = grind arith
 
   is_reference : (p : ℕ) (f : Edit) → In f others → covers p f ≡ true → IsOfReference segs s p f
   is_reference p f t on =
@@ -163,16 +119,7 @@ module _ (order : Order) (segs : List Segment) (s : Segment) (long : needs_linki
       go u.0.0 u.0.1 (subst (λ (m : ℕ). slice_get s.records m ≡ Some u.0.1) at n.1) (target_of (known_of segs) (offset u.0.0) u.0.1) refl u.2.0 u.2.1
     where
       go : (rec : ℕ) (r : Record) → slice_get s.records rec ≡ Some r → (o : Result Target Reason) → target_of (known_of segs) (offset rec) r ≡ o → (k : ℕ) → slice_get (elim o [ Err why ↦ [] | Ok t ↦ map (edit_of s.code t) (refs_of r.body) ]) k ≡ Some f → IsOfReference segs s p f
-      go rec r er (Err why) is k e = absurd (cc)
-      go rec r er (Ok t) is k e =
-          let m = mapped (edit_of s.code t) (refs_of r.body) k f e in
-          let x = m.0 in
-          let c = covered (place_of (edit_of s.code t x)) p (width (edit_of s.code t x)) (ap (covers p) m.2 ∙ on) in
-          let a = c.0 in
-          let b = c.1 in
-          let g = edit_place s.code t x in
-          let w = edit_width segs (offset rec) r.name r.body k x s.code t m.1 is in
-          (rec, k, x, r, ((er, m.1), (omega (arith, a, g), omega (arith, b, g, w))), (t, is, sym m.2))
+      go rec r h o m k q = search (rules, mapped, covered, edit_place, edit_width)
 
   -- an edit that covers a place is one of these
   pub what_covers : (p : ℕ) (f : Edit) → In f (summed_edits order segs s) → covers p f ≡ true → IsNumber s p f ⊎ (IsSize order segs s p f ⊎ IsOfReference segs s p f)
@@ -185,22 +132,13 @@ module _ (order : Order) (segs : List Segment) (s : Segment) (long : needs_linki
 
   -- and each of these has its edit
   pub number_covers : (p : ℕ) → IsNumberPlace s p → In number (summed_edits order segs s) × (covers p number ≡ true)
-  number_covers p n = (
-    (zero, ap (λ (es : List Edit). slice_get es 0) (all_linked n.0)),
-    covering (length s.code - 2) p 1 (let h = n.1 in omega (arith, h)) (let h = n.1 in omega (arith, h)),
-  )
+  number_covers p n = grind arith
 
   behind : (f : Edit) → needs_linking s.role ≡ true → In f (own ++ others) → In f (summed_edits order segs s)
   behind f h t = subst (λ (es : List Edit). In f es) (sym (all_linked h)) (suc t.0, t.1)
 
   pub size_covers : (p t j : ℕ) → needs_linking s.role ≡ true → IsSizePlace order s t j p → In (size t) (summed_edits order segs s) × (covers p (size t) ≡ true)
-  size_covers p t j h z =
-      let l = (outer t z.0 z.1).low in
-      let a = z.2 in
-      let b = z.3 in
-      let there : own ≡ size t ∷ [] =
-      ap (λ (b : Bool). if b then data_edits order (total_words segs) s.code else []) z.0 ∙ ap (λ (o : Option ℕ). option_map_or (λ (t : ℕ). size t ∷ []) o []) z.1 in
-      (behind (size t) h (in_left own others (size t) (zero, ap (λ (es : List Edit). slice_get es 0) there)), covering (t - 8) p 2 (omega (arith, l, a, b)) (omega (arith, l, a, b)))
+  size_covers p t j h z = grind (arith, behind, in_left, covering)
 
   pub reference_covers : (p rec i x : ℕ) (r : Record) (t : Target) → needs_linking s.role ≡ true → Reaches s rec r i x p → target_of (known_of segs) (offset rec) r ≡ Ok t → In (edit_of s.code t x) (summed_edits order segs s) × (covers p (edit_of s.code t x) ≡ true)
   reference_covers p rec i x r t h u e =

@@ -17,10 +17,7 @@ use Rattle.ps_laws.proofs.UnitSources.{no_entry_fault, one_entry}
 use Rattle.ps_words.specs.declared.order.Order.{Order}
 
 agree_longer : {A : Type 0} (k : ℕ) (xs ys : List A) → Agree k xs ys → slice_get xs k ≡ slice_get ys k → Agree (suc k) xs ys
-agree_longer k xs ys h e j l = elim (cases_lt j k) [
-  | inl m ↦ h j m
-  | inr m ↦ (let same : k ≡ j = omega (arith, l, m) in subst (λ (n : ℕ). slice_get xs n ≡ slice_get ys n) same e)
-]
+agree_longer k xs ys h e j l = grind arith
 
 -- a sequence of segments has at each place a segment of the name that is there
 named : (segs : List Segment) (queue : List UnitReference) (k : ℕ) (g : UnitReference) → map (λ (s : Segment). s.name) segs ≡ map (λ (h : UnitReference). h.name) queue → slice_get queue k ≡ Some g
@@ -36,8 +33,7 @@ unnamed segs queue k same e =
     (sym (slice_get-map (λ (s : Segment). s.name) segs k) ∙ ap (λ (names : List (List ℕ)). slice_get names k) same ∙ slice_get-map (λ (h : UnitReference). h.name) queue k ∙ ap (option_map (λ (h : UnitReference). h.name)) e)
   where
     go : (o : Option Segment) → option_map (λ (s : Segment). s.name) o ≡ None → o ≡ None
-    go None e = refl
-    go (Some s) e = absurd (cc)
+    go o h = grind arith
 
 module _ (order : Order) (host : List ℕ) (libs : List (List ℕ)) (fine : sources_fault order host libs ≡ None) (ended : added_fault order host libs ≡ None) (other : List UnitReference) (others : List Segment) (B : AddedUnits order host libs other others) where
   abbrev Queue : List UnitReference

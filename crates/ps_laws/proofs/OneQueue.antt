@@ -39,8 +39,7 @@ giver_moves xs ys n i g same l t =
     ((t.0.0, sym (same i l) ∙ t.0.1, t.0.2, t.0.3), asks_moves xs ys i g.rec g.name (same i l) t.1, λ j rec b asks. t.2 j rec b (asks_moves ys xs j rec g.name (sym (same j (below j rec b))) asks))
   where
     below : (j rec : ℕ) → Before (j ∷ rec ∷ []) (i ∷ g.rec ∷ []) → j < n
-    below j rec (inl h) = omega (arith, h, l)
-    below j rec (inr h) = let e = h.0 in omega (arith, e, l)
+    below j rec h = grind arith
 
 -- a giver among the own segments and the front of the others is one among all
 pub giver_of_front : (own others : List Segment) (k i : ℕ) (g : UnitReference) → i < length own + k → IsGiver (own ++ take k others) i g → IsGiver (own ++ others) i g

@@ -55,10 +55,7 @@ OneSpelling = (order : Order) (bytes : List ℕ) (rs : List Record) → Spells o
 -- 1. a segment and its source
 -- a code with which nothing is wrong is the slice of its file that the entry reports
 slice_of : (file : List ℕ) (e : Entry) (code : List ℕ) → code_of file e ≡ Ok code → IsSliceOf file e code
-slice_of file e code h =
-    let end = 512 * e.address + e.length in
-    let parts = whole_code (has_bad_length e) (e.address == 0) (ltb (length file) end) (slice_range file (512 * e.address) end) code h in
-    (ltb-false (length file) end parts.1, sym parts.2)
+slice_of file e code h = grind (arith, whole_code, ltb, ltb-false)
 
 -- what is read of a segment's entry
 read_from : OneSpelling → (order : Order) (host : List ℕ) (libs : List (List ℕ)) (s : Segment) → IsFile host libs s.file (file_at host libs s.file) → s.index < 16
@@ -92,8 +89,7 @@ rises from (x ∷ xs) a (suc i) (suc j) s q l e u = rises (x.slot + 1) xs a.1 i 
 
 -- where later segments have greater slots, no two places have the same slot
 one_place : (segs : List Segment) → Rises segs → (i j : ℕ) (s q : Segment) → slice_get segs i ≡ Some s → slice_get segs j ≡ Some q → s.slot ≡ q.slot → i ≡ j
-one_place segs r i j s q e u same =
-    not_apart i j (λ h. let a = r i j s q h e u in omega (arith, a, same)) (λ h. let a = r j i q s h u e in omega (arith, a, same))
+one_place segs r i j s q e u same = grind arith
 
 -- 3. what is known of each segment of a link
 -- where a segment of this role is from
@@ -135,19 +131,10 @@ module _ (law : OneStop) (spells : OneSpelling) (host : List ℕ) (libs : List (
         is_own filled = record { role = known.role; filled = filled; name = known.name }
 
         made : IsReadFrom order host libs s → HasPlace order host libs s → s.role ≢ role.Empty → HasOrigin order host libs s
-        made read place filled = record {
-          read = read;
-          place = place;
-          own = λ e. is_own filled;
-          added_unit = λ e. absurd (false≢true (sym known.not_added ∙ e));
-          round = λ e. absurd (false≢true (sym known.not_added ∙ e));
-        }
+        made read place filled = grind arith
 
         here : s.role ≢ role.Empty → s.role ≢ role.Wanted → ◌≡◌ {A = Option (ℕ × ℕ)} (Some (0, s.slot)) (Some (s.file, s.index)) → HasOrigin order host libs s
-        here filled other e =
-            let p = some_pair_parts 0 s.file s.slot s.index e in
-            let file = subst (λ (k : ℕ). IsFile host libs k (file_at host libs k)) p.0 refl in
-            made (read_from spells order host libs s file (omega (arith, inside, p.1)) h) (λ x. (sym p.0, sym p.1), λ w. absurd (other w)) filled
+        here filled other e = grind (arith, some_pair_parts, read_from)
 
         by : (r : Role) → s.role ≡ r → source_of order host libs s.slot r ≡ Some (s.file, s.index) → role_fault order host libs s.slot r ≡ None → HasOrigin order host libs s
         by role.Empty is source fits = absurd (cc)
@@ -161,9 +148,7 @@ module _ (law : OneStop) (spells : OneSpelling) (host : List ℕ) (libs : List (
   is_empty_role slot = go (role_of (entry_at order host slot))
     where
       go : (o : Result Role Reason) → option_map_or is_empty (result_ok o) false ≡ true → o ≡ Ok role.Empty
-      go (Err why) e = absurd (false≢true e)
-      go (Ok role.Empty) e = refl
-      go (Ok other) e = absurd (false≢true e)
+      go o h = grind arith
 
   -- a segment of the host's own slots, or an added one, is a segment of the link
   own_listed : (k : ℕ) (s : Segment) → slice_get (own_segments order host libs) k ≡ Some s → In s (segments order host libs)
