@@ -1,9 +1,8 @@
 -- What follows for a segment of a link from its file: its records end once, and in its code the
 -- number and the data size lie apart, at reserved places.
-use Rattle.std.proofs.Common.{◌≡◌, ℕ, zero, suc, ◌+◌, ◌-◌, ◌*◌, ◌<◌, ◌≤◌, List, length, Option, Some, None, Bool, true, false, refl, subst, inl, inr, arith}
+use Rattle.std.proofs.Common.{◌≡◌, ℕ, ◌+◌, ◌-◌, ◌*◌, ◌<◌, ◌≤◌, List, length, Option, Some, None, Bool, true, false, refl, subst, inl, inr, arith}
 use Rattle.std.specs.Prelude.{if◌then◌else◌, ◌==◌, nat_le, nat_lt, ◌&&◌, ◌||◌, not}
-use Rattle.std.specs.List.{list_any, range_with_len, filter_map}
-use Rattle.std.proofs.lemmas.Bool.{cases_lt, eqb-false, ltb-false, or_parts}
+use Rattle.std.proofs.lemmas.Bool.{cases_lt, eqb-false, ltb-false, or_parts, or_right}
 use Rattle.std.proofs.lemmas.Bool.Decides.{nat_tests}
 use Rattle.std.proofs.lemmas.Option.{same_Some}
 use Rattle.ps_codefile.specs.Dictionary.{entry_at, information_of}
@@ -15,7 +14,7 @@ use Rattle.ps_linkinfo.specs.Records.{EndsOnce, Spells}
 use Rattle.ps_linkinfo.proofs.Stands.{IsReadingOf, reading_is}
 use Rattle.ps_resolve.specs.OfLink.{IsOfFile}
 use Rattle.ps_resolve.specs.Sources.{Segment, file_at}
-use Rattle.ps_resolve.proofs.Requesting.{or_right}
+use Rattle.ps_resolve.proofs.Hosts.{some_table}
 use Rattle.ps_resolve.proofs.Own.{either_true}
 use Rattle.ps_words.specs.declared.order.Order.{Order}
 use Rattle.ps_words.specs.declared.fault.Reason.{Reason}
@@ -72,10 +71,6 @@ number_reserved order code p h = either_true _ _ _ (le (length code) (procedures
 
     lt : (n p : ℕ) → p + 2 ≡ n → nat_lt p n ≡ true
     lt n p h = grind (arith, nat_tests)
-
-some_table : (f : ℕ → Option ℕ) (q : ℕ → Bool) (n t : ℕ) → 1 ≤ n → f 1 ≡ Some t → q t ≡ true → list_any q (filter_map f (range_with_len 1 n)) ≡ true
-some_table f q zero t h k s = absurd (omega (arith, h))
-some_table f q (suc n) t h k s = rw k (rw s refl)
 
 -- the two places of the data size of the outer block are reserved
 pub size_reserved : (order : Order) (code : List ℕ) (t j p : ℕ) → HasOuter order code t → table_of order code 1 ≡ Some t → j < 2 → p + 8 ≡ t + j → is_reserved order code p ≡ true

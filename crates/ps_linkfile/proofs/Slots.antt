@@ -1,6 +1,6 @@
 -- The segments of a link are by slot, and no code is longer than MAX_CODE_LEN bytes.
 use Rattle.std.proofs.Common.{ℕ, ◌+◌, ◌<◌, ◌≤◌, List, [], ◌∷◌, length, map, sym, subst, inl, inr, arith}
-use Rattle.std.specs.Prelude.{All, ⊤}
+use Rattle.std.specs.Prelude.{All}
 use Rattle.std.proofs.lemmas.List.Elements.{All-map, All-tail}
 use Rattle.ps_words.specs.declared.order.Order.{Order}
 use Rattle.ps_codefile.specs.Dictionary.{entry_at}
@@ -10,7 +10,8 @@ use Rattle.ps_codefile.specs.declared.entry.Role.TheVariants.{Wanted}
 use Rattle.ps_resolve.specs.Added.{segments, segment_at, added_segments}
 use Rattle.ps_resolve.specs.Linkable.{AscendFrom}
 use Rattle.ps_resolve.specs.Sources.{Segment, file_at}
-use Rattle.ps_resolve.proofs.EachSegment.{IsMade, added_made, at_slot, each_added, each_slot, own_made}
+use Rattle.ps_resolve.proofs.EachSegment.{IsMade, added_made, at_slot, each_slot, own_made}
+use Rattle.ps_resolve.proofs.OfRounds.{each_added}
 use Rattle.ps_resolve.proofs.ReadingCodes.{whole}
 use Rattle.ps_resolve.proofs.ReadingKnown.{ascend, slot_parts}
 use Rattle.ps_linkfile.specs.LinkedFile.{Extent}
@@ -34,9 +35,7 @@ unfolding segments
 all_small order host libs = each_slot IsSmall (segment_at order host libs) (λ x s lt h. elim (at_slot order host libs IsSmall added x s h) [ inl own ↦ (let t = own_made order host libs x s own in made_small order host libs x (entry_at order host x).name t.0 t.2 s t.3) | inr t ↦ t.2 ])
   where
     added : All IsSmall (added_segments order host libs)
-    added =
-        each_added order host libs IsSmall (λ g. ⊤) (λ g slot s _ h. let t = added_made order host libs g slot s h in subst IsSmall (sym t.2) (made_small order host libs slot g.name Wanted t.0 t.1 t.3))
-        (λ units queue s all h i g lt. tt) (λ i g lt. tt)
+    added = each_added order host libs IsSmall (λ j g s round. let t = added_made order host libs g s.slot s round.brought in subst IsSmall (sym t.2) (made_small order host libs s.slot g.name Wanted t.0 t.1 t.3))
 
 all_within : (order : Order) (host : List ℕ) (libs : List (List ℕ)) → All (λ s. s.slot < 16) (segments order host libs)
 unfolding segments

@@ -1,6 +1,6 @@
 -- The queue of names that are requested, of which only the first ten are kept, and the rounds that
 -- it gives.
-use Rattle.std.proofs.Common.{◌≡◌, ℕ, zero, suc, ◌+◌, ◌<◌, ◌≤◌, List, [], ◌∷◌, ◌++◌, ◌-◌, length, length-append, append_assoc, append-nil, take, Bool, true, false, cond, Option, Some, None, inl, inr, refl, sym, ◌∙◌, ap, arith}
+use Rattle.std.proofs.Common.{◌≡◌, ℕ, zero, suc, ◌+◌, ◌<◌, ◌≤◌, List, [], ◌∷◌, ◌++◌, ◌-◌, length, length-append, append_assoc, append-nil, take, Bool, true, false, Option, Some, None, inl, inr, refl, sym, ◌∙◌, ap, arith}
 use Rattle.std.specs.Prelude.{◌⊎◌, All, if◌then◌else◌}
 use Rattle.std.proofs.lemmas.Bool.{cases_lt}
 use Rattle.std.proofs.lemmas.List.{take-append-le, take_all, length-take, length-take-le}
@@ -14,7 +14,7 @@ use Rattle.ps_words.specs.declared.fault.Fault.{Fault}
 use Rattle.ps_linkinfo.specs.declared.record.Body.{Body}
 use Rattle.ps_linkinfo.specs.declared.record.Body.TheVariants.{UnitRef}
 use Rattle.ps_linkinfo.specs.declared.record.LinkRecord.{LinkRecord as Record}
-use Rattle.ps_resolve.proofs.Apart.{one_more}
+use Rattle.ps_resolve.proofs.Apart.{one_unit}
 use Rattle.ps_resolve.specs.Sources.{Segment}
 use Rattle.ps_resolve.specs.declared.reading.added.UnitReference.{UnitReference}
 
@@ -33,12 +33,9 @@ pub no_references : (file slot n : ℕ) (rs : List Record) → units_asked rs �
 no_references file slot n [] h = refl
 no_references file slot n (r ∷ rs) h = at (λ e. no_references file slot (n + 1) rs e) (is_unit_reference r.body) refl
   where
-    one : (b : Bool) → is_unit_reference r.body ≡ b → units_asked (r ∷ rs) ≡ cond b 1 0 + units_asked rs
-    one b e = one_more (λ s. is_unit_reference s.body) r rs ∙ ap (λ (c : Bool). cond {A = ℕ} c 1 0 + units_asked rs) e
-
     at : (units_asked rs ≡ 0 → unit_references file slot (n + 1) rs ≡ []) → (b : Bool) → is_unit_reference r.body ≡ b → unit_references file slot n (r ∷ rs) ≡ []
-    at rest false e = let a = one false (asks_is r.body ∙ e) in rw (e, unit_references) (rest (omega arith))
-    at rest true e = let a = one true (asks_is r.body ∙ e) in absurd (omega arith)
+    at rest false e = let a = one_unit r rs false (asks_is r.body ∙ e) in rw (e, unit_references) (rest (omega arith))
+    at rest true e = let a = one_unit r rs true (asks_is r.body ∙ e) in absurd (omega arith)
 
 -- names that are requested after others
 pub requested-append : (units : List (List ℕ × ℕ)) (queue xs ys : List UnitReference) → requested_from units queue (xs ++ ys) ≡ requested_from units (requested_from units queue xs) ys

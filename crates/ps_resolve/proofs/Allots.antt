@@ -1,5 +1,5 @@
 -- One record more of the privates.
-use Rattle.std.proofs.Common.{◌≡◌, ℕ, ◌+◌, ◌<◌, ◌≤◌, ◌++◌, List, [], ◌∷◌, length, length-append, Bool, true, false, cond, is_some, Option, Some, None, refl, sym, ◌∙◌, ap, subst, arith, append_assoc}
+use Rattle.std.proofs.Common.{◌≡◌, ℕ, ◌+◌, ◌<◌, ◌≤◌, ◌++◌, List, [], ◌∷◌, length, length-append, Bool, true, false, is_some, Option, Some, None, refl, sym, ◌∙◌, ap, subst, arith, append_assoc}
 use Rattle.std.specs.Prelude.{nat_eq, nat_lt}
 use Rattle.std.specs.Option.{option_eq, option_or}
 use Rattle.std.specs.Bool.{Decides}
@@ -15,7 +15,7 @@ use Rattle.ps_resolve.specs.Stops.{IsStop}
 use Rattle.ps_linkinfo.specs.declared.record.LinkRecord.{LinkRecord as Record}
 use Rattle.ps_resolve.specs.Builders.{FindsNamesake, IsFirstNamesake}
 use Rattle.ps_resolve.specs.Standing.Definitions.{HasEarlierNamesake}
-use Rattle.ps_resolve.proofs.Apart.{one_more}
+use Rattle.ps_resolve.proofs.Apart.{one_private}
 use Rattle.ps_resolve.proofs.LookingBack.{asks_is, names}
 use Rattle.ps_resolve.proofs.EarlierNames.{Stands, further, looked, one_name, same_names, there}
 use Rattle.ps_resolve.specs.declared.linkage.Stop.{Stop}
@@ -53,12 +53,9 @@ pub privates_counted : (slot n next : ℕ) (rs : List Record) → length (allott
 privates_counted slot n next [] = refl
 privates_counted slot n next (r ∷ rs) = at (λ m free. privates_counted slot m free rs) (words_in r.body) refl
   where
-    one : (b : Bool) → is_private_reference r.body ≡ b → privates_in (r ∷ rs) ≡ cond b 1 0 + privates_in rs
-    one b h = one_more (λ s. is_private_reference s.body) r rs ∙ ap (λ (c : Bool). cond {A = ℕ} c 1 0 + privates_in rs) h
-
     at : ((m free : ℕ) → length (allotted_privates slot m free rs) ≡ privates_in rs) → (o : Option ℕ) → words_in r.body ≡ o → length (allotted_privates slot n next (r ∷ rs)) ≡ privates_in (r ∷ rs)
-    at rest None h = let a = one false (asks_is r.body ∙ ap is_some h) in let b = ap length (skip_privates slot n next [] [] r rs h) in omega (arith, rest (n + 1) next)
-    at rest (Some w) h = let a = one true (asks_is r.body ∙ ap is_some h) in let b = ap length (more_privates slot n next [] [] r rs w h) in omega (arith, rest (n + 1) (next + w))
+    at rest None h = let a = one_private r rs false (asks_is r.body ∙ ap is_some h) in let b = ap length (skip_privates slot n next [] [] r rs h) in omega (arith, rest (n + 1) next)
+    at rest (Some w) h = let a = one_private r rs true (asks_is r.body ∙ ap is_some h) in let b = ap length (more_privates slot n next [] [] r rs w h) in omega (arith, rest (n + 1) (next + w))
 
 -- where none requests one, there is none
 pub record NoPrivates (slot next : ℕ) (rs : List Record) : Type 0 where
@@ -72,16 +69,13 @@ no_asks : (slot next : ℕ) (rs : List Record) (n : ℕ) → privates_in rs ≡ 
 no_asks slot next [] n h = (refl, refl, refl)
 no_asks slot next (r ∷ rs) n h = at (λ e. no_asks slot next rs (n + 1) e) (words_in r.body) refl
   where
-    one : (b : Bool) → is_private_reference r.body ≡ b → privates_in (r ∷ rs) ≡ cond b 1 0 + privates_in rs
-    one b e = one_more (λ s. is_private_reference s.body) r rs ∙ ap (λ (c : Bool). cond {A = ℕ} c 1 0 + privates_in rs) e
-
     at : (privates_in rs ≡ 0 → (allotted_privates slot (n + 1) next rs ≡ []) × (private_words rs ≡ 0) × (private_fault (n + 1) next [] rs ≡ None))
         → (o : Option ℕ) → words_in r.body ≡ o → (allotted_privates slot n next (r ∷ rs) ≡ []) × (private_words (r ∷ rs) ≡ 0) × (private_fault n next [] (r ∷ rs) ≡ None)
     at rest None e =
-        let a = one false (asks_is r.body ∙ ap is_some e) in
+        let a = one_private r rs false (asks_is r.body ∙ ap is_some e) in
         let more = rest (omega arith) in
         (skip_privates slot n next [] [] r rs e ∙ more.0, skip_words slot n next [] [] r rs e ∙ more.1, skip_fault slot n next [] [] r rs e ∙ more.2)
-    at rest (Some w) e = let a = one true (asks_is r.body ∙ ap is_some e) in absurd (omega arith)
+    at rest (Some w) e = let a = one_private r rs true (asks_is r.body ∙ ap is_some e) in absurd (omega arith)
 
 pub no_privates : (slot next : ℕ) (rs : List Record) → privates_in rs ≡ 0 → NoPrivates slot next rs
 no_privates slot next rs h = let all = no_asks slot next rs 0 h in record { privates = all.0; words = all.1; first = all.2 }

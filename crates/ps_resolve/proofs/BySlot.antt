@@ -1,5 +1,5 @@
 -- The one table of segments: the host's own by slot, into which the added ones are put.
-use Rattle.std.proofs.Common.{◌≡◌, ◌≢◌, ℕ, zero, suc, ◌+◌, ◌<◌, ◌≤◌, List, [], ◌∷◌, ◌++◌, length, map, take, drop, get_or, Bool, true, false, if◌then◌else◌, Option, Some, None, Result, Ok, Err, refl, sym, ◌∙◌, ap, subst, inl, inr, arith}
+use Rattle.std.proofs.Common.{◌≡◌, ◌≢◌, ℕ, zero, suc, ◌+◌, ◌<◌, ◌≤◌, List, [], ◌∷◌, ◌++◌, length, map, take, drop, get_or, Bool, true, false, if◌then◌else◌, Option, Some, None, Result, Ok, refl, sym, ◌∙◌, ap, subst, inl, inr, arith}
 use Rattle.std.specs.Prelude.{◌⊎◌, All, nat_lt, is_none}
 use Rattle.std.specs.List.{filter, filter_map, find, insert, range_with_len}
 use Rattle.std.specs.Option.{option_map_or, option_or}
@@ -24,6 +24,7 @@ use Rattle.ps_resolve.specs.Views.{SegmentView, is_in_slot, put_by_slot, segment
 use Rattle.ps_resolve.specs.declared.reading.added.UnitReference.{UnitReference}
 use Rattle.ps_resolve.proofs.EachSegment.{added_made}
 use Rattle.ps_resolve.proofs.InSlots.{InPlace, found_there, other_slot, same_kept}
+use Rattle.ps_resolve.proofs.Items.{find_passes}
 use Rattle.ps_resolve.proofs.ReadingKnown.{own_parts}
 use Rattle.ps_resolve.proofs.Segs.{drop_at}
 
@@ -97,15 +98,6 @@ put_front f place s (suc n) a lt = by (f a) refl (put_front f place s n (a + 1) 
     by None e rest = rw e rest
     by (Some x) e rest = let is = place a x e in rw e (put_before s x (filter_map f (range_with_len (a + 1) n)) (omega (arith, is, lt)))
 
--- f and g keep the same segments of the numbers from a on, where they give the same of each
-same_from : (f g : ℕ → Option Segment) (n a : ℕ) → ((i : ℕ) → a ≤ i → f i ≡ g i) → filter_map f (range_with_len a n) ≡ filter_map g (range_with_len a n)
-same_from f g zero a same = refl
-same_from f g (suc n) a same = by (g a) refl (same_from f g n (a + 1) (λ i h. same i (omega arith)))
-  where
-    by : (o : Option Segment) → g a ≡ o → filter_map f (range_with_len (a + 1) n) ≡ filter_map g (range_with_len (a + 1) n) → filter_map f (a ∷ range_with_len (a + 1) n) ≡ filter_map g (a ∷ range_with_len (a + 1) n)
-    by None e rest = rw (same a (omega arith), e) rest
-    by (Some s) e rest = rw (same a (omega arith), e) (ap (λ (xs : List Segment). s ∷ xs) rest)
-
 -- g gives of the slot of s the segment s, and of the others what f gives, which gives none of it
 put_kept : (f g : ℕ → Option Segment) → InPlace f → (s : Segment) → f s.slot ≡ None → g s.slot ≡ Some s → ((i : ℕ) → i ≢ s.slot → f i ≡ g i)
     → (n a : ℕ) → a ≤ s.slot → s.slot < a + n → put_by_slot s (filter_map f (range_with_len a n)) ≡ filter_map g (range_with_len a n)
@@ -116,7 +108,7 @@ put_kept f g place s none some same (suc n) a le lt = by (λ h. put_kept f g pla
     here e =
         let of_f : f a ≡ None = ap f e ∙ none in
         let of_g : g a ≡ Some s = ap g e ∙ some in
-        rw (of_f, of_g) (put_front f place s n (a + 1) (omega (arith, e)) ∙ ap (λ (xs : List Segment). s ∷ xs) (same_from f g n (a + 1) (λ i h. same i (λ is. omega (arith, is, h, e)))))
+        rw (of_f, of_g) (put_front f place s n (a + 1) (omega (arith, e)) ∙ ap (λ (xs : List Segment). s ∷ xs) (same_kept f g n (a + 1) (λ i h _. same i (λ is. omega (arith, is, h, e)))))
 
     later : put_by_slot s (filter_map f (range_with_len (a + 1) n)) ≡ filter_map g (range_with_len (a + 1) n) → a < s.slot → (o : Option Segment) → f a ≡ o → g a ≡ o
         → put_by_slot s (filter_map f (a ∷ range_with_len (a + 1) n)) ≡ filter_map g (a ∷ range_with_len (a + 1) n)
@@ -161,12 +153,7 @@ pub record IsNewIn (order : Order) (host : List ℕ) (slots : List ℕ) (i : ℕ
 
 -- 3. segments that are found by their slots
 in_slot : (j : ℕ) (xs : List Segment) (x : Segment) → find (is_in_slot j) xs ≡ Some x → x.slot ≡ j
-in_slot j [] x h = cc
-in_slot j (y ∷ ys) x h = by (is_in_slot j y) refl (in_slot j ys x)
-  where
-    by : (b : Bool) → is_in_slot j y ≡ b → (find (is_in_slot j) ys ≡ Some x → x.slot ≡ j) → x.slot ≡ j
-    by true e rest = let is : Some y ≡ Some x = rw e at h in let same : y ≡ x = cc in ap (λ (z : Segment). z.slot) (sym same) ∙ eqb-true y.slot j e
-    by false e rest = rest (rw e at h)
+in_slot j xs x h = eqb-true x.slot j (find_passes (is_in_slot j) xs x h)
 
 -- none is found in a slot that all are before
 pub none_below : (j from : ℕ) (xs : List Segment) → All (λ x. x.slot < from) xs → from ≤ j → find (is_in_slot j) xs ≡ None
@@ -186,12 +173,8 @@ module _ (order : Order) (host : List ℕ) (libs : List (List ℕ)) where
       by false e = let wrong : None ≡ Some s = rw e at h in cc
 
   empty_role : (q : Result Role Reason) → option_map_or is_empty (result_ok q) false ≡ true → q ≡ Ok role.Empty
-  empty_role (Err why) h = cc
   empty_role (Ok role.Empty) h = refl
-  empty_role (Ok role.Wanted) h = cc
-  empty_role (Ok role.Plain) h = cc
-  empty_role (Ok role.Host) h = cc
-  empty_role (Ok role.Unit) h = cc
+  empty_role other h = cc
 
   either : {X : Type 0} (b : Bool) → ◌≡◌ {A = Option X} (if b then None else None) None
   either true = refl
@@ -223,7 +206,7 @@ module _ (order : Order) (host : List ℕ) (libs : List (List ℕ)) where
   pub own_by_slot : segments_in_slots order host own [] ≡ own
   unfolding segments_in_slots read_segments
   own_by_slot = same_kept (kept_in []) (read_segment order host libs) 16 0
-      (λ i h. ap (option_or (find (is_in_slot i) own)) (either (is_role is_empty order host i)) ∙ (or_none (find (is_in_slot i) own) ∙ found_own i h))
+      (λ i low h. ap (option_or (find (is_in_slot i) own)) (either (is_role is_empty order host i)) ∙ (or_none (find (is_in_slot i) own) ∙ found_own i h))
 
   kept_in_place : (xs : List Segment) → InPlace (kept_in xs)
   kept_in_place xs i s h = by (find (is_in_slot i) own) refl (is_role is_empty order host i) refl

@@ -45,20 +45,19 @@ found_there f place j (suc n) a le lt = by (λ h. found_there f place j n (a + 1
     by rest (inl h) = later (rest h) h (f a) refl
     by rest (inr h) = let same : a ≡ j = omega arith in here (f a) refl same ∙ ap f same
 
--- f and g keep the same segments of a list of numbers, where they give the same of each number
--- below its end
-pub same_kept : (f g : ℕ → Option Segment) (n a : ℕ) → ((i : ℕ) → i < a + n → f i ≡ g i) → filter_map f (range_with_len a n) ≡ filter_map g (range_with_len a n)
+-- f and g keep the same segments of a range of numbers, where they give the same of each
+pub same_kept : (f g : ℕ → Option Segment) (n a : ℕ) → ((i : ℕ) → a ≤ i → i < a + n → f i ≡ g i) → filter_map f (range_with_len a n) ≡ filter_map g (range_with_len a n)
 same_kept f g zero a same = refl
-same_kept f g (suc n) a same = by (g a) refl (same_kept f g n (a + 1) (λ i h. same i (omega arith)))
+same_kept f g (suc n) a same = by (g a) refl (same_kept f g n (a + 1) (λ i low high. same i (omega (arith, low)) (omega (arith, high))))
   where
     by : (o : Option Segment) → g a ≡ o → filter_map f (range_with_len (a + 1) n) ≡ filter_map g (range_with_len (a + 1) n) → filter_map f (a ∷ range_with_len (a + 1) n) ≡ filter_map g (a ∷ range_with_len (a + 1) n)
-    by None e rest = rw (same a (omega arith), e) rest
-    by (Some s) e rest = rw (same a (omega arith), e) (ap (λ (xs : List Segment). s ∷ xs) rest)
+    by None e rest = rw (same a (omega arith) (omega arith), e) rest
+    by (Some s) e rest = rw (same a (omega arith) (omega arith), e) (ap (λ (xs : List Segment). s ∷ xs) rest)
 
 -- the own segments and the added ones, slot by slot, are those of the link
 pub in_slots_are : (order : Order) (host : List ℕ) (libs : List (List ℕ)) → segments_in_slots order host (own_segments order host libs) (added_segments order host libs) ≡ segments order host libs
 unfolding segments_in_slots segments own_segments
 in_slots_are order host libs =
     same_kept (segment_in_slot order host (own_segments order host libs) (added_segments order host libs)) (segment_at order host libs) 16 0
-    (λ i h. ap (λ (o : Option Segment). option_or o (if is_role is_empty order host i then find (is_in_slot i) (added_segments order host libs) else None))
+    (λ i low h. ap (λ (o : Option Segment). option_or o (if is_role is_empty order host i then find (is_in_slot i) (added_segments order host libs) else None))
     (found_there (own_segment order host libs) (λ j s e. (own_parts order host libs j s e).0) i 16 0 (omega arith) h))

@@ -1,5 +1,5 @@
 -- One record more of a segment.
-use Rattle.std.proofs.Common.{◌≡◌, ◌∙◌, ℕ, ◌+◌, ◌++◌, List, [], ◌∷◌, map, Bool, true, false, cond, Option, Some, None, Ok, Err, refl, sym, ap, subst, append_assoc}
+use Rattle.std.proofs.Common.{◌≡◌, ◌∙◌, ℕ, ◌+◌, ◌++◌, List, [], ◌∷◌, map, Bool, true, false, Option, Some, None, Ok, Err, refl, sym, ap, subst, append_assoc}
 use Rattle.std.specs.Prelude.{IsPermutation}
 use Rattle.std.specs.Option.{option_map, option_or}
 use Rattle.std.proofs.lemmas.List.Sorted.{IsPermutation-trans, IsPermutation-append_left}
@@ -23,7 +23,7 @@ use Rattle.ps_resolve.specs.Stops.{IsStop}
 use Rattle.ps_resolve.specs.References.{Known, words_taken, target_in, target_of, records_fault, record_edits, records_edits}
 use Rattle.ps_resolve.specs.declared.references.Target.{Target}
 use Rattle.ps_resolve.specs.declared.references.Target.TheVariants.{Slot}
-use Rattle.ps_resolve.proofs.Apart.{one_more}
+use Rattle.ps_resolve.proofs.Apart.{one_private, one_public, one_unit}
 use Rattle.ps_resolve.proofs.LookingBack.{words_before}
 use Rattle.ps_resolve.specs.declared.linkage.Stop.{Stop}
 use Rattle.ps_resolve.specs.declared.linkage.Stop.TheVariants.{Refused, Memory}
@@ -97,27 +97,18 @@ module _ (known : Known) (R : ℕ → Bool) (code : List ℕ) where
   no_links [] n off os u p q = record { edits = refl; first = refl; words = refl }
   no_links (r ∷ rs) n off os u p q = at (λ uu pp qq m free ps. no_links rs m free ps uu pp qq) r.body refl
     where
-      one_unit : (b : Bool) → is_unit_reference r.body ≡ b → units_asked (r ∷ rs) ≡ cond b 1 0 + units_asked rs
-      one_unit b h = one_more (λ s. is_unit_reference s.body) r rs ∙ ap (λ (c : Bool). cond {A = ℕ} c 1 0 + units_asked rs) h
-
-      one_public : (b : Bool) → is_public_reference r.body ≡ b → publics_in (r ∷ rs) ≡ cond b 1 0 + publics_in rs
-      one_public b h = one_more (λ s. is_public_reference s.body) r rs ∙ ap (λ (c : Bool). cond {A = ℕ} c 1 0 + publics_in rs) h
-
-      one_private : (b : Bool) → is_private_reference r.body ≡ b → privates_in (r ∷ rs) ≡ cond b 1 0 + privates_in rs
-      one_private b h = one_more (λ s. is_private_reference s.body) r rs ∙ ap (λ (c : Bool). cond {A = ℕ} c 1 0 + privates_in rs) h
-
       skips : (units_asked rs ≡ 0 → publics_in rs ≡ 0 → privates_in rs ≡ 0 → (m free : ℕ) (ps : List (ℕ × ℕ)) → NoLinks known R code m free ps rs)
           → is_unit_reference r.body ≡ false → is_public_reference r.body ≡ false → is_private_reference r.body ≡ false
           → target_of known off r ≡ Ok (Slot 0) → refs_of r.body ≡ [] → words_taken r.body ≡ 0 → NoLinks known R code n off os (r ∷ rs)
       skips rest a b c t none words =
-          let x = one_unit false a in
-          let y = one_public false b in
-          let z = one_private false c in
+          let x = one_unit r rs false a in
+          let y = one_public r rs false b in
+          let z = one_private r rs false c in
           passed n off os r rs t none words (rest (omega arith) (omega arith) (omega arith))
 
       at : (units_asked rs ≡ 0 → publics_in rs ≡ 0 → privates_in rs ≡ 0 → (m free : ℕ) (ps : List (ℕ × ℕ)) → NoLinks known R code m free ps rs)
           → (b : Body) → r.body ≡ b → NoLinks known R code n off os (r ∷ rs)
-      at rest (UnitRef refs) e = let x = one_unit true (ap is_unit_reference e) in absurd (omega arith)
-      at rest (PublRef refs) e = let x = one_public true (ap is_public_reference e) in absurd (omega arith)
-      at rest (PrivRef words refs) e = let x = one_private true (ap is_private_reference e) in absurd (omega arith)
+      at rest (UnitRef refs) e = let x = one_unit r rs true (ap is_unit_reference e) in absurd (omega arith)
+      at rest (PublRef refs) e = let x = one_public r rs true (ap is_public_reference e) in absurd (omega arith)
+      at rest (PrivRef words refs) e = let x = one_private r rs true (ap is_private_reference e) in absurd (omega arith)
       at rest other e = skips rest (ap is_unit_reference e) (ap is_public_reference e) (ap is_private_reference e) (ap (target_in known off r.name) e) (ap refs_of e) (ap words_taken e)

@@ -1,6 +1,6 @@
 -- What is known of the segments of a link once the files were read without a fault: they rise by
 -- slot, and one of them is the host's own.
-use Rattle.std.proofs.Common.{◌≡◌, ℕ, zero, suc, ◌+◌, ◌<◌, ◌≤◌, List, [], ◌∷◌, map, length, get_or, Bool, true, false, ◌&&◌, not, Option, Some, None, is_some, Result, Ok, Err, refl, sym, ◌∙◌, ap, subst, inl, inr, arith}
+use Rattle.std.proofs.Common.{◌≡◌, ℕ, zero, suc, ◌+◌, ◌<◌, ◌≤◌, List, [], ◌∷◌, map, length, get_or, Bool, true, false, ◌&&◌, not, Option, Some, None, is_some, Result, Ok, refl, sym, ◌∙◌, ap, subst, inl, inr, arith}
 use Rattle.std.specs.List.{range_with_len, filter_map, find, list_any}
 use Rattle.std.specs.Prelude.{All}
 use Rattle.std.specs.Option.{option_or, option_map, option_map_or}
@@ -15,16 +15,15 @@ use Rattle.ps_words.specs.declared.fault.Reason.{Reason}
 use Rattle.ps_words.specs.declared.fault.Fault.{Fault}
 use Rattle.ps_codefile.specs.declared.entry.Role.{Role}
 use Rattle.ps_codefile.specs.declared.entry.Role.TheVariants as role
-use Rattle.ps_codefile.specs.declared.entry.Entry.{Entry}
-use Rattle.ps_codefile.specs.Dictionary.{entry_at, role_of, code_of, slots}
-use Rattle.ps_codefile.specs.Procedures.{tables_fault}
-use Rattle.ps_resolve.specs.Added.{segment_at, segments, added_segments}
+use Rattle.ps_codefile.specs.Dictionary.{entry_at, role_of, slots}
+use Rattle.ps_resolve.specs.Added.{added_at, segment_at, segments, added_segments}
 use Rattle.ps_resolve.specs.Searches.{first_of, fault_if}
 use Rattle.ps_codefile.specs.Roles.{is_host, is_empty}
-use Rattle.ps_resolve.specs.Sources.{Segment, own_segment, host_of}
-use Rattle.ps_resolve.specs.Faults.{is_role, slot_reason, slots_fault, no_host_fault, sources_fault, source_fault, information_fault}
+use Rattle.ps_resolve.specs.Sources.{Segment, own_segment, segment_from, host_of}
+use Rattle.ps_resolve.specs.Faults.{is_role, slot_reason, slots_fault, no_host_fault, sources_fault, source_fault}
 use Rattle.ps_resolve.specs.Linkable.{AscendFrom, HasOneHost}
-use Rattle.ps_resolve.proofs.EachSegment.{at_slot, each_slot, find_has, own_made, segment_with}
+use Rattle.ps_resolve.proofs.EachRound.{source_made}
+use Rattle.ps_resolve.proofs.EachSegment.{at_slot, each_slot, find_has, own_made}
 use Rattle.ps_resolve.proofs.FirstSlots.{any_found, neither_first, neither_second, none_mapped}
 use Rattle.ps_resolve.proofs.OfRounds.{each_added}
 use Rattle.ps_resolve.proofs.ReadingSources.{own_fault, read_from_host, is_own_host}
@@ -56,17 +55,6 @@ slot_parts order host libs slot s h = elim (at_slot order host libs IsWanted (ad
 host_role : (order : Order) (host : List ℕ) (libs : List (List ℕ)) (slot : ℕ) (s : Segment) → segment_at order host libs slot ≡ Some s → is_role is_host order host slot ≡ is_host s.role
 host_role order host libs slot s h = (slot_parts order host libs slot s h).1
 
--- a slot of the host's own segment has one, where it has no fault
-fault_by : Order → List ℕ → Entry → ℕ → Result (List ℕ) Reason → Option Fault
-fault_by order file e slot (Err why) = Some (in_slot 0 slot why)
-fault_by order file e slot (Ok code) = option_or (option_map (in_slot 0 slot) (tables_fault order code true)) (information_fault order file e 0 slot)
-
--- where there is no such fault, a code is given
-is_ok_by : (order : Order) (file : List ℕ) (e : Entry) (slot : ℕ) (q : Result (List ℕ) Reason) → fault_by order file e slot q ≡ None → (code : List ℕ) × (q ≡ Ok code)
-unfolding fault_by
-is_ok_by order file e slot (Err why) h = cc
-is_ok_by order file e slot (Ok code) h = (code, refl)
-
 -- what passes the test for the role of the host is the role Host
 host_of_role : (q : Result Role Reason) → option_map_or is_host (result_ok q) false ≡ true → q ≡ Ok role.Host
 host_of_role (Ok role.Host) h = refl
@@ -74,15 +62,17 @@ host_of_role other h = cc
 
 -- a slot with the role of the host has a segment, where its source has no fault
 slot_host : (order : Order) (host : List ℕ) (libs : List (List ℕ)) (slot : ℕ) → source_fault order host libs slot ≡ None → is_role is_host order host slot ≡ true → (s : Segment) × (segment_at order host libs slot ≡ Some s)
-unfolding fault_by
-slot_host order host libs slot none is =
-    let of = host_of_role (role_of (entry_at order host slot)) is in
-    let e = entry_at order host slot in
-    let fault : fault_by order host e slot (code_of host e) ≡ None = sym (own_fault order host libs slot role.Host of is_own_host) ∙ none in
-    let code = is_ok_by order host e slot (code_of host e) fault in
-    let own : own_segment order host libs slot ≡ Some (segment_with order host libs slot e.name role.Host (0, slot) code.0) =
-    read_from_host order host libs slot role.Host of is_own_host ∙ ap (λ (q : Result (List ℕ) Reason). option_map (segment_with order host libs slot e.name role.Host (0, slot)) (result_ok q)) code.1 in
-    (segment_with order host libs slot e.name role.Host (0, slot) code.0, rw own refl)
+slot_host order host libs slot none is = by (segment_from order host libs slot name role.Host (0, slot)) refl
+  where
+    name : List ℕ
+    name = (entry_at order host slot).name
+
+    of : role_of (entry_at order host slot) ≡ Ok role.Host
+    of = host_of_role (role_of (entry_at order host slot)) is
+
+    by : (o : Option Segment) → segment_from order host libs slot name role.Host (0, slot) ≡ o → (s : Segment) × (segment_at order host libs slot ≡ Some s)
+    by None e = absurd (source_made order host libs slot name role.Host (0, slot) (sym (own_fault order host libs slot role.Host of is_own_host) ∙ none) e)
+    by (Some s) e = (s, ap (λ (o : Option Segment). option_or o (added_at order host libs slot)) (read_from_host order host libs slot role.Host of is_own_host ∙ e))
 
 -- where one of these slots has the role of the host, and no source a fault, one of their segments
 -- is a host's

@@ -4,7 +4,7 @@ use Rattle.std.specs.Prelude.{All, ◌||◌, is_some}
 use Rattle.std.specs.List.{list_any}
 use Rattle.std.specs.Map.{lookup}
 use Rattle.std.specs.Str.{bytes_eq}
-use Rattle.std.proofs.lemmas.Bool.{cases_lt}
+use Rattle.std.proofs.lemmas.Bool.{cases_lt, or_cases, or_left, or_right}
 use Rattle.std.proofs.lemmas.List.{take_all, length-take-le}
 use Rattle.std.proofs.lemmas.List.Elements.{All-nil, All-cons, All-head, All-tail, All-weaker}
 use Rattle.std.proofs.lemmas.List.Folds.{list_any-append}
@@ -18,27 +18,22 @@ use Rattle.ps_resolve.proofs.Adding.{few_kept, kept_segment, queue_prefix}
 use Rattle.ps_resolve.proofs.Segs.{drop_at}
 use Rattle.ps_resolve.proofs.Sharing.{all_taken}
 
--- where one of two tests holds, one of three does
-or_left : (a b c : Bool) → (a || b) ≡ true → (a || (b || c)) ≡ true
-or_left true b c h = refl
-or_left false true c h = refl
-or_left false false c h = cc
-
-pub or_right : (a b : Bool) → b ≡ true → (a || b) ≡ true
-or_right true b h = refl
-or_right false b h = h
-
 module _ (units : List (List ℕ × ℕ)) where
   -- what is known stays so
   pub known_longer : (queue more : List UnitReference) (name : List ℕ) → is_already_known units queue name ≡ true → is_already_known units (queue ++ more) name ≡ true
   known_longer queue more name h =
-      ap (λ (b : Bool). is_some (lookup (bytes_eq name) units) || b) (list_any-append (λ (g : UnitReference). bytes_eq g.name name) queue more)
-      ∙ or_left (is_some (lookup (bytes_eq name) units)) (list_any (λ (g : UnitReference). bytes_eq g.name name) queue) (list_any (λ (g : UnitReference). bytes_eq g.name name) more) h
+      let test : UnitReference → Bool = λ g. bytes_eq g.name name in
+      elim (or_cases (is_some (lookup (bytes_eq name) units)) (list_any test queue) h) [
+        | inl e ↦ or_left (is_some (lookup (bytes_eq name) units)) _ e
+        | inr e ↦ or_right _ (list_any test (queue ++ more)) (list_any-append test queue more ∙ or_left (list_any test queue) _ e)
+      ]
 
   pub known_last : (queue : List UnitReference) (g : UnitReference) → is_already_known units (queue ++ g ∷ []) g.name ≡ true
   known_last queue g =
-      ap (λ (b : Bool). is_some (lookup (bytes_eq g.name) units) || b) (list_any-append (λ (f : UnitReference). bytes_eq f.name g.name) queue (g ∷ []))
-      ∙ or_right (is_some (lookup (bytes_eq g.name) units)) _ (or_right (list_any (λ (f : UnitReference). bytes_eq f.name g.name) queue) _ (ap (λ (b : Bool). b || false) ((bytes_eq-Decides g.name g.name).1 refl)))
+      let test : UnitReference → Bool = λ h. bytes_eq h.name g.name in
+      let itself : test g ≡ true = (bytes_eq-Decides g.name g.name).1 refl in
+      let last = list_any-append test queue (g ∷ []) ∙ or_right (list_any test queue) (test g || false) (or_left (test g) false itself) in
+      or_right (is_some (lookup (bytes_eq g.name) units)) (list_any test (queue ++ g ∷ [])) last
 
   -- a queue grows at its end
   pub grown : (queue gs : List UnitReference) → (more : List UnitReference) × (requested_from units queue gs ≡ queue ++ more)

@@ -1,6 +1,6 @@
 -- Segments that have the same records, since their link information begins in one block of one
 -- file.
-use Rattle.std.proofs.Common.{◌≡◌, ◌∙◌, ℕ, suc, zero, ◌+◌, ◌*◌, ◌<◌, ◌++◌, List, [], ◌∷◌, length, map, take, drop, get_or, Bool, true, false, cond, Option, Some, None, Result, Ok, Err, refl, sym, ap, subst, arith, add-one}
+use Rattle.std.proofs.Common.{◌≡◌, ◌∙◌, ℕ, suc, zero, ◌+◌, ◌*◌, ◌<◌, ◌++◌, List, [], ◌∷◌, length, map, take, drop, get_or, Bool, true, false, Option, Some, None, Result, Ok, Err, refl, sym, ap, subst, arith, add-one}
 use Rattle.std.specs.Prelude.{All, IfSome, is_some}
 use Rattle.std.proofs.lemmas.List.{nil_from_length}
 use Rattle.std.proofs.lemmas.List.Elements.{All-nil, All-cons, All-head, All-tail, All-contains}
@@ -20,7 +20,7 @@ use Rattle.ps_resolve.specs.References.{Known, HasTarget, HaveTargets, target_in
 use Rattle.ps_resolve.specs.declared.references.Target.{Target}
 use Rattle.ps_resolve.specs.declared.references.Target.TheVariants.{Base}
 use Rattle.ps_resolve.specs.Views.{SegmentView}
-use Rattle.ps_resolve.proofs.Apart.{one_more}
+use Rattle.ps_resolve.proofs.Apart.{one_private}
 use Rattle.ps_resolve.proofs.FirstSlots.{neither_second}
 use Rattle.ps_resolve.proofs.NextRecords.{NoLinks, record_refused, record_by, record_stands, edits_more}
 use Rattle.ps_resolve.proofs.LookingBack.{words_before}
@@ -107,9 +107,6 @@ no_references known R code (r ∷ rs) n off os named none unasked =
     counted : references_in (r ∷ rs) ≡ length (refs_of r.body) + references_in rs
     counted = sum_by-cons (λ (s : Record). length (refs_of s.body)) r rs
 
-    asked : (b : Bool) → is_private_reference r.body ≡ b → privates_in (r ∷ rs) ≡ cond b 1 0 + privates_in rs
-    asked b h = one_more (λ s. is_private_reference s.body) r rs ∙ ap (λ (c : Bool). cond {A = ℕ} c 1 0 + privates_in rs) h
-
     passed : (t : Target) → target_of known off r ≡ Ok t → refs_of r.body ≡ [] → words_taken r.body ≡ 0 → ((m free : ℕ) (ps : List (ℕ × ℕ)) → NoLinks known R code m free ps rs) → NoLinks known R code n off os (r ∷ rs)
     passed t e empty words rest =
         let next = rest (n + 1) (off + words_taken r.body) (os ++ operands t (refs_of r.body)) in
@@ -120,9 +117,9 @@ no_references known R code (r ∷ rs) n off os named none unasked =
         }
 
     at : ((m free : ℕ) (ps : List (ℕ × ℕ)) → references_in rs ≡ 0 → privates_in rs ≡ 0 → NoLinks known R code m free ps rs) → (b : Bool) → is_private_reference r.body ≡ b → NoLinks known R code n off os (r ∷ rs)
-    at rest true e = let a = asked true e in absurd (omega arith)
+    at rest true e = let a = one_private r rs true e in absurd (omega arith)
     at rest false e =
-        let a = asked false e in
+        let a = one_private r rs false e in
         let head = All-head (HasTarget known) r rs named in
         let target = rebased known 0 off r head.0 head.1 in
         let empty : refs_of r.body ≡ [] = nil_from_length (refs_of r.body) (omega (arith, counted)) in

@@ -17,5 +17,5 @@ pub returns-in-Ok : goal.returns-in-Ok
 returns-in-Ok g c = λ none.
     let files = c.args.reading.now in
     let paths : List (List ℕ) = c.args.inputs.now.host_path.now ∷ contents c.args.inputs.now.paths.now in
-    let are = lines_are paths files.host files.libs c.in-Ok.host.now (map segment_of c.segments.result.now) c.requested.result.now c.in-Ok.ensures.opened (c.segments.ensures none) c.requested.ensures in
+    let are = lines_are paths files.host files.libs c.in-Ok.host.now (map segment_of c.segments.result.now) c.requested.result.now c.in-Ok.ensures.opened (c.segments.ensures.all none) c.requested.ensures in
     subst (λ (lines : List (List ℕ)). OnOk c.add_linked.result (AddsSlotLines (string_bytes c.args.text.now) lines (string_bytes c.add_linked.new.text))) are c.add_linked.ensures

@@ -21,7 +21,7 @@ list_segments-requires-clause-plan g c =
     let libs = map (λ lib. lib.now) c.args.libs.now in
     let none = reading_first host libs (none_found c.first_of_all.ensures.some host libs c.in_ok-linked.ensures.accepted) in
     let ss = map segment_of c.segments.result.now in
-    as_plan host libs c.in_ok-linked.linked c.plan.result.now ss c.in_ok-linked.ensures.plan c.plan.ensures.plan (seen host libs c.read-reading.result ss c.read-reading.ensures none c.segments.ensures)
+    as_plan host libs c.in_ok-linked.linked c.plan.result.now ss c.in_ok-linked.ensures.plan c.plan.ensures.plan (seen host libs c.read-reading.result ss c.read-reading.ensures none c.segments.ensures.all)
 
 pub returns-clause-text : goal.returns-clause-text
 returns-clause-text g c =
@@ -29,7 +29,7 @@ returns-clause-text g c =
     let libs = map (λ lib. lib.now) c.args.libs.now in
     let none = reading_first host libs (none_found c.first_of_all.ensures.some host libs c.in_ok-linked.ensures.accepted) in
     let ss = map segment_of c.segments.result.now in
-    let stored = c.in_ok-listings.ensures ∙ references_are host libs c.in_ok-linked.linked c.plan.result.now ss c.in_ok-linked.ensures.plan c.plan.ensures.plan (seen host libs c.read-reading.result ss c.read-reading.ensures none c.segments.ensures) in
+    let stored = c.in_ok-listings.ensures ∙ references_are host libs c.in_ok-linked.linked c.plan.result.now ss c.in_ok-linked.ensures.plan c.plan.ensures.plan (seen host libs c.read-reading.result ss c.read-reading.ensures none c.segments.ensures.all) in
     joined _ _ _ _ c.in_ok-linked.ensures.map stored
 
 pub returns-clause-json : goal.returns-clause-json
@@ -38,6 +38,6 @@ returns-clause-json g c =
     let libs = map (λ lib. lib.now) c.args.libs.now in
     let none = reading_first host libs (none_found c.first_of_all.ensures.some host libs c.in_ok-linked.ensures.accepted) in
     let ss = map segment_of c.segments.result.now in
-    let stored = c.in_ok-listings.ensures ∙ references_are host libs c.in_ok-linked.linked c.plan.result.now ss c.in_ok-linked.ensures.plan c.plan.ensures.plan (seen host libs c.read-reading.result ss c.read-reading.ensures none c.segments.ensures) in
+    let stored = c.in_ok-listings.ensures ∙ references_are host libs c.in_ok-linked.linked c.plan.result.now ss c.in_ok-linked.ensures.plan c.plan.ensures.plan (seen host libs c.read-reading.result ss c.read-reading.ensures none c.segments.ensures.all) in
     let listings = c.in_ok-listings.listings.items in
     (listings, stored, ap (λ (bs : List ℕ). bs ++ references_json listings) (members_are host libs c.in_ok-linked.linked c.in_ok-linked.ensures.plan))

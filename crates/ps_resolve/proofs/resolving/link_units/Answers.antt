@@ -1,7 +1,6 @@
 use Rattle.std.proofs.Common.{◌≡◌, ◌≤◌, ℕ, List, length, map, Bool, true, false, if◌then◌else◌, Option, None, Ok, Err, is_some, refl, sym, ◌∙◌, ap, subst, arith}
 use Rattle.std.proofs.Math.Dec.{ltb}
 use Rattle.std.proofs.lemmas.Bool.Decides.{nat_tests}
-use Rattle.std.specs.Option.{option_or}
 use Rattle.std.specs.Prelude.{IfOk}
 use Rattle.std.proofs.lemmas.Result.{IfErr-weaker, IfOk-weaker}
 use Rattle.ps_words.specs.declared.fault.Fault.{Fault}
@@ -9,18 +8,18 @@ use Rattle.ps_words.specs.declared.order.Order.{Order}
 use Rattle.ps_words.specs.declared.fault.Reason.TheVariants as reason
 use Rattle.ps_codefile.specs.Dictionary.{OpenedFile, FileOrder, file_order, opened_alone, opened_as}
 use Rattle.ps_resolve.specs.Sources.{Segment, contents, host_of, opened_files, order_of}
-use Rattle.ps_resolve.specs.Added.{added_fault, segments, slot_names}
+use Rattle.ps_resolve.specs.Added.{segments, slot_names}
 use Rattle.ps_resolve.specs.Views.{SegmentView, segment_of}
-use Rattle.ps_resolve.specs.Faults.{linking_fault, slots_fault, no_host_fault, libraries_fault, sources_fault}
-use Rattle.ps_resolve.specs.AllFaults.{first_fault, reading_fault, reading_rest}
+use Rattle.ps_resolve.specs.Faults.{linking_fault}
+use Rattle.ps_resolve.specs.Linkable.{AscendFrom, HasOneHost}
+use Rattle.ps_resolve.specs.AllFaults.{first_fault, reading_fault}
 use Rattle.ps_resolve.specs.OfLink.{AreOfLink}
 use Rattle.ps_resolve.specs.Plans.{AreStopped, IsPlanOf, IsStopped}
-use Rattle.ps_resolve.specs.Readings.{host_reading_fault, own_reading_fault, read_rounds}
+use Rattle.ps_resolve.specs.Readings.{all_read, host_reading_fault, own_reading_fault, read_rounds}
 use Rattle.ps_resolve.proofs.FirstFaults.{first_read, first_linked, stopped}
-use Rattle.ps_resolve.proofs.FirstSlots.{neither_first, neither_second}
-use Rattle.ps_resolve.proofs.OfLink.{of_link}
-use Rattle.ps_resolve.proofs.ReadingHosts.{host_is, host_read, rest_of}
-use Rattle.ps_resolve.proofs.ReadingKnown.{ascend, host_there, one_host}
+use Rattle.ps_resolve.proofs.OfLink.{has_host, of_link, slots_fine}
+use Rattle.ps_resolve.proofs.ReadingHosts.{host_is, host_read}
+use Rattle.ps_resolve.proofs.ReadingKnown.{ascend, one_host}
 use Rattle.ps_resolve.proofs.ReadingSlots.{reading_is, segments_are, units_last}
 use Rattle.ps_resolve.proofs.Sharing.{all_sound, read_alike}
 use Rattle.ps_resolve.proofs.resolving.link_units.Goals as goal
@@ -29,15 +28,11 @@ use Rattle.ps_resolve.proofs.resolving.link_units.Goals as goal
 fault_of : (host : List ℕ) (libs : List (List ℕ)) (o : OpenedFile) → Ok o ≡ opened_alone host → host_reading_fault o.order o.file libs ≡ reading_fault host libs
 fault_of host libs o h = reading_is o.order o.file libs ∙ sym (host_read host libs o (sym h))
 
--- the files have no fault
-none_of : (order : Order) (host : List ℕ) (libs : List (List ℕ)) → host_reading_fault order host libs ≡ None → (slots_fault order host ≡ None) × (no_host_fault order host ≡ None) × (sources_fault order host libs ≡ None)
-none_of order host libs none =
-    let h : rest_of order host libs ≡ None = sym (reading_is order host libs) ∙ none in
-    let behind_libraries = option_or (libraries_fault order libs) (reading_rest order host libs) in
-    let behind_slots = option_or (no_host_fault order host) behind_libraries in
-    let slots = neither_second (slots_fault order host) behind_slots h in
-    let has = neither_second (no_host_fault order host) behind_libraries slots in
-    (neither_first (slots_fault order host) behind_slots h, neither_first (no_host_fault order host) behind_libraries slots, neither_first (sources_fault order host libs) (added_fault order host libs) (neither_second (libraries_fault order libs) (reading_rest order host libs) has))
+-- where there is none, what was read is all segments of the link
+all_of : (host : List ℕ) (libs : List (List ℕ)) (o : OpenedFile) (read : List Segment) → Ok o ≡ opened_alone host → read ≡ all_read o.order o.file (opened_files o.order libs) → host_reading_fault o.order o.file libs ≡ None
+    → (reading_fault host libs ≡ None) × (read ≡ segments (order_of host) host libs)
+all_of host libs o read h is none =
+    (sym (fault_of host libs o h) ∙ none, is ∙ segments_are o.order o.file libs none ∙ ap (λ (x : OpenedFile). segments x.order x.file libs) (host_is host o (sym h)))
 
 pub returns-in-Some-clause-stop : goal.returns-in-Some-clause-stop
 returns-in-Some-clause-stop g c =
@@ -70,10 +65,11 @@ returns-in-None-clause-stop g c =
     let o : OpenedFile = c.args.slots.now in
     let libs = contents c.args.libs.now in
     let none = faultless o libs c.add_to.result.fault c.requires.faultless c.add_to.ensures.ends c.in_default.is in
-    let t = none_of o.order o.file libs none in
-    let has = host_there o.order o.file libs t.1 t.2 in
-    let lacks = c.in-None.ensures.found ∙ ap (λ (ss : List SegmentView). host_of (map segment_of ss)) c.as_slice-all.ensures.value ∙ ap host_of (c.add_to.ensures.all ∙ segments_are o.order o.file libs none) in
-    let no : is_some (host_of (segments o.order o.file libs)) ≡ false = ap is_some (sym lacks) in
+    let host : List ℕ = c.args.host.now in
+    let t = all_of host libs o (map segment_of c.add_to.new.segments.items) c.requires.opened c.add_to.ensures.all none in
+    let has = has_host host libs t.0 in
+    let lacks = c.in-None.ensures.found ∙ ap (λ (ss : List SegmentView). host_of (map segment_of ss)) c.as_slice-all.ensures.value ∙ ap host_of t.1 in
+    let no : is_some (host_of (segments (order_of host) host libs)) ≡ false = ap is_some (sym lacks) in
     let wrong : true ≡ false = sym has ∙ no in
     cc
 
@@ -84,15 +80,15 @@ invariant_of-linkable g c =
     let files = opened_files o.order libs in
     let items : List SegmentView = c.add_to.new.segments.items in
     let none = faultless o libs c.add_to.result.fault c.requires.faultless c.add_to.ensures.ends c.in_default.is in
-    let t = none_of o.order o.file libs none in
-    let all : map segment_of items ≡ segments o.order o.file libs = c.add_to.ensures.all ∙ segments_are o.order o.file libs none in
+    let host : List ℕ = c.args.host.now in
+    let t = all_of host libs o (map segment_of items) c.requires.opened c.add_to.ensures.all none in
     let file : o.file ≡ c.args.host.now = ap (λ (x : OpenedFile). x.file) (host_is c.args.host.now o (sym c.requires.opened)) in
     record {
       sound = rw c.order-order.ensures (all_sound o.order o.file files items c.add_to.ensures.read);
       found = sym (c.in-Some-host_of.ensures.found ∙ ap (λ (ss : List SegmentView). host_of (map segment_of ss)) c.as_slice-all.ensures.value);
       own = c.in-Some-host_of.ensures.is;
-      one_host = rw all (one_host o.order o.file libs t.0);
-      ascending = rw all (ascend o.order o.file libs);
+      one_host = subst HasOneHost (sym t.1) (one_host (order_of host) host libs (slots_fine host libs t.0));
+      ascending = subst (λ (ss : List Segment). AscendFrom 0 (map (λ s. s.slot) ss)) (sym t.1) (ascend (order_of host) host libs);
       whole = whole_of c.args.host.now o c.requires.opened;
       alike = read_alike o.order o.file files items c.add_to.ensures.read;
       most = subst (λ (ss : List SegmentView). length ss ≤ 16) c.as_slice-all.ensures.value c.as_slice-all.ensures.fits;
@@ -112,14 +108,13 @@ returns-in-Some-host_of g c =
     let all : List Segment = segments (order_of host) host libs in
     let read = faultless o libs c.add_to.result.fault c.requires.faultless c.add_to.ensures.ends c.in_default.is in
     let order_is : order ≡ order_of host = c.order-order.ensures ∙ ap (λ (x : OpenedFile). x.order) is in
-    let given_is : given ≡ all = c.add_to.ensures.all ∙ (segments_are o.order o.file libs read ∙ ap (λ (x : OpenedFile). segments x.order x.file libs) is) in
-    let none : reading_fault host libs ≡ None = sym (fault_of host libs o c.requires.opened) ∙ read in
-    let same : linking_fault order given ≡ linking_fault (order_of host) all = ap (linking_fault order) given_is ∙ ap (λ (o : Order). linking_fault o all) order_is in
+    let t = all_of host libs o given c.requires.opened c.add_to.ensures.all read in
+    let same : linking_fault order given ≡ linking_fault (order_of host) all = ap (linking_fault order) t.1 ∙ ap (λ (o : Order). linking_fault o all) order_is in
     record {
       plan = subst (λ (o : Order). IfOk c.link_segments.result (IsPlanOf o host all)) order_is
-          (subst (λ (segs : List Segment). IfOk c.link_segments.result (IsPlanOf order host segs)) given_is c.link_segments.ensures.plan);
-      sound = IfOk-weaker c.link_segments.result (λ _. linking_fault order given ≡ None) (λ _. first_fault host libs ≡ None) (λ _ h. first_linked host libs none ∙ sym same ∙ h) c.link_segments.ensures.sound;
-      known = IfOk-weaker c.link_segments.result (λ _. linking_fault order given ≡ None) (λ _. AreOfLink host libs all) (λ _ h. of_link host libs none) c.link_segments.ensures.sound;
+          (subst (λ (segs : List Segment). IfOk c.link_segments.result (IsPlanOf order host segs)) t.1 c.link_segments.ensures.plan);
+      sound = IfOk-weaker c.link_segments.result (λ _. linking_fault order given ≡ None) (λ _. first_fault host libs ≡ None) (λ _ h. first_linked host libs t.0 ∙ sym same ∙ h) c.link_segments.ensures.sound;
+      known = IfOk-weaker c.link_segments.result (λ _. linking_fault order given ≡ None) (λ _. AreOfLink host libs all) (λ _ h. of_link host libs t.0) c.link_segments.ensures.sound;
       stop = IfErr-weaker c.link_segments.result (AreStopped order given) (IsStopped host libs)
-          (λ stop d. stopped host libs none stop (subst (λ (o : Order). AreStopped o all stop) order_is (subst (λ (segs : List Segment). AreStopped order segs stop) given_is d))) c.link_segments.ensures.stop;
+          (λ stop d. stopped host libs t.0 stop (subst (λ (o : Order). AreStopped o all stop) order_is (subst (λ (segs : List Segment). AreStopped order segs stop) t.1 d))) c.link_segments.ensures.stop;
     }

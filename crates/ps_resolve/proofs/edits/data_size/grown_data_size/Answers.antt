@@ -1,6 +1,6 @@
-use Rattle.std.proofs.Common.{◌≡◌, ℕ, zero, suc, ◌+◌, ◌-◌, ◌≤◌, ◌&&◌, ◌||◌, Bool, true, false, Option, Some, refl, subst, arith}
+use Rattle.std.proofs.Common.{◌≡◌, ℕ, ◌+◌, ◌-◌, ◌&&◌, true, subst, arith}
 use Rattle.std.specs.Prelude.{nat_le, nat_lt}
-use Rattle.std.specs.List.{list_any, filter_map, range_with_len}
+use Rattle.std.proofs.lemmas.Bool.{or_right}
 use Rattle.std.proofs.lemmas.Bool.Decides.{nat_tests}
 use Rattle.ps_words.specs.Edits.{covers}
 use Rattle.ps_words.specs.declared.edit.Edit.TheVariants.{Word}
@@ -9,16 +9,8 @@ use Rattle.ps_codefile.specs.Procedures.{procedures, table_of, is_reserved}
 use Rattle.ps_resolve.specs.Edits.{IsOfTable}
 use Rattle.ps_resolve.specs.Linkable.{IsHost}
 use Rattle.ps_resolve.specs.declared.reading.host.HostSegment.{HostSegment}
+use Rattle.ps_resolve.proofs.Hosts.{some_table}
 use Rattle.ps_resolve.proofs.edits.data_size.grown_data_size.Goals as goal
-
-or_right : (a b : Bool) → b ≡ true → (a || b) ≡ true
-or_right true b h = refl
-or_right false b h = h
-
--- what holds of the table of procedure 1 holds of one of the tables
-some_table : (f : ℕ → Option ℕ) (q : ℕ → Bool) (n t : ℕ) → 1 ≤ n → f 1 ≡ Some t → q t ≡ true → list_any q (filter_map f (range_with_len 1 n)) ≡ true
-some_table f q zero t h k s = absurd (omega arith)
-some_table f q (suc n) t h k s = rw k (rw s refl)
 
 -- what is eight bytes before the place of the outer block's table, its data size, is reserved
 stored : (order : Order) (h : HostSegment) (v : ℕ) → IsHost order h → IsOfTable order h.segment.now.code (Word v (h.outer_block - 8))
