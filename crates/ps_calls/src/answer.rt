@@ -48,7 +48,8 @@ pub struct Answer {
     pub has_record: u8,
     /// 1 where the fault has a reference, and 0 where it has none.
     pub has_reference: u8,
-    /// How many words all private variables of a linked file take together, 0 to 32767.
+    /// How many words all private variables of a linked file take together, 0 to
+    /// `MAX_NEXT_FREE`.
     pub private_words: u32,
     /// The file at fault, of a refusal: 0 is the host file, k the k-th library, from 1.
     pub file: usize,
@@ -58,7 +59,7 @@ pub struct Answer {
     pub reference: usize,
     /// How many segments a linked file has, at most 16.
     pub segments: usize,
-    /// How many blocks of 512 bytes a linked file has, at most 1025.
+    /// How many blocks of 512 bytes a linked file has, at most `MAX_FILE_BLOCKS`.
     pub blocks: usize,
     /// How many bytes were written, of a call that was done.
     pub written: usize,

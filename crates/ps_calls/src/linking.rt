@@ -8,14 +8,13 @@ ghost use Rattle.ps_calls.specs.Stops.{StopsCall, StopsLink};
 use crate::libraries::{FEW_LIBRARIES, LIBRARIES_IN_PLACE, split};
 use crate::outcome::{Done, Stop};
 use crate::room::fill;
-use ps_linkfile::prepare;
+use ps_linkfile::{MAX_FILE_BLOCKS, prepare};
 use ps_words::BLOCK_SIZE;
 use std::alloc::Global;
 
-/// How many bytes a linked file has at most: a block for its segment dictionary, and 64 for each of
-/// sixteen codes.
+/// How many bytes a linked file has at most.
 /// Source: this project's profile.
-pub const LINKED_MAX: usize = 524800;
+pub const LINKED_MAX: usize = BLOCK_SIZE * MAX_FILE_BLOCKS;
 
 /// Links a host and these libraries into the room.
 fn link_all(alloc: Global, host: &[u8], libs: &[&[u8]], room: &mut [u8]) -> Result<Done, Stop>

@@ -8,6 +8,7 @@ use Rattle.std.proofs.lemmas.Bool.Decides.{nat_tests}
 use Rattle.std.proofs.lemmas.List.{map-append, take_all}
 use Rattle.std.proofs.lemmas.List.Sums.{sum_by-cons}
 use Rattle.std.proofs.lemmas.List.Elements.{All-nil, All-cons, All-head, All-tail}
+use Rattle.ps_words.specs.declared.words.TheConstants.{MAX_WORD}
 use Rattle.ps_words.specs.Words.{word_bytes, blocks}
 use Rattle.ps_words.specs.declared.order.Order.{Order}
 use Rattle.ps_codefile.specs.declared.code_layout.TheConstants.{MAX_CODE_LEN, MAX_CODE_BLOCKS}
@@ -134,8 +135,8 @@ laid_none all h = record {
 laid_here : (all : List Extent) (count : ℕ) (starts : List ℕ) (block from : ℕ) (c : Extent) → drop count all ≡ c ∷ drop (count + 1) all → LaidSoFar all count starts block from → Left all from block (c ∷ drop (count + 1) all)
 laid_here all count starts block from c is h = subst (λ (cs : List Extent). Left all from block cs) is h.left
 
--- where a code is left, fewer than sixteen are laid out, and its first block is below 65536
-pub laid_next : (all : List Extent) (count : ℕ) (starts : List ℕ) (block from : ℕ) (c : Extent) → drop count all ≡ c ∷ drop (count + 1) all → LaidSoFar all count starts block from → (count < 16) × (block < 65536)
+-- where a code is left, fewer than sixteen are laid out, and its first block is a word
+pub laid_next : (all : List Extent) (count : ℕ) (starts : List ℕ) (block from : ℕ) (c : Extent) → drop count all ≡ c ∷ drop (count + 1) all → LaidSoFar all count starts block from → (count < 16) × (block ≤ MAX_WORD)
 laid_next all count starts block from c is h =
     let at = laid_here all count starts block from c is h in
     let low : from ≤ c.slot = at.ascend.0 in

@@ -4,11 +4,12 @@ use Rattle.std.specs.Prelude.{decimal, min}
 use Rattle.std.specs.List.{flat_map}
 use Rattle.std.proofs.lemmas.Fmt.{length-decimal-le}
 use Rattle.std.proofs.lemmas.List.{length-drop, take_min}
+use Rattle.ps_words.specs.declared.words.TheConstants.{MAX_WORD}
 use Rattle.ps_linkfile.specs.ShowText.{reference}
 use Rattle.ps_resolve.proofs.Takes.{drop_one}
 use Rattle.ps_linkfile.specs.declared.pieces.TheConstants.{PIECE_REFERENCES}
 
-pub digits_few : (n : ℕ) → n < 65536 → length (decimal n) ≤ 5
+pub digits_few : (n : ℕ) → n ≤ MAX_WORD → length (decimal n) ≤ 5
 digits_few n h = length-decimal-le 5 n (omega arith) (omega (arith, h)) (omega (arith, h))
 
 take_one : (x : ℕ) (xs : List ℕ) (n : ℕ) → take (n + 1) (x ∷ xs) ≡ x ∷ take n xs
