@@ -1,9 +1,10 @@
 -- The command line of `pslink`, as clap's contracts see it: the commands, and the arguments of
 -- each.
 -- Source: this project's profile.
-use Rattle.std.specs.Prelude.{◌≡◌, List, Option, map, true, Some, codes}
+use Rattle.std.specs.Prelude.{◌≡◌, ◌⊎◌, List, [], ◌∷◌, Option, map, true, Some, codes}
 use Rattle.std.specs.Borrow.{Bor}
-use Rattle.clap.specs.Words.{App, Row, Rule, Text, new_app, new_rule, subcommand_of, takes, with_rule, with_subcommand}
+use Rattle.clap.specs.Words.{App, Kinds, Row, Rule, Text, fault_of, new_app, new_rule, subcommand_of, takes, with_rule, with_subcommand}
+use Rattle.clap.specs.declared.error.ErrorKind.TheVariants.{DisplayHelp, DisplayVersion}
 use Rattle.clap.specs.declared.builder.ArgAction.TheVariants.{Set, SetTrue, Append}
 
 -- a file that has to be named
@@ -79,3 +80,12 @@ AreAccepted args = takes pslink_app args ≡ true
 -- the command that arguments name, and what is named for it
 abbrev pub named_in : List Text → Option (Text × List Row)
 named_in args = subcommand_of pslink_app args
+
+-- why clap gives no matches for arguments: the kinds of error that it may answer, none where it
+-- gives them; to be asked for the help or for the version is one of these kinds
+abbrev pub faults_in : List Text → Kinds
+faults_in args = fault_of pslink_app args
+
+-- the help is asked for, or the version
+abbrev pub AskForText : List Text → Type 0
+AskForText args = (faults_in args ≡ DisplayHelp ∷ []) ⊎ (faults_in args ≡ DisplayVersion ∷ [])

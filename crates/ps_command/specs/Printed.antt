@@ -5,7 +5,8 @@
 use Rattle.std.specs.Prelude.{◌≡◌, ◌⊎◌, ◌||◌, ◌+◌, ◌++◌, ◌∷◌, [], if◌then◌else◌, ℕ, Bool, true, false, List, Option, Some, codes, max}
 use Rattle.std.specs.List.{AllZip}
 use Rattle.std.specs.Io.KnownBytes.{Appends}
-use Rattle.clap.specs.Words.{Row, Text, first_of}
+use Rattle.clap.specs.Words.{IsAmong, Kinds, Row, Text, first_of}
+use Rattle.clap.specs.declared.error.ErrorKind.TheVariants.{DisplayHelp, DisplayVersion}
 use Rattle.ps_linkfile.specs.JsonText.{separator}
 use Rattle.ps_linkfile.specs.LinkedFile.{LinkedFile, summary_of}
 use Rattle.ps_linkfile.specs.MapJson.{map_json_of}
@@ -147,3 +148,16 @@ Prints Reads Writes named status old new = (rows : List Row) × (path : Text) ×
     ⊎ ((named ≡ Some (codes "show", rows)) × (status ≡ 0) × (first_of (codes "FILE") rows ≡ Some path) × PrintsShow Reads path (is_json rows) old new)
     ⊎ ((named ≡ Some (codes "check", rows)) × (first_of (codes "HOST") rows ≡ Some path) × PrintsCheck Reads (is_unit rows) path (libraries_of rows) (is_strict rows) (is_json rows) status old new)
     ⊎ ((named ≡ Some (codes "list", rows)) × PrintsLists Reads (list_form (is_json rows)) (files_of rows) status old new))
+
+-- `pslink 0.1.0`
+abbrev pub version_line : List ℕ
+version_line = codes "pslink 0.1.0" ++ 10 ∷ []
+
+-- a known writer takes one text that ends with a line end
+abbrev pub PrintsLines : Option (List ℕ) → Option (List ℕ) → Type 0
+PrintsLines old new = (text : List ℕ) × Appends old new (text ++ 10 ∷ [])
+
+-- by the line of the version, or by the help, whose words are clap's; each only where clap may
+-- answer that it is asked for
+abbrev pub PrintsText : Kinds → Option (List ℕ) → Option (List ℕ) → Type 0
+PrintsText faults old new = (IsAmong DisplayVersion faults × Appends old new version_line) ⊎ (IsAmong DisplayHelp faults × PrintsLines old new)

@@ -1,10 +1,10 @@
 -- What a request stands for, by the command and the files that clap finds named in the arguments.
 -- Source: this project's profile.
-use Rattle.std.specs.Prelude.{◌≡◌, ◌⊎◌, Any, Bool, true, false, List, [], Option, Some, None, codes, map, unwrap_or}
+use Rattle.std.specs.Prelude.{◌≡◌, ◌⊎◌, Any, Bool, true, false, List, [], Option, Some, None, codes, map, unwrap_or, ⊤}
 use Rattle.std.specs.List.{list_any}
 use Rattle.std.specs.Option.{option_map_or}
 use Rattle.std.specs.Str.{bytes_eq}
-use Rattle.clap.specs.Words.{Row, Text, all_of, first_of, kind_of}
+use Rattle.clap.specs.Words.{IsAmong, Kinds, Row, Text, all_of, first_of}
 use Rattle.clap.specs.declared.error.ErrorKind.TheVariants.{DisplayHelp, DisplayVersion}
 use Rattle.ps_command.specs.declared.request.Inputs.{Inputs}
 use Rattle.ps_command.specs.declared.request.Request.{Request}
@@ -47,7 +47,8 @@ is_json rows = has_flag (codes "json") rows
 -- the command that is named, with the files that are named for it; a link writes no file that is
 -- named as a library
 abbrev pub IsNamedCommand : {A : Type 0} → Request A → Option (Text × List Row) → Type 0
-IsNamedCommand (request.Text text) named = ⊥
+IsNamedCommand (request.Help text) named = ⊥
+IsNamedCommand request.Version named = ⊥
 IsNamedCommand (request.Link inputs out) named = (rows : List Row) × (named ≡ Some (codes "link", rows)) × NamesInputs inputs rows × (first_of (codes "OUT") rows ≡ Some out.now)
     × (is_library out.now (libraries_of rows) ≡ false)
 IsNamedCommand (request.Map inputs references json) named = (rows : List Row) × (named ≡ Some (codes "map", rows)) × NamesInputs inputs rows × (references ≡ has_references rows) × (json ≡ is_json rows)
@@ -57,12 +58,24 @@ IsNamedCommand (request.List files json) named = (rows : List Row) × (named ≡
 
 -- the help or the version, or the command that is named
 abbrev pub IsAsked : {A : Type 0} → Request A → Option (Text × List Row) → Type 0
-IsAsked {A} (request.Text text) named = (kind_of text ≡ DisplayHelp) ⊎ (kind_of text ≡ DisplayVersion)
+IsAsked {A} (request.Help text) named = ⊤
+IsAsked {A} request.Version named = ⊤
 IsAsked {A} (request.Link inputs out) named = IsNamedCommand {A = A} (request.Link inputs out) named
 IsAsked {A} (request.Map inputs references json) named = IsNamedCommand {A = A} (request.Map inputs references json) named
 IsAsked {A} (request.Show file json) named = IsNamedCommand {A = A} (request.Show file json) named
 IsAsked {A} (request.Check inputs strict unit json) named = IsNamedCommand {A = A} (request.Check inputs strict unit json) named
 IsAsked {A} (request.List files json) named = IsNamedCommand {A = A} (request.List files json) named
+
+-- the help or the version only where clap may answer that it is asked for, and a command only where
+-- clap finds no fault
+abbrev pub Answers : {A : Type 0} → Request A → Kinds → Type 0
+Answers (request.Help text) faults = IsAmong DisplayHelp faults
+Answers request.Version faults = IsAmong DisplayVersion faults
+Answers (request.Link inputs out) faults = faults ≡ []
+Answers (request.Map inputs references json) faults = faults ≡ []
+Answers (request.Show file json) faults = faults ≡ []
+Answers (request.Check inputs strict unit json) faults = faults ≡ []
+Answers (request.List files json) faults = faults ≡ []
 
 -- the command that is named leaves out a file that it needs, or no command is named
 abbrev pub LeavesOut : Option (Text × List Row) → Type 0

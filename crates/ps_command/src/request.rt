@@ -1,9 +1,9 @@
 //! What the arguments of a command line ask the program to do.
 ghost use Rattle.std.specs.Prelude.{◌≡◌, ◌≢◌, ◌⊎◌, IfErr, IfOk, Some, None, codes, map, false};
-ghost use Rattle.clap.specs.Words.{App, app_of, first_of, found_of, kind_of, rows_of, rule_of, subcommand_rows_of, with_subcommand};
+ghost use Rattle.clap.specs.Words.{App, FailsBy, app_of, first_of, found_of, kind_of, rows_of, rule_of, subcommand_rows_of, with_subcommand};
 ghost use Rattle.clap.specs.declared.Command.TheViews.{out-Command};
-ghost use Rattle.ps_command.specs.CommandLine.{AreAccepted, check_app, file_rule, files_rule, inputs_app, json_rule, libraries_rule, link_app, list_app, map_app, named_in, pslink_app, references_rule, show_app, strict_rule, texts, unit_rule};
-ghost use Rattle.ps_command.specs.Requests.{IsAsked, IsNamedCommand, LeavesOut, NamesInputs, WritesLibrary, files_of, has_flag as has_flag_spec, libraries_of};
+ghost use Rattle.ps_command.specs.CommandLine.{AreAccepted, AskForText, check_app, faults_in, file_rule, files_rule, inputs_app, json_rule, libraries_rule, link_app, list_app, map_app, named_in, pslink_app, references_rule, show_app, strict_rule, texts, unit_rule};
+ghost use Rattle.ps_command.specs.Requests.{Answers, IsAsked, IsNamedCommand, LeavesOut, NamesInputs, WritesLibrary, files_of, has_flag as has_flag_spec, libraries_of};
 ghost use Rattle.ps_command.specs.Statuses.{status_of};
 
 use crate::error::CommandError;
@@ -124,8 +124,10 @@ A name that begins with a dash is given as ./-name, or after --. See pslink(1)."
 /// Source: this project's profile.
 #[derive(Drop)]
 pub(crate) enum Request<'a, A: Allocator> {
-    /// Prints the help or the version.
-    Text(clap::Error),
+    /// Prints the help, whose words are clap's.
+    Help(clap::Error),
+    /// Prints the version.
+    Version,
     /// Links the inputs, and writes the linked file to `out`.
     Link {
         inputs: Inputs<'a, A>,
@@ -177,6 +179,11 @@ pub(crate) fn parse<'a, A: Allocator + Copy>(
 ) -> Result<Request<'a, A>, CommandError<'a>>
     ensures asked { IfOk result (λ r. IsAsked r (named_in (texts args.now))) }
 
+    // The help or the version only where it is asked for, and a command only where clap finds no
+    // fault.
+    ensures answers { IfOk result (λ r. Answers r (faults_in (texts args.now))) }
+    ensures text { AskForText (texts args.now) → IfErr result (λ e. e ≡ CommandError.Memory) }
+
     // Arguments that clap accepts name a command, and ask for no help.
     ensures named { AreAccepted (texts args.now)
         → IfOk result (λ r. IsNamedCommand r (named_in (texts args.now))) }
@@ -190,7 +197,8 @@ pub(crate) fn parse<'a, A: Allocator + Copy>(
     match matches(heap, args) {
         Ok(matches) => request_of(heap, alloc, &matches),
         Err(error) => match error.kind() {
-            ErrorKind::DisplayHelp | ErrorKind::DisplayVersion => Ok(Request::Text(error)),
+            ErrorKind::DisplayHelp => Ok(Request::Help(error)),
+            ErrorKind::DisplayVersion => Ok(Request::Version),
             _ => Err(CommandError::from(error)),
         },
     }
@@ -199,6 +207,7 @@ pub(crate) fn parse<'a, A: Allocator + Copy>(
 /// What `clap` finds in the arguments.
 fn matches<'a>(heap: Global, args: &'a [&'a str]) -> Result<ArgMatches<'a>, clap::Error>
     ensures found { IfOk result (λ m. subcommand_rows_of m ≡ named_in (texts args.now)) }
+    ensures faults { FailsBy (faults_in (texts args.now)) result }
     ensures memory { AreAccepted (texts args.now)
         → IfErr result (λ e. kind_of e ≡ ErrorKind.OutOfMemory) }
 {

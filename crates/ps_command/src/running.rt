@@ -1,10 +1,10 @@
 //! One command, from its arguments to its status.
-ghost use Rattle.std.specs.Prelude.{◌≡◌, ◌≢◌, ◌≤◌, ◌⊎◌, ◌∷◌, List, ℕ, Any, IfErr, IfOk, IsErrAnd, OnOk, false, map, string_bytes, true};
+ghost use Rattle.std.specs.Prelude.{◌≡◌, ◌≢◌, ◌≤◌, ◌⊎◌, ◌∷◌, [], List, ℕ, Any, IfErr, IfOk, IsErrAnd, OnOk, false, map, string_bytes, true};
 ghost use Rattle.std.specs.Io.KnownBytes.{Appends};
 ghost use Rattle.ps_linkfile.specs.LinkedFile.{LinkedFile, summary_of};
 ghost use Rattle.ps_linkfile.specs.Writing.{file_in, summary_in};
-ghost use Rattle.ps_command.specs.CommandLine.{AreAccepted, named_in, texts};
-ghost use Rattle.ps_command.specs.Printed.{Prints, PrintsLine, PrintsLists, PrintsMap, PrintsReport, PrintsShow, HasVerdict, IsPrintedMap, list_form as list_form_spec, printed_show};
+ghost use Rattle.ps_command.specs.CommandLine.{AreAccepted, AskForText, faults_in, named_in, texts};
+ghost use Rattle.ps_command.specs.Printed.{Prints, PrintsLine, PrintsLines, PrintsLists, PrintsMap, PrintsReport, PrintsShow, PrintsText, HasVerdict, IsPrintedMap, list_form as list_form_spec, printed_show, version_line};
 ghost use Rattle.ps_command.specs.Reading.{Reads, Writes};
 ghost use Rattle.ps_command.specs.Requests.{NamesCheck, NamesList, OverwritesLibrary, WritesLibrary};
 ghost use Rattle.ps_command.specs.Statuses.{status_of};
@@ -62,6 +62,12 @@ pub fn run<R: CodeFiles + AllocGlobal, A: Allocator + Copy, O: Write, E: Write>(
         (Writes (R.created rt.now) (R.closed rt.now) R.Created.contents)
         (named_in (texts args.now)) 0 (O.contents out.old) (O.contents out.new) }
 
+    // Where the help or the version is asked for, its text is printed, and nothing else: of the help
+    // a text that ends with a line end, of the version its one line.
+    ensures helped { result ≡ 0 → faults_in (texts args.now) ≢ []
+        → PrintsText (faults_in (texts args.now)) (O.contents out.old) (O.contents out.new) }
+    ensures asked { AskForText (texts args.now) → result ≢ 3 → result ≢ 4 → result ≡ 0 }
+
     // Where files are refused nothing is printed but the report of a check or the lists of files,
     // which name the refusal.
     ensures reported { AreAccepted (texts args.now) → result ≡ 1 → (out.new ≡ out.old)
@@ -101,6 +107,11 @@ fn carry_out<'a, R: CodeFiles + AllocGlobal, A: Allocator + Copy, O: Write, E: W
         → IfOk result (λ status. Prints (Reads (R.opened rt.now) R.Opened.remaining)
         (Writes (R.created rt.now) (R.closed rt.now) R.Created.contents)
         (named_in (texts args.now)) status (O.contents out.old) (O.contents out.new)) }
+    ensures text { IfOk result (λ status. faults_in (texts args.now) ≢ []
+        → (status ≡ 0) × PrintsText (faults_in (texts args.now)) (O.contents out.old)
+        (O.contents out.new)) }
+    ensures asked { AskForText (texts args.now)
+        → IfErr result (λ e. status_of e ≢ 3 → status_of e ≡ 4) }
     ensures few { IfOk result (λ status. status ≤ 3) }
     ensures used { IfOk result (λ status. status ≢ 2) }
     ensures silent { IfOk result (λ status. status ≡ 0 → err.new ≡ err.old) }
@@ -113,8 +124,12 @@ fn carry_out<'a, R: CodeFiles + AllocGlobal, A: Allocator + Copy, O: Write, E: W
         → OverwritesLibrary (R.one_file rt.now) (named_in (texts args.now))) }
 {
     match request::parse(rt.alloc(), alloc, args)? {
-        Request::Text(text) => {
-            print_text(rt.alloc(), text, out)?;
+        Request::Help(text) => {
+            print_help(rt.alloc(), text, out)?;
+            Ok(0)
+        }
+        Request::Version => {
+            print_version(out)?;
             Ok(0)
         }
         Request::Link { inputs, out: path } => {
@@ -151,16 +166,29 @@ fn carry_out<'a, R: CodeFiles + AllocGlobal, A: Allocator + Copy, O: Write, E: W
     }
 }
 
-/// Prints the help or the version.
-fn print_text<O: Write>(
+/// Prints the help, whose words are clap's, and a line end where these have none.
+fn print_help<O: Write>(
     heap: Global,
     text: clap::Error,
     out: &mut O,
 ) -> Result<(), CommandError<'static>>
-    ensures { IfErr result (λ e. status_of e ≢ 3 → out.new ≡ out.old) }
+    ensures ok { OnOk result (PrintsLines (O.contents out.old) (O.contents out.new)) }
+    ensures err { IfErr result (λ e. status_of e ≢ 3 → out.new ≡ out.old) }
+    ensures usage { IfErr result (λ e. status_of e ≢ 3 → status_of e ≡ 4) }
 {
-    let text = text.to_string(heap)?;
-    output::print(out, text.as_bytes())
+    let mut words = text.to_string(heap)?;
+    if words.as_bytes().last() != Some(&b'\n') {
+        words.push('\n')?;
+    }
+    output::print(out, words.as_bytes())
+}
+
+/// Prints the version.
+fn print_version<O: Write>(out: &mut O) -> Result<(), CommandError<'static>>
+    ensures ok { OnOk result (Appends (O.contents out.old) (O.contents out.new) version_line) }
+    ensures err { IfErr result (λ e. status_of e ≡ 3) }
+{
+    output::print(out, b"pslink 0.1.0\n")
 }
 
 /// Refuses to write a file that is a library too, to which another path leads.

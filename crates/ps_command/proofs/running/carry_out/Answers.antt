@@ -6,6 +6,7 @@ use Rattle.ps_command.specs.Reading.{Reads, Writes}
 use Rattle.ps_command.specs.Requests.{files_of, has_references, is_json, is_strict, libraries_of}
 use Rattle.ps_command.specs.declared.lists.Form.{Form}
 use Rattle.ps_command.specs.declared.lists.Form.TheVariants as form
+use Rattle.ps_command.proofs.Asked.{no_text_asked}
 use Rattle.ps_command.proofs.running.carry_out.Goals as goal
 
 pub returns-in_ok-link-in-Link-clause-ok : goal.returns-in_ok-link-in-Link-clause-ok
@@ -126,3 +127,33 @@ returns-else-unit-clause-few g c = IfOk-weaker c.check.result _ _ (λ status few
 
 pub returns-else-unit-clause-used : goal.returns-else-unit-clause-used
 returns-else-unit-clause-used g c = IfOk-weaker c.check.result _ _ (λ status few. omega (arith, few)) c.check.ensures.few
+
+pub returns-then-unit-clause-text : goal.returns-then-unit-clause-text
+returns-then-unit-clause-text g c =
+    let none = rw c.in-Check.is at c.in_ok-text.ensures.answers in
+    IfOk-weaker c.check_units.result _ _ (λ status few some. absurd (some none)) c.check_units.ensures.few
+
+pub returns-then-unit-clause-asked : goal.returns-then-unit-clause-asked
+returns-then-unit-clause-asked g c asks =
+    let none = rw c.in-Check.is at c.in_ok-text.ensures.answers in
+    absurd (no_text_asked (map (λ arg. arg.now) c.args.args.now) none asks)
+
+pub returns-else-unit-clause-text : goal.returns-else-unit-clause-text
+returns-else-unit-clause-text g c =
+    let none = rw c.in-Check.is at c.in_ok-text.ensures.answers in
+    IfOk-weaker c.check.result _ _ (λ status few some. absurd (some none)) c.check.ensures.few
+
+pub returns-else-unit-clause-asked : goal.returns-else-unit-clause-asked
+returns-else-unit-clause-asked g c asks =
+    let none = rw c.in-Check.is at c.in_ok-text.ensures.answers in
+    absurd (no_text_asked (map (λ arg. arg.now) c.args.args.now) none asks)
+
+pub returns-in-List-clause-text : goal.returns-in-List-clause-text
+returns-in-List-clause-text g c =
+    let none = rw c.in-List.is at c.in_ok-text.ensures.answers in
+    IfOk-weaker c.print_lists.result _ _ (λ status few some. absurd (some none)) c.print_lists.ensures.few
+
+pub returns-in-List-clause-asked : goal.returns-in-List-clause-asked
+returns-in-List-clause-asked g c asks =
+    let none = rw c.in-List.is at c.in_ok-text.ensures.answers in
+    absurd (no_text_asked (map (λ arg. arg.now) c.args.args.now) none asks)
