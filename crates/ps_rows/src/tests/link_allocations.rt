@@ -79,13 +79,13 @@ impl<'a> Allocating for Prepare<'a> {
     }
 }
 
-/// Writes a prepared link to a writer of each kind: the answers and whether each has the linked
-/// file, as text.
+/// Writes a prepared link to a writer of each kind: the answers as text, where each has the linked
+/// file.
 fn written<A: Allocator + Copy>(
     alloc: Global,
     link: &Link<'_>,
     linked: &Linked<'_, A>,
-) -> Result<[String; 3], AllocError> {
+) -> Result<String, AllocError> {
     let mut room = link.room(alloc)?;
     let answer = linked.write(&mut room).map_err(LinkError::Write);
     let first = link.text_of(alloc, answer, room.written())?;
@@ -95,7 +95,7 @@ fn written<A: Allocator + Copy>(
     let mut told = Counting::new(link.room(alloc)?);
     let answer = linked.write_told(&mut told).map_err(LinkError::Write);
     let third = link.text_of(alloc, answer, told.into_inner().written())?;
-    Ok([first, second, third])
+    format!(in alloc; "{first}, {second}, {third}")
 }
 
 /// Checks that preparing a link makes so many allocations, of so many bytes in all, and that
@@ -112,10 +112,17 @@ fn writing_grows_nothing(
     let linked = prepare(heap, link.host, link.libraries).expect(rt, "unexpected error");
     let (allocations, bytes) = (heap.allocations(), heap.bytes());
     assert!(rt; (allocations, bytes) == asked, "{allocations} {bytes}");
-    let [first, second, third] = written(alloc, link, &linked).expect(rt, "unexpected error");
-    is(rt, "a room", first.as_str(), summary);
-    is(rt, "a list", second.as_str(), summary);
-    is(rt, "a writer that counts", third.as_str(), summary);
+    let text = written(alloc, link, &linked).expect(rt, "unexpected error");
+    let wanted = format!(in alloc; "{summary}, {summary}, {summary}").expect(
+        rt,
+        "unexpected error",
+    );
+    is(
+        rt,
+        "a room, a list and a writer that counts",
+        text.as_str(),
+        wanted.as_str(),
+    );
     assert!(rt; heap.allocations() == allocations);
 }
 
