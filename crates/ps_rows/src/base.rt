@@ -1,11 +1,10 @@
 //! The base pair: a host that wants one unit, the library that has it, and the file that the two
 //! are linked to.
-use crate::code_file::Change::{Bytes, Code, Entry, Records};
-use crate::code_file::{CodeFile, HOST_SEGMENT, LINKED, Slot, UNIT_SEGMENT};
+use crate::code_file::Change::{Bytes, Code, CodeWord, Entry, HostCode, Records, UnitCode};
+use crate::code_file::{Changes, HOST_SEGMENT, LINKED, Slot, UNIT_SEGMENT};
 use crate::information::Record::{End, PrivateReference, PublicDefinition, PublicReference};
 use crate::information::{Name, Record};
 use ps_words::Order;
-use std::alloc::{AllocError, Global};
 
 /// The names of the base pair's segments and symbols.
 pub const DEMO: Name = *b"DEMO    ";
@@ -113,50 +112,37 @@ pub fn util_code(order: Order, number: u8) -> [u8; 24] {
 }
 
 /// The base host.
-pub fn base_host(alloc: Global, order: Order) -> Result<CodeFile, AllocError> {
-    let parts = [
-        Entry(DEMO_SLOT, DEMO_ENTRY),
-        Entry(UTIL_SLOT, WANTED_UTIL),
-        Bytes(300, &[0x2A]),
-        Code(1, 0, &demo_code(order)),
-        Records(2, &HOST_RECORDS),
-    ];
-    CodeFile::new(alloc, order, BASE_LENGTH)?.with(alloc, &parts)
-}
+pub const HOST: Changes<'static> = &[
+    Entry(DEMO_SLOT, DEMO_ENTRY),
+    Entry(UTIL_SLOT, WANTED_UTIL),
+    Bytes(300, &[0x2A]),
+    HostCode(1),
+    Records(2, &HOST_RECORDS),
+];
 
 /// The base library.
-pub fn base_library(alloc: Global, order: Order) -> Result<CodeFile, AllocError> {
-    let parts = [
-        Entry(UTIL_ENTRY, LIBRARY_UTIL),
-        Code(1, 0, &util_code(order, UTIL_ENTRY)),
-        Records(2, &LIBRARY_RECORDS),
-    ];
-    CodeFile::new(alloc, order, BASE_LENGTH)?.with(alloc, &parts)
-}
+pub const LIBRARY: Changes<'static> = &[
+    Entry(UTIL_ENTRY, LIBRARY_UTIL),
+    UnitCode(1, UTIL_ENTRY),
+    Records(2, &LIBRARY_RECORDS),
+];
 
 /// What a host with the base host's segments is linked to where no operand and no size changes: the
 /// two codes are as they were, but for the unit's segment number.
-pub fn linked_segments(alloc: Global, order: Order) -> Result<CodeFile, AllocError> {
-    let parts = [
-        Entry(DEMO_SLOT, LINKED_DEMO),
-        Entry(UTIL_SLOT, LINKED_UTIL),
-        Bytes(300, &[0x2A]),
-        Code(1, 0, &demo_code(order)),
-        Code(2, 0, &util_code(order, UTIL_SLOT)),
-    ];
-    CodeFile::new(alloc, order, BASE_LENGTH)?.with(alloc, &parts)
-}
+pub const LINKED_SEGMENTS: Changes<'static> = &[
+    Entry(DEMO_SLOT, LINKED_DEMO),
+    Entry(UTIL_SLOT, LINKED_UTIL),
+    Bytes(300, &[0x2A]),
+    HostCode(1),
+    UnitCode(2, UTIL_SLOT),
+];
+
+/// The data size and the operands of what the base pair is linked to.
+pub const LINKED_OPERANDS: Changes<'static> = &[
+    CodeWord(1, 4, 18),
+    Code(2, 1, &[0x80, 3]),
+    Code(2, 4, &[0x80, 10]),
+];
 
 /// What the base pair is linked to.
-pub fn linked_base_pair(alloc: Global, order: Order) -> Result<CodeFile, AllocError> {
-    let data_size: [u8; 2] = match order {
-        Order::Little => [18, 0],
-        Order::Big => [0, 18],
-    };
-    let changes = [
-        Code(1, 4, &data_size),
-        Code(2, 1, &[0x80, 3]),
-        Code(2, 4, &[0x80, 10]),
-    ];
-    linked_segments(alloc, order)?.with(alloc, &changes)
-}
+pub const LINKED_PAIR: &[Changes<'static>] = &[LINKED_SEGMENTS, LINKED_OPERANDS];

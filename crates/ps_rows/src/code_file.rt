@@ -1,4 +1,5 @@
 //! Code files that tests make from their parts.
+use crate::base::{BASE_LENGTH, demo_code, util_code};
 use crate::information::{Information, Name, Record, bytes_of};
 use ps_words::Order;
 use std::alloc::{AllocError, Global};
@@ -53,11 +54,18 @@ pub enum Change<'a> {
     Code(u16, usize, &'a [u8]),
     /// At a place of the code that begins with a block is this word.
     CodeWord(u16, usize, u16),
+    /// From a block's start on is the base host's code.
+    HostCode(u16),
+    /// From a block's start on is the base unit's code with this segment number.
+    UnitCode(u16, u8),
     /// From a block's start on is this link information.
     Records(u16, &'a [Record<'a>]),
     /// The file is truncated, or made longer by zeros, to so many bytes.
     Resized(usize),
 }
+
+/// Changes of a file, one after the other.
+pub type Changes<'a> = &'a [Change<'a>];
 
 /// A code file that is being made: its bytes, and the order of its words.
 #[derive(Drop)]
@@ -67,22 +75,23 @@ pub struct CodeFile {
 }
 
 impl CodeFile {
-    /// A file of so many bytes, all 0 but for the names, which are blank.
-    pub fn new(alloc: Global, order: Order, length: usize) -> Result<CodeFile, AllocError> {
+    /// A file of three blocks, all 0 but for the names, which are blank, with these changes, one
+    /// list after the other.
+    pub fn new(alloc: Global, order: Order, lists: &[Changes<'_>]) -> Result<CodeFile, AllocError> {
         let mut file = CodeFile {
             order,
-            bytes: Vec::from_elem(alloc, 0, length)?,
+            bytes: Vec::from_elem(alloc, 0, BASE_LENGTH)?,
         };
         file.bytes(NAMES, &[b' '; KINDS - NAMES]);
+        for changes in lists {
+            file.change(alloc, *changes)?;
+        }
         Ok(file)
     }
 
-    /// With these changes, one after the other; bytes that would lie past the file's end are left
-    /// out.
-    pub fn with(mut self, alloc: Global, changes: &[Change<'_>]) -> Result<CodeFile, AllocError> {
-        for change in changes {
-            self.change(alloc, change)?;
-        }
+    /// With these changes.
+    pub fn with(mut self, alloc: Global, changes: Changes<'_>) -> Result<CodeFile, AllocError> {
+        self.change(alloc, changes)?;
         Ok(self)
     }
 
@@ -91,15 +100,29 @@ impl CodeFile {
         self.bytes.as_slice()
     }
 
-    fn change(&mut self, alloc: Global, change: &Change<'_>) -> Result<(), AllocError> {
+    /// Makes these changes; bytes that would lie past the file's end are left out.
+    pub fn change(&mut self, alloc: Global, changes: Changes<'_>) -> Result<(), AllocError> {
+        for change in changes {
+            self.change_once(alloc, change)?;
+        }
+        Ok(())
+    }
+
+    fn change_once(&mut self, alloc: Global, change: &Change<'_>) -> Result<(), AllocError> {
         match *change {
             Change::Entry(slot, entry) => self.entry(slot, &entry),
-            Change::Address(slot, address) => self.word(pair_at(slot), address),
-            Change::Length(slot, length) => self.word(length_at(slot), length),
-            Change::Kind(slot, kind) => self.word(kind_at(slot), kind),
+            Change::Address(slot, address) => self.word(PAIR_SIZE * usize::from(slot), address),
+            Change::Length(slot, length) => {
+                self.word(PAIR_SIZE * usize::from(slot) + WORD_SIZE, length)
+            }
+            Change::Kind(slot, kind) => self.word(KINDS + WORD_SIZE * usize::from(slot), kind),
             Change::Bytes(place, bytes) => self.bytes(place, bytes),
             Change::Code(block, place, bytes) => self.bytes(code_at(block, place), bytes),
             Change::CodeWord(block, place, word) => self.word(code_at(block, place), word),
+            Change::HostCode(block) => self.bytes(code_at(block, 0), &demo_code(self.order)),
+            Change::UnitCode(block, number) => {
+                self.bytes(code_at(block, 0), &util_code(self.order, number))
+            }
             Change::Records(block, records) => {
                 let information = Information::new(alloc, self.order, records)?;
                 self.bytes(code_at(block, 0), information.as_slice());
@@ -110,10 +133,11 @@ impl CodeFile {
     }
 
     fn entry(&mut self, slot: u8, entry: &Slot) {
-        self.word(pair_at(slot), entry.address);
-        self.word(length_at(slot), entry.length);
-        self.bytes(name_at(slot), &entry.name);
-        self.word(kind_at(slot), entry.kind);
+        let slot = usize::from(slot);
+        self.word(PAIR_SIZE * slot, entry.address);
+        self.word(PAIR_SIZE * slot + WORD_SIZE, entry.length);
+        self.bytes(NAMES + NAME_SIZE * slot, &entry.name);
+        self.word(KINDS + WORD_SIZE * slot, entry.kind);
     }
 
     fn word(&mut self, place: usize, word: u16) {
@@ -126,26 +150,6 @@ impl CodeFile {
             *to = *from;
         }
     }
-}
-
-/// Where a slot's address is.
-fn pair_at(slot: u8) -> usize {
-    PAIR_SIZE * usize::from(slot)
-}
-
-/// Where a slot's length is.
-fn length_at(slot: u8) -> usize {
-    PAIR_SIZE * usize::from(slot) + WORD_SIZE
-}
-
-/// Where a slot's name is.
-fn name_at(slot: u8) -> usize {
-    NAMES + NAME_SIZE * usize::from(slot)
-}
-
-/// Where a slot's kind is.
-fn kind_at(slot: u8) -> usize {
-    KINDS + WORD_SIZE * usize::from(slot)
 }
 
 /// Where a place of the code is in the file that begins with a block.

@@ -3,13 +3,9 @@
 #![tactic(auto)]
 
 #[cfg(test)]
-mod added;
-#[cfg(test)]
 mod base;
 #[cfg(test)]
 mod code_file;
-#[cfg(test)]
-mod in_place;
 #[cfg(test)]
 mod information;
 #[cfg(test)]

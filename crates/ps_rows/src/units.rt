@@ -1,14 +1,9 @@
 //! Hosts that want two units, and libraries other than the base library.
-use crate::base::{
-    BASE_LENGTH, COUNT, LIBRARY_RECORDS, LIBRARY_UTIL, UTIL_ENTRY, UTIL_LENGTH, UTIL_SLOT,
-    base_host, base_library, linked_base_pair, linked_segments, util_code,
-};
-use crate::code_file::Change::{Bytes, Code, Entry, Length, Records, Resized};
-use crate::code_file::{CodeFile, LINKED, Slot, UNIT_SEGMENT};
-use crate::information::Record::{End, PublicReference};
+use crate::base::{COUNT, LIBRARY_RECORDS, LIBRARY_UTIL, UTIL, UTIL_ENTRY, UTIL_LENGTH, UTIL_SLOT};
+use crate::code_file::Change::{Bytes, Code, CodeWord, Entry, Length, Records, Resized, UnitCode};
+use crate::code_file::{Changes, LINKED, Slot, UNIT_SEGMENT};
+use crate::information::Record::{End, PublicReference, UnitReference};
 use crate::information::{Name, Record};
-use ps_words::Order;
-use std::alloc::{AllocError, Global};
 
 /// The second unit: its name, its slot in the host and its slot in the library.
 pub const AUX: Name = *b"AUX     ";
@@ -41,107 +36,141 @@ pub const LINKED_AUX: Slot = Slot {
     length: UTIL_LENGTH,
 };
 
-/// The base host, which wants the second unit too.
-pub fn host_of_two_units(alloc: Global) -> Result<CodeFile, AllocError> {
-    base_host(alloc, Order::Little)?.with(alloc, &[Entry(AUX_SLOT, WANTED_AUX)])
-}
+/// What the base host has where it wants the second unit too.
+pub const WANTS_AUX: Changes<'static> = &[Entry(AUX_SLOT, WANTED_AUX)];
 
-/// The base library with a second unit, which is like the first.
-pub fn library_of_two_units(alloc: Global) -> Result<CodeFile, AllocError> {
-    let changes = [
-        Resized(2560),
-        Entry(AUX_ENTRY, LIBRARY_AUX),
-        Code(3, 0, &util_code(Order::Little, AUX_ENTRY)),
-        Records(4, &LIBRARY_RECORDS),
-    ];
-    base_library(alloc, Order::Little)?.with(alloc, &changes)
-}
+/// What the base library has where there is a second unit in it, which is like the first.
+pub const HAS_AUX: Changes<'static> = &[
+    Resized(2560),
+    Entry(AUX_ENTRY, LIBRARY_AUX),
+    UnitCode(3, AUX_ENTRY),
+    Records(4, &LIBRARY_RECORDS),
+];
 
-/// What the host and the library of two units are linked to, but for the second unit's operands and
-/// the data size that its private variable takes.
-pub fn linked_two_units(alloc: Global) -> Result<CodeFile, AllocError> {
-    let changes = [
-        Resized(2048),
-        Entry(AUX_SLOT, LINKED_AUX),
-        Code(3, 0, &util_code(Order::Little, AUX_SLOT)),
-    ];
-    linked_base_pair(alloc, Order::Little)?.with(alloc, &changes)
-}
+/// What the linked base pair has beside its two segments where the second unit is linked too, but
+/// for the second unit's operands and the data size that its private variable takes.
+pub const LINKED_SECOND: Changes<'static> = &[
+    Resized(2048),
+    Entry(AUX_SLOT, LINKED_AUX),
+    UnitCode(3, AUX_SLOT),
+];
+
+/// The link information of a first unit that uses the second: its byte 2 is the segment number of
+/// the second.
+pub const USING_RECORDS: [Record<'static>; 2] = [UnitReference(AUX, &[2]), End(0)];
+
+/// What the library of two units has where the first uses the second in place of the host's
+/// definition and of a private variable.
+pub const USES_AUX: Changes<'static> = &[Records(2, &USING_RECORDS)];
+
+/// The data size and the operands of what the base host is linked to with it: the second unit is
+/// added in slot 8.
+pub const LINKED_USER: Changes<'static> = &[
+    CodeWord(1, 4, 18),
+    Code(2, 2, &[8]),
+    Code(3, 2, &[3]),
+    Code(3, 5, &[10]),
+];
 
 /// The length of the code of a unit with nine operands.
 pub const NINE_LENGTH: u16 = 44;
 
-/// The code of a unit with nine operands, whose first bytes are 128 and whose second bytes are this
-/// one, and with this segment number.
-pub fn nine_operands(second: u8, number: u8) -> [u8; 44] {
-    let s = second;
-    [
-        0xAB, 0x80, s, 0xAB, 0x80, s, 0xAB, 0x80, s, 0xAB, 0x80, s, 0xAB, 0x80, s, 0xAB, 0x80, s,
-        0xAB, 0x80, s, 0xAB, 0x80, s, 0xAB, 0x80, s, 0xD7, 0xAD, 0, 0, 0, 0, 0, 6, 0, 0x24, 0, 1,
-        0, 2, 0, number, 1,
-    ]
-}
-
-/// Its link information: one record, whose list has two pieces.
-pub const NINE_REFERENCES: [Record<'static>; 2] = [
-    PublicReference(COUNT, &[1, 4, 7, 10, 13, 16, 19, 22, 25]),
-    End(0),
+/// The code of a unit with nine operands, whose bytes are 128 and 0, and its linked code.
+const NINE_OPERANDS: [u8; 44] = [
+    0xAB, 0x80, 0, 0xAB, 0x80, 0, 0xAB, 0x80, 0, 0xAB, 0x80, 0, 0xAB, 0x80, 0, 0xAB, 0x80, 0, 0xAB,
+    0x80, 0, 0xAB, 0x80, 0, 0xAB, 0x80, 0, 0xD7, 0xAD, 0, 0, 0, 0, 0, 6, 0, 0x24, 0, 1, 0, 2, 0, 2,
+    1,
 ];
 
-/// A library whose unit has nine operands; the words that its list of references does not use are
-/// not 0.
-pub fn library_of_nine_references(alloc: Global) -> Result<CodeFile, AllocError> {
-    let unit = Slot {
-        length: NINE_LENGTH,
-        ..LIBRARY_UTIL
-    };
-    let unused_words = 1058;
-    let parts = [
-        Entry(UTIL_ENTRY, unit),
-        Code(1, 0, &nine_operands(0, UTIL_ENTRY)),
-        Records(2, &NINE_REFERENCES),
-        Bytes(unused_words, &[0xFF; 14]),
-    ];
-    CodeFile::new(alloc, Order::Little, BASE_LENGTH)?.with(alloc, &parts)
-}
+const NINE_LINKED: [u8; 44] = [
+    0xAB, 0x80, 3, 0xAB, 0x80, 3, 0xAB, 0x80, 3, 0xAB, 0x80, 3, 0xAB, 0x80, 3, 0xAB, 0x80, 3, 0xAB,
+    0x80, 3, 0xAB, 0x80, 3, 0xAB, 0x80, 3, 0xD7, 0xAD, 0, 0, 0, 0, 0, 6, 0, 0x24, 0, 1, 0, 2, 0, 7,
+    1,
+];
+
+/// A unit with a code that is not the base unit's.
+const NINE_UTIL: Slot = Slot {
+    length: NINE_LENGTH,
+    ..LIBRARY_UTIL
+};
+
+/// A library whose unit has nine operands and one record for them, whose list has two pieces; the
+/// words that the list does not use are not 0.
+pub const NINE_LIBRARY: Changes<'static> = &[
+    Entry(UTIL_ENTRY, NINE_UTIL),
+    Code(1, 0, &NINE_OPERANDS),
+    Records(
+        2,
+        &[
+            PublicReference(COUNT, &[1, 4, 7, 10, 13, 16, 19, 22, 25]),
+            End(0),
+        ],
+    ),
+    Bytes(1058, &[0xFF; 14]),
+];
+
+/// The unit of what the base host is linked to with it.
+pub const NINE_UNIT: Changes<'static> = &[Length(UTIL_SLOT, NINE_LENGTH), Code(2, 0, &NINE_LINKED)];
 
 /// The length of the code of a unit that is longer than a block.
 pub const LONG_LENGTH: u16 = 530;
 
 /// Its first 510 bytes.
-pub const LONG_FILL: [u8; 510] = [0xD7; 510];
+const LONG_FILL: [u8; 510] = [0xD7; 510];
 
-/// Its last twenty bytes, from byte 510 on: an operand of these two bytes at 511 and 512, and this
-/// segment number.
-pub fn long_end(operand: [u8; 2], number: u8) -> [u8; 20] {
-    let [high, low] = operand;
-    [
-        0xA5, high, low, 0xD7, 0xAD, 0, 0, 0, 0, 0, 6, 0, 10, 2, 1, 0, 2, 0, number, 1,
-    ]
-}
+/// Its last twenty bytes, from byte 510 on, with an operand at 511 and 512, before and after it is
+/// linked.
+pub const LONG_END: [u8; 20] = [
+    0xA5, 0x80, 0xFF, 0xD7, 0xAD, 0, 0, 0, 0, 0, 6, 0, 10, 2, 1, 0, 2, 0, 2, 1,
+];
+
+const LONG_END_LINKED: [u8; 20] = [
+    0xA5, 0x81, 2, 0xD7, 0xAD, 0, 0, 0, 0, 0, 6, 0, 10, 2, 1, 0, 2, 0, 7, 1,
+];
+
+const LONG_UTIL: Slot = Slot {
+    length: LONG_LENGTH,
+    ..LIBRARY_UTIL
+};
 
 /// A library whose unit has an operand that lies in two blocks.
-pub fn library_of_a_long_unit(alloc: Global) -> Result<CodeFile, AllocError> {
-    let unit = Slot {
-        length: LONG_LENGTH,
-        ..LIBRARY_UTIL
-    };
-    let parts = [
-        Entry(UTIL_ENTRY, unit),
-        Code(1, 0, &LONG_FILL),
-        Code(1, 510, &long_end([0x80, 0xFF], UTIL_ENTRY)),
-        Records(3, &[PublicReference(COUNT, &[511]), End(0)]),
-    ];
-    CodeFile::new(alloc, Order::Little, 2048)?.with(alloc, &parts)
-}
+pub const LONG_LIBRARY: Changes<'static> = &[
+    Resized(2048),
+    Entry(UTIL_ENTRY, LONG_UTIL),
+    Code(1, 0, &LONG_FILL),
+    Code(1, 510, &LONG_END),
+    Records(3, &[PublicReference(COUNT, &[511]), End(0)]),
+];
 
-/// What the base host is linked to with that library.
-pub fn linked_long_unit(alloc: Global) -> Result<CodeFile, AllocError> {
-    let changes = [
-        Resized(2048),
-        Length(UTIL_SLOT, LONG_LENGTH),
-        Code(2, 0, &LONG_FILL),
-        Code(2, 510, &long_end([0x81, 2], UTIL_SLOT)),
-    ];
-    linked_segments(alloc, Order::Little)?.with(alloc, &changes)
-}
+/// The unit of what the base host is linked to with it.
+pub const LONG_UNIT: Changes<'static> = &[
+    Resized(2048),
+    Length(UTIL_SLOT, LONG_LENGTH),
+    Code(2, 0, &LONG_FILL),
+    Code(2, 510, &LONG_END_LINKED),
+];
+
+/// The block in which the code of a unit begins that its host holds itself.
+pub const UNIT_CODE: u16 = 3;
+
+/// The entry of a unit in place.
+pub const UTIL_IN_PLACE: Slot = Slot {
+    name: UTIL,
+    kind: UNIT_SEGMENT,
+    address: UNIT_CODE,
+    length: UTIL_LENGTH,
+};
+
+/// What the base host has where it holds its unit itself, with one public reference.
+pub const HAS_UNIT: Changes<'static> = &[
+    Resized(2560),
+    Entry(UTIL_SLOT, UTIL_IN_PLACE),
+    UnitCode(UNIT_CODE, UTIL_SLOT),
+    Records(4, &[PublicReference(COUNT, &[1]), End(0)]),
+];
+
+/// The operand of what it is linked to.
+pub const LINKED_REFERENCE: Changes<'static> = &[Code(2, 1, &[0x80, 3])];
+
+/// What the host with its unit in place has where the unit is like the base library's.
+pub const LIKE_LIBRARY: Changes<'static> = &[UnitCode(3, 2), Records(4, &LIBRARY_RECORDS)];

@@ -1,4 +1,5 @@
 //! Calls where memory is wanting.
+use super::answers::{OUT_OF_MEMORY, is};
 use refusing::Refusing;
 use std::alloc::{AllocError, Allocator, Global};
 use std::process::Abort;
@@ -6,56 +7,31 @@ use std::process::Abort;
 /// More allocations than a call on these files makes.
 const MANY: u64 = 1000;
 
-/// The answer of each call whose allocation is refused.
-pub(crate) const OUT_OF_MEMORY: &str = "out of memory";
-
 /// A call that takes memory.
 pub(crate) trait Allocating {
     /// Makes the call, which grows on `heap`, and returns its answer as text made on `alloc`.
     fn answer<A: Allocator + Copy>(&self, alloc: Global, heap: A) -> Result<String, AllocError>;
 }
 
-/// Makes a call with this allocation refused: the answer is out of memory, and a second call has
-/// the memory that it wants. Returns whether there was such an allocation; where there was none the
-/// first call has the memory.
-fn refuses_allocation(
-    rt: &(impl Abort + AllocGlobal),
-    what: &str,
-    call: &impl Allocating,
-    answer: &str,
-    allocation: u64,
-) -> bool {
-    let alloc = rt.alloc();
-    let heap = Refusing::once(alloc, allocation);
-    let text = call.answer(alloc, &heap).expect(rt, "unexpected error");
-    if !heap.has_refused() {
-        assert!(rt; text.as_str() == answer, "{what}: {text}");
-        return false;
-    }
-    assert!(rt;
-        text.as_str() == OUT_OF_MEMORY,
-        "{what}: allocation {allocation}: {text}"
-    );
-    let again = call.answer(alloc, &heap).expect(rt, "unexpected error");
-    assert!(rt;
-        again.as_str() == answer,
-        "{what}: after allocation {allocation}: {again}"
-    );
-    true
-}
-
-/// Makes a call with each allocation refused in turn, until none was refused. Returns how many were
-/// refused.
+/// Makes a call with each allocation refused in turn, until none was refused: the answer is out of
+/// memory, and a second call has the memory that it wants. Returns how many were refused.
 pub(crate) fn refused_allocations(
     rt: &(impl Abort + AllocGlobal),
     what: &str,
     call: &impl Allocating,
     answer: &str,
 ) -> u64 {
+    let alloc = rt.alloc();
     for allocation in 1..MANY {
-        if !refuses_allocation(rt, what, call, answer, allocation) {
+        let heap = Refusing::once(alloc, allocation);
+        let text = call.answer(alloc, &heap).expect(rt, "unexpected error");
+        if !heap.has_refused() {
+            is(rt, what, text.as_str(), answer);
             return allocation - 1;
         }
+        is(rt, what, text.as_str(), OUT_OF_MEMORY);
+        let again = call.answer(alloc, &heap).expect(rt, "unexpected error");
+        is(rt, what, again.as_str(), answer);
     }
     assert!(rt; false, "{what}: each allocation was refused");
     MANY
@@ -82,6 +58,6 @@ pub(crate) fn makes_no_allocation(
     let alloc = rt.alloc();
     let heap = Refusing::from(alloc, 1);
     let text = call.answer(alloc, &heap).expect(rt, "unexpected error");
-    assert!(rt; text.as_str() == answer, "{what}: {text}");
+    is(rt, what, text.as_str(), answer);
     assert!(rt; heap.allocations() == 0, "{what}");
 }

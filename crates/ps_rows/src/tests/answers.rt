@@ -1,4 +1,5 @@
-//! Links that tests make, and their answers as text.
+//! Answers as text.
+use super::link_allocations::Link;
 use ps_linkfile::{LinkError, Summary, WriteFault, link};
 use ps_words::Order;
 use std::alloc::{AllocError, Global};
@@ -6,6 +7,14 @@ use std::process::Abort;
 
 /// The byte order of most inputs.
 pub(crate) const LITTLE: Order = Order::Little;
+
+/// The answer of each call whose allocation is refused.
+pub(crate) const OUT_OF_MEMORY: &str = "out of memory";
+
+/// Checks a text.
+pub(crate) fn is(rt: &impl Abort, what: &str, text: &str, wanted: &str) {
+    assert!(rt; text == wanted, "{what}: {text}");
+}
 
 /// A link's answer: the program's line for a Summary, or the text of an error.
 pub(crate) fn text_of(
@@ -30,7 +39,7 @@ pub(crate) fn text_of(
 pub(crate) fn text_of_error(alloc: Global, error: LinkError) -> Result<String, AllocError> {
     match error {
         LinkError::Refused(fault) => format!(in alloc; "{fault}"),
-        LinkError::Memory => String::from_str(alloc, "out of memory"),
+        LinkError::Memory => String::from_str(alloc, OUT_OF_MEMORY),
         LinkError::Write(WriteFault::Device(error)) => {
             format!(in alloc; "device error {:?}", error.kind())
         }
@@ -38,32 +47,13 @@ pub(crate) fn text_of_error(alloc: Global, error: LinkError) -> Result<String, A
     }
 }
 
-/// Checks that a link with these files gives this summary and this file.
-pub(crate) fn links(
-    rt: &(impl Abort + AllocGlobal),
-    what: &str,
-    host: &[u8],
-    libraries: &[&[u8]],
-    summary: &str,
-    file: &[u8],
-) {
+/// Checks the summary of a link and the file, which is written to a list of bytes, or the error,
+/// before which nothing is written.
+pub(crate) fn links(rt: &(impl Abort + AllocGlobal), what: &str, files: &Link<'_>, answer: &str) {
     let alloc = rt.alloc();
     let mut out = Vec::new(alloc);
-    let answer = text_of(alloc, link(alloc, host, libraries, &mut out)).expect(
-        rt,
-        "unexpected error",
-    );
-    assert!(rt; answer.as_str() == summary, "{what}: {answer}");
-    assert!(rt; out.as_slice() == file, "{what}");
-}
-
-/// Checks that a link with these files gives this error, and that nothing is written.
-pub(crate) fn refuses(
-    rt: &(impl Abort + AllocGlobal),
-    what: &str,
-    host: &[u8],
-    libraries: &[&[u8]],
-    error: &str,
-) {
-    links(rt, what, host, libraries, error, &[])
+    let answered = link(alloc, files.host, files.libraries, &mut out);
+    let text = text_of(alloc, answered).expect(rt, "unexpected error");
+    is(rt, what, text.as_str(), answer);
+    assert!(rt; out.as_slice() == files.linked, "{what}");
 }

@@ -1,8 +1,9 @@
 //! The base pair with each byte of the host's segment dictionary changed.
 use super::answers::{LITTLE, links};
-use crate::base::{base_host, base_library, linked_base_pair};
+use super::link_allocations::Link;
+use super::tables::{LIBRARY_LISTS, PAIR_FILES};
 use crate::code_file::Change::{Address, Bytes, CodeWord, Length, Resized};
-use crate::code_file::{Change, CodeFile};
+use crate::code_file::{Changes, CodeFile};
 use std::alloc::{AllocError, Global};
 use std::process::Abort;
 
@@ -43,69 +44,65 @@ fn expected(place: usize, byte: u8) -> Wanted {
     }
 }
 
-/// The text of a refusal for the host's dictionary.
-fn text(alloc: Global, fault: &str, slot: Option<usize>) -> Result<String, AllocError> {
-    match slot {
-        Some(slot) => format!(in alloc; "refused {fault} file 0 slot {slot}"),
-        None => format!(in alloc; "refused {fault} file 0"),
-    }
-}
-
-/// The base pair's linked file with these changes.
-fn linked(alloc: Global, changes: &[Change<'_>]) -> Result<CodeFile, AllocError> {
-    linked_base_pair(alloc, LITTLE)?.with(alloc, changes)
-}
-
 /// The changes from the base pair's linked file to that of the host segment alone.
-const HOST_ALONE: [Change<'static>; 4] = [
+const HOST_ALONE: Changes<'static> = &[
     CodeWord(1, 4, 10),
     Address(7, 0),
     Length(7, 0),
     Resized(1024),
 ];
 
-/// The file that is written where the byte at a place of the host's dictionary is this one, empty
-/// where nothing is.
-fn written(alloc: Global, place: usize, byte: u8) -> Result<CodeFile, AllocError> {
-    match expected(place, byte) {
-        Pair => linked(alloc, &[]),
-        PairWithByte => linked(alloc, &[Bytes(place, &[byte])]),
-        HostAlone => linked(alloc, &HOST_ALONE),
-        Refused(_, _) => linked(alloc, &[Resized(0)]),
+/// The line that is answered.
+fn answer(alloc: Global, wanted: Wanted) -> Result<String, AllocError> {
+    match wanted {
+        Pair | PairWithByte => String::from_str(alloc, "segments 2 private words 4 blocks 3"),
+        HostAlone => String::from_str(alloc, "segments 1 private words 0 blocks 2"),
+        Refused(fault, Some(slot)) => format!(in alloc; "refused {fault} file 0 slot {slot}"),
+        Refused(fault, None) => format!(in alloc; "refused {fault} file 0"),
     }
 }
 
-/// The answer where the byte at a place of the host's dictionary is this one.
-fn answer(alloc: Global, place: usize, byte: u8) -> Result<String, AllocError> {
-    match expected(place, byte) {
-        Pair | PairWithByte => String::from_str(alloc, "segments 2 private words 4 blocks 3"),
-        HostAlone => String::from_str(alloc, "segments 1 private words 0 blocks 2"),
-        Refused(fault, slot) => text(alloc, fault, slot),
+/// The file that is written where the byte at a place of the host's dictionary is this one, empty
+/// where nothing is.
+fn written(alloc: Global, wanted: &Wanted, changed: Changes<'_>) -> Result<CodeFile, AllocError> {
+    let mut linked = PAIR_FILES.linked(alloc, &[])?;
+    match wanted {
+        Pair => (),
+        PairWithByte => linked.change(alloc, changed)?,
+        HostAlone => linked.change(alloc, HOST_ALONE)?,
+        Refused(_, _) => linked.change(alloc, &[Resized(0)])?,
     }
+    Ok(linked)
 }
 
 /// Checks the answer where the byte at a place of the host's dictionary is this one.
-fn check(rt: &(impl Abort + AllocGlobal), host: &[u8], library: &[u8], place: usize, byte: u8) {
+fn check(rt: &(impl Abort + AllocGlobal), library: &[u8], place: usize, byte: u8) {
     let alloc = rt.alloc();
+    let wanted = expected(place, byte);
+    let changed = [Bytes(place, &[byte])];
+    let linked = written(alloc, &wanted, &changed).expect(rt, "unexpected error");
+    let host = PAIR_FILES
+        .host(alloc, &changed)
+        .expect(rt, "unexpected error");
+    let answer = answer(alloc, wanted).expect(rt, "unexpected error");
     let what = format!(in alloc; "byte {place} set to {byte}").expect(rt, "unexpected error");
-    let answer = answer(alloc, place, byte).expect(rt, "unexpected error");
-    let file = written(alloc, place, byte).expect(rt, "unexpected error");
-    let (what, answer) = (what.as_str(), answer.as_str());
-    links(rt, what, host, &[library], answer, file.as_slice())
+    let files = Link {
+        host: host.as_slice(),
+        libraries: &[library],
+        linked: linked.as_slice(),
+    };
+    links(rt, what.as_str(), &files, answer.as_str())
 }
 
 #[test]
 fn each_byte_of_the_dictionary(rt: HostRuntime) {
     let alloc = rt.alloc();
-    let library = base_library(alloc, LITTLE).expect(&rt, "unexpected error");
+    let host = PAIR_FILES.host(alloc, &[]).expect(&rt, "unexpected error");
+    let library = CodeFile::new(alloc, LITTLE, &LIBRARY_LISTS).expect(&rt, "unexpected error");
     for place in 0..512 {
         for byte in [0x00, 0x01, 0x7F, 0x80, 0xFF] {
-            let host = base_host(alloc, LITTLE).expect(&rt, "unexpected error");
             if host.as_slice().get(place) != Some(&byte) {
-                let changed = host
-                    .with(alloc, &[Bytes(place, &[byte])])
-                    .expect(&rt, "unexpected error");
-                check(&rt, changed.as_slice(), library.as_slice(), place, byte);
+                check(&rt, library.as_slice(), place, byte);
             }
         }
     }

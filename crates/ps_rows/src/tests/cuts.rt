@@ -1,60 +1,94 @@
 //! Files truncated to every length.
 use super::answers::links;
-use crate::base::{BASE_LENGTH, base_host, base_library, linked_base_pair};
-use ps_words::Order;
+use super::link_allocations::Link;
+use super::tables::{BIG_PAIR, Base, PAIR};
 use std::process::Abort;
 
-/// What is answered for the base host truncated to a length, or None where it is long enough.
-fn host_fault(length: usize) -> Option<&'static str> {
-    match length {
-        ..512 => Some("refused 1 ShortFile file 0"),
-        ..530 => Some("refused 16 Truncated file 0 slot 1"),
-        ..1040 => Some("refused 19 RecordsTruncated file 0 slot 1 record 0"),
-        ..1056 => Some("refused 19 RecordsTruncated file 0 slot 1 record 1"),
-        _ => None,
-    }
-}
+const WHOLE: &str = "segments 2 private words 4 blocks 3";
 
-/// The same for the base library.
-fn library_fault(length: usize) -> Option<&'static str> {
-    match length {
-        ..512 => Some("refused 1 ShortFile file 1"),
-        ..536 => Some("refused 16 Truncated file 1 slot 7"),
-        ..1056 => Some("refused 19 RecordsTruncated file 1 slot 7 record 0"),
-        ..1088 => Some("refused 19 RecordsTruncated file 1 slot 7 record 1"),
-        ..1104 => Some("refused 19 RecordsTruncated file 1 slot 7 record 2"),
-        _ => None,
-    }
-}
+/// Lengths of the base host, from one on to the one before another, and what is answered for it
+/// where it is truncated to them.
+static HOSTS: [(usize, usize, &str); 5] = [
+    (0, 512, "refused 1 ShortFile file 0"),
+    (512, 530, "refused 16 Truncated file 0 slot 1"),
+    (
+        530,
+        1040,
+        "refused 19 RecordsTruncated file 0 slot 1 record 0",
+    ),
+    (
+        1040,
+        1056,
+        "refused 19 RecordsTruncated file 0 slot 1 record 1",
+    ),
+    (1056, 1537, WHOLE),
+];
 
-/// Checks that a pair is refused, or where there is no fault that it is linked to this file.
+/// The same of the base library.
+static LIBRARIES: [(usize, usize, &str); 6] = [
+    (0, 512, "refused 1 ShortFile file 1"),
+    (512, 536, "refused 16 Truncated file 1 slot 7"),
+    (
+        536,
+        1056,
+        "refused 19 RecordsTruncated file 1 slot 7 record 0",
+    ),
+    (
+        1056,
+        1088,
+        "refused 19 RecordsTruncated file 1 slot 7 record 1",
+    ),
+    (
+        1088,
+        1104,
+        "refused 19 RecordsTruncated file 1 slot 7 record 2",
+    ),
+    (1104, 1537, WHOLE),
+];
+
+/// Checks the answer to a host and a library, and what is written where they are linked.
 fn answers(
     rt: &(impl Abort + AllocGlobal),
     host: &[u8],
     library: &[u8],
-    fault: Option<&str>,
+    answer: &str,
     linked: &[u8],
 ) {
-    let summary = "segments 2 private words 4 blocks 3";
-    match fault {
-        Some(fault) => links(rt, "a cut file", host, &[library], fault, &[]),
-        None => links(rt, "a cut file", host, &[library], summary, linked),
+    let files = Link {
+        host,
+        libraries: &[library],
+        linked: if answer == WHOLE { linked } else { &[] },
+    };
+    links(rt, "a cut file", &files, answer)
+}
+
+/// Checks the answers to each length of the files of a pair.
+fn cuts(rt: &(impl Abort + AllocGlobal), host: &[u8], library: &[u8], linked: &[u8]) {
+    for (from, to, answer) in &HOSTS {
+        for length in *from..*to {
+            let cut = host.get(..length).unwrap_or(&[]);
+            answers(rt, cut, library, *answer, linked);
+        }
+    }
+    for (from, to, answer) in &LIBRARIES {
+        for length in *from..*to {
+            let cut = library.get(..length).unwrap_or(&[]);
+            answers(rt, host, cut, *answer, linked);
+        }
     }
 }
+
+static PAIRS: [Base<'static>; 2] = [PAIR, BIG_PAIR];
 
 #[test]
 fn each_length_in_either_byte_order(rt: HostRuntime) {
     let alloc = rt.alloc();
-    for order in [Order::Little, Order::Big] {
-        let host = base_host(alloc, order).expect(&rt, "unexpected error");
-        let library = base_library(alloc, order).expect(&rt, "unexpected error");
-        let linked = linked_base_pair(alloc, order).expect(&rt, "unexpected error");
-        let (host, library, linked) = (host.as_slice(), library.as_slice(), linked.as_slice());
-        for length in 0..BASE_LENGTH {
-            let cut = host.get(..length).unwrap_or(host);
-            answers(&rt, cut, library, host_fault(length), linked);
-            let cut = library.get(..length).unwrap_or(library);
-            answers(&rt, host, cut, library_fault(length), linked);
+    for base in &PAIRS {
+        let host = base.host(alloc, &[]).expect(&rt, "unexpected error");
+        let libraries = base.libraries(alloc, &[]).expect(&rt, "unexpected error");
+        let linked = base.linked(alloc, &[]).expect(&rt, "unexpected error");
+        for library in libraries.iter() {
+            cuts(&rt, host.as_slice(), library.as_slice(), linked.as_slice());
         }
     }
 }

@@ -1,9 +1,15 @@
 //! What `Dict` answers of the base files, in either byte order.
+ghost use Rattle.std.specs.Prelude.{◌<◌};
+
+use super::answers::is;
+use super::tables::{LIBRARY_LISTS, PAIR_FILES};
 use crate::base::{
-    HOST_RECORDS, UTIL, UTIL_ENTRY, base_host, base_library, demo_code, linked_base_pair, util_code,
+    HOST, HOST_RECORDS, LIBRARY, LINKED_PAIR, UTIL, UTIL_ENTRY, demo_code, util_code,
 };
-use crate::in_place::unit_in_place;
+use crate::code_file::Change::{Bytes, Resized};
+use crate::code_file::{Changes, CodeFile};
 use crate::information::Information;
+use crate::units::HAS_UNIT;
 use ps_codefile::{Dict, Entry, Role};
 use ps_words::{Order, Reason};
 use std::alloc::{AllocError, Global};
@@ -12,58 +18,94 @@ use std::process::Abort;
 /// The byte orders, each with the other one.
 const ORDERS: [(Order, Order); 2] = [(Order::Little, Order::Big), (Order::Big, Order::Little)];
 
-/// The slots that are not empty, as text.
-fn describe(alloc: Global, dictionary: &Dict<'_>) -> Result<String, AllocError> {
-    let mut text = String::new(alloc);
-    for slot in 0..16 {
-        let role = dictionary.role(slot);
-        if role != Ok(Role::Empty) {
-            let entry = dictionary.entry(slot);
-            let name = str::from_utf8(&entry.name).unwrap_or("no text");
-            write!(text, "slot {slot} {name} {role:?} kind {} ", entry.kind)?;
-            write!(text, "address {} length {}", entry.address, entry.length)?;
-        }
-        if dictionary.filled(slot) {
-            let code = dictionary.code(slot).map(|code| code.len());
-            write!(
-                text,
-                " code {code:?} after {}; ",
-                dictionary.after(slot).len()
-            )?;
-        }
+/// Adds a slot to the text unless it is empty.
+fn add_slot(text: &mut String, dictionary: &Dict<'_>, slot: u8) -> Result<(), AllocError>
+    requires { slot < 16 }
+{
+    let role = dictionary.role(slot);
+    if role != Ok(Role::Empty) {
+        let entry = dictionary.entry(slot);
+        let name = str::from_utf8(&entry.name).unwrap_or("no text");
+        write!(text, "slot {slot} {name} {role:?} kind {} ", entry.kind)?;
+        write!(text, "address {} length {}", entry.address, entry.length)?;
     }
-    Ok(text)
+    if dictionary.filled(slot) {
+        let code = dictionary.code(slot).map(|code| code.len());
+        let after = dictionary.after(slot).len();
+        write!(text, " code {code:?} after {after}; ")?;
+    }
+    Ok(())
 }
 
-/// Checks a dictionary's byte order and its slots that are not empty, or why there is no
-/// dictionary.
-fn is(
-    rt: &(impl Abort + AllocGlobal),
+/// The slots of a dictionary that are not empty, or why there is none, as text.
+fn describe(
+    alloc: Global,
     answer: Result<Dict<'_>, Reason>,
-    wanted: Result<(Order, &str), Reason>,
-) {
+    order: Order,
+) -> Result<String, AllocError> {
     match answer {
         Ok(dictionary) => {
-            let text = describe(rt.alloc(), &dictionary).expect(rt, "unexpected error");
-            assert!(rt; Ok((dictionary.order(), text.as_str())) == wanted);
+            let mut text = String::new(alloc);
+            if dictionary.order() != order {
+                text.push_str("another order ")?;
+            }
+            for slot in 0..16 {
+                add_slot(&mut text, &dictionary, slot)?;
+            }
+            Ok(text)
         }
-        Err(reason) => assert!(rt; Err(reason) == wanted),
+        Err(reason) => format!(in alloc; "{reason:?}"),
     }
 }
 
 /// The slots of the base host, of the host with its unit in place, of the base library and of the
 /// linked base pair.
-const HOST: &str = "slot 1 DEMO     Ok(Host) kind 1 address 1 length 18 code Ok(18) after 512; \
+const HOST_TEXT: &str =
+    "slot 1 DEMO     Ok(Host) kind 1 address 1 length 18 code Ok(18) after 512; \
      slot 7 UTIL     Ok(Wanted) kind 3 address 0 length 0";
 
 const IN_PLACE: &str =
     "slot 1 DEMO     Ok(Host) kind 1 address 1 length 18 code Ok(18) after 1536; \
      slot 7 UTIL     Ok(Unit) kind 3 address 3 length 24 code Ok(24) after 512; ";
 
-const LIBRARY: &str = "slot 2 UTIL     Ok(Unit) kind 3 address 1 length 24 code Ok(24) after 512; ";
+const LIBRARY_TEXT: &str =
+    "slot 2 UTIL     Ok(Unit) kind 3 address 1 length 24 code Ok(24) after 512; ";
 
 const LINKED: &str = "slot 1 DEMO     Ok(Plain) kind 0 address 1 length 18 code Ok(18) after 512; \
      slot 7 UTIL     Ok(Plain) kind 0 address 2 length 24 code Ok(24) after 0; ";
+
+/// Files, whether they are read as hosts, or beside a host, whether their words are in the other
+/// byte order than the host's, and their slots, or why they are not read.
+static FILES: [(&[Changes<'static>], bool, bool, &str); 10] = [
+    (&[HOST], true, false, HOST_TEXT),
+    (&[HOST, HAS_UNIT], true, false, IN_PLACE),
+    (&[LIBRARY], false, false, LIBRARY_TEXT),
+    (&[LIBRARY], false, true, "OrderMismatch"),
+    (&[LIBRARY, &[Resized(511)]], false, false, "ShortFile"),
+    (&[LIBRARY, &[Resized(511)]], false, true, "ShortFile"),
+    (&[&[Bytes(64, &[0; 128]), Resized(512)]], false, false, ""),
+    (&[&[Bytes(64, &[0; 128]), Resized(512)]], false, true, ""),
+    (LINKED_PAIR, false, false, LINKED),
+    (LINKED_PAIR, true, false, "NoHost"),
+];
+
+#[test]
+fn files_in_either_byte_order(rt: HostRuntime) {
+    let alloc = rt.alloc();
+    for (order, other) in ORDERS {
+        for (lists, is_host, is_turned, wanted) in &FILES {
+            let own = if *is_turned { other } else { order };
+            let file = CodeFile::new(alloc, own, *lists).expect(&rt, "unexpected error");
+            let answer = if *is_host {
+                Dict::read(file.as_slice())
+            } else {
+                Dict::read_beside(file.as_slice(), order)
+            };
+            let text = describe(alloc, answer, order).expect(&rt, "unexpected error");
+            is(&rt, "a file", text.as_str(), *wanted);
+        }
+    }
+}
 
 /// The entry of a slot without a segment.
 const EMPTY: Entry = Entry {
@@ -85,47 +127,22 @@ fn gives_the_host_s_parts(rt: &impl Abort, dictionary: &Dict<'_>, information: &
     assert!(rt; dictionary.after(1).starts_with(information));
 }
 
-fn hosts(rt: &(impl Abort + AllocGlobal), order: Order) {
-    let host = base_host(rt.alloc(), order).expect(rt, "unexpected error");
-    is(rt, Dict::read(host.as_slice()), Ok((order, HOST)));
-    let information = Information::new(rt.alloc(), order, &HOST_RECORDS).expect(
-        rt,
-        "unexpected error",
-    );
-    match Dict::read(host.as_slice()) {
-        Ok(dictionary) => gives_the_host_s_parts(rt, &dictionary, information.as_slice()),
-        Err(_) => assert!(rt; false, "no dictionary"),
-    }
-    let host = unit_in_place(rt.alloc(), order).expect(rt, "unexpected error");
-    is(rt, Dict::read(host.as_slice()), Ok((order, IN_PLACE)))
-}
-
-fn libraries(rt: &(impl Abort + AllocGlobal), order: Order, other: Order) {
-    let library = base_library(rt.alloc(), order).expect(rt, "unexpected error");
-    let library = library.as_slice();
-    is(rt, Dict::read_beside(library, order), Ok((order, LIBRARY)));
-    let code = Dict::read_beside(library, order).and_then(|dictionary| dictionary.code(2));
-    assert!(rt; code == Ok(util_code(order, UTIL_ENTRY).as_slice()));
-    let answer = Dict::read_beside(library, other);
-    is(rt, answer, Err(Reason::OrderMismatch));
-    let short = library.get(..511).unwrap_or(&[]);
-    is(rt, Dict::read_beside(short, other), Err(Reason::ShortFile));
-    is(rt, Dict::read_beside(short, order), Err(Reason::ShortFile))
-}
-
-fn files_of_no_order(rt: &(impl Abort + AllocGlobal), order: Order) {
-    is(rt, Dict::read_beside(&[0; 512], order), Ok((order, "")));
-    let linked = linked_base_pair(rt.alloc(), order).expect(rt, "unexpected error");
-    let linked = linked.as_slice();
-    is(rt, Dict::read_beside(linked, order), Ok((order, LINKED)));
-    is(rt, Dict::read(linked), Err(Reason::NoHost))
-}
-
 #[test]
-fn files_in_either_byte_order(rt: HostRuntime) {
-    for (order, other) in ORDERS {
-        hosts(&rt, order);
-        libraries(&rt, order, other);
-        files_of_no_order(&rt, order);
+fn parts_of_the_base_files(rt: HostRuntime) {
+    let alloc = rt.alloc();
+    for (order, _) in ORDERS {
+        let host = CodeFile::new(alloc, order, PAIR_FILES.host).expect(&rt, "unexpected error");
+        let information = Information::new(alloc, order, &HOST_RECORDS).expect(
+            &rt,
+            "unexpected error",
+        );
+        match Dict::read(host.as_slice()) {
+            Ok(host) => gives_the_host_s_parts(&rt, &host, information.as_slice()),
+            Err(_) => assert!(rt; false, "no dictionary"),
+        }
+        let library = CodeFile::new(alloc, order, &LIBRARY_LISTS).expect(&rt, "unexpected error");
+        let library = Dict::read_beside(library.as_slice(), order);
+        let code = library.and_then(|library| library.code(2));
+        assert!(rt; code == Ok(util_code(order, UTIL_ENTRY).as_slice()));
     }
 }

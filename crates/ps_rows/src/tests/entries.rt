@@ -41,21 +41,34 @@ fn file_of(entry: &Entry) -> [u8; LONGEST] {
     file
 }
 
-/// Checks an entry's role, and whether its slot has a code.
-fn has_role(rt: &impl Abort, entry: &Entry, role: Result<Role, Reason>, is_filled: bool) {
-    let file = file_of(entry);
-    match Dict::read_beside(&file, Order::Big) {
+/// Checks the role of an entry with this address and length, and whether its slot has a code.
+fn has_role(
+    rt: &impl Abort,
+    entry: Entry,
+    (address, length): (u16, u16),
+    role: Result<Role, Reason>,
+    is_filled: bool,
+) {
+    let entry = Entry {
+        address,
+        length,
+        ..entry
+    };
+    match Dict::read_beside(&file_of(&entry), Order::Big) {
         Ok(dictionary) => {
-            assert!(rt; dictionary.entry(8) == *entry, "{entry:?}");
-            assert!(rt; dictionary.role(8) == role, "{entry:?}");
-            assert!(rt; dictionary.filled(8) == is_filled, "{entry:?}");
+            let found = (
+                dictionary.entry(8),
+                dictionary.role(8),
+                dictionary.filled(8),
+            );
+            assert!(rt; found == (entry, role, is_filled), "{entry:?}");
         }
         Err(reason) => assert!(rt; false, "{entry:?}: {reason:?}"),
     }
 }
 
 /// Kinds, the role of a slot with address and length, and that of one without.
-const KINDS_AND_ROLES: [(u16, Result<Role, Reason>, Role); 10] = [
+static KINDS_AND_ROLES: [(u16, Result<Role, Reason>, Role); 10] = [
     (0, Ok(Role::Plain), Role::Empty),
     (1, Ok(Role::Host), Role::Empty),
     (2, Err(Reason::SegmentProcedure), Role::Empty),
@@ -69,7 +82,7 @@ const KINDS_AND_ROLES: [(u16, Result<Role, Reason>, Role); 10] = [
 ];
 
 /// Names, and whether a slot of that name wants a unit.
-const WANTING: [(Name, bool); 4] = [
+static WANTING: [(Name, bool); 4] = [
     (UTIL, true),
     (BLANK, false),
     ([0; 8], false),
@@ -78,22 +91,18 @@ const WANTING: [(Name, bool); 4] = [
 
 #[test]
 fn roles_of_each_kind(rt: HostRuntime) {
-    for (kind, filled, without_length) in KINDS_AND_ROLES {
-        for (name, wants) in WANTING {
-            let wanted = if wants { without_length } else { Role::Empty };
-            let without_address = if kind == 3 { Ok(wanted) } else { filled };
-            for (address, length, role, is_filled) in [
-                (1, 18, filled, true),
-                (0, 18, without_address, kind != 3),
-                (1, 0, Ok(wanted), false),
-                (0, 0, Ok(wanted), false),
-            ] {
-                let entry = Entry {
-                    name,
-                    ..entry(kind, address, length)
-                };
-                has_role(&rt, &entry, role, is_filled);
-            }
+    for (kind, filled, without_length) in &KINDS_AND_ROLES {
+        for (name, wants) in &WANTING {
+            let wanted = if *wants { *without_length } else { Role::Empty };
+            let without_address = if *kind == 3 { Ok(wanted) } else { *filled };
+            let entry = Entry {
+                name: *name,
+                ..entry(*kind, 1, 18)
+            };
+            has_role(&rt, entry, (1, 18), *filled, true);
+            has_role(&rt, entry, (0, 18), without_address, *kind != 3);
+            has_role(&rt, entry, (1, 0), Ok(wanted), false);
+            has_role(&rt, entry, (0, 0), Ok(wanted), false);
         }
     }
     let file = file_of(&entry(65535, 1, 18));
@@ -120,18 +129,29 @@ fn has_code(
     let cut = file.get(..file_len).unwrap_or(&[]);
     match Dict::read_beside(cut, Order::Big) {
         Ok(dictionary) => {
-            let found = dictionary.code(8).map(measured);
-            assert!(rt; found == code, "{entry:?} of {file_len} bytes");
-            let follows = measured(dictionary.after(8));
-            assert!(rt; follows == after, "{entry:?} of {file_len} bytes");
+            let found = (
+                dictionary.code(8).map(measured),
+                measured(dictionary.after(8)),
+            );
+            assert!(rt; found == (code, after), "{entry:?} of {file_len} bytes");
         }
         Err(reason) => assert!(rt; false, "{entry:?}: {reason:?}"),
     }
 }
 
+/// Checks an entry's code in a file as long as can be, where its length is right.
+fn has_length(rt: &impl Abort, entry: Entry, is_right: bool, after: Bytes) {
+    let code = if is_right {
+        Ok((usize::from(entry.length), Some(0xD7)))
+    } else {
+        Err(Reason::BadLength)
+    };
+    has_code(rt, &entry, LONGEST, code, after)
+}
+
 /// Lengths, whether a segment that is linked has such a code, whether a host segment or a unit has,
 /// and what follows it.
-const LENGTHS: [(u16, bool, bool, Bytes); 10] = [
+static LENGTHS: [(u16, bool, bool, Bytes); 10] = [
     (1, true, false, (32255, Some(b'C'))),
     (2, true, false, (32255, Some(b'C'))),
     (3, true, false, (32255, Some(b'C'))),
@@ -147,7 +167,7 @@ const LENGTHS: [(u16, bool, bool, Bytes); 10] = [
 /// An address, a length, the file's length, the code or what is wrong with it, and what follows it.
 type Place = (u16, u16, usize, Result<Bytes, Reason>, Bytes);
 
-const PLACES: [Place; 17] = [
+static PLACES: [Place; 17] = [
     // a code is whole, or it is cut
     (1, 18, 530, Ok((18, Some(0xD7))), (0, None)),
     (1, 18, 529, Err(Reason::Truncated), (0, None)),
@@ -172,18 +192,12 @@ const PLACES: [Place; 17] = [
 
 #[test]
 fn codes_and_what_follows_them(rt: HostRuntime) {
-    for kind in [0, 1, 3] {
-        for (length, plain, linked, after) in LENGTHS {
-            let is_right = if kind == 0 { plain } else { linked };
-            let code = if is_right {
-                Ok((length as usize, Some(0xD7)))
-            } else {
-                Err(Reason::BadLength)
-            };
-            has_code(&rt, &entry(kind, 1, length), LONGEST, code, after);
-        }
+    for (length, plain, linked, after) in &LENGTHS {
+        has_length(&rt, entry(0, 1, *length), *plain, *after);
+        has_length(&rt, entry(1, 1, *length), *linked, *after);
+        has_length(&rt, entry(3, 1, *length), *linked, *after);
     }
-    for (address, length, file_len, code, after) in PLACES {
-        has_code(&rt, &entry(1, address, length), file_len, code, after);
+    for (address, length, file_len, code, after) in &PLACES {
+        has_code(&rt, &entry(1, *address, *length), *file_len, *code, *after);
     }
 }

@@ -1,5 +1,6 @@
 //! Why a host is refused, whatever units it has.
-use super::tables::{AMPLE_OR_NONE, Base, Refusal, Table, refuse_tables};
+use super::tables::Memory::NoAllocation;
+use super::tables::{HOST_ALONE, IN_PLACE, PAIR, Refusal, Table, refuse_tables};
 use crate::base::{COUNT, WANTED_UTIL};
 use crate::code_file::Change::{Address, Bytes, Code, Entry, Kind, Length, Records, Resized};
 use crate::code_file::{HOST_SEGMENT, Slot};
@@ -14,7 +15,7 @@ pub(crate) const LIKE_DEMO: Slot = Slot {
 };
 
 /// Segment dictionaries.
-const DICTIONARIES: [Refusal<'static>; 11] = [
+const DICTIONARIES: [Refusal<'static>; 9] = [
     (
         "no whole block",
         &[Resized(511)],
@@ -32,12 +33,6 @@ const DICTIONARIES: [Refusal<'static>; 11] = [
         &[Length(1, 0)],
         &[],
         "refused 4 NoHost file 0",
-    ),
-    (
-        "a second host segment below",
-        &[Entry(0, LIKE_DEMO)],
-        &[],
-        "refused 5 TwoHosts file 0 slot 1",
     ),
     (
         "a second host segment",
@@ -75,12 +70,6 @@ const DICTIONARIES: [Refusal<'static>; 11] = [
         &[],
         "refused 10 UnknownKind file 0 slot 8",
     ),
-    (
-        "kind 255",
-        &[Entry(8, LIKE_DEMO), Kind(8, 255)],
-        &[],
-        "refused 10 UnknownKind file 0 slot 8",
-    ),
 ];
 
 /// Codes.
@@ -106,35 +95,15 @@ const CODES: [Refusal<'static>; 3] = [
 ];
 
 /// Procedure dictionaries and attribute tables.
-const PROCEDURES: [Refusal<'static>; 4] = [
-    (
-        "no body of procedure 1",
-        &[Code(1, 14, &[0])],
-        &[],
-        "refused 17 BadProcDict file 0 slot 1",
-    ),
-    (
-        "a table before the code",
-        &[Code(1, 14, &[15])],
-        &[],
-        "refused 17 BadProcDict file 0 slot 1",
-    ),
-    (
-        "a table that would begin before the code",
-        &[Code(1, 14, &[7])],
-        &[],
-        "refused 17 BadProcDict file 0 slot 1",
-    ),
-    (
-        "a table that ends in the dictionary",
-        &[Code(1, 14, &[1])],
-        &[],
-        "refused 17 BadProcDict file 0 slot 1",
-    ),
-];
+const PROCEDURES: [Refusal<'static>; 1] = [(
+    "no body of procedure 1",
+    &[Code(1, 14, &[0])],
+    &[],
+    "refused 17 BadProcDict file 0 slot 1",
+)];
 
 /// Link information.
-const RECORDS: [Refusal<'static>; 4] = [
+const RECORDS: [Refusal<'static>; 2] = [
     (
         "no information",
         &[Resized(530)],
@@ -146,18 +115,6 @@ const RECORDS: [Refusal<'static>; 4] = [
         &[Resized(1023)],
         &[],
         "refused 19 RecordsTruncated file 0 slot 1 record 0",
-    ),
-    (
-        "15 bytes of it",
-        &[Resized(1039)],
-        &[],
-        "refused 19 RecordsTruncated file 0 slot 1 record 0",
-    ),
-    (
-        "15 bytes of its second record",
-        &[Resized(1055)],
-        &[],
-        "refused 19 RecordsTruncated file 0 slot 1 record 1",
     ),
 ];
 
@@ -191,17 +148,24 @@ pub(crate) const DEFINITIONS: [Refusal<'static>; 2] = [
     ),
 ];
 
-/// Checks the refusals that are found before anything grows: with the unit in place, in a library
-/// and nowhere.
+/// The refusals that are found before anything grows: with the unit in place, in a library and
+/// nowhere.
+static FAULTS: [Table<'static, Refusal<'static>>; 12] = [
+    (IN_PLACE, NoAllocation, &DICTIONARIES),
+    (IN_PLACE, NoAllocation, &CODES),
+    (IN_PLACE, NoAllocation, &PROCEDURES),
+    (IN_PLACE, NoAllocation, &RECORDS),
+    (PAIR, NoAllocation, &DICTIONARIES),
+    (PAIR, NoAllocation, &CODES),
+    (PAIR, NoAllocation, &PROCEDURES),
+    (PAIR, NoAllocation, &RECORDS),
+    (HOST_ALONE, NoAllocation, &DICTIONARIES),
+    (HOST_ALONE, NoAllocation, &CODES),
+    (HOST_ALONE, NoAllocation, &PROCEDURES),
+    (HOST_ALONE, NoAllocation, &RECORDS),
+];
+
 #[test]
 fn faults_of_hosts(rt: HostRuntime) {
-    for base in [Base::InPlace, Base::Pair, Base::HostAlone] {
-        let tables: [Table<'_, Refusal<'_>>; 4] = [
-            (base, AMPLE_OR_NONE, &DICTIONARIES),
-            (base, AMPLE_OR_NONE, &CODES),
-            (base, AMPLE_OR_NONE, &PROCEDURES),
-            (base, AMPLE_OR_NONE, &RECORDS),
-        ];
-        refuse_tables(&rt, &tables);
-    }
+    refuse_tables(&rt, &FAULTS)
 }

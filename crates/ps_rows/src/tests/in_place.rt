@@ -1,28 +1,18 @@
 //! A host that holds its unit itself, and the files that it is linked to.
-use super::tables::{AMPLE, AMPLE_OR_REFUSED, Base, Row, Table, link_tables};
+use super::tables::Memory::{Ample, EachAllocationRefused};
+use super::tables::{
+    BIG_IN_PLACE, BIG_LIKE_THE_LIBRARY_S, IN_PLACE, LIKE_THE_LIBRARY_S, Row, Table, link_tables,
+};
 use crate::base::{COUNT, LIBRARY_RECORDS, LINKED_UTIL, STATE, WANTED_UTIL};
-use crate::code_file::Change::{Address, Code, CodeWord, Entry, Kind, Length, Records, Resized};
+use crate::code_file::Change::{
+    Address, Bytes, Code, CodeWord, Entry, Kind, Length, Records, Resized,
+};
 use crate::code_file::{LINKED, Slot};
-use crate::in_place::unit_in_place;
 use crate::information::Record::{End, PrivateReference, PublicDefinition, PublicReference};
-use ps_linkfile::link;
-use ps_words::Order;
 
 const SUMMARY: &str = "segments 2 private words 0 blocks 3";
 
-#[test]
-fn a_linked_dictionary_has_the_host_s_byte_order(rt: HostRuntime) {
-    let alloc = rt.alloc();
-    let host = unit_in_place(alloc, Order::Big).expect(&rt, "unexpected error");
-    let mut linked = Vec::new(alloc);
-    assert!(rt; link(alloc, host.as_slice(), &[], &mut linked).is_ok());
-    let bytes = linked.as_slice();
-    assert!(rt; bytes.len() == 1536);
-    assert!(rt; bytes.get(4..8) == Some([0, 1, 0, 0x12].as_slice()));
-    assert!(rt; bytes.get(28..32) == Some([0, 2, 0, 0x18].as_slice()));
-}
-
-const OPERANDS: [Row<'static>; 4] = [
+const OPERANDS: [Row<'static>; 3] = [
     Row {
         what: "a displacement of 5 and the value 3",
         host: &[Code(3, 2, &[5])],
@@ -44,19 +34,9 @@ const OPERANDS: [Row<'static>; 4] = [
         linked: &[Code(2, 1, &[0xFF, 0xFF])],
         summary: SUMMARY,
     },
-    Row {
-        what: "a value above every operand, and no references",
-        host: &[
-            Records(2, &[PublicDefinition(COUNT, 65535), End(8)]),
-            Records(4, &[PublicReference(COUNT, &[]), End(0)]),
-        ],
-        library: &[],
-        linked: &[Code(2, 2, &[0])],
-        summary: SUMMARY,
-    },
 ];
 
-const REFERENCES: [Row<'static>; 4] = [
+const REFERENCES: [Row<'static>; 3] = [
     Row {
         what: "two references in a record",
         host: &[Records(4, &[PublicReference(COUNT, &[1, 4]), End(0)])],
@@ -67,13 +47,6 @@ const REFERENCES: [Row<'static>; 4] = [
     Row {
         what: "a record of none",
         host: &[Records(4, &[PublicReference(COUNT, &[]), End(0)])],
-        library: &[],
-        linked: &[Code(2, 2, &[0])],
-        summary: SUMMARY,
-    },
-    Row {
-        what: "no record",
-        host: &[Records(4, &[End(0)])],
         library: &[],
         linked: &[Code(2, 2, &[0])],
         summary: SUMMARY,
@@ -94,7 +67,7 @@ const REFERENCES: [Row<'static>; 4] = [
     },
 ];
 
-const PRIVATE_VARIABLES: [Row<'static>; 9] = [
+const PRIVATE_VARIABLES: [Row<'static>; 5] = [
     Row {
         what: "4 words from 8 on, by the library's own records in code of number 7",
         host: &[Records(4, &LIBRARY_RECORDS)],
@@ -140,51 +113,6 @@ const PRIVATE_VARIABLES: [Row<'static>; 9] = [
         linked: &[CodeWord(1, 4, 65535), Code(2, 5, &[10])],
         summary: "segments 2 private words 4 blocks 3",
     },
-    Row {
-        what: "none, behind the largest end mark",
-        host: &[Records(2, &[PublicDefinition(COUNT, 3), End(65535)])],
-        library: &[],
-        linked: &[],
-        summary: SUMMARY,
-    },
-    Row {
-        what: "one of no words, and one of 4 words at its offset",
-        host: &[Records(
-            4,
-            &[
-                PrivateReference(STATE, 0, &[1]),
-                PrivateReference(COUNT, 4, &[4]),
-                End(0),
-            ],
-        )],
-        library: &[],
-        linked: &[CodeWord(1, 4, 18), Code(2, 2, &[8]), Code(2, 5, &[10])],
-        summary: "segments 2 private words 4 blocks 3",
-    },
-    Row {
-        what: "one of no words at the last offset",
-        host: &[
-            Records(2, &[End(32767)]),
-            Records(4, &[PrivateReference(STATE, 0, &[1]), End(0)]),
-        ],
-        library: &[],
-        linked: &[Code(2, 1, &[0xFF, 0xFF])],
-        summary: SUMMARY,
-    },
-    Row {
-        what: "2 words of the host segment",
-        host: &[Records(
-            2,
-            &[
-                PublicDefinition(COUNT, 3),
-                PrivateReference(STATE, 2, &[2]),
-                End(8),
-            ],
-        )],
-        library: &[],
-        linked: &[CodeWord(1, 4, 14), Code(1, 3, &[8])],
-        summary: "segments 2 private words 2 blocks 3",
-    },
 ];
 
 /// A segment that is linked already.
@@ -195,14 +123,7 @@ const TOOLS: Slot = Slot {
     length: 5,
 };
 
-const SLOT_ROWS: [Row<'static>; 3] = [
-    Row {
-        what: "padding of the input is not copied",
-        host: &[Code(1, 18, &[0xD7; 494]), Code(3, 24, &[0xD7; 488])],
-        library: &[],
-        linked: &[],
-        summary: SUMMARY,
-    },
+const SLOT_ROWS: [Row<'static>; 2] = [
     Row {
         what: "a segment that is linked already is copied",
         host: &[Resized(2565), Entry(8, TOOLS), Code(5, 0, &[1, 2, 3, 4, 5])],
@@ -229,30 +150,6 @@ const SLOT_ROWS: [Row<'static>; 3] = [
     },
 ];
 
-const PROCEDURES: [Row<'static>; 3] = [
-    Row {
-        what: "a second procedure of the unit that has no body",
-        host: &[Code(3, 18, &[0, 0, 4, 0, 7, 2])],
-        library: &[],
-        linked: &[Code(2, 18, &[0, 0, 4, 0, 7, 2])],
-        summary: SUMMARY,
-    },
-    Row {
-        what: "a unit of no procedures",
-        host: &[Code(3, 23, &[0])],
-        library: &[],
-        linked: &[Code(2, 23, &[0])],
-        summary: SUMMARY,
-    },
-    Row {
-        what: "two procedures of one table",
-        host: &[Code(3, 18, &[2, 0, 4, 0, 7, 2])],
-        library: &[],
-        linked: &[Code(2, 18, &[2, 0, 4, 0, 7, 2])],
-        summary: SUMMARY,
-    },
-];
-
 /// One public reference, and a unit that is like the base library's: nothing is changed, in either
 /// byte order.
 const ONE_REFERENCE: [Row<'static>; 1] = [Row {
@@ -260,6 +157,15 @@ const ONE_REFERENCE: [Row<'static>; 1] = [Row {
     host: &[],
     library: &[],
     linked: &[],
+    summary: SUMMARY,
+}];
+
+/// The same, whose dictionary's words have their high bytes first.
+const HIGH_BYTES_FIRST: [Row<'static>; 1] = [Row {
+    what: "a linked dictionary has the host's byte order",
+    host: &[],
+    library: &[],
+    linked: &[Bytes(4, &[0, 1, 0, 0x12]), Bytes(28, &[0, 2, 0, 0x18])],
     summary: SUMMARY,
 }];
 
@@ -271,26 +177,19 @@ const LIKE_LIBRARY: [Row<'static>; 1] = [Row {
     summary: "segments 2 private words 4 blocks 3",
 }];
 
-const LINKS: [Table<'static, Row<'static>>; 8] = [
-    (Base::InPlace, AMPLE, &ONE_REFERENCE),
-    (Base::BigInPlace, AMPLE, &ONE_REFERENCE),
-    (Base::LikeLibrary, AMPLE, &LIKE_LIBRARY),
-    (Base::BigLikeLibrary, AMPLE, &LIKE_LIBRARY),
-    (Base::InPlace, AMPLE_OR_REFUSED, &OPERANDS),
-    (Base::InPlace, AMPLE_OR_REFUSED, &REFERENCES),
-    (Base::InPlace, AMPLE, &SLOT_ROWS),
-    (Base::InPlace, AMPLE, &PROCEDURES),
+static LINKS: [Table<'static, Row<'static>>; 9] = [
+    (IN_PLACE, Ample, &ONE_REFERENCE),
+    (BIG_IN_PLACE, Ample, &ONE_REFERENCE),
+    (BIG_IN_PLACE, Ample, &HIGH_BYTES_FIRST),
+    (LIKE_THE_LIBRARY_S, Ample, &LIKE_LIBRARY),
+    (BIG_LIKE_THE_LIBRARY_S, Ample, &LIKE_LIBRARY),
+    (IN_PLACE, EachAllocationRefused, &OPERANDS),
+    (IN_PLACE, EachAllocationRefused, &REFERENCES),
+    (IN_PLACE, Ample, &SLOT_ROWS),
+    (IN_PLACE, EachAllocationRefused, &PRIVATE_VARIABLES),
 ];
 
 #[test]
 fn links_of_a_unit_in_place(rt: HostRuntime) {
     link_tables(&rt, &LINKS)
-}
-
-#[test]
-fn private_variables(rt: HostRuntime) {
-    link_tables(
-        &rt,
-        &[(Base::InPlace, AMPLE_OR_REFUSED, &PRIVATE_VARIABLES)],
-    )
 }

@@ -1,42 +1,20 @@
 //! A host that holds its unit itself, and why it is refused.
 use super::host_faults::DEFINITIONS;
-use super::tables::{AMPLE_OR_NONE, AMPLE_OR_REFUSED, Base, Refusal, Table, refuse_tables};
-use crate::base::{COUNT, CUONT, DEMO, STATE, WANTED_UTIL};
-use crate::code_file::Change::{Code, Entry, Records};
-use crate::code_file::Slot;
+use super::tables::Memory::{EachAllocationRefused, NoAllocation};
+use super::tables::{IN_PLACE, Refusal, Table, refuse_tables};
+use crate::base::{COUNT, CUONT, STATE};
+use crate::code_file::Change::{Code, Records};
 use crate::information::Record::{
     ConstantDefinition, End, Other, PrivateReference, PublicDefinition, PublicReference,
 };
 
-/// A unit that is wanted and has the host segment's name.
-const WANTED_DEMO: Slot = Slot {
-    name: DEMO,
-    ..WANTED_UTIL
-};
-
-/// Codes.
-const CODES: [Refusal<'static>; 1] = [(
-    "a unit with the name of the host segment",
-    &[Entry(8, WANTED_DEMO)],
-    &[],
-    "refused 13 MissingUnit file 0 slot 8",
-)];
-
 /// Procedure dictionaries and attribute tables.
-const PROCEDURES: [Refusal<'static>; 2] = [
-    (
-        "a table before the code",
-        &[Code(3, 20, &[21])],
-        &[],
-        "refused 17 BadProcDict file 0 slot 7",
-    ),
-    (
-        "native code",
-        &[Code(3, 18, &[0])],
-        &[],
-        "refused 18 NativeProcedure file 0 slot 7",
-    ),
-];
+const PROCEDURES: [Refusal<'static>; 1] = [(
+    "native code",
+    &[Code(3, 18, &[0])],
+    &[],
+    "refused 18 NativeProcedure file 0 slot 7",
+)];
 
 /// Link information.
 const RECORDS: [Refusal<'static>; 4] = [
@@ -97,7 +75,7 @@ const NAMES: [Refusal<'static>; 3] = [
 ];
 
 /// Sizes.
-const SIZES: [Refusal<'static>; 5] = [
+const SIZES: [Refusal<'static>; 4] = [
     (
         "one private word too many",
         &[
@@ -131,15 +109,6 @@ const SIZES: [Refusal<'static>; 5] = [
         "refused 26 NoRoom file 0 slot 7 record 1",
     ),
     (
-        "a private variable behind the largest end mark",
-        &[
-            Records(2, &[PublicDefinition(COUNT, 3), End(65535)]),
-            Records(4, &[PrivateReference(STATE, 1, &[]), End(0)]),
-        ],
-        &[],
-        "refused 26 NoRoom file 0 slot 7 record 0",
-    ),
-    (
         "65536 bytes of data",
         &[
             Code(1, 4, &[0xF8, 0xFF]),
@@ -160,13 +129,7 @@ const SIZES: [Refusal<'static>; 5] = [
 ];
 
 /// Places of operands.
-const PLACES: [Refusal<'static>; 9] = [
-    (
-        "the first byte of a table",
-        &[Records(4, &[PublicReference(COUNT, &[10]), End(0)])],
-        &[],
-        "refused 32 ReservedPlace file 0 slot 7 record 0 reference 0",
-    ),
+const PLACES: [Refusal<'static>; 7] = [
     (
         "the last two bytes",
         &[Records(4, &[PublicReference(COUNT, &[22]), End(0)])],
@@ -182,12 +145,6 @@ const PLACES: [Refusal<'static>; 9] = [
     (
         "behind the code",
         &[Records(4, &[PublicReference(COUNT, &[24]), End(0)])],
-        &[],
-        "refused 31 OutsideCode file 0 slot 7 record 0 reference 0",
-    ),
-    (
-        "far behind the code",
-        &[Records(4, &[PublicReference(COUNT, &[65535]), End(0)])],
         &[],
         "refused 31 OutsideCode file 0 slot 7 record 0 reference 0",
     ),
@@ -233,14 +190,13 @@ const PLACES: [Refusal<'static>; 9] = [
 
 /// The refusals of a host with its unit in place, with ample memory and with none, or with each
 /// allocation refused where memory is taken before them.
-const FAULTS: [Table<'static, Refusal<'static>>; 7] = [
-    (Base::InPlace, AMPLE_OR_NONE, &CODES),
-    (Base::InPlace, AMPLE_OR_NONE, &PROCEDURES),
-    (Base::InPlace, AMPLE_OR_NONE, &RECORDS),
-    (Base::InPlace, AMPLE_OR_REFUSED, &DEFINITIONS),
-    (Base::InPlace, AMPLE_OR_REFUSED, &NAMES),
-    (Base::InPlace, AMPLE_OR_REFUSED, &SIZES),
-    (Base::InPlace, AMPLE_OR_REFUSED, &PLACES),
+static FAULTS: [Table<'static, Refusal<'static>>; 6] = [
+    (IN_PLACE, NoAllocation, &PROCEDURES),
+    (IN_PLACE, NoAllocation, &RECORDS),
+    (IN_PLACE, EachAllocationRefused, &DEFINITIONS),
+    (IN_PLACE, EachAllocationRefused, &NAMES),
+    (IN_PLACE, EachAllocationRefused, &SIZES),
+    (IN_PLACE, EachAllocationRefused, &PLACES),
 ];
 
 #[test]

@@ -1,11 +1,11 @@
 //! `link` and its parts where memory is wanting, and how often it is requested.
-use super::allocations::{Allocating, OUT_OF_MEMORY, refused_allocations};
-use super::answers::text_of;
-use super::tables::Base;
-use super::texts::Map;
+use super::allocations::{Allocating, refused_allocations};
+use super::answers::{is, text_of};
+use super::plan::{describe, text_of_stop};
+use super::tables::{Base, IN_PLACE, LONG_UNIT_PAIR, PAIR, bytes_of};
 use super::writers::{Full, Room};
 use ps_linkfile::{Counting, LinkError, Linked, Summary, link, map_text, prepare};
-use ps_resolve::{Plan, Stop, resolve};
+use ps_resolve::resolve;
 use refusing::Refusing;
 use std::alloc::{AllocError, Allocator, Global};
 use std::process::Abort;
@@ -18,57 +18,48 @@ pub(crate) struct Link<'a> {
     pub linked: &'a [u8],
 }
 
-impl<'a> Allocating for Link<'a> {
-    /// The writer takes no memory; without a Summary nothing may be written.
-    fn answer<A: Allocator + Copy>(&self, alloc: Global, heap: A) -> Result<String, AllocError> {
-        let mut out = Room::new(alloc, self.linked.len(), usize::MAX, Full::Stalls)?;
-        let answer = link(heap, self.host, self.libraries, &mut out);
-        self.text_of(alloc, answer, &out)
-    }
-}
-
 impl Link<'_> {
+    /// A writer with room for the linked file, which takes no memory.
+    fn room(&self, alloc: Global) -> Result<Room, AllocError> {
+        Room::new(alloc, (self.linked.len(), usize::MAX, Full::Stalls))
+    }
+
     /// An answer as text, where no other bytes were written than it says.
     fn text_of(
         &self,
         alloc: Global,
         answer: Result<Summary, LinkError>,
-        out: &Room,
+        written: &[u8],
     ) -> Result<String, AllocError> {
         let wanted = if answer.is_ok() { self.linked } else { &[] };
-        if out.written() != wanted {
+        if written != wanted {
             return String::from_str(alloc, "other bytes were written");
         }
         text_of(alloc, answer)
     }
 }
 
+impl<'a> Allocating for Link<'a> {
+    fn answer<A: Allocator + Copy>(&self, alloc: Global, heap: A) -> Result<String, AllocError> {
+        let mut out = self.room(alloc)?;
+        let answer = link(heap, self.host, self.libraries, &mut out);
+        self.text_of(alloc, answer, out.written())
+    }
+}
+
 /// `resolve` with the files of a link.
 #[derive(Clone, Copy)]
-struct Resolve<'a> {
-    link: Link<'a>,
+pub(crate) struct Resolve<'a> {
+    pub link: Link<'a>,
 }
 
 impl<'a> Allocating for Resolve<'a> {
-    /// How many edits each segment of the plan has, and how many private words there are.
     fn answer<A: Allocator + Copy>(&self, alloc: Global, heap: A) -> Result<String, AllocError> {
         match resolve(heap, self.link.host, self.link.libraries) {
-            Ok(plan) => counts_of(alloc, &plan),
-            Err(Stop::Refused(fault)) => format!(in alloc; "{fault}"),
-            Err(Stop::Memory) => String::from_str(alloc, OUT_OF_MEMORY),
+            Ok(plan) => describe(alloc, &plan),
+            Err(stop) => text_of_stop(alloc, &stop),
         }
     }
-}
-
-fn counts_of<A: Allocator + Copy>(alloc: Global, plan: &Plan<'_, A>) -> Result<String, AllocError> {
-    let mut text = String::from_str(alloc, "edits")?;
-    for k in 0..plan.sources().len() {
-        let edits = plan.edits(k).len();
-        write!(text, " {edits}")?;
-    }
-    let words = plan.private_words();
-    write!(text, " private words {words}")?;
-    Ok(text)
 }
 
 /// `prepare` with the files of a link, and the linked file written from it.
@@ -79,126 +70,59 @@ struct Prepare<'a> {
 
 impl<'a> Allocating for Prepare<'a> {
     fn answer<A: Allocator + Copy>(&self, alloc: Global, heap: A) -> Result<String, AllocError> {
-        let mut out = Room::new(alloc, self.link.linked.len(), usize::MAX, Full::Stalls)?;
-        match prepare(heap, self.link.host, self.link.libraries) {
-            Ok(linked) => {
-                let answer = linked.write(&mut out).map_err(LinkError::Write);
-                self.link.text_of(alloc, answer, &out)
-            }
-            Err(error) => self.link.text_of(alloc, Err(error), &out),
-        }
+        let mut out = self.link.room(alloc)?;
+        let answer = match prepare(heap, self.link.host, self.link.libraries) {
+            Ok(linked) => linked.write(&mut out).map_err(LinkError::Write),
+            Err(error) => Err(error),
+        };
+        self.link.text_of(alloc, answer, out.written())
     }
 }
 
-/// Checks the answer of a call with ample memory.
-fn answers(rt: &(impl Abort + AllocGlobal), call: &impl Allocating, answer: &str) {
-    let alloc = rt.alloc();
-    let text = call.answer(alloc, alloc).expect(rt, "unexpected error");
-    assert!(rt; text.as_str() == answer, "{text}");
-}
-
-/// Checks the answers of each call that plans a link, with ample memory: its edits and private
-/// words, its summary and linked file, and its map.
-pub(crate) fn answers_each_call(
-    rt: &(impl Abort + AllocGlobal),
-    link: Link<'_>,
-    planned: &str,
-    summary: &str,
-    map: &str,
-) {
-    answers(rt, &Resolve { link }, planned);
-    answers(rt, &Prepare { link }, summary);
-    answers(rt, &link, summary);
-    let alloc = rt.alloc();
-    let call = Map {
-        host: link.host,
-        libraries: link.libraries,
-    };
-    let text = call.answer(alloc, alloc).expect(rt, "unexpected error");
-    assert!(rt; text.as_str() == map, "another map: {text}");
-}
-
-/// Writes a prepared link to a writer with room for the linked file, and checks what is said and
-/// written.
-fn writes_to_a_room<A: Allocator + Copy>(
-    rt: &(impl Abort + AllocGlobal),
+/// Writes a prepared link to a writer of each kind: the answers as text, where each has the linked
+/// file.
+fn written<A: Allocator + Copy>(
+    alloc: Global,
+    link: &Link<'_>,
     linked: &Linked<'_, A>,
-    summary: &str,
-    file: &[u8],
-) {
-    let alloc = rt.alloc();
-    let mut out = Room::new(alloc, file.len(), usize::MAX, Full::Stalls).expect(
-        rt,
-        "unexpected error",
-    );
-    let answer = linked.write(&mut out).map_err(LinkError::Write);
-    let text = text_of(alloc, answer).expect(rt, "unexpected error");
-    assert!(rt; text.as_str() == summary, "{text}");
-    assert!(rt; out.written() == file);
-}
-
-/// The same, to a list of bytes.
-fn writes_to_a_list<A: Allocator + Copy>(
-    rt: &(impl Abort + AllocGlobal),
-    linked: &Linked<'_, A>,
-    summary: &str,
-    file: &[u8],
-) {
-    let alloc = rt.alloc();
-    let mut out = Vec::new(alloc);
-    let answer = linked.write(&mut out).map_err(LinkError::Write);
-    let text = text_of(alloc, answer).expect(rt, "unexpected error");
-    assert!(rt; text.as_str() == summary, "{text}");
-    assert!(rt; out.as_slice() == file);
-}
-
-/// The same, to a writer that counts.
-fn writes_and_tells<A: Allocator + Copy>(
-    rt: &(impl Abort + AllocGlobal),
-    linked: &Linked<'_, A>,
-    summary: &str,
-    file: &[u8],
-) {
-    let alloc = rt.alloc();
-    let room = Room::new(alloc, file.len(), usize::MAX, Full::Stalls).expect(
-        rt,
-        "unexpected error",
-    );
-    let mut out = Counting::new(room);
-    let answer = linked.write_told(&mut out).map_err(LinkError::Write);
-    let text = text_of(alloc, answer).expect(rt, "unexpected error");
-    assert!(rt; text.as_str() == summary, "{text}");
-    let inner = out.into_inner();
-    assert!(rt; inner.written() == file);
-}
-
-/// Writes a prepared link twice to each kind of plain writer, and to one that counts.
-fn writes_each_way<A: Allocator + Copy>(
-    rt: &(impl Abort + AllocGlobal),
-    linked: &Linked<'_, A>,
-    summary: &str,
-    file: &[u8],
-) {
-    for _ in 0..2 {
-        writes_to_a_room(rt, linked, summary, file);
-        writes_to_a_list(rt, linked, summary, file);
-    }
-    writes_and_tells(rt, linked, summary, file)
+) -> Result<String, AllocError> {
+    let mut room = link.room(alloc)?;
+    let answer = linked.write(&mut room).map_err(LinkError::Write);
+    let first = link.text_of(alloc, answer, room.written())?;
+    let mut list = Vec::new(alloc);
+    let answer = linked.write(&mut list).map_err(LinkError::Write);
+    let second = link.text_of(alloc, answer, list.as_slice())?;
+    let mut told = Counting::new(link.room(alloc)?);
+    let answer = linked.write_told(&mut told).map_err(LinkError::Write);
+    let third = link.text_of(alloc, answer, told.into_inner().written())?;
+    format!(in alloc; "{first}, {second}, {third}")
 }
 
 /// Checks that preparing a link makes so many allocations, of so many bytes in all, and that
 /// writing it, however often, makes none.
 fn writing_grows_nothing(
     rt: &(impl Abort + AllocGlobal),
-    heap: &Refusing<Global>,
     link: &Link<'_>,
     asked: (u64, u64),
     summary: &str,
 ) {
+    let alloc = rt.alloc();
+    let heap = Refusing::once(alloc, 0);
+    let heap = &heap;
     let linked = prepare(heap, link.host, link.libraries).expect(rt, "unexpected error");
     let (allocations, bytes) = (heap.allocations(), heap.bytes());
     assert!(rt; (allocations, bytes) == asked, "{allocations} {bytes}");
-    writes_each_way(rt, &linked, summary, link.linked);
+    let text = written(alloc, link, &linked).expect(rt, "unexpected error");
+    let wanted = format!(in alloc; "{summary}, {summary}, {summary}").expect(
+        rt,
+        "unexpected error",
+    );
+    is(
+        rt,
+        "a room, a list and a writer that counts",
+        text.as_str(),
+        wanted.as_str(),
+    );
     assert!(rt; heap.allocations() == allocations);
 }
 
@@ -207,10 +131,11 @@ fn writing_grows_nothing(
 /// four times as many bytes at most.
 fn a_map_grows_by_its_text(
     rt: &(impl Abort + AllocGlobal),
-    heap: &Refusing<Global>,
     link: &Link<'_>,
     (allocations, bytes): (u64, u64),
 ) {
+    let heap = Refusing::once(rt.alloc(), 0);
+    let heap = &heap;
     let text = map_text(heap, link.host, link.libraries).expect(rt, "unexpected error");
     let length = text.len() as u64;
     assert!(rt; (128..256).contains(&length), "{length}");
@@ -223,70 +148,72 @@ fn a_map_grows_by_its_text(
     );
 }
 
+/// A link of unchanged files, how many allocations its plan makes and of how many bytes, the plan,
+/// and the program's line.
+type Planned<'a> = (Base<'a>, (u64, u64), &'a str, &'a str);
+
 /// Checks the answers of `resolve` and of `prepare` with each allocation refused in turn, that both
 /// make so many, and that a linked file is written without any.
 fn only_the_plan_grows(
     rt: &(impl Abort + AllocGlobal),
-    link: Link<'_>,
-    planned: &str,
-    summary: &str,
-    asked: (u64, u64),
+    (base, asked, planned, summary): &Planned<'_>,
 ) {
-    let planning = refused_allocations(rt, "resolve", &Resolve { link }, planned);
-    let preparing = refused_allocations(rt, "prepare", &Prepare { link }, summary);
+    let alloc = rt.alloc();
+    let host = base.host(alloc, &[]).expect(rt, "unexpected error");
+    let libraries = base.libraries(alloc, &[]).expect(rt, "unexpected error");
+    let libraries = bytes_of(alloc, libraries.as_slice()).expect(rt, "unexpected error");
+    let linked = base.linked(alloc, &[]).expect(rt, "unexpected error");
+    let link = Link {
+        host: host.as_slice(),
+        libraries: libraries.as_slice(),
+        linked: linked.as_slice(),
+    };
+    let planning = refused_allocations(rt, "resolve", &Resolve { link }, *planned);
+    let preparing = refused_allocations(rt, "prepare", &Prepare { link }, *summary);
     assert!(rt;
         (planning, preparing) == (asked.0, asked.0),
         "{planning} {preparing}"
     );
-    let heap = Refusing::once(rt.alloc(), 0);
-    writing_grows_nothing(rt, &heap, &link, asked, summary);
-    let heap = Refusing::once(rt.alloc(), 0);
-    a_map_grows_by_its_text(rt, &heap, &link, asked)
+    writing_grows_nothing(rt, &link, *asked, *summary);
+    a_map_grows_by_its_text(rt, &link, *asked)
 }
 
-/// Links of unchanged files: how many edits each segment's plan has and how many private words
-/// there are, the program's line, and how many allocations there are and of how many bytes.
-///
 /// The table of definitions takes four allocations of 244 bytes, since the kit's has nine places at
 /// least: of 8 bytes for a hash and its place, 8 for a name and 4 for a definition, and a group of
 /// 64. The list of lists of edits takes 64. For each segment to be linked a table takes 4 bytes for
 /// each of its code's 18, 24 or 530, and a list 16 for each edit that there is room for: one for
 /// each reference and two more. A private variable takes 24 bytes, and its name 8 while names are
 /// compared.
-const PLANS: [(Base, &str, &str, (u64, u64)); 3] = [
+static PLANS: [Planned<'static>; 3] = [
     (
-        Base::Pair,
-        "edits 2 3 private words 4",
-        "segments 2 private words 4 blocks 3",
+        PAIR,
         (11, 604),
+        "slot 1 file 0 entry 1 length 18: word at 4: 18 byte at 16: 1; \
+slot 7 file 1 entry 2 length 24: big at 1: 3 big at 4: 10 byte at 22: 7; \
+definitions 1 privates 1 words 4 next 12 data 18",
+        "segments 2 private words 4 blocks 3",
     ),
     (
-        Base::LongUnit,
-        "edits 2 2 private words 0",
-        "segments 2 private words 0 blocks 4",
+        LONG_UNIT_PAIR,
         (9, 2580),
+        "slot 1 file 0 entry 1 length 18: word at 4: 10 byte at 16: 1; \
+slot 7 file 1 entry 2 length 530: big at 511: 258 byte at 528: 7; \
+definitions 1 privates 0 words 0 next 8 data 10",
+        "segments 2 private words 0 blocks 4",
     ),
     (
-        Base::InPlace,
-        "edits 2 2 private words 0",
-        "segments 2 private words 0 blocks 3",
+        IN_PLACE,
         (9, 556),
+        "slot 1 file 0 entry 1 length 18: word at 4: 10 byte at 16: 1; \
+slot 7 file 0 entry 7 length 24: big at 1: 3 byte at 22: 7; \
+definitions 1 privates 0 words 0 next 8 data 10",
+        "segments 2 private words 0 blocks 3",
     ),
 ];
 
 #[test]
 fn writing_takes_no_memory(rt: HostRuntime) {
-    let alloc = rt.alloc();
-    for (base, planned, summary, asked) in PLANS {
-        let host = base.host(alloc).expect(&rt, "unexpected error");
-        let library = base.library(alloc).expect(&rt, "unexpected error");
-        let linked = base.linked(alloc).expect(&rt, "unexpected error");
-        let library = [library.as_slice()];
-        let link = Link {
-            host: host.as_slice(),
-            libraries: base.libraries(&library),
-            linked: linked.as_slice(),
-        };
-        only_the_plan_grows(&rt, link, planned, summary, asked);
+    for planned in &PLANS {
+        only_the_plan_grows(&rt, planned);
     }
 }

@@ -1,23 +1,24 @@
 //! A unit by itself: what refuses it in a link with a host that would define each name.
 ghost use Rattle.std.specs.Prelude.{◌<◌};
 
-use crate::base::{COUNT, NOBODY, STATE, base_host, base_library};
+use super::answers::is;
+use super::tables::{LIBRARY_LISTS, PAIR_FILES};
+use crate::base::{COUNT, NOBODY, STATE};
 use crate::code_file::Change::{Code, Length, Records};
-use crate::code_file::{Change, CodeFile};
+use crate::code_file::{Changes, CodeFile};
 use crate::information::Record::{End, PrivateReference, PublicReference, UnitReference};
 use ps_resolve::{lone_fault, read};
 use ps_words::Order;
-use std::alloc::Global;
 use std::process::Abort;
 
 /// The base library with changes, and the first fault of its unit, which is in slot 2.
 struct Row {
     what: &'static str,
-    changes: &'static [Change<'static>],
+    changes: Changes<'static>,
     wanted: &'static str,
 }
 
-const ROWS: [Row; 14] = [
+static ROWS: [Row; 14] = [
     Row {
         what: "the unit of the base library",
         changes: &[],
@@ -115,18 +116,17 @@ const ROWS: [Row; 14] = [
 ];
 
 /// Checks the first fault of the segment in a slot of a file.
-fn has_fault(rt: &impl Abort, alloc: Global, file: &CodeFile, slot: u8, what: &str, wanted: &str)
+fn has_fault(rt: &(impl Abort + AllocGlobal), file: &[u8], slot: u8, what: &str, wanted: &str)
     requires { slot < 16 }
 {
-    let reading = read(file.as_slice(), &[]);
+    let alloc = rt.alloc();
+    let reading = read(file, &[]);
     let host = reading.host().expect(rt, "the file cannot be opened");
-    let fault = lone_fault(alloc, host, slot).expect(rt, "no memory");
-    let mut text = String::new(alloc);
-    match fault {
-        None => text.push_str("no fault").expect(rt, "no memory"),
-        Some(fault) => write!(text, "{fault}").expect(rt, "no memory"),
-    }
-    assert!(rt; text.as_str() == wanted, "{what}: {text}");
+    let text = match lone_fault(alloc, host, slot).expect(rt, "no memory") {
+        None => String::from_str(alloc, "no fault"),
+        Some(fault) => format!(in alloc; "{fault}"),
+    };
+    is(rt, what, text.expect(rt, "no memory").as_str(), wanted)
 }
 
 #[test]
@@ -134,21 +134,23 @@ fn units_by_themselves(rt: HostRuntime) {
     let alloc = rt.alloc();
     for order in [Order::Little, Order::Big] {
         for row in &ROWS {
-            let file = base_library(alloc, order).expect(&rt, "unexpected error");
-            let file = file
+            let file = CodeFile::new(alloc, order, &LIBRARY_LISTS)
+                .expect(&rt, "unexpected error")
                 .with(alloc, row.changes)
                 .expect(&rt, "unexpected error");
-            has_fault(&rt, alloc, &file, 2, row.what, row.wanted);
+            has_fault(&rt, file.as_slice(), 2, row.what, row.wanted);
         }
     }
 }
 
 #[test]
 fn segments_that_are_no_units_of_the_file(rt: HostRuntime) {
-    let alloc = rt.alloc();
-    let file = base_host(alloc, Order::Little).expect(&rt, "unexpected error");
-    has_fault(&rt, alloc, &file, 0, "an empty slot", "no fault");
-    has_fault(&rt, alloc, &file, 1, "a host", "no fault");
+    let file = PAIR_FILES
+        .host(rt.alloc(), &[])
+        .expect(&rt, "unexpected error");
+    let file = file.as_slice();
+    has_fault(&rt, file, 0, "an empty slot", "no fault");
+    has_fault(&rt, file, 1, "a host", "no fault");
     let wanted = "refused 13 MissingUnit file 0 slot 7";
-    has_fault(&rt, alloc, &file, 7, "a wanted unit", wanted);
+    has_fault(&rt, file, 7, "a wanted unit", wanted)
 }

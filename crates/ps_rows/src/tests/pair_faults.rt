@@ -1,49 +1,20 @@
 //! A host that wants its unit from a library, and why the two are refused.
 use super::host_faults::DEFINITIONS;
-use super::tables::{AMPLE_OR_NONE, AMPLE_OR_REFUSED, Base, Refusal, Table, refuse_tables};
+use super::tables::Memory::{EachAllocationRefused, NoAllocation};
+use super::tables::{BIG_LIBRARY, HOST_ALONE, LITTLE_LIBRARY, PAIR, Refusal, Table, refuse_tables};
 use crate::base::{COUNT, CUONT, LIBRARY_UTIL, NOBODY, STATE};
-use crate::code_file::Change::{Address, Bytes, Code, Entry, Kind, Length, Records, Resized};
+use crate::code_file::Change::{Bytes, Code, Entry, Kind, Records};
 use crate::information::Record::{
     ConstantDefinition, End, PrivateReference, PublicDefinition, PublicReference, UnitReference,
 };
 
 /// Segment dictionaries of the library.
-const LIBRARIES: [Refusal<'static>; 7] = [
-    (
-        "kinds in the other order",
-        &[],
-        &[Bytes(196, &[0, 3])],
-        "refused 3 OrderMismatch file 1",
-    ),
-    (
-        "an entry with no code",
-        &[],
-        &[Length(2, 0)],
-        "refused 13 MissingUnit file 0 slot 7",
-    ),
-    (
-        "an entry with address 0",
-        &[],
-        &[Address(2, 0)],
-        "refused 13 MissingUnit file 0 slot 7",
-    ),
-    (
-        "kind 2",
-        &[],
-        &[Kind(2, 2)],
-        "refused 14 NotAUnit kind 2 file 1 slot 7",
-    ),
+const LIBRARIES: [Refusal<'static>; 2] = [
     (
         "kind 5",
         &[],
         &[Kind(2, 5)],
         "refused 14 NotAUnit kind 5 file 1 slot 7",
-    ),
-    (
-        "kind 7",
-        &[],
-        &[Kind(2, 7)],
-        "refused 14 NotAUnit kind 7 file 1 slot 7",
     ),
     (
         "two entries of the name",
@@ -54,7 +25,7 @@ const LIBRARIES: [Refusal<'static>; 7] = [
 ];
 
 /// The base host without a library.
-const HOST_ALONE: [Refusal<'static>; 1] = [(
+const NO_LIBRARY: [Refusal<'static>; 1] = [(
     "a unit that no library has",
     &[],
     &[],
@@ -62,29 +33,15 @@ const HOST_ALONE: [Refusal<'static>; 1] = [(
 )];
 
 /// Codes of the library.
-const CODES: [Refusal<'static>; 3] = [
-    (
-        "native code",
-        &[],
-        &[Code(1, 18, &[0])],
-        "refused 18 NativeProcedure file 1 slot 7",
-    ),
-    (
-        "a length above 32767",
-        &[],
-        &[Length(2, 32768)],
-        "refused 11 BadLength file 1 slot 7",
-    ),
-    (
-        "23 bytes of 24",
-        &[],
-        &[Resized(535)],
-        "refused 16 Truncated file 1 slot 7",
-    ),
-];
+const CODES: [Refusal<'static>; 1] = [(
+    "native code",
+    &[],
+    &[Code(1, 18, &[0])],
+    "refused 18 NativeProcedure file 1 slot 7",
+)];
 
 /// Link information of the library.
-const RECORDS: [Refusal<'static>; 7] = [
+const RECORDS: [Refusal<'static>; 6] = [
     (
         "type 15",
         &[],
@@ -120,12 +77,6 @@ const RECORDS: [Refusal<'static>; 7] = [
         &[],
         &[Bytes(1032, &[1])],
         "refused 23 BadFormat file 1 slot 7 record 0",
-    ),
-    (
-        "the last byte of the last record",
-        &[],
-        &[Resized(1103)],
-        "refused 19 RecordsTruncated file 1 slot 7 record 2",
     ),
 ];
 
@@ -221,18 +172,18 @@ const OTHER_ORDER: [Refusal<'static>; 1] = [(
 
 /// The refusals of a host that wants its unit from a library, with ample memory and with none, or
 /// with each allocation refused where memory is taken before them.
-const FAULTS: [Table<'static, Refusal<'static>>; 11] = [
-    (Base::Pair, AMPLE_OR_NONE, &LIBRARIES),
-    (Base::HostAlone, AMPLE_OR_NONE, &HOST_ALONE),
-    (Base::Pair, AMPLE_OR_NONE, &CODES),
-    (Base::Pair, AMPLE_OR_NONE, &RECORDS),
-    (Base::Pair, AMPLE_OR_NONE, &UNITS),
-    (Base::BigLibrary, AMPLE_OR_NONE, &OTHER_ORDER),
-    (Base::LittleLibrary, AMPLE_OR_NONE, &OTHER_ORDER),
-    (Base::Pair, AMPLE_OR_REFUSED, &DEFINITIONS),
-    (Base::Pair, AMPLE_OR_REFUSED, &NAMES),
-    (Base::Pair, AMPLE_OR_REFUSED, &SIZES),
-    (Base::Pair, AMPLE_OR_REFUSED, &PLACES),
+static FAULTS: [Table<'static, Refusal<'static>>; 11] = [
+    (PAIR, NoAllocation, &LIBRARIES),
+    (HOST_ALONE, NoAllocation, &NO_LIBRARY),
+    (PAIR, NoAllocation, &CODES),
+    (PAIR, NoAllocation, &RECORDS),
+    (PAIR, NoAllocation, &UNITS),
+    (BIG_LIBRARY, NoAllocation, &OTHER_ORDER),
+    (LITTLE_LIBRARY, NoAllocation, &OTHER_ORDER),
+    (PAIR, EachAllocationRefused, &DEFINITIONS),
+    (PAIR, EachAllocationRefused, &NAMES),
+    (PAIR, EachAllocationRefused, &SIZES),
+    (PAIR, EachAllocationRefused, &PLACES),
 ];
 
 #[test]

@@ -1,13 +1,18 @@
 //! A host that wants its unit from a library, and the files that the two are linked to.
-use super::answers::{LITTLE, links, refuses};
-use super::tables::{AMPLE, AMPLE_OR_REFUSED, Base, Row, Table, link_tables};
-use crate::base::{COUNT, LIBRARY_UTIL, STATE, base_host, base_library, linked_base_pair};
+use super::tables::Memory::{Ample, EachAllocationRefused};
+use super::tables::{
+    BIG_PAIR, Base, HOST_ALONE, LONG_UNIT_PAIR, NINE_REFERENCES, PAIR, Refusal, Row, Table,
+    link_tables, refuse_tables,
+};
+use crate::base::{
+    COUNT, LIBRARY, LIBRARY_UTIL, LINKED_OPERANDS, LINKED_PAIR, LINKED_SEGMENTS, STATE,
+};
 use crate::code_file::Change::{
     Address, Bytes, Code, CodeWord, Entry, Kind, Length, Records, Resized,
 };
-use crate::code_file::{LINKED, Slot, TAIL, UNIT_SEGMENT};
-use crate::in_place::linked_unit_in_place;
+use crate::code_file::{Changes, LINKED, Slot, TAIL, UNIT_SEGMENT};
 use crate::information::Record::{End, PrivateReference, PublicDefinition, PublicReference};
+use crate::units::LINKED_REFERENCE;
 use ps_words::Order;
 
 const BASE_SUMMARY: &str = "segments 2 private words 4 blocks 3";
@@ -22,24 +27,8 @@ const TOOLS: Slot = Slot {
     length: 5,
 };
 
-/// A slot of no code.
-const UNUSED: Slot = Slot {
-    name: *b"UNUSED  ",
-    kind: LINKED,
-    address: 9,
-    length: 0,
-};
-
-/// A slot whose name is eight zeros.
-const ZEROS: Slot = Slot {
-    name: [0; 8],
-    kind: UNIT_SEGMENT,
-    address: 0,
-    length: 0,
-};
-
 /// Link information.
-const RECORDS: [Row<'static>; 7] = [
+const RECORDS: [Row<'static>; 5] = [
     Row {
         what: "a definition, a reference to it and a private variable",
         host: &[],
@@ -76,35 +65,6 @@ const RECORDS: [Row<'static>; 7] = [
         summary: "segments 2 private words 7 blocks 3",
     },
     Row {
-        what: "the unit's own EOFMARK value and definitions are not used",
-        host: &[],
-        library: &[Records(
-            2,
-            &[
-                PublicDefinition(COUNT, 9),
-                PublicReference(COUNT, &[1]),
-                PrivateReference(STATE, 4, &[4]),
-                End(77),
-            ],
-        )],
-        linked: &[],
-        summary: BASE_SUMMARY,
-    },
-    Row {
-        what: "a private variable of the host segment comes first",
-        host: &[Records(
-            2,
-            &[
-                PublicDefinition(COUNT, 3),
-                PrivateReference(STATE, 2, &[2]),
-                End(8),
-            ],
-        )],
-        library: &[],
-        linked: &[CodeWord(1, 4, 22), Code(1, 3, &[8]), Code(2, 5, &[12])],
-        summary: "segments 2 private words 6 blocks 3",
-    },
-    Row {
         what: "files cut behind the last record",
         host: &[Resized(1056)],
         library: &[Resized(1104)],
@@ -128,7 +88,7 @@ const NOT_WANTED: Row<'static> = Row {
 };
 
 /// Slots of the host.
-const SLOT_ROWS: [Row<'static>; 9] = [
+const SLOT_ROWS: [Row<'static>; 5] = [
     Row {
         what: "a wanted unit with a length and no address",
         host: &[Length(7, 24)],
@@ -151,34 +111,6 @@ const SLOT_ROWS: [Row<'static>; 9] = [
         summary: BASE_SUMMARY,
     },
     Row {
-        what: "a slot of kind 3 that is named by zeros",
-        host: &[Entry(8, ZEROS), Length(8, 24)],
-        library: &[],
-        linked: &[Entry(8, ZEROS), Kind(8, LINKED)],
-        summary: BASE_SUMMARY,
-    },
-    Row {
-        what: "a kind and a text address of an empty slot",
-        host: &[Kind(9, 77), Bytes(242, &[5, 0])],
-        library: &[],
-        linked: &[],
-        summary: BASE_SUMMARY,
-    },
-    Row {
-        what: "the name of an empty slot",
-        host: &[Entry(15, UNUSED)],
-        library: &[],
-        linked: &[Entry(15, UNUSED), Address(15, 0)],
-        summary: BASE_SUMMARY,
-    },
-    Row {
-        what: "the tail",
-        host: &[Bytes(TAIL, &[0x5A; 256])],
-        library: &[Bytes(TAIL, &[1; 256])],
-        linked: &[Bytes(TAIL, &[0x5A; 256])],
-        summary: BASE_SUMMARY,
-    },
-    Row {
         what: "a segment that is linked already",
         host: &[Resized(1541), Entry(8, TOOLS), Code(3, 0, &[1, 2, 3, 4, 5])],
         library: &[],
@@ -186,31 +118,6 @@ const SLOT_ROWS: [Row<'static>; 9] = [
         summary: "segments 3 private words 4 blocks 4",
     },
     NOT_WANTED,
-];
-
-/// Entries of the library.
-const ENTRIES: [Row<'static>; 3] = [
-    Row {
-        what: "entries of other names and of any kind",
-        host: &[],
-        library: &[Entry(3, TOOLS), Kind(3, 9), Entry(4, TOOLS), Kind(4, 2)],
-        linked: &[],
-        summary: BASE_SUMMARY,
-    },
-    Row {
-        what: "another entry of the name that has no code",
-        host: &[],
-        library: &[Entry(3, LIBRARY_UTIL), Length(3, 0)],
-        linked: &[],
-        summary: BASE_SUMMARY,
-    },
-    Row {
-        what: "a number byte that is no slot",
-        host: &[],
-        library: &[Code(1, 22, &[0xEE])],
-        linked: &[],
-        summary: BASE_SUMMARY,
-    },
 ];
 
 /// The base pair, unchanged.
@@ -223,7 +130,7 @@ const BASE_PAIR: [Row<'static>; 1] = [Row {
 }];
 
 /// References of a unit.
-const NINE_REFERENCES: [Row<'static>; 1] = [Row {
+const NINE_ROW: [Row<'static>; 1] = [Row {
     what: "nine references of one record",
     host: &[],
     library: &[],
@@ -231,7 +138,7 @@ const NINE_REFERENCES: [Row<'static>; 1] = [Row {
     summary: NO_PRIVATE_WORDS,
 }];
 
-const LONG_UNIT: [Row<'static>; 1] = [Row {
+const LONG_ROW: [Row<'static>; 1] = [Row {
     what: "an operand in two blocks, which are the last byte of one and the first of the next",
     host: &[],
     library: &[],
@@ -239,79 +146,95 @@ const LONG_UNIT: [Row<'static>; 1] = [Row {
     summary: "segments 2 private words 0 blocks 4",
 }];
 
-const LINKS: [Table<'static, Row<'static>>; 8] = [
-    (Base::Pair, AMPLE, &BASE_PAIR),
-    (Base::BigPair, AMPLE, &BASE_PAIR),
-    (Base::Pair, AMPLE_OR_REFUSED, &RECORDS),
-    (Base::Pair, AMPLE, &SLOT_ROWS),
-    (Base::HostAlone, AMPLE, &[NOT_WANTED]),
-    (Base::Pair, AMPLE, &ENTRIES),
-    (Base::NineReferences, AMPLE_OR_REFUSED, &NINE_REFERENCES),
-    (Base::LongUnit, AMPLE, &LONG_UNIT),
+/// The base pair with a second library, the linked base pair or a library whose unit has zeros at
+/// bytes 6 and 7, and with the two libraries exchanged.
+const BEFORE_A_LINKED_FILE: Base<'static> = Base {
+    libraries: &[(false, &[LIBRARY]), (false, LINKED_PAIR)],
+    ..PAIR
+};
+
+const BIG_BEFORE_A_LINKED_FILE: Base<'static> = Base {
+    order: Order::Big,
+    ..BEFORE_A_LINKED_FILE
+};
+
+const ZEROS_IN_THE_CODE: Changes<'static> = &[CodeWord(1, 6, 0)];
+
+const BEFORE_ANOTHER: Base<'static> = Base {
+    libraries: &[(false, &[LIBRARY]), (false, &[LIBRARY, ZEROS_IN_THE_CODE])],
+    ..PAIR
+};
+
+const BEHIND_ANOTHER: Base<'static> = Base {
+    libraries: &[(false, &[LIBRARY, ZEROS_IN_THE_CODE]), (false, &[LIBRARY])],
+    linked: &[LINKED_SEGMENTS, LINKED_OPERANDS, &[CodeWord(2, 6, 0)]],
+    ..PAIR
+};
+
+static LINKS: [Table<'static, Row<'static>>; 11] = [
+    (PAIR, Ample, &BASE_PAIR),
+    (BIG_PAIR, Ample, &BASE_PAIR),
+    (PAIR, EachAllocationRefused, &RECORDS),
+    (PAIR, Ample, &SLOT_ROWS),
+    (HOST_ALONE, Ample, &[NOT_WANTED]),
+    (NINE_REFERENCES, EachAllocationRefused, &NINE_ROW),
+    (LONG_UNIT_PAIR, Ample, &LONG_ROW),
+    (BEFORE_A_LINKED_FILE, Ample, &BASE_PAIR),
+    (BIG_BEFORE_A_LINKED_FILE, Ample, &BASE_PAIR),
+    (BEFORE_ANOTHER, Ample, &BASE_PAIR),
+    (BEHIND_ANOTHER, Ample, &BASE_PAIR),
+];
+
+/// Linked files as hosts: with the base library and without, and one whose unit was in place.
+const LINKED_HOST: Base<'static> = Base {
+    host: LINKED_PAIR,
+    ..PAIR
+};
+
+const LINKED_HOST_ALONE: Base<'static> = Base {
+    host: LINKED_PAIR,
+    ..HOST_ALONE
+};
+
+const LINKED_IN_PLACE: Base<'static> = Base {
+    host: &[LINKED_SEGMENTS, LINKED_REFERENCE],
+    ..HOST_ALONE
+};
+
+const NO_HOST: [Refusal<'static>; 1] = [("a linked file", &[], &[], "refused 4 NoHost file 0")];
+
+static REFUSALS: [Table<'static, Refusal<'static>>; 6] = [
+    (LINKED_HOST, Ample, &NO_HOST),
+    (LINKED_HOST_ALONE, Ample, &NO_HOST),
+    (LINKED_IN_PLACE, Ample, &NO_HOST),
+    (
+        Base {
+            order: Order::Big,
+            ..LINKED_HOST
+        },
+        Ample,
+        &NO_HOST,
+    ),
+    (
+        Base {
+            order: Order::Big,
+            ..LINKED_HOST_ALONE
+        },
+        Ample,
+        &NO_HOST,
+    ),
+    (
+        Base {
+            order: Order::Big,
+            ..LINKED_IN_PLACE
+        },
+        Ample,
+        &NO_HOST,
+    ),
 ];
 
 #[test]
 fn links_of_a_pair(rt: HostRuntime) {
-    link_tables(&rt, &LINKS)
-}
-
-#[test]
-fn a_linked_file_behind_its_library(rt: HostRuntime) {
-    let alloc = rt.alloc();
-    for order in [Order::Little, Order::Big] {
-        let host = base_host(alloc, order).expect(&rt, "unexpected error");
-        let library = base_library(alloc, order).expect(&rt, "unexpected error");
-        let linked = linked_base_pair(alloc, order).expect(&rt, "unexpected error");
-        let (host, library, linked) = (host.as_slice(), library.as_slice(), linked.as_slice());
-        let what = "and a linked file";
-        links(&rt, what, host, &[library, linked], BASE_SUMMARY, linked);
-    }
-}
-
-#[test]
-fn a_linked_file_is_no_host(rt: HostRuntime) {
-    let alloc = rt.alloc();
-    let fault = "refused 4 NoHost file 0";
-    for order in [Order::Little, Order::Big] {
-        let linked = linked_base_pair(alloc, order).expect(&rt, "unexpected error");
-        let library = base_library(alloc, order).expect(&rt, "unexpected error");
-        let libraries = [library.as_slice()];
-        refuses(&rt, "linked", linked.as_slice(), &libraries, fault);
-        refuses(&rt, "no library", linked.as_slice(), &[], fault);
-        let linked = linked_unit_in_place(alloc, order).expect(&rt, "unexpected error");
-        refuses(&rt, "in place", linked.as_slice(), &[], fault);
-    }
-}
-
-#[test]
-fn the_first_library_with_the_unit(rt: HostRuntime) {
-    let alloc = rt.alloc();
-    let host = base_host(alloc, LITTLE).expect(&rt, "unexpected error");
-    let base = base_library(alloc, LITTLE).expect(&rt, "unexpected error");
-    let other = base_library(alloc, LITTLE)
-        .expect(&rt, "unexpected error")
-        .with(alloc, &[CodeWord(1, 6, 0)])
-        .expect(&rt, "unexpected error");
-    let linked = linked_base_pair(alloc, LITTLE).expect(&rt, "unexpected error");
-    let libraries = [base.as_slice(), other.as_slice()];
-    links(
-        &rt,
-        "the base library",
-        host.as_slice(),
-        &libraries,
-        BASE_SUMMARY,
-        linked.as_slice(),
-    );
-    let linked = linked
-        .with(alloc, &[CodeWord(2, 6, 0)])
-        .expect(&rt, "unexpected error");
-    let libraries = [other.as_slice(), base.as_slice()];
-    links(
-        &rt,
-        "the other",
-        host.as_slice(),
-        &libraries,
-        BASE_SUMMARY,
-        linked.as_slice(),
-    )
+    link_tables(&rt, &LINKS);
+    refuse_tables(&rt, &REFUSALS)
 }

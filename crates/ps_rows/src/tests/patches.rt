@@ -3,7 +3,7 @@ use ps_patch::{Patcher, apply};
 use ps_words::{Edit, Order};
 
 #[test]
-fn an_operand_between_other_bytes(rt: HostRuntime) {
+fn edits_at_once(rt: HostRuntime) {
     let mut code = [0xD7, 0x80, 0x02, 0xAB];
     let edits = [Edit::Big {
         place: 1,
@@ -11,10 +11,8 @@ fn an_operand_between_other_bytes(rt: HostRuntime) {
     }];
     apply(Order::Little, &mut code, &edits);
     assert!(rt; code == [0xD7, 0x80, 0x0A, 0xAB]);
-}
-
-#[test]
-fn a_word_with_its_high_byte_first(rt: HostRuntime) {
+    apply(Order::Big, &mut code, &[]);
+    assert!(rt; code == [0xD7, 0x80, 0x0A, 0xAB]);
     let mut code = [0x00, 0x0A, 0xFF];
     let edits = [Edit::Word {
         place: 0,
@@ -22,10 +20,6 @@ fn a_word_with_its_high_byte_first(rt: HostRuntime) {
     }];
     apply(Order::Big, &mut code, &edits);
     assert!(rt; code == [0x00, 0x12, 0xFF]);
-}
-
-#[test]
-fn two_edits_side_by_side_cover_all(rt: HostRuntime) {
     let mut code = [0x00, 0x00, 0x05];
     let edits = [
         Edit::Big {
@@ -39,28 +33,7 @@ fn two_edits_side_by_side_cover_all(rt: HostRuntime) {
 }
 
 #[test]
-fn the_first_and_the_last_bytes(rt: HostRuntime) {
-    let mut code = [0x11, 0x22, 0x33, 0x44, 0x55];
-    let edits = [
-        Edit::Byte { place: 0, value: 9 },
-        Edit::Word {
-            place: 3,
-            value: 0x0102,
-        },
-    ];
-    apply(Order::Little, &mut code, &edits);
-    assert!(rt; code == [0x09, 0x22, 0x33, 0x02, 0x01]);
-}
-
-#[test]
-fn no_edits_change_nothing(rt: HostRuntime) {
-    let mut code = [0xD7, 0x80, 0x02, 0xAB];
-    apply(Order::Big, &mut code, &[]);
-    assert!(rt; code == [0xD7, 0x80, 0x02, 0xAB]);
-}
-
-#[test]
-fn blocks_of_a_code_without_edits(rt: HostRuntime) {
+fn blocks_of_codes_without_edits(rt: HostRuntime) {
     let code = [0xD7; 1024];
     let mut block = [0; 512];
     let mut patcher = Patcher::new(Order::Little, &code, &[]);
@@ -72,18 +45,11 @@ fn blocks_of_a_code_without_edits(rt: HostRuntime) {
         assert!(rt; patcher.fill(&mut block) == 0);
         assert!(rt; block == [0; 512], "zeros past the end");
     }
-}
-
-#[test]
-fn a_block_of_five_bytes_and_one_of_none(rt: HostRuntime) {
     let mut block = [0xEE; 512];
     let mut patcher = Patcher::new(Order::Little, &[1, 2, 3, 4, 5], &[]);
     assert!(rt; patcher.fill(&mut block) == 5);
-    assert!(rt; &block[..6] == [1, 2, 3, 4, 5, 0].as_slice());
-    assert!(rt; &block[5..] == [0; 507].as_slice());
-    assert!(rt; patcher.fill(&mut block) == 0);
-    assert!(rt; block == [0; 512]);
-
+    assert!(rt; block.starts_with(&[1, 2, 3, 4, 5]));
+    assert!(rt; block.ends_with(&[0; 507]));
     let mut block = [0xEE; 512];
     let mut patcher = Patcher::new(Order::Little, &[], &[]);
     assert!(rt; patcher.fill(&mut block) == 0);
@@ -110,39 +76,36 @@ fn an_operand_across_two_blocks(rt: HostRuntime) {
     let mut block = [0; 512];
     let mut patcher = Patcher::new(Order::Little, &code, &edits);
     assert!(rt; patcher.fill(&mut block) == 512);
-    assert!(rt; &block[509..] == [0xD7, 0xA5, 0x81].as_slice());
+    assert!(rt; block.ends_with(&[0xD7, 0xA5, 0x81]));
     assert!(rt; patcher.fill(&mut block) == 18);
-    assert!(rt; &block[..3] == [0x02, 0xD7, 0xAD].as_slice());
-    assert!(rt; &block[14..19] == [0x02, 0x00, 0x07, 0x01, 0x00].as_slice());
+    assert!(rt;
+        block.starts_with(&[
+            2, 0xD7, 0xAD, 0, 0, 0, 0, 0, 6, 0, 0x0A, 2, 1, 0, 2, 0, 7, 1, 0
+        ])
+    );
     assert!(rt; patcher.fill(&mut block) == 0);
 }
 
 #[test]
-fn an_operand_at_the_end_of_a_block(rt: HostRuntime) {
+fn operands_at_the_end_and_at_the_start_of_a_block(rt: HostRuntime) {
     let code = [0xD7; 1024];
-    let edits = [Edit::Big {
+    let end = [Edit::Big {
         place: 510,
         value: 3,
     }];
-    let mut block = [0; 512];
-    let mut patcher = Patcher::new(Order::Little, &code, &edits);
-    assert!(rt; patcher.fill(&mut block) == 512);
-    assert!(rt; (block[509], block[510], block[511]) == (0xD7, 0x80, 0x03));
-    assert!(rt; patcher.fill(&mut block) == 512);
-    assert!(rt; block == [0xD7; 512]);
-}
-
-#[test]
-fn an_operand_at_the_start_of_a_block(rt: HostRuntime) {
-    let code = [0xD7; 1024];
-    let edits = [Edit::Big {
+    let start = [Edit::Big {
         place: 512,
         value: 3,
     }];
     let mut block = [0; 512];
-    let mut patcher = Patcher::new(Order::Big, &code, &edits);
+    let mut patcher = Patcher::new(Order::Little, &code, &end);
+    assert!(rt; patcher.fill(&mut block) == 512);
+    assert!(rt; block.ends_with(&[0xD7, 0x80, 0x03]));
+    assert!(rt; patcher.fill(&mut block) == 512);
+    assert!(rt; block == [0xD7; 512]);
+    let mut patcher = Patcher::new(Order::Big, &code, &start);
     assert!(rt; patcher.fill(&mut block) == 512);
     assert!(rt; block == [0xD7; 512]);
     assert!(rt; patcher.fill(&mut block) == 512);
-    assert!(rt; (block[0], block[1], block[2]) == (0x80, 0x03, 0xD7));
+    assert!(rt; block.starts_with(&[0x80, 0x03, 0xD7]));
 }

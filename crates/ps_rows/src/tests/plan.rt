@@ -1,13 +1,15 @@
 //! The calls that a plan is made by, each by itself.
-use super::allocations::{Allocating, OUT_OF_MEMORY, refuses_each_allocation};
-use crate::base::{COUNT, DEMO_SLOT, LIBRARY_RECORDS, STATE, UTIL_SLOT, base_host, base_library};
+use super::allocations::{Allocating, refuses_each_allocation};
+use super::answers::{OUT_OF_MEMORY, is};
+use super::tables::{BIG_IN_PLACE, BIG_PAIR, Base, IN_PLACE, PAIR, USED_UNIT, bytes_of};
+use crate::base::{COUNT, DEMO_SLOT, HOST_RECORDS, LIBRARY_RECORDS, STATE, UTIL_SLOT};
 use crate::code_file::Change::Records;
-use crate::in_place::unit_in_place;
+use crate::code_file::Changes;
 use crate::information::Record::{
     ConstantDefinition, End, PrivateReference, PublicDefinition, PublicReference,
 };
-use crate::information::{Name, Record};
-use ps_resolve::{Allotment, Def, DefKind, Definitions, Linkage, Plan, Source, Stop, resolve};
+use crate::information::{Information, Name, Record};
+use ps_resolve::{Allotment, Def, Definitions, Linkage, Plan, Source, Stop, resolve};
 use ps_words::{Edit, Order};
 use std::alloc::{AllocError, Allocator, Global};
 use std::process::Abort;
@@ -18,37 +20,14 @@ const ORDERS: [Order; 2] = [Order::Little, Order::Big];
 const LIMIT: Name = *b"LIMIT   ";
 
 /// Why nothing was built, as text.
-fn text_of(alloc: Global, stop: &Stop) -> Result<String, AllocError> {
+pub(crate) fn text_of_stop(alloc: Global, stop: &Stop) -> Result<String, AllocError> {
     match stop {
         Stop::Refused(fault) => format!(in alloc; "{fault}"),
         Stop::Memory => String::from_str(alloc, OUT_OF_MEMORY),
     }
 }
 
-/// The block in which the link information of the host segment, and that of the library's unit,
-/// begins: the code is one block, after the segment dictionary.
-const INFORMATION: usize = 2 * 512;
-
-/// The link information of the host segment.
-fn host_linkage(host: &[u8], order: Order) -> Linkage<'_> {
-    Linkage {
-        file: 0,
-        slot: DEMO_SLOT,
-        order,
-        bytes: host.get(INFORMATION..).unwrap_or(&[]),
-    }
-}
-
-/// The link information of the unit in the library.
-fn unit_linkage(library: &[u8], order: Order) -> Linkage<'_> {
-    Linkage {
-        file: 1,
-        slot: UTIL_SLOT,
-        order,
-        bytes: library.get(INFORMATION..).unwrap_or(&[]),
-    }
-}
-
+/// Definitions by index, and those of three names, as text.
 fn describe_definitions<A: Allocator + Copy>(
     alloc: Global,
     definitions: &Definitions<A>,
@@ -59,9 +38,19 @@ fn describe_definitions<A: Allocator + Copy>(
         let name = str::from_utf8(&name).unwrap_or("no text");
         write!(text, "{name} {kind:?} {value}; ")?;
     }
+    for name in &[COUNT, STATE, LIMIT] {
+        match definitions.look(name) {
+            Some(Def { kind, value }) => write!(text, "{kind:?} {value}, ")?,
+            None => text.push_str("none, ")?,
+        }
+    }
     Ok(text)
 }
 
+/// The slots and records of which the offset is looked up.
+static PLACES: [(u8, usize); 5] = [(7, 1), (7, 0), (7, 2), (6, 1), (8, 1)];
+
+/// Private variables by index, and the offsets of some records, as text.
 fn describe_allotment<A: Allocator + Copy>(
     alloc: Global,
     allotment: &Allotment<A>,
@@ -72,233 +61,154 @@ fn describe_allotment<A: Allocator + Copy>(
         write!(text, "slot {} record {} {name} ", private.slot, private.rec)?;
         write!(text, "offset {} words {}; ", private.offset, private.words)?;
     }
+    for (slot, rec) in &PLACES {
+        write!(text, "{:?} ", allotment.offset(*slot, *rec))?;
+    }
     let (words, next) = (allotment.words(), allotment.next_free());
     write!(text, "words {words} next {next}")?;
     Ok(text)
 }
 
-/// `Definitions::build` on this link information.
+/// A call that builds from the link information of one segment.
 #[derive(Clone, Copy)]
-struct BuildDefinitions<'a> {
-    host: Linkage<'a>,
+enum Build<'a> {
+    Definitions(Linkage<'a>),
+    /// From this offset on.
+    Allotment(u16, Linkage<'a>),
 }
 
-impl<'a> Allocating for BuildDefinitions<'a> {
+impl<'a> Allocating for Build<'a> {
     fn answer<A: Allocator + Copy>(&self, alloc: Global, heap: A) -> Result<String, AllocError> {
-        match Definitions::build(heap, &self.host) {
-            Ok(definitions) => describe_definitions(alloc, &definitions),
-            Err(stop) => text_of(alloc, &stop),
+        match self {
+            Build::Definitions(host) => match Definitions::build(heap, host) {
+                Ok(definitions) => describe_definitions(alloc, &definitions),
+                Err(stop) => text_of_stop(alloc, &stop),
+            },
+            Build::Allotment(next, segment) => match Allotment::build(heap, *next, &[*segment]) {
+                Ok(allotment) => describe_allotment(alloc, &allotment),
+                Err(stop) => text_of_stop(alloc, &stop),
+            },
         }
     }
 }
 
-/// `Allotment::build` on this link information of one segment, from this offset on.
-#[derive(Clone, Copy)]
-struct BuildAllotment<'a> {
-    next: u16,
-    segment: Linkage<'a>,
-}
+/// The records of a segment, from which offset on its private variables are, or None where it is
+/// the host's and its definitions are built, and the answer.
+type Built<'a> = (&'a [Record<'a>], Option<u16>, &'a str);
 
-impl<'a> Allocating for BuildAllotment<'a> {
-    fn answer<A: Allocator + Copy>(&self, alloc: Global, heap: A) -> Result<String, AllocError> {
-        match Allotment::build(heap, self.next, &[self.segment]) {
-            Ok(allotment) => describe_allotment(alloc, &allotment),
-            Err(stop) => text_of(alloc, &stop),
-        }
-    }
-}
-
-/// Checks definitions by index and by name, and that this name is none of theirs.
-pub(crate) fn has_definitions(
-    rt: &(impl Abort + AllocGlobal),
-    definitions: &Definitions,
-    wanted: &[(Name, Def)],
-    absent: &Name,
-) {
-    assert!(rt; definitions.len() == wanted.len());
-    for i in 0..definitions.len() {
-        let (name, def) = definitions.at(i);
-        assert!(rt; Some((name, def)) == wanted.get(i).copied(), "{i}");
-        assert!(rt; definitions.look(&name) == Some(def), "{i}");
-    }
-    assert!(rt; definitions.look(absent) == None);
-}
-
-/// Builds definitions and checks them.
-pub(crate) fn builds_definitions(
-    rt: &(impl Abort + AllocGlobal),
-    host: &Linkage<'_>,
-    wanted: &[(Name, Def)],
-    absent: &Name,
-) {
-    match Definitions::build(rt.alloc(), host) {
-        Ok(definitions) => has_definitions(rt, &definitions, wanted, absent),
-        Err(_) => assert!(rt; false, "no definitions"),
-    }
-}
-
-/// The definitions of the base host, and a constant of another one.
-const COUNT_IS_3: (Name, Def) = (
-    COUNT,
-    Def {
-        kind: DefKind::Public,
-        value: 3,
-    },
-);
-
-const LIMIT_IS_9: (Name, Def) = (
-    LIMIT,
-    Def {
-        kind: DefKind::Constant,
-        value: 9,
-    },
-);
-
-#[test]
-fn definitions_by_index_and_by_name(rt: HostRuntime) {
-    let alloc = rt.alloc();
-    for order in ORDERS {
-        let host = base_host(alloc, order).expect(&rt, "unexpected error");
-        let call = BuildDefinitions {
-            host: host_linkage(host.as_slice(), order),
-        };
-        refuses_each_allocation(&rt, "the base host", &call, "COUNT    Public 3; ");
-        builds_definitions(&rt, &call.host, &[COUNT_IS_3], &STATE);
-    }
-    let records = [
-        PublicDefinition(COUNT, 3),
-        PublicReference(STATE, &[]),
-        ConstantDefinition(LIMIT, 9),
-        End(8),
-    ];
-    let host = base_host(alloc, Order::Little)
-        .expect(&rt, "unexpected error")
-        .with(alloc, &[Records(2, &records)])
-        .expect(&rt, "unexpected error");
-    let host = host_linkage(host.as_slice(), Order::Little);
-    builds_definitions(&rt, &host, &[COUNT_IS_3, LIMIT_IS_9], &STATE)
-}
-
-/// Slots, records and the offset of a private variable, where the unit's second record requests
-/// one.
-const OFFSETS: [(u8, usize, Option<u16>); 5] = [
-    (7, 1, Some(8)),
-    (7, 0, None),
-    (7, 2, None),
-    (6, 1, None),
-    (8, 1, None),
+static BUILT: [Built<'static>; 6] = [
+    (
+        &HOST_RECORDS,
+        None,
+        "COUNT    Public 3; Public 3, none, none, ",
+    ),
+    (
+        &[
+            PublicDefinition(COUNT, 3),
+            PublicReference(STATE, &[]),
+            ConstantDefinition(LIMIT, 9),
+            End(8),
+        ],
+        None,
+        "COUNT    Public 3; LIMIT    Constant 9; Public 3, none, Constant 9, ",
+    ),
+    (
+        &[
+            PublicDefinition(COUNT, 3),
+            ConstantDefinition(COUNT, 4),
+            End(8),
+        ],
+        None,
+        "refused 24 DoubledDefinition file 0 slot 1 record 1",
+    ),
+    (
+        &LIBRARY_RECORDS,
+        Some(8),
+        "slot 7 record 1 STATE    offset 8 words 4; Some(8) None None None None words 4 next 12",
+    ),
+    (
+        &LIBRARY_RECORDS,
+        Some(32764),
+        "refused 26 NoRoom file 1 slot 7 record 1",
+    ),
+    (
+        &[
+            PrivateReference(STATE, 4, &[]),
+            PrivateReference(STATE, 4, &[]),
+            End(0),
+        ],
+        Some(8),
+        "refused 25 DoubledPrivate file 1 slot 7 record 1",
+    ),
 ];
 
-fn has_offsets(rt: &impl Abort, allotment: &Allotment) {
-    for (slot, rec, offset) in OFFSETS {
-        assert!(rt;
-            allotment.offset(slot, rec) == offset,
-            "slot {slot} record {rec}"
-        );
+/// Checks what is built of a segment in this byte order, with each allocation refused in turn.
+fn builds(rt: &(impl Abort + AllocGlobal), order: Order, (records, next, answer): &Built<'_>) {
+    let information = Information::new(rt.alloc(), order, *records).expect(rt, "unexpected error");
+    let bytes = information.as_slice();
+    let call = match *next {
+        Some(next) => Build::Allotment(next, linkage(1, UTIL_SLOT, order, bytes)),
+        None => Build::Definitions(linkage(0, DEMO_SLOT, order, bytes)),
+    };
+    refuses_each_allocation(rt, *answer, &call, *answer)
+}
+
+fn linkage(file: usize, slot: u8, order: Order, bytes: &[u8]) -> Linkage<'_> {
+    Linkage {
+        file,
+        slot,
+        order,
+        bytes,
     }
 }
 
 #[test]
-fn the_unit_s_private_variable(rt: HostRuntime) {
-    let alloc = rt.alloc();
+fn definitions_and_private_variables(rt: HostRuntime) {
     for order in ORDERS {
-        let library = base_library(alloc, order).expect(&rt, "unexpected error");
-        let call = BuildAllotment {
-            next: 8,
-            segment: unit_linkage(library.as_slice(), order),
-        };
-        let answer = "slot 7 record 1 STATE    offset 8 words 4; words 4 next 12";
-        refuses_each_allocation(&rt, "the unit", &call, answer);
-        match Allotment::build(alloc, 8, &[call.segment]) {
-            Ok(allotment) => has_offsets(&rt, &allotment),
-            Err(_) => assert!(rt; false, "no allotment"),
+        for built in &BUILT {
+            builds(&rt, order, built);
         }
     }
-}
-
-/// Checks that no definitions are built of a host segment with these records.
-fn refuses_definitions(
-    rt: &(impl Abort + AllocGlobal),
-    what: &str,
-    records: &[Record<'_>],
-    fault: &str,
-) {
-    let alloc = rt.alloc();
-    let host = base_host(alloc, Order::Little)
-        .expect(rt, "unexpected error")
-        .with(alloc, &[Records(2, records)])
-        .expect(rt, "unexpected error");
-    let call = BuildDefinitions {
-        host: host_linkage(host.as_slice(), Order::Little),
-    };
-    refuses_each_allocation(rt, what, &call, fault)
-}
-
-/// Checks that there is no allotment, from this offset on, to a unit with these records.
-fn refuses_allotment(
-    rt: &(impl Abort + AllocGlobal),
-    what: &str,
-    next: u16,
-    records: &[Record<'_>],
-    fault: &str,
-) {
-    let alloc = rt.alloc();
-    let library = base_library(alloc, Order::Little)
-        .expect(rt, "unexpected error")
-        .with(alloc, &[Records(2, records)])
-        .expect(rt, "unexpected error");
-    let call = BuildAllotment {
-        next,
-        segment: unit_linkage(library.as_slice(), Order::Little),
-    };
-    refuses_each_allocation(rt, what, &call, fault)
-}
-
-#[test]
-fn faults_of_single_calls(rt: HostRuntime) {
-    let records = [
-        PublicDefinition(COUNT, 3),
-        ConstantDefinition(COUNT, 4),
-        End(8),
-    ];
-    let fault = "refused 24 DoubledDefinition file 0 slot 1 record 1";
-    refuses_definitions(&rt, "a name twice", &records, fault);
-    let fault = "refused 26 NoRoom file 1 slot 7 record 1";
-    refuses_allotment(&rt, "no room", 32764, &LIBRARY_RECORDS, fault);
-    let records = [
-        PrivateReference(STATE, 4, &[]),
-        PrivateReference(STATE, 4, &[]),
-        End(0),
-    ];
-    let fault = "refused 25 DoubledPrivate file 1 slot 7 record 1";
-    refuses_allotment(&rt, "a private twice", 8, &records, fault)
 }
 
 /// Adds an edit: its kind, its place and its value.
 fn describe_edit(text: &mut String, edit: Edit) -> Result<(), AllocError> {
-    match edit {
-        Edit::Big { place, value } => write!(text, " big at {place}: {value}"),
-        Edit::Byte { place, value } => write!(text, " byte at {place}: {value}"),
-        Edit::Word { place, value } => write!(text, " word at {place}: {value}"),
-    }
+    let (kind, place, value) = match edit {
+        Edit::Big { place, value } => ("big", place, value),
+        Edit::Byte { place, value } => ("byte", place, u16::from(value)),
+        Edit::Word { place, value } => ("word", place, value),
+    };
+    write!(text, " {kind} at {place}: {value}")
 }
 
-/// Adds a segment of a plan with its edits.
+/// Adds a segment of a plan with its edits, or how many they are where they are many.
 fn describe_segment(
     text: &mut String,
     source: &Source<'_>,
     edits: &[Edit],
 ) -> Result<(), AllocError> {
-    write!(text, "slot {} file {} ", source.slot, source.file)?;
+    let mark = match (source.linked, source.added) {
+        (false, _) => "plain ",
+        (true, true) => "added ",
+        (true, false) => "",
+    };
+    write!(text, "slot {} {mark}file {} ", source.slot, source.file)?;
     write!(text, "entry {} length {}:", source.index, source.code.len())?;
-    for edit in edits {
-        describe_edit(text, *edit)?;
+    if edits.len() > 9 {
+        write!(text, " {} edits", edits.len())?;
+    } else {
+        for edit in edits {
+            describe_edit(text, *edit)?;
+        }
     }
     text.push_str("; ")
 }
 
 /// The segments of a plan with their edits, and the numbers of the linked file, as text.
-fn describe(alloc: Global, plan: &Plan<'_>) -> Result<String, AllocError> {
+pub(crate) fn describe<A: Allocator + Copy>(
+    alloc: Global,
+    plan: &Plan<'_, A>,
+) -> Result<String, AllocError> {
     let mut text = String::new(alloc);
     for (k, source) in plan.sources().iter().enumerate() {
         describe_segment(&mut text, source, plan.edits(k))?;
@@ -312,50 +222,65 @@ fn describe(alloc: Global, plan: &Plan<'_>) -> Result<String, AllocError> {
     Ok(text)
 }
 
-/// The plan of the base pair.
+/// Files, changes of the host, and the plan of their link.
+static PLANS: [(Base<'static>, Changes<'static>, &str); 5] = [
+    (PAIR, &[], BASE_PLAN),
+    (BIG_PAIR, &[], BASE_PLAN),
+    (
+        IN_PLACE,
+        &[Records(2, &[PublicDefinition(COUNT, 3), End(40000)])],
+        BEHIND_THE_LAST_OFFSET,
+    ),
+    (
+        BIG_IN_PLACE,
+        &[Records(2, &[PublicDefinition(COUNT, 3), End(40000)])],
+        BEHIND_THE_LAST_OFFSET,
+    ),
+    (
+        USED_UNIT,
+        &[],
+        "slot 1 file 0 entry 1 length 18: word at 4: 18 byte at 16: 1; \
+slot 7 file 1 entry 2 length 24: byte at 2: 8 byte at 22: 7; \
+slot 8 added file 1 entry 3 length 24: big at 1: 3 big at 4: 10 byte at 22: 8; \
+definitions 1 privates 1 words 4 next 12 data 18",
+    ),
+];
+
 const BASE_PLAN: &str = "slot 1 file 0 entry 1 length 18: word at 4: 18 byte at 16: 1; \
 slot 7 file 1 entry 2 length 24: big at 1: 3 big at 4: 10 byte at 22: 7; \
 definitions 1 privates 1 words 4 next 12 data 18";
 
-/// Checks the plan of the base pair, and that it has the host's names and its tail.
-fn is_base_plan(rt: &(impl Abort + AllocGlobal), plan: &Plan<'_>, order: Order, host: &[u8]) {
-    let text = describe(rt.alloc(), plan).expect(rt, "unexpected error");
-    assert!(rt; text.as_str() == BASE_PLAN, "{text}");
+const BEHIND_THE_LAST_OFFSET: &str =
+    "slot 1 file 0 entry 1 length 18: word at 4: 10 byte at 16: 1; \
+slot 7 file 0 entry 7 length 24: big at 1: 3 byte at 22: 7; \
+definitions 1 privates 0 words 0 next 40000 data 10";
+
+/// Checks a plan, and that it has the byte order, the names and the tail of the linked file.
+fn is_plan(
+    rt: &(impl Abort + AllocGlobal),
+    plan: &Plan<'_>,
+    order: Order,
+    text: &str,
+    linked: &[u8],
+) {
+    let described = describe(rt.alloc(), plan).expect(rt, "unexpected error");
+    is(rt, "a plan", described.as_str(), text);
     assert!(rt; plan.order() == order);
-    assert!(rt; Some(plan.names().as_flattened()) == host.get(64..192));
-    assert!(rt; Some(plan.tail()) == host.get(256..512));
+    assert!(rt; Some(plan.names().as_flattened()) == linked.get(64..192));
+    assert!(rt; Some(plan.tail()) == linked.get(256..512));
 }
 
 #[test]
-fn the_base_pair(rt: HostRuntime) {
+fn plans(rt: HostRuntime) {
     let alloc = rt.alloc();
-    for order in ORDERS {
-        let host = base_host(alloc, order).expect(&rt, "unexpected error");
-        let library = base_library(alloc, order).expect(&rt, "unexpected error");
-        match resolve(alloc, host.as_slice(), &[library.as_slice()]) {
-            Ok(plan) => is_base_plan(&rt, &plan, order, host.as_slice()),
+    for (base, changes, text) in &PLANS {
+        let host = base.host(alloc, *changes).expect(&rt, "unexpected error");
+        let libraries = base.libraries(alloc, &[]).expect(&rt, "unexpected error");
+        let libraries = bytes_of(alloc, libraries.as_slice()).expect(&rt, "unexpected error");
+        let linked = base.linked(alloc, &[]).expect(&rt, "unexpected error");
+        match resolve(alloc, host.as_slice(), libraries.as_slice()) {
+            Ok(plan) => is_plan(&rt, &plan, base.order, *text, linked.as_slice()),
             Err(_) => assert!(rt; false, "no plan"),
         }
-    }
-}
-
-/// The next free offset, the private words and the data size of a plan without libraries.
-fn sizes(alloc: Global, host: &[u8]) -> Option<(u16, u16, u16)> {
-    match resolve(alloc, host, &[]) {
-        Ok(plan) => Some((plan.next_free(), plan.private_words(), plan.data_size())),
-        Err(_) => None,
-    }
-}
-
-#[test]
-fn no_private_words_behind_the_last_offset(rt: HostRuntime) {
-    let alloc = rt.alloc();
-    let changes = [Records(2, &[PublicDefinition(COUNT, 3), End(40000)])];
-    for order in ORDERS {
-        let host = unit_in_place(alloc, order)
-            .expect(&rt, "unexpected error")
-            .with(alloc, &changes)
-            .expect(&rt, "unexpected error");
-        assert!(rt; sizes(alloc, host.as_slice()) == Some((40000, 0, 10)));
     }
 }

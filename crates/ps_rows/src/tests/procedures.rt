@@ -1,59 +1,66 @@
 //! The procedure dictionary and the attribute tables of a code.
+use super::answers::{LITTLE, is};
 use crate::base::{UTIL_ENTRY, demo_code, util_code};
 use ps_codefile::Procs;
-use ps_words::{Order, Reason};
+use ps_words::Order;
+use std::alloc::{AllocError, Global};
 use std::process::Abort;
-
-const LITTLE: Order = Order::Little;
 
 const BIG: Order = Order::Big;
 
-/// The tables of the procedures, from procedure 1 on, where the procedure dictionary begins, and
-/// the first and the last of the places that are reserved, where they stand in a row.
-type Tables = (&'static [Option<usize>], usize, &'static [(usize, usize)]);
-
-/// Checks a code's procedures, of the host segment or of another one, or why they are refused.
-fn has(
-    rt: &impl Abort,
-    (order, code, is_host): (Order, &[u8], bool),
-    wanted: Result<Tables, Reason>,
-) {
-    assert!(rt; code.len() >= 2);
-    match (Procs::read(order, code, is_host), wanted) {
-        (Ok(procedures), Ok((tables, start, reserved))) => {
-            assert!(rt; procedures.count() == tables.len(), "{code:?}");
-            for p in 1..=procedures.count() {
-                let table = tables.get(p - 1).copied();
-                assert!(rt; Some(procedures.table(p)) == table, "{code:?}: {p}");
-            }
-            assert!(rt; procedures.start() == start, "{code:?}");
-            for place in 0..40 {
-                let is_reserved = reserved
-                    .iter()
-                    .any(|(from, to)| *from <= place && place <= *to);
-                assert!(rt;
-                    procedures.is_reserved(place) == is_reserved,
-                    "{code:?}: {place}"
-                );
-            }
-        }
-        (Err(reason), Err(refused)) => assert!(rt; reason == refused, "{code:?} {is_host}"),
-        _ => assert!(rt; false, "{code:?} {is_host}"),
+/// How many procedures a code has and where their dictionary begins, each that has a table and
+/// where, and the places from which on bytes are reserved and are not, in turn; or why they are
+/// refused.
+fn describe(alloc: Global, order: Order, code: &[u8], is_host: bool) -> Result<String, AllocError> {
+    let mut text = String::new(alloc);
+    if code.len() < 2 {
+        return Ok(text);
     }
+    match Procs::read(order, code, is_host) {
+        Ok(procedures) => {
+            write!(text, "{} from {}", procedures.count(), procedures.start())?;
+            for p in 1..=procedures.count() {
+                if let Some(table) = procedures.table(p) {
+                    write!(text, ", {p} at {table}")?;
+                }
+            }
+            text.push_str(";")?;
+            add_reserved(&mut text, &procedures, code.len())?;
+        }
+        Err(reason) => write!(text, "{reason:?}")?,
+    }
+    Ok(text)
 }
 
-/// The tables of the base codes.
-const UTIL_TABLES: Tables = (&[Some(18)], 20, &[(10, 23)]);
+/// Adds the places from which on bytes of a code are reserved, and are not.
+fn add_reserved(text: &mut String, procedures: &Procs<'_>, len: usize) -> Result<(), AllocError> {
+    let mut is_reserved = false;
+    for place in 0..len.saturating_add(9) {
+        if procedures.is_reserved(place) != is_reserved {
+            is_reserved = !is_reserved;
+            write!(text, " {place}")?;
+        }
+    }
+    Ok(())
+}
 
-const DEMO_TABLES: Tables = (&[Some(12)], 14, &[(4, 17)]);
+/// Checks a code's procedures, of the host segment or of another one.
+fn has(
+    rt: &(impl Abort + AllocGlobal),
+    (order, code, is_host): (Order, &[u8], bool),
+    wanted: &str,
+) {
+    let text = describe(rt.alloc(), order, code, is_host).expect(rt, "unexpected error");
+    is(rt, "procedures", text.as_str(), wanted)
+}
 
 #[test]
 fn procedures_of_the_base_codes(rt: HostRuntime) {
     for order in [LITTLE, BIG] {
         let util = util_code(order, UTIL_ENTRY);
-        has(&rt, (order, &util, false), Ok(UTIL_TABLES));
+        has(&rt, (order, &util, false), "1 from 20, 1 at 18; 10 24");
         let demo = demo_code(order);
-        has(&rt, (order, &demo, true), Ok(DEMO_TABLES));
+        has(&rt, (order, &demo, true), "1 from 14, 1 at 12; 4 18");
     }
 }
 
@@ -89,17 +96,17 @@ fn code_of(second: u8, first: u8, high: u8) -> [u8; 17] {
     ]
 }
 
-const BAD: Result<Tables, Reason> = Err(Reason::BadProcDict);
+const BAD: &str = "BadProcDict";
 
-const NATIVE: Result<Tables, Reason> = Err(Reason::NativeProcedure);
+const NATIVE: &str = "NativeProcedure";
 
 /// The words of procedures 2 and 1, the second's high byte, and whether the code is the host
 /// segment's.
-const WORDS: [(u8, u8, u8, bool, Result<Tables, Reason>); 16] = [
-    (2, 4, 0, true, Ok((&[Some(9), Some(9)], 11, &[(1, 16)]))),
-    (0, 4, 0, true, Ok((&[Some(9), None], 11, &[(1, 16)]))),
+static WORDS: [(u8, u8, u8, bool, &str); 16] = [
+    (2, 4, 0, true, "2 from 11, 1 at 9, 2 at 9; 1 17"),
+    (0, 4, 0, true, "2 from 11, 1 at 9; 1 17"),
     // procedure 1 has no body
-    (2, 0, 0, false, Ok((&[None, Some(9)], 11, &[(1, 16)]))),
+    (2, 0, 0, false, "2 from 11, 2 at 9; 1 17"),
     (2, 0, 0, true, BAD),
     // a table at 8 is whole, and byte 8 is 0; one at 7 is not
     (0, 5, 0, false, NATIVE),
@@ -119,7 +126,7 @@ const WORDS: [(u8, u8, u8, bool, Result<Tables, Reason>); 16] = [
 ];
 
 /// Other codes, in this byte order.
-const CODES: [(Order, &[u8], bool, Result<Tables, Reason>); 8] = [
+static CODES: [(Order, &[u8], bool, &str); 8] = [
     // three bytes before the dictionary belong to nothing
     (
         LITTLE,
@@ -127,7 +134,7 @@ const CODES: [(Order, &[u8], bool, Result<Tables, Reason>); 8] = [
             0xD7, 10, 0, 6, 0, 4, 0, 2, 0, 1, 0, 0xAB, 0xAB, 0xAB, 0, 0, 7, 0, 7, 2,
         ],
         true,
-        Ok((&[Some(9), None], 14, &[(1, 10), (14, 19)])),
+        "2 from 14, 1 at 9; 1 11 14 20",
     ),
     // two tables in order, and turned round
     (
@@ -137,7 +144,7 @@ const CODES: [(Order, &[u8], bool, Result<Tables, Reason>); 8] = [
             7, 2,
         ],
         true,
-        Ok((&[Some(9), Some(20)], 22, &[(1, 10), (12, 27)])),
+        "2 from 22, 1 at 9, 2 at 20; 1 11 12 28",
     ),
     (
         LITTLE,
@@ -146,69 +153,41 @@ const CODES: [(Order, &[u8], bool, Result<Tables, Reason>); 8] = [
             7, 2,
         ],
         true,
-        Ok((&[Some(20), Some(9)], 22, &[(1, 10), (12, 27)])),
+        "2 from 22, 1 at 20, 2 at 9; 1 11 12 28",
     ),
     // no procedures
-    (BIG, &[0xD7, 7, 0], false, Ok((&[], 1, &[(1, 2)]))),
+    (BIG, &[0xD7, 7, 0], false, "0 from 1; 1 3"),
     (BIG, &[0xD7, 7, 0], true, BAD),
     // a dictionary as long as the code, and longer ones
-    (BIG, &[0, 0, 7, 1], false, Ok((&[None], 0, &[(0, 3)]))),
+    (BIG, &[0, 0, 7, 1], false, "1 from 0; 0 4"),
     (BIG, &[0, 0, 7, 2], false, BAD),
     (BIG, &[7, 1], false, BAD),
 ];
 
 #[test]
 fn tables_of_small_codes(rt: HostRuntime) {
-    for (second, first, high, is_host, wanted) in WORDS {
-        let code = code_of(second, first, high);
-        has(&rt, (LITTLE, &code, is_host), wanted);
+    for (second, first, high, is_host, wanted) in &WORDS {
+        let code = code_of(*second, *first, *high);
+        has(&rt, (LITTLE, &code, *is_host), *wanted);
     }
-    for (order, code, is_host, wanted) in CODES {
-        has(&rt, (order, code, is_host), wanted);
+    for (order, code, is_host, wanted) in &CODES {
+        has(&rt, (*order, *code, *is_host), *wanted);
     }
-    // as many procedures as there can be
-    let mut code = [0; 523];
-    code[522] = 255;
-    has(
-        &rt,
-        (BIG, &code, false),
-        Ok((&[None; 255], 11, &[(11, 522)])),
-    );
 }
 
+/// As many procedures as there can be, of which none has a table, and of which the last has one as
+/// far from the end as can be.
 #[test]
-fn a_table_as_far_from_the_end_as_can_be(rt: HostRuntime) {
+fn as_many_procedures_as_there_can_be(rt: HostRuntime) {
+    let mut code = [0; 523];
+    code[522] = 255;
+    has(&rt, (BIG, &code, false), "255 from 11; 11 523");
     let mut code = Vec::from_elem(rt.alloc(), 0xD7, 70000).expect(&rt, "unexpected error");
     let bytes = code.as_mut_slice();
     assert!(rt; bytes.len() == 70000);
     bytes[69488..70000].fill(0);
     bytes[69488..69490].fill(0xFF);
     bytes[69999] = 255;
-    match Procs::read(LITTLE, bytes, false) {
-        Ok(procedures) => {
-            assert!(rt; procedures.count() == 255);
-            assert!(rt; procedures.table(255) == Some(3953));
-            assert!(rt; procedures.start() == 69488);
-            for (place, is_reserved) in [
-                (0, false),
-                (3887, false),
-                (3888, false),
-                (3944, false),
-                (3945, true),
-                (3954, true),
-                (3955, false),
-                (69487, false),
-                (69488, true),
-                (69999, true),
-                (70000, false),
-                (usize::MAX, false),
-            ] {
-                assert!(rt;
-                    procedures.is_reserved(place) == is_reserved,
-                    "place {place}"
-                );
-            }
-        }
-        Err(reason) => assert!(rt; false, "{reason:?}"),
-    }
+    let wanted = "255 from 69488, 255 at 3953; 3945 3955 69488 70000";
+    has(&rt, (LITTLE, bytes, false), wanted)
 }

@@ -1,38 +1,39 @@
 //! What is read of each slot of a host, also after the first fault.
 ghost use Rattle.std.specs.Prelude.{◌<◌};
 
-use crate::added::library_of_a_used_unit;
-use crate::base::{base_host, base_library};
+use super::answers::is;
+use super::tables::{BIG_PAIR, Base, USED_UNIT, bytes_of};
 use crate::code_file::Change::{Entry, Length, Records, Resized};
-use crate::code_file::{Change, LINKED, Slot};
+use crate::code_file::{Changes, LINKED, Slot};
 use crate::information::Record::{End, UnitReference};
 use crate::units::LIBRARY_AUX;
 use ps_codefile::dictionary_layout::SLOTS;
 use ps_resolve::{HostReading, Reading, Requester, read};
-use ps_words::Order;
 use std::alloc::{AllocError, Global};
-use std::process::Abort;
 
 const BLANK: [u8; 8] = [b' '; 8];
 
-/// A reading of the base host and a library, each with changes.
+/// A reading of a host and a library, each with changes.
 struct Row {
     what: &'static str,
-    host: &'static [Change<'static>],
-    library: &'static [Change<'static>],
+    base: Base<'static>,
+    host: Changes<'static>,
+    library: Changes<'static>,
     wanted: &'static str,
 }
 
-const ROWS: [Row; 5] = [
+static ROWS: [Row; 7] = [
     Row {
         what: "a unit that only a unit names",
+        base: USED_UNIT,
         host: &[],
         library: &[],
         wanted: "1 DEMO     from file 0 entry 1; 7 wants UTIL    , UTIL     from file 1 entry 2; \
-8 for record 0 of file 1 slot 7, AUX      from file 1 entry 3 added; no fault",
+8 for record 0 of file 1 slot 7, AUX      from file 1 entry 3 added; no fault; segments 3 requested 1",
     },
     Row {
         what: "a requested name that is blank",
+        base: USED_UNIT,
         host: &[],
         library: &[
             Entry(
@@ -46,24 +47,27 @@ const ROWS: [Row; 5] = [
         ],
         wanted: "1 DEMO     from file 0 entry 1; 7 wants UTIL    , UTIL     from file 1 entry 2; \
 8 for record 0 of file 1 slot 7, refused 13 MissingUnit file 1 slot 7 record 0; \
-refused 13 MissingUnit file 1 slot 7 record 0",
+refused 13 MissingUnit file 1 slot 7 record 0; segments 2 requested 1",
     },
     Row {
         what: "a unit that was read after a fault",
+        base: USED_UNIT,
         host: &[Length(1, 17)],
         library: &[Records(2, &[End(0)])],
         wanted: "1 refused 11 BadLength file 0 slot 1; \
-7 wants UTIL    , UTIL     from file 1 entry 2; refused 11 BadLength file 0 slot 1",
+7 wants UTIL    , UTIL     from file 1 entry 2; refused 11 BadLength file 0 slot 1; segments 1 requested 0",
     },
     Row {
         what: "a library that cannot be opened",
+        base: USED_UNIT,
         host: &[],
         library: &[Resized(511)],
         wanted: "1 DEMO     from file 0 entry 1; \
-7 wants UTIL    , refused 13 MissingUnit file 0 slot 7; refused 1 ShortFile file 1",
+7 wants UTIL    , refused 13 MissingUnit file 0 slot 7; refused 1 ShortFile file 1; segments 1 requested 0",
     },
     Row {
         what: "a slot with nothing in it",
+        base: USED_UNIT,
         host: &[Entry(
             7,
             Slot {
@@ -74,7 +78,22 @@ refused 13 MissingUnit file 1 slot 7 record 0",
             },
         )],
         library: &[],
-        wanted: "1 DEMO     from file 0 entry 1; no fault",
+        wanted: "1 DEMO     from file 0 entry 1; no fault; segments 1 requested 0",
+    },
+    Row {
+        what: "a big-endian host and its library",
+        base: BIG_PAIR,
+        host: &[],
+        library: &[],
+        wanted: "1 DEMO     from file 0 entry 1; \
+7 wants UTIL    , UTIL     from file 1 entry 2; no fault; segments 2 requested 0",
+    },
+    Row {
+        what: "a host of no bytes",
+        base: USED_UNIT,
+        host: &[Resized(0)],
+        library: &[],
+        wanted: "refused 1 ShortFile file 0; segments 0",
     },
 ];
 
@@ -113,7 +132,7 @@ fn add_slot(text: &mut String, host: &HostReading, slot: u8) -> Result<(), Alloc
     }
 }
 
-/// What was read, and the first fault.
+/// What was read, the first fault, and how many segments and requested names there are.
 fn text_of(alloc: Global, reading: &Reading) -> Result<String, AllocError> {
     let mut text = String::new(alloc);
     if let Ok(host) = reading.host() {
@@ -125,6 +144,10 @@ fn text_of(alloc: Global, reading: &Reading) -> Result<String, AllocError> {
         None => text.push_str("no fault")?,
         Some(fault) => write!(text, "{fault}")?,
     }
+    write!(text, "; segments {}", reading.segments().len())?;
+    if let Ok(host) = reading.host() {
+        write!(text, " requested {}", host.requested().len())?;
+    }
     Ok(text)
 }
 
@@ -132,38 +155,17 @@ fn text_of(alloc: Global, reading: &Reading) -> Result<String, AllocError> {
 fn each_slot_is_read(rt: HostRuntime) {
     let alloc = rt.alloc();
     for row in &ROWS {
-        let what = row.what;
-        let host = base_host(alloc, Order::Little).expect(&rt, "unexpected error");
-        let host = host.with(alloc, row.host).expect(&rt, "unexpected error");
-        let library = library_of_a_used_unit(alloc, Order::Little).expect(&rt, "unexpected error");
-        let library = library
-            .with(alloc, row.library)
+        let host = row
+            .base
+            .host(alloc, row.host)
             .expect(&rt, "unexpected error");
-        let libraries = [library.as_slice()];
-        let reading = read(host.as_slice(), &libraries);
+        let libraries = row
+            .base
+            .libraries(alloc, row.library)
+            .expect(&rt, "unexpected error");
+        let libraries = bytes_of(alloc, libraries.as_slice()).expect(&rt, "unexpected error");
+        let reading = read(host.as_slice(), libraries.as_slice());
         let text = text_of(alloc, &reading).expect(&rt, "unexpected error");
-        assert!(&rt; text.as_str() == row.wanted, "{what}: {text}");
+        is(&rt, row.what, text.as_str(), row.wanted);
     }
-}
-
-#[test]
-fn the_segments_of_a_big_endian_host_are_read(rt: HostRuntime) {
-    let alloc = rt.alloc();
-    let host = base_host(alloc, Order::Big).expect(&rt, "unexpected error");
-    let library = base_library(alloc, Order::Big).expect(&rt, "unexpected error");
-    let libraries = [library.as_slice()];
-    let reading = read(host.as_slice(), &libraries);
-    let segments = reading.segments();
-    assert!(&rt; segments.len() == 2, "{} segments", segments.len());
-    let requested = reading.host().map(|host| host.requested().len());
-    assert!(&rt; requested == Ok(0), "{requested:?}");
-}
-
-#[test]
-fn a_host_of_no_bytes_has_no_slots(rt: HostRuntime) {
-    let alloc = rt.alloc();
-    let reading = read(&[], &[]);
-    let text = text_of(alloc, &reading).expect(&rt, "unexpected error");
-    assert!(&rt; text.as_str() == "refused 1 ShortFile file 0", "{text}");
-    assert!(&rt; reading.segments().is_empty(), "a segment");
 }

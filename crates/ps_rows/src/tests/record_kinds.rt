@@ -2,11 +2,10 @@
 use super::records::reads_records;
 use crate::base::COUNT;
 use crate::information::Record::{End, Other};
-use std::process::Abort;
 
 /// What a record of a type and with these words is read as, an EOFMARK after it, or how it is
 /// refused.
-const RECORDS: [(u16, [u16; 3], &str); 29] = [
+static RECORDS: [(u16, [u16; 3], &str); 29] = [
     (0, [2, 0, 5], "EOFMARK next 2; "),
     (1, [2, 0, 5], "BadFormat at record 0"),
     (2, [2, 0, 5], "NativeRecord at record 0"),
@@ -46,32 +45,25 @@ const RECORDS: [(u16, [u16; 3], &str); 29] = [
     (4, [3, 0, 0], "BadFormat at record 0"),
 ];
 
-/// Checks what a record of this type and these words is read as, an EOFMARK after it, in either
-/// byte order.
-fn reads(rt: &(impl Abort + AllocGlobal), kind: u16, words: [u16; 3], wanted: &str) {
-    let what = format!(in rt.alloc(); "type {kind} words {words:?}").expect(rt, "unexpected error");
-    let records = [Other(COUNT, kind, words), End(0)];
-    reads_records(rt, what.as_str(), &records, 32, wanted)
-}
-
-/// Checks how a PUBLREF record of this format is refused whose list has one reference and is
-/// truncated.
-fn reads_cut_list(rt: &(impl Abort + AllocGlobal), format: u16, wanted: &str) {
-    let what = format!(in rt.alloc(); "format {format}").expect(rt, "unexpected error");
-    let records = [Other(COUNT, 3, [format, 1, 0])];
-    reads_records(rt, what.as_str(), &records, 16, wanted)
-}
-
 #[test]
 fn each_type_and_each_format_in_either_byte_order(rt: HostRuntime) {
     for (kind, words, wanted) in &RECORDS {
-        reads(&rt, *kind, *words, *wanted);
+        let records = [Other(COUNT, *kind, *words), End(0)];
+        reads_records(&rt, &records, 32, *wanted);
     }
 }
 
+/// The format of a PUBLREF record whose list has one reference and is truncated, and how it is
+/// refused: a wrong format is named before the list.
+static CUT_LISTS: [(u16, &str); 3] = [
+    (0, "NativeRecord at record 0"),
+    (1, "BadFormat at record 0"),
+    (2, "RecordsTruncated at record 0"),
+];
+
 #[test]
 fn a_wrong_format_is_named_before_a_list_that_is_cut(rt: HostRuntime) {
-    reads_cut_list(&rt, 0, "NativeRecord at record 0");
-    reads_cut_list(&rt, 1, "BadFormat at record 0");
-    reads_cut_list(&rt, 2, "RecordsTruncated at record 0")
+    for (format, wanted) in &CUT_LISTS {
+        reads_records(&rt, &[Other(COUNT, 3, [*format, 1, 0])], 16, *wanted);
+    }
 }

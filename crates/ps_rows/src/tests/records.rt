@@ -1,5 +1,7 @@
 //! Link information as `read_records` reads it.
-use super::most_records::references;
+use super::allocations::{Allocating, makes_no_allocation, refuses_each_allocation};
+use super::answers::{LITTLE, OUT_OF_MEMORY, is};
+use super::largest::references;
 use crate::base::{COUNT, DEMO, LIBRARY_RECORDS, STATE, UTIL};
 use crate::information::Record::{
     ConstantDefinition, End, Other, PrivateReference, PublicDefinition, PublicReference,
@@ -10,8 +12,6 @@ use ps_linkinfo::{Body, LinkRecord, ReadStop, Refs, read_records};
 use ps_words::Order;
 use std::alloc::{AllocError, Allocator, Global};
 use std::process::Abort;
-
-const LITTLE: Order = Order::Little;
 
 /// What the base library's link information is read as.
 pub(crate) const BASE_RECORDS: &str =
@@ -67,64 +67,24 @@ pub(crate) fn read<A: Allocator + Copy>(
         Err(ReadStop::Refused { rec, reason }) => {
             format!(in alloc; "{reason:?} at record {rec}")
         }
-        Err(ReadStop::Memory) => String::from_str(alloc, "out of memory"),
+        Err(ReadStop::Memory) => String::from_str(alloc, OUT_OF_MEMORY),
     }
 }
 
-/// Checks what these bytes are read as.
-pub(crate) fn reads(
-    rt: &(impl Abort + AllocGlobal),
-    order: Order,
-    what: &str,
-    bytes: &[u8],
-    wanted: &str,
-) {
-    let alloc = rt.alloc();
-    let text = read(alloc, alloc, order, bytes).expect(rt, "unexpected error");
-    assert!(rt; text.as_str() == wanted, "{what}: {text}");
-}
-
-/// Checks what these records are read as in either byte order, and how long they are.
+/// Checks what these records are read as in either byte order, where they are truncated to this
+/// length.
 pub(crate) fn reads_records(
     rt: &(impl Abort + AllocGlobal),
-    what: &str,
     records: &[Record<'_>],
     length: usize,
     wanted: &str,
 ) {
+    let alloc = rt.alloc();
     for order in [Order::Little, Order::Big] {
-        let information = Information::new(rt.alloc(), order, records).expect(
-            rt,
-            "unexpected error",
-        );
-        let bytes = information.as_slice();
-        assert!(rt; bytes.len() == length, "{what}");
-        reads(rt, order, what, bytes, wanted);
-    }
-}
-
-/// Lengths to which the base library's link information is truncated, and what it is then read as.
-const CUTS: [(&str, usize, &str); 5] = [
-    ("whole", 80, BASE_RECORDS),
-    ("cut to 79", 79, "RecordsTruncated at record 2"),
-    ("cut to 64", 64, "RecordsTruncated at record 2"),
-    ("cut to 31", 31, "RecordsTruncated at record 0"),
-    ("cut to 0", 0, "RecordsTruncated at record 0"),
-];
-
-#[test]
-fn the_base_library_and_its_cuts(rt: HostRuntime) {
-    for order in [Order::Little, Order::Big] {
-        let information = Information::new(rt.alloc(), order, &LIBRARY_RECORDS).expect(
-            &rt,
-            "unexpected error",
-        );
-        let bytes = information.as_slice();
-        assert!(rt; bytes.len() == 80);
-        for (what, length, wanted) in CUTS {
-            let cut = bytes.get(..length).unwrap_or(bytes);
-            reads(&rt, order, what, cut, wanted);
-        }
+        let information = Information::new(alloc, order, records).expect(rt, "unexpected error");
+        let bytes = information.as_slice().get(..length).unwrap_or(&[]);
+        let text = read(alloc, alloc, order, bytes).expect(rt, "unexpected error");
+        is(rt, "records", text.as_str(), wanted);
     }
 }
 
@@ -142,31 +102,33 @@ const EACH_TYPE_READ: &str =
     "UNITREF UTIL     at 1; PUBLREF COUNT    at 2 4; PRIVREF STATE    words 4 at 6; \
 PUBLDEF COUNT    value 3; CONSTDEF DEMO     value 9; EOFMARK next 7; ";
 
-/// Records, their length in bytes, and what they are read as.
-type Read<'a> = (&'a str, &'a [Record<'a>], usize, &'a str);
+/// Records, the length that they are truncated to, and what they are read as.
+type Read<'a> = (&'a [Record<'a>], usize, &'a str);
 
-const READ: [Read<'static>; 5] = [
-    ("a record of each type", &EACH_TYPE, 144, EACH_TYPE_READ),
+static READ: [Read<'static>; 10] = [
+    (&LIBRARY_RECORDS, 80, BASE_RECORDS),
+    (&LIBRARY_RECORDS, 79, "RecordsTruncated at record 2"),
+    (&LIBRARY_RECORDS, 64, "RecordsTruncated at record 2"),
+    (&LIBRARY_RECORDS, 31, "RecordsTruncated at record 0"),
+    (&LIBRARY_RECORDS, 0, "RecordsTruncated at record 0"),
+    (&EACH_TYPE, 144, EACH_TYPE_READ),
     (
-        "no references",
         &[PublicReference(COUNT, &[]), End(0)],
         32,
         "PUBLREF COUNT    at; EOFMARK next 0; ",
     ),
     (
-        "references of one piece",
         &[PublicReference(COUNT, &[1, 2, 3, 4, 5, 6, 7, 8]), End(0)],
         48,
         "PUBLREF COUNT    at 1 2 3 4 5 6 7 8; EOFMARK next 0; ",
     ),
     (
-        "references of two pieces",
         &[PublicReference(COUNT, &[1, 2, 3, 4, 5, 6, 7, 8, 9]), End(0)],
         64,
         "PUBLREF COUNT    at 1 2 3 4 5 6 7 8 9; EOFMARK next 0; ",
     ),
+    // a type 99 behind the end mark is not read
     (
-        "a type 99 behind the end mark, which is not read",
         &[End(0), Other(COUNT, 99, [0, 0, 0])],
         32,
         "EOFMARK next 0; ",
@@ -175,38 +137,61 @@ const READ: [Read<'static>; 5] = [
 
 #[test]
 fn records_in_either_byte_order(rt: HostRuntime) {
-    for (what, records, length, wanted) in READ {
-        reads_records(&rt, what, records, length, wanted);
+    for (records, length, wanted) in &READ {
+        reads_records(&rt, *records, *length, *wanted);
     }
 }
 
-/// Checks a record of references 0, 1, 2 and so on, as many as one can have, and an end mark.
-fn have_every_reference(rt: &impl Abort, records: &[LinkRecord<'_>]) {
-    assert!(rt; records.len() == 2);
-    assert!(rt; records.first().map(|record| record.size()) == Some(131088));
-    match records.first().map(|record| &record.body) {
-        Some(Body::PublRef(read)) => {
-            assert!(rt; read.len() == 65535);
-            for i in 0..read.len() {
-                assert!(rt; usize::from(read.get(i)) == i);
-            }
-        }
-        _ => assert!(rt; false, "no public reference"),
+/// What a record of references 0, 1, 2 and so on, as many as it can have, and an end mark are read
+/// as.
+fn every_reference(alloc: Global) -> Result<String, AllocError> {
+    let mut text = String::from_str(alloc, "PUBLREF COUNT    at")?;
+    for reference in 0..65_535 {
+        write!(text, " {reference}")?;
     }
+    text.push_str("; EOFMARK next 0; ")?;
+    Ok(text)
 }
 
 #[test]
 fn as_many_references_as_a_record_can_have(rt: HostRuntime) {
     let alloc = rt.alloc();
-    let references = references(alloc).expect(&rt, "unexpected error");
+    let references = references(alloc, 65_535, 1).expect(&rt, "unexpected error");
     let records = [PublicReference(COUNT, references.as_slice()), End(0)];
+    let wanted = every_reference(alloc).expect(&rt, "unexpected error");
+    reads_records(&rt, &records, 131_104, wanted.as_str());
+    reads_records(&rt, &records, 131_087, "RecordsTruncated at record 0")
+}
+
+/// `read_records` on these little-endian bytes.
+#[derive(Clone, Copy)]
+struct ReadRecords<'a> {
+    bytes: &'a [u8],
+}
+
+impl<'a> Allocating for ReadRecords<'a> {
+    fn answer<A: Allocator + Copy>(&self, alloc: Global, heap: A) -> Result<String, AllocError> {
+        read(alloc, heap, LITTLE, self.bytes)
+    }
+}
+
+#[test]
+fn each_allocation_refused_and_a_claimed_list_that_is_not_there(rt: HostRuntime) {
+    let alloc = rt.alloc();
+    let information = Information::new(alloc, LITTLE, &LIBRARY_RECORDS).expect(
+        &rt,
+        "unexpected error",
+    );
+    let bytes = information.as_slice();
+    refuses_each_allocation(
+        &rt,
+        "the base library",
+        &ReadRecords { bytes },
+        BASE_RECORDS,
+    );
+    let records = [Other(COUNT, 3, [2, 65535, 0])];
     let information = Information::new(alloc, LITTLE, &records).expect(&rt, "unexpected error");
     let bytes = information.as_slice();
-    assert!(rt; bytes.len() == 131104);
-    match read_records(alloc, LITTLE, bytes) {
-        Ok(records) => have_every_reference(&rt, records.as_slice()),
-        Err(_) => assert!(rt; false, "no records"),
-    }
-    let cut = bytes.get(..131087).unwrap_or(bytes);
-    reads(&rt, LITTLE, "cut", cut, "RecordsTruncated at record 0")
+    let refused = "RecordsTruncated at record 0";
+    makes_no_allocation(&rt, "a claim", &ReadRecords { bytes }, refused)
 }

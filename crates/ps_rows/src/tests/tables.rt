@@ -2,30 +2,22 @@
 use super::allocations::{makes_no_allocation, refuses_each_allocation};
 use super::answers::{LITTLE, links};
 use super::link_allocations::Link;
-use crate::added::{library_of_a_used_unit, linked_used_unit};
-use crate::base::{
-    LIBRARY_RECORDS, base_host, base_library, linked_base_pair, linked_segments, util_code,
-};
-use crate::code_file::Change::{Code, Length, Records};
-use crate::code_file::{Change, CodeFile};
-use crate::in_place::{linked_unit_in_place, unit_in_place};
+use crate::base::{HOST, LIBRARY, LINKED_OPERANDS, LINKED_PAIR, LINKED_SEGMENTS};
+use crate::code_file::{Changes, CodeFile};
 use crate::units::{
-    NINE_LENGTH, host_of_two_units, library_of_a_long_unit, library_of_nine_references,
-    library_of_two_units, linked_long_unit, linked_two_units, nine_operands,
+    HAS_AUX, HAS_UNIT, LIKE_LIBRARY, LINKED_REFERENCE, LINKED_SECOND, LINKED_USER, LONG_LIBRARY,
+    LONG_UNIT, NINE_LIBRARY, NINE_UNIT, USES_AUX, WANTS_AUX,
 };
 use ps_words::Order;
 use std::alloc::{AllocError, Global};
 use std::process::Abort;
-
-/// Changes of a file.
-pub(crate) type Changes<'a> = &'a [Change<'a>];
 
 /// A link that succeeds.
 #[derive(Clone, Copy)]
 pub(crate) struct Row<'a> {
     /// What it shows.
     pub what: &'a str,
-    /// The changes of the host, of the library and of what they are linked to.
+    /// The changes of the host, of the first library and of what they are linked to.
     pub host: Changes<'a>,
     pub library: Changes<'a>,
     pub linked: Changes<'a>,
@@ -33,13 +25,12 @@ pub(crate) struct Row<'a> {
     pub summary: &'a str,
 }
 
-/// What a refusal shows, the changes of the host and of the library, and the fault.
+/// What a refusal shows, the changes of the host and of the first library, and the fault.
 pub(crate) type Refusal<'a> = (&'a str, Changes<'a>, Changes<'a>, &'a str);
 
-/// The memory that a link is given.
+/// The memory that a link is given beside as much as it requests.
 #[derive(Clone, Copy)]
 pub(crate) enum Memory {
-    /// As much as it requests.
     Ample,
     /// None, and it requests none.
     NoAllocation,
@@ -47,216 +38,222 @@ pub(crate) enum Memory {
     EachAllocationRefused,
 }
 
-/// The memories that the links of a table are made with: ample memory, and where the second word
-/// says so, the other one too.
-pub(crate) const AMPLE: &[Memory] = &[Memory::Ample];
+/// The files that entries of a table change, each made by lists of changes.
+#[derive(Clone, Copy)]
+pub(crate) struct Base<'a> {
+    pub order: Order,
+    pub host: &'a [Changes<'a>],
+    /// The libraries, and whether their words are in the other byte order.
+    pub libraries: &'a [(bool, &'a [Changes<'a>])],
+    pub linked: &'a [Changes<'a>],
+}
 
-pub(crate) const AMPLE_OR_NONE: &[Memory] = &[Memory::Ample, Memory::NoAllocation];
-
-pub(crate) const AMPLE_OR_REFUSED: &[Memory] = &[Memory::Ample, Memory::EachAllocationRefused];
-
-/// A table of links or of refusals, the files that its entries change, and the memories that each
+/// A table of links or of refusals, the files that its entries change, and the memory that each
 /// is tried with.
-pub(crate) type Table<'a, Entry> = (Base, &'a [Memory], &'a [Entry]);
+pub(crate) type Table<'a, Entry> = (Base<'a>, Memory, &'a [Entry]);
 
-impl Memory {
-    /// Checks a link's answer and what was written.
-    pub(crate) fn answers(
-        self,
-        rt: &(impl Abort + AllocGlobal),
-        what: &str,
-        link: &Link<'_>,
-        answer: &str,
-    ) {
-        match self {
-            Memory::Ample => links(rt, what, link.host, link.libraries, answer, link.linked),
-            Memory::NoAllocation => makes_no_allocation(rt, what, link, answer),
-            Memory::EachAllocationRefused => refuses_each_allocation(rt, what, link, answer),
-        }
+/// The base pair.
+pub(crate) const PAIR: Base<'static> = Base {
+    order: LITTLE,
+    host: &[HOST],
+    libraries: &[(false, &[LIBRARY])],
+    linked: LINKED_PAIR,
+};
+
+pub(crate) const BIG_PAIR: Base<'static> = Base {
+    order: Order::Big,
+    ..PAIR
+};
+
+/// The base host with a base library of the other byte order, big-endian or little-endian.
+pub(crate) const BIG_LIBRARY: Base<'static> = Base {
+    libraries: &[(true, &[LIBRARY])],
+    ..PAIR
+};
+
+pub(crate) const LITTLE_LIBRARY: Base<'static> = Base {
+    order: Order::Big,
+    ..BIG_LIBRARY
+};
+
+/// The base host, and no library.
+pub(crate) const HOST_ALONE: Base<'static> = Base {
+    libraries: &[],
+    ..PAIR
+};
+
+/// The host with its unit in place, and no library.
+pub(crate) const IN_PLACE: Base<'static> = Base {
+    order: LITTLE,
+    host: &[HOST, HAS_UNIT],
+    libraries: &[],
+    linked: &[LINKED_SEGMENTS, LINKED_REFERENCE],
+};
+
+pub(crate) const BIG_IN_PLACE: Base<'static> = Base {
+    order: Order::Big,
+    ..IN_PLACE
+};
+
+/// The same, whose unit has the code and the link information of the base library's.
+pub(crate) const LIKE_THE_LIBRARY_S: Base<'static> = Base {
+    host: &[HOST, HAS_UNIT, LIKE_LIBRARY],
+    linked: LINKED_PAIR,
+    ..IN_PLACE
+};
+
+pub(crate) const BIG_LIKE_THE_LIBRARY_S: Base<'static> = Base {
+    order: Order::Big,
+    ..LIKE_THE_LIBRARY_S
+};
+
+/// The host and the library of two units.
+pub(crate) const TWO_UNITS: Base<'static> = Base {
+    order: LITTLE,
+    host: &[HOST, WANTS_AUX],
+    libraries: &[(false, &[LIBRARY, HAS_AUX])],
+    linked: &[LINKED_SEGMENTS, LINKED_OPERANDS, LINKED_SECOND],
+};
+
+/// The base host, and the library whose unit uses another one.
+pub(crate) const USED_UNIT: Base<'static> = Base {
+    order: LITTLE,
+    host: &[HOST],
+    libraries: &[(false, &[LIBRARY, HAS_AUX, USES_AUX])],
+    linked: &[LINKED_SEGMENTS, LINKED_SECOND, LINKED_USER],
+};
+
+pub(crate) const BIG_USED_UNIT: Base<'static> = Base {
+    order: Order::Big,
+    ..USED_UNIT
+};
+
+/// The base host, and the library whose unit has a record of nine references.
+pub(crate) const NINE_REFERENCES: Base<'static> = Base {
+    libraries: &[(false, &[NINE_LIBRARY])],
+    linked: &[LINKED_SEGMENTS, NINE_UNIT],
+    ..PAIR
+};
+
+/// The base host, and the library whose unit has an operand that lies in two blocks.
+pub(crate) const LONG_UNIT_PAIR: Base<'static> = Base {
+    libraries: &[(false, &[LONG_LIBRARY])],
+    linked: &[LINKED_SEGMENTS, LONG_UNIT],
+    ..PAIR
+};
+
+/// The base pair and the host with its unit in place, for functions that need them at once.
+pub(crate) static PAIR_FILES: Base<'static> = PAIR;
+
+pub(crate) static IN_PLACE_FILES: Base<'static> = IN_PLACE;
+
+/// The base library alone.
+pub(crate) static LIBRARY_LISTS: [Changes<'static>; 1] = [LIBRARY];
+
+/// The other byte order.
+fn turned(order: Order) -> Order {
+    match order {
+        Order::Little => Order::Big,
+        Order::Big => Order::Little,
     }
 }
 
-/// The files that a table's entries change; their words are little-endian where nothing else is
-/// said.
-#[derive(Clone, Copy, PartialEq, Eq)]
-pub(crate) enum Base {
-    /// The host with its unit in place, and no library.
-    InPlace,
-    BigInPlace,
-    /// The same, whose unit has the code and the link information of the base library's.
-    LikeLibrary,
-    BigLikeLibrary,
-    /// The base pair.
-    Pair,
-    BigPair,
-    /// The base host and a base library of the other byte order, big-endian or little-endian.
-    BigLibrary,
-    LittleLibrary,
-    /// The base host, and no library.
-    HostAlone,
-    /// The host and the library of two units.
-    TwoUnits,
-    /// The base host, and the library whose unit uses another one.
-    UsedUnit,
-    BigUsedUnit,
-    /// The base host, and the library whose unit has a record of nine references.
-    NineReferences,
-    /// The base host, and the library whose unit has an operand that lies in two blocks.
-    LongUnit,
-}
-
-/// The host whose unit in place is like the base library's.
-fn unit_like_the_library_s(alloc: Global, order: Order) -> Result<CodeFile, AllocError> {
-    let changes = [
-        Code(3, 0, &util_code(order, 2)),
-        Records(4, &LIBRARY_RECORDS),
-    ];
-    unit_in_place(alloc, order)?.with(alloc, &changes)
-}
-
-/// What the base host is linked to with the library of nine references.
-fn linked_nine_references(alloc: Global) -> Result<CodeFile, AllocError> {
-    let changes = [Length(7, NINE_LENGTH), Code(2, 0, &nine_operands(3, 7))];
-    linked_segments(alloc, LITTLE)?.with(alloc, &changes)
-}
-
-impl Base {
-    /// The byte order of the host.
-    fn order(self) -> Order {
-        match self {
-            Base::BigInPlace
-            | Base::BigLikeLibrary
-            | Base::BigPair
-            | Base::LittleLibrary
-            | Base::BigUsedUnit => Order::Big,
-            _ => LITTLE,
-        }
+impl Base<'_> {
+    /// The host with changes.
+    pub(crate) fn host(&self, alloc: Global, changes: Changes<'_>) -> Result<CodeFile, AllocError> {
+        CodeFile::new(alloc, self.order, self.host)?.with(alloc, changes)
     }
 
-    pub(crate) fn host(self, alloc: Global) -> Result<CodeFile, AllocError> {
-        let order = self.order();
-        match self {
-            Base::InPlace | Base::BigInPlace => unit_in_place(alloc, order),
-            Base::LikeLibrary | Base::BigLikeLibrary => unit_like_the_library_s(alloc, order),
-            Base::TwoUnits => host_of_two_units(alloc),
-            _ => base_host(alloc, order),
+    /// The libraries, the first of them with changes.
+    pub(crate) fn libraries(
+        &self,
+        alloc: Global,
+        changes: Changes<'_>,
+    ) -> Result<Vec<CodeFile>, AllocError> {
+        let mut libraries = Vec::new(alloc);
+        for (k, (is_turned, lists)) in self.libraries.iter().enumerate() {
+            let order = if *is_turned {
+                turned(self.order)
+            } else {
+                self.order
+            };
+            let mut library = CodeFile::new(alloc, order, *lists)?;
+            if k == 0 {
+                library.change(alloc, changes)?;
+            }
+            libraries.push(library)?;
         }
+        Ok(libraries)
     }
 
-    pub(crate) fn library(self, alloc: Global) -> Result<CodeFile, AllocError> {
-        let order = self.order();
-        match self {
-            Base::TwoUnits => library_of_two_units(alloc),
-            Base::UsedUnit | Base::BigUsedUnit => library_of_a_used_unit(alloc, order),
-            Base::NineReferences => library_of_nine_references(alloc),
-            Base::LongUnit => library_of_a_long_unit(alloc),
-            Base::BigLibrary => base_library(alloc, Order::Big),
-            Base::LittleLibrary => base_library(alloc, LITTLE),
-            _ => base_library(alloc, order),
-        }
-    }
-
-    pub(crate) fn linked(self, alloc: Global) -> Result<CodeFile, AllocError> {
-        let order = self.order();
-        match self {
-            Base::InPlace | Base::BigInPlace => linked_unit_in_place(alloc, order),
-            Base::TwoUnits => linked_two_units(alloc),
-            Base::UsedUnit | Base::BigUsedUnit => linked_used_unit(alloc, order),
-            Base::NineReferences => linked_nine_references(alloc),
-            Base::LongUnit => linked_long_unit(alloc),
-            _ => linked_base_pair(alloc, order),
-        }
-    }
-
-    /// This library, where the host is linked with one.
-    pub(crate) fn libraries<'a, 'b>(self, library: &'a [&'b [u8]; 1]) -> &'a [&'b [u8]] {
-        match self {
-            Base::InPlace
-            | Base::BigInPlace
-            | Base::LikeLibrary
-            | Base::BigLikeLibrary
-            | Base::HostAlone => &[],
-            _ => library,
-        }
-    }
-
-    /// Checks one link: its answer and what was written.
-    fn answers(
-        self,
-        rt: &(impl Abort + AllocGlobal),
-        memory: Memory,
-        what: &str,
-        changes: (Changes<'_>, Changes<'_>),
-        answer: &str,
-        linked: &[u8],
-    ) {
-        let alloc = rt.alloc();
-        let host = self
-            .host(alloc)
-            .expect(rt, "unexpected error")
-            .with(alloc, changes.0)
-            .expect(rt, "unexpected error");
-        let library = self
-            .library(alloc)
-            .expect(rt, "unexpected error")
-            .with(alloc, changes.1)
-            .expect(rt, "unexpected error");
-        let library = [library.as_slice()];
-        let link = Link {
-            host: host.as_slice(),
-            libraries: self.libraries(&library),
-            linked,
-        };
-        memory.answers(rt, what, &link, answer)
+    /// What they are linked to, with changes.
+    pub(crate) fn linked(
+        &self,
+        alloc: Global,
+        changes: Changes<'_>,
+    ) -> Result<CodeFile, AllocError> {
+        CodeFile::new(alloc, self.order, self.linked)?.with(alloc, changes)
     }
 }
 
-/// Checks one link of a table, with this memory.
-fn link_row(rt: &(impl Abort + AllocGlobal), base: Base, memory: Memory, row: &Row<'_>) {
+/// The bytes of each file.
+pub(crate) fn bytes_of<'a>(
+    alloc: Global,
+    files: &'a [CodeFile],
+) -> Result<Vec<&'a [u8]>, AllocError> {
+    let mut bytes = Vec::new(alloc);
+    for file in files {
+        bytes.push(file.as_slice())?;
+    }
+    Ok(bytes)
+}
+
+/// Checks one link of a table: its answer and what was written.
+fn answers(
+    rt: &(impl Abort + AllocGlobal),
+    (base, memory): (&Base<'_>, Memory),
+    (what, host, library): (&str, Changes<'_>, Changes<'_>),
+    answer: &str,
+    linked: &[u8],
+) {
     let alloc = rt.alloc();
-    let linked = base
-        .linked(alloc)
-        .expect(rt, "unexpected error")
-        .with(alloc, row.linked)
+    let host = base.host(alloc, host).expect(rt, "unexpected error");
+    let libraries = base
+        .libraries(alloc, library)
         .expect(rt, "unexpected error");
-    let changes = (row.host, row.library);
-    let linked = linked.as_slice();
-    base.answers(rt, memory, row.what, changes, row.summary, linked)
-}
-
-/// Checks each link of a table, with this memory.
-fn link_rows(rt: &(impl Abort + AllocGlobal), base: Base, memory: Memory, rows: &[Row<'_>]) {
-    for row in rows {
-        link_row(rt, base, memory, row);
+    let libraries = bytes_of(alloc, libraries.as_slice()).expect(rt, "unexpected error");
+    let link = Link {
+        host: host.as_slice(),
+        libraries: libraries.as_slice(),
+        linked,
+    };
+    links(rt, what, &link, answer);
+    match memory {
+        Memory::Ample => (),
+        Memory::NoAllocation => makes_no_allocation(rt, what, &link, answer),
+        Memory::EachAllocationRefused => refuses_each_allocation(rt, what, &link, answer),
     }
 }
 
 /// Checks each link of these tables.
 pub(crate) fn link_tables(rt: &(impl Abort + AllocGlobal), tables: &[Table<'_, Row<'_>>]) {
-    for (base, memories, rows) in tables {
-        for memory in *memories {
-            link_rows(rt, *base, *memory, rows);
+    for (base, memory, rows) in tables {
+        for row in *rows {
+            let linked = base
+                .linked(rt.alloc(), row.linked)
+                .expect(rt, "unexpected error");
+            let changes = (row.what, row.host, row.library);
+            answers(rt, (base, *memory), changes, row.summary, linked.as_slice());
         }
-    }
-}
-
-/// Checks each refusal of a table, with this memory, and that nothing is written.
-fn refuse_rows(
-    rt: &(impl Abort + AllocGlobal),
-    base: Base,
-    memory: Memory,
-    refusals: &[Refusal<'_>],
-) {
-    for (what, host, library, fault) in refusals {
-        base.answers(rt, memory, *what, (*host, *library), *fault, &[]);
     }
 }
 
 /// Checks each refusal of these tables, and that nothing is written.
 pub(crate) fn refuse_tables(rt: &(impl Abort + AllocGlobal), tables: &[Table<'_, Refusal<'_>>]) {
-    for (base, memories, refusals) in tables {
-        for memory in *memories {
-            refuse_rows(rt, *base, *memory, refusals);
+    for (base, memory, refusals) in tables {
+        for (what, host, library, fault) in *refusals {
+            let changes = (*what, *host, *library);
+            answers(rt, (base, *memory), changes, *fault, &[]);
         }
     }
 }

@@ -1,13 +1,12 @@
 //! The map of a link and the show of a code file, as text.
 use super::allocations::{Allocating, makes_no_allocation, refuses_each_allocation};
-use super::answers::LITTLE;
-use super::tables::Base;
-use super::text_writing::{writes, writes_text};
+use super::answers::{LITTLE, text_of_error};
+use super::tables::{Base, LIBRARY_LISTS, PAIR, PAIR_FILES, TWO_UNITS, USED_UNIT, bytes_of};
 use super::writers::Full;
-use crate::base::{BASE_LENGTH, COUNT, base_host, base_library};
+use super::writing::{NO_WRITE, Writing, writes, writes_text};
+use crate::base::{BASE_LENGTH, COUNT};
 use crate::code_file::Change::{Bytes, Records, Resized};
-use crate::code_file::CodeFile;
-use crate::information::Record;
+use crate::code_file::{Changes, CodeFile};
 use crate::information::Record::{ConstantDefinition, End, PublicDefinition};
 use ps_linkfile::{LinkError, map_text, show_text};
 use std::alloc::{AllocError, Allocator, Global};
@@ -75,16 +74,14 @@ pub(crate) static SLOTS_OF_THE_LIBRARY: &str = show_of!(
     "         kind 0 address 0 length 0 text 0",
 );
 
-/// An answer as text: the text itself, the fault's, or a word for out of memory.
+/// An answer as text: the text itself, or the error's.
 fn text_of<A: Allocator + Copy>(
     alloc: Global,
     answer: Result<Vec<u8, A>, LinkError>,
 ) -> Result<String, AllocError> {
     match answer {
         Ok(bytes) => String::from_str(alloc, str::from_utf8(bytes.as_slice()).unwrap_or("no text")),
-        Err(LinkError::Refused(fault)) => format!(in alloc; "{fault}"),
-        Err(LinkError::Memory) => String::from_str(alloc, "out of memory"),
-        Err(LinkError::Write(_)) => String::from_str(alloc, "a write failed"),
+        Err(error) => text_of_error(alloc, error),
     }
 }
 
@@ -113,122 +110,107 @@ impl<'a> Allocating for Show<'a> {
     }
 }
 
-/// The maps of links of unchanged files.
-const MAPS: [(&str, Base, &str); 3] = [
-    ("the base pair", Base::Pair, MAP),
-    ("an added unit", Base::UsedUnit, MAP_OF_AN_ADDED_UNIT),
-    ("two wanted units", Base::TwoUnits, MAP_OF_TWO_UNITS),
-];
+/// Files, changes of the host, and the map of their link.
+pub(crate) type Mapped<'a> = (Base<'a>, Changes<'a>, &'a str);
 
-/// The base host's definition and a constant.
-const DEFINITIONS: [Record<'static>; 3] = [
-    PublicDefinition(COUNT, 3),
-    ConstantDefinition(*b"LIMIT   ", 9),
-    End(8),
+static MAPS: [Mapped<'static>; 4] = [
+    (PAIR, &[], MAP),
+    (USED_UNIT, &[], MAP_OF_AN_ADDED_UNIT),
+    (TWO_UNITS, &[], MAP_OF_TWO_UNITS),
+    (
+        PAIR,
+        &[Records(
+            2,
+            &[
+                PublicDefinition(COUNT, 3),
+                ConstantDefinition(*b"LIMIT   ", 9),
+                End(8),
+            ],
+        )],
+        MAP_WITH_A_CONSTANT,
+    ),
 ];
 
 /// Checks the map of a link, as a text and written.
-fn maps(rt: &(impl Abort + AllocGlobal), what: &str, call: &Map<'_>, text: &str) {
-    refuses_each_allocation(rt, what, call, text);
-    writes_text(rt, call, text)
+pub(crate) fn maps(rt: &(impl Abort + AllocGlobal), (base, changes, text): &Mapped<'_>) {
+    let alloc = rt.alloc();
+    let host = base.host(alloc, *changes).expect(rt, "unexpected error");
+    let libraries = base.libraries(alloc, &[]).expect(rt, "unexpected error");
+    let libraries = bytes_of(alloc, libraries.as_slice()).expect(rt, "unexpected error");
+    let call = Map {
+        host: host.as_slice(),
+        libraries: libraries.as_slice(),
+    };
+    refuses_each_allocation(rt, "a map", &call, *text);
+    writes_text(rt, &call, *text)
 }
 
 #[test]
 fn maps_of_pairs(rt: HostRuntime) {
-    let alloc = rt.alloc();
-    for (what, base, map) in MAPS {
-        let host = base.host(alloc).expect(&rt, "unexpected error");
-        let library = base.library(alloc).expect(&rt, "unexpected error");
-        let call = Map {
-            host: host.as_slice(),
-            libraries: &[library.as_slice()],
-        };
-        maps(&rt, what, &call, map);
+    for mapped in &MAPS {
+        maps(&rt, mapped);
     }
-    let host = base_host(alloc, LITTLE)
-        .expect(&rt, "unexpected error")
-        .with(alloc, &[Records(2, &DEFINITIONS)])
-        .expect(&rt, "unexpected error");
-    let library = base_library(alloc, LITTLE).expect(&rt, "unexpected error");
-    let call = Map {
-        host: host.as_slice(),
-        libraries: &[library.as_slice()],
-    };
-    maps(&rt, "a constant", &call, MAP_WITH_A_CONSTANT)
 }
 
 /// Checks the show of a file, as a text and written.
-pub(crate) fn shows(rt: &(impl Abort + AllocGlobal), what: &str, file: &CodeFile, text: &str) {
-    let call = Show {
-        file: file.as_slice(),
-    };
+pub(crate) fn shows(rt: &(impl Abort + AllocGlobal), what: &str, file: &[u8], text: &str) {
+    let call = Show { file };
     refuses_each_allocation(rt, what, &call, text);
     writes_text(rt, &call, text)
 }
 
 /// Lengths to which the base library is truncated, and the lines of its show after those of the
 /// slots.
-const SHOWS: [(&str, usize, &str); 3] = [
+static SHOWS: [(usize, &str); 3] = [
     (
-        "a library",
         BASE_LENGTH,
         "links 02\n0 PUBLREF COUNT    at 1\n1 PRIVREF STATE    words 4 at 4\n2 EOFMARK next 0\n",
     ),
     (
-        "a library without its end",
         1103,
         "links 02\n0 PUBLREF COUNT    at 1\n1 PRIVREF STATE    words 4 at 4\n2 fault 19 RecordsTruncated\n",
     ),
-    (
-        "a library with half a code",
-        535,
-        "links 02\nfault 16 Truncated\n",
-    ),
+    (535, "links 02\nfault 16 Truncated\n"),
 ];
 
 #[test]
 fn shows_of_a_library(rt: HostRuntime) {
     let alloc = rt.alloc();
-    for (what, length, last) in SHOWS {
-        let library = base_library(alloc, LITTLE)
+    for (length, last) in &SHOWS {
+        let library = CodeFile::new(alloc, LITTLE, &LIBRARY_LISTS)
             .expect(&rt, "unexpected error")
-            .with(alloc, &[Resized(length)])
+            .with(alloc, &[Resized(*length)])
             .expect(&rt, "unexpected error");
         let text = format!(in alloc; "{SLOTS_OF_THE_LIBRARY}{last}").expect(
             &rt,
             "unexpected error",
         );
-        shows(&rt, what, &library, text.as_str());
+        shows(&rt, *last, library.as_slice(), text.as_str());
     }
+}
+
+/// Checks that a text is refused without memory, and that nothing is written.
+fn refuses_text<T: Allocating + Writing>(rt: &(impl Abort + AllocGlobal), call: &T, refused: &str) {
+    makes_no_allocation(rt, refused, call, refused);
+    let writer = (512, usize::MAX, Full::Fails);
+    writes(rt, (call, &[]), writer, refused, NO_WRITE)
 }
 
 #[test]
 fn maps_and_shows_that_are_refused(rt: HostRuntime) {
     let alloc = rt.alloc();
-    let host = base_host(alloc, LITTLE).expect(&rt, "unexpected error");
+    let host = PAIR_FILES.host(alloc, &[]).expect(&rt, "unexpected error");
     let call = Map {
         host: host.as_slice(),
         libraries: &[],
     };
-    let refused = "refused 13 MissingUnit file 0 slot 7";
-    makes_no_allocation(&rt, "no library", &call, refused);
-    let writer = (512, usize::MAX, Full::Fails);
-    writes(&rt, (&call, ""), writer, refused, (0, 0));
-    let short = CodeFile::new(alloc, LITTLE, 511).expect(&rt, "unexpected error");
-    let call = Show {
-        file: short.as_slice(),
-    };
-    let refused = "refused 1 ShortFile file 0";
-    makes_no_allocation(&rt, "short", &call, refused);
-    writes(&rt, (&call, ""), writer, refused, (0, 0));
-    let mixed = CodeFile::new(alloc, LITTLE, 512)
+    refuses_text(&rt, &call, "refused 13 MissingUnit file 0 slot 7");
+    let mixed = CodeFile::new(alloc, LITTLE, &[])
         .expect(&rt, "unexpected error")
-        .with(alloc, &[Bytes(192, &[1, 1])])
+        .with(alloc, &[Resized(512), Bytes(192, &[1, 1])])
         .expect(&rt, "unexpected error");
-    let call = Show {
-        file: mixed.as_slice(),
-    };
-    let refused = "refused 2 NoOrder file 0";
-    makes_no_allocation(&rt, "mixed", &call, refused);
-    writes(&rt, (&call, ""), writer, refused, (0, 0))
+    let file = mixed.as_slice();
+    refuses_text(&rt, &Show { file }, "refused 2 NoOrder file 0");
+    let file = file.get(..511).unwrap_or(&[]);
+    refuses_text(&rt, &Show { file }, "refused 1 ShortFile file 0")
 }

@@ -1,17 +1,9 @@
 //! A host that wants two units.
-use super::tables::{AMPLE_OR_REFUSED, Base, Row, link_tables};
+use super::tables::Memory::EachAllocationRefused;
+use super::tables::{Row, TWO_UNITS, Table, link_tables};
 use crate::base::UTIL;
-use crate::code_file::Change::{Address, Code, CodeWord, Entry, Records, Resized};
-use crate::code_file::{LINKED, Slot};
+use crate::code_file::Change::{Code, CodeWord, Records};
 use crate::information::Record::{End, UnitReference};
-
-/// An empty slot.
-const BLANK: Slot = Slot {
-    name: [b' '; 8],
-    kind: LINKED,
-    address: 0,
-    length: 0,
-};
 
 /// The second unit's code where its byte 1 is a reference to a unit.
 const UNIT_REFERENCE: [u8; 24] = [
@@ -19,7 +11,7 @@ const UNIT_REFERENCE: [u8; 24] = [
 ];
 
 /// Links of two units.
-const TWO_UNITS: [Row<'static>; 4] = [
+const LINKS: [Row<'static>; 2] = [
     Row {
         what: "a private variable of each, of one name",
         host: &[],
@@ -41,23 +33,11 @@ const TWO_UNITS: [Row<'static>; 4] = [
         ],
         summary: "segments 3 private words 4 blocks 4",
     },
-    Row {
-        what: "a unit of the library that is not wanted",
-        host: &[Entry(8, BLANK)],
-        library: &[],
-        linked: &[Entry(8, BLANK), Resized(1536)],
-        summary: "segments 2 private words 4 blocks 3",
-    },
-    Row {
-        what: "two units that share one code",
-        host: &[],
-        library: &[Address(3, 1)],
-        linked: &[CodeWord(1, 4, 26), Code(3, 2, &[3]), Code(3, 5, &[14])],
-        summary: "segments 3 private words 8 blocks 4",
-    },
 ];
+
+static TABLES: [Table<'static, Row<'static>>; 1] = [(TWO_UNITS, EachAllocationRefused, &LINKS)];
 
 #[test]
 fn two_units(rt: HostRuntime) {
-    link_tables(&rt, &[(Base::TwoUnits, AMPLE_OR_REFUSED, &TWO_UNITS)])
+    link_tables(&rt, &TABLES)
 }

@@ -1,4 +1,5 @@
 //! Words of either byte order, blocks, and faults as text.
+use super::answers::is;
 use ps_words::{BLOCK_SIZE, Fault, Order, Reason, blocks_of, get, get_big, put, put_big};
 use std::fmt;
 use std::fmt::Write;
@@ -41,7 +42,7 @@ const WHOLE: Fault = Fault {
 };
 
 /// Faults, their numbers and names, and their texts.
-const FAULTS: [(Fault, u8, &str, &str); 6] = [
+static FAULTS: [(Fault, u8, &str, &str); 6] = [
     (
         WHOLE,
         14,
@@ -112,25 +113,20 @@ const FAULTS: [(Fault, u8, &str, &str); 6] = [
 
 #[test]
 fn faults_as_text(rt: HostRuntime) {
-    for (fault, number, name, wanted) in FAULTS {
-        let text = fault.to_string(rt.alloc()).expect(&rt, "unexpected error");
-        assert!(rt; text.as_str() == wanted, "{text}");
-        assert!(rt;
-            (fault.reason.number(), fault.reason.name()) == (number, name),
-            "{text}"
-        );
-        let reason = fault
-            .reason
-            .to_string(rt.alloc())
-            .expect(&rt, "unexpected error");
-        assert!(rt; reason.as_str() == name, "{reason}");
+    let alloc = rt.alloc();
+    for (fault, number, name, wanted) in &FAULTS {
+        let reason = fault.reason;
         // a width changes no text
-        let text = format!(in rt.alloc(); "{fault:>100}{fault:<100}{fault:.3}").expect(
-            &rt,
-            "unexpected error",
-        );
-        let rest = text.strip_prefix(wanted).unwrap_or("");
-        assert!(rt; rest.strip_prefix(wanted) == Some(wanted), "{text}");
+        let text = format!(in alloc;
+            "{} {} {reason} {fault} {fault:>100}{fault:<100}{fault:.3}",
+            reason.number(),
+            reason.name()
+        )
+        .expect(&rt, "unexpected error");
+        let wanted = format!(in alloc;
+            "{number} {name} {name} {wanted} {wanted}{wanted}{wanted}"
+        ).expect(&rt, "unexpected error");
+        is(&rt, "a fault", text.as_str(), wanted.as_str());
     }
 }
 

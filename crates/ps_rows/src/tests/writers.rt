@@ -10,6 +10,13 @@ pub(crate) enum Full {
     Fails,
 }
 
+/// A writer's room, how much a write takes at most, and what it does where it has no room.
+pub(crate) type Writer = (usize, usize, Full);
+
+/// What a writer counts: its writes, those that failed, those that took none of at least one byte
+/// and returned no error, and those that took fewer bytes than there were and returned none.
+pub(crate) type Counts = [u64; 4];
+
 /// A writer with room for so many bytes, of which each write takes at most so many. Each flush
 /// fails.
 #[derive(Drop)]
@@ -21,17 +28,13 @@ pub(crate) struct Room {
     writes: u64,
     failures: u64,
     stalls: u64,
-    flushes: u64,
+    shorts: u64,
+    pub flushes: u64,
 }
 
 impl Room {
     /// Room for so many bytes; the memory is taken here, and no write takes any.
-    pub(crate) fn new(
-        alloc: Global,
-        room: usize,
-        per_write: usize,
-        full: Full,
-    ) -> Result<Room, AllocError> {
+    pub(crate) fn new(alloc: Global, (room, per_write, full): Writer) -> Result<Room, AllocError> {
         Ok(Room {
             bytes: Vec::from_elem(alloc, 0, room)?,
             taken: 0,
@@ -40,6 +43,7 @@ impl Room {
             writes: 0,
             failures: 0,
             stalls: 0,
+            shorts: 0,
             flushes: 0,
         })
     }
@@ -49,24 +53,9 @@ impl Room {
         self.bytes.get(..self.taken).unwrap_or(&[])
     }
 
-    /// How many writes there were, those that failed among them.
-    pub(crate) fn writes(&self) -> u64 {
-        self.writes
-    }
-
-    /// How many writes failed.
-    pub(crate) fn failures(&self) -> u64 {
-        self.failures
-    }
-
-    /// How many writes took none of at least one byte, and returned no error.
-    pub(crate) fn stalls(&self) -> u64 {
-        self.stalls
-    }
-
-    /// How many flushes there were, each of which failed.
-    pub(crate) fn flushes(&self) -> u64 {
-        self.flushes
+    /// What was counted.
+    pub(crate) fn counts(&self) -> Counts {
+        [self.writes, self.failures, self.stalls, self.shorts]
     }
 }
 
@@ -79,6 +68,7 @@ impl Write for Room {
             return match self.full {
                 Full::Stalls => {
                     self.stalls = self.stalls.saturating_add(1);
+                    self.shorts = self.shorts.saturating_add(1);
                     Ok(0)
                 }
                 Full::Fails => {
@@ -86,6 +76,9 @@ impl Write for Room {
                     Err(io::Error::from(io::ErrorKind::Interrupted))
                 }
             };
+        }
+        if count < buf.len() {
+            self.shorts = self.shorts.saturating_add(1);
         }
         for (to, from) in self.bytes.iter_mut().skip(self.taken).zip(buf) {
             *to = *from;

@@ -1,112 +1,365 @@
-//! What a writer is given that takes little, stalls or fails.
-use super::answers::{LITTLE, text_of};
+//! What a writer is given of a linked file, a map or a show, where it takes all or little, stalls
+//! or fails.
+use super::answers::{is, text_of_error};
 use super::link_allocations::Link;
-use super::writers::{Full, Room};
-use crate::base::{base_host, base_library, linked_base_pair};
-use crate::in_place::{linked_unit_in_place, unit_in_place};
-use ps_linkfile::{LinkError, Summary, prepare};
-use std::alloc::Global;
+use super::tables::{Base, IN_PLACE_FILES, PAIR_FILES, bytes_of};
+use super::texts::{Map, Show};
+use super::writers::Full::{Fails, Stalls};
+use super::writers::{Counts, Room, Writer};
+use ps_linkfile::{Counting, LinkError, Linked, ToldWriter, WriteFault, link, prepare, write_show};
+use std::alloc::{AllocError, Global};
+use std::io;
+use std::io::{ErrorKind, Write};
 use std::process::Abort;
 
-/// The two calls that write a linked file.
-#[derive(Clone, Copy, Debug, PartialEq, Eq)]
-enum Call {
-    Link,
-    Write,
+/// What is written in pieces.
+pub(crate) trait Writing {
+    /// Writes it.
+    fn write<W: Write>(&self, alloc: Global, out: &mut W) -> Result<(), LinkError>;
 }
 
-impl Call {
-    fn write(self, alloc: Global, link: &Link<'_>, out: &mut Room) -> Result<Summary, LinkError> {
-        match self {
-            Call::Link => ps_linkfile::link(alloc, link.host, link.libraries, out),
-            Call::Write => {
-                let linked = prepare(alloc, link.host, link.libraries)?;
-                Ok(linked.write(out)?)
-            }
-        }
+impl<'a> Writing for Link<'a> {
+    fn write<W: Write>(&self, alloc: Global, out: &mut W) -> Result<(), LinkError> {
+        link(alloc, self.host, self.libraries, out)?;
+        Ok(())
     }
 }
 
-/// Writes a linked file by each call into a writer with room for so many bytes, of which a write
-/// takes at most so many. Checks the answer, that the prefix of the file was taken for which there
-/// is room, and how many writes there were, how many of them failed, and that there was no flush.
-fn writes(
+impl<'a> Writing for Linked<'a> {
+    fn write<W: Write>(&self, _alloc: Global, out: &mut W) -> Result<(), LinkError> {
+        Linked::write(self, out)?;
+        Ok(())
+    }
+}
+
+impl<'a> Writing for Show<'a> {
+    fn write<W: Write>(&self, _alloc: Global, out: &mut W) -> Result<(), LinkError> {
+        write_show(self.file, out)
+    }
+}
+
+impl<'a> Writing for Map<'a> {
+    fn write<W: Write>(&self, alloc: Global, out: &mut W) -> Result<(), LinkError> {
+        let linked = prepare(alloc, self.host, self.libraries)?;
+        Ok(linked.write_map(out)?)
+    }
+}
+
+/// The answer of a call that writes, as text.
+fn answer_of(alloc: Global, answer: Result<(), LinkError>) -> Result<String, AllocError> {
+    match answer {
+        Ok(()) => String::from_str(alloc, "written"),
+        Err(error) => text_of_error(alloc, error),
+    }
+}
+
+/// Checks what a writer was given: the prefix of these bytes for which it has room, in as many
+/// writes of each kind, and no flush.
+fn was_given(
+    rt: &impl Abort,
+    out: &Room,
+    (room, per_write, _): Writer,
+    bytes: &[u8],
+    counts: Counts,
+) {
+    let prefix = bytes.get(..room).unwrap_or(bytes);
+    assert!(rt; out.written() == prefix, "{room} {per_write}");
+    assert!(rt;
+        (out.counts(), out.flushes) == (counts, 0),
+        "{room} {per_write}"
+    );
+}
+
+/// Writes these bytes into a writer, and checks the answer and what the writer was given.
+pub(crate) fn writes<T: Writing>(
     rt: &(impl Abort + AllocGlobal),
-    link: &Link<'_>,
-    (room, per_write, full): (usize, usize, Full),
+    (call, bytes): (&T, &[u8]),
+    writer: Writer,
     answer: &str,
-    counts: (u64, u64),
+    counts: Counts,
 ) {
     let alloc = rt.alloc();
-    for call in [Call::Link, Call::Write] {
-        let mut out = Room::new(alloc, room, per_write, full).expect(rt, "unexpected error");
-        let answered = call.write(alloc, link, &mut out);
-        let text = text_of(alloc, answered).expect(rt, "unexpected error");
-        assert!(rt;
-            text.as_str() == answer,
-            "{call:?} {room} {per_write}: {text}"
-        );
-        let prefix = link.linked.get(..room).unwrap_or(&[]);
-        assert!(rt; out.written() == prefix, "{call:?} {room} {per_write}");
-        assert!(rt;
-            (out.writes(), out.failures(), out.flushes()) == (counts.0, counts.1, 0),
-            "{call:?} {room} {per_write}"
-        );
+    let mut out = Room::new(alloc, writer).expect(rt, "unexpected error");
+    let answered = call.write(alloc, &mut out);
+    let text = answer_of(alloc, answered).expect(rt, "unexpected error");
+    is(rt, "", text.as_str(), answer);
+    was_given(rt, &out, writer, bytes, counts)
+}
+
+/// The same of a linked file, which is written to a writer that counts as it does itself.
+fn tells(
+    rt: &(impl Abort + AllocGlobal),
+    (linked, file): (&Linked<'_>, &[u8]),
+    writer: Writer,
+    answer: &str,
+    counts: Counts,
+) {
+    let alloc = rt.alloc();
+    let mut out = Counting::new(Room::new(alloc, writer).expect(rt, "unexpected error"));
+    let answered = linked.write_told(&mut out).map_err(LinkError::Write);
+    let text = answer_of(alloc, answered.map(|_| ())).expect(rt, "unexpected error");
+    is(rt, "", text.as_str(), answer);
+    assert!(rt; counts_of(&out) == counts);
+    was_given(rt, &out.into_inner(), writer, file, counts)
+}
+
+/// What a writer that counts has counted.
+fn counts_of<W: Write>(out: &Counting<W>) -> Counts {
+    [out.writes(), out.errors(), out.stalls(), out.shorts()]
+}
+
+/// No write at all.
+pub(crate) const NO_WRITE: Counts = [0, 0, 0, 0];
+
+/// Answers of a writer with no room left.
+const FAILED: &str = "device error Interrupted";
+
+const STALLED: &str = "stalled";
+
+const ALL: usize = usize::MAX;
+
+/// Writers, the answer where three blocks are written to each, and how many writes of each kind
+/// there are. A write that failed is not repeated.
+static WRITERS: [(Writer, &str, Counts); 25] = [
+    ((1536, 512, Fails), "written", [3, 0, 0, 0]),
+    ((1536, 513, Fails), "written", [3, 0, 0, 0]),
+    ((1536, ALL, Fails), "written", [3, 0, 0, 0]),
+    ((1536, ALL, Stalls), "written", [3, 0, 0, 0]),
+    ((1536, 511, Fails), "written", [6, 0, 0, 3]),
+    ((1536, 256, Fails), "written", [6, 0, 0, 3]),
+    ((1536, 1, Fails), "written", [1536, 0, 0, 1533]),
+    ((0, ALL, Fails), FAILED, [1, 1, 0, 0]),
+    ((0, ALL, Stalls), STALLED, [1, 0, 1, 1]),
+    ((1, ALL, Fails), FAILED, [2, 1, 0, 1]),
+    ((1, ALL, Stalls), STALLED, [2, 0, 1, 2]),
+    ((100, ALL, Fails), FAILED, [2, 1, 0, 1]),
+    ((100, ALL, Stalls), STALLED, [2, 0, 1, 2]),
+    ((511, ALL, Fails), FAILED, [2, 1, 0, 1]),
+    ((511, ALL, Stalls), STALLED, [2, 0, 1, 2]),
+    ((512, ALL, Fails), FAILED, [2, 1, 0, 0]),
+    ((512, ALL, Stalls), STALLED, [2, 0, 1, 1]),
+    ((513, ALL, Fails), FAILED, [3, 1, 0, 1]),
+    ((513, ALL, Stalls), STALLED, [3, 0, 1, 2]),
+    ((1024, ALL, Fails), FAILED, [3, 1, 0, 0]),
+    ((1024, ALL, Stalls), STALLED, [3, 0, 1, 1]),
+    ((1025, ALL, Fails), FAILED, [4, 1, 0, 1]),
+    ((1025, ALL, Stalls), STALLED, [4, 0, 1, 2]),
+    ((1535, ALL, Fails), FAILED, [4, 1, 0, 1]),
+    ((1535, ALL, Stalls), STALLED, [4, 0, 1, 2]),
+];
+
+/// Writes a linked file of three blocks to each of these writers, by each call.
+fn writes_to_each(rt: &(impl Abort + AllocGlobal), files: &Link<'_>) {
+    let file = files.linked;
+    let linked = prepare(rt.alloc(), files.host, files.libraries).expect(rt, "unexpected error");
+    for (writer, answer, counts) in &WRITERS {
+        writes(rt, (files, file), *writer, *answer, *counts);
+        writes(rt, (&linked, file), *writer, *answer, *counts);
+        tells(rt, (&linked, file), *writer, *answer, *counts);
     }
 }
 
-/// How many bytes a write takes, and how many writes there are then of the three blocks.
-const WHOLE: [(usize, u64); 4] = [(1, 1536), (511, 6), (513, 3), (usize::MAX, 3)];
-
-/// Writes into writers of few bytes a write, into one that stalls and into one that fails; a write
-/// that failed is not repeated.
-fn writes_little(rt: &(impl Abort + AllocGlobal), link: &Link<'_>, summary: &str) {
-    for (per_write, count) in WHOLE {
+/// Writes it into a writer of each room that is too little, which stalls and which fails: there is
+/// a write for each block that it takes any of, and one for which it has no room.
+fn writes_to_any_room(rt: &(impl Abort + AllocGlobal), files: &Link<'_>) {
+    for room in 0..1536 {
+        let writes_made = (room as u64 + 511) / 512 + 1;
+        let shorts = if room % 512 == 0 { 0 } else { 1 };
+        let wanted = [writes_made, 1, 0, shorts];
         writes(
             rt,
-            link,
-            (1536, per_write, Full::Fails),
-            summary,
-            (count, 0),
+            (files, files.linked),
+            (room, ALL, Fails),
+            FAILED,
+            wanted,
+        );
+        let wanted = [writes_made, 0, 1, shorts + 1];
+        writes(
+            rt,
+            (files, files.linked),
+            (room, ALL, Stalls),
+            STALLED,
+            wanted,
         );
     }
-    writes(rt, link, (100, usize::MAX, Full::Stalls), "stalled", (2, 0));
-    let answer = "device error Interrupted";
-    writes(rt, link, (512, usize::MAX, Full::Fails), answer, (2, 1))
 }
 
-/// Writes into a writer of each room that is too little, which stalls and which fails: there is a
-/// write for each block that it takes any of, and one for which it has no room.
-fn writes_to_any_room(rt: &(impl Abort + AllocGlobal), link: &Link<'_>) {
-    for room in 0..1536 {
-        let count = (room as u64 + 511) / 512 + 1;
-        let writer = (room, usize::MAX, Full::Stalls);
-        writes(rt, link, writer, "stalled", (count, 0));
-        let writer = (room, usize::MAX, Full::Fails);
-        writes(rt, link, writer, "device error Interrupted", (count, 1));
+/// Writes the linked file of these files to each writer, and to those of any room.
+fn with_files(rt: &(impl Abort + AllocGlobal), base: &Base<'_>, any_room: bool) {
+    let alloc = rt.alloc();
+    let host = base.host(alloc, &[]).expect(rt, "unexpected error");
+    let libraries = base.libraries(alloc, &[]).expect(rt, "unexpected error");
+    let libraries = bytes_of(alloc, libraries.as_slice()).expect(rt, "unexpected error");
+    let linked = base.linked(alloc, &[]).expect(rt, "unexpected error");
+    let files = Link {
+        host: host.as_slice(),
+        libraries: libraries.as_slice(),
+        linked: linked.as_slice(),
+    };
+    writes_to_each(rt, &files);
+    if any_room {
+        writes_to_any_room(rt, &files);
     }
 }
 
 #[test]
-fn writers_that_take_little(rt: HostRuntime) {
+fn writers_of_linked_files(rt: HostRuntime) {
+    with_files(&rt, &IN_PLACE_FILES, false);
+    with_files(&rt, &PAIR_FILES, true)
+}
+
+/// Writes this short text into writers that take all or little, stall or fail. No write is made
+/// after one that failed.
+pub(crate) fn writes_text<T: Writing>(rt: &(impl Abort + AllocGlobal), call: &T, text: &str) {
+    let text = text.as_bytes();
+    for per_write in [1, 7, ALL] {
+        let count = text.len().div_ceil(per_write) as u64;
+        let wanted = [count, 0, 0, count.saturating_sub(1)];
+        writes(
+            rt,
+            (call, text),
+            (text.len(), per_write, Fails),
+            "written",
+            wanted,
+        );
+    }
+    for (room, shorts) in [(0, 0), (1, 1), (text.len().saturating_sub(1), 1)] {
+        let wanted = [shorts + 1, 1, 0, shorts];
+        writes(rt, (call, text), (room, ALL, Fails), FAILED, wanted);
+        let wanted = [shorts + 1, 0, 1, shorts + 1];
+        writes(rt, (call, text), (room, ALL, Stalls), STALLED, wanted);
+    }
+}
+
+/// Single writes to a writer that counts, and what is answered and counted.
+static SINGLE: [(Writer, &[u8], Option<usize>, Counts); 5] = [
+    ((3, 3, Fails), b"abc", Some(3), [1, 0, 0, 0]),
+    ((3, 2, Fails), b"abc", Some(2), [1, 0, 0, 1]),
+    ((0, 3, Stalls), b"abc", Some(0), [1, 0, 1, 1]),
+    ((0, 3, Fails), b"abc", None, [1, 1, 0, 0]),
+    ((0, 3, Fails), b"", Some(0), [1, 0, 0, 0]),
+];
+
+#[test]
+fn one_told_write(rt: HostRuntime) {
+    for (writer, bytes, taken, wanted) in &SINGLE {
+        let mut out = Counting::new(Room::new(rt.alloc(), *writer).expect(&rt, "unexpected error"));
+        assert!(rt; counts_of(&out) == [0, 0, 0, 0]);
+        assert!(rt; out.told_write(*bytes).ok() == *taken);
+        assert!(rt; counts_of(&out) == *wanted);
+    }
+}
+
+/// A plain write to a writer that counts is not counted, and is handed on whole, in one write; so
+/// is a flush.
+#[test]
+fn plain_writes_are_not_counted(rt: HostRuntime) {
     let alloc = rt.alloc();
-    let host = unit_in_place(alloc, LITTLE).expect(&rt, "unexpected error");
-    let linked = linked_unit_in_place(alloc, LITTLE).expect(&rt, "unexpected error");
-    let link = Link {
+    let bytes = Vec::from_elem(alloc, 0xD7, 100_000).expect(&rt, "unexpected error");
+    let writer = (100_000, ALL, Stalls);
+    let mut out = Counting::new(Room::new(alloc, writer).expect(&rt, "unexpected error"));
+    assert!(rt; out.write(bytes.as_slice()).ok() == Some(100_000));
+    assert!(rt; out.write(b"more").ok() == Some(0));
+    assert!(rt; out.flush().is_err());
+    assert!(rt; counts_of(&out) == [0, 0, 0, 0]);
+    let inner = out.into_inner();
+    assert!(rt; (inner.counts(), inner.flushes) == ([2, 0, 1, 1], 1));
+    assert!(rt; inner.written() == bytes.as_slice());
+}
+
+/// A writer whose calls all fail.
+#[derive(Clone, Copy)]
+enum Broken {
+    /// With an error of this kind.
+    Of(ErrorKind),
+    /// With the system's of this number.
+    OfSystem(i32),
+    /// With one that has a text.
+    Torn,
+}
+
+impl Broken {
+    fn error(self) -> io::Error {
+        match self {
+            Broken::Of(kind) => io::Error::from(kind),
+            Broken::OfSystem(code) => io::Error::from_raw_os_error(code),
+            Broken::Torn => io::Error::other("the tape is torn"),
+        }
+    }
+}
+
+impl Write for Broken {
+    fn write(&mut self, _buf: &[u8]) -> io::Result<usize> {
+        Err(self.error())
+    }
+
+    fn flush(&mut self) -> io::Result<()> {
+        Err(self.error())
+    }
+}
+
+/// Every way in which a write fails here.
+static WAYS: [Broken; 6] = [
+    Broken::Of(ErrorKind::Interrupted),
+    Broken::Of(ErrorKind::WouldBlock),
+    Broken::Of(ErrorKind::BrokenPipe),
+    Broken::Of(ErrorKind::WriteZero),
+    Broken::OfSystem(28),
+    Broken::Torn,
+];
+
+/// An error's kind, number and text.
+fn described(alloc: Global, error: &io::Error) -> Result<String, AllocError> {
+    let (kind, code) = (error.kind(), error.raw_os_error());
+    format!(in alloc; "{kind:?} {code:?} {error}")
+}
+
+/// Checks that an answer is the error of this writer.
+fn is_error(rt: &(impl Abort + AllocGlobal), answer: Result<(), LinkError>, way: Broken) {
+    let alloc = rt.alloc();
+    match answer {
+        Err(LinkError::Write(WriteFault::Device(error))) => {
+            let text = described(alloc, &error).expect(rt, "unexpected error");
+            let wanted = described(alloc, &way.error()).expect(rt, "unexpected error");
+            is(rt, "", text.as_str(), wanted.as_str());
+        }
+        _ => assert!(rt; false, "no error of the write"),
+    }
+}
+
+#[test]
+fn the_error_of_the_write_comes_back(rt: HostRuntime) {
+    let alloc = rt.alloc();
+    let host = IN_PLACE_FILES
+        .host(alloc, &[])
+        .expect(&rt, "unexpected error");
+    let files = Link {
         host: host.as_slice(),
         libraries: &[],
-        linked: linked.as_slice(),
+        linked: &[],
     };
-    writes_little(&rt, &link, "segments 2 private words 0 blocks 3");
-    let host = base_host(alloc, LITTLE).expect(&rt, "unexpected error");
-    let library = base_library(alloc, LITTLE).expect(&rt, "unexpected error");
-    let linked = linked_base_pair(alloc, LITTLE).expect(&rt, "unexpected error");
-    let libraries = [library.as_slice()];
-    let link = Link {
-        host: host.as_slice(),
-        libraries: &libraries,
-        linked: linked.as_slice(),
-    };
-    writes_little(&rt, &link, "segments 2 private words 4 blocks 3");
-    writes_to_any_room(&rt, &link)
+    let linked = prepare(alloc, files.host, &[]).expect(&rt, "unexpected error");
+    for way in &WAYS {
+        let mut out = *way;
+        is_error(&rt, files.write(alloc, &mut out), *way);
+        is_error(&rt, Writing::write(&linked, alloc, &mut out), *way);
+        let mut out = Counting::new(out);
+        let answer = linked.write_told(&mut out).map_err(LinkError::Write);
+        is_error(&rt, answer.map(|_| ()), *way);
+        assert!(rt; out.flush().is_err());
+        assert!(rt; counts_of(&out) == [1, 1, 0, 0]);
+    }
+}
+
+#[test]
+fn texts_of_write_faults(rt: HostRuntime) {
+    let torn = WriteFault::Device(Broken::Torn.error());
+    let text = format!(in rt.alloc();
+        "{torn}, {}, {}",
+        WriteFault::Stalled,
+        LinkError::Write(WriteFault::Stalled)
+    )
+    .expect(&rt, "unexpected error");
+    let wanted = "the tape is torn, the writer takes no more bytes, the writer takes no more bytes";
+    is(&rt, "", text.as_str(), wanted)
 }
