@@ -1,5 +1,7 @@
 -- What is known of names by what is known of their parts.
-use Rattle.std.proofs.Common.{◌≡◌, ◌<◌, ◌≤◌, ℕ, List, [], ◌∷◌, Bor, Result, Ok, Err, ◌∙◌, ap, arith, get_or, length, refl, subst, sym, suc, take, drop}
+use Rattle.std.proofs.Common.{◌≡◌, ◌<◌, ◌≤◌, ℕ, List, [], ◌∷◌, Bor, Result}
+use Rattle.std.proofs.Common.{Ok, Err, ◌∙◌, ap, arith, get_or, length, refl, subst, sym, suc}
+use Rattle.std.proofs.Common.{take, drop}
 use Rattle.std.specs.Prelude.{All, IsUtf8, IfErr, IfOk}
 use Rattle.std.proofs.lemmas.List.{get_or-map, length-map, take_all}
 use Rattle.std.proofs.lemmas.List.Elements.{All-get_or, All-map}
@@ -7,40 +9,55 @@ use Rattle.ps_resolve.specs.Sources.{contents}
 use Rattle.ps_calls.specs.Checks.{IsMisnamed, IsUnreadable}
 use Rattle.ps_calls.specs.Libraries.{split}
 use Rattle.ps_calls.specs.declared.outcome.Stop.{Stop}
-use Rattle.ps_calls.specs.declared.outcome.Stop.TheVariants.{Refused, WrongLengths, NoMemory, TooSmall}
+use Rattle.ps_calls.specs.declared.outcome.Stop.TheVariants.{Refused, WrongLengths, NoMemory}
+use Rattle.ps_calls.specs.declared.outcome.Stop.TheVariants.{TooSmall}
 
 -- there is a part for each length
 length-split : (bytes ns : List ℕ) → length (split bytes ns) ≡ length ns
 length-split bytes [] = refl
 length-split bytes (n ∷ ns) = ap (λ (k : ℕ). suc k) (length-split (drop n bytes) ns)
 
-as_many : (names lengths : List ℕ) (parts : List (Bor (List ℕ))) → contents parts ≡ split names lengths → length parts ≡ length lengths
-as_many names lengths parts e = sym (length-map parts (λ (part : Bor (List ℕ)). part.now)) ∙ (ap (λ (texts : List (List ℕ)). length texts) e ∙ length-split names lengths)
+as_many : (names lengths : List ℕ) (parts : List (Bor (List ℕ)))
+    → contents parts ≡ split names lengths → length parts ≡ length lengths
+as_many names lengths parts e = sym (length-map parts (λ (part : Bor (List ℕ)). part.now))
+    ∙ (ap (λ (texts : List (List ℕ)). length texts) e ∙ length-split names lengths)
 
 -- a part that is no text
-pub no_text : (names : List (Bor (List ℕ))) (i : ℕ) (d : Bor (List ℕ)) → i < length names → (IsUtf8 (get_or names i d).now → ⊥) → All IsUtf8 (contents names) → ⊥
+pub no_text : (names : List (Bor (List ℕ))) (i : ℕ) (d : Bor (List ℕ)) → i < length names
+    → (IsUtf8 (get_or names i d).now → ⊥) → All IsUtf8 (contents names) → ⊥
 no_text names i d lt none all =
-    let mapped : get_or (contents names) i [] ≡ (get_or names i d).now = get_or-map (λ (name : Bor (List ℕ)). name.now) names i d [] lt in
-    let within : i < length (contents names) = omega (arith, lt, length-map names (λ (name : Bor (List ℕ)). name.now)) in
+    let mapped : get_or (contents names) i [] ≡ (get_or names i d).now =
+    get_or-map (λ (name : Bor (List ℕ)). name.now) names i d [] lt in
+    let within : i < length (contents names) =
+    omega (arith, lt, length-map names (λ (name : Bor (List ℕ)). name.now)) in
     none (subst IsUtf8 mapped (All-get_or IsUtf8 (contents names) i [] within all))
 
 -- all parts are texts
-pub all_texts : (names : List (Bor (List ℕ))) (i : ℕ) → length names ≤ i → All (λ name. IsUtf8 name.now) (take i names) → All IsUtf8 (contents names)
-all_texts names i end all = All-map IsUtf8 (λ (name : Bor (List ℕ)). name.now) names (subst (λ (ns : List (Bor (List ℕ))). All (λ name. IsUtf8 name.now) ns) (take_all i names end) all)
+pub all_texts : (names : List (Bor (List ℕ))) (i : ℕ) → length names ≤ i
+    → All (λ name. IsUtf8 name.now) (take i names) → All IsUtf8 (contents names)
+all_texts names i end all = All-map IsUtf8 (λ (name : Bor (List ℕ)). name.now) names
+    (subst (λ (ns : List (Bor (List ℕ))). All (λ name. IsUtf8 name.now) ns)
+    (take_all i names end) all)
 
-pub counted : {X : Type 0} (names lengths : List ℕ) (parts : List (Bor (List ℕ))) (r : Result X Stop) (size : X → ℕ) → contents parts ≡ split names lengths
+pub counted : {X : Type 0} (names lengths : List ℕ) (parts : List (Bor (List ℕ)))
+    (r : Result X Stop) (size : X → ℕ) → contents parts ≡ split names lengths
     → IfOk r (λ x. size x ≡ length parts) → IfOk r (λ x. size x ≡ length lengths)
 counted names lengths parts (Ok x) size e h = h ∙ as_many names lengths parts e
 counted names lengths parts (Err stop) size e h = tt
 
-pub texts_of : {X : Type 0} (names lengths : List ℕ) (parts : List (Bor (List ℕ))) (r : Result X Stop) → contents parts ≡ split names lengths
-    → IfOk r (λ x. All IsUtf8 (contents parts)) → IfOk r (λ x. All IsUtf8 (split names lengths))
+pub texts_of : {X : Type 0} (names lengths : List ℕ) (parts : List (Bor (List ℕ)))
+    (r : Result X Stop) → contents parts ≡ split names lengths
+    → IfOk r (λ x. All IsUtf8 (contents parts))
+    → IfOk r (λ x. All IsUtf8 (split names lengths))
 texts_of names lengths parts (Ok x) e h = subst (λ (texts : List (List ℕ)). All IsUtf8 texts) e h
 texts_of names lengths parts (Err stop) e h = tt
 
-pub misnamed : {X : Type 0} (names lengths : List ℕ) (parts : List (Bor (List ℕ))) (r : Result X Stop) → contents parts ≡ split names lengths → IfErr r (IsUnreadable (contents parts)) → IfErr r (IsMisnamed names lengths)
+pub misnamed : {X : Type 0} (names lengths : List ℕ) (parts : List (Bor (List ℕ)))
+    (r : Result X Stop) → contents parts ≡ split names lengths
+    → IfErr r (IsUnreadable (contents parts)) → IfErr r (IsMisnamed names lengths)
 misnamed names lengths parts (Ok x) e h = tt
 misnamed names lengths parts (Err (Refused fault)) e h = h
-misnamed names lengths parts (Err WrongLengths) e h = λ named. h (subst (λ (texts : List (List ℕ)). All IsUtf8 texts) (sym e) named.1)
+misnamed names lengths parts (Err WrongLengths) e h =
+    λ named. h (subst (λ (texts : List (List ℕ)). All IsUtf8 texts) (sym e) named.1)
 misnamed names lengths parts (Err NoMemory) e h = tt
 misnamed names lengths parts (Err (TooSmall size)) e h = h

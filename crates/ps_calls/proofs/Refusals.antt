@@ -53,8 +53,17 @@ part_back (Some n) = refl
 pub told_back : (f : Fault) → refusal_fault (refusal f) ≡ Some f
 told_back f =
     let a = refusal f in
-    let with_parts : Option ℕ → Option ℕ → Option ℕ → Fault = λ slot rec reference. record { reason = f.reason; file = f.file; slot = slot; rec = rec; reference = reference } in
+    let with_parts : Option ℕ → Option ℕ → Option ℕ → Fault =
+    λ slot rec reference. record {
+      reason = f.reason;
+      file = f.file;
+      slot = slot;
+      rec = rec;
+      reference = reference;
+    } in
     ap (option_map (fault_with a)) (reason_back f.reason)
-    ∙ (ap (λ (o : Option ℕ). Some (with_parts o (part (flag f.rec) (unwrap_or f.rec 0)) (part (flag f.reference) (unwrap_or f.reference 0)))) (part_back f.slot)
-    ∙ (ap (λ (o : Option ℕ). Some (with_parts f.slot o (part (flag f.reference) (unwrap_or f.reference 0)))) (part_back f.rec)
+    ∙ (ap (λ (o : Option ℕ). Some (with_parts o (part (flag f.rec) (unwrap_or f.rec 0))
+    (part (flag f.reference) (unwrap_or f.reference 0)))) (part_back f.slot)
+    ∙ (ap (λ (o : Option ℕ). Some (with_parts f.slot o
+    (part (flag f.reference) (unwrap_or f.reference 0)))) (part_back f.rec)
     ∙ ap (λ (o : Option ℕ). Some (with_parts f.slot f.rec o)) (part_back f.reference)))

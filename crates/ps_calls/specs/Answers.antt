@@ -1,6 +1,8 @@
 -- What an answer says of a call, and which fault a refusal reports.
 -- Source: this project's profile.
-use Rattle.std.specs.Prelude.{◌≡◌, ℕ, ◌==◌, ◌⊎◌, if◌then◌else◌, List, [], ◌∷◌, ◌++◌, Option, Some, None, option_map, unwrap_or, is_some}
+use Rattle.std.specs.Prelude.{◌≡◌, ℕ, ◌==◌, ◌⊎◌, if◌then◌else◌, List, []}
+use Rattle.std.specs.Prelude.{◌∷◌, ◌++◌, Option, Some, None, option_map, unwrap_or}
+use Rattle.std.specs.Prelude.{is_some}
 use Rattle.std.specs.List.{find}
 use Rattle.ps_words.specs.FaultText.{number_of, kind_of, fault_text}
 use Rattle.ps_words.specs.declared.fault.Reason.{Reason}
@@ -8,7 +10,8 @@ use Rattle.ps_words.specs.declared.fault.Reason.TheVariants as reason
 use Rattle.ps_words.specs.declared.fault.Fault.{Fault}
 use Rattle.ps_linkfile.specs.declared.summary.Summary.{Summary}
 use Rattle.ps_calls.specs.declared.answer.Answer.{Answer}
-use Rattle.ps_calls.specs.declared.answer.TheConstants.{DONE, REFUSED, WRONG_LENGTHS, NO_MEMORY, TOO_SMALL}
+use Rattle.ps_calls.specs.declared.answer.TheConstants.{DONE, REFUSED, WRONG_LENGTHS, NO_MEMORY}
+use Rattle.ps_calls.specs.declared.answer.TheConstants.{TOO_SMALL}
 
 -- a status, and nothing else
 abbrev pub bare : ℕ → Answer
@@ -33,7 +36,13 @@ bare status = record {
 
 -- a linked file of so many bytes, which has this summary, was written
 abbrev pub linked_answer : Summary → ℕ → Answer
-linked_answer s size = record (bare DONE) { private_words = s.private_words; segments = s.segments; blocks = s.blocks; written = size; needed = size }
+linked_answer s size = record (bare DONE) {
+  private_words = s.private_words;
+  segments = s.segments;
+  blocks = s.blocks;
+  written = size;
+  needed = size;
+}
 
 -- a text of so many bytes was written
 abbrev pub text_answer : ℕ → Answer
@@ -65,11 +74,16 @@ refusal f = record (bare REFUSED) {
 -- each reason, in the order of their numbers; an entry that is no unit has this kind word
 abbrev pub reasons : ℕ → List Reason
 reasons kind =
-    reason.ShortFile ∷ reason.NoOrder ∷ reason.OrderMismatch ∷ reason.NoHost ∷ reason.TwoHosts ∷ reason.DoubledSegment ∷ reason.SegmentProcedure
-    ∷ reason.NativeSegment ∷ reason.Intrinsic ∷ reason.UnknownKind ∷ reason.BadLength ∷ reason.BadAddress ∷ reason.MissingUnit ∷ reason.NotAUnit kind
-    ∷ reason.DoubledUnit ∷ reason.Truncated ∷ reason.BadProcDict ∷ reason.NativeProcedure ∷ reason.RecordsTruncated ∷ reason.UnknownRecord
-    ∷ reason.NativeRecord ∷ reason.SeparateRecord ∷ reason.BadFormat ∷ reason.DoubledDefinition ∷ reason.DoubledPrivate ∷ reason.NoRoom
-    ∷ reason.DataTooLarge ∷ reason.MissingDefinition ∷ reason.IllKind ∷ reason.MissingUnitRef ∷ reason.OutsideCode ∷ reason.ReservedPlace
+    reason.ShortFile ∷ reason.NoOrder ∷ reason.OrderMismatch ∷ reason.NoHost
+    ∷ reason.TwoHosts ∷ reason.DoubledSegment ∷ reason.SegmentProcedure
+    ∷ reason.NativeSegment ∷ reason.Intrinsic ∷ reason.UnknownKind ∷ reason.BadLength
+    ∷ reason.BadAddress ∷ reason.MissingUnit ∷ reason.NotAUnit kind
+    ∷ reason.DoubledUnit ∷ reason.Truncated ∷ reason.BadProcDict ∷ reason.NativeProcedure
+    ∷ reason.RecordsTruncated ∷ reason.UnknownRecord
+    ∷ reason.NativeRecord ∷ reason.SeparateRecord ∷ reason.BadFormat
+    ∷ reason.DoubledDefinition ∷ reason.DoubledPrivate ∷ reason.NoRoom
+    ∷ reason.DataTooLarge ∷ reason.MissingDefinition ∷ reason.IllKind
+    ∷ reason.MissingUnitRef ∷ reason.OutsideCode ∷ reason.ReservedPlace
     ∷ reason.Overlap ∷ reason.OperandTooLarge ∷ reason.NoSlot ∷ []
 
 -- the reason of this number
@@ -82,15 +96,24 @@ part there value = if there == 0 then None else Some value
 
 -- the fault of this reason that an answer reports
 abbrev pub fault_with : Answer → Reason → Fault
-fault_with a why = record { reason = why; file = a.file; slot = part a.has_slot a.slot; rec = part a.has_record a.rec; reference = part a.has_reference a.reference }
+fault_with a why = record {
+  reason = why;
+  file = a.file;
+  slot = part a.has_slot a.slot;
+  rec =
+      part a.has_record a.rec;
+  reference = part a.has_reference a.reference;
+}
 
 -- the fault that an answer reports, where it is a refusal
 abbrev pub refusal_fault : Answer → Option Fault
-refusal_fault a = if a.status == REFUSED then option_map (fault_with a) (reason_of a.fault a.kind) else None
+refusal_fault a = if a.status == REFUSED then option_map (fault_with a) (reason_of a.fault a.kind)
+    else None
 
 -- the statuses
 abbrev pub IsStatus : ℕ → Type 0
-IsStatus n = (n ≡ DONE) ⊎ (n ≡ REFUSED) ⊎ (n ≡ WRONG_LENGTHS) ⊎ (n ≡ NO_MEMORY) ⊎ (n ≡ TOO_SMALL)
+IsStatus n = (n ≡ DONE) ⊎ (n ≡ REFUSED) ⊎ (n ≡ WRONG_LENGTHS) ⊎ (n ≡ NO_MEMORY)
+    ⊎ (n ≡ TOO_SMALL)
 
 -- the text of a fault, with a closing 0
 abbrev pub closed_text : Fault → List ℕ

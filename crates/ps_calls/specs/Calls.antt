@@ -17,7 +17,8 @@ use Rattle.ps_calls.specs.declared.check_answer.CheckAnswer.{CheckAnswer}
 use Rattle.ps_calls.specs.declared.checking.Found.{Found}
 
 -- the room begins with the linked file, and the answer has its summary and its length
-pub record Links (host : List ℕ) (libs : List (List ℕ)) (old new : List ℕ) (answer : Answer) : Type 0 where
+pub record Links (host : List ℕ) (libs : List (List ℕ)) (old new : List ℕ)
+    (answer : Answer) : Type 0 where
   pub file : List ℕ
   pub linked : LinkedFile host libs file
   pub begins : RoomBeginsWith file old new
@@ -31,20 +32,23 @@ pub record Refuses (host : List ℕ) (libs : List (List ℕ)) (answer : Answer) 
   pub told : answer ≡ refusal fault
 
 -- the linked file is longer than the room, and the answer has its length
-pub record LinkNeeds (host : List ℕ) (libs : List (List ℕ)) (room : List ℕ) (answer : Answer) : Type 0 where
+pub record LinkNeeds (host : List ℕ) (libs : List (List ℕ)) (room : List ℕ)
+    (answer : Answer) : Type 0 where
   pub file : List ℕ
   pub linked : LinkedFile host libs file
   pub less : length room < length file
   pub told : answer ≡ small_answer (length file)
 
 -- the room begins with the map of the link, and the answer has its length
-pub record Maps (host : List ℕ) (libs : List (List ℕ)) (old new : List ℕ) (answer : Answer) : Type 0 where
+pub record Maps (host : List ℕ) (libs : List (List ℕ)) (old new : List ℕ)
+    (answer : Answer) : Type 0 where
   pub accepted : NoneStands host libs
   pub begins : RoomBeginsWith (map_of host libs) old new
   pub told : answer ≡ text_answer (length (map_of host libs))
 
 -- the map is longer than the room, and the answer has its length
-pub record MapNeeds (host : List ℕ) (libs : List (List ℕ)) (room : List ℕ) (answer : Answer) : Type 0 where
+pub record MapNeeds (host : List ℕ) (libs : List (List ℕ)) (room : List ℕ)
+    (answer : Answer) : Type 0 where
   pub accepted : NoneStands host libs
   pub less : length room < length (map_of host libs)
   pub told : answer ≡ small_answer (length (map_of host libs))
@@ -68,13 +72,15 @@ pub record ShowNeeds (file room : List ℕ) (answer : Answer) : Type 0 where
   pub told : answer ≡ small_answer (length (show_of file))
 
 -- the room begins with the text of a report, and the answer has what was found
-pub record Reports (host : List ℕ) (libs : List (List ℕ)) (strict : Bool) (old new : List ℕ) (answer : CheckAnswer) : Type 0 where
+pub record Reports (host : List ℕ) (libs : List (List ℕ)) (strict : Bool) (old new : List ℕ)
+    (answer : CheckAnswer) : Type 0 where
   pub found : Found
   pub is : IsFound host libs strict old new found
   pub told : answer ≡ found_answer found
 
 -- the text of a report is longer than the room, and the answer has its length
-pub record ReportNeeds (host : List ℕ) (libs : List (List ℕ)) (room : List ℕ) (answer : CheckAnswer) : Type 0 where
+pub record ReportNeeds (host : List ℕ) (libs : List (List ℕ)) (room : List ℕ)
+    (answer : CheckAnswer) : Type 0 where
   pub size : ℕ
   pub long : IsLongReport room host libs size
   pub told : answer ≡ small_check_answer size

@@ -9,7 +9,8 @@ use Rattle.ps_calls.specs.declared.answer.TheConstants.{DONE, WRONG_LENGTHS, NO_
 use Rattle.ps_calls.specs.declared.checking.Found.{Found}
 use Rattle.ps_calls.specs.declared.check_answer.CheckAnswer.{CheckAnswer}
 use Rattle.ps_calls.specs.declared.outcome.Stop.{Stop}
-use Rattle.ps_calls.specs.declared.outcome.Stop.TheVariants.{Refused, WrongLengths, NoMemory, TooSmall}
+use Rattle.ps_calls.specs.declared.outcome.Stop.TheVariants.{Refused, WrongLengths, NoMemory}
+use Rattle.ps_calls.specs.declared.outcome.Stop.TheVariants.{TooSmall}
 
 -- a status, and nothing else
 abbrev pub bare_check : ℕ → CheckAnswer
@@ -29,7 +30,14 @@ verdict_answer (verdict.Refused fault) = refusal fault
 
 -- a report was written, of what was found
 abbrev pub found_answer : Found → CheckAnswer
-found_answer found = record (bare_check DONE) { ends_with = found.ends_with; warnings = found.warnings; written = found.size; needed = found.size; verdict = verdict_answer found.verdict }
+found_answer found = record (bare_check DONE) {
+  ends_with = found.ends_with;
+  warnings = found.warnings;
+  written = found.size;
+  needed =
+      found.size;
+  verdict = verdict_answer found.verdict;
+}
 
 -- the report has so many bytes, and there was less room
 abbrev pub small_check_answer : ℕ → CheckAnswer

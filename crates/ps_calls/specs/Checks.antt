@@ -1,12 +1,14 @@
 -- What a check finds and leaves in the caller's room, and why it leaves nothing.
 -- Source: this project's profile.
-use Rattle.std.specs.Prelude.{◌≡◌, ℕ, ◌+◌, ◌<◌, ⊤, All, Bool, IsUtf8, List, length, sum}
+use Rattle.std.specs.Prelude.{◌≡◌, ℕ, ◌+◌, ◌<◌, ⊤, All, Bool, IsUtf8, List}
+use Rattle.std.specs.Prelude.{length, sum}
 use Rattle.ps_report.specs.Verdicts.{IsVerdict, IsReported, Tells, check_status}
 use Rattle.ps_calls.specs.Libraries.{split}
 use Rattle.ps_calls.specs.Rooms.{RoomBeginsWith}
 use Rattle.ps_calls.specs.declared.checking.Found.{Found}
 use Rattle.ps_calls.specs.declared.outcome.Stop.{Stop}
-use Rattle.ps_calls.specs.declared.outcome.Stop.TheVariants.{Refused, WrongLengths, NoMemory, TooSmall}
+use Rattle.ps_calls.specs.declared.outcome.Stop.TheVariants.{Refused, WrongLengths, NoMemory}
+use Rattle.ps_calls.specs.declared.outcome.Stop.TheVariants.{TooSmall}
 
 -- names of these lengths add up to what is given, and each is UTF-8
 abbrev pub AreNames : List ℕ → List ℕ → Type 0
@@ -15,19 +17,24 @@ AreNames names lengths = (sum lengths ≡ length names) × All IsUtf8 (split nam
 -- libraries add up to what is given, and there is one name for the host and one for each of them
 abbrev pub IsCheckable : List ℕ → List ℕ → List ℕ → List ℕ → Type 0
 IsCheckable libs lengths names name_lengths =
-    (sum lengths ≡ length libs) × (length name_lengths ≡ 1 + length lengths) × AreNames names name_lengths
+    (sum lengths ≡ length libs) × (length name_lengths ≡ 1 + length lengths)
+    × AreNames names name_lengths
 
 -- the verdict is right and the room begins with a text that has its line, and what is found has the
 -- length of that text, and the status that goes with its warnings
-abbrev pub IsFound : List ℕ → List (List ℕ) → Bool → List ℕ → List ℕ → Found → Type 0
+abbrev pub IsFound : List ℕ → List (List ℕ) → Bool → List ℕ → List ℕ → Found
+    → Type 0
 IsFound host libs strict old new found =
-    (text : List ℕ) × IsVerdict host libs found.verdict × Tells text found.verdict × RoomBeginsWith text old new
-    × (found.size ≡ length text) × (found.ends_with ≡ check_status strict found.warnings found.verdict)
+    (text : List ℕ) × IsVerdict host libs found.verdict × Tells text found.verdict
+    × RoomBeginsWith text old new
+    × (found.size ≡ length text)
+    × (found.ends_with ≡ check_status strict found.warnings found.verdict)
 
 -- the room is shorter than a text that has the line of the right verdict
 abbrev pub IsLongReport : List ℕ → List ℕ → List (List ℕ) → ℕ → Type 0
 IsLongReport room host libs size =
-    (text : List ℕ) × (strict : Bool) × (status : ℕ) × IsReported host libs strict status text × (size ≡ length text) × (length room < size)
+    (text : List ℕ) × (strict : Bool) × (status : ℕ)
+    × IsReported host libs strict status text × (size ≡ length text) × (length room < size)
 
 -- no report of these files is put into this room
 abbrev pub StopsReport : List ℕ → List ℕ → List (List ℕ) → Stop → Type 0
@@ -37,11 +44,14 @@ StopsReport room host libs NoMemory = ⊤
 StopsReport room host libs (TooSmall size) = IsLongReport room host libs size
 
 -- the same of a call whose names and libraries are one after another
-abbrev pub StopsCheck : List ℕ → List ℕ → List ℕ → List ℕ → List ℕ → List ℕ → Stop → Type 0
+abbrev pub StopsCheck : List ℕ → List ℕ → List ℕ → List ℕ → List ℕ → List ℕ
+    → Stop → Type 0
 StopsCheck room host libs lengths names name_lengths (Refused fault) = ⊥
-StopsCheck room host libs lengths names name_lengths WrongLengths = (IsCheckable libs lengths names name_lengths → ⊥)
+StopsCheck room host libs lengths names name_lengths WrongLengths =
+    (IsCheckable libs lengths names name_lengths → ⊥)
 StopsCheck room host libs lengths names name_lengths NoMemory = ⊤
-StopsCheck room host libs lengths names name_lengths (TooSmall size) = IsCheckable libs lengths names name_lengths × IsLongReport room host (split libs lengths) size
+StopsCheck room host libs lengths names name_lengths (TooSmall size) =
+    IsCheckable libs lengths names name_lengths × IsLongReport room host (split libs lengths) size
 
 -- why names are no texts
 abbrev pub IsUnreadable : List (List ℕ) → Stop → Type 0

@@ -8,7 +8,9 @@ use Rattle.ps_calls.specs.declared.outcome.Done.TheVariants.{Linked, Text}
 
 -- the room begins with the linked file
 abbrev pub IsLinked : List ℕ → List (List ℕ) → List ℕ → List ℕ → Done → Type 0
-IsLinked host libs old new done = (file : List ℕ) × (LinkedFile host libs file × (RoomBeginsWith file old new × (done ≡ Linked (summary_of host libs) (length file))))
+IsLinked host libs old new done = (file : List ℕ)
+    × (LinkedFile host libs file × (RoomBeginsWith file old new
+    × (done ≡ Linked (summary_of host libs) (length file))))
 
 -- the room begins with this text
 abbrev pub IsText : List ℕ → List ℕ → List ℕ → Done → Type 0

@@ -7,7 +7,8 @@ use Rattle.ps_calls.specs.declared.answer.Answer.{Answer}
 use Rattle.ps_calls.specs.declared.outcome.Done.{Done}
 use Rattle.ps_calls.specs.declared.outcome.Done.TheVariants.{Linked, Text}
 use Rattle.ps_calls.specs.declared.outcome.Stop.{Stop}
-use Rattle.ps_calls.specs.declared.outcome.Stop.TheVariants.{Refused, WrongLengths, NoMemory, TooSmall}
+use Rattle.ps_calls.specs.declared.outcome.Stop.TheVariants.{Refused, WrongLengths, NoMemory}
+use Rattle.ps_calls.specs.declared.outcome.Stop.TheVariants.{TooSmall}
 
 -- the answer of a call that was done
 abbrev pub done_answer : Done → Answer

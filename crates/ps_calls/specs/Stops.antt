@@ -1,6 +1,7 @@
 -- Why a call leaves the caller's room as it was.
 -- Source: this project's profile.
-use Rattle.std.specs.Prelude.{◌≡◌, ◌≢◌, ℕ, ◌<◌, ◌≤◌, List, length, sum, Some, None}
+use Rattle.std.specs.Prelude.{◌≡◌, ◌≢◌, ℕ, ◌<◌, ◌≤◌, List, length, sum}
+use Rattle.std.specs.Prelude.{Some, None}
 use Rattle.ps_resolve.specs.Parts.{HasItsParts}
 use Rattle.ps_resolve.specs.Sources.{order_of}
 use Rattle.ps_resolve.specs.Standing.{IsFirst, NoneStands, NoneStandsInReading}
@@ -13,7 +14,8 @@ use Rattle.ps_calls.specs.Libraries.{split}
 use Rattle.ps_calls.specs.declared.libraries.TheConstants.{LIBRARIES_IN_PLACE}
 use Rattle.ps_calls.specs.declared.linking.TheConstants.{LINKED_MAX}
 use Rattle.ps_calls.specs.declared.outcome.Stop.{Stop}
-use Rattle.ps_calls.specs.declared.outcome.Stop.TheVariants.{Refused, WrongLengths, NoMemory, TooSmall}
+use Rattle.ps_calls.specs.declared.outcome.Stop.TheVariants.{Refused, WrongLengths, NoMemory}
+use Rattle.ps_calls.specs.declared.outcome.Stop.TheVariants.{TooSmall}
 
 -- the error of a step that writes nothing
 abbrev pub stop_of : LinkError → Stop
@@ -28,17 +30,22 @@ IsAbove size bytes room = (size ≡ length bytes) × (length room < size)
 -- nothing is linked into this room: the first fault of all, no memory where the files were read
 -- without a fault, or a linked file that is longer
 abbrev pub StopsLink : List ℕ → List ℕ → List (List ℕ) → Stop → Type 0
-StopsLink room host libs (Refused fault) = IsFirst host libs fault × HasItsParts (order_of host) host libs fault
+StopsLink room host libs (Refused fault) =
+    IsFirst host libs fault × HasItsParts (order_of host) host libs fault
 StopsLink room host libs WrongLengths = ⊥
 StopsLink room host libs NoMemory = NoneStandsInReading host libs
-StopsLink room host libs (TooSmall size) = (size ≤ LINKED_MAX) × ((file : List ℕ) × (LinkedFile host libs file × IsAbove size file room))
+StopsLink room host libs (TooSmall size) =
+    (size ≤ LINKED_MAX) × ((file : List ℕ)
+    × (LinkedFile host libs file × IsAbove size file room))
 
 -- the same of a map
 abbrev pub StopsMap : List ℕ → List ℕ → List (List ℕ) → Stop → Type 0
-StopsMap room host libs (Refused fault) = IsFirst host libs fault × HasItsParts (order_of host) host libs fault
+StopsMap room host libs (Refused fault) =
+    IsFirst host libs fault × HasItsParts (order_of host) host libs fault
 StopsMap room host libs WrongLengths = ⊥
 StopsMap room host libs NoMemory = NoneStandsInReading host libs
-StopsMap room host libs (TooSmall size) = NoneStands host libs × IsAbove size (map_of host libs) room
+StopsMap room host libs (TooSmall size) =
+    NoneStands host libs × IsAbove size (map_of host libs) room
 
 -- the same of what a code file has
 abbrev pub StopsShow : List ℕ → List ℕ → Stop → Type 0
@@ -49,17 +56,22 @@ StopsShow room file (TooSmall size) = (show_fault file ≡ None) × IsAbove size
 
 -- the same of a call whose libraries are one after another: more of them than have a place on the
 -- stack need memory before they are read
-abbrev pub StopsCall : (List (List ℕ) → Stop → Type 0) → List ℕ → List ℕ → Stop → Type 0
-StopsCall P libs lengths (Refused fault) = (sum lengths ≡ length libs) × P (split libs lengths) (Refused fault)
+abbrev pub StopsCall : (List (List ℕ) → Stop → Type 0) → List ℕ → List ℕ → Stop
+    → Type 0
+StopsCall P libs lengths (Refused fault) =
+    (sum lengths ≡ length libs) × P (split libs lengths) (Refused fault)
 StopsCall P libs lengths WrongLengths = sum lengths ≢ length libs
-StopsCall P libs lengths NoMemory = (sum lengths ≡ length libs) × (length lengths ≤ LIBRARIES_IN_PLACE → P (split libs lengths) NoMemory)
-StopsCall P libs lengths (TooSmall size) = (sum lengths ≡ length libs) × P (split libs lengths) (TooSmall size)
+StopsCall P libs lengths NoMemory = (sum lengths ≡ length libs)
+    × (length lengths ≤ LIBRARIES_IN_PLACE → P (split libs lengths) NoMemory)
+StopsCall P libs lengths (TooSmall size) =
+    (sum lengths ≡ length libs) × P (split libs lengths) (TooSmall size)
 
 -- why libraries that are one after another are not taken apart
 abbrev pub IsUnsplit : List ℕ → List ℕ → Stop → Type 0
 IsUnsplit libs lengths (Refused fault) = ⊥
 IsUnsplit libs lengths WrongLengths = sum lengths ≢ length libs
-IsUnsplit libs lengths NoMemory = (sum lengths ≡ length libs) × (LIBRARIES_IN_PLACE < length lengths)
+IsUnsplit libs lengths NoMemory = (sum lengths ≡ length libs)
+    × (LIBRARIES_IN_PLACE < length lengths)
 IsUnsplit libs lengths (TooSmall size) = ⊥
 
 -- these bytes are more than there is room for

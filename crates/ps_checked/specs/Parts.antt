@@ -11,4 +11,5 @@ part_words part.Plain = codes "linked already, copied as it is"
 part_words part.Host = codes "the host program"
 part_words part.Unit = codes "a unit in the host file"
 part_words part.Wanted = codes "a unit that the host wants"
-part_words (part.Added asker rec) = codes "a unit that record " ++ (decimal rec ++ (codes " of " ++ (shown_name asker ++ codes " requests")))
+part_words (part.Added asker rec) = codes "a unit that record "
+    ++ (decimal rec ++ (codes " of " ++ (shown_name asker ++ codes " requests")))

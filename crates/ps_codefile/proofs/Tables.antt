@@ -1,55 +1,86 @@
 -- The words and the tables of a code, procedure by procedure.
-use Rattle.std.proofs.Common.{◌≡◌, ℕ, suc, ◌-◌, ◌+◌, ◌*◌, ◌<◌, ◌≤◌, ◌==◌, ◌||◌, List, [], ◌∷◌, Bool, false, Option, Some, None, get_or, length, refl, sym, ◌∙◌, ap, arith}
+use Rattle.std.proofs.Common.{◌≡◌, ℕ, suc, ◌-◌, ◌+◌, ◌*◌, ◌<◌, ◌≤◌}
+use Rattle.std.proofs.Common.{◌==◌, ◌||◌, List, [], ◌∷◌, Bool, false, Option, Some}
+use Rattle.std.proofs.Common.{None, get_or, length, refl, sym, ◌∙◌, ap, arith}
 use Rattle.std.specs.List.{list_any, filter_map, range_with_len}
 use Rattle.std.proofs.lemmas.List.FromFn.{get_or-map-range_with_len, length-map-range_with_len}
 use Rattle.std.proofs.lemmas.Bool.Decides.{nat_tests}
 use Rattle.ps_words.specs.declared.order.Order.{Order}
-use Rattle.ps_codefile.specs.Procedures.{content_of, is_placed, numbers, procedures, table_of, tables}
+use Rattle.ps_codefile.specs.Procedures.{content_of, is_placed, numbers, procedures, table_of}
+use Rattle.ps_codefile.specs.Procedures.{tables}
 use Rattle.ps_codefile.specs.Places.{HasTables, HasWords, IsWhole, passes}
 use Rattle.ps_codefile.proofs.Alls.{all_at}
 
 -- one of these numbers has a table whose place passes a test just where one of their tables does
-any_of : (test : ℕ → Bool) (f : ℕ → Option ℕ) (ns : List ℕ) → list_any (λ n. passes test (f n)) ns ≡ list_any test (filter_map f ns)
+any_of : (test : ℕ → Bool) (f : ℕ → Option ℕ) (ns : List ℕ)
+    → list_any (λ n. passes test (f n)) ns ≡ list_any test (filter_map f ns)
 any_of test f [] = refl
 any_of test f (n ∷ ns) = at (f n) refl (any_of test f ns)
   where
-    at : (o : Option ℕ) → f n ≡ o → list_any (λ m. passes test (f m)) ns ≡ list_any test (filter_map f ns) → list_any (λ m. passes test (f m)) (n ∷ ns) ≡ list_any test (filter_map f (n ∷ ns))
+    at : (o : Option ℕ) → f n ≡ o → list_any (λ m. passes test (f m)) ns
+        ≡ list_any test (filter_map f ns)
+        → list_any (λ m. passes test (f m)) (n ∷ ns)
+        ≡ list_any test (filter_map f (n ∷ ns))
     at None is rest = rw is rest
     at (Some t) is rest = rw is (ap (λ (b : Bool). test t || b) rest)
 
 -- and so for the numbers of all procedures
-pub any_table : (test : ℕ → Bool) (order : Order) (code : List ℕ) → list_any (λ p. passes test (table_of order code p)) (numbers code) ≡ list_any test (tables order code)
+pub any_table : (test : ℕ → Bool) (order : Order) (code : List ℕ)
+    → list_any (λ p. passes test (table_of order code p)) (numbers code)
+    ≡ list_any test (tables order code)
 any_table test order code = any_of test (table_of order code) (numbers code)
 
 -- there is a word for each procedure
-pub count : (order : Order) (code words : List ℕ) → HasWords order code words → length words ≡ procedures code
-count order code words has = ap (λ (ws : List ℕ). length ws) has.all ∙ length-map-range_with_len (content_of order code) 1 (procedures code)
+pub count : (order : Order) (code words : List ℕ) → HasWords order code words
+    → length words ≡ procedures code
+count order code words has = ap (λ (ws : List ℕ). length ws) has.all
+    ∙ length-map-range_with_len (content_of order code) 1 (procedures code)
 
 -- that of procedure p
-pub word_at : (order : Order) (code words : List ℕ) (p d : ℕ) → HasWords order code words → 1 ≤ p → p ≤ procedures code → get_or words (p - 1) d ≡ content_of order code p
+pub word_at : (order : Order) (code words : List ℕ) (p d : ℕ) → HasWords order code words
+    → 1 ≤ p → p ≤ procedures code → get_or words (p - 1) d ≡ content_of order code p
 word_at order code words p d has low high =
     ap (λ (ws : List ℕ). get_or ws (p - 1) d) has.all
-    ∙ get_or-map-range_with_len (content_of order code) 1 (procedures code) (p - 1) p d (omega (arith, low, high)) (omega (arith, low))
+    ∙ get_or-map-range_with_len (content_of order code) 1 (procedures code) (p - 1) p d
+    (omega (arith, low, high)) (omega (arith, low))
 
 -- the table of procedure p lies in the code
-pub whole_table : (order : Order) (code : List ℕ) (p : ℕ) → HasTables order code → 1 ≤ p → p ≤ procedures code → (content_of order code p == 0) ≡ false → IsWhole code (length code - 2 - 2 * p - content_of order code p)
+pub whole_table : (order : Order) (code : List ℕ) (p : ℕ) → HasTables order code → 1 ≤ p
+    → p ≤ procedures code → (content_of order code p == 0) ≡ false
+    → IsWhole code (length code - 2 - 2 * p - content_of order code p)
 whole_table order code p has low high some =
     let placed = all_at (is_placed order code) (procedures code) has.placed p low high in
-    record { low = grind (arith, nat_tests, placed, some); high = grind (arith, nat_tests, placed, some) }
+    record {
+      low = grind (arith, nat_tests, placed, some);
+      high =
+          grind (arith, nat_tests, placed, some);
+    }
 
 -- so its word's content is not more than the word's place
-pub below_table : (order : Order) (code : List ℕ) (p : ℕ) → HasTables order code → 1 ≤ p → p ≤ procedures code → (content_of order code p == 0) ≡ false → content_of order code p ≤ length code - 2 - 2 * p
-below_table order code p has low high some = let table = whole_table order code p has low high some in omega (arith, table.low)
+pub below_table : (order : Order) (code : List ℕ) (p : ℕ) → HasTables order code → 1 ≤ p
+    → p ≤ procedures code → (content_of order code p == 0) ≡ false
+    → content_of order code p ≤ length code - 2 - 2 * p
+below_table order code p has low high some = let table = whole_table order code p has low high some
+    in omega (arith, table.low)
 
 -- whose word is in this list
-pub whole_at : (order : Order) (code words : List ℕ) (p d : ℕ) → HasWords order code words → 1 ≤ p → p ≤ procedures code → (get_or words (p - 1) d == 0) ≡ false → IsWhole code (length code - 2 - 2 * p - get_or words (p - 1) d)
+pub whole_at : (order : Order) (code words : List ℕ) (p d : ℕ) → HasWords order code words
+    → 1 ≤ p → p ≤ procedures code → (get_or words (p - 1) d == 0) ≡ false
+    → IsWhole code (length code - 2 - 2 * p - get_or words (p - 1) d)
 whole_at order code words p d has low high some =
-    rw (word_at order code words p d has low high) (whole_table order code p has.tables low high (sym (ap (λ (w : ℕ). w == 0) (word_at order code words p d has low high)) ∙ some))
+    rw (word_at order code words p d has low high)
+    (whole_table order code p has.tables low high
+    (sym (ap (λ (w : ℕ). w == 0) (word_at order code words p d has low high)) ∙ some))
 
 -- so the word's content is not more than the word's place
-pub below_at : (order : Order) (code words : List ℕ) (p d : ℕ) → HasWords order code words → 1 ≤ p → p ≤ procedures code → (get_or words (p - 1) d == 0) ≡ false → get_or words (p - 1) d ≤ length code - 2 - 2 * p
-below_at order code words p d has low high some = let table = whole_at order code words p d has low high some in omega (arith, table.low)
+pub below_at : (order : Order) (code words : List ℕ) (p d : ℕ) → HasWords order code words
+    → 1 ≤ p → p ≤ procedures code → (get_or words (p - 1) d == 0) ≡ false
+    → get_or words (p - 1) d ≤ length code - 2 - 2 * p
+below_at order code words p d has low high some = let table =
+    whole_at order code words p d has low high some in omega (arith, table.low)
 
 -- a number from p on passes a test just where p does or one after it
-pub any_from : (test : ℕ → Bool) (p e : ℕ) → p < e → list_any test (range_with_len p (e - p)) ≡ (test p || list_any test (range_with_len (p + 1) (e - (p + 1))))
+pub any_from : (test : ℕ → Bool) (p e : ℕ) → p < e
+    → list_any test (range_with_len p (e - p))
+    ≡ (test p || list_any test (range_with_len (p + 1) (e - (p + 1))))
 any_from test p e lt = let more : e - p ≡ suc (e - (p + 1)) = omega (arith, lt) in rw more refl

@@ -2,7 +2,10 @@
 -- each, the code and the link information of an entry.
 -- Source: UCSD Pascal II.0 manual, code file format. How the byte order is found, the roles, and
 -- the tail, which is copied unread, are this project's profile.
-use Rattle.std.specs.Prelude.{◌≡◌, Result, ℕ, ◌+◌, ◌*◌, ◌%◌, ◌==◌, ◌&&◌, ◌||◌, not, if◌then◌else◌, List, [], ◌∷◌, length, slice_index, slice_range, drop, map, nat_le, nat_lt, Bool, true, false, Ok, Err}
+use Rattle.std.specs.Prelude.{◌≡◌, Result, ℕ, ◌+◌, ◌*◌, ◌%◌, ◌==◌, ◌&&◌}
+use Rattle.std.specs.Prelude.{◌||◌, not, if◌then◌else◌, List, [], ◌∷◌, length}
+use Rattle.std.specs.Prelude.{slice_index, slice_range, drop, map, nat_le, nat_lt, Bool, true}
+use Rattle.std.specs.Prelude.{false, Ok, Err}
 use Rattle.std.specs.List.{list_all}
 use Rattle.ps_words.specs.Words.{word_at, blocks}
 use Rattle.ps_words.specs.declared.order.Order.{Order}
@@ -18,7 +21,8 @@ use Rattle.ps_codefile.specs.declared.dictionary_layout.TheConstants.{NAMES, KIN
 
 -- the slots of a dictionary
 abbrev pub slots : List ℕ
-slots = 0 ∷ 1 ∷ 2 ∷ 3 ∷ 4 ∷ 5 ∷ 6 ∷ 7 ∷ 8 ∷ 9 ∷ 10 ∷ 11 ∷ 12 ∷ 13 ∷ 14 ∷ 15 ∷ []
+slots = 0 ∷ 1 ∷ 2 ∷ 3 ∷ 4 ∷ 5 ∷ 6 ∷ 7 ∷ 8 ∷ 9 ∷ 10 ∷ 11 ∷ 12 ∷ 13 ∷ 14
+    ∷ 15 ∷ []
 
 -- the length of a block in bytes, and so of the dictionary
 abbrev pub block_len : ℕ
@@ -52,7 +56,8 @@ abbrev pub file_order : List ℕ → FileOrder
 file_order file =
     let firsts_zero = list_all (λ i. slice_index file (kinds_start + 2 * i) == 0) slots in
     let seconds_zero = list_all (λ i. slice_index file (kinds_start + 1 + 2 * i) == 0) slots in
-    if firsts_zero then (if seconds_zero then Zero else Ordered Big) else (if seconds_zero then Ordered Little else Mixed)
+    if firsts_zero then (if seconds_zero then Zero else Ordered Big)
+    else (if seconds_zero then Ordered Little else Mixed)
 
 -- the name of slot i
 abbrev pub name_at : List ℕ → ℕ → List ℕ
@@ -94,7 +99,8 @@ role_of_kind kind =
 -- Any other slot of length 0 is empty. The rest are filled, and their kind decides.
 abbrev pub role_of : Entry → Result Role Reason
 role_of e =
-    if e.kind == 3 && (e.address == 0 || e.length == 0) && not (is_nameless e.name) then Ok role.Wanted
+    if e.kind == 3 && (e.address == 0 || e.length == 0) && not (is_nameless e.name)
+    then Ok role.Wanted
     else (if e.kind == 3 && (e.address == 0 || e.length == 0) then Ok role.Empty
     else (if e.length == 0 then Ok role.Empty else role_of_kind e.kind))
 
@@ -110,7 +116,8 @@ kind_needs_linking kind = kind == 1 || kind == 3
 -- a segment with link information has at least one procedure word's place and a whole number of
 -- words
 abbrev pub has_bad_length : Entry → Bool
-has_bad_length e = nat_lt MAX_CODE_LEN e.length || (kind_needs_linking e.kind && (e.length % 2 == 1 || nat_lt e.length 4))
+has_bad_length e = nat_lt MAX_CODE_LEN e.length
+    || (kind_needs_linking e.kind && (e.length % 2 == 1 || nat_lt e.length 4))
 
 -- the code of a filled entry, or the first reason why it has none
 abbrev pub code_of : List ℕ → Entry → Result (List ℕ) Reason
@@ -139,7 +146,8 @@ opened_as file Mixed = Err reason.NoOrder
 
 -- a host, or any file read by itself: one with no kind but 0 has no host segment
 abbrev pub opened_alone : List ℕ → Result OpenedFile Reason
-opened_alone file = if nat_lt (length file) block_len then Err reason.ShortFile else opened_as file (file_order file)
+opened_alone file = if nat_lt (length file) block_len then Err reason.ShortFile
+    else opened_as file (file_order file)
 
 -- the two byte orders are the same
 abbrev pub same_order : Order → Order → Bool
@@ -151,12 +159,14 @@ same_order Big Big = true
 -- a file read in the host's order, where its kind words say that order or nothing
 abbrev pub opened_beside_as : Order → List ℕ → FileOrder → Result OpenedFile Reason
 opened_beside_as host file Zero = Ok (record { order = host; file = file })
-opened_beside_as host file (Ordered order) = if same_order order host then Ok (record { order = host; file = file }) else Err reason.OrderMismatch
+opened_beside_as host file (Ordered order) = if same_order order host
+    then Ok (record { order = host; file = file }) else Err reason.OrderMismatch
 opened_beside_as host file Mixed = Err reason.NoOrder
 
 -- a library, which has the host's byte order or none of its own
 abbrev pub opened_beside : Order → List ℕ → Result OpenedFile Reason
-opened_beside host file = if nat_lt (length file) block_len then Err reason.ShortFile else opened_beside_as host file (file_order file)
+opened_beside host file = if nat_lt (length file) block_len then Err reason.ShortFile
+    else opened_beside_as host file (file_order file)
 
 -- this is the result, its value seen through a view
 abbrev pub IsViewOf : {X Y E : Type 0} → (X → Y) → Result X E → Result Y E → Type 0

@@ -2,7 +2,9 @@
 -- points to, and the places that no operand may cover.
 -- Source: UCSD Pascal II.0 manual, code file format. That the places are reserved is this project's
 -- profile.
-use Rattle.std.specs.Prelude.{ℕ, ◌+◌, ◌-◌, ◌*◌, ◌==◌, ◌&&◌, ◌||◌, not, if◌then◌else◌, List, length, slice_index, map, nat_le, nat_lt, Bool, Option, Some, None, Result, Ok, Err}
+use Rattle.std.specs.Prelude.{ℕ, ◌+◌, ◌-◌, ◌*◌, ◌==◌, ◌&&◌, ◌||◌, not}
+use Rattle.std.specs.Prelude.{if◌then◌else◌, List, length, slice_index, map, nat_le, nat_lt}
+use Rattle.std.specs.Prelude.{Bool, Option, Some, None, Result, Ok, Err}
 use Rattle.std.specs.List.{list_all, list_any, range_with_len, filter_map}
 use Rattle.std.specs.Option.{option_map}
 use Rattle.ps_words.specs.Words.{word_at}
@@ -36,7 +38,8 @@ table_of order code p =
 
 -- the data size of the outer block, procedure 1, in bytes: four words before its table's number
 abbrev pub outer_data_size : Order → List ℕ → Option ℕ
-outer_data_size order code = if procedures code == 0 then None else option_map (λ t. word_at order code (t - 8)) (table_of order code 1)
+outer_data_size order code = if procedures code == 0 then None
+    else option_map (λ t. word_at order code (t - 8)) (table_of order code 1)
 
 -- procedure p has no table, or one that begins in the code, eight bytes before its place, and ends
 -- before the dictionary
@@ -44,7 +47,8 @@ abbrev pub is_placed : Order → List ℕ → ℕ → Bool
 is_placed order code p =
     let content = content_of order code p in
     let place = length code - 2 - 2 * p in
-    content == 0 || (nat_le (content + 8) place && nat_lt (place - content + 1) (dictionary_start code))
+    content == 0 || (nat_le (content + 8) place
+    && nat_lt (place - content + 1) (dictionary_start code))
 
 -- the numbers of the procedures
 abbrev pub numbers : List ℕ → List ℕ
@@ -63,8 +67,12 @@ tables order code = filter_map (table_of order code) (numbers code)
 -- where the host's outer block, procedure 1, has no body; a native procedure's number is 0.
 abbrev pub tables_fault : Order → List ℕ → Bool → Option Reason
 tables_fault order code host =
-    if nat_lt (length code) (dictionary_len code) || not (list_all (is_placed order code) (numbers code)) || (host && (procedures code == 0 || content_of order code 1 == 0)) then Some reason.BadProcDict
-    else (if list_any (λ t. slice_index code t == 0) (tables order code) then Some reason.NativeProcedure else None)
+    if nat_lt (length code) (dictionary_len code)
+    || not (list_all (is_placed order code) (numbers code))
+    || (host && (procedures code == 0 || content_of order code 1 == 0))
+    then Some reason.BadProcDict
+    else (if list_any (λ t. slice_index code t == 0) (tables order code)
+    then Some reason.NativeProcedure else None)
 
 -- one of the ten bytes of the attribute table at t: the procedure number there, the lex level after
 -- it, four words before it
@@ -73,7 +81,8 @@ is_in_table p t = nat_le (t - 8) p && nat_le p (t + 1)
 
 -- a place that no operand may cover: the procedure dictionary, and each attribute table
 abbrev pub is_reserved : Order → List ℕ → ℕ → Bool
-is_reserved order code p = (nat_le (dictionary_start code) p && nat_lt p (length code)) || list_any (is_in_table p) (tables order code)
+is_reserved order code p = (nat_le (dictionary_start code) p && nat_lt p (length code))
+    || list_any (is_in_table p) (tables order code)
 
 -- A code whose words are read in this order, and whose procedure tables have no fault.
 pub record ProcedureTables : Type 0 where
@@ -87,4 +96,5 @@ unless (Some why) x = Err why
 
 -- the procedure tables of a code, the host segment's or another's, or their first fault
 abbrev pub read_tables : Order → List ℕ → Bool → Result ProcedureTables Reason
-read_tables order code host = unless (tables_fault order code host) (record { order = order; code = code })
+read_tables order code host = unless (tables_fault order code host)
+    (record { order = order; code = code })

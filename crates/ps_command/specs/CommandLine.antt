@@ -1,9 +1,11 @@
 -- The command line of `pslink`, as clap's contracts see it: the commands, and the arguments of
 -- each.
 -- Source: this project's profile.
-use Rattle.std.specs.Prelude.{◌≡◌, ◌⊎◌, List, [], ◌∷◌, Option, map, true, Some, codes}
+use Rattle.std.specs.Prelude.{◌≡◌, ◌⊎◌, List, [], ◌∷◌, Option, map, true, Some}
+use Rattle.std.specs.Prelude.{codes}
 use Rattle.std.specs.Borrow.{Bor}
-use Rattle.clap.specs.Words.{App, Kinds, Row, Rule, Text, fault_of, new_app, new_rule, subcommand_of, takes, with_rule, with_subcommand}
+use Rattle.clap.specs.Words.{App, Kinds, Row, Rule, Text, fault_of, new_app, new_rule}
+use Rattle.clap.specs.Words.{subcommand_of, takes, with_rule, with_subcommand}
 use Rattle.clap.specs.declared.error.ErrorKind.TheVariants.{DisplayHelp, DisplayVersion}
 use Rattle.clap.specs.declared.builder.ArgAction.TheVariants.{Set, SetTrue, Append}
 
@@ -17,7 +19,8 @@ libraries_rule = record (new_rule (codes "LIB")) { action = Some Append }
 
 -- `link HOST OUT [LIB]...`
 abbrev pub link_app : App
-link_app = with_rule (with_rule (with_rule (new_app (codes "link")) (file_rule (codes "HOST"))) (file_rule (codes "OUT"))) libraries_rule
+link_app = with_rule (with_rule (with_rule (new_app (codes "link")) (file_rule (codes "HOST")))
+    (file_rule (codes "OUT"))) libraries_rule
 
 -- a command that takes a host and libraries, as `NAME HOST [LIB]...`
 abbrev pub inputs_app : Text → App
@@ -25,7 +28,8 @@ inputs_app name = with_rule (with_rule (new_app name) (file_rule (codes "HOST"))
 
 -- `--references`
 abbrev pub references_rule : Rule
-references_rule = record (new_rule (codes "references")) { long = Some (codes "references"); action = Some SetTrue }
+references_rule = record (new_rule (codes "references"))
+    { long = Some (codes "references"); action = Some SetTrue }
 
 -- `--json`
 abbrev pub json_rule : Rule
@@ -41,7 +45,8 @@ show_app = with_rule (with_rule (new_app (codes "show")) (file_rule (codes "FILE
 
 -- `--strict`
 abbrev pub strict_rule : Rule
-strict_rule = record (new_rule (codes "strict")) { long = Some (codes "strict"); action = Some SetTrue }
+strict_rule = record (new_rule (codes "strict"))
+    { long = Some (codes "strict"); action = Some SetTrue }
 
 -- `--unit`
 abbrev pub unit_rule : Rule
@@ -49,7 +54,8 @@ unit_rule = record (new_rule (codes "unit")) { long = Some (codes "unit"); actio
 
 -- `check [--strict] [--unit] [--json] HOST [LIB]...`
 abbrev pub check_app : App
-check_app = with_rule (with_rule (with_rule (inputs_app (codes "check")) strict_rule) unit_rule) json_rule
+check_app = with_rule (with_rule (with_rule (inputs_app (codes "check")) strict_rule) unit_rule)
+    json_rule
 
 -- files, of which at least one has to be named
 abbrev pub files_rule : Rule
@@ -67,7 +73,9 @@ bare_app = record (new_app (codes "pslink")) {
 
 -- `pslink` with its five commands
 abbrev pub pslink_app : App
-pslink_app = with_subcommand (with_subcommand (with_subcommand (with_subcommand (with_subcommand bare_app link_app.top) map_app.top) show_app.top) check_app.top) list_app.top
+pslink_app = with_subcommand (with_subcommand
+    (with_subcommand (with_subcommand (with_subcommand bare_app link_app.top) map_app.top)
+    show_app.top) check_app.top) list_app.top
 
 -- the texts of arguments
 abbrev pub texts : List (Bor Text) → List Text
@@ -88,4 +96,5 @@ faults_in args = fault_of pslink_app args
 
 -- the help is asked for, or the version
 abbrev pub AskForText : List Text → Type 0
-AskForText args = (faults_in args ≡ DisplayHelp ∷ []) ⊎ (faults_in args ≡ DisplayVersion ∷ [])
+AskForText args = (faults_in args ≡ DisplayHelp ∷ [])
+    ⊎ (faults_in args ≡ DisplayVersion ∷ [])

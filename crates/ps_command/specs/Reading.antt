@@ -10,13 +10,18 @@ use Rattle.ps_command.specs.declared.files.FileFault.TheVariants as fault
 
 -- the bytes are all that the file gives which opening the path gave; `remaining` says what a file
 -- has left to give, if that is known
-abbrev pub Reads : {F : Type 0} → (List ℕ → F → Type 0) → (F → Option (List ℕ)) → List ℕ → List ℕ → Type 0
-Reads {F} opened remaining path bytes = (file : F) × opened path file × IfSome (remaining file) (λ left. bytes ≡ left)
+abbrev pub Reads : {F : Type 0} → (List ℕ → F → Type 0) → (F → Option (List ℕ))
+    → List ℕ → List ℕ → Type 0
+Reads {F} opened remaining path bytes = (file : F) × opened path file
+    × IfSome (remaining file) (λ left. bytes ≡ left)
 
 -- a file was created at the path, and was closed there once it had taken these bytes and no others;
 -- `contents` says what a file has taken, if that is known
-abbrev pub Writes : {F : Type 0} → (List ℕ → F → Type 0) → (List ℕ → F → Type 0) → (F → Option (List ℕ)) → List ℕ → List ℕ → Type 0
-Writes {F} created closed contents path bytes = (first : F) × (last : F) × created path first × closed path last × Appends (contents first) (contents last) bytes
+abbrev pub Writes : {F : Type 0} → (List ℕ → F → Type 0) → (List ℕ → F → Type 0)
+    → (F → Option (List ℕ)) → List ℕ → List ℕ → Type 0
+Writes {F} created closed contents path bytes =
+    (first : F) × (last : F) × created path first × closed path last
+    × Appends (contents first) (contents last) bytes
 
 -- a file has more to give, if that is known, than a program reads of it
 abbrev pub IsTooLong : Option (List ℕ) → Type 0
@@ -30,13 +35,15 @@ read_error path fault.Memory = error.Memory
 
 -- Why nothing was read at a path: it cannot be read; or it was opened, and has too much to give; or
 -- it was opened, and memory ran out.
-abbrev pub IsReadError : {F : Type 0} → (List ℕ → F → Type 0) → (F → Option (List ℕ)) → Bor (List ℕ) → CommandError → Type 0
+abbrev pub IsReadError : {F : Type 0} → (List ℕ → F → Type 0) → (F → Option (List ℕ))
+    → Bor (List ℕ) → CommandError → Type 0
 IsReadError {F} opened remaining path (error.Refused at) = ⊥
 IsReadError {F} opened remaining path (error.Usage text) = ⊥
 IsReadError {F} opened remaining path (error.NotText argument) = ⊥
 IsReadError {F} opened remaining path (error.Read at cause) = at ≡ path
 IsReadError {F} opened remaining path (error.Unreadable at cause) = ⊥
-IsReadError {F} opened remaining path (error.TooLong at) = (at ≡ path) × (file : F) × opened path.now file × IsTooLong (remaining file)
+IsReadError {F} opened remaining path (error.TooLong at) =
+    (at ≡ path) × (file : F) × opened path.now file × IsTooLong (remaining file)
 IsReadError {F} opened remaining path (error.Write at) = ⊥
 IsReadError {F} opened remaining path error.StandardOutput = ⊥
 IsReadError {F} opened remaining path error.Memory = (file : F) × opened path.now file

@@ -1,6 +1,7 @@
 -- What a request stands for, by the command and the files that clap finds named in the arguments.
 -- Source: this project's profile.
-use Rattle.std.specs.Prelude.{◌≡◌, ◌⊎◌, Any, Bool, true, false, List, [], Option, Some, None, codes, map, unwrap_or, ⊤}
+use Rattle.std.specs.Prelude.{◌≡◌, ◌⊎◌, Any, Bool, true, false, List, [], Option, Some}
+use Rattle.std.specs.Prelude.{None, codes, map, unwrap_or, ⊤}
 use Rattle.std.specs.List.{list_any}
 use Rattle.std.specs.Option.{option_map_or}
 use Rattle.std.specs.Str.{bytes_eq}
@@ -29,7 +30,8 @@ is_library path libraries = list_any (λ library. bytes_eq library path) librari
 
 -- the flag of this name is given
 abbrev pub has_flag : Text → List Row → Bool
-has_flag name rows = option_map_or (λ value. bytes_eq value (codes "true")) (first_of name rows) false
+has_flag name rows = option_map_or (λ value. bytes_eq value (codes "true"))
+    (first_of name rows) false
 
 -- the flags `--strict`, `--unit`, `--references` and `--json` are given
 abbrev pub is_strict : List Row → Bool
@@ -49,21 +51,33 @@ is_json rows = has_flag (codes "json") rows
 abbrev pub IsNamedCommand : {A : Type 0} → Request A → Option (Text × List Row) → Type 0
 IsNamedCommand (request.Help text) named = ⊥
 IsNamedCommand request.Version named = ⊥
-IsNamedCommand (request.Link inputs out) named = (rows : List Row) × (named ≡ Some (codes "link", rows)) × NamesInputs inputs rows × (first_of (codes "OUT") rows ≡ Some out.now)
+IsNamedCommand (request.Link inputs out) named =
+    (rows : List Row) × (named ≡ Some (codes "link", rows)) × NamesInputs inputs rows
+    × (first_of (codes "OUT") rows ≡ Some out.now)
     × (is_library out.now (libraries_of rows) ≡ false)
-IsNamedCommand (request.Map inputs references json) named = (rows : List Row) × (named ≡ Some (codes "map", rows)) × NamesInputs inputs rows × (references ≡ has_references rows) × (json ≡ is_json rows)
-IsNamedCommand (request.Show file json) named = (rows : List Row) × (named ≡ Some (codes "show", rows)) × (first_of (codes "FILE") rows ≡ Some file.now) × (json ≡ is_json rows)
-IsNamedCommand (request.Check inputs strict unit json) named = (rows : List Row) × (named ≡ Some (codes "check", rows)) × NamesInputs inputs rows × (strict ≡ is_strict rows) × (unit ≡ is_unit rows) × (json ≡ is_json rows)
-IsNamedCommand (request.List files json) named = (rows : List Row) × (named ≡ Some (codes "list", rows)) × (map (λ path. path.now) files.items ≡ files_of rows) × (json ≡ is_json rows)
+IsNamedCommand (request.Map inputs references json) named =
+    (rows : List Row) × (named ≡ Some (codes "map", rows)) × NamesInputs inputs rows
+    × (references ≡ has_references rows) × (json ≡ is_json rows)
+IsNamedCommand (request.Show file json) named =
+    (rows : List Row) × (named ≡ Some (codes "show", rows))
+    × (first_of (codes "FILE") rows ≡ Some file.now) × (json ≡ is_json rows)
+IsNamedCommand (request.Check inputs strict unit json) named =
+    (rows : List Row) × (named ≡ Some (codes "check", rows)) × NamesInputs inputs rows
+    × (strict ≡ is_strict rows) × (unit ≡ is_unit rows) × (json ≡ is_json rows)
+IsNamedCommand (request.List files json) named =
+    (rows : List Row) × (named ≡ Some (codes "list", rows))
+    × (map (λ path. path.now) files.items ≡ files_of rows) × (json ≡ is_json rows)
 
 -- the help or the version, or the command that is named
 abbrev pub IsAsked : {A : Type 0} → Request A → Option (Text × List Row) → Type 0
 IsAsked {A} (request.Help text) named = ⊤
 IsAsked {A} request.Version named = ⊤
 IsAsked {A} (request.Link inputs out) named = IsNamedCommand {A = A} (request.Link inputs out) named
-IsAsked {A} (request.Map inputs references json) named = IsNamedCommand {A = A} (request.Map inputs references json) named
+IsAsked {A} (request.Map inputs references json) named =
+    IsNamedCommand {A = A} (request.Map inputs references json) named
 IsAsked {A} (request.Show file json) named = IsNamedCommand {A = A} (request.Show file json) named
-IsAsked {A} (request.Check inputs strict unit json) named = IsNamedCommand {A = A} (request.Check inputs strict unit json) named
+IsAsked {A} (request.Check inputs strict unit json) named =
+    IsNamedCommand {A = A} (request.Check inputs strict unit json) named
 IsAsked {A} (request.List files json) named = IsNamedCommand {A = A} (request.List files json) named
 
 -- the help or the version only where clap may answer that it is asked for, and a command only where
@@ -79,7 +93,8 @@ Answers (request.List files json) faults = faults ≡ []
 
 -- the command that is named leaves out a file that it needs, or no command is named
 abbrev pub LeavesOut : Option (Text × List Row) → Type 0
-LeavesOut named = (rows : List Row) → (named ≡ Some (codes "link", rows) → (first_of (codes "HOST") rows ≡ None) ⊎ (first_of (codes "OUT") rows ≡ None))
+LeavesOut named = (rows : List Row) → (named ≡ Some (codes "link", rows)
+    → (first_of (codes "HOST") rows ≡ None) ⊎ (first_of (codes "OUT") rows ≡ None))
     × (named ≡ Some (codes "map", rows) → first_of (codes "HOST") rows ≡ None)
     × (named ≡ Some (codes "show", rows) → first_of (codes "FILE") rows ≡ None)
     × (named ≡ Some (codes "check", rows) → first_of (codes "HOST") rows ≡ None)
@@ -87,12 +102,14 @@ LeavesOut named = (rows : List Row) → (named ≡ Some (codes "link", rows) →
 
 -- a link is named that would write a file which is named as a library too
 abbrev pub WritesLibrary : Option (Text × List Row) → Type 0
-WritesLibrary named = (rows : List Row) × (out : Text) × (named ≡ Some (codes "link", rows)) × (first_of (codes "OUT") rows ≡ Some out) × (is_library out (libraries_of rows) ≡ true)
+WritesLibrary named = (rows : List Row) × (out : Text) × (named ≡ Some (codes "link", rows))
+    × (first_of (codes "OUT") rows ≡ Some out) × (is_library out (libraries_of rows) ≡ true)
 
 -- a link is named that would write a file which is a library too, since both paths lead there, as
 -- `one_file` says
 abbrev pub WritesLibraryFile : (Text → Text → Type 0) → Option (Text × List Row) → Type 0
-WritesLibraryFile one_file named = (rows : List Row) × (out : Text) × (named ≡ Some (codes "link", rows)) × (first_of (codes "OUT") rows ≡ Some out)
+WritesLibraryFile one_file named = (rows : List Row) × (out : Text)
+    × (named ≡ Some (codes "link", rows)) × (first_of (codes "OUT") rows ≡ Some out)
     × Any (one_file out) (libraries_of rows)
 
 -- a link is named that would write a library, by its path or by another that leads there

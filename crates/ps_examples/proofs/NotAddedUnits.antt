@@ -1,6 +1,8 @@
 -- Queues of names and lists of segments that are not those that a link adds, computed.
-use Rattle.std.proofs.Common.{◌≡◌, ℕ, zero, suc, ◌+◌, ◌<◌, List, [], ◌∷◌, ◌++◌, length, refl, sym, subst, inl, inr, ◌∙◌, arith}
-use Rattle.ps_examples.specs.Files.{host, library_naming_itself, library_of_used, util_information, aux}
+use Rattle.std.proofs.Common.{◌≡◌, ℕ, zero, suc, ◌+◌, ◌<◌, List, [], ◌∷◌}
+use Rattle.std.proofs.Common.{◌++◌, length, refl, sym, subst, inl, inr, ◌∙◌, arith}
+use Rattle.ps_examples.specs.Files.{host, library_naming_itself, library_of_used, util_information}
+use Rattle.ps_examples.specs.Files.{aux}
 use Rattle.ps_examples.specs.Segments.{demo_segment, util_segment, using_segment, aux_reference}
 use Rattle.ps_examples.proofs.NotLinked.{same}
 use Rattle.ps_examples.proofs.NotOrigins.{no_name, count_aux, state_aux, blank_aux}
@@ -12,28 +14,42 @@ use Rattle.ps_resolve.specs.declared.reading.added.UnitReference.{UnitReference}
 use Rattle.ps_words.specs.declared.order.Order.TheVariants.{Little}
 
 -- the host's own segments, where AUX of the library names itself and where UTIL names AUX
-own_of_itself : own_segments Little host (library_naming_itself ∷ []) ≡ demo_segment ∷ util_segment ∷ []
+own_of_itself : own_segments Little host (library_naming_itself ∷ [])
+    ≡ demo_segment ∷ util_segment ∷ []
 unfolding own_segments
 own_of_itself = refl
 
-own_of_used : own_segments Little host (library_of_used (util_information Little) ∷ []) ≡ demo_segment ∷ using_segment ∷ []
+own_of_used : own_segments Little host (library_of_used (util_information Little) ∷ [])
+    ≡ demo_segment ∷ using_segment ∷ []
 unfolding own_segments
 own_of_used = refl
 
 -- AUX is not in the queue where its own record alone requests it
-pub its_own_record_alone : (g : UnitReference) (s : Segment) → g.name ≡ aux → AddedUnits Little host (library_naming_itself ∷ []) (g ∷ []) (s ∷ []) → ⊥
+pub its_own_record_alone : (g : UnitReference) (s : Segment) → g.name ≡ aux
+    → AddedUnits Little host (library_naming_itself ∷ []) (g ∷ []) (s ∷ []) → ⊥
 its_own_record_alone g s name h =
     let t = (h.requested 0 g refl).0 in
-    go t.0 (subst (λ (own : List Segment). t.0 < length own + 0) own_of_itself t.1) (subst (λ (own : List Segment). Asks (own ++ s ∷ []) t.0 g.rec g.name) own_of_itself t.2.1)
+    go t.0 (subst (λ (own : List Segment). t.0 < length own + 0) own_of_itself t.1)
+    (subst (λ (own : List Segment). Asks (own ++ s ∷ []) t.0 g.rec g.name) own_of_itself
+    t.2.1)
   where
-    go : (i : ℕ) → i < 2 → Asks (demo_segment ∷ util_segment ∷ s ∷ []) i g.rec g.name → ⊥
-    go zero l a = no_name demo_segment aux (count_aux, (blank_aux, tt)) (subst (λ (q : Segment). AsksFor q aux) (sym (same demo_segment a.0 a.1)) (g.rec, a.2, a.3, (a.4, a.5 ∙ name)))
-    go (suc zero) l a = no_name util_segment aux (count_aux, (state_aux, (blank_aux, tt))) (subst (λ (q : Segment). AsksFor q aux) (sym (same util_segment a.0 a.1)) (g.rec, a.2, a.3, (a.4, a.5 ∙ name)))
+    go : (i : ℕ) → i < 2 → Asks (demo_segment ∷ util_segment ∷ s ∷ []) i g.rec g.name
+        → ⊥
+    go zero l a = no_name demo_segment aux (count_aux, (blank_aux, tt))
+        (subst (λ (q : Segment). AsksFor q aux) (sym (same demo_segment a.0 a.1))
+        (g.rec, a.2, a.3, (a.4, a.5 ∙ name)))
+    go (suc zero) l a = no_name util_segment aux (count_aux, (state_aux, (blank_aux, tt)))
+        (subst (λ (q : Segment). AsksFor q aux) (sym (same util_segment a.0 a.1))
+        (g.rec, a.2, a.3, (a.4, a.5 ∙ name)))
     go (suc (suc i)) l a = omega (arith, l)
 
 -- the queue is not empty where UTIL requests AUX
-pub no_name_is_requested : AddedUnits Little host (library_of_used (util_information Little) ∷ []) [] [] → ⊥
-no_name_is_requested h = elim (h.complete 1 0 aux asks) [ inl has ↦ no_slot_has host aux refl has | inr t ↦ (let e = t.2 in cc) ]
+pub no_name_is_requested : AddedUnits Little host
+    (library_of_used (util_information Little) ∷ []) [] [] → ⊥
+no_name_is_requested h = elim (h.complete 1 0 aux asks)
+    [ inl has ↦ no_slot_has host aux refl has | inr t ↦ (let e = t.2 in cc) ]
   where
-    asks : Asks (own_segments Little host (library_of_used (util_information Little) ∷ []) ++ []) 1 0 aux
-    asks = subst (λ (own : List Segment). Asks (own ++ []) 1 0 aux) (sym own_of_used) (using_segment, refl, aux_reference, refl, refl, refl)
+    asks : Asks (own_segments Little host (library_of_used (util_information Little) ∷ []) ++ [])
+        1 0 aux
+    asks = subst (λ (own : List Segment). Asks (own ++ []) 1 0 aux) (sym own_of_used)
+        (using_segment, refl, aux_reference, refl, refl, refl)

@@ -1,16 +1,19 @@
 -- What the builders of definitions and of allotments do not do, computed.
-use Rattle.std.proofs.Common.{◌≡◌, ℕ, zero, suc, ◌<◌, List, [], ◌∷◌, Some, true, refl, sym, ap, subst, ◌∙◌, inl, inr, arith}
+use Rattle.std.proofs.Common.{◌≡◌, ℕ, zero, suc, ◌<◌, List, [], ◌∷◌, Some, true}
+use Rattle.std.proofs.Common.{refl, sym, ap, subst, ◌∙◌, inl, inr, arith}
 use Rattle.std.specs.Prelude.{slice_get}
 use Rattle.std.proofs.lemmas.Bool.{false≢true}
 use Rattle.ps_examples.specs.Files.{count, state}
 use Rattle.ps_examples.specs.Segments.{count_reference, state_reference, end_mark}
-use Rattle.ps_examples.specs.Owners.{defined_again, util_owner, aux_owner, duplicate_owner, plain_owner, first_private, second_private}
+use Rattle.ps_examples.specs.Owners.{defined_again, util_owner, aux_owner, duplicate_owner}
+use Rattle.ps_examples.specs.Owners.{plain_owner, first_private, second_private}
 use Rattle.ps_examples.proofs.NotLinked.{same, count_state}
 use Rattle.ps_examples.proofs.NotOrigins.{none_passes}
 use Rattle.ps_linkinfo.specs.RecordCounts.{is_definition, is_private_reference}
 use Rattle.ps_linkinfo.specs.declared.record.Body.TheVariants.{PublDef, ConstDef}
 use Rattle.ps_linkinfo.specs.declared.record.LinkRecord.{LinkRecord as Record}
-use Rattle.ps_resolve.specs.Builders.{IsFirstNamesake, StopsDefinitions, IsUnfit, StopsPrivates, AreByRecord}
+use Rattle.ps_resolve.specs.Builders.{IsFirstNamesake, StopsDefinitions, IsUnfit, StopsPrivates}
+use Rattle.ps_resolve.specs.Builders.{AreByRecord}
 use Rattle.ps_resolve.specs.First.{Before}
 use Rattle.ps_resolve.specs.Privates.{Owner}
 use Rattle.ps_resolve.specs.Standing.Phrases.{SomeItem}
@@ -22,25 +25,35 @@ use Rattle.ps_words.specs.declared.fault.Reason.{Reason}
 use Rattle.ps_words.specs.declared.fault.Reason.TheVariants as reason
 
 -- definitions
-pub again : HasEarlierNamesake is_definition defined_again 2 (record { name = count; body = ConstDef 4 })
+pub again : HasEarlierNamesake is_definition defined_again 2
+    (record { name = count; body = ConstDef 4 })
 again = (refl, (0, omega arith, (record { name = count; body = PublDef 3 }, refl, (refl, refl))))
 
 -- the record of a fault
-pub record_of_fault : (a b : ℕ) (why other : Reason) → in_record 0 1 a why ≡ in_record 0 1 b other → a ≡ b
+pub record_of_fault : (a b : ℕ) (why other : Reason)
+    → in_record 0 1 a why ≡ in_record 0 1 b other → a ≡ b
 record_of_fault a b why other e = same a b (ap (λ (f : Fault). f.rec) e)
 
 -- a definition whose name no earlier one has is not refused
-pub not_the_definition_of_a_new_name : StopsDefinitions 0 1 defined_again (Refused (in_record 0 1 1 reason.DoubledDefinition)) → ⊥
-not_the_definition_of_a_new_name t = go t.0 (record_of_fault 1 t.0 reason.DoubledDefinition reason.DoubledDefinition t.2) t.1
+pub not_the_definition_of_a_new_name : StopsDefinitions 0 1 defined_again
+    (Refused (in_record 0 1 1 reason.DoubledDefinition)) → ⊥
+not_the_definition_of_a_new_name t = go t.0
+    (record_of_fault 1 t.0 reason.DoubledDefinition reason.DoubledDefinition t.2) t.1
   where
     -- of the second record, which is STATE
-    other : (r : Record) → record { name = state; body = PublDef 9 } ≡ r → (m : ℕ) (q : Record) → m < 1 → slice_get defined_again m ≡ Some q → q.name ≡ r.name → ⊥
-    other r is zero q lt e n = count_state (ap (λ (x : Record). x.name) (same (record { name = count; body = PublDef 3 }) q e) ∙ (n ∙ sym (ap (λ (x : Record). x.name) is)))
+    other : (r : Record) → record { name = state; body = PublDef 9 } ≡ r
+        → (m : ℕ) (q : Record) → m < 1 → slice_get defined_again m ≡ Some q
+        → q.name ≡ r.name → ⊥
+    other r is zero q lt e n = count_state
+        (ap (λ (x : Record). x.name) (same (record { name = count; body = PublDef 3 }) q e)
+        ∙ (n ∙ sym (ap (λ (x : Record). x.name) is)))
     other r is (suc m) q lt e n = omega (arith, lt)
 
     go : (rec : ℕ) → 1 ≡ rec → IsFirstNamesake is_definition defined_again rec → ⊥
     go zero h f = omega (arith, h)
-    go (suc zero) h f = let a = f.again in other f.item (same (record { name = state; body = PublDef 9 }) f.item f.there) a.1.0 a.1.2.0 a.1.1 a.1.2.1 a.1.2.2.1
+    go (suc zero) h f = let a = f.again in
+        other f.item (same (record { name = state; body = PublDef 9 }) f.item f.there) a.1.0 a.1.2.0
+        a.1.1 a.1.2.1 a.1.2.2.1
     go (suc (suc k)) h f = omega (arith, h)
 
 -- names and room
@@ -48,7 +61,8 @@ pub duplicate : HasEarlierNamesake is_private_reference duplicate_owner.records 
 duplicate = (refl, (1, omega arith, (state_reference, refl, (refl, refl))))
 
 -- the first private that is unfit
-of_a_private : (base : ℕ) (ss : List Owner) (k : ℕ) (s : Owner) (n : ℕ) (r : Record) (why : Reason) → IsUnfit base ss k s n r why → is_private_reference r.body ≡ true
+of_a_private : (base : ℕ) (ss : List Owner) (k : ℕ) (s : Owner) (n : ℕ) (r : Record)
+    (why : Reason) → IsUnfit base ss k s n r why → is_private_reference r.body ≡ true
 of_a_private base ss k s n r reason.DoubledPrivate u = u.0
 of_a_private base ss k s n r reason.NoRoom u = u.1
 of_a_private base ss k s n r other u = absurd u
@@ -57,65 +71,103 @@ of_a_private base ss k s n r other u = absurd u
 one_private : HasEarlierNamesake is_private_reference util_owner.records 1 state_reference → ⊥
 one_private h = go h.1.0 h.1.1 h.1.2.0 h.1.2.1 h.1.2.2.0
   where
-    go : (m : ℕ) → m < 1 → (q : Record) → slice_get util_owner.records m ≡ Some q → is_private_reference q.body ≡ true → ⊥
-    go zero lt q e p = false≢true (ap (λ (x : Record). is_private_reference x.body) (same count_reference q e) ∙ p)
+    go : (m : ℕ) → m < 1 → (q : Record) → slice_get util_owner.records m ≡ Some q
+        → is_private_reference q.body ≡ true → ⊥
+    go zero lt q e p = false≢true (ap (λ (x : Record). is_private_reference x.body)
+        (same count_reference q e) ∙ p)
     go (suc m) lt q e p = omega (arith, lt)
 
-slot_of_fault : (a b : ℕ) (file other rec n : ℕ) (why else : Reason) → in_record file a rec why ≡ in_record other b n else → a ≡ b
+slot_of_fault : (a b : ℕ) (file other rec n : ℕ) (why else : Reason)
+    → in_record file a rec why ≡ in_record other b n else → a ≡ b
 slot_of_fault a b file other rec n why else e = same a b (ap (λ (f : Fault). f.slot) e)
 
-rec_of_fault : (a b : ℕ) (file other slot n : ℕ) (why else : Reason) → in_record file slot a why ≡ in_record other n b else → a ≡ b
+rec_of_fault : (a b : ℕ) (file other slot n : ℕ) (why else : Reason)
+    → in_record file slot a why ≡ in_record other n b else → a ≡ b
 rec_of_fault a b file other slot n why else e = same a b (ap (λ (f : Fault). f.rec) e)
 
-why_of_fault : (a b : Reason) (file other slot n rec m : ℕ) → in_record file slot rec a ≡ in_record other n m b → a ≡ b
+why_of_fault : (a b : Reason) (file other slot n rec m : ℕ)
+    → in_record file slot rec a ≡ in_record other n m b → a ≡ b
 why_of_fault a b file other slot n rec m e = ap (λ (f : Fault). f.reason) e
 
 -- where an earlier private has no room, the later one is not the one that is refused
-pub not_the_later_private : StopsPrivates 32764 (util_owner ∷ aux_owner ∷ []) (Refused (in_record 1 8 1 reason.NoRoom)) → ⊥
-not_the_later_private t = t.first 0 1 util_owner state_reference reason.NoRoom refl refl (one_private, refl, omega arith) (inl (go t.segment t.owner t.of (slot_of_fault 8 t.owner.slot 1 t.owner.file 1 t.rec reason.NoRoom t.why t.told)))
+pub not_the_later_private : StopsPrivates 32764 (util_owner ∷ aux_owner ∷ [])
+    (Refused (in_record 1 8 1 reason.NoRoom)) → ⊥
+not_the_later_private t = t.first 0 1 util_owner state_reference reason.NoRoom refl refl
+    (one_private, refl, omega arith) (inl
+    (go t.segment t.owner t.of
+    (slot_of_fault 8 t.owner.slot 1 t.owner.file 1 t.rec reason.NoRoom t.why t.told)))
   where
-    go : (k : ℕ) (s : Owner) → slice_get (util_owner ∷ aux_owner ∷ []) k ≡ Some s → 8 ≡ s.slot → 0 < k
-    go zero s e h = absurd (let a : 7 ≡ s.slot = ap (λ (o : Owner). o.slot) (same util_owner s e) in omega (arith, a, h))
+    go : (k : ℕ) (s : Owner) → slice_get (util_owner ∷ aux_owner ∷ []) k ≡ Some s
+        → 8 ≡ s.slot → 0 < k
+    go zero s e h = absurd (let a : 7 ≡ s.slot = ap (λ (o : Owner). o.slot) (same util_owner s e)
+        in omega (arith, a, h))
     go (suc k) s e h = omega arith
 
 -- a record that requests no private is not refused for room
-pub not_a_record_without_a_private : StopsPrivates 32768 (util_owner ∷ []) (Refused (in_record 1 7 0 reason.NoRoom)) → ⊥
-not_a_record_without_a_private t = go t.segment t.owner t.of t.rec t.item (rec_of_fault 0 t.rec 1 t.owner.file 7 t.owner.slot reason.NoRoom t.why t.told) t.there (of_a_private 32768 (util_owner ∷ []) t.segment t.owner t.rec t.item t.why t.unfit)
+pub not_a_record_without_a_private : StopsPrivates 32768 (util_owner ∷ [])
+    (Refused (in_record 1 7 0 reason.NoRoom)) → ⊥
+not_a_record_without_a_private t = go t.segment t.owner t.of t.rec t.item
+    (rec_of_fault 0 t.rec 1 t.owner.file 7 t.owner.slot reason.NoRoom t.why t.told) t.there
+    (of_a_private 32768 (util_owner ∷ []) t.segment t.owner t.rec t.item t.why t.unfit)
   where
-    first : (rec : ℕ) (r : Record) → 0 ≡ rec → slice_get util_owner.records rec ≡ Some r → is_private_reference r.body ≡ true → ⊥
-    first zero r h e p = false≢true (ap (λ (x : Record). is_private_reference x.body) (same count_reference r e) ∙ p)
+    first : (rec : ℕ) (r : Record) → 0 ≡ rec → slice_get util_owner.records rec ≡ Some r
+        → is_private_reference r.body ≡ true → ⊥
+    first zero r h e p = false≢true (ap (λ (x : Record). is_private_reference x.body)
+        (same count_reference r e) ∙ p)
     first (suc rec) r h e p = omega (arith, h)
 
-    go : (k : ℕ) (s : Owner) → slice_get (util_owner ∷ []) k ≡ Some s → (rec : ℕ) (r : Record) → 0 ≡ rec → slice_get s.records rec ≡ Some r → is_private_reference r.body ≡ true → ⊥
-    go zero s e rec r h f p = first rec r h (subst (λ (o : Owner). slice_get o.records rec ≡ Some r) (sym (same util_owner s e)) f) p
+    go : (k : ℕ) (s : Owner) → slice_get (util_owner ∷ []) k ≡ Some s
+        → (rec : ℕ) (r : Record) → 0 ≡ rec → slice_get s.records rec ≡ Some r
+        → is_private_reference r.body ≡ true → ⊥
+    go zero s e rec r h f p = first rec r h
+        (subst (λ (o : Owner). slice_get o.records rec ≡ Some r) (sym (same util_owner s e)) f) p
     go (suc k) s e rec r h f p = cc
 
 -- a private whose name an earlier one of its segment has is not refused for room
-pub not_for_room_where_its_name_is_duplicate : StopsPrivates 32763 (duplicate_owner ∷ []) (Refused (in_record 1 7 2 reason.NoRoom)) → ⊥
-not_for_room_where_its_name_is_duplicate t = go t.segment t.owner t.of t.rec t.item (rec_of_fault 2 t.rec 1 t.owner.file 7 t.owner.slot reason.NoRoom t.why t.told) t.there
-    (subst (λ (w : Reason). IsUnfit 32763 (duplicate_owner ∷ []) t.segment t.owner t.rec t.item w) (sym (why_of_fault reason.NoRoom t.why 1 t.owner.file 7 t.owner.slot 2 t.rec t.told)) t.unfit)
+pub not_for_room_where_its_name_is_duplicate : StopsPrivates 32763 (duplicate_owner ∷ [])
+    (Refused (in_record 1 7 2 reason.NoRoom)) → ⊥
+not_for_room_where_its_name_is_duplicate t =
+    go t.segment t.owner t.of t.rec t.item
+    (rec_of_fault 2 t.rec 1 t.owner.file 7 t.owner.slot reason.NoRoom t.why t.told) t.there
+    (subst (λ (w : Reason). IsUnfit 32763
+    (duplicate_owner ∷ []) t.segment t.owner t.rec t.item w)
+    (sym (why_of_fault reason.NoRoom t.why 1 t.owner.file 7 t.owner.slot 2 t.rec t.told))
+    t.unfit)
   where
-    third : (rec : ℕ) (r : Record) → 2 ≡ rec → slice_get duplicate_owner.records rec ≡ Some r → (HasEarlierNamesake is_private_reference duplicate_owner.records rec r → ⊥) → ⊥
+    third : (rec : ℕ) (r : Record) → 2 ≡ rec
+        → slice_get duplicate_owner.records rec ≡ Some r
+        → (HasEarlierNamesake is_private_reference duplicate_owner.records rec r → ⊥) → ⊥
     third zero r h e f = omega (arith, h)
     third (suc zero) r h e f = omega (arith, h)
-    third (suc (suc zero)) r h e f = f (subst (λ (x : Record). HasEarlierNamesake is_private_reference duplicate_owner.records 2 x) (same state_reference r e) duplicate)
+    third (suc (suc zero)) r h e f =
+        f (subst (λ (x : Record). HasEarlierNamesake is_private_reference duplicate_owner.records 2
+        x) (same state_reference r e) duplicate)
     third (suc (suc (suc rec))) r h e f = omega (arith, h)
 
-    go : (k : ℕ) (s : Owner) → slice_get (duplicate_owner ∷ []) k ≡ Some s → (rec : ℕ) (r : Record) → 2 ≡ rec → slice_get s.records rec ≡ Some r → IsUnfit 32763 (duplicate_owner ∷ []) k s rec r reason.NoRoom → ⊥
+    go : (k : ℕ) (s : Owner) → slice_get (duplicate_owner ∷ []) k ≡ Some s
+        → (rec : ℕ) (r : Record) → 2 ≡ rec → slice_get s.records rec ≡ Some r
+        → IsUnfit 32763 (duplicate_owner ∷ []) k s rec r reason.NoRoom → ⊥
     go zero s e rec r h f u =
         let is = same duplicate_owner s e in
-        third rec r h (subst (λ (o : Owner). slice_get o.records rec ≡ Some r) (sym is) f) (subst (λ (o : Owner). HasEarlierNamesake is_private_reference o.records rec r → ⊥) (sym is) u.0)
+        third rec r h (subst (λ (o : Owner). slice_get o.records rec ≡ Some r) (sym is) f)
+        (subst (λ (o : Owner). HasEarlierNamesake is_private_reference o.records rec r → ⊥)
+        (sym is) u.0)
     go (suc k) s e rec r h f u = cc
 
 -- memory does not run out where no record requests a private
 pub no_memory_without_a_private : StopsPrivates 8 (plain_owner ∷ []) Memory → ⊥
 no_memory_without_a_private t = go t.0 t.1 t.2 t.3
   where
-    records : (k : ℕ) (r : Record) → slice_get plain_owner.records k ≡ Some r → is_private_reference r.body ≡ true → ⊥
-    records = none_passes (λ (r : Record). is_private_reference r.body ≡ true) (count_reference ∷ end_mark ∷ []) (λ e. false≢true e, (λ e. false≢true e, tt))
+    records : (k : ℕ) (r : Record) → slice_get plain_owner.records k ≡ Some r
+        → is_private_reference r.body ≡ true → ⊥
+    records = none_passes (λ (r : Record). is_private_reference r.body ≡ true)
+        (count_reference ∷ end_mark ∷ []) (λ e. false≢true e, (λ e. false≢true e, tt))
 
-    go : (k : ℕ) (s : Owner) → slice_get (plain_owner ∷ []) k ≡ Some s → SomeItem s.records (λ rec r. is_private_reference r.body ≡ true) → ⊥
-    go zero s e u = let v = subst (λ (o : Owner). SomeItem o.records (λ rec r. is_private_reference r.body ≡ true)) (sym (same plain_owner s e)) u in records v.0 v.1 v.2 v.3
+    go : (k : ℕ) (s : Owner) → slice_get (plain_owner ∷ []) k ≡ Some s
+        → SomeItem s.records (λ rec r. is_private_reference r.body ≡ true) → ⊥
+    go zero s e u = let v =
+        subst (λ (o : Owner). SomeItem o.records (λ rec r. is_private_reference r.body ≡ true))
+        (sym (same plain_owner s e)) u in records v.0 v.1 v.2 v.3
     go (suc k) s e u = cc
 
 -- privates in order

@@ -1,5 +1,6 @@
 -- Units that are added in slots of the small files, and the only entry of a name, computed.
-use Rattle.std.proofs.Common.{◌≡◌, ℕ, zero, suc, ◌<◌, ◌≤◌, List, [], ◌∷◌, Bool, true, false, refl, sym, subst, ◌∙◌, inl, inr, arith}
+use Rattle.std.proofs.Common.{◌≡◌, ℕ, zero, suc, ◌<◌, ◌≤◌, List, [], ◌∷◌}
+use Rattle.std.proofs.Common.{Bool, true, false, refl, sym, subst, ◌∙◌, inl, inr, arith}
 use Rattle.std.specs.Prelude.{◌||◌, ◌==◌, ◌&&◌, not}
 use Rattle.std.specs.Str.{bytes_eq}
 use Rattle.std.proofs.lemmas.Bool.{cases_lt, false≢true}
@@ -23,11 +24,13 @@ any_below zero test = false
 any_below (suc n) test = test n || any_below n test
 
 -- where no number below n passes a test, each of them fails it
-pub fails : (n : ℕ) (test : ℕ → Bool) → any_below n test ≡ false → (i : ℕ) → i < n → test i ≡ false
+pub fails : (n : ℕ) (test : ℕ → Bool) → any_below n test ≡ false → (i : ℕ) → i < n
+    → test i ≡ false
 fails zero test none i h = absurd (omega (arith, h))
 fails (suc n) test none i h = elim (cases_lt i n) [
   | inl l ↦ fails n test (later (test n) none) i l
-  | inr l ↦ (let e : n ≡ i = omega (arith, h, l) in subst (λ (k : ℕ). test k ≡ false) e (here (test n) none))
+  | inr l ↦ (let e : n ≡ i = omega (arith, h, l) in
+      subst (λ (k : ℕ). test k ≡ false) e (here (test n) none))
 ]
   where
     later : (b : Bool) → (b || any_below n test) ≡ false → any_below n test ≡ false
@@ -40,20 +43,29 @@ fails (suc n) test none i h = elim (cases_lt i n) [
 
 -- the only filled entry of a name
 abbrev other_entry : Order → List ℕ → List ℕ → ℕ → ℕ → Bool
-other_entry order name file i k = is_filled (entry_at order file k) && (bytes_eq (entry_at order file k).name name && not (k == i))
+other_entry order name file i k = is_filled (entry_at order file k)
+    && (bytes_eq (entry_at order file k).name name && not (k == i))
 
 -- where no other entry is a filled one of the name, each filled entry of the name is this one
-only_entry : (order : Order) (name file : List ℕ) (i : ℕ) → any_below 16 (other_entry order name file i) ≡ false → (k : ℕ) → k < 16 → IsNamed order name file k → k ≡ i
-only_entry order name file i all k h n = go (k == i) (Decides-eqb k i) (fails 16 (other_entry order name file i) all k h)
+only_entry : (order : Order) (name file : List ℕ) (i : ℕ)
+    → any_below 16 (other_entry order name file i) ≡ false → (k : ℕ) → k < 16
+    → IsNamed order name file k → k ≡ i
+only_entry order name file i all k h n =
+    go (k == i) (Decides-eqb k i) (fails 16 (other_entry order name file i) all k h)
   where
-    test : (a b c : Bool) → a ≡ true → b ≡ true → (a && (b && not c)) ≡ false → c ≡ true
+    test : (a b c : Bool) → a ≡ true → b ≡ true → (a && (b && not c)) ≡ false
+        → c ≡ true
     test true true true p q e = refl
     test true true false p q e = absurd (cc)
     test true false c p q e = absurd (cc)
     test false b c p q e = absurd (cc)
 
-    go : (b : Bool) → Decides b (k ≡ i) → (is_filled (entry_at order file k) && (bytes_eq (entry_at order file k).name name && not b)) ≡ false → k ≡ i
-    go b d e = d.0 (test (is_filled (entry_at order file k)) (bytes_eq (entry_at order file k).name name) b n.0 ((bytes_eq-Decides (entry_at order file k).name name).1 n.1) e)
+    go : (b : Bool) → Decides b (k ≡ i)
+        → (is_filled (entry_at order file k)
+        && (bytes_eq (entry_at order file k).name name && not b)) ≡ false → k ≡ i
+    go b d e = d.0 (test (is_filled (entry_at order file k))
+        (bytes_eq (entry_at order file k).name name) b n.0
+        ((bytes_eq-Decides (entry_at order file k).name name).1 n.1) e)
 
 -- what would be entry 17 has the name too
 pub the_only_one_of_sixteen : IsUnitOf Little host (put_at 200 util library ∷ []) util 1 2
@@ -69,11 +81,16 @@ the_only_one_of_sixteen = record {
 }
 
 -- no slot of the file has the name
-pub no_slot_has : (file name : List ℕ) → any_below 16 (λ k. bytes_eq (entry_at Little file k).name name) ≡ false → HasSlot Little file name → ⊥
-no_slot_has file name all t = false≢true (sym (fails 16 (λ k. bytes_eq (entry_at Little file k).name name) all t.0 t.1) ∙ (bytes_eq-Decides (entry_at Little file t.0).name name).1 t.2.1)
+pub no_slot_has : (file name : List ℕ)
+    → any_below 16 (λ k. bytes_eq (entry_at Little file k).name name) ≡ false
+    → HasSlot Little file name → ⊥
+no_slot_has file name all t = false≢true
+    (sym (fails 16 (λ k. bytes_eq (entry_at Little file k).name name) all t.0 t.1)
+    ∙ (bytes_eq-Decides (entry_at Little file t.0).name name).1 t.2.1)
 
 -- TOOLS is an added unit in slot 9, for which AUX asks, which is added in slot 8
-pub a_unit_that_an_added_one_names : IsAddedUnit Little host (using_segment ∷ naming_segment ∷ named_segment ∷ []) named_segment
+pub a_unit_that_an_added_one_names : IsAddedUnit Little host
+    (using_segment ∷ naming_segment ∷ named_segment ∷ []) named_segment
 a_unit_that_an_added_one_names = record {
   empty = refl;
   low = omega arith;
@@ -85,16 +102,20 @@ a_unit_that_an_added_one_names = record {
 }
   where
     is_wanted : (slot : ℕ) → slot ≡ 7 → HasRole Little host slot role.Empty → ⊥
-    is_wanted slot at has = let h : HasRole Little host 7 role.Empty = subst (λ (k : ℕ). HasRole Little host k role.Empty) at has in cc
+    is_wanted slot at has = let h : HasRole Little host 7 role.Empty =
+        subst (λ (k : ℕ). HasRole Little host k role.Empty) at has in cc
 
-    taken : (slot : ℕ) → 7 ≤ slot → slot < 9 → HasRole Little host slot role.Empty → IsTaken (using_segment ∷ naming_segment ∷ named_segment ∷ []) slot
+    taken : (slot : ℕ) → 7 ≤ slot → slot < 9 → HasRole Little host slot role.Empty
+        → IsTaken (using_segment ∷ naming_segment ∷ named_segment ∷ []) slot
     taken slot low lt has = elim (cases_lt slot 8) [
       | inl l ↦ absurd (is_wanted slot (omega (arith, low, l)) has)
       | inr l ↦ (1, naming_segment, refl, omega (arith, l, lt))
     ]
 
 -- AUX is an added unit in slot 7 where this slot of the host is empty
-pub an_added_unit_in_slot_7 : IsAddedUnit Little host_without_7 ((record using_segment { slot = 9 }) ∷ (record aux_segment { slot = 7 }) ∷ []) (record aux_segment { slot = 7 })
+pub an_added_unit_in_slot_7 : IsAddedUnit Little host_without_7
+    ((record using_segment { slot = 9 }) ∷ (record aux_segment { slot = 7 }) ∷ [])
+    (record aux_segment { slot = 7 })
 an_added_unit_in_slot_7 = record {
   empty = refl;
   low = omega arith;

@@ -1,7 +1,8 @@
 -- Small files on which the definitions are computed: a host that wants one unit, the library that
 -- has it, and what such files are changed by.
 -- Source: this project's examples.
-use Rattle.std.specs.Prelude.{ℕ, ◌+◌, ◌-◌, ◌*◌, ◌/◌, List, [], ◌∷◌, ◌++◌, length, replicate, take, drop}
+use Rattle.std.specs.Prelude.{ℕ, ◌+◌, ◌-◌, ◌*◌, ◌/◌, List, [], ◌∷◌}
+use Rattle.std.specs.Prelude.{◌++◌, length, replicate, take, drop}
 use Rattle.std.specs.List.{flat_map, range_with_len}
 use Rattle.ps_words.specs.Words.{word_bytes}
 use Rattle.ps_words.specs.declared.order.Order.{Order}
@@ -66,11 +67,13 @@ no_segments = replicate 64 0 ++ replicate 128 32 ++ replicate 320 0
 -- the file with this entry in a slot of its dictionary
 abbrev pub with_slot : Order → ℕ → List ℕ → ℕ → ℕ → ℕ → List ℕ → List ℕ
 with_slot order slot name kind address len file =
-    put_at (4 * slot) (word_bytes order address ++ word_bytes order len) (put_at (64 + 8 * slot) name (put_at (192 + 2 * slot) (word_bytes order kind) file))
+    put_at (4 * slot) (word_bytes order address ++ word_bytes order len)
+    (put_at (64 + 8 * slot) name (put_at (192 + 2 * slot) (word_bytes order kind) file))
 
 -- a record without its list: a name, a type and three words
 abbrev pub record_of : Order → List ℕ → ℕ → ℕ → ℕ → ℕ → List ℕ
-record_of order name kind a b c = name ++ word_bytes order kind ++ word_bytes order a ++ word_bytes order b ++ word_bytes order c
+record_of order name kind a b c = name ++ word_bytes order kind ++ word_bytes order a
+    ++ word_bytes order b ++ word_bytes order c
 
 -- the list of a reference record, filled up with zeros to whole pieces
 abbrev pub list_of : Order → List ℕ → List ℕ
@@ -102,17 +105,22 @@ eof_mark order next = record_of order blank_name 0 next 0 0
 
 -- the code of DEMO, the host segment
 abbrev pub demo_code : Order → List ℕ
-demo_code Little = 215 ∷ 215 ∷ 193 ∷ 0 ∷ 10 ∷ 0 ∷ 4 ∷ 0 ∷ 6 ∷ 0 ∷ 10 ∷ 0 ∷ 1 ∷ 0 ∷ 2 ∷ 0 ∷ 1 ∷ 1 ∷ []
-demo_code Big = 215 ∷ 215 ∷ 193 ∷ 0 ∷ 0 ∷ 10 ∷ 0 ∷ 4 ∷ 0 ∷ 6 ∷ 0 ∷ 10 ∷ 1 ∷ 0 ∷ 0 ∷ 2 ∷ 1 ∷ 1 ∷ []
+demo_code Little = 215 ∷ 215 ∷ 193 ∷ 0 ∷ 10 ∷ 0 ∷ 4 ∷ 0 ∷ 6 ∷ 0 ∷ 10 ∷ 0 ∷ 1
+    ∷ 0 ∷ 2 ∷ 0 ∷ 1 ∷ 1 ∷ []
+demo_code Big = 215 ∷ 215 ∷ 193 ∷ 0 ∷ 0 ∷ 10 ∷ 0 ∷ 4 ∷ 0 ∷ 6 ∷ 0 ∷ 10 ∷ 1
+    ∷ 0 ∷ 0 ∷ 2 ∷ 1 ∷ 1 ∷ []
 
 -- the code of UTIL, a unit
 abbrev pub util_code : Order → List ℕ
-util_code Little = 165 ∷ 128 ∷ 0 ∷ 171 ∷ 128 ∷ 2 ∷ 215 ∷ 215 ∷ 173 ∷ 0 ∷ 0 ∷ 0 ∷ 0 ∷ 0 ∷ 6 ∷ 0 ∷ 16 ∷ 0 ∷ 1 ∷ 0 ∷ 2 ∷ 0 ∷ 2 ∷ 1 ∷ []
-util_code Big = 165 ∷ 128 ∷ 0 ∷ 171 ∷ 128 ∷ 2 ∷ 215 ∷ 215 ∷ 173 ∷ 0 ∷ 0 ∷ 0 ∷ 0 ∷ 0 ∷ 0 ∷ 6 ∷ 0 ∷ 16 ∷ 1 ∷ 0 ∷ 0 ∷ 2 ∷ 2 ∷ 1 ∷ []
+util_code Little = 165 ∷ 128 ∷ 0 ∷ 171 ∷ 128 ∷ 2 ∷ 215 ∷ 215 ∷ 173 ∷ 0 ∷ 0 ∷ 0
+    ∷ 0 ∷ 0 ∷ 6 ∷ 0 ∷ 16 ∷ 0 ∷ 1 ∷ 0 ∷ 2 ∷ 0 ∷ 2 ∷ 1 ∷ []
+util_code Big = 165 ∷ 128 ∷ 0 ∷ 171 ∷ 128 ∷ 2 ∷ 215 ∷ 215 ∷ 173 ∷ 0 ∷ 0 ∷ 0
+    ∷ 0 ∷ 0 ∷ 0 ∷ 6 ∷ 0 ∷ 16 ∷ 1 ∷ 0 ∷ 0 ∷ 2 ∷ 2 ∷ 1 ∷ []
 
 -- a code file of a dictionary, a block of code and a block of link information
 abbrev pub code_file : List ℕ → List ℕ → List ℕ → List ℕ
-code_file dictionary code information = dictionary ++ filled_to 512 code ++ filled_to 512 information
+code_file dictionary code information = dictionary ++ filled_to 512 code
+    ++ filled_to 512 information
 
 -- the link information of DEMO: it defines COUNT as 3, and its next free base offset is 8
 abbrev pub demo_information : Order → List ℕ
@@ -120,11 +128,13 @@ demo_information order = publ_def order count 3 ++ eof_mark order 8
 
 -- the link information of UTIL: a PUBLREF of COUNT, and a PRIVREF of STATE
 abbrev pub util_information : Order → List ℕ
-util_information order = publ_ref order count (1 ∷ []) ++ priv_ref order state 4 (4 ∷ []) ++ eof_mark order 0
+util_information order = publ_ref order count (1 ∷ []) ++ priv_ref order state 4 (4 ∷ [])
+    ++ eof_mark order 0
 
 -- DEMO in slot 1 wants UTIL in slot 7; byte 300 is marked
 abbrev pub host_dictionary : Order → List ℕ
-host_dictionary order = put_at 300 (42 ∷ []) (with_slot order 1 demo 1 1 18 (with_slot order 7 util 3 0 0 no_segments))
+host_dictionary order = put_at 300 (42 ∷ [])
+    (with_slot order 1 demo 1 1 18 (with_slot order 7 util 3 0 0 no_segments))
 
 -- the host with this link information of DEMO
 abbrev pub host_with : Order → List ℕ → List ℕ
@@ -136,7 +146,8 @@ host_in order = host_with order (demo_information order)
 
 -- a library with UTIL in slot 2
 abbrev pub library_with : Order → List ℕ → List ℕ
-library_with order information = code_file (with_slot order 2 util 3 1 24 no_segments) (util_code order) information
+library_with order information = code_file (with_slot order 2 util 3 1 24 no_segments)
+    (util_code order) information
 
 -- the library in this byte order
 abbrev pub library_in : Order → List ℕ
@@ -167,17 +178,20 @@ library_past_the_last = put_at 64 (1 ∷ 0 ∷ 24 ∷ 0 ∷ []) (put_at 224 (3 �
 -- information in block 4
 abbrev pub host_in_place : Order → List ℕ → List ℕ
 host_in_place order information =
-    with_slot order 7 util 3 3 24 (host_in order) ++ filled_to 512 (put_at 22 (7 ∷ []) (util_code order)) ++ filled_to 512 information
+    with_slot order 7 util 3 3 24 (host_in order)
+    ++ filled_to 512 (put_at 22 (7 ∷ []) (util_code order)) ++ filled_to 512 information
 
 -- a library with UTIL in slot 2, of this code, which takes one block
 abbrev pub library_having : List ℕ → List ℕ → List ℕ
-library_having code information = code_file (with_slot Little 2 util 3 1 (length code) no_segments) code information
+library_having code information = code_file
+    (with_slot Little 2 util 3 1 (length code) no_segments) code information
 
 -- a code with two procedures: the second has this number in its table, and its word in the
 -- procedure dictionary has this content
 abbrev pub two_procedures : ℕ → ℕ → List ℕ
 two_procedures number content =
-    zeros 18 ++ (1 ∷ 0 ∷ []) ++ zeros 8 ++ (number ∷ 0 ∷ content ∷ 0 ∷ 14 ∷ 0 ∷ 2 ∷ 2 ∷ [])
+    zeros 18 ++ (1 ∷ 0 ∷ []) ++ zeros 8
+    ++ (number ∷ 0 ∷ content ∷ 0 ∷ 14 ∷ 0 ∷ 2 ∷ 2 ∷ [])
 
 -- the host file, which now wants AUX too, in slot 8
 abbrev pub wanting_aux : List ℕ → List ℕ
@@ -185,7 +199,8 @@ wanting_aux file = with_slot Little 8 aux 3 0 0 file
 
 -- the library with AUX too, in slot 3: this code in block 3 and this link information in block 4
 abbrev pub with_aux : List ℕ → List ℕ → List ℕ → List ℕ
-with_aux code information file = with_slot Little 3 aux 3 3 24 file ++ filled_to 512 code ++ filled_to 512 information
+with_aux code information file = with_slot Little 3 aux 3 3 24 file ++ filled_to 512 code
+    ++ filled_to 512 information
 
 -- the code of AUX, whose segment number is 3
 abbrev pub aux_code : List ℕ
@@ -202,22 +217,28 @@ host_with_tools = with_slot Little 8 tools 0 3 5 host ++ (1 ∷ 2 ∷ 3 ∷ 4 �
 -- a library whose UTIL has 514 bytes and no procedure, with this link information in block 3
 abbrev pub library_of_two_blocks : List ℕ → List ℕ
 library_of_two_blocks information =
-    with_slot Little 2 util 3 1 514 no_segments ++ filled_to 1024 (zeros 512 ++ (2 ∷ 0 ∷ [])) ++ filled_to 512 information
+    with_slot Little 2 util 3 1 514 no_segments ++ filled_to 1024 (zeros 512 ++ (2 ∷ 0 ∷ []))
+    ++ filled_to 512 information
 
 -- a library whose UTIL names AUX alone, which has this link information
 abbrev pub library_of_used : List ℕ → List ℕ
-library_of_used information = with_aux aux_code information (library_with Little (unit_ref Little aux (2 ∷ []) ++ eof_mark Little 0))
+library_of_used information = with_aux aux_code information
+    (library_with Little (unit_ref Little aux (2 ∷ []) ++ eof_mark Little 0))
 
 -- the library with AUX too, which names itself alone, as nothing else does
 abbrev pub library_naming_itself : List ℕ
-library_naming_itself = with_aux aux_code (unit_ref Little aux (2 ∷ []) ++ eof_mark Little 0) library
+library_naming_itself = with_aux aux_code
+    (unit_ref Little aux (2 ∷ []) ++ eof_mark Little 0) library
 
 -- the library of a used unit, big-endian
 abbrev pub library_of_used_big : List ℕ
 library_of_used_big =
-    with_slot Big 3 aux 3 3 24 (library_with Big (unit_ref Big aux (2 ∷ []) ++ eof_mark Big 0)) ++ filled_to 512 (put_at 22 (3 ∷ []) (util_code Big)) ++ filled_to 512 (util_information Big)
+    with_slot Big 3 aux 3 3 24 (library_with Big (unit_ref Big aux (2 ∷ []) ++ eof_mark Big 0))
+    ++ filled_to 512 (put_at 22 (3 ∷ []) (util_code Big))
+    ++ filled_to 512 (util_information Big)
 
 -- the host whose slots from 8 on, n of them, have a segment that is linked already, without a name:
 -- the same five bytes in block 3
 abbrev pub filled_host : ℕ → List ℕ
-filled_host n = put_at 32 (flat_map (λ k. 3 ∷ 0 ∷ 5 ∷ 0 ∷ []) (range_with_len 0 n)) host ++ (1 ∷ 2 ∷ 3 ∷ 4 ∷ 5 ∷ [])
+filled_host n = put_at 32 (flat_map (λ k. 3 ∷ 0 ∷ 5 ∷ 0 ∷ []) (range_with_len 0 n)) host
+    ++ (1 ∷ 2 ∷ 3 ∷ 4 ∷ 5 ∷ [])

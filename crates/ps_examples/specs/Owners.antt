@@ -3,7 +3,8 @@
 -- Source: this project's examples.
 use Rattle.std.specs.Prelude.{List, [], ◌∷◌}
 use Rattle.ps_examples.specs.Files.{count, state, nobody}
-use Rattle.ps_examples.specs.Segments.{count_reference, state_reference, end_mark, util_segment, aux_segment}
+use Rattle.ps_examples.specs.Segments.{count_reference, state_reference, end_mark, util_segment}
+use Rattle.ps_examples.specs.Segments.{aux_segment}
 use Rattle.ps_linkinfo.specs.declared.record.Body.TheVariants.{PublRef, PublDef, ConstDef}
 use Rattle.ps_linkinfo.specs.declared.record.LinkRecord.{LinkRecord as Record}
 use Rattle.ps_resolve.specs.Privates.{Owner, owner_of}
@@ -12,12 +13,16 @@ use Rattle.ps_resolve.specs.declared.allotment.Private.{Private}
 -- COUNT and STATE, each defined once; references have the name of COUNT too
 abbrev pub defined_once : List Record
 defined_once =
-    count_reference ∷ record { name = count; body = PublDef 3 } ∷ record { name = state; body = ConstDef 4 } ∷ record { name = count; body = PublRef (2 ∷ []) } ∷ []
+    count_reference ∷ record { name = count; body = PublDef 3 }
+    ∷ record { name = state; body = ConstDef 4 }
+    ∷ record { name = count; body = PublRef (2 ∷ []) } ∷ []
 
 -- COUNT and STATE, each defined twice
 abbrev pub defined_again : List Record
 defined_again =
-    record { name = count; body = PublDef 3 } ∷ record { name = state; body = PublDef 9 } ∷ record { name = count; body = ConstDef 4 } ∷ record { name = state; body = ConstDef 5 } ∷ []
+    record { name = count; body = PublDef 3 } ∷ record { name = state; body = PublDef 9 }
+    ∷ record { name = count; body = ConstDef 4 }
+    ∷ record { name = state; body = ConstDef 5 } ∷ []
 
 -- UTIL as an owner of privates
 abbrev pub util_owner : Owner
@@ -29,7 +34,10 @@ aux_owner = owner_of aux_segment
 
 -- UTIL with two privates of one name
 abbrev pub duplicate_owner : Owner
-duplicate_owner = record util_owner { records = count_reference ∷ state_reference ∷ state_reference ∷ [] }
+duplicate_owner = record util_owner {
+  records =
+      count_reference ∷ state_reference ∷ state_reference ∷ [];
+}
 
 -- UTIL without a private
 abbrev pub plain_owner : Owner

@@ -2,11 +2,15 @@
 -- Source: this project's examples.
 use Rattle.std.specs.Prelude.{List, [], ◌∷◌, ◌++◌, false, true}
 use Rattle.ps_codefile.specs.declared.entry.Role.TheVariants.{Host, Wanted, Plain}
-use Rattle.ps_linkinfo.specs.declared.record.Body.TheVariants.{UnitRef, PublRef, PrivRef, PublDef, ConstDef, Eof}
+use Rattle.ps_linkinfo.specs.declared.record.Body.TheVariants.{UnitRef, PublRef, PrivRef, PublDef}
+use Rattle.ps_linkinfo.specs.declared.record.Body.TheVariants.{ConstDef, Eof}
 use Rattle.ps_linkinfo.specs.declared.record.LinkRecord.{LinkRecord as Record}
 use Rattle.ps_resolve.specs.Sources.{Segment}
 use Rattle.ps_resolve.specs.LinkedBytes.{segments_of}
-use Rattle.ps_examples.specs.Files.{host, library, library_with, library_of_two, library_of_used, host_with_tools, wanting_aux, put_at, blank_name, demo, util, aux, tools, count, state, nobody, demo_code, util_code, aux_code, priv_ref, eof_mark, util_information}
+use Rattle.ps_examples.specs.Files.{host, library, library_with, library_of_two, library_of_used}
+use Rattle.ps_examples.specs.Files.{host_with_tools, wanting_aux, put_at, blank_name, demo, util}
+use Rattle.ps_examples.specs.Files.{aux, tools, count, state, nobody, demo_code, util_code}
+use Rattle.ps_examples.specs.Files.{aux_code, priv_ref, eof_mark, util_information}
 use Rattle.ps_words.specs.declared.order.Order.TheVariants.{Little}
 
 -- a PUBLREF of COUNT with an operand at 1; UTIL has it, and the two records below
@@ -44,7 +48,8 @@ demo_segment = record {
   file = 0;
   index = 1;
   code = demo_code Little;
-  records = record { name = count; body = PublDef 3 } ∷ record { name = blank_name; body = Eof 8 } ∷ [];
+  records = record { name = count; body = PublDef 3 } ∷ record { name = blank_name; body = Eof 8 }
+      ∷ [];
 }
 
 -- the segments of their link
@@ -78,7 +83,10 @@ self_segment = record aux_segment { records = aux_reference ∷ [] }
 
 -- UTIL that references itself
 abbrev pub again_segment : Segment
-again_segment = record util_segment { records = record { name = util; body = UnitRef (2 ∷ []) } ∷ [] }
+again_segment = record util_segment {
+  records =
+      record { name = util; body = UnitRef (2 ∷ []) } ∷ [];
+}
 
 -- AUX under a name that no record requests
 abbrev pub nobody_segment : Segment
@@ -86,7 +94,10 @@ nobody_segment = record aux_segment { name = nobody }
 
 -- AUX that references TOOLS
 abbrev pub naming_segment : Segment
-naming_segment = record aux_segment { records = record { name = tools; body = UnitRef (2 ∷ []) } ∷ end_mark ∷ [] }
+naming_segment = record aux_segment {
+  records =
+      record { name = tools; body = UnitRef (2 ∷ []) } ∷ end_mark ∷ [];
+}
 
 -- TOOLS, added in slot 9 because AUX references it
 abbrev pub named_segment : Segment
@@ -119,7 +130,8 @@ with_plain = segments_of host_with_tools (library ∷ [])
 
 -- the segments of a host whose unit has two privates of four words
 abbrev pub with_two_privates : List Segment
-with_two_privates = segments_of host (library_with Little (priv_ref Little state 4 [] ++ priv_ref Little nobody 4 (4 ∷ []) ++ eof_mark Little 0) ∷ [])
+with_two_privates = segments_of host (library_with Little
+    (priv_ref Little state 4 [] ++ priv_ref Little nobody 4 (4 ∷ []) ++ eof_mark Little 0) ∷ [])
 
 -- the segments of a host that wants two units with a private each
 abbrev pub with_two_units : List Segment
@@ -135,15 +147,24 @@ meeting_segment = record util_segment { records = count_reference ∷ aux_refere
 
 -- UTIL with one record, two operands of which overlap
 abbrev pub twice_segment : Segment
-twice_segment = record util_segment { records = record { name = count; body = PublRef (1 ∷ 2 ∷ []) } ∷ [] }
+twice_segment = record util_segment {
+  records =
+      record { name = count; body = PublRef (1 ∷ 2 ∷ []) } ∷ [];
+}
 
 -- UTIL with an operand at its segment number
 abbrev pub numbered_segment : Segment
-numbered_segment = record util_segment { records = record { name = aux; body = UnitRef (22 ∷ []) } ∷ [] }
+numbered_segment = record util_segment {
+  records =
+      record { name = aux; body = UnitRef (22 ∷ []) } ∷ [];
+}
 
 -- the host segment with an operand at its data size
 abbrev pub sized_segment : Segment
-sized_segment = record demo_segment { records = record { name = count; body = PublRef (4 ∷ []) } ∷ [] }
+sized_segment = record demo_segment {
+  records =
+      record { name = count; body = PublRef (4 ∷ []) } ∷ [];
+}
 
 -- AUX past the slot that is empty
 abbrev pub past_segment : Segment
@@ -151,8 +172,10 @@ past_segment = record aux_segment { slot = 9 }
 
 -- the host segment with COUNT as a constant
 abbrev pub with_constant : List Segment
-with_constant = record demo_segment { records = record { name = count; body = ConstDef 3 } ∷ [] } ∷ []
+with_constant = record demo_segment { records = record { name = count; body = ConstDef 3 } ∷ [] }
+    ∷ []
 
 -- UTIL with a definition of STATE, which nothing uses
 abbrev pub with_unused : List Segment
-with_unused = demo_segment ∷ record util_segment { records = record { name = state; body = PublDef 9 } ∷ [] } ∷ []
+with_unused = demo_segment ∷ record util_segment
+    { records = record { name = state; body = PublDef 9 } ∷ [] } ∷ []

@@ -1,6 +1,7 @@
 -- What map and show print of the small files, line by line.
 -- Source: this project's examples.
-use Rattle.std.specs.Prelude.{ℕ, ◌+◌, ◌/◌, ◌%◌, ◌==◌, if◌then◌else◌, List, ◌∷◌, ◌++◌, codes}
+use Rattle.std.specs.Prelude.{ℕ, ◌+◌, ◌/◌, ◌%◌, ◌==◌, if◌then◌else◌, List}
+use Rattle.std.specs.Prelude.{◌∷◌, ◌++◌, codes}
 use Rattle.std.specs.List.{flat_map, range_with_len}
 
 -- the map of the host and its library
@@ -53,7 +54,8 @@ map_of_an_added_unit =
 
 -- the lines of the sixteen slots of a show, each with its number and what is said of it
 abbrev pub slots_with : (ℕ → List ℕ) → List ℕ
-slots_with said = flat_map (λ n. codes "slot " ++ ((48 + n / 10) ∷ (48 + n % 10) ∷ codes " ") ++ said n) (range_with_len 0 16)
+slots_with said = flat_map (λ n. codes "slot " ++ ((48 + n / 10) ∷ (48 + n % 10) ∷ codes " ")
+    ++ said n) (range_with_len 0 16)
 
 -- what is said of an empty slot
 abbrev pub empty_slot : List ℕ
@@ -61,7 +63,8 @@ empty_slot = codes "         kind 0 address 0 length 0 text 0\n"
 
 -- the slots of the library
 abbrev pub slots_of_the_library : List ℕ
-slots_of_the_library = slots_with (λ n. if n == 2 then codes "UTIL     kind 3 address 1 length 24 text 0\n" else empty_slot)
+slots_of_the_library = slots_with (λ n. if n == 2
+    then codes "UTIL     kind 3 address 1 length 24 text 0\n" else empty_slot)
 
 -- the link information of the library's unit
 abbrev pub links_of_the_library : List ℕ
@@ -99,12 +102,14 @@ show_without_a_code = codes "order little\n" ++ slots_of_the_library ++ links_wi
 
 -- the slots of a host with these lines of DEMO and UTIL
 abbrev pub slots_of_two : List ℕ → List ℕ → List ℕ
-slots_of_two first second = slots_with (λ n. if n == 1 then first else (if n == 7 then second else empty_slot))
+slots_of_two first second = slots_with (λ n. if n == 1 then first
+    else (if n == 7 then second else empty_slot))
 
 -- the slots of the linked file of the host and its library: each is linked, and none has links
 abbrev pub slots_of_the_linked_file : List ℕ
 slots_of_the_linked_file =
-    slots_of_two (codes "DEMO     kind 0 address 1 length 18 text 0\n") (codes "UTIL     kind 0 address 2 length 24 text 0\n")
+    slots_of_two (codes "DEMO     kind 0 address 1 length 18 text 0\n")
+    (codes "UTIL     kind 0 address 2 length 24 text 0\n")
 
 -- the show of the linked file of the host and its library
 abbrev pub show_of_the_linked_file : List ℕ
@@ -112,7 +117,8 @@ show_of_the_linked_file = codes "order unknown\n" ++ slots_of_the_linked_file
 
 -- the host, which wants the unit in slot 7
 abbrev pub slots_of_the_host : List ℕ
-slots_of_the_host = slots_of_two (codes "DEMO     kind 1 address 1 length 18 text 0\n") (codes "UTIL     kind 3 address 0 length 0 text 0\n")
+slots_of_the_host = slots_of_two (codes "DEMO     kind 1 address 1 length 18 text 0\n")
+    (codes "UTIL     kind 3 address 0 length 0 text 0\n")
 
 -- the link information of the host's segment
 abbrev pub links_of_the_host : List ℕ

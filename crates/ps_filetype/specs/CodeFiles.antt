@@ -1,6 +1,8 @@
 -- What a code file is for, by the kinds of its segments, and how a file is read by itself.
 -- Source: this project's profile, over the kinds of the UCSD Pascal II.0 manual.
-use Rattle.std.specs.Prelude.{ℕ, ◌==◌, ◌&&◌, ◌||◌, not, if◌then◌else◌, List, slice_index, nat_le, Bool, true, false, Option, Some, None, Result, Ok, Err, codes}
+use Rattle.std.specs.Prelude.{ℕ, ◌==◌, ◌&&◌, ◌||◌, not, if◌then◌else◌, List}
+use Rattle.std.specs.Prelude.{slice_index, nat_le, Bool, true, false, Option, Some, None, Result}
+use Rattle.std.specs.Prelude.{Ok, Err, codes}
 use Rattle.std.specs.List.{list_any}
 use Rattle.std.specs.Option.{option_map_or}
 use Rattle.std.specs.Result.{is_ok, result_ok}
@@ -8,7 +10,8 @@ use Rattle.ps_words.specs.declared.order.Order.{Order}
 use Rattle.ps_words.specs.declared.order.Order.TheVariants.{Little, Big}
 use Rattle.ps_words.specs.declared.fault.Reason.{Reason}
 use Rattle.ps_words.specs.declared.fault.Reason.TheVariants as reason
-use Rattle.ps_codefile.specs.Dictionary.{OpenedFile, code_of, entry_at, is_filled, opened_alone, opened_beside, slots}
+use Rattle.ps_codefile.specs.Dictionary.{OpenedFile, code_of, entry_at, is_filled, opened_alone}
+use Rattle.ps_codefile.specs.Dictionary.{opened_beside, slots}
 use Rattle.ps_codefile.specs.declared.entry.Entry.{Entry}
 use Rattle.ps_filetype.specs.declared.code_file.CodeFile.{CodeFile}
 use Rattle.ps_filetype.specs.declared.code_file.CodeFile.TheVariants.{Host, Library, Linked, Mixed}
@@ -19,7 +22,8 @@ tells e = is_filled e || e.kind == 3
 
 -- the entry of a slot says it, and is of this kind
 abbrev pub is_kind : ℕ → Order → List ℕ → ℕ → Bool
-is_kind kind order file slot = tells (entry_at order file slot) && (entry_at order file slot).kind == kind
+is_kind kind order file slot = tells (entry_at order file slot)
+    && (entry_at order file slot).kind == kind
 
 -- some entry says it and is of this kind: 1 of a host program, 0 of a linked segment
 unfoldable pub has_kind : ℕ → Order → List ℕ → Bool
@@ -27,7 +31,8 @@ has_kind kind order file = list_any (is_kind kind order file) slots
 
 -- the entry of a slot says it, and is of neither
 abbrev pub is_other : Order → List ℕ → ℕ → Bool
-is_other order file slot = tells (entry_at order file slot) && not (is_kind 1 order file slot) && not (is_kind 0 order file slot)
+is_other order file slot = tells (entry_at order file slot) && not (is_kind 1 order file slot)
+    && not (is_kind 0 order file slot)
 
 -- some entry says it and is of neither
 unfoldable pub has_other : Order → List ℕ → Bool
@@ -53,7 +58,8 @@ is_named name = nat_le 33 (slice_index name 0) && nat_le (slice_index name 0) 12
 
 -- the entry of a slot has a name, and its code is in the file
 abbrev pub is_whole : Order → List ℕ → ℕ → Bool
-is_whole order file slot = is_filled (entry_at order file slot) && is_named (entry_at order file slot).name && is_ok (code_of file (entry_at order file slot))
+is_whole order file slot = is_filled (entry_at order file slot)
+    && is_named (entry_at order file slot).name && is_ok (code_of file (entry_at order file slot))
 
 -- some entry has a name, and its code is in the file
 unfoldable pub has_code : Order → List ℕ → Bool
@@ -61,11 +67,13 @@ has_code order file = list_any (is_whole order file) slots
 
 -- the same of a file that can be read in this order
 abbrev pub has_code_beside : Order → List ℕ → Bool
-has_code_beside order file = option_map_or (λ f. has_code f.order f.file) (result_ok (opened_beside order file)) false
+has_code_beside order file = option_map_or (λ f. has_code f.order f.file)
+    (result_ok (opened_beside order file)) false
 
 -- the order of a file whose kind words are all 0: that in which it has a code
 abbrev pub order_by_codes : List ℕ → Order
-order_by_codes file = if not (has_code_beside Little file) && has_code_beside Big file then Big else Little
+order_by_codes file = if not (has_code_beside Little file) && has_code_beside Big file then Big
+    else Little
 
 -- a file that has no kind but 0 is read in the order of its codes
 abbrev pub opened_after : List ℕ → Result OpenedFile Reason → Result OpenedFile Reason

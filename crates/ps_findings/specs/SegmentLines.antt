@@ -1,7 +1,9 @@
 -- What a report says of each segment of a link: its slot and its name, what it is, and where its
 -- code comes from.
 -- Source: this project's profile.
-use Rattle.std.specs.Prelude.{ℕ, ◌+◌, ◌/◌, ◌%◌, ◌==◌, if◌then◌else◌, List, [], ◌∷◌, ◌++◌, Option, Some, None, length, map, codes, decimal}
+use Rattle.std.specs.Prelude.{ℕ, ◌+◌, ◌/◌, ◌%◌, ◌==◌, if◌then◌else◌, List}
+use Rattle.std.specs.Prelude.{[], ◌∷◌, ◌++◌, Option, Some, None, length, map, codes}
+use Rattle.std.specs.Prelude.{decimal}
 use Rattle.std.specs.List.{find}
 use Rattle.std.specs.Option.{option_map_or}
 use Rattle.std.specs.Str.{bytes_eq}
@@ -23,7 +25,8 @@ two_digits n = (48 + n / 10) ∷ (48 + n % 10) ∷ []
 
 -- the first segment in this slot has this name; a blank one, where there is none
 abbrev pub name_in : List Segment → ℕ → List ℕ
-name_in segs slot = option_map_or (λ s. s.name) (find (λ s. s.slot == slot) segs) (codes "        ")
+name_in segs slot = option_map_or (λ s. s.name) (find (λ s. s.slot == slot) segs)
+    (codes "        ")
 
 -- a unit that is added for this record, the first that requests its name
 abbrev pub part_added : List Segment → Option UnitReference → Part
@@ -41,7 +44,8 @@ part_as segs requests s role.Plain = part.Plain
 part_as segs requests s role.Host = part.Host
 part_as segs requests s role.Unit = part.Unit
 part_as segs requests s role.Empty = part.Wanted
-part_as segs requests s role.Wanted = if s.added then part_added segs (asker_of requests s.name) else part.Wanted
+part_as segs requests s role.Wanted = if s.added then part_added segs (asker_of requests s.name)
+    else part.Wanted
 
 -- `slot 08 UTIL: a unit that record 0 of MAIN requests`, or `no slot UTIL: ..`
 abbrev pub slot_words : Option ℕ → List ℕ
@@ -49,23 +53,30 @@ slot_words None = codes "no slot"
 slot_words (Some slot) = codes "slot " ++ two_digits slot
 
 abbrev pub head_words : Option ℕ → List ℕ → Part → List ℕ
-head_words slot name what = slot_words slot ++ (32 ∷ (shown_name name ++ (codes ": " ++ part_words what)))
+head_words slot name what = slot_words slot
+    ++ (32 ∷ (shown_name name ++ (codes ": " ++ part_words what)))
 
 -- `, from LIB entry 03, 24 bytes`
 abbrev pub from_words : List ℕ → ℕ → ℕ → List ℕ
-from_words path index size = codes ", from " ++ (shown_path path ++ (codes " entry " ++ (two_digits index ++ (codes ", " ++ (decimal size ++ codes " bytes")))))
+from_words path index size = codes ", from "
+    ++ (shown_path path ++ (codes " entry "
+    ++ (two_digits index ++ (codes ", " ++ (decimal size ++ codes " bytes")))))
 
 -- `slot 08 UTIL: a unit that record 0 of MAIN requests, from LIB entry 03, 24 bytes`
-unfoldable pub segment_line : List (List ℕ) → List Segment → List UnitReference → Segment → List ℕ
+unfoldable pub segment_line : List (List ℕ) → List Segment → List UnitReference → Segment
+    → List ℕ
 segment_line paths segs requests s =
-    head_words (Some s.slot) s.name (part_as segs requests s s.role) ++ from_words (path_of paths s.file) s.index (length s.code)
+    head_words (Some s.slot) s.name (part_as segs requests s s.role)
+    ++ from_words (path_of paths s.file) s.index (length s.code)
 
 -- the lines of these segments, by slot
-abbrev pub lines_of_segments : List (List ℕ) → List Segment → List UnitReference → List (List ℕ)
+abbrev pub lines_of_segments : List (List ℕ) → List Segment → List UnitReference
+    → List (List ℕ)
 lines_of_segments paths segs requests = map (segment_line paths segs requests) segs
 
 -- the line of each segment of a link, by slot; the first path is the host's
 abbrev pub segment_lines : List (List ℕ) → List ℕ → List (List ℕ) → List (List ℕ)
 segment_lines paths host libs =
     let order = order_of host in
-    lines_of_segments paths (segments order host libs) (read_requests order host (opened_files order libs))
+    lines_of_segments paths (segments order host libs)
+    (read_requests order host (opened_files order libs))

@@ -1,6 +1,7 @@
 -- The lines of a text that begin with `slot `.
 -- Source: this project's profile.
-use Rattle.std.specs.Prelude.{◌≡◌, ℕ, ◌==◌, not, if◌then◌else◌, Bool, List, [], ◌∷◌, ◌++◌, codes}
+use Rattle.std.specs.Prelude.{◌≡◌, ℕ, ◌==◌, not, if◌then◌else◌, Bool, List, []}
+use Rattle.std.specs.Prelude.{◌∷◌, ◌++◌, codes}
 use Rattle.std.specs.List.{filter, list_all, starts_with}
 
 -- a byte before the first of these lines
@@ -11,7 +12,8 @@ with_first byte (line ∷ lines) = (byte ∷ line) ∷ lines
 -- the lines of a text, each without the byte 10 that ends it
 abbrev pub lines_of : List ℕ → List (List ℕ)
 lines_of [] = []
-lines_of (byte ∷ text) = if byte == 10 then [] ∷ lines_of text else with_first byte (lines_of text)
+lines_of (byte ∷ text) = if byte == 10 then [] ∷ lines_of text
+    else with_first byte (lines_of text)
 
 -- a line begins with `slot `
 abbrev pub is_slot_line : List ℕ → Bool
@@ -25,7 +27,8 @@ slot_lines text = filter is_slot_line (lines_of text)
 -- follows it
 abbrev pub AddsSlotLines : List ℕ → List (List ℕ) → List ℕ → Type 0
 AddsSlotLines old lines new =
-    (more : List ℕ) × (new ≡ old ++ more) × ((rest : List ℕ) → slot_lines (more ++ rest) ≡ lines ++ slot_lines rest)
+    (more : List ℕ) × (new ≡ old ++ more)
+    × ((rest : List ℕ) → slot_lines (more ++ rest) ≡ lines ++ slot_lines rest)
 
 -- a text has no byte 10, and so is within a line
 abbrev pub one_line : List ℕ → Bool

@@ -1,5 +1,7 @@
 -- The record with an index, of records that are given one by one with their indices.
-use Rattle.std.proofs.Common.{◌≡◌, ℕ, suc, ◌+◌, ◌-◌, ◌<◌, ◌≤◌, List, [], ◌∷◌, length, Option, Some, None, refl, sym, ◌∙◌, ap, arith}
+use Rattle.std.proofs.Common.{◌≡◌, ℕ, suc, ◌+◌, ◌-◌, ◌<◌, ◌≤◌, List, []}
+use Rattle.std.proofs.Common.{◌∷◌, length, Option, Some, None, refl, sym, ◌∙◌, ap}
+use Rattle.std.proofs.Common.{arith}
 use Rattle.std.specs.Prelude.{slice_get}
 use Rattle.std.proofs.lemmas.Option.{some_pair_parts}
 use Rattle.ps_linkinfo.specs.Numbered.{numbered_records}
@@ -14,21 +16,28 @@ pub record IsAhead (all : List Record) (rec : ℕ) (left : List (ℕ × Record))
   pub same : slice_get all rec ≡ slice_get rest (rec - index)
 
 -- the first of the records that are left is that with its index, and the others are after it
-split : (n : ℕ) (rs : List Record) (i : ℕ) (r : Record) (more : List (ℕ × Record)) → numbered_records n rs ≡ (i, r) ∷ more
-    → (rest : List Record) × (rs ≡ r ∷ rest) × (n ≡ i) × (more ≡ numbered_records (n + 1) rest)
+split : (n : ℕ) (rs : List Record) (i : ℕ) (r : Record) (more : List (ℕ × Record))
+    → numbered_records n rs ≡ (i, r) ∷ more
+    → (rest : List Record) × (rs ≡ r ∷ rest) × (n ≡ i)
+    × (more ≡ numbered_records (n + 1) rest)
 split n [] i r more e = absurd (omega (arith, ap length e))
 split n (s ∷ rest) i r more e =
     let same = some_pair_parts n i s r (cc) in
     let behind : numbered_records (n + 1) rest ≡ more = cc in
     (rest, ap (λ (q : Record). q ∷ rest) same.1, same.0, sym behind)
 
-pub found : (all : List Record) (rec i : ℕ) (r : Record) (left more : List (ℕ × Record)) → IsAhead all rec left → left ≡ (i, r) ∷ more → i ≡ rec → slice_get all rec ≡ Some r
+pub found : (all : List Record) (rec i : ℕ) (r : Record) (left more : List (ℕ × Record))
+    → IsAhead all rec left → left ≡ (i, r) ∷ more → i ≡ rec
+    → slice_get all rec ≡ Some r
 found all rec i r left more ahead is at =
     let parts = split ahead.index ahead.rest i r more (sym ahead.numbered ∙ is) in
     let none : rec - ahead.index ≡ 0 = omega (arith, parts.2, at) in
-    ahead.same ∙ (ap (λ (k : ℕ). slice_get ahead.rest k) none ∙ ap (λ (rs : List Record). slice_get rs 0) parts.1)
+    ahead.same ∙ (ap (λ (k : ℕ). slice_get ahead.rest k) none
+    ∙ ap (λ (rs : List Record). slice_get rs 0) parts.1)
 
-pub passed : (all : List Record) (rec i : ℕ) (r : Record) (left more : List (ℕ × Record)) → IsAhead all rec left → left ≡ (i, r) ∷ more → (i ≡ rec → ⊥) → IsAhead all rec more
+pub passed : (all : List Record) (rec i : ℕ) (r : Record) (left more : List (ℕ × Record))
+    → IsAhead all rec left → left ≡ (i, r) ∷ more → (i ≡ rec → ⊥)
+    → IsAhead all rec more
 passed all rec i r left more ahead is other =
     let parts = split ahead.index ahead.rest i r more (sym ahead.numbered ∙ is) in
     let at_most = ahead.low in
@@ -40,12 +49,15 @@ passed all rec i r left more ahead is other =
       rest = parts.0;
       numbered = parts.3;
       low = omega (arith, low);
-      same = ahead.same ∙ (ap (λ (k : ℕ). slice_get ahead.rest k) one ∙ ap (λ (rs : List Record). slice_get rs (suc (rec - (ahead.index + 1)))) parts.1);
+      same = ahead.same ∙ (ap (λ (k : ℕ). slice_get ahead.rest k) one
+          ∙ ap (λ (rs : List Record). slice_get rs (suc (rec - (ahead.index + 1)))) parts.1);
     }
 
-pub missing : (all : List Record) (rec : ℕ) (left : List (ℕ × Record)) → IsAhead all rec left → left ≡ [] → slice_get all rec ≡ None
+pub missing : (all : List Record) (rec : ℕ) (left : List (ℕ × Record)) → IsAhead all rec left
+    → left ≡ [] → slice_get all rec ≡ None
 missing all rec left ahead is = at ahead.index ahead.rest (sym ahead.numbered ∙ is) ahead.same
   where
-    at : (n : ℕ) (rs : List Record) → numbered_records n rs ≡ [] → slice_get all rec ≡ slice_get rs (rec - n) → slice_get all rec ≡ None
+    at : (n : ℕ) (rs : List Record) → numbered_records n rs ≡ []
+        → slice_get all rec ≡ slice_get rs (rec - n) → slice_get all rec ≡ None
     at n [] e same = same
     at n (s ∷ rest) e same = absurd (omega (arith, ap length e))

@@ -1,12 +1,17 @@
 -- Walks over link information.
-use Rattle.std.proofs.Common.{◌≡◌, ℕ, zero, suc, ◌+◌, ◌/◌, ◌-◌, ◌≤◌, List, [], ◌∷◌, ◌++◌, length, length-drop, drop, Bool, true, false, Option, Some, None, Result, Ok, Err, refl, sym, ◌∙◌, ap, subst, append_assoc, arith}
+use Rattle.std.proofs.Common.{◌≡◌, ℕ, zero, suc, ◌+◌, ◌/◌, ◌-◌, ◌≤◌, List}
+use Rattle.std.proofs.Common.{[], ◌∷◌, ◌++◌, length, length-drop, drop, Bool, true, false}
+use Rattle.std.proofs.Common.{Option, Some, None, Result, Ok, Err, refl, sym, ◌∙◌, ap, subst}
+use Rattle.std.proofs.Common.{append_assoc, arith}
 use Rattle.std.specs.List.{AllByRecursion, filter_map}
 use Rattle.std.specs.Result.{result_ok}
 use Rattle.ps_words.specs.declared.order.Order.{Order}
 use Rattle.ps_words.specs.declared.fault.Reason.{Reason}
-use Rattle.ps_linkinfo.specs.Records.{AreSpelled, BeginsWith, reading, read_from, record_at, size_of, is_eof, bad, used_by}
+use Rattle.ps_linkinfo.specs.Records.{AreSpelled, BeginsWith, reading, read_from, record_at}
+use Rattle.ps_linkinfo.specs.Records.{size_of, is_eof, bad, used_by}
 use Rattle.ps_linkinfo.specs.Walk.{Walk, Advances, HasGiven, left_of, whole_walk}
-use Rattle.ps_linkinfo.specs.Left.{items_of, items_at, items_left, records_left, fault_in, fault_left}
+use Rattle.ps_linkinfo.specs.Left.{items_of, items_at, items_left, records_left, fault_in}
+use Rattle.ps_linkinfo.specs.Left.{fault_left}
 use Rattle.ps_linkinfo.proofs.Spelled.{spelled_fit, spelled_more, used_more, used_cons}
 use Rattle.ps_linkinfo.proofs.Readings.{record_is}
 use Rattle.ps_linkinfo.proofs.Steps.{long_enough, read_end, size_least}
@@ -16,7 +21,8 @@ use Rattle.std.proofs.lemmas.List.Sums.{sum_by-append}
 use Rattle.ps_linkinfo.specs.declared.record.LinkRecord.{LinkRecord as Record}
 
 -- the records among a reading's items are its records
-oks_of_items : (rs : List Record) (why : Option Reason) → filter_map result_ok (items_of (rs, why)) ≡ rs
+oks_of_items : (rs : List Record) (why : Option Reason)
+    → filter_map result_ok (items_of (rs, why)) ≡ rs
 oks_of_items [] None = refl
 oks_of_items [] (Some why) = refl
 oks_of_items (r ∷ rs) why = ap (λ (xs : List Record). r ∷ xs) (oks_of_items rs why)
@@ -28,37 +34,49 @@ fault_of_items [] (Some why) = refl
 fault_of_items (r ∷ rs) why = fault_of_items rs why
 
 -- a walk begins with all items
-pub items_first : (order : Order) (bytes : List ℕ) → items_left (whole_walk order bytes) ≡ items_of (reading order bytes)
+pub items_first : (order : Order) (bytes : List ℕ)
+    → items_left (whole_walk order bytes) ≡ items_of (reading order bytes)
 unfolding items_at
 items_first order bytes = refl
 
-pub records_first : (order : Order) (bytes : List ℕ) → records_left (whole_walk order bytes) ≡ (reading order bytes).0
-records_first order bytes = ap (λ (is : List (Result Record Reason)). filter_map result_ok is) (items_first order bytes) ∙ oks_of_items (reading order bytes).0 (reading order bytes).1
+pub records_first : (order : Order) (bytes : List ℕ)
+    → records_left (whole_walk order bytes) ≡ (reading order bytes).0
+records_first order bytes = ap (λ (is : List (Result Record Reason)). filter_map result_ok is)
+    (items_first order bytes) ∙ oks_of_items (reading order bytes).0 (reading order bytes).1
 
-pub fault_first : (order : Order) (bytes : List ℕ) → fault_left (whole_walk order bytes) ≡ (reading order bytes).1
-fault_first order bytes = ap fault_in (items_first order bytes) ∙ fault_of_items (reading order bytes).0 (reading order bytes).1
+pub fault_first : (order : Order) (bytes : List ℕ)
+    → fault_left (whole_walk order bytes) ≡ (reading order bytes).1
+fault_first order bytes = ap fault_in (items_first order bytes)
+    ∙ fault_of_items (reading order bytes).0 (reading order bytes).1
 
 -- a record takes 16 bytes at least
-few_from : (n : ℕ) (order : Order) (x : List ℕ) → length (read_from n order x).0 ≤ length x / 16
+few_from : (n : ℕ) (order : Order) (x : List ℕ)
+    → length (read_from n order x).0 ≤ length x / 16
 few_from zero order x = omega arith
-few_from (suc n) order x = at (λ y. few_from n order y) (bad order x) refl (is_eof (record_at order x)) refl
+few_from (suc n) order x = at (λ y. few_from n order y) (bad order x) refl
+    (is_eof (record_at order x)) refl
   where
     r : Record
     r = record_at order x
 
-    at : ((y : List ℕ) → length (read_from n order y).0 ≤ length y / 16) → (b : Option Reason) → bad order x ≡ b → (e : Bool) → is_eof (record_at order x) ≡ e → length (read_from (suc n) order x).0 ≤ length x / 16
+    at : ((y : List ℕ) → length (read_from n order y).0 ≤ length y / 16)
+        → (b : Option Reason) → bad order x ≡ b → (e : Bool)
+        → is_eof (record_at order x) ≡ e
+        → length (read_from (suc n) order x).0 ≤ length x / 16
     at again (Some why) p e q = rw (p, read_from) (omega arith)
     at again None p true q = let long = long_enough order x p in rw (p, q, read_from) (omega arith)
     at again None p false q =
         let size = size_least r in
         let whole : size_of r ≤ length x = (begins_at order x p).whole in
-        rw (p, q, read_from) (omega (arith, again (drop (size_of r) x), length-drop (size_of r) x, whole, size))
+        rw (p, q, read_from)
+        (omega (arith, again (drop (size_of r) x), length-drop (size_of r) x, whole, size))
 
 pub few : (order : Order) (x : List ℕ) → length (reading order x).0 ≤ length x / 16
 few order x = few_from (length x / 16 + 1) order x
 
 -- a reading has at most one item more than it has records
-items_count : (rs : List Record) (why : Option Reason) → length (items_of (rs, why)) ≤ length rs + 1
+items_count : (rs : List Record) (why : Option Reason)
+    → length (items_of (rs, why)) ≤ length rs + 1
 items_count [] None = omega arith
 items_count [] (Some why) = omega arith
 items_count (r ∷ rs) why = omega (arith, items_count rs why)
@@ -73,7 +91,12 @@ few_left w = at w.ended refl
     x = drop w.used w.bytes
 
     count : length (items_at w) ≤ (length w.bytes - w.used) / 16 + 1
-    count = omega (arith, items_count (reading w.order x).0 (reading w.order x).1, few w.order x, length-drop w.used w.bytes)
+    count = omega (
+      arith,
+      items_count (reading w.order x).0 (reading w.order x).1,
+      few w.order x,
+      length-drop w.used w.bytes,
+    )
 
     at : (b : Bool) → w.ended ≡ b → length (items_left w) ≤ left_of w
     at true e = rw e (omega arith)
@@ -84,33 +107,46 @@ pub given_first : (order : Order) (bytes : List ℕ) → HasGiven (whole_walk or
 given_first order bytes = record { spelled = tt; used = refl }
 
 -- a walk that gives a record has given this record too, after those before it
-pub given_more : (w v : Walk) (rs : List Record) (r : Record) → HasGiven w rs → Advances w (Some (Ok r)) v → HasGiven v (rs ++ r ∷ [])
+pub given_more : (w v : Walk) (rs : List Record) (r : Record) → HasGiven w rs
+    → Advances w (Some (Ok r)) v → HasGiven v (rs ++ r ∷ [])
 given_more w v rs r h a =
     let next : Walk = record w { used = w.used + size_of r; ended = is_eof r } in
-    let begins : BeginsWith w.order (drop (used_by rs) w.bytes) r = subst (λ (n : ℕ). BeginsWith w.order (drop n w.bytes) r) h.used a.1 in
-    let so_far : HasGiven next (rs ++ r ∷ []) = record { spelled = spelled_more w.order w.bytes rs r h.spelled begins; used = ap (λ (n : ℕ). n + size_of r) h.used ∙ sym (used_more rs r) } in
+    let begins : BeginsWith w.order (drop (used_by rs) w.bytes) r =
+    subst (λ (n : ℕ). BeginsWith w.order (drop n w.bytes) r) h.used a.1 in
+    let so_far : HasGiven next (rs ++ r ∷ []) =
+    record {
+      spelled = spelled_more w.order w.bytes rs r h.spelled begins;
+      used =
+          ap (λ (n : ℕ). n + size_of r) h.used ∙ sym (used_more rs r);
+    } in
     subst (λ (u : Walk). HasGiven u (rs ++ r ∷ [])) (sym a.2) so_far
 
 -- a walk that gives a fault has given the records that it had given before
-pub given_fault : (w v : Walk) (rs : List Record) (why : Reason) → HasGiven w rs → Advances w (Some (Err why)) v → HasGiven v rs
+pub given_fault : (w v : Walk) (rs : List Record) (why : Reason) → HasGiven w rs
+    → Advances w (Some (Err why)) v → HasGiven v rs
 given_fault w v rs why h a =
     let next : Walk = record w { ended = true } in
     let so_far : HasGiven next rs = record { spelled = h.spelled; used = h.used } in
     subst (λ (u : Walk). HasGiven u rs) (sym a.2) so_far
 
 -- records that are spelled and take as many bytes are the same
-one_row : (order : Order) (bytes : List ℕ) (rs ss : List Record) → AreSpelled order bytes rs → AreSpelled order bytes ss → used_by rs ≡ used_by ss → ss ≡ rs
+one_row : (order : Order) (bytes : List ℕ) (rs ss : List Record) → AreSpelled order bytes rs
+    → AreSpelled order bytes ss → used_by rs ≡ used_by ss → ss ≡ rs
 one_row order bytes [] [] h k e = refl
 one_row order bytes [] (s ∷ ss) h k e = absurd (omega (arith, used_cons s ss, size_least s, e))
 one_row order bytes (r ∷ rs) [] h k e = absurd (omega (arith, used_cons r rs, size_least r, e))
 one_row order bytes (r ∷ rs) (s ∷ ss) h k e =
     let same : s ≡ r = record_is order bytes s k.0 ∙ sym (record_is order bytes r h.0) in
     let size : size_of s ≡ size_of r = ap size_of same in
-    let rest = one_row order (drop (size_of r) bytes) rs ss h.1 (subst (λ (n : ℕ). AreSpelled order (drop n bytes) ss) size k.1) (omega (arith, used_cons r rs, used_cons s ss, size, e)) in
+    let rest = one_row order (drop (size_of r) bytes) rs ss h.1
+    (subst (λ (n : ℕ). AreSpelled order (drop n bytes) ss) size k.1)
+    (omega (arith, used_cons r rs, used_cons s ss, size, e)) in
     cc
 
-pub given_one : (w : Walk) (rs others : List Record) → HasGiven w rs → HasGiven w others → others ≡ rs
-given_one w rs others h k = one_row w.order w.bytes rs others h.spelled k.spelled (sym h.used ∙ k.used)
+pub given_one : (w : Walk) (rs others : List Record) → HasGiven w rs → HasGiven w others
+    → others ≡ rs
+given_one w rs others h k = one_row w.order w.bytes rs others h.spelled k.spelled
+    (sym h.used ∙ k.used)
 
 -- a walk over these bytes has given these records, none of them an EOFMARK while it goes on, and
 -- has the rest of their reading to give
@@ -120,10 +156,17 @@ pub record Walked (order : Order) (bytes : List ℕ) (w : Walk) (rs : List Recor
   pub goes_on : w.ended ≡ false → AllByRecursion (λ r. is_eof r ≡ false) rs
 
 -- at its start
-pub walked_first : (order : Order) (bytes : List ℕ) → Walked order bytes (whole_walk order bytes) []
-walked_first order bytes = record { records = records_first order bytes; fault = fault_first order bytes; goes_on = λ _. tt }
+pub walked_first : (order : Order) (bytes : List ℕ)
+    → Walked order bytes (whole_walk order bytes) []
+walked_first order bytes = record {
+  records = records_first order bytes;
+  fault =
+      fault_first order bytes;
+  goes_on = λ _. tt;
+}
 
-goes_more : (rs : List Record) (r : Record) → AllByRecursion (λ r. is_eof r ≡ false) rs → is_eof r ≡ false → AllByRecursion (λ r. is_eof r ≡ false) (rs ++ r ∷ [])
+goes_more : (rs : List Record) (r : Record) → AllByRecursion (λ r. is_eof r ≡ false) rs
+    → is_eof r ≡ false → AllByRecursion (λ r. is_eof r ≡ false) (rs ++ r ∷ [])
 goes_more [] r h e = (e, tt)
 goes_more (x ∷ rs) r h e = (h.0, goes_more rs r h.1 e)
 
@@ -132,47 +175,70 @@ abbrev pub Steps : Walk → Result Record Reason → Walk → Type 0
 Steps w i v = Advances w (Some i) v × (items_left w ≡ i ∷ items_left v)
 
 -- a record more
-pub walked_more : (order : Order) (bytes : List ℕ) (w v : Walk) (rs : List Record) (i : Result Record Reason) (r : Record) → Walked order bytes w rs → Steps w i v → i ≡ Ok r → Walked order bytes v (rs ++ r ∷ [])
+pub walked_more : (order : Order) (bytes : List ℕ) (w v : Walk) (rs : List Record)
+    (i : Result Record Reason) (r : Record) → Walked order bytes w rs → Steps w i v
+    → i ≡ Ok r → Walked order bytes v (rs ++ r ∷ [])
 walked_more order bytes w v rs i r h step is = record {
-  records = append_assoc rs (r ∷ []) (records_left v) ∙ ap (λ (is : List (Result Record Reason)). rs ++ filter_map result_ok is) (sym now.1) ∙ h.records;
+  records = append_assoc rs (r ∷ []) (records_left v)
+      ∙ ap (λ (is : List (Result Record Reason)). rs ++ filter_map result_ok is) (sym now.1)
+      ∙ h.records;
   fault = ap fault_in (sym now.1) ∙ h.fault;
-  goes_on = λ e. goes_more rs r (h.goes_on now.0.0) (ap (λ (u : Walk). u.ended) (sym now.0.2) ∙ e);
+  goes_on = λ e. goes_more rs r (h.goes_on now.0.0)
+      (ap (λ (u : Walk). u.ended) (sym now.0.2) ∙ e);
 }
   where
     now : Steps w (Ok r) v
     now = subst (λ (j : Result Record Reason). Steps w j v) is step
 
 -- and none of those before it is an EOFMARK
-pub walked_on : (order : Order) (bytes : List ℕ) (w v : Walk) (rs : List Record) (i : Result Record Reason) (r : Record) → Walked order bytes w rs → Steps w i v → i ≡ Ok r → AllByRecursion (λ r. is_eof r ≡ false) rs
+pub walked_on : (order : Order) (bytes : List ℕ) (w v : Walk) (rs : List Record)
+    (i : Result Record Reason) (r : Record) → Walked order bytes w rs → Steps w i v
+    → i ≡ Ok r → AllByRecursion (λ r. is_eof r ≡ false) rs
 walked_on order bytes w v rs i r h step is =
     let now : Steps w (Ok r) v = subst (λ (j : Result Record Reason). Steps w j v) is step in
     h.goes_on now.0.0
 
 -- at its end these are all
-pub walked_all : (order : Order) (bytes : List ℕ) (w : Walk) (rs : List Record) → Walked order bytes w rs → items_left w ≡ [] → reading order bytes ≡ (rs, None)
+pub walked_all : (order : Order) (bytes : List ℕ) (w : Walk) (rs : List Record)
+    → Walked order bytes w rs → items_left w ≡ [] → reading order bytes ≡ (rs, None)
 walked_all order bytes w rs h none =
-    let records : rs ≡ (reading order bytes).0 = sym (append-nil rs) ∙ ap (λ (is : List (Result Record Reason)). rs ++ filter_map result_ok is) (sym none) ∙ h.records in
+    let records : rs ≡ (reading order bytes).0 =
+    sym (append-nil rs)
+    ∙ ap (λ (is : List (Result Record Reason)). rs ++ filter_map result_ok is) (sym none)
+    ∙ h.records in
     let fault : None ≡ (reading order bytes).1 = ap fault_in (sym none) ∙ h.fault in
-    ap (λ (ss : List Record). (ss, (reading order bytes).1)) (sym records) ∙ ap (λ (why : Option Reason). (rs, why)) (sym fault)
+    ap (λ (ss : List Record). (ss, (reading order bytes).1)) (sym records)
+    ∙ ap (λ (why : Option Reason). (rs, why)) (sym fault)
 
 -- at a fault these are all, and it is the fault
-pub walked_to_fault : (order : Order) (bytes : List ℕ) (w v : Walk) (rs : List Record) (i : Result Record Reason) (why : Reason) → Walked order bytes w rs → Steps w i v → i ≡ Err why → reading order bytes ≡ (rs, Some why)
+pub walked_to_fault : (order : Order) (bytes : List ℕ) (w v : Walk) (rs : List Record)
+    (i : Result Record Reason) (why : Reason) → Walked order bytes w rs → Steps w i v
+    → i ≡ Err why → reading order bytes ≡ (rs, Some why)
 walked_to_fault order bytes w v rs i why h step is =
     let now : Steps w (Err why) v = subst (λ (j : Result Record Reason). Steps w j v) is step in
     let ended : items_left v ≡ [] = ap items_left now.0.2 in
-    let only : items_left w ≡ Err why ∷ [] = now.1 ∙ ap (λ (is : List (Result Record Reason)). Err why ∷ is) ended in
-    let records : rs ≡ (reading order bytes).0 = sym (append-nil rs) ∙ ap (λ (is : List (Result Record Reason)). rs ++ filter_map result_ok is) (sym only) ∙ h.records in
+    let only : items_left w ≡ Err why ∷ [] =
+    now.1 ∙ ap (λ (is : List (Result Record Reason)). Err why ∷ is) ended in
+    let records : rs ≡ (reading order bytes).0 =
+    sym (append-nil rs)
+    ∙ ap (λ (is : List (Result Record Reason)). rs ++ filter_map result_ok is) (sym only)
+    ∙ h.records in
     let fault : Some why ≡ (reading order bytes).1 = ap fault_in (sym only) ∙ h.fault in
-    ap (λ (ss : List Record). (ss, (reading order bytes).1)) (sym records) ∙ ap (λ (w : Option Reason). (rs, w)) (sym fault)
+    ap (λ (ss : List Record). (ss, (reading order bytes).1)) (sym records)
+    ∙ ap (λ (w : Option Reason). (rs, w)) (sym fault)
 
 -- what it has given fits in the bytes
-pub walked_fits : (order : Order) (bytes : List ℕ) (w : Walk) (rs : List Record) → Walked order bytes w rs → used_by rs ≤ length bytes
+pub walked_fits : (order : Order) (bytes : List ℕ) (w : Walk) (rs : List Record)
+    → Walked order bytes w rs → used_by rs ≤ length bytes
 walked_fits order bytes w rs h =
-    let all : used_by (rs ++ records_left w) ≤ length bytes = subst (λ (ss : List Record). used_by ss ≤ length bytes) (sym h.records) (spelled_fit order bytes (reading order bytes).0 (reading_spelled order bytes)) in
+    let all : used_by (rs ++ records_left w) ≤ length bytes =
+    subst (λ (ss : List Record). used_by ss ≤ length bytes) (sym h.records)
+    (spelled_fit order bytes (reading order bytes).0 (reading_spelled order bytes)) in
     omega (arith, sum_by-append size_of rs (records_left w), all)
 
 -- where a record was given, no fault applies first
-pub walked_good : (order : Order) (bytes : List ℕ) (w : Walk) (rs : List Record) (r : Record) → Walked order bytes w (rs ++ r ∷ []) → bad order bytes ≡ None
+pub walked_good : (order : Order) (bytes : List ℕ) (w : Walk) (rs : List Record) (r : Record)
+    → Walked order bytes w (rs ++ r ∷ []) → bad order bytes ≡ None
 walked_good order bytes w rs r h = at (bad order bytes) refl
   where
     some : (xs ys : List Record) → (xs ++ r ∷ []) ++ ys ≡ [] → ⊥
@@ -181,4 +247,6 @@ walked_good order bytes w rs r h = at (bad order bytes) refl
 
     at : (b : Option Reason) → bad order bytes ≡ b → b ≡ None
     at None p = refl
-    at (Some why) p = absurd (some rs (records_left w) (h.records ∙ ap (λ (read : List Record × Option Reason). read.0) (read_end order bytes why p)))
+    at (Some why) p = absurd (some rs (records_left w)
+        (h.records ∙ ap (λ (read : List Record × Option Reason). read.0)
+        (read_end order bytes why p)))

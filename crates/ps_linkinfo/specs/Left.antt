@@ -1,6 +1,7 @@
 -- What a walk over link information has left to give.
 -- Source: this project's profile.
-use Rattle.std.specs.Prelude.{List, [], ◌∷◌, ◌++◌, drop, map, if◌then◌else◌, Option, Some, None, Result, Ok, Err}
+use Rattle.std.specs.Prelude.{List, [], ◌∷◌, ◌++◌, drop, map, if◌then◌else◌, Option}
+use Rattle.std.specs.Prelude.{Some, None, Result, Ok, Err}
 use Rattle.std.specs.List.{filter_map}
 use Rattle.std.specs.Result.{result_ok}
 use Rattle.ps_linkinfo.specs.Records.{reading}
@@ -10,7 +11,8 @@ use Rattle.ps_linkinfo.specs.declared.record.LinkRecord.{LinkRecord as Record}
 
 -- the items of a reading: its records, and then its fault
 abbrev pub items_of : List Record × Option Reason → List (Result Record Reason)
-items_of read = map (λ r. Ok r) read.0 ++ (elim read.1 [ None ↦ [] | Some why ↦ Err why ∷ [] ])
+items_of read = map (λ r. Ok r) read.0 ++
+    (elim read.1 [ None ↦ [] | Some why ↦ Err why ∷ [] ])
 
 -- the items of the reading of the bytes from `used` on
 unfoldable pub items_at : Walk → List (Result Record Reason)

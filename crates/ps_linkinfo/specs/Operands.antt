@@ -5,7 +5,8 @@ use Rattle.std.specs.Option.{option_map}
 use Rattle.ps_linkinfo.specs.Records.{refs_of}
 use Rattle.ps_linkinfo.specs.declared.operand.Operand.{Operand}
 use Rattle.ps_linkinfo.specs.declared.record.Body.{Body}
-use Rattle.ps_linkinfo.specs.declared.record.Body.TheVariants.{UnitRef, PublRef, PrivRef, PublDef, ConstDef, Eof}
+use Rattle.ps_linkinfo.specs.declared.record.Body.TheVariants.{UnitRef, PublRef, PrivRef, PublDef}
+use Rattle.ps_linkinfo.specs.declared.record.Body.TheVariants.{ConstDef, Eof}
 
 -- how many bytes an operand has: one of a unit's number, two of a BIG value; other records have no
 -- operands
@@ -19,4 +20,6 @@ operand_width (Eof next) = 0
 
 -- the operand of a reference of a record, if it has so many
 abbrev pub operand_of : Body → ℕ → Option Operand
-operand_of body reference = option_map (λ place. record { place = place; width = operand_width body }) (slice_get (refs_of body) reference)
+operand_of body reference =
+    option_map (λ place. record { place = place; width = operand_width body })
+    (slice_get (refs_of body) reference)

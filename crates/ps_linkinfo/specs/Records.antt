@@ -4,12 +4,16 @@
 -- 14. A reference record has a list after them.
 -- Source: the published II.0 Linker source; the pieces of a list and the reasons are this project's
 -- profile.
-use Rattle.std.specs.Prelude.{◌≡◌, ℕ, zero, suc, ◌+◌, ◌*◌, ◌/◌, ◌≤◌, ◌==◌, ◌||◌, not, if◌then◌else◌, List, [], ◌∷◌, length, take, drop, map, nat_lt, Bool, true, false, Option, Some, None, ⊤, sum_by}
+use Rattle.std.specs.Prelude.{◌≡◌, ℕ, zero, suc, ◌+◌, ◌*◌, ◌/◌, ◌≤◌}
+use Rattle.std.specs.Prelude.{◌==◌, ◌||◌, not, if◌then◌else◌, List, [], ◌∷◌}
+use Rattle.std.specs.Prelude.{length, take, drop, map, nat_lt, Bool, true, false, Option, Some}
+use Rattle.std.specs.Prelude.{None, ⊤, sum_by}
 use Rattle.std.specs.List.{range_with_len, AllByRecursion}
 use Rattle.std.specs.Option.{option_or}
 use Rattle.ps_words.specs.Words.{word_at}
 use Rattle.ps_linkinfo.specs.declared.record.Body.{Body}
-use Rattle.ps_linkinfo.specs.declared.record.Body.TheVariants.{UnitRef, PublRef, PrivRef, PublDef, ConstDef, Eof}
+use Rattle.ps_linkinfo.specs.declared.record.Body.TheVariants.{UnitRef, PublRef, PrivRef, PublDef}
+use Rattle.ps_linkinfo.specs.declared.record.Body.TheVariants.{ConstDef, Eof}
 use Rattle.ps_linkinfo.specs.declared.record.LinkRecord.{LinkRecord as Record}
 use Rattle.ps_linkinfo.specs.declared.reader.ReadStop.{ReadStop}
 use Rattle.ps_linkinfo.specs.declared.reader.ReadStop.TheVariants.{Refused, Memory}
@@ -41,9 +45,12 @@ refs_at order x n = map (λ i. word_at order x (16 + 2 * i)) (range_with_len 0 n
 -- the first words of x spell the body, a line for each type: 1 UNITREF of format 1 BYTE, 3 PUBLREF
 -- and 4 PRIVREF of format 2 BIG, 7 PUBLDEF, 8 CONSTDEF, 0 EOFMARK
 abbrev pub IsBody : Order → List ℕ → Body → Type 0
-IsBody order x (UnitRef refs) = (word_at order x 8 ≡ 1) × (word_at order x 10 ≡ 1) × (refs ≡ refs_at order x (word_at order x 12))
-IsBody order x (PublRef refs) = (word_at order x 8 ≡ 3) × (word_at order x 10 ≡ 2) × (refs ≡ refs_at order x (word_at order x 12))
-IsBody order x (PrivRef words refs) = (word_at order x 8 ≡ 4) × (word_at order x 10 ≡ 2) × (refs ≡ refs_at order x (word_at order x 12)) × (words ≡ word_at order x 14)
+IsBody order x (UnitRef refs) = (word_at order x 8 ≡ 1) × (word_at order x 10 ≡ 1)
+    × (refs ≡ refs_at order x (word_at order x 12))
+IsBody order x (PublRef refs) = (word_at order x 8 ≡ 3) × (word_at order x 10 ≡ 2)
+    × (refs ≡ refs_at order x (word_at order x 12))
+IsBody order x (PrivRef words refs) = (word_at order x 8 ≡ 4) × (word_at order x 10 ≡ 2)
+    × (refs ≡ refs_at order x (word_at order x 12)) × (words ≡ word_at order x 14)
 IsBody order x (PublDef value) = (word_at order x 8 ≡ 7) × (value ≡ word_at order x 10)
 IsBody order x (ConstDef value) = (word_at order x 8 ≡ 8) × (value ≡ word_at order x 10)
 IsBody order x (Eof next) = (word_at order x 8 ≡ 0) × (next ≡ word_at order x 10)
@@ -74,7 +81,8 @@ used_by rs = sum_by size_of rs
 -- the bytes begin with the spellings of the records, one after another
 abbrev pub AreSpelled : Order → List ℕ → List Record → Type 0
 AreSpelled order bytes [] = ⊤
-AreSpelled order bytes (r ∷ rs) = BeginsWith order bytes r × AreSpelled order (drop (size_of r) bytes) rs
+AreSpelled order bytes (r ∷ rs) = BeginsWith order bytes r
+    × AreSpelled order (drop (size_of r) bytes) rs
 
 -- the last record is an EOFMARK, and no other is
 abbrev pub EndsOnce : List Record → Type 0
@@ -93,7 +101,8 @@ abbrev pub type_fault : ℕ → Option Reason
 type_fault kind =
     if nat_lt 14 kind then Some reason.UnknownRecord
     else (if nat_lt 10 kind then Some reason.SeparateRecord
-    else (if kind == 2 || kind == 5 || kind == 6 || kind == 9 || kind == 10 then Some reason.NativeRecord else None))
+    else (if kind == 2 || kind == 5 || kind == 6 || kind == 9 || kind == 10
+    then Some reason.NativeRecord else None))
 
 -- the format of a reference record of a type: 1 BYTE of a UNITREF, 2 BIG of a PUBLREF and of a
 -- PRIVREF; other records have none
@@ -106,7 +115,8 @@ bad_format order bytes format =
     let given = word_at order bytes 10 in
     if given == 0 then Some reason.NativeRecord
     else (if not (given == format) then Some reason.BadFormat
-    else (if nat_lt (length bytes) (16 + list_len (word_at order bytes 12)) then Some reason.RecordsTruncated else None))
+    else (if nat_lt (length bytes) (16 + list_len (word_at order bytes 12))
+    then Some reason.RecordsTruncated else None))
 
 -- why the bytes begin with no record, the first that fits of: fewer than 16 bytes, its type, its
 -- format, a list that is not whole
@@ -114,7 +124,8 @@ abbrev pub bad : Order → List ℕ → Option Reason
 bad order bytes =
     let kind = word_at order bytes 8 in
     if nat_lt (length bytes) 16 then Some reason.RecordsTruncated
-    else option_or (type_fault kind) (elim (format_of kind) [ None ↦ None | Some format ↦ bad_format order bytes format ])
+    else option_or (type_fault kind)
+    (elim (format_of kind) [ None ↦ None | Some format ↦ bad_format order bytes format ])
 
 -- the bytes begin with the spellings of the records, none of them an EOFMARK, and no record follows
 -- them, for this reason
@@ -149,7 +160,8 @@ read_from (suc n) order bytes =
           let r = record_at order bytes in
           elim (is_eof r) [
             | true ↦ (r ∷ [], None)
-            | false ↦ let rest = read_from n order (drop (size_of r) bytes) in (r ∷ rest.0, rest.1)
+            | false ↦ let rest = read_from n order (drop (size_of r) bytes) in
+                (r ∷ rest.0, rest.1)
           ]
     ]
 
@@ -167,5 +179,7 @@ pub record IsReading (order : Order) (bytes : List ℕ) (rs : List Record) : Typ
 -- why no list of records was read: as many records are before the fault, and the bytes spell no
 -- list; or memory ran out
 abbrev pub IsReadStop : Order → List ℕ → ReadStop → Type 0
-IsReadStop order bytes (Refused rec why) = (rs : List Record) × (length rs ≡ rec) × Stops order bytes rs why × ((others : List Record) → Spells order bytes others → ⊥)
+IsReadStop order bytes (Refused rec why) =
+    (rs : List Record) × (length rs ≡ rec) × Stops order bytes rs why
+    × ((others : List Record) → Spells order bytes others → ⊥)
 IsReadStop order bytes Memory = ⊤

@@ -1,7 +1,9 @@
 -- A walk over link information, record by record: where it is, what it may give next, which records
 -- it has given.
 -- Source: this project's profile.
-use Rattle.std.specs.Prelude.{◌≡◌, ℕ, ◌+◌, ◌-◌, ◌/◌, if◌then◌else◌, length, List, drop, Bool, true, false, Option, Some, None, Result, Ok, Err}
+use Rattle.std.specs.Prelude.{◌≡◌, ℕ, ◌+◌, ◌-◌, ◌/◌, if◌then◌else◌}
+use Rattle.std.specs.Prelude.{length, List, drop, Bool, true, false, Option, Some, None, Result, Ok}
+use Rattle.std.specs.Prelude.{Err}
 use Rattle.ps_words.specs.declared.order.Order.{Order}
 use Rattle.ps_words.specs.declared.fault.Reason.{Reason}
 use Rattle.ps_linkinfo.specs.Records.{AreSpelled, BeginsWith, bad, is_eof, size_of, used_by}
@@ -23,8 +25,12 @@ whole_walk order bytes = record { order = order; bytes = bytes; used = 0; ended 
 -- occurs at `used`, which ends it, or the record there, which ends it where it is an EOFMARK
 abbrev pub Advances : Walk → Option (Result Record Reason) → Walk → Type 0
 Advances old None new = (old.ended ≡ true) × (new ≡ old)
-Advances old (Some (Err why)) new = (old.ended ≡ false) × (bad old.order (drop old.used old.bytes) ≡ Some why) × (new ≡ record old { ended = true })
-Advances old (Some (Ok r)) new = (old.ended ≡ false) × BeginsWith old.order (drop old.used old.bytes) r × (new ≡ record old { used = old.used + size_of r; ended = is_eof r })
+Advances old (Some (Err why)) new = (old.ended ≡ false)
+    × (bad old.order (drop old.used old.bytes) ≡ Some why)
+    × (new ≡ record old { ended = true })
+Advances old (Some (Ok r)) new = (old.ended ≡ false)
+    × BeginsWith old.order (drop old.used old.bytes) r
+    × (new ≡ record old { used = old.used + size_of r; ended = is_eof r })
 
 -- at most how many items are left: one for each 16 bytes, and one for a fault
 abbrev pub left_of : Walk → ℕ

@@ -1,5 +1,7 @@
 -- The units of a file, slot by slot.
-use Rattle.std.proofs.Common.{◌≡◌, ℕ, suc, ◌+◌, ◌-◌, ◌<◌, List, [], ◌∷◌, ◌++◌, drop, Bool, true, false, Option, Some, None, append_assoc, append-nil, sym, ◌∙◌, ap, arith}
+use Rattle.std.proofs.Common.{◌≡◌, ℕ, suc, ◌+◌, ◌-◌, ◌<◌, List, [], ◌∷◌}
+use Rattle.std.proofs.Common.{◌++◌, drop, Bool, true, false, Option, Some, None, append_assoc}
+use Rattle.std.proofs.Common.{append-nil, sym, ◌∙◌, ap, arith}
 use Rattle.std.specs.Prelude.{◌||◌}
 use Rattle.std.specs.List.{cons_option, filter_map, list_any, range_with_len}
 use Rattle.std.specs.Option.{option_to_list}
@@ -8,11 +10,13 @@ use Rattle.ps_listing.specs.declared.lone.LoneUnit.{LoneUnit}
 
 module _ (f : ℕ → Option LoneUnit) (all old : List LoneUnit) (i : ℕ) where
   -- what is found in one slot more
-  pub one_more : (o : Option LoneUnit) → i < 16 → f i ≡ o → all ≡ old ++ filter_map f (range_with_len i (16 - i))
+  pub one_more : (o : Option LoneUnit) → i < 16 → f i ≡ o
+      → all ≡ old ++ filter_map f (range_with_len i (16 - i))
       → all ≡ (old ++ option_to_list o) ++ filter_map f (range_with_len (i + 1) (16 - (i + 1)))
   one_more o lt is h =
       let left : 16 - i ≡ suc (16 - (i + 1)) = omega arith in
-      h ∙ ap (λ (k : ℕ). old ++ filter_map f (range_with_len i k)) left ∙ ap (λ (p : Option LoneUnit). old ++ cons_option p rest) is ∙ at o
+      h ∙ ap (λ (k : ℕ). old ++ filter_map f (range_with_len i k)) left
+      ∙ ap (λ (p : Option LoneUnit). old ++ cons_option p rest) is ∙ at o
     where
       rest : List LoneUnit
       rest = filter_map f (range_with_len (i + 1) (16 - (i + 1)))
@@ -21,16 +25,28 @@ module _ (f : ℕ → Option LoneUnit) (all old : List LoneUnit) (i : ℕ) where
       at None = ap (λ (xs : List LoneUnit). xs ++ rest) (sym (append-nil old))
       at (Some u) = sym (append_assoc old (u ∷ []) rest)
 
-  pub none_more : i < 16 → f i ≡ None → all ≡ old ++ filter_map f (range_with_len i (16 - i)) → all ≡ old ++ filter_map f (range_with_len (i + 1) (16 - (i + 1)))
-  none_more lt is h = one_more None lt is h ∙ ap (λ (xs : List LoneUnit). xs ++ filter_map f (range_with_len (i + 1) (16 - (i + 1)))) (append-nil old)
+  pub none_more : i < 16 → f i ≡ None
+      → all ≡ old ++ filter_map f (range_with_len i (16 - i))
+      → all ≡ old ++ filter_map f (range_with_len (i + 1) (16 - (i + 1)))
+  none_more lt is h = one_more None lt is h
+      ∙ ap (λ (xs : List LoneUnit). xs ++ filter_map f (range_with_len (i + 1) (16 - (i + 1))))
+      (append-nil old)
 
   -- after the last slot
-  pub no_more : 16 - i ≡ 0 → all ≡ old ++ filter_map f (range_with_len i (16 - i)) → all ≡ old
-  no_more left h = h ∙ ap (λ (k : ℕ). old ++ filter_map f (range_with_len i k)) left ∙ append-nil old
+  pub no_more : 16 - i ≡ 0 → all ≡ old ++ filter_map f (range_with_len i (16 - i))
+      → all ≡ old
+  no_more left h = h ∙ ap (λ (k : ℕ). old ++ filter_map f (range_with_len i k)) left
+      ∙ append-nil old
 
 -- some of them has a fault where the unit at i has, and else where one after it has
-pub refused_here : (us : List LoneUnit) (i : ℕ) (u : LoneUnit) → drop i us ≡ u ∷ drop (i + 1) us → is_refused_unit u ≡ true → list_any is_refused_unit (drop i us) ≡ true
-refused_here us i u split found = ap (list_any is_refused_unit) split ∙ ap (λ (b : Bool). b || list_any is_refused_unit (drop (i + 1) us)) found
+pub refused_here : (us : List LoneUnit) (i : ℕ) (u : LoneUnit)
+    → drop i us ≡ u ∷ drop (i + 1) us → is_refused_unit u ≡ true
+    → list_any is_refused_unit (drop i us) ≡ true
+refused_here us i u split found = ap (list_any is_refused_unit) split
+    ∙ ap (λ (b : Bool). b || list_any is_refused_unit (drop (i + 1) us)) found
 
-pub refused_later : (us : List LoneUnit) (i : ℕ) (u : LoneUnit) → drop i us ≡ u ∷ drop (i + 1) us → is_refused_unit u ≡ false → list_any is_refused_unit (drop i us) ≡ list_any is_refused_unit (drop (i + 1) us)
-refused_later us i u split none = ap (list_any is_refused_unit) split ∙ ap (λ (b : Bool). b || list_any is_refused_unit (drop (i + 1) us)) none
+pub refused_later : (us : List LoneUnit) (i : ℕ) (u : LoneUnit)
+    → drop i us ≡ u ∷ drop (i + 1) us → is_refused_unit u ≡ false
+    → list_any is_refused_unit (drop i us) ≡ list_any is_refused_unit (drop (i + 1) us)
+refused_later us i u split none = ap (list_any is_refused_unit) split
+    ∙ ap (λ (b : Bool). b || list_any is_refused_unit (drop (i + 1) us)) none

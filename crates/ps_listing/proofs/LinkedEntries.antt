@@ -1,5 +1,6 @@
 -- The kind of an entry whose segment is to be linked.
-use Rattle.std.proofs.Common.{◌≡◌, ◌==◌, ◌&&◌, ◌||◌, not, if◌then◌else◌, Bool, true, false, refl, Ok, Err}
+use Rattle.std.proofs.Common.{◌≡◌, ◌==◌, ◌&&◌, ◌||◌, not, if◌then◌else◌}
+use Rattle.std.proofs.Common.{Bool, true, false, refl, Ok, Err}
 use Rattle.std.specs.Prelude.{Result, nat_le}
 use Rattle.ps_words.specs.declared.fault.Reason.{Reason}
 use Rattle.ps_words.specs.declared.fault.Reason.TheVariants as reason
@@ -10,7 +11,8 @@ use Rattle.ps_codefile.specs.declared.entry.Role.{Role}
 use Rattle.ps_codefile.specs.declared.entry.Role.TheVariants as role
 
 -- a role that is not to be linked is none of one that is
-not_linked : (r : Role) (x : Role) → needs_linking x ≡ false → ◌≡◌ {A = Result Role Reason} (Ok x) (Ok r) → needs_linking r ≡ true → ⊥
+not_linked : (r : Role) (x : Role) → needs_linking x ≡ false
+    → ◌≡◌ {A = Result Role Reason} (Ok x) (Ok r) → needs_linking r ≡ true → ⊥
 not_linked r x n h l = cc
 
 either : (a : Bool) → (a || true) ≡ true
@@ -49,6 +51,9 @@ from_tests k0 k1 k2 false k4 low absent named true r h l = absurd (not_linked r 
 from_tests k0 k1 k2 false k4 low absent named false r h l = from_kind k0 k1 k2 false k4 low r h l
 
 -- the entry of a segment that is to be linked is of kind 1 or 3
-pub linked_kind : (e : Entry) (r : Role) → role_of e ≡ Ok r → needs_linking r ≡ true → kind_needs_linking e.kind ≡ true
+pub linked_kind : (e : Entry) (r : Role) → role_of e ≡ Ok r → needs_linking r ≡ true
+    → kind_needs_linking e.kind ≡ true
 linked_kind e r h l =
-    from_tests (e.kind == 0) (e.kind == 1) (e.kind == 2) (e.kind == 3) (e.kind == 4) (nat_le e.kind 7) (e.address == 0 || e.length == 0) (not (is_nameless e.name)) (e.length == 0) r h l
+    from_tests (e.kind == 0) (e.kind == 1) (e.kind == 2) (e.kind == 3) (e.kind == 4)
+    (nat_le e.kind 7) (e.address == 0 || e.length == 0) (not (is_nameless e.name))
+    (e.length == 0) r h l

@@ -9,6 +9,7 @@ use Rattle.ps_listing.specs.ListText.{used_words}
 abbrev pub numbered_use : ℕ × Record → List ℕ
 numbered_use r = used_words r.1
 
-pub numbered_uses : (i : ℕ) (rs : List Record) → flat_map numbered_use (numbered_records i rs) ≡ flat_map used_words rs
+pub numbered_uses : (i : ℕ) (rs : List Record)
+    → flat_map numbered_use (numbered_records i rs) ≡ flat_map used_words rs
 numbered_uses i [] = refl
 numbered_uses i (r ∷ rs) = ap (λ (bs : List ℕ). used_words r ++ bs) (numbered_uses (i + 1) rs)

@@ -1,6 +1,7 @@
 -- The units of a file by themselves, and a line of each, made for grep.
 -- Source: this project's profile.
-use Rattle.std.specs.Prelude.{ℕ, ◌||◌, List, [], ◌∷◌, ◌++◌, codes, Bool, Option, Some, None, Result, Ok, Err, is_some, length, ◌==◌}
+use Rattle.std.specs.Prelude.{ℕ, ◌||◌, List, [], ◌∷◌, ◌++◌, codes, Bool, Option}
+use Rattle.std.specs.Prelude.{Some, None, Result, Ok, Err, is_some, length, ◌==◌}
 use Rattle.std.specs.List.{filter_map, flat_map, list_any}
 use Rattle.ps_words.specs.FaultText.{part_text}
 use Rattle.ps_words.specs.declared.fault.Reason.{Reason}
@@ -22,7 +23,12 @@ unit_of_role h slot (Ok role.Wanted) = None
 unit_of_role h slot (Ok role.Plain) = None
 unit_of_role h slot (Ok role.Host) = None
 unit_of_role h slot (Ok role.Unit) =
-    Some (record { slot = slot; name = (entry_at h.order h.file slot).name; fault = lone_fault h.order h.file (opened_files h.order h.libs) slot })
+    Some (record {
+      slot = slot;
+      name = (entry_at h.order h.file slot).name;
+      fault =
+          lone_fault h.order h.file (opened_files h.order h.libs) slot;
+    })
 unit_of_role h slot (Err why) = None
 
 -- the unit in a slot
@@ -57,7 +63,9 @@ lone_words (Some f) = refused_words f.reason f.rec ++ part_text (codes "referenc
 
 -- the line of a unit, as `PATH: slot 02 UTIL     by itself, no fault`
 abbrev pub lone_line : List ℕ → LoneUnit → List ℕ
-lone_line path u = line (shown_path path ++ (codes ": slot " ++ two_digits u.slot ++ (32 ∷ []) ++ shown_name u.name) ++ codes " by itself" ++ lone_words u.fault)
+lone_line path u = line (shown_path path
+    ++ (codes ": slot " ++ two_digits u.slot ++ (32 ∷ []) ++ shown_name u.name)
+    ++ codes " by itself" ++ lone_words u.fault)
 
 -- the lines of units
 abbrev pub lone_text : List ℕ → List LoneUnit → List ℕ

@@ -1,5 +1,7 @@
 -- Which edit covers a place, of edits that are apart.
-use Rattle.std.proofs.Common.{◌≡◌, ℕ, zero, suc, ◌+◌, ◌-◌, ◌≤◌, ◌<◌, List, [], ◌∷◌, length, drop, get_or, Option, Some, None, All, refl, ap, sym, ◌∙◌, subst, arith, add-one, true, false, Bool}
+use Rattle.std.proofs.Common.{◌≡◌, ℕ, zero, suc, ◌+◌, ◌-◌, ◌≤◌, ◌<◌, List}
+use Rattle.std.proofs.Common.{[], ◌∷◌, length, drop, get_or, Option, Some, None, All, refl}
+use Rattle.std.proofs.Common.{ap, sym, ◌∙◌, subst, arith, add-one, true, false, Bool}
 use Rattle.std.proofs.lemmas.Bool.Decides.{nat_tests}
 use Rattle.std.proofs.lemmas.List.Elements.{All-head, All-tail}
 use Rattle.std.proofs.Math.Seq.{drop-cons}
@@ -19,24 +21,31 @@ covers_to : (e : Edit) (p : ℕ) → covers p e ≡ true → p < place_of e + wi
 covers_to e p h = grind (arith, nat_tests)
 
 -- nothing covers a place before all edits
-find_none : (es : List Edit) (from p : ℕ) → AreApart from es → p < from → find (covers p) es ≡ None
+find_none : (es : List Edit) (from p : ℕ) → AreApart from es → p < from
+    → find (covers p) es ≡ None
 find_none [] from p h k = refl
 find_none (e ∷ es) from p h k =
-    rw (not_before e p (omega (arith, h.0))) (find_none es (place_of e + width e) p h.1 (omega (arith, h.0)))
+    rw (not_before e p (omega (arith, h.0)))
+    (find_none es (place_of e + width e) p h.1 (omega (arith, h.0)))
 
 -- an edit that ends before a place is passed over
-find_next : (e : Edit) (es : List Edit) (p : ℕ) → place_of e + width e ≤ p → find (covers p) (e ∷ es) ≡ find (covers p) es
+find_next : (e : Edit) (es : List Edit) (p : ℕ) → place_of e + width e ≤ p
+    → find (covers p) (e ∷ es) ≡ find (covers p) es
 find_next e es p h = rw (not_behind e p h)
 
 -- the first edit, once it is stored, need not be looked at again
-patched_one : (order : Order) (old new : ℕ) (e : Edit) (es : List Edit) (from p : ℕ) → AreApart from (e ∷ es) → new ≡ patched_by order e p old → patched_from order es p new ≡ patched_from order (e ∷ es) p old
+patched_one : (order : Order) (old new : ℕ) (e : Edit) (es : List Edit) (from p : ℕ)
+    → AreApart from (e ∷ es) → new ≡ patched_by order e p old
+    → patched_from order es p new ≡ patched_from order (e ∷ es) p old
 patched_one order old new e es from p apart is = at (covers p e) refl
   where
-    rest : (o : Option Edit) → find (covers p) es ≡ o → covers p e ≡ false → patched_from order es p new ≡ patched_from order (e ∷ es) p old
+    rest : (o : Option Edit) → find (covers p) es ≡ o → covers p e ≡ false
+        → patched_from order es p new ≡ patched_from order (e ∷ es) p old
     rest None none off = let same : new ≡ old = rw off at is in rw (off, none) same
     rest (Some x) some off = rw (off, some)
 
-    at : (b : Bool) → covers p e ≡ b → patched_from order es p new ≡ patched_from order (e ∷ es) p old
+    at : (b : Bool) → covers p e ≡ b
+        → patched_from order es p new ≡ patched_from order (e ∷ es) p old
     at true on =
         let same : new ≡ get_or (stored_bytes order e) (p - place_of e) 0 = rw on at is in
         let none = find_none es (place_of e + width e) p apart.1 (covers_to e p on) in
@@ -54,32 +63,48 @@ apart_drop [] (suc at) from h = tt
 apart_drop (e ∷ es) (suc at) from h = apart_drop es at (place_of e + width e) h.1
 
 -- the edits from `at` on are the one there and those after it
-pub drop_one : (es : List Edit) (at : ℕ) (d : Edit) → at < length es → drop at es ≡ get_or es at d ∷ drop (at + 1) es
+pub drop_one : (es : List Edit) (at : ℕ) (d : Edit) → at < length es
+    → drop at es ≡ get_or es at d ∷ drop (at + 1) es
 drop_one es at d h = rw (add-one, drop-cons es at d)
 
-apart_one : (es : List Edit) (at : ℕ) (d : Edit) → at < length es → AreApart 0 es → AreApart 0 (get_or es at d ∷ drop (at + 1) es)
-apart_one es at d h apart = subst (λ (xs : List Edit). AreApart 0 xs) (drop_one es at d h) (apart_drop es at 0 apart)
+apart_one : (es : List Edit) (at : ℕ) (d : Edit) → at < length es → AreApart 0 es
+    → AreApart 0 (get_or es at d ∷ drop (at + 1) es)
+apart_one es at d h apart = subst (λ (xs : List Edit). AreApart 0 xs) (drop_one es at d h)
+    (apart_drop es at 0 apart)
 
 -- the edit at `at`, once it is stored, need not be looked at again
-pub patched_step : (order : Order) (old new : ℕ) (es : List Edit) (at : ℕ) (d : Edit) (p : ℕ) → at < length es → AreApart 0 es → new ≡ patched_by order (get_or es at d) p old → patched_from order (drop (at + 1) es) p new ≡ patched_from order (drop at es) p old
-patched_step order old new es at d p h apart is = rw (drop_one es at d h) (patched_one order old new (get_or es at d) (drop (at + 1) es) 0 p (apart_one es at d h apart) is)
+pub patched_step : (order : Order) (old new : ℕ) (es : List Edit) (at : ℕ) (d : Edit) (p : ℕ)
+    → at < length es → AreApart 0 es → new ≡ patched_by order (get_or es at d) p old
+    → patched_from order (drop (at + 1) es) p new ≡ patched_from order (drop at es) p old
+patched_step order old new es at d p h apart is =
+    rw (drop_one es at d h) (patched_one order old new (get_or es at d) (drop (at + 1) es) 0 p
+    (apart_one es at d h apart) is)
 
 -- nor need those after it, at a place before its end
-pub patched_last : (order : Order) (old new : ℕ) (es : List Edit) (at : ℕ) (d : Edit) (p : ℕ) → at < length es → AreApart 0 es → p < place_of (get_or es at d) + width (get_or es at d) → new ≡ patched_by order (get_or es at d) p old → new ≡ patched_from order (drop at es) p old
+pub patched_last : (order : Order) (old new : ℕ) (es : List Edit) (at : ℕ) (d : Edit) (p : ℕ)
+    → at < length es → AreApart 0 es → p < place_of (get_or es at d) + width (get_or es at d)
+    → new ≡ patched_by order (get_or es at d) p old
+    → new ≡ patched_from order (drop at es) p old
 patched_last order old new es at d p h apart lt is =
     let e = get_or es at d in
-    let none : find (covers p) (drop (at + 1) es) ≡ None = find_none (drop (at + 1) es) (place_of e + width e) p (apart_one es at d h apart).1 lt in
+    let none : find (covers p) (drop (at + 1) es) ≡ None =
+    find_none (drop (at + 1) es) (place_of e + width e) p (apart_one es at d h apart).1 lt in
     let step = patched_step order old new es at d p h apart is in
     let same : patched_from order (drop (at + 1) es) p new ≡ new = rw none in
     sym same ∙ step
 
 -- nor need it be at a place after its end
-pub find_step : (es : List Edit) (at : ℕ) (d : Edit) (p : ℕ) → at < length es → place_of (get_or es at d) + width (get_or es at d) ≤ p → find (covers p) (drop at es) ≡ find (covers p) (drop (at + 1) es)
-find_step es at d p h le = ap (λ (xs : List Edit). find (covers p) xs) (drop_one es at d h) ∙ find_next (get_or es at d) (drop (at + 1) es) p le
+pub find_step : (es : List Edit) (at : ℕ) (d : Edit) (p : ℕ) → at < length es
+    → place_of (get_or es at d) + width (get_or es at d) ≤ p
+    → find (covers p) (drop at es) ≡ find (covers p) (drop (at + 1) es)
+find_step es at d p h le = ap (λ (xs : List Edit). find (covers p) xs) (drop_one es at d h)
+    ∙ find_next (get_or es at d) (drop (at + 1) es) p le
 
 -- edits inside a code cover nothing past its end
-pub find_past : (n : ℕ) (es : List Edit) (p : ℕ) → All (IsInside n) es → n ≤ p → find (covers p) es ≡ None
+pub find_past : (n : ℕ) (es : List Edit) (p : ℕ) → All (IsInside n) es → n ≤ p
+    → find (covers p) es ≡ None
 find_past n [] p all le = refl
 find_past n (e ∷ es) p all le =
     let here = All-head (IsInside n) e es all in
-    rw (not_behind e p (omega (arith, here.within))) (find_past n es p (All-tail (IsInside n) e es all) le)
+    rw (not_behind e p (omega (arith, here.within)))
+    (find_past n es p (All-tail (IsInside n) e es all) le)

@@ -1,6 +1,7 @@
 -- What a patcher works on and how far it is, and what it knows of the edits that it is done with.
 -- Source: this project's profile.
-use Rattle.std.specs.Prelude.{◌≡◌, ℕ, ◌+◌, ◌<◌, ◌≤◌, List, [], ◌∷◌, drop, find, length, ⊤}
+use Rattle.std.specs.Prelude.{◌≡◌, ℕ, ◌+◌, ◌<◌, ◌≤◌, List, [], ◌∷◌}
+use Rattle.std.specs.Prelude.{drop, find, length, ⊤}
 use Rattle.ps_words.specs.Edits.{AreEdits, covers, place_of, width}
 use Rattle.ps_words.specs.declared.order.Order.{Order}
 use Rattle.ps_words.specs.declared.edit.Edit.{Edit}
@@ -22,5 +23,6 @@ pub record IsUnderWay (patching : Patching) (next : ℕ) : Type 0 where
   pub are_edits : AreEdits (length patching.code) patching.edits
   pub position_within : patching.position ≤ length patching.code
   pub next_within : next ≤ length patching.edits
-  pub before : (p : ℕ) → patching.position ≤ p → find (covers p) patching.edits ≡ find (covers p) (drop next patching.edits)
+  pub before : (p : ℕ) → patching.position ≤ p
+      → find (covers p) patching.edits ≡ find (covers p) (drop next patching.edits)
   pub over : EndsBehind patching.position (drop next patching.edits)

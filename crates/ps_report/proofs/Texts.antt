@@ -7,19 +7,28 @@ use Rattle.ps_report.specs.declared.verdict.Verdict.{Verdict}
 
 -- the text of a report, by its parts
 abbrev pub in_parts : List ℕ → Verdict → List ℕ → List ℕ → List ℕ → List ℕ
-in_parts overview verdict explanation lists warned = overview ++ (codes "\n" ++ verdict_line verdict) ++ explanation ++ lists ++ warned
+in_parts overview verdict explanation lists warned =
+    overview ++ (codes "\n" ++ verdict_line verdict) ++ explanation ++ lists ++ warned
 
-pub told_in : (overview : List ℕ) (verdict : Verdict) (explanation lists warned text : List ℕ) → text ≡ in_parts overview verdict explanation lists warned
+pub told_in : (overview : List ℕ) (verdict : Verdict) (explanation lists warned text : List ℕ)
+    → text ≡ in_parts overview verdict explanation lists warned
     → Tells text verdict
 told_in overview verdict explanation lists warned text is =
     let line = codes "\n" ++ verdict_line verdict in
     let after = explanation ++ (lists ++ warned) in
-    let joined = append_assoc (overview ++ line ++ explanation) lists warned ∙ (append_assoc (overview ++ line) explanation (lists ++ warned)
-    ∙ append_assoc overview line after) in
-    (overview, after, is ∙ (joined ∙ ap (λ (l : List ℕ). overview ++ l) (append_assoc (codes "\n") (verdict_line verdict) after)))
+    let joined = append_assoc (overview ++ line ++ explanation) lists warned
+    ∙ (append_assoc (overview ++ line) explanation (lists ++ warned)
+    ∙ append_assoc overview line after) in (
+      overview,
+      after,
+      is ∙ (joined ∙ ap (λ (l : List ℕ). overview ++ l)
+          (append_assoc (codes "\n") (verdict_line verdict) after)),
+    )
 
-pub lists_in : (paths files : List (List ℕ)) (overview : List ℕ) (verdict : Verdict) (explanation lists warned text : List ℕ)
-    → text ≡ in_parts overview verdict explanation lists warned → AreLists paths files lists → HasLists paths files text
+pub lists_in : (paths files : List (List ℕ)) (overview : List ℕ) (verdict : Verdict)
+    (explanation lists warned text : List ℕ)
+    → text ≡ in_parts overview verdict explanation lists warned → AreLists paths files lists
+    → HasLists paths files text
 lists_in paths files overview verdict explanation lists warned text is are =
     let before = overview ++ (codes "\n" ++ verdict_line verdict) ++ explanation in
     (before, lists, warned, are, is ∙ append_assoc before lists warned)

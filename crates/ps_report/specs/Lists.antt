@@ -1,6 +1,7 @@
 -- Files without a host among them: each is looked over by itself, in the lines of its list.
 -- Source: this project's profile.
-use Rattle.std.specs.Prelude.{◌≡◌, ◌&&◌, not, ℕ, Bool, true, false, List, [], ◌∷◌, ◌++◌, Option, Some, None, Result, Ok, Err}
+use Rattle.std.specs.Prelude.{◌≡◌, ◌&&◌, not, ℕ, Bool, true, false, List, [], ◌∷◌}
+use Rattle.std.specs.Prelude.{◌++◌, Option, Some, None, Result, Ok, Err}
 use Rattle.std.specs.Borrow.{Bor}
 use Rattle.std.specs.List.{list_any}
 use Rattle.ps_words.specs.declared.fault.Reason.{Reason}
@@ -53,9 +54,11 @@ abbrev pub AreLists : List (List ℕ) → List (List ℕ) → List ℕ → Type 
 AreLists [] files text = text ≡ []
 AreLists (path ∷ paths) [] text = text ≡ []
 AreLists (path ∷ paths) (file ∷ files) text =
-    (phrase : List ℕ) × (rest : List ℕ) × AreLists paths files rest × (text ≡ list_of path phrase file ++ rest)
+    (phrase : List ℕ) × (rest : List ℕ) × AreLists paths files rest
+    × (text ≡ list_of path phrase file ++ rest)
 
 -- the text has the lists of these files
 abbrev pub HasLists : List (List ℕ) → List (List ℕ) → List ℕ → Type 0
 HasLists paths files text =
-    (before : List ℕ) × (lists : List ℕ) × (after : List ℕ) × AreLists paths files lists × (text ≡ before ++ (lists ++ after))
+    (before : List ℕ) × (lists : List ℕ) × (after : List ℕ) × AreLists paths files lists
+    × (text ≡ before ++ (lists ++ after))

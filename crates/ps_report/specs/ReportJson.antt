@@ -15,23 +15,29 @@ number_or_null (Some n) = decimal n
 -- `"number":13,"reason":"MissingUnit","kind":null`
 abbrev pub reason_members : Reason → List ℕ
 reason_members why =
-    codes "\"number\":" ++ (decimal (number_of why) ++ (codes ",\"reason\":\"" ++ (name_of why ++ (codes "\",\"kind\":" ++ number_or_null (kind_of why)))))
+    codes "\"number\":" ++ (decimal (number_of why)
+    ++ (codes ",\"reason\":\"" ++ (name_of why
+    ++ (codes "\",\"kind\":" ++ number_or_null (kind_of why)))))
 
 -- `"file":0,"slot":7,"record":null,"reference":null`
 abbrev pub place_members : Fault → List ℕ
 place_members f =
-    codes "\"file\":" ++ (decimal f.file ++ (codes ",\"slot\":" ++ (number_or_null f.slot ++ (codes ",\"record\":" ++ (number_or_null f.rec
+    codes "\"file\":" ++ (decimal f.file
+    ++ (codes ",\"slot\":" ++ (number_or_null f.slot
+    ++ (codes ",\"record\":" ++ (number_or_null f.rec
     ++ (codes ",\"reference\":" ++ number_or_null f.reference))))))
 
 -- `{"number":13,"reason":"MissingUnit","kind":null,"file":0,"slot":7,"record":null,"reference":null}`
 abbrev pub fault_json : Fault → List ℕ
-fault_json f = codes "{" ++ (reason_members f.reason ++ (codes "," ++ (place_members f ++ codes "}")))
+fault_json f = codes "{" ++ (reason_members f.reason
+    ++ (codes "," ++ (place_members f ++ codes "}")))
 
 -- `{"links":true,"segments":2,"private_words":4,"blocks":3,"fault":null`, or of files that are
 -- refused `{"links":false,"fault":` and the fault
 abbrev pub verdict_json : Verdict → List ℕ
 verdict_json (Links s) =
-    codes "{\"links\":true,\"segments\":" ++ (decimal s.segments ++ (codes ",\"private_words\":" ++ (decimal s.private_words
+    codes "{\"links\":true,\"segments\":"
+    ++ (decimal s.segments ++ (codes ",\"private_words\":" ++ (decimal s.private_words
     ++ (codes ",\"blocks\":" ++ (decimal s.blocks ++ codes ",\"fault\":null")))))
 verdict_json (Refused f) = codes "{\"links\":false,\"fault\":" ++ fault_json f
 

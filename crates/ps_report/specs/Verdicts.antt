@@ -1,6 +1,7 @@
 -- What a check finds: whether the files are linked, the line that says so, and the status.
 -- Source: this project's profile.
-use Rattle.std.specs.Prelude.{◌≡◌, ℕ, ◌==◌, ◌&&◌, not, if◌then◌else◌, Bool, List, ◌++◌, Option, Some, None, codes, decimal}
+use Rattle.std.specs.Prelude.{◌≡◌, ℕ, ◌==◌, ◌&&◌, not, if◌then◌else◌, Bool}
+use Rattle.std.specs.Prelude.{List, ◌++◌, Option, Some, None, codes, decimal}
 use Rattle.ps_resolve.specs.Parts.{HasItsParts}
 use Rattle.ps_resolve.specs.Sources.{order_of}
 use Rattle.ps_words.specs.FaultText.{fault_text}
@@ -14,7 +15,8 @@ use Rattle.ps_report.specs.declared.verdict.Verdict.TheVariants.{Links, Refused}
 -- MissingUnit file 0 slot 7`
 abbrev pub verdict_line : Verdict → List ℕ
 verdict_line (Links s) =
-    codes "links: segments " ++ (decimal s.segments ++ (codes " private words " ++ (decimal s.private_words
+    codes "links: segments " ++ (decimal s.segments
+    ++ (codes " private words " ++ (decimal s.private_words
     ++ (codes " blocks " ++ (decimal s.blocks ++ codes "\n")))))
 verdict_line (Refused f) = codes "pslink: " ++ (fault_text f ++ codes "\n")
 
@@ -41,9 +43,11 @@ check_status strict warnings (Refused f) = 1
 
 -- the text has the line of the verdict, which begins a line of it
 abbrev pub Tells : List ℕ → Verdict → Type 0
-Tells text verdict = (before : List ℕ) × (after : List ℕ) × (text ≡ before ++ (codes "\n" ++ (verdict_line verdict ++ after)))
+Tells text verdict = (before : List ℕ) × (after : List ℕ)
+    × (text ≡ before ++ (codes "\n" ++ (verdict_line verdict ++ after)))
 
 -- a text and a status that a check of these files may give
 abbrev pub IsReported : List ℕ → List (List ℕ) → Bool → ℕ → List ℕ → Type 0
 IsReported host libs strict status text =
-    (verdict : Verdict) × (warnings : ℕ) × IsVerdict host libs verdict × (status ≡ check_status strict warnings verdict) × Tells text verdict
+    (verdict : Verdict) × (warnings : ℕ) × IsVerdict host libs verdict
+    × (status ≡ check_status strict warnings verdict) × Tells text verdict

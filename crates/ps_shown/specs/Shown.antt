@@ -1,6 +1,8 @@
 -- How names and paths are shown in a line for a person.
 -- Source: this project's profile.
-use Rattle.std.specs.Prelude.{ℕ, ◌==◌, ◌&&◌, ◌||◌, ◌+◌, ◌-◌, ◌/◌, ◌%◌, not, if◌then◌else◌, Bool, false, Option, Some, None, List, [], ◌∷◌, ◌++◌, length, nat_lt, codes, chars}
+use Rattle.std.specs.Prelude.{ℕ, ◌==◌, ◌&&◌, ◌||◌, ◌+◌, ◌-◌, ◌/◌, ◌%◌}
+use Rattle.std.specs.Prelude.{not, if◌then◌else◌, Bool, false, Option, Some, None, List, []}
+use Rattle.std.specs.Prelude.{◌∷◌, ◌++◌, length, nat_lt, codes, chars}
 use Rattle.std.specs.Char.{encode_utf8, is_ascii_graphic, is_control}
 use Rattle.std.specs.Fmt.{digits}
 use Rattle.std.specs.List.{flat_map, list_all, list_any}
@@ -15,12 +17,14 @@ hex_digit n = if nat_lt n 10 then 48 + n else 87 + n
 
 -- a byte of a name: itself, or, where ASCII does not print it, `\x` and two digits
 abbrev pub shown_byte : ℕ → List ℕ
-shown_byte byte = if is_printed byte then byte ∷ [] else 92 ∷ 120 ∷ hex_digit (byte / 16) ∷ hex_digit (byte % 16) ∷ []
+shown_byte byte = if is_printed byte then byte ∷ []
+    else 92 ∷ 120 ∷ hex_digit (byte / 16) ∷ hex_digit (byte % 16) ∷ []
 
 -- a name without the blanks at its end
 abbrev pub trimmed : List ℕ → List ℕ
 trimmed [] = []
-trimmed (byte ∷ name) = if byte == 32 && length (trimmed name) == 0 then [] else byte ∷ trimmed name
+trimmed (byte ∷ name) = if byte == 32 && length (trimmed name) == 0 then []
+    else byte ∷ trimmed name
 
 -- a name is in quotes if it is blank or has a byte that ASCII does not print
 abbrev pub is_quoted : List ℕ → Bool
@@ -32,7 +36,8 @@ quotes quoted = if quoted then 34 ∷ [] else []
 
 -- `UTIL`, or `"U\x00IL"`: a name without the blanks that fill it up, in quotes where it has to be
 unfoldable pub shown_name : List ℕ → List ℕ
-shown_name name = let mark = quotes (is_quoted (trimmed name)) in mark ++ (flat_map shown_byte (trimmed name) ++ mark)
+shown_name name = let mark = quotes (is_quoted (trimmed name)) in
+    mark ++ (flat_map shown_byte (trimmed name) ++ mark)
 
 -- a control character by its number in hexadecimal digits, as `\u{1b}`
 abbrev pub control_escape : ℕ → List ℕ
@@ -42,7 +47,8 @@ control_escape c = 92 ∷ 117 ∷ 123 ∷ (digits 16 false c ++ 125 ∷ [])
 -- backslash have one
 abbrev pub escape_letter : ℕ → Option ℕ
 escape_letter c =
-    if c == 0 then Some 48 else (if c == 9 then Some 116 else (if c == 10 then Some 110 else (if c == 13 then Some 114
+    if c == 0 then Some 48 else (if c == 9 then Some 116
+    else (if c == 10 then Some 110 else (if c == 13 then Some 114
     else (if c == 34 then Some 34 else (if c == 92 then Some 92 else None)))))
 
 -- any other character: a control character by its number, and any other as it is
@@ -58,4 +64,5 @@ quoted_char c = elim (escape_letter c) [
 
 -- a path as it is, or, where it has a control character, in quotes with each of these escaped
 unfoldable pub shown_path : List ℕ → List ℕ
-shown_path path = if list_any is_control (chars path) then 34 ∷ (flat_map quoted_char (chars path) ++ 34 ∷ []) else path
+shown_path path = if list_any is_control (chars path)
+    then 34 ∷ (flat_map quoted_char (chars path) ++ 34 ∷ []) else path

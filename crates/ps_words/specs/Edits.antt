@@ -1,7 +1,8 @@
 -- Edits of a segment's code: where each is, what it stores, and the byte that is found at a place
 -- after them.
 -- Source: this project's profile.
-use Rattle.std.specs.Prelude.{ℕ, ◌+◌, ◌-◌, ◌≤◌, ◌&&◌, List, [], ◌∷◌, slice_index, nat_le, nat_lt, Bool, ⊤, All, find}
+use Rattle.std.specs.Prelude.{ℕ, ◌+◌, ◌-◌, ◌≤◌, ◌&&◌, List, [], ◌∷◌}
+use Rattle.std.specs.Prelude.{slice_index, nat_le, nat_lt, Bool, ⊤, All, find}
 use Rattle.std.specs.Option.{option_map_or}
 use Rattle.ps_words.specs.Words.{word_bytes, operand_bytes}
 use Rattle.ps_words.specs.declared.order.Order.{Order}
@@ -35,7 +36,8 @@ covers p edit = nat_le (place_of edit) p && nat_lt p (place_of edit + width edit
 -- where none does
 abbrev pub patched_byte : Order → List ℕ → List Edit → ℕ → ℕ
 patched_byte order code edits p =
-    option_map_or (λ edit. slice_index (stored_bytes order edit) (p - place_of edit)) (find (covers p) edits) (slice_index code p)
+    option_map_or (λ edit. slice_index (stored_bytes order edit) (p - place_of edit))
+    (find (covers p) edits) (slice_index code p)
 
 -- a BIG operand holds 15 bits
 abbrev pub IsStorable : Edit → Type 0

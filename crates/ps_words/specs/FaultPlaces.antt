@@ -11,15 +11,35 @@ in_file file why = record { reason = why; file = file; slot = None; rec = None; 
 
 -- a fault of a segment, with the host's slot
 abbrev pub in_slot : ℕ → ℕ → Reason → Fault
-in_slot file slot why = record { reason = why; file = file; slot = Some slot; rec = None; reference = None }
+in_slot file slot why = record {
+  reason = why;
+  file = file;
+  slot = Some slot;
+  rec = None;
+  reference = None;
+}
 
 -- a fault of a record of a segment's link information
 abbrev pub in_record : ℕ → ℕ → ℕ → Reason → Fault
-in_record file slot rec why = record { reason = why; file = file; slot = Some slot; rec = Some rec; reference = None }
+in_record file slot rec why = record {
+  reason = why;
+  file = file;
+  slot = Some slot;
+  rec = Some rec;
+  reference = None;
+}
 
 -- a fault of a reference of a record
 abbrev pub in_reference : ℕ → ℕ → ℕ → ℕ → Reason → Fault
-in_reference file slot rec reference why = record { reason = why; file = file; slot = Some slot; rec = Some rec; reference = Some reference }
+in_reference file slot rec reference why =
+    record {
+      reason = why;
+      file = file;
+      slot = Some slot;
+      rec = Some rec;
+      reference =
+          Some reference;
+    }
 
 -- the number of a fault that is reported with a slot
 abbrev pub has_slot : ℕ → Bool
@@ -35,7 +55,8 @@ has_reference number = nat_le 31 number && nat_le number 34
 
 -- the number of a fault of the host
 abbrev pub is_of_host : ℕ → Bool
-is_of_host number = nat_le 4 number && nat_le number 10 || number == 13 || number == 24 || number == 27
+is_of_host number = nat_le 4 number && nat_le number 10 || number == 13 || number == 24
+    || number == 27
 
 -- the number of a fault of a library
 abbrev pub is_of_library : ℕ → Bool

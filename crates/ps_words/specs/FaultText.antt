@@ -95,6 +95,7 @@ part_text label (Some n) = codes " " ++ (label ++ (codes " " ++ decimal n))
 -- reference 0`
 abbrev pub fault_text : Fault → List ℕ
 fault_text f =
-    codes "refused " ++ (decimal (number_of f.reason) ++ (codes " " ++ (name_of f.reason ++ (part_text (codes "kind") (kind_of f.reason)
+    codes "refused " ++ (decimal (number_of f.reason)
+    ++ (codes " " ++ (name_of f.reason ++ (part_text (codes "kind") (kind_of f.reason)
     ++ (codes " file " ++ (decimal f.file ++ (part_text (codes "slot") f.slot
     ++ (part_text (codes "record") f.rec ++ part_text (codes "reference") f.reference))))))))

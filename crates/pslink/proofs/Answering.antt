@@ -12,28 +12,42 @@ use Rattle.ps_calls.specs.declared.answer.TheConstants.{DONE, TOO_SMALL}
 use Rattle.ps_calls.specs.declared.outcome.Done.{Done}
 use Rattle.ps_calls.specs.declared.outcome.Done.TheVariants.{Linked, Text}
 use Rattle.ps_calls.specs.declared.outcome.Stop.{Stop}
-use Rattle.ps_calls.specs.declared.outcome.Stop.TheVariants.{Refused, WrongLengths, NoMemory, TooSmall}
+use Rattle.ps_calls.specs.declared.outcome.Stop.TheVariants.{Refused, WrongLengths, NoMemory}
+use Rattle.ps_calls.specs.declared.outcome.Stop.TheVariants.{TooSmall}
 
 -- it was done
-pub links : (host : List ℕ) (libs : List (List ℕ)) (old new : List ℕ) (a : Answer) (r : Result Done Stop) → a ≡ answer_of r → IfOk r (IsLinked host libs old new) → a.status ≡ DONE → Links host libs old new a
+pub links : (host : List ℕ) (libs : List (List ℕ)) (old new : List ℕ) (a : Answer)
+    (r : Result Done Stop) → a ≡ answer_of r → IfOk r (IsLinked host libs old new)
+    → a.status ≡ DONE → Links host libs old new a
 links host libs old new a (Ok done) e h is = record {
   file = h.0;
   linked = h.1.0;
   begins = h.1.1.0;
   told = e ∙ ap done_answer h.1.1.1;
 }
-links host libs old new a (Err (Refused fault)) e h is = absurd (omega (arith, ap (λ (b : Answer). b.status) e, is))
-links host libs old new a (Err WrongLengths) e h is = absurd (omega (arith, ap (λ (b : Answer). b.status) e, is))
-links host libs old new a (Err NoMemory) e h is = absurd (omega (arith, ap (λ (b : Answer). b.status) e, is))
-links host libs old new a (Err (TooSmall size)) e h is = absurd (omega (arith, ap (λ (b : Answer). b.status) e, is))
+links host libs old new a (Err (Refused fault)) e h is =
+    absurd (omega (arith, ap (λ (b : Answer). b.status) e, is))
+links host libs old new a (Err WrongLengths) e h is =
+    absurd (omega (arith, ap (λ (b : Answer). b.status) e, is))
+links host libs old new a (Err NoMemory) e h is =
+    absurd (omega (arith, ap (λ (b : Answer). b.status) e, is))
+links host libs old new a (Err (TooSmall size)) e h is =
+    absurd (omega (arith, ap (λ (b : Answer). b.status) e, is))
 
 -- there was too little room
-pub link_needs : (host libs lengths room : List ℕ) (a : Answer) (r : Result Done Stop) → a ≡ answer_of r → IfErr r (StopsCall (StopsLink room host) libs lengths) → a.status ≡ TOO_SMALL → LinkNeeds host (split libs lengths) room a
-link_needs host libs lengths room a (Ok (Linked summary size)) e h is = absurd (omega (arith, ap (λ (b : Answer). b.status) e, is))
-link_needs host libs lengths room a (Ok (Text size)) e h is = absurd (omega (arith, ap (λ (b : Answer). b.status) e, is))
-link_needs host libs lengths room a (Err (Refused fault)) e h is = absurd (omega (arith, ap (λ (b : Answer). b.status) e, is))
-link_needs host libs lengths room a (Err WrongLengths) e h is = absurd (omega (arith, ap (λ (b : Answer). b.status) e, is))
-link_needs host libs lengths room a (Err NoMemory) e h is = absurd (omega (arith, ap (λ (b : Answer). b.status) e, is))
+pub link_needs : (host libs lengths room : List ℕ) (a : Answer) (r : Result Done Stop)
+    → a ≡ answer_of r → IfErr r (StopsCall (StopsLink room host) libs lengths)
+    → a.status ≡ TOO_SMALL → LinkNeeds host (split libs lengths) room a
+link_needs host libs lengths room a (Ok (Linked summary size)) e h is =
+    absurd (omega (arith, ap (λ (b : Answer). b.status) e, is))
+link_needs host libs lengths room a (Ok (Text size)) e h is =
+    absurd (omega (arith, ap (λ (b : Answer). b.status) e, is))
+link_needs host libs lengths room a (Err (Refused fault)) e h is =
+    absurd (omega (arith, ap (λ (b : Answer). b.status) e, is))
+link_needs host libs lengths room a (Err WrongLengths) e h is =
+    absurd (omega (arith, ap (λ (b : Answer). b.status) e, is))
+link_needs host libs lengths room a (Err NoMemory) e h is =
+    absurd (omega (arith, ap (λ (b : Answer). b.status) e, is))
 link_needs host libs lengths room a (Err (TooSmall size)) e h is =
     let above = h.1.1.1.1 in
     record {

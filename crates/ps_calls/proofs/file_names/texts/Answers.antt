@@ -10,12 +10,18 @@ no_name = record { ref_ptr = (0, 0); now = [] }
 
 pub returns-in_default-clause-err : goal.returns-in_default-clause-err
 unfolding no_name
-returns-in_default-clause-err c = no_text c.args.names.now c.loop-name.name-index no_name c.loop-name-test.true c.in_default.ensures.cases.0
+returns-in_default-clause-err c = no_text c.args.names.now c.loop-name.name-index no_name
+    c.loop-name-test.true c.in_default.ensures.cases.0
 
 pub loop-name-preserved : goal.loop-name-preserved
 unfolding no_name
-loop-name-preserved c =
-    (search rules, All-more (λ (name : Bor (List ℕ)). IsUtf8 name.now) c.args.names.now c.loop-name.name-index no_name c.loop-name-test.true c.loop-name.invariant.1 c.in-Ok.ensures.cases.1)
+loop-name-preserved c = (
+  search rules,
+  All-more (λ (name : Bor (List ℕ)). IsUtf8 name.now) c.args.names.now
+      c.loop-name.name-index no_name c.loop-name-test.true c.loop-name.invariant.1
+      c.in-Ok.ensures.cases.1,
+)
 
 pub returns-clause-utf8 : goal.returns-clause-utf8
-returns-clause-utf8 c = all_texts c.args.names.now c.loop-name.name-index c.loop-name-test.false c.loop-name.invariant.1
+returns-clause-utf8 c = all_texts c.args.names.now c.loop-name.name-index c.loop-name-test.false
+    c.loop-name.invariant.1

@@ -6,4 +6,6 @@ use Rattle.ps_command.proofs.files.read_inputs.Given as goal
 
 abbrev pub invariant-loop-path : goal.invariant-loop-path
 invariant-loop-path g l =
-    AllZip (Reads (g.R.CodeFiles.opened l.rt) g.R.Opened.Read.remaining) (map (λ path. path.now) (take l.path-index l.inputs.libraries.items)) (map (λ library. library.items) l.libraries.items)
+    AllZip (Reads (g.R.CodeFiles.opened l.rt) g.R.Opened.Read.remaining)
+    (map (λ path. path.now) (take l.path-index l.inputs.libraries.items))
+    (map (λ library. library.items) l.libraries.items)

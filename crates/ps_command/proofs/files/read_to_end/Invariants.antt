@@ -3,4 +3,5 @@ use Rattle.std.specs.Io.KnownBytes.{Consumes}
 use Rattle.ps_command.proofs.files.read_to_end.Given as goal
 
 abbrev pub invariant-read : goal.invariant-read
-invariant-read g l = (length l.all.items ≤ 67108864) × Consumes (g.F.Read.remaining l.initial.file) (g.F.Read.remaining l.file) l.all.items
+invariant-read g l = (length l.all.items ≤ 67108864)
+    × Consumes (g.F.Read.remaining l.initial.file) (g.F.Read.remaining l.file) l.all.items

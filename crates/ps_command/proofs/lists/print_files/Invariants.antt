@@ -7,8 +7,10 @@ use Rattle.ps_command.proofs.lists.print_files.Given as goal
 abbrev pub invariant-loop-path : goal.invariant-loop-path
 invariant-loop-path g l = record {
   at : l.index ≡ l.path-index;
-  lists : Listing (Reads (g.R.CodeFiles.opened l.rt) g.R.Opened.Read.remaining) l.form (map (λ path. path.now) l.paths) (g.O.Write.contents l.fn.out)
-      l.path-index (map (λ path. path.now) (drop l.path-index l.paths)) l.status (g.O.Write.contents l.out);
+  lists : Listing (Reads (g.R.CodeFiles.opened l.rt) g.R.Opened.Read.remaining) l.form
+      (map (λ path. path.now) l.paths) (g.O.Write.contents l.fn.out)
+      l.path-index (map (λ path. path.now) (drop l.path-index l.paths)) l.status
+      (g.O.Write.contents l.out);
   few : l.status ≤ 3;
   used : l.status ≢ 2;
   silent : l.status ≡ 0 → l.err ≡ l.fn.err;

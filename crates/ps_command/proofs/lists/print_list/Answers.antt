@@ -7,12 +7,19 @@ use Rattle.ps_command.proofs.lists.print_list.Goals as goal
 
 pub returns-in-Ok-clause-ok : goal.returns-in-Ok-clause-ok
 returns-in-Ok-clause-ok g c =
-    let Read : List ℕ → List ℕ → Type 0 = Reads (g.R.CodeFiles.opened c.args.rt.now) g.R.Opened.Read.remaining in
-    let read : Read c.args.path.now c.as_slice-file.result.now = subst (λ (bytes : List ℕ). Read c.args.path.now bytes) (sym c.as_slice-file.ensures.value) c.in-Ok.ensures.file in
-    IfOk-weaker c.print_file.result _ _ (λ status printed. inl (c.as_slice-file.result.now, c.as_str.result.now, read, printed.0, printed.1)) (both_ok c.print_file.result _ _ c.print_file.ensures.status c.print_file.ensures.text)
+    let Read : List ℕ → List ℕ → Type 0 =
+    Reads (g.R.CodeFiles.opened c.args.rt.now) g.R.Opened.Read.remaining in
+    let read : Read c.args.path.now c.as_slice-file.result.now =
+    subst (λ (bytes : List ℕ). Read c.args.path.now bytes)
+    (sym c.as_slice-file.ensures.value) c.in-Ok.ensures.file in
+    IfOk-weaker c.print_file.result _ _ (λ status printed. inl
+    (c.as_slice-file.result.now, c.as_str.result.now, read, printed.0, printed.1))
+    (both_ok c.print_file.result _ _ c.print_file.ensures.status c.print_file.ensures.text)
 
 pub returns-in_ok-print_unread-in-Err-clause-ok : goal.returns-in_ok-print_unread-in-Err-clause-ok
-returns-in_ok-print_unread-in-Err-clause-ok g c = inr (c.report-status.ensures ∙ c.of_file.ensures, c.in_ok-print_unread-in-Err.ensures.text)
+returns-in_ok-print_unread-in-Err-clause-ok g c =
+    inr (c.report-status.ensures ∙ c.of_file.ensures, c.in_ok-print_unread-in-Err.ensures.text)
 
 pub print_file-requires : goal.print_file-requires
-print_file-requires g c = c.as_slice-units.ensures.value ∙ c.in-Ok.ensures.units ∙ ap (listed_units c.args.form) (sym c.as_slice-file.ensures.value)
+print_file-requires g c = c.as_slice-units.ensures.value ∙ c.in-Ok.ensures.units
+    ∙ ap (listed_units c.args.form) (sym c.as_slice-file.ensures.value)

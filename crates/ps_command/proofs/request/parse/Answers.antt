@@ -9,7 +9,8 @@ returns-in-Ok-clause-refused g c taken =
     let args = map (λ s. s.now) c.args.args.now in
     IfErr-weaker c.request_of.result _ _
     (λ e why other. elim (why other) [
-      | inl leaves ↦ absurd (taken_leaves_nothing_out args taken (subst LeavesOut c.in-Ok.ensures.found leaves))
+      | inl leaves ↦ absurd (taken_leaves_nothing_out args taken
+          (subst LeavesOut c.in-Ok.ensures.found leaves))
       | inr twice ↦ (twice.0, subst WritesLibrary c.in-Ok.ensures.found twice.1)
     ])
     c.request_of.ensures.refused

@@ -9,12 +9,24 @@ pub returns-then-json-clause-ok : goal.returns-then-json-clause-ok
 returns-then-json-clause-ok g c =
     let libs = map (λ lib. lib.now) c.args.libraries.now in
     let plan = c.in_ok-linked.linked in
-    let printed = subst (λ (flag : Bool). IsPrintedMap false flag c.args.host.now libs (map_json_in plan)) (sym c.if-json.true) c.in_ok-linked.ensures.json in
-    (file_in plan, map_json_in plan, c.in_ok-linked.ensures.linked.file, printed, c.in_ok-write_map_json.ensures.json)
+    let printed = subst (λ (flag : Bool). IsPrintedMap false flag c.args.host.now libs
+    (map_json_in plan)) (sym c.if-json.true) c.in_ok-linked.ensures.json in (
+      file_in plan,
+      map_json_in plan,
+      c.in_ok-linked.ensures.linked.file,
+      printed,
+      c.in_ok-write_map_json.ensures.json,
+    )
 
 pub returns-clause-ok : goal.returns-clause-ok
 returns-clause-ok g c =
     let libs = map (λ lib. lib.now) c.args.libraries.now in
     let plan = c.in_ok-linked.linked in
-    let printed = subst (λ (flag : Bool). IsPrintedMap false flag c.args.host.now libs (map_in plan)) (sym c.if-json.false) c.in_ok-linked.ensures.map in
-    (file_in plan, map_in plan, c.in_ok-linked.ensures.linked.file, printed, c.in_ok-write_map.ensures.map)
+    let printed = subst (λ (flag : Bool). IsPrintedMap false flag c.args.host.now libs
+    (map_in plan)) (sym c.if-json.false) c.in_ok-linked.ensures.map in (
+      file_in plan,
+      map_in plan,
+      c.in_ok-linked.ensures.linked.file,
+      printed,
+      c.in_ok-write_map.ensures.map,
+    )

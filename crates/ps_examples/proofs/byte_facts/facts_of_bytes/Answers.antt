@@ -5,7 +5,9 @@ use Rattle.ps_examples.specs.Segments.{demo_segment, aux_segment}
 use Rattle.ps_linkinfo.specs.declared.record.Body.TheVariants.{PublDef, Eof}
 use Rattle.ps_resolve.specs.Sources.{own_segments}
 use Rattle.ps_resolve.specs.Added.{empty_slots, rounds, segments}
-use Rattle.ps_resolve.specs.Faults.{slots_fault, no_host_fault, libraries_fault, sources_fault, linking_fault, definitions_fault, privates_fault, data_fault, references_fault}
+use Rattle.ps_resolve.specs.Faults.{slots_fault, no_host_fault, libraries_fault, sources_fault}
+use Rattle.ps_resolve.specs.Faults.{linking_fault, definitions_fault, privates_fault, data_fault}
+use Rattle.ps_resolve.specs.Faults.{references_fault}
 use Rattle.ps_resolve.specs.AllFaults.{first_fault, reading_fault}
 use Rattle.ps_resolve.specs.Linking.{Edited}
 use Rattle.ps_words.specs.declared.order.Order.TheVariants.{Big}
@@ -13,7 +15,9 @@ use Rattle.ps_examples.proofs.byte_facts.facts_of_bytes.Goals as goal
 
 -- the linked bytes are what the law says of one link, in which no fault applies
 pub returns : goal.returns
-unfolding first_fault reading_fault slots_fault no_host_fault libraries_fault sources_fault linking_fault definitions_fault privates_fault data_fault references_fault own_segments empty_slots rounds segments
+unfolding first_fault reading_fault slots_fault no_host_fault libraries_fault sources_fault
+    linking_fault definitions_fault privates_fault data_fault references_fault own_segments
+    empty_slots rounds segments
 returns c =
     let fine = c.first_of_all.ensures.none in
     let of_pair = fine host (library ∷ []) refl in
@@ -27,10 +31,46 @@ returns c =
       a_private_of_a_second_unit = refl;
       a_private_of_a_first_unit = refl;
       words_of_two_units = refl;
-      a_public_operand = (3, (0, record { name = count; body = PublDef 3 }, (0, demo_segment, refl, (refl, refl)), (refl, refl)), refl);
-      a_displaced_public_operand = (3, (0, record { name = count; body = PublDef 3 }, (0, demo_segment, refl, (refl, refl)), (refl, refl)), refl);
-      a_private_operand = (8, (1, record { name = blank_name; body = Eof 8 }, (0, demo_segment, refl, (refl, refl)), refl), refl);
-      a_second_private_operand = (8, (1, record { name = blank_name; body = Eof 8 }, (0, demo_segment, refl, (refl, refl)), refl), refl);
+      a_public_operand = (
+        3,
+        (
+          0,
+          record { name = count; body = PublDef 3 },
+          (0, demo_segment, refl, (refl, refl)),
+          (refl, refl),
+        ),
+        refl,
+      );
+      a_displaced_public_operand = (
+        3,
+        (
+          0,
+          record { name = count; body = PublDef 3 },
+          (0, demo_segment, refl, (refl, refl)),
+          (refl, refl),
+        ),
+        refl,
+      );
+      a_private_operand = (
+        8,
+        (
+          1,
+          record { name = blank_name; body = Eof 8 },
+          (0, demo_segment, refl, (refl, refl)),
+          refl,
+        ),
+        refl,
+      );
+      a_second_private_operand = (
+        8,
+        (
+          1,
+          record { name = blank_name; body = Eof 8 },
+          (0, demo_segment, refl, (refl, refl)),
+          refl,
+        ),
+        refl,
+      );
       a_unit_operand = (8, (2, aux_segment, refl, (refl, refl, refl)), refl);
       its_place = ((refl, refl), (omega arith, omega arith));
       a_number_place = (refl, refl);
@@ -41,7 +81,10 @@ returns c =
       a_number = made 1 none (ltb-true 1 2 refl) 22 (ltb-true 22 24 refl);
       a_size_byte = made 0 none (ltb-true 0 2 refl) 4 (ltb-true 4 18 refl);
       its_second_byte = made 0 none (ltb-true 0 2 refl) 5 (ltb-true 5 18 refl);
-      a_size_byte_of_a_big_endian_host = c.bytes_are_linked.ensures.made (host_in Big) big (fine (host_in Big) big refl) 0 none (ltb-true 0 2 refl) 5 (ltb-true 5 18 refl);
+      a_size_byte_of_a_big_endian_host =
+          c.bytes_are_linked.ensures.made (host_in Big) big (fine (host_in Big) big refl) 0 none
+          (ltb-true 0 2 refl) 5 (ltb-true 5 18 refl);
       a_kept_byte = made 1 none (ltb-true 1 2 refl) 0 (ltb-true 0 24 refl);
-      a_place_of_one_reference = c.bytes_are_linked.ensures.apart host (library ∷ []) of_pair 1 demo_segment (ltb-true 1 2 refl) 2;
+      a_place_of_one_reference = c.bytes_are_linked.ensures.apart host
+          (library ∷ []) of_pair 1 demo_segment (ltb-true 1 2 refl) 2;
     }

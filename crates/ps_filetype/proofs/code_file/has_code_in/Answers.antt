@@ -9,4 +9,7 @@ use Rattle.ps_filetype.proofs.code_file.has_code_in.Goals as goal
 
 pub returns-in-Ok : goal.returns-in-Ok
 returns-in-Ok c =
-    c.has_code.ensures ∙ sym (ap (λ (r : Result OpenedFile Reason). option_map_or (λ (f : OpenedFile). has_code f.order f.file) (result_ok r) false) (sym c.read_beside.ensures ∙ c.in-Ok.is))
+    c.has_code.ensures ∙ sym
+    (ap (λ (r : Result OpenedFile Reason). option_map_or
+    (λ (f : OpenedFile). has_code f.order f.file) (result_ok r) false)
+    (sym c.read_beside.ensures ∙ c.in-Ok.is))

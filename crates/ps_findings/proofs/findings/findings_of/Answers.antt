@@ -10,4 +10,6 @@ pub returns-clause-segments : goal.returns-clause-segments
 returns-clause-segments g c =
     let paths : List (List ℕ) = c.args.host_path.now ∷ contents c.args.paths.now in
     let overview = string_bytes c.in_ok-overview.overview in
-    subst (λ (f : ReadFiles). reading_fault f.host f.libs ≡ None → AddsSlotLines [] (segment_lines paths f.host f.libs) overview) c.read-reading.ensures c.in_ok-overview.ensures
+    subst (λ (f : ReadFiles). reading_fault f.host f.libs ≡ None
+    → AddsSlotLines [] (segment_lines paths f.host f.libs) overview) c.read-reading.ensures
+    c.in_ok-overview.ensures

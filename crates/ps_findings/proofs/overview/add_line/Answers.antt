@@ -13,8 +13,10 @@ returns g c =
     let head = head_words h.slot h.name h.part in
     let from = from_words c.args.path.now c.args.index c.args.size in
     let old = string_bytes c.args.text.now in
-    let one = one_segment h.slot h.name h.part c.args.path.now c.args.index c.args.size c.utf8.path in
+    let one = one_segment h.slot h.name h.part c.args.path.now c.args.index c.args.size c.utf8.path
+    in
     let slotted = begins h.slot slot h.name h.part from is in
     on_ok_weaker c.push_line.result
-    (λ added. adds_line old (head ++ from) (string_bytes c.push_line.new.text) one slotted (added ∙ ap (λ (t : List ℕ). old ++ t) (sym (append_assoc head from (10 ∷ [])))))
+    (λ added. adds_line old (head ++ from) (string_bytes c.push_line.new.text) one slotted
+    (added ∙ ap (λ (t : List ℕ). old ++ t) (sym (append_assoc head from (10 ∷ [])))))
     c.push_line.ensures

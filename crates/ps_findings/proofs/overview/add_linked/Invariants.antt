@@ -9,5 +9,6 @@ use Rattle.ps_findings.proofs.overview.add_linked.Given as goal
 abbrev pub invariant-loop-segment : goal.invariant-loop-segment
 invariant-loop-segment g l =
     AddsSlotLines (string_bytes l.fn.text)
-    (map (segment_line (l.inputs.host_path.now ∷ contents l.inputs.paths.now) (map segment_of l.segments) l.requests) (map segment_of (take l.segment-index l.segments)))
+    (map (segment_line (l.inputs.host_path.now ∷ contents l.inputs.paths.now)
+    (map segment_of l.segments) l.requests) (map segment_of (take l.segment-index l.segments)))
     (string_bytes l.text)

@@ -4,4 +4,5 @@ use Rattle.ps_findings.proofs.overview.asker_of.Given as goal
 
 -- the record is looked for in what is left
 abbrev pub invariant-loop-request : goal.invariant-loop-request
-invariant-loop-request l = asker_of l.requests l.name ≡ asker_of (drop l.request-index l.requests) l.name
+invariant-loop-request l = asker_of l.requests l.name
+    ≡ asker_of (drop l.request-index l.requests) l.name

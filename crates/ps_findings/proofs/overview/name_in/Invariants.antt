@@ -5,4 +5,5 @@ use Rattle.ps_findings.proofs.overview.name_in.Given as goal
 
 -- the segment is looked for in what is left
 abbrev pub invariant-loop-segment : goal.invariant-loop-segment
-invariant-loop-segment l = name_in (map segment_of l.segments) l.slot ≡ name_in (map segment_of (drop l.segment-index l.segments)) l.slot
+invariant-loop-segment l = name_in (map segment_of l.segments) l.slot
+    ≡ name_in (map segment_of (drop l.segment-index l.segments)) l.slot

@@ -5,18 +5,23 @@ use Rattle.ps_linkinfo.specs.Walk.{Walk, whole_walk}
 use Rattle.ps_linkinfo.specs.declared.record.LinkRecord.{LinkRecord as Record}
 use Rattle.ps_linkinfo.proofs.Readings.{is_reading, is_stop}
 use Rattle.ps_linkinfo.proofs.Stands.{IsReadingOf, reading_is}
-use Rattle.ps_linkinfo.proofs.Walks.{Walked, walked_first, walked_more, walked_all, walked_to_fault, walked_good}
+use Rattle.ps_linkinfo.proofs.Walks.{Walked, walked_first, walked_more, walked_all, walked_to_fault}
+use Rattle.ps_linkinfo.proofs.Walks.{walked_good}
 use Rattle.ps_linkinfo.proofs.reader.read_records.Goals as goal
 
 pub loop-item-init : goal.loop-item-init
 loop-item-init g c =
-    let start : c.into_iter-item-iterator.result ≡ whole_walk c.args.order c.args.bytes.now = c.into_iter-item-iterator.ensures.into_iter_gives ∙ c.new-item-items.ensures in
-    let walked = subst (λ (w : Walk). Walked c.args.order c.args.bytes.now w []) (sym start) (walked_first c.args.order c.args.bytes.now) in
+    let start : c.into_iter-item-iterator.result ≡ whole_walk c.args.order c.args.bytes.now =
+    c.into_iter-item-iterator.ensures.into_iter_gives ∙ c.new-item-items.ensures in
+    let walked = subst (λ (w : Walk). Walked c.args.order c.args.bytes.now w []) (sym start)
+    (walked_first c.args.order c.args.bytes.now) in
     record { can = tt; finite = tt; walked = rw c.new-records.ensures.items walked }
 
 pub loop-item-preserved : goal.loop-item-preserved
 loop-item-preserved g c =
-    let walked = walked_more _ _ c.loop-item.item-iterator c.next.new.self c.loop-item.records.items c.in-Some.item c.in-Ok.record c.loop-item.invariant.walked c.in-Some.ensures.steps c.in-Ok.is in
+    let walked = walked_more _ _ c.loop-item.item-iterator c.next.new.self c.loop-item.records.items
+    c.in-Some.item c.in-Ok.record c.loop-item.invariant.walked c.in-Some.ensures.steps
+    c.in-Ok.is in
     record { can = tt; finite = tt; walked = rw c.in_ok-push-in-Ok.ensures.items walked }
 
 pub returns-clause-ok : goal.returns-clause-ok
@@ -24,8 +29,10 @@ returns-clause-ok g c =
     let order = c.args.order in
     let bytes = c.args.bytes.now in
     let rs = c.loop-item.records.items in
-    let all = walked_all order bytes c.loop-item.item-iterator rs c.loop-item.invariant.walked c.in-None.ensures.steps.1.0 in
-    let read = subst (λ (read : List Record × Option Reason). IsReadingOf order bytes read) all (reading_is order bytes) in
+    let all = walked_all order bytes c.loop-item.item-iterator rs c.loop-item.invariant.walked
+    c.in-None.ensures.steps.1.0 in
+    let read = subst (λ (read : List Record × Option Reason). IsReadingOf order bytes read) all
+    (reading_is order bytes) in
     is_reading order bytes rs read.spelled read.ends
 
 pub returns-in-Err-clause-stops : goal.returns-in-Err-clause-stops
@@ -34,11 +41,20 @@ returns-in-Err-clause-stops g c =
     let bytes = c.args.bytes.now in
     let rs = c.loop-item.records.items in
     let why = c.in-Err.reason in
-    let all = walked_to_fault order bytes c.loop-item.item-iterator c.next.new.self rs c.in-Some.item why c.loop-item.invariant.walked c.in-Some.ensures.steps c.in-Err.is in
-    let stops : Stops order bytes rs why = subst (λ (read : List Record × Option Reason). IsReadingOf order bytes read) all (reading_is order bytes) in
-    (rs, (let h : length rs ≡ c.len.result = search rules in h), stops, is_stop order bytes rs why stops)
+    let all = walked_to_fault order bytes c.loop-item.item-iterator c.next.new.self rs
+    c.in-Some.item why c.loop-item.invariant.walked c.in-Some.ensures.steps c.in-Err.is in
+    let stops : Stops order bytes rs why =
+    subst (λ (read : List Record × Option Reason). IsReadingOf order bytes read) all
+    (reading_is order bytes) in (
+      rs,
+      (let h : length rs ≡ c.len.result = search rules in h),
+      stops,
+      is_stop order bytes rs why stops,
+    )
 
 pub returns-in_err-push-in-Ok-clause-memory : goal.returns-in_err-push-in-Ok-clause-memory
 returns-in_err-push-in-Ok-clause-memory g c = λ _.
     let rs = c.loop-item.records.items in
-    walked_good _ _ c.next.new.self rs c.in-Ok.record (walked_more _ _ c.loop-item.item-iterator c.next.new.self rs c.in-Some.item c.in-Ok.record c.loop-item.invariant.walked c.in-Some.ensures.steps c.in-Ok.is)
+    walked_good _ _ c.next.new.self rs c.in-Ok.record
+    (walked_more _ _ c.loop-item.item-iterator c.next.new.self rs c.in-Some.item c.in-Ok.record
+    c.loop-item.invariant.walked c.in-Some.ensures.steps c.in-Ok.is)

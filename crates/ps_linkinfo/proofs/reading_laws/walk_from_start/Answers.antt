@@ -2,4 +2,10 @@ use Rattle.ps_linkinfo.proofs.Walks.{items_first, records_first, fault_first, fe
 use Rattle.ps_linkinfo.proofs.reading_laws.walk_from_start.Goals as goal
 
 pub returns : goal.returns
-returns c = record { items = items_first; records = records_first; fault = fault_first; few_records = few; few_items = few_left }
+returns c = record {
+  items = items_first;
+  records = records_first;
+  fault = fault_first;
+  few_records = few;
+  few_items = few_left;
+}

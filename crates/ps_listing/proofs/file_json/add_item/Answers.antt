@@ -8,4 +8,6 @@ use Rattle.ps_listing.proofs.file_json.add_item.Goals as goal
 
 pub returns-in-Err : goal.returns-in-Err
 returns-in-Err g c =
-    adds_is _ _ _ _ _ (ap (λ (r : Result OpenedFile Reason). item_of c.args.path.now c.args.phrase.now c.args.size r) (sym c.in-Err.is)) (adds_then _ _ _ _ _ _ c.add_head.ensures c.add_unopened.ensures)
+    adds_is _ _ _ _ _ (ap
+    (λ (r : Result OpenedFile Reason). item_of c.args.path.now c.args.phrase.now c.args.size r)
+    (sym c.in-Err.is)) (adds_then _ _ _ _ _ _ c.add_head.ensures c.add_unopened.ensures)

@@ -8,7 +8,11 @@ use Rattle.ps_listing.proofs.listed_file.add_lines.Goals as goal
 
 pub returns-in-Err : goal.returns-in-Err
 returns-in-Err g c =
-    let sized = adds_then _ _ _ _ _ _ (adds_then _ _ _ _ _ _ c.add_path.ensures c.add_number.ensures) c.add.ensures in
-    let refused = adds_then _ _ _ _ _ _ (adds_then _ _ _ _ _ _ sized c.add_phrase.ensures) c.add_refusal.ensures in
+    let sized = adds_then _ _ _ _ _ _
+    (adds_then _ _ _ _ _ _ c.add_path.ensures c.add_number.ensures) c.add.ensures in
+    let refused = adds_then _ _ _ _ _ _ (adds_then _ _ _ _ _ _ sized c.add_phrase.ensures)
+    c.add_refusal.ensures in
     let all = adds_then _ _ _ _ _ _ refused c.add-in-Err.ensures in
-    adds_is _ _ _ _ _ (ap (λ (r : Result OpenedFile Reason). lines_of c.args.path.now c.args.phrase.now c.args.size r) (sym c.in-Err.is)) all
+    adds_is _ _ _ _ _ (ap
+    (λ (r : Result OpenedFile Reason). lines_of c.args.path.now c.args.phrase.now c.args.size
+    r) (sym c.in-Err.is)) all

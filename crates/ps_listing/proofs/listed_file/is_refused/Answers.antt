@@ -7,4 +7,5 @@ use Rattle.ps_listing.proofs.listed_file.is_refused.Goals as goal
 
 pub returns : goal.returns
 unfolding is_refused
-returns c = c.is_refused_as.ensures ∙ ap (λ (r : Result OpenedFile Reason). is_refused_as r) c.open.ensures
+returns c = c.is_refused_as.ensures ∙ ap
+    (λ (r : Result OpenedFile Reason). is_refused_as r) c.open.ensures

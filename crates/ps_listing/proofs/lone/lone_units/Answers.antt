@@ -7,10 +7,13 @@ use Rattle.ps_listing.proofs.lone.lone_units.Goals as goal
 
 pub returns-in-Err : goal.returns-in-Err
 returns-in-Err g c =
-    let opened = ap (λ (r : ReadFiles). opened_host r.host r.libs) (sym c.read-reading.ensures) ∙ c.in-Err.ensures.refused in
+    let opened = ap (λ (r : ReadFiles). opened_host r.host r.libs) (sym c.read-reading.ensures)
+    ∙ c.in-Err.ensures.refused in
     c.new.ensures.items ∙ sym (ap units_as opened)
 
 pub returns-in-Ok : goal.returns-in-Ok
 returns-in-Ok g c =
-    let opened = ap (λ (r : ReadFiles). opened_host r.host r.libs) (sym c.read-reading.ensures) ∙ c.in-Ok.ensures.opened in
-    subst (λ (us : List LoneUnit). IfOk c.units_of.result (λ units. units.items ≡ us)) (sym (ap units_as opened)) c.units_of.ensures
+    let opened = ap (λ (r : ReadFiles). opened_host r.host r.libs) (sym c.read-reading.ensures)
+    ∙ c.in-Ok.ensures.opened in
+    subst (λ (us : List LoneUnit). IfOk c.units_of.result (λ units. units.items ≡ us))
+    (sym (ap units_as opened)) c.units_of.ensures

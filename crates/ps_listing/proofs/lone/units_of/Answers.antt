@@ -15,9 +15,14 @@ loop-slot-preserved g c =
     let lt = c.loop-slot-test.true in
     let found = sym c.in_ok-unit.ensures in
     elim c.match-branch-2.branch [
-      | in-Some+in_ok-push w ↦ rw (w.units-is, w.in_ok-push.ensures.items) (one_more f all l.units.items l.slot (Some w.in-Some.unit) lt (found ∙ w.in-Some.is) l.invariant)
-      | in_default w ↦ rw w.units-is (none_more f all l.units.items l.slot lt (found ∙ w.in_default.is) l.invariant)
+      | in-Some+in_ok-push w ↦ rw (w.units-is, w.in_ok-push.ensures.items)
+          (one_more f all l.units.items l.slot (Some w.in-Some.unit) lt
+          (found ∙ w.in-Some.is) l.invariant)
+      | in_default w ↦ rw w.units-is (none_more f all l.units.items l.slot lt
+          (found ∙ w.in_default.is) l.invariant)
     ]
 
 pub returns : goal.returns
-returns g c = sym (no_more (lone_unit c.args.file.now) (units_of c.args.file.now) c.loop-slot.units.items c.loop-slot.slot (omega (arith, c.loop-slot-test.false)) c.loop-slot.invariant)
+returns g c = sym (no_more (lone_unit c.args.file.now)
+    (units_of c.args.file.now) c.loop-slot.units.items c.loop-slot.slot
+    (omega (arith, c.loop-slot-test.false)) c.loop-slot.invariant)

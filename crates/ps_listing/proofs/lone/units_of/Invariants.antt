@@ -5,4 +5,5 @@ use Rattle.ps_listing.proofs.lone.units_of.Given as goal
 
 -- the units so far and those of the slots that are left are all
 abbrev pub invariant-loop-slot : goal.invariant-loop-slot
-invariant-loop-slot g l = units_of l.file ≡ l.units.items ++ filter_map (lone_unit l.file) (range_with_len l.slot (16 - l.slot))
+invariant-loop-slot g l = units_of l.file
+    ≡ l.units.items ++ filter_map (lone_unit l.file) (range_with_len l.slot (16 - l.slot))

@@ -7,5 +7,6 @@ pub returns : goal.returns
 unfolding found_line
 returns g c =
     let size = adds_is _ _ _ _ _ (ap (λ n. size_words n) c.size_of.ensures) c.add_size.ensures in
-    let sized = adds_then _ _ _ _ _ _ (adds_then _ _ _ _ _ _ c.add_head.ensures c.add.ensures) size in
+    let sized = adds_then _ _ _ _ _ _ (adds_then _ _ _ _ _ _ c.add_head.ensures c.add.ensures) size
+    in
     adds_then _ _ _ _ _ _ (adds_then _ _ _ _ _ _ sized c.add_found.ensures) c.add-2.ensures

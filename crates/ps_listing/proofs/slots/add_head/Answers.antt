@@ -7,5 +7,7 @@ use Rattle.ps_listing.proofs.slots.add_head.Goals as goal
 pub returns : goal.returns
 unfolding slot_head
 returns g c =
-    let name = adds_is _ _ _ _ _ (ap (λ (n : List ℕ). codes ": slot " ++ two_digits c.args.slot ++ (32 ∷ []) ++ shown_name n) c.name_of.ensures) c.add_slot_name.ensures in
+    let name = adds_is _ _ _ _ _
+    (ap (λ (n : List ℕ). codes ": slot " ++ two_digits c.args.slot ++ (32 ∷ [])
+    ++ shown_name n) c.name_of.ensures) c.add_slot_name.ensures in
     adds_then _ _ _ _ _ _ (adds_then _ _ _ _ _ _ c.add_path.ensures name) c.add.ensures

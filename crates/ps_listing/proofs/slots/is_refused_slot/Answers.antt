@@ -9,4 +9,6 @@ pub returns : goal.returns
 unfolding is_refused_slot
 returns c =
     let dict = c.args.dict.now in
-    c.is_refused_role.ensures ∙ ap (λ (r : Result Role Reason). is_refused_role dict.order dict.file c.args.slot r) c.role.ensures
+    c.is_refused_role.ensures
+    ∙ ap (λ (r : Result Role Reason). is_refused_role dict.order dict.file c.args.slot r)
+    c.role.ensures

@@ -6,5 +6,7 @@ use Rattle.ps_listing.proofs.slots_json.add_found_item.Goals as goal
 pub returns : goal.returns
 unfolding found_item
 returns g c =
-    let size = adds_is _ _ _ _ _ (ap (λ n. length_member n) c.size_of.ensures) c.add_length.ensures in
-    adds_then _ _ _ _ _ _ (adds_then _ _ _ _ _ _ (adds_then _ _ _ _ _ _ c.add_head.ensures c.add.ensures) size) c.add_found.ensures
+    let size = adds_is _ _ _ _ _ (ap (λ n. length_member n) c.size_of.ensures) c.add_length.ensures
+    in
+    adds_then _ _ _ _ _ _ (adds_then _ _ _ _ _ _
+    (adds_then _ _ _ _ _ _ c.add_head.ensures c.add.ensures) size) c.add_found.ensures

@@ -8,8 +8,11 @@ use Rattle.ps_listing.proofs.slots_json.add_head.Goals as goal
 pub returns : goal.returns
 unfolding slot_members
 returns g c =
-    let name = adds_is _ _ _ _ _ (ap (λ (n : List ℕ). json_name n) c.name_of.ensures) c.add_json_name.ensures in
-    let kind = adds_is _ _ _ _ _ (ap (λ n. member (codes "kind") n) c.kind_of.ensures) c.add_number-2.ensures in
+    let name = adds_is _ _ _ _ _ (ap (λ (n : List ℕ). json_name n) c.name_of.ensures)
+    c.add_json_name.ensures in
+    let kind = adds_is _ _ _ _ _ (ap (λ n. member (codes "kind") n) c.kind_of.ensures)
+    c.add_number-2.ensures in
     let end = adds_is _ _ _ _ _ c.separator.ensures c.add.ensures in
-    let slot = adds_then _ _ _ _ _ _ (adds_then _ _ _ _ _ _ end c.add_number.ensures) c.add-2.ensures in
+    let slot = adds_then _ _ _ _ _ _ (adds_then _ _ _ _ _ _ end c.add_number.ensures)
+    c.add-2.ensures in
     adds_then _ _ _ _ _ _ (adds_then _ _ _ _ _ _ slot name) kind

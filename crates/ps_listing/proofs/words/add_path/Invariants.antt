@@ -6,4 +6,5 @@ use Rattle.ps_listing.proofs.words.add_path.Given as goal
 
 -- the bytes that are left are still to be written
 abbrev pub invariant-loop-byte : goal.invariant-loop-byte
-invariant-loop-byte g l = Written g.S.TextWriter.added l.fn.text (shown_path l.path) (flat_map shown_path_byte (drop l.byte-index l.path)) l.text
+invariant-loop-byte g l = Written g.S.TextWriter.added l.fn.text (shown_path l.path)
+    (flat_map shown_path_byte (drop l.byte-index l.path)) l.text

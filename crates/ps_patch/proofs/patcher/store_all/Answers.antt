@@ -9,14 +9,21 @@ loop-index-preserved c =
     let at = c.loop-index.index in
     record {
       block = λ k lt.
-          patched_step c.args.order (get_or c.loop-index.block k 0) (get_or c.store_in_block.new.block k 0) es at (Big 0 0) (c.args.from + k) c.loop-index-test.true c.requires.apart (c.store_in_block.ensures k lt)
+          patched_step c.args.order (get_or c.loop-index.block k 0)
+          (get_or c.store_in_block.new.block k 0) es at (Big 0 0)
+          (c.args.from + k) c.loop-index-test.true c.requires.apart
+          (c.store_in_block.ensures k lt)
           ∙ c.loop-index.invariant.block k lt;
       before = λ p le.
           c.loop-index.invariant.before p le
-          ∙ find_step es at (Big 0 0) p c.loop-index-test.true (omega (arith, c.end_of.ensures, c.if-end_of-from.false));
+          ∙ find_step es at (Big 0 0) p c.loop-index-test.true
+          (omega (arith, c.end_of.ensures, c.if-end_of-from.false));
     }
 
 pub returns-then-end_of-from-clause-block : goal.returns-then-end_of-from-clause-block
 returns-then-end_of-from-clause-block c = λ k lt.
-    patched_last c.args.order (get_or c.loop-index.block k 0) (get_or c.store_in_block.new.block k 0) c.args.edits.now c.loop-index.index (Big 0 0) (c.args.from + k) c.loop-index-test.true c.requires.apart (omega (arith, c.end_of.ensures, c.if-end_of-from.true)) (c.store_in_block.ensures k lt)
+    patched_last c.args.order (get_or c.loop-index.block k 0)
+    (get_or c.store_in_block.new.block k 0) c.args.edits.now c.loop-index.index (Big 0 0)
+    (c.args.from + k) c.loop-index-test.true c.requires.apart
+    (omega (arith, c.end_of.ensures, c.if-end_of-from.true)) (c.store_in_block.ensures k lt)
     ∙ c.loop-index.invariant.block k lt

@@ -4,4 +4,5 @@ use Rattle.ps_patch.proofs.whole.apply.Given as goal
 
 -- the edits that are left make of the code so far what all make of the code
 abbrev pub invariant-loop-edit : goal.invariant-loop-edit
-invariant-loop-edit l = (p : ℕ) → patched_byte l.order l.code (drop l.edit-index l.edits) p ≡ patched_byte l.order l.fn.code l.edits p
+invariant-loop-edit l = (p : ℕ) → patched_byte l.order l.code (drop l.edit-index l.edits) p
+    ≡ patched_byte l.order l.fn.code l.edits p

@@ -7,4 +7,5 @@ use Rattle.ps_report.proofs.alone.has_host.Goals as goal
 
 pub returns : goal.returns
 unfolding has_host
-returns c = c.has_host_as.ensures ∙ ap (λ (r : Result OpenedFile Reason). has_host_as r) c.open.ensures
+returns c = c.has_host_as.ensures ∙ ap
+    (λ (r : Result OpenedFile Reason). has_host_as r) c.open.ensures

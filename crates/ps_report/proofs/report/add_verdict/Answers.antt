@@ -5,4 +5,5 @@ use Rattle.ps_report.proofs.report.add_verdict.Goals as goal
 
 pub returns-clause-lines : goal.returns-clause-lines
 returns-clause-lines g c = λ links.
-    on_ok_weaker c.push_verdict.result (λ is. adds_verdict (string_bytes c.args.text.now) (string_bytes c.push_verdict.new.text) c.args.verdict links is) c.push_verdict.ensures
+    on_ok_weaker c.push_verdict.result (λ is. adds_verdict (string_bytes c.args.text.now)
+    (string_bytes c.push_verdict.new.text) c.args.verdict links is) c.push_verdict.ensures

@@ -1,4 +1,5 @@
-use Rattle.std.proofs.Common.{◌∙◌, ◌∷◌, [], ℕ, List, Bor, map, string_bytes, subst, sym, vec_len}
+use Rattle.std.proofs.Common.{◌∙◌, ◌∷◌, [], ℕ, List, Bor, map, string_bytes, subst}
+use Rattle.std.proofs.Common.{sym, vec_len}
 use Rattle.ps_resolve.specs.Sources.{contents}
 use Rattle.ps_findings.specs.SegmentLines.{segment_lines}
 use Rattle.ps_findings.proofs.SlotLines.{adds_then_none, lines_in}
@@ -9,28 +10,35 @@ use Rattle.ps_report.proofs.Verdicts.{linked_or_not, refused_or_not, warned_or_r
 use Rattle.ps_report.proofs.report.check.Goals as goal
 
 pub returns-clause-links : goal.returns-clause-links
-returns-clause-links g c = linked_or_not c.args.host.now (contents c.args.libs.now) (vec_len c.in_ok-findings.findings.warnings) c.in_ok-verdict.verdict c.in_ok-verdict.ensures
+returns-clause-links g c = linked_or_not c.args.host.now (contents c.args.libs.now)
+    (vec_len c.in_ok-findings.findings.warnings) c.in_ok-verdict.verdict c.in_ok-verdict.ensures
 
 pub returns-clause-refused : goal.returns-clause-refused
-returns-clause-refused g c = refused_or_not c.args.host.now (contents c.args.libs.now) (vec_len c.in_ok-findings.findings.warnings) c.in_ok-verdict.verdict c.in_ok-verdict.ensures
+returns-clause-refused g c = refused_or_not c.args.host.now (contents c.args.libs.now)
+    (vec_len c.in_ok-findings.findings.warnings) c.in_ok-verdict.verdict c.in_ok-verdict.ensures
 
 pub returns-clause-warned : goal.returns-clause-warned
-returns-clause-warned g c = warned_or_refused c.args.host.now (contents c.args.libs.now) (vec_len c.in_ok-findings.findings.warnings) c.in_ok-verdict.verdict c.in_ok-verdict.ensures
+returns-clause-warned g c = warned_or_refused c.args.host.now (contents c.args.libs.now)
+    (vec_len c.in_ok-findings.findings.warnings) c.in_ok-verdict.verdict c.in_ok-verdict.ensures
 
 pub returns-clause-line : goal.returns-clause-line
 returns-clause-line g c =
     let parts = c.in_ok-text.ensures.parts in
-    told_in parts.0 c.in_ok-verdict.verdict c.as_str.result.now c.as_str-2.result.now parts.1 (string_bytes c.in_ok-text.text) parts.2
+    told_in parts.0 c.in_ok-verdict.verdict c.as_str.result.now c.as_str-2.result.now parts.1
+    (string_bytes c.in_ok-text.text) parts.2
 
 pub returns-clause-lists : goal.returns-clause-lists
 returns-clause-lists g c = λ lacks.
-    let paths : List (List ℕ) = c.args.host_path.now ∷ map (λ (path : Bor (List ℕ)). path.now) c.args.paths.now in
+    let paths : List (List ℕ) = c.args.host_path.now
+    ∷ map (λ (path : Bor (List ℕ)). path.now) c.args.paths.now in
     let files : List (List ℕ) = c.args.host.now ∷ contents c.args.libs.now in
     let explanation : List ℕ = c.as_str.result.now in
     let lists : List ℕ = c.as_str-2.result.now in
     let parts = c.in_ok-text.ensures.parts in
-    let are = subst (λ (text : List ℕ). AreLists paths files text) (sym c.as_str-2.ensures.value) (c.in_ok-lists.ensures.lists lacks) in
-    lists_in paths files parts.0 c.in_ok-verdict.verdict explanation lists parts.1 (string_bytes c.in_ok-text.text) parts.2 are
+    let are = subst (λ (text : List ℕ). AreLists paths files text) (sym c.as_str-2.ensures.value)
+    (c.in_ok-lists.ensures.lists lacks) in
+    lists_in paths files parts.0 c.in_ok-verdict.verdict explanation lists parts.1
+    (string_bytes c.in_ok-text.text) parts.2 are
 
 pub returns-clause-segments : goal.returns-clause-segments
 returns-clause-segments g c = λ none.
@@ -41,7 +49,11 @@ returns-clause-segments g c = λ none.
     let overview = string_bytes c.in_ok-findings.findings.overview in
     let text = string_bytes c.in_ok-text.text in
     let links = links_of host libs verdict c.in_ok-verdict.ensures none in
-    let read = c.first_of_all.ensures.unread host libs (λ step f reading stands. none step f stands) in
-    let silent = c.as_str.ensures.value ∙ c.in_ok-findings.ensures.explanation (c.fault-fault.ensures ∙ links) in
-    let unlisted = c.as_str-2.ensures.value ∙ c.in_ok-lists.ensures.none (no_lists verdict c.args.libs.now links) in
-    lines_in text lines (adds_then_none [] overview text lines (c.in_ok-findings.ensures.segments read) (c.in_ok-text.ensures.lines links silent unlisted))
+    let read = c.first_of_all.ensures.unread host libs
+    (λ step f reading stands. none step f stands) in
+    let silent = c.as_str.ensures.value ∙ c.in_ok-findings.ensures.explanation
+    (c.fault-fault.ensures ∙ links) in
+    let unlisted = c.as_str-2.ensures.value
+    ∙ c.in_ok-lists.ensures.none (no_lists verdict c.args.libs.now links) in
+    lines_in text lines (adds_then_none [] overview text lines
+    (c.in_ok-findings.ensures.segments read) (c.in_ok-text.ensures.lines links silent unlisted))

@@ -6,7 +6,8 @@ use Rattle.ps_report.proofs.report.end_line.Goals as goal
 pub returns-then-ends_with-clause-ended : goal.returns-then-ends_with-clause-ended
 returns-then-ends_with-clause-ended g c =
     let bytes = c.as_str.result.now in
-    let end = (ends_char 10 bytes c.ends_with.result c.ends_with.ensures.cases (lit< tt)).0 c.if-ends_with.true in
+    let end = (ends_char 10 bytes c.ends_with.result c.ends_with.ensures.cases (lit< tt)).0
+    c.if-ends_with.true in
     (take (length bytes - 1) bytes, sym c.as_str.ensures.value ∙ end)
 
 pub returns-then-ends_with-clause-lines : goal.returns-then-ends_with-clause-lines
@@ -16,4 +17,5 @@ pub returns-clause-ended : goal.returns-clause-ended
 returns-clause-ended g c = (string_bytes c.args.text.now, c.in_ok-push_str.ensures.bytes)
 
 pub returns-clause-lines : goal.returns-clause-lines
-returns-clause-lines g c = adds_end (string_bytes c.args.text.now) (string_bytes c.push_str.new.self) c.in_ok-push_str.ensures.bytes
+returns-clause-lines g c = adds_end (string_bytes c.args.text.now)
+    (string_bytes c.push_str.new.self) c.in_ok-push_str.ensures.bytes

@@ -8,9 +8,15 @@ loop-place-preserved c =
     let name = c.args.name.now in
     let i = c.loop-place.place in
     elim c.if-byte-ne32.branch [
-      | then-byte-ne32 w ↦ (omega (arith, w.used-is), ap (λ (n : ℕ). take n name) w.used-is ∙ sym (all_of name i _ c.loop-place-test.true w.if-byte-ne32.true))
+      | then-byte-ne32 w ↦ (
+        omega (arith, w.used-is),
+        ap (λ (n : ℕ). take n name) w.used-is
+            ∙ sym (all_of name i _ c.loop-place-test.true w.if-byte-ne32.true),
+      )
       | else-byte-ne32 w ↦ (
         omega (arith, w.used-is, c.loop-place.invariant.0),
-        ap (λ (n : ℕ). take n name) w.used-is ∙ (c.loop-place.invariant.1 ∙ sym (same_blank name i _ c.loop-place-test.true w.if-byte-ne32.false)),
+        ap (λ (n : ℕ). take n name) w.used-is
+            ∙ (c.loop-place.invariant.1
+            ∙ sym (same_blank name i _ c.loop-place-test.true w.if-byte-ne32.false)),
       )
     ]

@@ -8,5 +8,7 @@ use Rattle.ps_shown.proofs.path.write_quoted.Goals as goal
 pub returns : goal.returns
 returns g c =
     λ plain ok.
-    let end = YieldsList-end (YieldsList-from_chars c.args.path.now c.utf8.path cc) c.loop-c.yielded _ c.loop-c.yielded_by _ _ c.in-None.is c.next.ensures.steps in
-    has_written_of_eq _ _ _ _ _ (ap (flat_map quoted_char) (sym (map-id c.loop-c.yielded) ∙ end.0)) (c.loop-c.invariant plain)
+    let end = YieldsList-end (YieldsList-from_chars c.args.path.now c.utf8.path cc) c.loop-c.yielded
+    _ c.loop-c.yielded_by _ _ c.in-None.is c.next.ensures.steps in
+    has_written_of_eq _ _ _ _ _ (ap (flat_map quoted_char)
+    (sym (map-id c.loop-c.yielded) ∙ end.0)) (c.loop-c.invariant plain)

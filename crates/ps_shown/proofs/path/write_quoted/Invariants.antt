@@ -6,4 +6,5 @@ use Rattle.ps_shown.proofs.path.write_quoted.Given as goal
 -- the characters so far are written
 abbrev pub invariant-loop-c : goal.invariant-loop-c
 invariant-loop-c g l =
-    IsPlainFormatter l.fn.f → HasWritten g.W.Write.write_str_gives l.fn.f (flat_map quoted_char l.yielded) l.f
+    IsPlainFormatter l.fn.f → HasWritten g.W.Write.write_str_gives l.fn.f
+    (flat_map quoted_char l.yielded) l.f

@@ -5,4 +5,5 @@ pub returns-clause-linked : goal.returns-clause-linked
 returns-clause-linked c = links _ _ _ _ c.of.result c.link.result c.of.ensures c.link.ensures.linked
 
 pub returns-clause-small : goal.returns-clause-small
-returns-clause-small c = link_needs _ c.args.libs.now c.args.lengths.now _ c.of.result c.link.result c.of.ensures c.link.ensures.stopped
+returns-clause-small c = link_needs _ c.args.libs.now c.args.lengths.now _ c.of.result c.link.result
+    c.of.ensures c.link.ensures.stopped

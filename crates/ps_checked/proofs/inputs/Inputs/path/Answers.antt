@@ -7,4 +7,5 @@ use Rattle.ps_checked.proofs.inputs.Inputs.path.Goals as goal
 pub returns : goal.returns
 returns c =
     let some : 0 < c.args.file = grind (arith, nat_tests) in
-    c.path_at.ensures ∙ path_rest c.args.self.now.host_path.now (contents c.args.self.now.paths.now) c.args.file some
+    c.path_at.ensures ∙ path_rest c.args.self.now.host_path.now
+    (contents c.args.self.now.paths.now) c.args.file some

@@ -1,4 +1,5 @@
-use Rattle.std.proofs.Common.{◌≡◌, ◌<◌, ◌≤◌, ◌∙◌, length, take, map, ℕ, sym, subst, arith}
+use Rattle.std.proofs.Common.{◌≡◌, ◌<◌, ◌≤◌, ◌∙◌, length, take, map, ℕ, sym}
+use Rattle.std.proofs.Common.{subst, arith}
 use Rattle.std.specs.List.{range_with_len}
 use Rattle.std.proofs.lemmas.List.{take_more_set, take_all}
 use Rattle.std.proofs.lemmas.List.FromFn.{map-range_with_len_more}
@@ -19,4 +20,6 @@ returns c =
     let names = c.loop-i.names in
     let done : c.loop-i.i ≡ 16 = omega arith in
     let whole : length names ≤ 16 = omega arith in
-    sym (take_all 16 names whole) ∙ subst (λ (n : ℕ). take n names ≡ map (name_at c.args.self.now.file) (range_with_len 0 n)) done c.loop-i.invariant.1
+    sym (take_all 16 names whole) ∙ subst
+    (λ (n : ℕ). take n names ≡ map (name_at c.args.self.now.file) (range_with_len 0 n))
+    done c.loop-i.invariant.1

@@ -5,4 +5,5 @@ use Rattle.ps_codefile.proofs.dictionary.Dict.names.Given as goal
 
 -- the names so far
 abbrev pub invariant-loop-i : goal.invariant-loop-i
-invariant-loop-i l = (length l.names ≡ 16) × (take l.i l.names ≡ map (name_at l.self.file) (range_with_len 0 l.i))
+invariant-loop-i l = (length l.names ≡ 16)
+    × (take l.i l.names ≡ map (name_at l.self.file) (range_with_len 0 l.i))

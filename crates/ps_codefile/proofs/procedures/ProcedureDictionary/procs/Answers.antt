@@ -6,12 +6,15 @@ use Rattle.ps_codefile.proofs.procedures.ProcedureDictionary.procs.Goals as goal
 pub push-requires : goal.push-requires
 push-requires c =
     let code = c.args.self.now.code in
-    let long = ap (λ (ws : List ℕ). length ws) c.loop-i.invariant ∙ length-map-range_with_len (content_of c.args.self.now.order code) 1 c.loop-i.i in
+    let long = ap (λ (ws : List ℕ). length ws) c.loop-i.invariant
+    ∙ length-map-range_with_len (content_of c.args.self.now.order code) 1 c.loop-i.i in
     omega (arith, long)
 
 pub loop-i-preserved : goal.loop-i-preserved
 loop-i-preserved c =
     let code = c.args.self.now.code in
-    let one = map-range_with_len_more (content_of c.args.self.now.order code) 1 c.loop-i.i (c.loop-i.i + 1) (omega arith) in
-    let is = ap (λ (v : ProcedureTables). content_of v.order v.code (c.loop-i.i + 1)) c.self.view_is in
+    let one = map-range_with_len_more (content_of c.args.self.now.order code) 1 c.loop-i.i
+    (c.loop-i.i + 1) (omega arith) in
+    let is = ap (λ (v : ProcedureTables). content_of v.order v.code (c.loop-i.i + 1))
+    c.self.view_is in
     rw (c.push.ensures.items, c.loop-i.invariant, c.word_of.ensures ∙ is) (sym one)

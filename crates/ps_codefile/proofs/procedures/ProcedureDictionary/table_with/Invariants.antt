@@ -8,5 +8,6 @@ abbrev pub invariant-loop-p : goal.invariant-loop-p
 invariant-loop-p l = record {
   low : 1 ≤ l.p;
   end : l.p-end ≡ procedures l.self.code + 1;
-  none : (q : ℕ) → 1 ≤ q → q < l.p → passes (is_in_table l.place) (table_of l.self.order l.self.code q) ≡ false;
+  none : (q : ℕ) → 1 ≤ q → q < l.p
+      → passes (is_in_table l.place) (table_of l.self.order l.self.code q) ≡ false;
 }

@@ -6,4 +6,5 @@ use Rattle.ps_linkinfo.proofs.record_counts.RecordCounts.read.Given as goal
 
 -- the counts is that of the records that were given
 abbrev pub invariant-loop-item : goal.invariant-loop-item
-invariant-loop-item l = (rs : List Record) × Walked l.fn.order l.fn.bytes l.item-iterator rs × (l.counts ≡ record_counts_of rs)
+invariant-loop-item l = (rs : List Record) × Walked l.fn.order l.fn.bytes l.item-iterator rs
+    × (l.counts ≡ record_counts_of rs)

@@ -8,10 +8,17 @@ pub returns-in-Err-clause-first : goal.returns-in-Err-clause-first
 returns-in-Err-clause-first c =
     let w = c.self.inside in
     let bad_there = ap (bad w.order) (sym c.split_at.ensures.back) ∙ c.in-Err.ensures.bad in
-    ap items_left (sym c.self.view_is) ∙ left_end (record { order = w.order; bytes = w.bytes.now; used = w.used; ended = w.ended }) c.in-Err.reason c.if-self.false bad_there
+    ap items_left (sym c.self.view_is) ∙ left_end
+    (record { order = w.order; bytes = w.bytes.now; used = w.used; ended = w.ended })
+    c.in-Err.reason c.if-self.false bad_there
 
 pub returns-in-Ok-clause-first : goal.returns-in-Ok-clause-first
 returns-in-Ok-clause-first c =
     let w = c.self.inside in
-    let begins : BeginsWith w.order (drop w.used w.bytes.now) c.in-Ok.record = subst (λ (x : List ℕ). BeginsWith w.order x c.in-Ok.record) c.split_at.ensures.back c.in-Ok.ensures.ok in
-    ap items_left (sym c.self.view_is) ∙ left_next (record { order = w.order; bytes = w.bytes.now; used = w.used; ended = w.ended }) c.in-Ok.record _ c.if-self.false begins (rw (c.in-Ok.ensures.size, c.is_eof-self-inside.ensures) refl)
+    let begins : BeginsWith w.order (drop w.used w.bytes.now) c.in-Ok.record =
+    subst (λ (x : List ℕ). BeginsWith w.order x c.in-Ok.record) c.split_at.ensures.back
+    c.in-Ok.ensures.ok in
+    ap items_left (sym c.self.view_is) ∙ left_next
+    (record { order = w.order; bytes = w.bytes.now; used = w.used; ended = w.ended })
+    c.in-Ok.record _ c.if-self.false begins
+    (rw (c.in-Ok.ensures.size, c.is_eof-self-inside.ensures) refl)

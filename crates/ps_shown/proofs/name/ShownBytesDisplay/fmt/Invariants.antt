@@ -7,4 +7,5 @@ use Rattle.ps_shown.proofs.name.ShownBytesDisplay.fmt.Given as goal
 -- the bytes so far are written
 abbrev pub invariant-loop-byte : goal.invariant-loop-byte
 invariant-loop-byte g l =
-    IsPlainFormatter l.fn.f → HasWritten g.W.Write.write_str_gives l.fn.f (flat_map shown_byte (take l.byte-index l.byte-items)) l.f
+    IsPlainFormatter l.fn.f → HasWritten g.W.Write.write_str_gives l.fn.f
+    (flat_map shown_byte (take l.byte-index l.byte-items)) l.f
