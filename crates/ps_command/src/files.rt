@@ -18,7 +18,7 @@ use std::{fs, io};
 const LONGEST: usize = 67_108_864;
 
 /// How many bytes a read requests.
-const CHUNK: usize = 65_536;
+const CHUNK: usize = 16_384;
 
 /// Why a file was not read whole.
 #[derive(Clone, Copy, Debug, PartialEq, Eq)]
