@@ -1,37 +1,26 @@
 -- Each unit that a record of the link requests has its segment there, where the rounds end without
 -- a fault.
 use Rattle.std.proofs.Common.{rules, ◌≡◌, ℕ, zero, suc, ◌+◌, ◌<◌, ◌≤◌, List, [], ◌∷◌, ◌++◌, length, Option, Some, None, Bool, true, false, refl, sym, ap, subst, ◌∙◌, inl, inr, arith, append_assoc, append-nil, is_some}
-use Rattle.std.specs.Prelude.{◌⊎◌, if◌then◌else◌, ◌&&◌, ◌||◌, ◌==◌}
-use Rattle.std.specs.Bool.{Decides}
-use Rattle.std.specs.List.{slice_get, list_any, find, cons_option}
-use Rattle.std.specs.Map.{lookup}
-use Rattle.std.specs.Option.{option_map_or, option_or, option_and_then}
-use Rattle.std.specs.Result.{result_ok}
-use Rattle.std.specs.Str.{bytes_eq}
-use Rattle.std.proofs.lemmas.Bool.{cases_lt, false≢true, or_cases, or_left, or_right}
-use Rattle.std.proofs.lemmas.Bool.Decides.{Decides-at, Decides-and, Decides-like, Decides-eqb}
+use Rattle.ps_laws.proofs.Words.{◌⊎◌, if◌then◌else◌, ◌&&◌, ◌||◌, ◌==◌}
+use Rattle.ps_laws.proofs.Words.{Decides, slice_get, list_any, find, cons_option, lookup, option_or}
+use Rattle.ps_laws.proofs.Words.{bytes_eq, cases_lt, false≢true, Decides-at, Decides-and}
+use Rattle.ps_laws.proofs.Words.{Decides-like, Decides-eqb, same_Some, none-some, bytes_eq-Decides}
+use Rattle.ps_laws.proofs.Words.{slots, is_unit_reference, unit_references, all_unit_references}
+use Rattle.ps_laws.proofs.Words.{requested_from, as_added, RoundsOutcome, added_segments}
+use Rattle.ps_laws.proofs.Words.{added_fault, SomeItem, IsSegment, Record, is_role, IsOfRound}
+use Rattle.ps_laws.proofs.Words.{is_unit, is_empty, Segment, unit_source, own_segment, units_of}
+use Rattle.ps_laws.proofs.Words.{UnitReference, added_made, Order}
+use Rattle.std.proofs.lemmas.Bool.{or_cases, or_left, or_right}
 use Rattle.std.proofs.lemmas.List.Folds.{list_any-append}
-use Rattle.std.proofs.lemmas.Option.{same_Some, none-some, slice_get_past}
-use Rattle.std.proofs.lemmas.Slice.Eq.{bytes_eq-Decides}
-use Rattle.ps_codefile.specs.Dictionary.{slots, entry_at, role_of}
-use Rattle.ps_linkinfo.specs.RecordCounts.{is_unit_reference}
-use Rattle.ps_resolve.specs.Added.{unit_references, all_unit_references, is_already_known, requested_from, empty_slots, placed_fault, as_added, added_segment, RoundsOutcome, requested_units, added_segments, added_fault, added_at, segment_at, segments}
-use Rattle.ps_resolve.specs.Standing.Phrases.{SomeItem}
-use Rattle.ps_resolve.specs.Standing.Segments.{IsSegment}
-use Rattle.ps_codefile.specs.declared.entry.Role.{Role}
+use Rattle.std.proofs.lemmas.Option.{slice_get_past}
+use Rattle.ps_resolve.specs.Added.{is_already_known, empty_slots, placed_fault, added_segment, requested_units, added_at, segment_at, segments}
 use Rattle.ps_codefile.specs.declared.entry.Role.TheVariants as role
-use Rattle.ps_linkinfo.specs.declared.record.LinkRecord.{LinkRecord as Record}
-use Rattle.ps_resolve.specs.Faults.{is_role}
-use Rattle.ps_resolve.specs.OfLink.{IsOfRound}
-use Rattle.ps_codefile.specs.Roles.{is_unit, is_empty}
-use Rattle.ps_resolve.specs.Sources.{Segment, unit_source, source_of, segment_from, own_segment, own_segments, units_of}
-use Rattle.ps_resolve.specs.declared.reading.added.UnitReference.{UnitReference}
+use Rattle.ps_resolve.specs.Sources.{own_segments}
 use Rattle.ps_laws.proofs.Looking.{of_test, any_of_items, find_none}
 use Rattle.ps_laws.proofs.Items.{In, all_in, not_apart, at_left, first_right, in_left, in_right, some_before, in_flat, in_filter_map, of_filter_map, in_range, of_range, of_filter, filter_ascends}
-use Rattle.ps_resolve.proofs.EachSegment.{added_made, at_slot, segment_with}
+use Rattle.ps_resolve.proofs.EachSegment.{at_slot, segment_with}
 use Rattle.ps_laws.proofs.Segments.{found_in_slot}
 use Rattle.ps_laws.proofs.EachRound.{IsTurn, all_rounds, own_units, references_of, requested_rest, segments_before}
-use Rattle.ps_words.specs.declared.order.Order.{Order}
 
 -- 2. the queue of names grows, and has each name that is requested
 pub queue_grows : (units : List (List ℕ × ℕ)) (queue gs : List UnitReference) → (more : List UnitReference) × (requested_from units queue gs ≡ queue ++ more)

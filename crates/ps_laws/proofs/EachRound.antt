@@ -1,28 +1,22 @@
 -- The rounds in which units are added: what holds of all of them, where it goes from each to the one
 -- before.
-use Rattle.std.proofs.Common.{◌≡◌, ℕ, ◌+◌, List, [], ◌∷◌, ◌++◌, length, Option, Some, None, Result, Ok, Err, Bool, true, false, refl, sym, ap, subst, ◌∙◌, arith, append_assoc, append-nil, is_none, take}
-use Rattle.std.specs.Prelude.{if◌then◌else◌, not}
-use Rattle.std.specs.List.{enumerate_from, slice_get, find}
-use Rattle.std.specs.Option.{option_map, option_or, option_and_then}
-use Rattle.std.proofs.lemmas.Bool.{false≢true, or_parts}
-use Rattle.std.proofs.lemmas.Grind.{flat_map-append}
-use Rattle.ps_codefile.specs.Dictionary.{slots, is_nameless, entry_at, code_of}
-use Rattle.ps_codefile.specs.declared.entry.Role.{Role}
+use Rattle.std.proofs.Common.{◌≡◌, ℕ, ◌+◌, List, [], ◌∷◌, ◌++◌, length, Option, Some, None, Bool, true, false, refl, sym, ap, subst, ◌∙◌, arith, append_assoc, append-nil, is_none, take}
+use Rattle.ps_laws.proofs.Words.{if◌then◌else◌, not, enumerate_from, slice_get, find}
+use Rattle.ps_laws.proofs.Words.{option_map, option_or, option_and_then, false≢true, or_parts}
+use Rattle.ps_laws.proofs.Words.{flat_map-append, slots, Role, unit_references, all_unit_references}
+use Rattle.ps_laws.proofs.Words.{requested_from, as_added, request_of, RoundsOutcome, after}
+use Rattle.ps_laws.proofs.Words.{added_segments, entry_fault, code_fault, request_fault, Segment}
+use Rattle.ps_laws.proofs.Words.{is_named, chosen_library, unit_source, units_of, UnitReference}
+use Rattle.ps_laws.proofs.Words.{Request, Order, Fault}
 use Rattle.ps_codefile.specs.declared.entry.Role.TheVariants as role
-use Rattle.ps_resolve.specs.Added.{unit_references, all_unit_references, requested_from, empty_slots, is_missing, unplaced_fault, placed_fault, as_added, added_segment, request_of, RoundsOutcome, after, rounds_from, requested_units, rounds, added_segments}
-use Rattle.ps_resolve.specs.Faults.{entry_fault, code_fault, request_fault}
+use Rattle.ps_resolve.specs.Added.{empty_slots, is_missing, unplaced_fault, placed_fault, added_segment, rounds_from, requested_units, rounds}
 use Rattle.ps_resolve.specs.Requests.{missing_at}
-use Rattle.ps_resolve.specs.Sources.{Segment, is_named, has_entry, chosen_library, unit_source, file_at, segment_from, own_segments, units_of}
-use Rattle.ps_resolve.specs.declared.reading.added.UnitReference.{UnitReference}
-use Rattle.ps_resolve.specs.declared.reading.request.Request.{Request}
+use Rattle.ps_resolve.specs.Sources.{has_entry, segment_from, own_segments}
 use Rattle.ps_resolve.proofs.Adding.{requested-append}
 use Rattle.ps_resolve.proofs.FirstSlots.{neither_first, neither_second}
 use Rattle.ps_laws.proofs.Definitions.{longer, take_prefix}
 use Rattle.ps_laws.proofs.Items.{find_passes, first_right}
 use Rattle.ps_laws.proofs.Looking.{none_of_items}
-use Rattle.ps_words.specs.declared.order.Order.{Order}
-use Rattle.ps_words.specs.declared.fault.Reason.{Reason}
-use Rattle.ps_words.specs.declared.fault.Fault.{Fault}
 
 -- 1. what is known of a unit's source where there is no fault
 pub source_made : (order : Order) (host : List ℕ) (libs : List (List ℕ)) (slot : ℕ) (name : List ℕ) (r : Role) (at : ℕ × ℕ) → code_fault order host libs slot r at ≡ None → segment_from order host libs slot name r at ≡ None → ⊥

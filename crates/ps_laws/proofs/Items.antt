@@ -1,8 +1,9 @@
 -- What is in a list, by its place there.
 use Rattle.std.proofs.Common.{◌≡◌, ℕ, zero, suc, ◌+◌, ◌<◌, ◌≤◌, List, [], ◌∷◌, ◌++◌, length, get_or, take, add-zero, Option, Some, None, Bool, true, false, refl, sym, ap, subst, ◌∙◌, inl, inr, arith}
-use Rattle.std.specs.Prelude.{if◌then◌else◌, All, ⊤}
-use Rattle.std.specs.List.{range_with_len, slice_get, filter, filter_map, flat_map, cons_option, find}
-use Rattle.std.proofs.lemmas.Bool.{cases_lt, cases_order}
+use Rattle.ps_laws.proofs.Words.{if◌then◌else◌, range_with_len, slice_get, filter_map}
+use Rattle.ps_laws.proofs.Words.{flat_map, cons_option, find, cases_lt, cases_order}
+use Rattle.std.specs.Prelude.{All, ⊤}
+use Rattle.std.specs.List.{filter}
 use Rattle.std.proofs.lemmas.List.Elements.{All-get_or}
 use Rattle.std.proofs.lemmas.Option.{get_or_from_slice_get, slice_get-get_or, slice_get_within}
 use Rattle.ps_resolve.proofs.EachSegment.{find_has}

@@ -1,31 +1,24 @@
 -- The slot of a record that requests a unit does not itself want one that no library has.
 use Rattle.std.proofs.Common.{◌≡◌, ℕ, zero, suc, ◌+◌, List, ◌++◌, take, add-zero, Option, Some, None, true, false, refl, sym, ap, subst, ◌∙◌, inl, inr, is_none, arith}
-use Rattle.std.specs.List.{slice_get, find}
-use Rattle.std.specs.Option.{option_map, option_map_or, option_and_then}
-use Rattle.std.specs.Result.{result_ok}
-use Rattle.std.proofs.lemmas.Bool.{false≢true}
-use Rattle.std.proofs.lemmas.Option.{none-some, same_Some}
-use Rattle.ps_codefile.specs.Dictionary.{slots, entry_at, role_of}
-use Rattle.ps_codefile.specs.Roles.{is_empty}
-use Rattle.ps_codefile.specs.declared.entry.Role.{Role}
+use Rattle.ps_laws.proofs.Words.{slice_get, find, option_map, option_map_or, option_and_then}
+use Rattle.ps_laws.proofs.Words.{result_ok, false≢true, none-some, same_Some, slots, entry_at}
+use Rattle.ps_laws.proofs.Words.{role_of, is_empty, Role, RoundsOutcome, after, as_added}
+use Rattle.ps_laws.proofs.Words.{added_segments, is_role, Segment, is_named, chosen_library}
+use Rattle.ps_laws.proofs.Words.{unit_source, source_of, own_segment, IsGiver, HasRole}
+use Rattle.ps_laws.proofs.Words.{UnitReference, added_made, Order}
 use Rattle.ps_codefile.specs.declared.entry.Role.TheVariants as role
-use Rattle.ps_resolve.specs.Added.{RoundsOutcome, after, as_added, empty_slots, added_segments, rounds}
-use Rattle.ps_resolve.specs.Faults.{is_role}
+use Rattle.ps_resolve.specs.Added.{empty_slots, rounds}
 use Rattle.ps_resolve.specs.Parts.{WantsMissing}
-use Rattle.ps_resolve.specs.Sources.{Segment, is_named, chosen_library, unit_source, source_of, own_segment, own_segments}
-use Rattle.ps_resolve.specs.RequestedUnits.{IsGiver}
+use Rattle.ps_resolve.specs.Sources.{own_segments}
 use Rattle.ps_resolve.specs.Standing.Rounds.{IsRequested}
-use Rattle.ps_resolve.specs.Standing.Slots.{HasRole}
 use Rattle.ps_resolve.specs.Standing.Sources.{NoneHas}
-use Rattle.ps_resolve.specs.declared.reading.added.UnitReference.{UnitReference}
 use Rattle.ps_laws.proofs.Items.{of_take}
 use Rattle.ps_laws.proofs.Segments.{own_in_slot}
 use Rattle.ps_laws.proofs.Sources.{none_has, ok_is}
 use Rattle.ps_laws.proofs.EachRound.{all_rounds}
-use Rattle.ps_resolve.proofs.EachSegment.{added_made, own_made}
+use Rattle.ps_resolve.proofs.EachSegment.{own_made}
 use Rattle.ps_laws.proofs.Asked.{empty_slot, own_at}
 use Rattle.ps_laws.proofs.AddedUnits.{given, split_at}
-use Rattle.ps_words.specs.declared.order.Order.{Order}
 
 -- 1. an added segment is in an empty slot, also where a later round has a fault
 module _ (order : Order) (host : List ℕ) (libs : List (List ℕ)) where
@@ -36,8 +29,7 @@ module _ (order : Order) (host : List ℕ) (libs : List (List ℕ)) where
   added_slot j s e = (empty_slot order host (0 + j) s.slot (slots_are j s e)).2
     where
       more : (k : ℕ) (slot : ℕ) (t : Segment) (rest : RoundsOutcome) → slice_get (empty_slots order host) k ≡ Some slot → t.slot ≡ slot → HaveSlots (k + 1) rest → HaveSlots k (after t rest)
-      more k slot t rest e at later zero q h = rw add-zero (e ∙ ap (λ (n : ℕ). Some n) (sym at ∙ ap (λ (x : Segment). x.slot) (same_Some t q h)))
-      more k slot t rest e at later (suc j) q h = subst (λ (n : ℕ). slice_get (empty_slots order host) n ≡ Some q.slot) (omega arith) (later j q h)
+      more k slot t rest h m p = grind arith
 
       slots_are : HaveSlots 0 (rounds order host libs)
       slots_are =
@@ -58,12 +50,7 @@ module _ (order : Order) (host : List ℕ) (libs : List (List ℕ)) where
       go (Some lib) e = absurd (false≢true e)
 
   own_has_library : (slot : ℕ) (s : Segment) → own_segment order host libs slot ≡ Some s → WantsMissing order host libs slot → ⊥
-  own_has_library slot s e wants =
-      let t = own_made order host libs slot s e in
-      let has = ok_is (role_of (entry_at order host slot)) t.0 t.1 in
-      let same : role.Wanted ≡ t.0 = (let a = sym wants.0 ∙ has in cc) in
-      let source : unit_source order (entry_at order host slot).name libs ≡ Some t.2 = subst (λ (x : Role). source_of order host libs slot x ≡ Some t.2) (sym same) t.4 in
-      none-some t.2 (sym (none_source (entry_at order host slot).name wants.1) ∙ source)
+  own_has_library slot s e wants = grind (arith, own_made, ok_is, none-some, none_source)
 
   -- 3. the giver of a name that is requested
   pub not_wanted : (k : ℕ) (g : UnitReference) → IsRequested order host libs k g → WantsMissing order host libs g.slot → ⊥

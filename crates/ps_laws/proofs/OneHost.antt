@@ -1,28 +1,20 @@
 -- Where no fault applies, the host has one segment of its own, no two of its definitions have a
 -- name in common, and one base offset.
 use Rattle.std.proofs.Common.{◌≡◌, ℕ, zero, suc, ◌+◌, ◌<◌, List, [], ◌∷◌, length, Option, Some, None, Bool, true, false, refl, sym, ap, subst, ◌∙◌, is_some, arith}
-use Rattle.std.proofs.lemmas.Option.{same_Some}
+use Rattle.ps_laws.proofs.Words.{same_Some, cons_option, option_map_or, false≢true, next_of, Body}
+use Rattle.ps_laws.proofs.Words.{Record, segments_of, is_host, Segment, order_of, host_of}
+use Rattle.ps_laws.proofs.Words.{host_records, NoneStands, OfDefinitions, in_record}
 use Rattle.std.specs.Prelude.{filter_map, slice_get, unwrap_or}
-use Rattle.std.specs.List.{cons_option}
-use Rattle.std.specs.Option.{option_map_or}
-use Rattle.std.proofs.lemmas.Bool.{false≢true}
-use Rattle.ps_linkinfo.specs.RecordCounts.{is_definition, next_in, next_of}
+use Rattle.ps_linkinfo.specs.RecordCounts.{is_definition, next_in}
 use Rattle.ps_linkinfo.specs.Records.{EndsOnce, is_end, is_eof}
-use Rattle.ps_linkinfo.specs.declared.record.Body.{Body}
 use Rattle.ps_linkinfo.specs.declared.record.Body.TheVariants.{PublDef, Eof}
-use Rattle.ps_linkinfo.specs.declared.record.LinkRecord.{LinkRecord as Record}
 use Rattle.ps_resolve.specs.AllFaults.{reading_fault}
-use Rattle.ps_resolve.specs.LinkedBytes.{IsHostRecord, IsPublic, IsBase, segments_of}
-use Rattle.ps_codefile.specs.Roles.{is_host}
-use Rattle.ps_resolve.specs.Sources.{Segment, order_of, host_of, host_records}
-use Rattle.ps_resolve.specs.Standing.{NoneStands}
-use Rattle.ps_resolve.specs.Standing.Keys.{OfDefinitions}
+use Rattle.ps_resolve.specs.LinkedBytes.{IsHostRecord, IsPublic, IsBase}
 use Rattle.ps_laws.proofs.Items.{find_in, find_passes, not_apart}
 use Rattle.ps_laws.proofs.OfLink.{has_host, of_link}
 use Rattle.ps_laws.proofs.OneName.{of_segments}
 use Rattle.ps_laws.proofs.OnePlace.{host_linked}
 use Rattle.ps_laws.proofs.SoundCodes.{ends_once}
-use Rattle.ps_words.specs.FaultPlaces.{in_record}
 use Rattle.ps_words.specs.declared.fault.Reason.TheVariants as reason
 
 -- the EOFMARK of link information is its last record

@@ -1,24 +1,19 @@
 -- What follows for a segment of a link from its file: its records end once, and in its code the
 -- number and the data size lie apart, at reserved places.
 use Rattle.std.proofs.Common.{◌≡◌, ℕ, zero, suc, ◌+◌, ◌-◌, ◌*◌, ◌<◌, ◌≤◌, List, length, Option, Some, None, Bool, true, false, refl, subst, inl, inr, arith}
-use Rattle.std.specs.Prelude.{if◌then◌else◌, ◌==◌, nat_le, nat_lt, ◌&&◌, ◌||◌, not}
-use Rattle.std.specs.List.{list_any, range_with_len, filter_map}
-use Rattle.std.proofs.lemmas.Bool.{cases_lt, eqb-false, ltb-false, or_parts}
+use Rattle.ps_laws.proofs.Words.{if◌then◌else◌, ◌==◌, nat_le, nat_lt, ◌&&◌, ◌||◌}
+use Rattle.ps_laws.proofs.Words.{not, list_any, range_with_len, filter_map, cases_lt, or_parts}
+use Rattle.ps_laws.proofs.Words.{same_Some, entry_at, information_of, table_of, is_reserved}
+use Rattle.ps_laws.proofs.Words.{needs_linking, IsOfFile, Segment, file_at, Order, Reason}
+use Rattle.std.proofs.lemmas.Bool.{eqb-false, ltb-false}
 use Rattle.std.proofs.lemmas.Bool.Decides.{nat_tests}
-use Rattle.std.proofs.lemmas.Option.{same_Some}
-use Rattle.ps_codefile.specs.Dictionary.{entry_at, information_of}
 use Rattle.ps_codefile.specs.Places.{HasTables}
-use Rattle.ps_codefile.specs.Procedures.{procedures, dictionary_len, dictionary_start, content_of, table_of, is_in_table, tables_fault, is_reserved}
-use Rattle.ps_codefile.specs.Roles.{needs_linking}
+use Rattle.ps_codefile.specs.Procedures.{procedures, dictionary_len, dictionary_start, content_of, is_in_table, tables_fault}
 use Rattle.ps_codefile.proofs.Tables.{whole_table}
 use Rattle.ps_linkinfo.specs.Records.{EndsOnce, Spells}
 use Rattle.ps_linkinfo.proofs.Stands.{IsReadingOf, reading_is}
-use Rattle.ps_resolve.specs.OfLink.{IsOfFile}
-use Rattle.ps_resolve.specs.Sources.{Segment, file_at}
 use Rattle.ps_resolve.proofs.Requesting.{or_right}
 use Rattle.ps_resolve.proofs.Own.{either_true}
-use Rattle.ps_words.specs.declared.order.Order.{Order}
-use Rattle.ps_words.specs.declared.fault.Reason.{Reason}
 use Rattle.ps_words.specs.declared.fault.Reason.TheVariants as reason
 
 -- the records of a linked one end in the only EOFMARK

@@ -1,27 +1,21 @@
 -- The first fault of all is the smallest that is.
 use Rattle.std.proofs.Common.{◌≡◌, ℕ, ◌+◌, ◌<◌, ◌≤◌, List, [], ◌∷◌, Option, Some, None, true, refl, sym, ap, subst, ◌∙◌, inl, inr, arith}
-use Rattle.std.specs.Prelude.{◌⊎◌, ◌≢◌}
-use Rattle.std.specs.List.{slice_get}
-use Rattle.std.proofs.lemmas.Bool.{cases_lt}
-use Rattle.std.specs.Option.{option_or, option_map}
+use Rattle.ps_laws.proofs.Words.{◌⊎◌, ◌≢◌, slice_get, cases_lt, option_or, option_map}
+use Rattle.ps_laws.proofs.Words.{Before, order_of, added_fault, Step, OfHost, OfSlots, OfNoHost}
+use Rattle.ps_laws.proofs.Words.{OfLibraries, OfSources, OfAdded, OfDefinitions, OfPrivates}
+use Rattle.ps_laws.proofs.Words.{OfDataSize, OfReferences, key, InRound, Order, Fault}
 use Rattle.ps_resolve.specs.Faults.{host_fault, slots_fault, no_host_fault, libraries_fault, sources_fault, definitions_fault, privates_fault, data_fault, references_fault, linking_fault}
 use Rattle.ps_resolve.specs.AllFaults.{first_fault, reading_fault}
-use Rattle.ps_resolve.specs.First.{Before}
-use Rattle.ps_resolve.specs.Sources.{order_of}
-use Rattle.ps_resolve.specs.Added.{added_fault, segments}
-use Rattle.ps_resolve.specs.Standing.Keys.{Step, OfHost, OfSlots, OfNoHost, OfLibraries, OfSources, OfAdded, OfDefinitions, OfPrivates, OfDataSize, OfReferences, turn, is_of_reading, key}
+use Rattle.ps_resolve.specs.Added.{segments}
+use Rattle.ps_resolve.specs.Standing.Keys.{turn, is_of_reading}
 use Rattle.ps_resolve.specs.Standing.{StandsIn, FaultAt, NoneStandsInReading, IsFirst}
-use Rattle.ps_resolve.specs.Standing.Rounds.{InRound}
 use Rattle.ps_laws.proofs.Least.{Least, nothing, this, Precedes, least_same, least_or_then, not_both}
 use Rattle.ps_laws.proofs.Steps.{step_1, step_2, step_3, step_4}
 use Rattle.ps_laws.proofs.Sources.{OneStop, step_5}
 use Rattle.ps_laws.proofs.Rounds.{Place, Earlier, tagged, step_6}
-use Rattle.ps_laws.proofs.Definitions.{step_7}
+use Rattle.ps_laws.proofs.Definitions.{step_7, step_9}
 use Rattle.ps_laws.proofs.Privates.{step_8}
-use Rattle.ps_laws.proofs.DataSize.{step_9}
 use Rattle.ps_laws.proofs.References.{step_10}
-use Rattle.ps_words.specs.declared.order.Order.{Order}
-use Rattle.ps_words.specs.declared.fault.Fault.{Fault}
 
 -- what applies from a turn on, and before another
 abbrev Between : Order → List ℕ → List (List ℕ) → ℕ → ℕ → Place → Type 0
@@ -57,10 +51,7 @@ key_turn other f = (_, refl)
 
 -- a fault of an earlier turn comes earlier
 earlier_turn : (x y : Place) → turn x.0 < turn y.0 → Earlier x y
-earlier_turn x y h =
-    let a = key_turn x.0 x.1 in
-    let b = key_turn y.0 y.1 in
-    subst (λ (k : List ℕ). Before k (key y.0 y.1)) (sym a.1) (subst (λ (k : List ℕ). Before (turn x.0 ∷ a.0) k) (sym b.1) (inl h))
+earlier_turn x y h = grind (arith, key_turn)
 
 -- one more step before those that are later, which are looked at only if it has no fault
 add : (order : Order) (host : List ℕ) (libs : List (List ℕ)) (step : Step) (next end : ℕ) {o : Option Fault} {p : Option Place} → turn step ≢ 6 → turn step + 1 ≡ next → next ≤ end → Least (Precedes step) (StandsIn step order host libs) o
@@ -80,12 +71,7 @@ add order host libs step next end {o} {p} alone e low l m =
     to q (inr t) = (let a = t.0 in omega (arith, a, e), t.1, t.2)
 
     from : (q : Place) → Between order host libs (turn step) end q → Own q ⊎ Between order host libs next end q
-    from q t = elim (cases_lt (turn step) (turn q.0)) [
-      | inl h ↦ inr (omega (arith, h, e), t.1, t.2)
-      | inr h ↦
-          let same : q.0 ≡ step = same_turn q.0 step (let a = t.0 in omega (arith, a, h)) alone in
-          inl (q.1, ap (λ (s : Step). (s, q.1)) same, subst (λ (s : Step). StandsIn s order host libs q.1) same t.2)
-    ]
+    from q t = grind (arith, same_turn)
 
 -- the rounds are one turn
 rounds_turn : OneStop → (order : Order) (host : List ℕ) (libs : List (List ℕ)) → (o : Option Place) × Least Earlier (Between order host libs 6 7) o × (option_map (λ (x : Place). x.1) o ≡ added_fault order host libs)
