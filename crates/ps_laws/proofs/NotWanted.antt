@@ -1,10 +1,10 @@
 -- The slot of a record that requests a unit does not itself want one that no library has.
-use Rattle.std.proofs.Common.{◌≡◌, ℕ, zero, suc, ◌+◌, List, ◌++◌, take, add-zero, Option, Some, None, true, false, refl, sym, ap, subst, ◌∙◌, inl, inr, is_none, arith}
+use Rattle.std.proofs.Common.{◌≡◌, ℕ, ◌+◌, List, ◌++◌, take, Option, Some, None, true, false, refl, sym, ap, subst, ◌∙◌, inl, inr, is_none, arith}
 use Rattle.ps_laws.proofs.Words.{slice_get, find, option_map, option_map_or, option_and_then}
-use Rattle.ps_laws.proofs.Words.{result_ok, false≢true, none-some, same_Some, slots, entry_at}
-use Rattle.ps_laws.proofs.Words.{role_of, is_empty, Role, RoundsOutcome, after, as_added}
+use Rattle.ps_laws.proofs.Words.{result_ok, false≢true, none-some, slots}
+use Rattle.ps_laws.proofs.Words.{is_empty, RoundsOutcome, after, as_added}
 use Rattle.ps_laws.proofs.Words.{added_segments, is_role, Segment, is_named, chosen_library}
-use Rattle.ps_laws.proofs.Words.{unit_source, source_of, own_segment, IsGiver, HasRole}
+use Rattle.ps_laws.proofs.Words.{unit_source, own_segment, IsGiver, HasRole}
 use Rattle.ps_laws.proofs.Words.{UnitReference, added_made, Order}
 use Rattle.ps_codefile.specs.declared.entry.Role.TheVariants as role
 use Rattle.ps_resolve.specs.Added.{empty_slots, rounds}

@@ -1,7 +1,7 @@
 -- What is known of each segment of a link whose files were read without a fault.
 use Rattle.std.proofs.Common.{◌≡◌, ℕ, ◌<◌, List, Option, Some, None, true, refl, sym, ap, subst, ◌∙◌, inl, inr, is_some, arith}
 use Rattle.ps_laws.proofs.Words.{◌⊎◌, option_and_then, result_ok, entry_at, role_of}
-use Rattle.ps_laws.proofs.Words.{information_of, Role, is_host, reading, Record, added_fault}
+use Rattle.ps_laws.proofs.Words.{Role, is_host, Record, added_fault}
 use Rattle.ps_laws.proofs.Words.{as_added, request_of, code_fault, role_fault, IsOfFile, IsOfRound}
 use Rattle.ps_laws.proofs.Words.{request_by_slot, Segment, file_at, host_of, order_of, source_of}
 use Rattle.ps_laws.proofs.Words.{own_segment, IsSegment, HasRole, UnitReference, added_made, Order}
@@ -30,12 +30,7 @@ module _ (order : Order) (host : List ℕ) (libs : List (List ℕ)) where
       let file = file_at host libs place.0 in
       let entry = entry_at order file place.1 in
       let linked = rw (made.given, code_fault) at fine in
-      subst (IsOfFile order host libs) (sym made.is) (record {
-        code = made.given;
-        tables = λ h. none_mapped _ _ (or_none _ _ (rw h at linked)).0;
-        records = λ h. rw h (read_whole (reading order (information_of file entry)) (none_mapped _ _ (or_none _ _ (rw h at linked)).1));
-        unread = λ h. rw h refl;
-      })
+      grind (arith, none_mapped, or_none, read_whole)
 
   as_added_file : (s : Segment) → IsOfFile order host libs s → IsOfFile order host libs (as_added s)
   as_added_file s h = record { code = h.code; tables = h.tables; records = h.records; unread = h.unread }

@@ -1,6 +1,6 @@
 -- Where no fault applies, the host has one segment of its own, no two of its definitions have a
 -- name in common, and one base offset.
-use Rattle.std.proofs.Common.{◌≡◌, ℕ, zero, suc, ◌+◌, ◌<◌, List, [], ◌∷◌, length, Option, Some, None, Bool, true, false, refl, sym, ap, subst, ◌∙◌, is_some, arith}
+use Rattle.std.proofs.Common.{◌≡◌, ℕ, zero, suc, ◌+◌, ◌<◌, List, [], ◌∷◌, length, Option, Some, None, Bool, true, false, refl, sym, ap, ◌∙◌, is_some, arith}
 use Rattle.ps_laws.proofs.Words.{same_Some, cons_option, option_map_or, false≢true, next_of, Body}
 use Rattle.ps_laws.proofs.Words.{Record, segments_of, is_host, Segment, order_of, host_of}
 use Rattle.ps_laws.proofs.Words.{host_records, NoneStands, OfDefinitions, in_record}
@@ -31,13 +31,11 @@ base_in [] h = absurd h
 base_in (r ∷ []) h = (0, r, refl, at r.body h)
   where
     at : (b : Body) → is_end b ≡ true → b ≡ Eof (unwrap_or (slice_get (cons_option (next_in b) []) 0) 0)
-    at (Eof next) e = refl
-    at other e = absurd (false≢true e)
+    at b h = grind arith
 base_in (r ∷ q ∷ rs) h = let t = base_in (q ∷ rs) h.1 in (suc t.0, t.1, t.2, t.3 ∙ ap (λ (n : ℕ). Eof n) (sym (at r.body h.0)))
   where
     at : (b : Body) → is_end b ≡ false → unwrap_or (slice_get (cons_option (next_in b) (filter_map (λ (p : Record). next_in p.body) (q ∷ rs))) 0) 0 ≡ next_of (q ∷ rs)
-    at (Eof next) e = absurd (false≢true (sym e))
-    at other e = refl
+    at b h = grind arith
 
 module _ (host : List ℕ) (libs : List (List ℕ)) (none : NoneStands host libs) (read : reading_fault host libs ≡ None) where
   -- there is one at most
@@ -66,16 +64,11 @@ module _ (host : List ℕ) (libs : List (List ℕ)) (none : NoneStands host libs
 
   -- the base offset of its end mark
   pub base_there : IsBase (segments_of host libs) (next_of (host_records (segments_of host libs)))
-  base_there =
-      let h = host_there in
-      let b = base_in h.1.records (ends h.0 h.1 h.2 h.3) in
-      (b.0, b.1, (h.0, h.1, h.2, (h.3, b.2)), b.3 ∙ ap (λ (rs : List Record). Eof (next_of rs)) (sym (its_records h.1 (found h.0 h.1 h.2 h.3))))
+  base_there = grind (arith, host_there, base_in, ends, its_records, found)
 
   -- a record of the host, by its number
   of_one_host : (rec other : ℕ) (r q : Record) (t : IsHostRecord (segments_of host libs) rec r) (u : IsHostRecord (segments_of host libs) other q) → slice_get t.1.records other ≡ Some q
-  of_one_host rec other r q t u =
-      let same = same_Some u.1 t.1 (sym (found u.0 u.1 u.2 u.3.0) ∙ found t.0 t.1 t.2 t.3.0) in
-      subst (λ (s : Segment). slice_get s.records other ≡ Some q) same u.3.1
+  of_one_host rec other r q t u = grind (arith, found)
 
   one_record : (rec other : ℕ) (r q : Record) → IsHostRecord (segments_of host libs) rec r → IsHostRecord (segments_of host libs) other q → rec ≡ other → r ≡ q
   one_record rec other r q t u e = same_Some r q (sym t.3.1 ∙ (ap (λ (n : ℕ). slice_get t.1.records n) e ∙ of_one_host rec other r q t u))

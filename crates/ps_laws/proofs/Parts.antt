@@ -1,9 +1,9 @@
 -- A fault that applies has just the parts of its number.
 use Rattle.std.proofs.Common.{◌≡◌, ℕ, List, length, Some, Ok, Err, Bool, ap, sym, subst, ◌∙◌, inl, inr, arith}
 use Rattle.ps_laws.proofs.Words.{UnitReference, in_slot, in_record, Order, Fault, Reason, role_of}
-use Rattle.ps_laws.proofs.Words.{code_of, entry_at, EntryFault, CodeFault, InRound, Step, OfHost}
-use Rattle.ps_laws.proofs.Words.{OfSlots, OfNoHost, OfLibraries, OfSources, OfAdded, OfDefinitions}
-use Rattle.ps_laws.proofs.Words.{OfPrivates, OfDataSize, OfReferences, Entry, Role, is_host}
+use Rattle.ps_laws.proofs.Words.{code_of, entry_at, EntryFault, CodeFault, InRound, Step}
+use Rattle.ps_laws.proofs.Words.{OfSlots, OfSources, OfAdded}
+use Rattle.ps_laws.proofs.Words.{Entry, Role, is_host}
 use Rattle.ps_laws.proofs.Words.{file_at}
 use Rattle.ps_codefile.specs.declared.entry.Role.TheVariants as role
 use Rattle.ps_words.specs.declared.fault.Reason.TheVariants as reason
