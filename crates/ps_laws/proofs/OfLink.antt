@@ -1,23 +1,32 @@
 -- What is known of each segment of a link whose files were read without a fault.
 use Rattle.std.proofs.Common.{◌≡◌, ℕ, ◌<◌, List, Option, Some, None, true, refl, sym, ap, subst, ◌∙◌, inl, inr, is_some, arith}
-use Rattle.ps_laws.proofs.Words.{◌⊎◌, option_and_then, result_ok, entry_at, role_of}
-use Rattle.ps_laws.proofs.Words.{Role, is_host, Record, added_fault}
-use Rattle.ps_laws.proofs.Words.{as_added, request_of, code_fault, role_fault, IsOfFile, IsOfRound}
-use Rattle.ps_laws.proofs.Words.{request_by_slot, Segment, file_at, host_of, order_of, source_of}
-use Rattle.ps_laws.proofs.Words.{own_segment, IsSegment, HasRole, UnitReference, added_made, Order}
-use Rattle.ps_laws.proofs.Words.{Reason}
+use Rattle.std.specs.Prelude.{◌⊎◌}
+use Rattle.std.specs.Option.{option_and_then}
+use Rattle.std.specs.Result.{result_ok}
+use Rattle.ps_codefile.specs.Dictionary.{entry_at, role_of, information_of}
+use Rattle.ps_codefile.specs.declared.entry.Role.{Role}
 use Rattle.ps_codefile.specs.declared.entry.Role.TheVariants as role
-use Rattle.ps_resolve.specs.Added.{segments}
+use Rattle.ps_codefile.specs.Roles.{is_host}
+use Rattle.ps_linkinfo.specs.Records.{reading}
+use Rattle.ps_linkinfo.specs.declared.record.LinkRecord.{LinkRecord as Record}
+use Rattle.ps_resolve.specs.Added.{added_fault, as_added, request_of, segments}
 use Rattle.ps_resolve.specs.AllFaults.{reading_fault}
-use Rattle.ps_resolve.specs.Faults.{source_fault, sources_fault, slots_fault, no_host_fault}
-use Rattle.ps_resolve.specs.OfLink.{IsOfSlot, IsOfLink}
-use Rattle.ps_resolve.proofs.EachSegment.{IsMade, own_made}
+use Rattle.ps_resolve.specs.Faults.{code_fault, role_fault, source_fault, sources_fault, slots_fault, no_host_fault}
+use Rattle.ps_resolve.specs.OfLink.{IsOfFile, IsOfSlot, IsOfRound, IsOfLink}
+use Rattle.ps_resolve.specs.Requests.{request_by_slot}
+use Rattle.ps_resolve.specs.Sources.{Segment, file_at, host_of, order_of, source_of, own_segment}
+use Rattle.ps_resolve.specs.Standing.Segments.{IsSegment}
+use Rattle.ps_resolve.specs.Standing.Slots.{HasRole}
+use Rattle.ps_resolve.specs.declared.reading.added.UnitReference.{UnitReference}
+use Rattle.ps_resolve.proofs.EachSegment.{IsMade, added_made, own_made}
 use Rattle.ps_resolve.proofs.FirstSlots.{none_mapped, or_none}
 use Rattle.ps_resolve.proofs.ReadingKnown.{host_there, none_at, one_host}
 use Rattle.ps_laws.proofs.Asked.{in_segments, own_or_added, segment_named}
 use Rattle.ps_laws.proofs.EachRound.{request_parts}
 use Rattle.ps_laws.proofs.Items.{of_all}
 use Rattle.ps_laws.proofs.Sources.{ok_is}
+use Rattle.ps_words.specs.declared.order.Order.{Order}
+use Rattle.ps_words.specs.declared.fault.Reason.{Reason}
 
 read_whole : (read : List Record × Option Reason) → read.1 ≡ None → read ≡ (read.0, None)
 read_whole (rs, o) h = ap (λ (o : Option Reason). (rs, o)) h
@@ -30,7 +39,12 @@ module _ (order : Order) (host : List ℕ) (libs : List (List ℕ)) where
       let file = file_at host libs place.0 in
       let entry = entry_at order file place.1 in
       let linked = rw (made.given, code_fault) at fine in
-      grind (arith, none_mapped, or_none, read_whole)
+      subst (IsOfFile order host libs) (sym made.is) (record {
+        code = made.given;
+        tables = λ h. none_mapped _ _ (or_none _ _ (rw h at linked)).0;
+        records = λ h. rw h (read_whole (reading order (information_of file entry)) (none_mapped _ _ (or_none _ _ (rw h at linked)).1));
+        unread = λ h. rw h refl;
+      })
 
   as_added_file : (s : Segment) → IsOfFile order host libs s → IsOfFile order host libs (as_added s)
   as_added_file s h = record { code = h.code; tables = h.tables; records = h.records; unread = h.unread }
