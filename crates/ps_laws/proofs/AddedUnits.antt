@@ -1,31 +1,21 @@
 -- The units that are added are those that are requested, as they are said plainly.
 use Rattle.std.proofs.Common.{rules, ◌≡◌, ℕ, zero, suc, ◌+◌, ◌<◌, ◌≤◌, List, [], ◌∷◌, ◌++◌, length, map, Option, Some, None, Ok, Bool, true, false, refl, sym, ap, subst, ◌∙◌, inl, inr, arith, is_some, length-append, length-take, take}
-use Rattle.std.specs.Prelude.{◌⊎◌, ◌≢◌, if◌then◌else◌, ◌||◌}
-use Rattle.std.specs.List.{slice_get, list_any}
-use Rattle.std.specs.Map.{lookup}
-use Rattle.std.specs.Option.{option_map, option_and_then}
-use Rattle.std.specs.Result.{result_ok}
-use Rattle.std.specs.Str.{bytes_eq}
-use Rattle.std.proofs.lemmas.Bool.{cases_lt, cases_order, false_from_ne_true, false≢true, or_cases, or_left}
-use Rattle.std.proofs.lemmas.Option.{same_Some, slice_get_within, slice_get-map}
-use Rattle.std.proofs.lemmas.Slice.Eq.{bytes_eq-Decides}
-use Rattle.ps_codefile.specs.Dictionary.{entry_at, role_of, code_of, information_of}
-use Rattle.ps_linkinfo.specs.RecordCounts.{is_unit_reference}
-use Rattle.ps_resolve.specs.Added.{unit_references, all_unit_references, is_already_known, requested_from, requested_units, added_segments, added_fault}
-use Rattle.ps_resolve.specs.Standing.Phrases.{SomeItem}
-use Rattle.ps_resolve.specs.OfLink.{IsOfFile}
-use Rattle.ps_resolve.specs.Standing.Slots.{HasRole, IsUnitSlot}
-use Rattle.ps_codefile.specs.declared.entry.Role.{Role}
+use Rattle.ps_laws.proofs.Words.{◌⊎◌, ◌≢◌, if◌then◌else◌, slice_get, list_any, lookup, option_map}
+use Rattle.ps_laws.proofs.Words.{option_and_then, result_ok, bytes_eq, cases_lt, cases_order}
+use Rattle.ps_laws.proofs.Words.{false≢true, same_Some, bytes_eq-Decides, entry_at, role_of}
+use Rattle.ps_laws.proofs.Words.{code_of, information_of, is_unit_reference, unit_references}
+use Rattle.ps_laws.proofs.Words.{all_unit_references, requested_from, added_segments, added_fault}
+use Rattle.ps_laws.proofs.Words.{SomeItem, IsOfFile, HasRole, IsUnitSlot, Role, reading, Record}
+use Rattle.ps_laws.proofs.Words.{role_fault, code_fault, request_by_slot, Before, is_unit}
+use Rattle.ps_laws.proofs.Words.{needs_linking, Segment, unit_source, source_of, own_segment, Asks}
+use Rattle.ps_laws.proofs.Words.{IsGiver, AddedUnits, UnitReference, Order, Reason}
+use Rattle.std.proofs.lemmas.Bool.{false_from_ne_true, or_cases, or_left}
+use Rattle.std.proofs.lemmas.Option.{slice_get_within, slice_get-map}
+use Rattle.ps_resolve.specs.Added.{is_already_known, requested_units}
 use Rattle.ps_codefile.specs.declared.entry.Role.TheVariants as role
-use Rattle.ps_linkinfo.specs.Records.{reading}
-use Rattle.ps_linkinfo.specs.declared.record.LinkRecord.{LinkRecord as Record}
-use Rattle.ps_resolve.specs.Faults.{sources_fault, role_fault, code_fault}
-use Rattle.ps_resolve.specs.Requests.{request_by_slot}
-use Rattle.ps_resolve.specs.First.{Before}
-use Rattle.ps_codefile.specs.Roles.{is_unit, needs_linking}
-use Rattle.ps_resolve.specs.Sources.{Segment, unit_source, source_of, segment_from, own_segment, own_segments}
-use Rattle.ps_resolve.specs.RequestedUnits.{Asks, HasSlot, IsGiver, AreGiven, IsOfFirstLibrary, AddedUnits}
-use Rattle.ps_resolve.specs.declared.reading.added.UnitReference.{UnitReference}
+use Rattle.ps_resolve.specs.Faults.{sources_fault}
+use Rattle.ps_resolve.specs.Sources.{segment_from, own_segments}
+use Rattle.ps_resolve.specs.RequestedUnits.{HasSlot, AreGiven, IsOfFirstLibrary}
 use Rattle.ps_laws.proofs.Least.{not_both}
 use Rattle.ps_laws.proofs.Looking.{any_of_items}
 use Rattle.ps_laws.proofs.Items.{not_apart, at_left, first_right, right_at}
@@ -36,11 +26,9 @@ use Rattle.ps_resolve.proofs.EachRound.{IsFine, own_units, references_of, reques
 use Rattle.ps_resolve.proofs.OfLink.{role_none, round_known}
 use Rattle.ps_laws.proofs.UnitPlaces.{unit_place}
 use Rattle.ps_laws.proofs.OneQueue.{giver_of_front}
-use Rattle.ps_resolve.proofs.OfRounds.{HasRound, in_empty, name_placed, queue_of, round_at, segment_named}
+use Rattle.ps_resolve.proofs.OfRounds.{in_empty, name_placed, queue_of, round_at, segment_named}
 use Rattle.ps_resolve.proofs.Requesting.{grown, known_last, known_longer}
 use Rattle.ps_laws.proofs.Asked.{reference_of, all_known, own_in, own_at, units_named}
-use Rattle.ps_words.specs.declared.order.Order.{Order}
-use Rattle.ps_words.specs.declared.fault.Reason.{Reason}
 
 -- 1. the references of a sequence of segments
 -- an item of a mapped list is what the function makes of the item at the same place
@@ -295,10 +283,7 @@ given order host libs segs k g e =
     (p.0, giver (own_units order host libs) all t.0 p.0 g t.1 p.1)
 
 -- 4. what the host's own slots have
-pub unit_role : (r : Role) → is_unit r ≡ true → (r ≡ role.Unit) ⊎ (r ≡ role.Wanted)
-unit_role r h = grind arith
-
--- so a slot of a unit's role is a unit slot
+-- a slot of a unit's role is a unit slot
 pub unit_slot : (order : Order) (host : List ℕ) (slot : ℕ) (r : Role) → is_unit r ≡ true → HasRole order host slot r → IsUnitSlot order host slot
 unit_slot order host slot r unit has = grind arith
 

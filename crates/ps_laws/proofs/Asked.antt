@@ -1,28 +1,16 @@
 -- Each unit that a record of the link requests has its segment there, where the rounds end without
 -- a fault.
 use Rattle.std.proofs.Common.{rules, ◌≡◌, ℕ, zero, suc, ◌+◌, ◌<◌, ◌≤◌, List, [], ◌∷◌, ◌++◌, Option, Some, None, Bool, true, false, refl, sym, ap, subst, ◌∙◌, inl, inr, arith, is_some}
-use Rattle.std.specs.Prelude.{◌⊎◌, if◌then◌else◌, ◌&&◌, ◌||◌, ◌==◌}
-use Rattle.std.specs.Bool.{Decides}
-use Rattle.std.specs.List.{slice_get, list_any, find, cons_option}
-use Rattle.std.specs.Map.{lookup}
-use Rattle.std.specs.Option.{option_map_or, option_or, option_and_then}
-use Rattle.std.specs.Result.{result_ok}
-use Rattle.std.specs.Str.{bytes_eq}
-use Rattle.std.proofs.lemmas.Bool.{false≢true, or_cases}
-use Rattle.std.proofs.lemmas.Bool.Decides.{Decides-at, Decides-and, Decides-like, Decides-eqb}
-use Rattle.std.proofs.lemmas.Slice.Eq.{bytes_eq-Decides}
-use Rattle.ps_codefile.specs.Dictionary.{slots, entry_at, role_of}
-use Rattle.ps_linkinfo.specs.RecordCounts.{is_unit_reference}
-use Rattle.ps_resolve.specs.Added.{unit_references, all_unit_references, is_already_known, requested_from, empty_slots, requested_units, added_segments, added_fault, added_at, segment_at, segments}
-use Rattle.ps_resolve.specs.Standing.Phrases.{SomeItem}
-use Rattle.ps_resolve.specs.Standing.Segments.{IsSegment}
-use Rattle.ps_codefile.specs.declared.entry.Role.{Role}
-use Rattle.ps_codefile.specs.declared.entry.Role.TheVariants as role
-use Rattle.ps_linkinfo.specs.declared.record.LinkRecord.{LinkRecord as Record}
-use Rattle.ps_resolve.specs.Faults.{is_role}
-use Rattle.ps_codefile.specs.Roles.{is_unit, is_empty}
-use Rattle.ps_resolve.specs.Sources.{Segment, source_of, segment_from, own_segment, own_segments, units_of}
-use Rattle.ps_resolve.specs.declared.reading.added.UnitReference.{UnitReference}
+use Rattle.ps_laws.proofs.Words.{◌⊎◌, if◌then◌else◌, ◌&&◌, ◌||◌, ◌==◌, Decides, slice_get, list_any}
+use Rattle.ps_laws.proofs.Words.{find, cons_option, lookup, option_or, bytes_eq, false≢true}
+use Rattle.ps_laws.proofs.Words.{Decides-at, Decides-and, Decides-like, Decides-eqb}
+use Rattle.ps_laws.proofs.Words.{bytes_eq-Decides, slots, is_unit_reference, unit_references}
+use Rattle.ps_laws.proofs.Words.{all_unit_references, requested_from, added_segments, added_fault}
+use Rattle.ps_laws.proofs.Words.{SomeItem, IsSegment, Record, is_role, is_unit, is_empty, Segment}
+use Rattle.ps_laws.proofs.Words.{own_segment, units_of, UnitReference, Order}
+use Rattle.std.proofs.lemmas.Bool.{or_cases}
+use Rattle.ps_resolve.specs.Added.{is_already_known, empty_slots, requested_units, added_at, segment_at, segments}
+use Rattle.ps_resolve.specs.Sources.{own_segments}
 use Rattle.ps_laws.proofs.Looking.{of_test, any_of_items, find_none}
 use Rattle.ps_laws.proofs.Items.{In, all_in, not_apart, in_left, in_right, in_flat, in_filter_map, of_filter_map, in_range, of_range, of_filter, filter_ascends}
 use Rattle.ps_resolve.proofs.EachSegment.{at_slot}
@@ -30,7 +18,6 @@ use Rattle.ps_laws.proofs.Segments.{found_in_slot}
 use Rattle.ps_resolve.proofs.EachRound.{own_units, references_of}
 use Rattle.ps_resolve.proofs.OfRounds.{in_empty, name_placed, queue_of}
 use Rattle.ps_resolve.proofs.Requesting.{grown, known_last, known_longer}
-use Rattle.ps_words.specs.declared.order.Order.{Order}
 
 -- the name of each reference is known in the queue that they come to
 pub all_known : (units : List (List ℕ × ℕ)) (queue gs : List UnitReference) (g : UnitReference) (i : ℕ) → slice_get gs i ≡ Some g → is_already_known units (requested_from units queue gs) g.name ≡ true

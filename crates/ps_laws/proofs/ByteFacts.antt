@@ -1,32 +1,23 @@
 -- The byte that the edits of a segment make is its linked byte, and no other byte is.
 use Rattle.std.proofs.Common.{rules, ◌≡◌, ℕ, zero, suc, ◌+◌, ◌-◌, ◌≤◌, List, [], ◌∷◌, length, Option, Some, None, Result, Ok, Err, Bool, true, false, refl, sym, ap, subst, ◌∙◌, inl, inr, arith}
-use Rattle.std.proofs.lemmas.Option.{same_Some}
-use Rattle.std.specs.Prelude.{◌⊎◌, if◌then◌else◌, slice_index}
-use Rattle.std.specs.List.{slice_get, find, cons_option}
-use Rattle.std.specs.Map.{lookup}
-use Rattle.std.specs.Option.{option_map_or}
-use Rattle.std.specs.Str.{bytes_eq}
-use Rattle.std.proofs.lemmas.Slice.Eq.{bytes_eq-Decides}
-use Rattle.std.specs.Bool.{Decides}
-use Rattle.ps_codefile.specs.Procedures.{table_of}
-use Rattle.ps_resolve.specs.Privates.{total_words}
-use Rattle.ps_resolve.specs.Standing.Privates.{private_offset, words_before}
-use Rattle.ps_linkinfo.specs.RecordCounts.{next_of}
-use Rattle.ps_resolve.specs.LinkedBytes.{IsReference, Reaches, IsSlotOf, IsPublic, IsBase, all_private_words, Becomes, IsNumberPlace, IsSizePlace, IsLinkedByte, IsOnePlace, summed_edits, summed_segment}
-use Rattle.ps_linkinfo.specs.Records.{refs_of}
-use Rattle.ps_linkinfo.specs.declared.record.Body.{Body}
-use Rattle.ps_linkinfo.specs.declared.record.Body.TheVariants.{UnitRef, PublRef, PrivRef, PublDef, ConstDef}
-use Rattle.ps_linkinfo.specs.declared.record.LinkRecord.{LinkRecord as Record}
-use Rattle.ps_codefile.specs.Roles.{needs_linking, is_host, is_unit}
-use Rattle.ps_resolve.specs.Sources.{Segment, host_of, host_records, units_of}
+use Rattle.ps_laws.proofs.Words.{same_Some, ◌⊎◌, if◌then◌else◌, slice_get, find}
+use Rattle.ps_laws.proofs.Words.{cons_option, lookup, option_map_or, bytes_eq, bytes_eq-Decides}
+use Rattle.ps_laws.proofs.Words.{Decides, table_of, total_words, private_offset, next_of}
+use Rattle.ps_laws.proofs.Words.{IsReference, Reaches, IsSizePlace, IsOnePlace, summed_edits}
+use Rattle.ps_laws.proofs.Words.{summed_segment, refs_of, Body, Record, needs_linking, is_host}
+use Rattle.ps_laws.proofs.Words.{is_unit, Segment, host_records, units_of, target_in, target_of}
+use Rattle.ps_laws.proofs.Words.{known_of, grown_data_size, Target, Order, Edit, Byte, Reason}
+use Rattle.std.specs.Prelude.{slice_index}
+use Rattle.ps_resolve.specs.Standing.Privates.{words_before}
+use Rattle.ps_resolve.specs.LinkedBytes.{IsSlotOf, IsPublic, IsBase, all_private_words, Becomes, IsNumberPlace, IsLinkedByte}
+use Rattle.ps_linkinfo.specs.declared.record.Body.TheVariants.{UnitRef, PublRef, PrivRef, PublDef}
 use Rattle.ps_resolve.specs.Symbols.{def_in, definitions, definition_of}
 use Rattle.ps_resolve.specs.Operands.{edit_of}
-use Rattle.ps_resolve.specs.References.{unit_slot, public_base, target_in, target_of}
-use Rattle.ps_resolve.specs.Linking.{known_of, grown_data_size, linked_byte}
+use Rattle.ps_resolve.specs.References.{unit_slot, public_base}
+use Rattle.ps_resolve.specs.Linking.{linked_byte}
 use Rattle.ps_resolve.specs.declared.definitions.Def.{Def}
 use Rattle.ps_resolve.specs.declared.definitions.DefKind.{DefKind}
 use Rattle.ps_resolve.specs.declared.definitions.DefKind.TheVariants.{Public, Constant}
-use Rattle.ps_resolve.specs.declared.references.Target.{Target}
 use Rattle.ps_resolve.specs.declared.references.Target.TheVariants.{Slot, Base}
 use Rattle.ps_laws.proofs.Items.{In, find_in, find_passes}
 use Rattle.ps_laws.proofs.Looking.{of_test, find_none}
@@ -35,10 +26,7 @@ use Rattle.ps_laws.proofs.SoundCodes.{HasOuter}
 use Rattle.ps_laws.proofs.EditsAt.{edit_place, IsNumber, IsSize, IsOfReference, what_covers, number_covers, size_covers, reference_covers}
 use Rattle.ps_words.specs.Words.{word_bytes, operand_bytes, displacement_at}
 use Rattle.ps_words.specs.Edits.{place_of, stored_bytes, covers}
-use Rattle.ps_words.specs.declared.order.Order.{Order}
-use Rattle.ps_words.specs.declared.edit.Edit.{Edit}
-use Rattle.ps_words.specs.declared.edit.Edit.TheVariants.{Byte, Word}
-use Rattle.ps_words.specs.declared.fault.Reason.{Reason}
+use Rattle.ps_words.specs.declared.edit.Edit.TheVariants.{Word}
 use Rattle.ps_words.specs.declared.fault.Reason.TheVariants as reason
 
 -- 1. what a reference becomes

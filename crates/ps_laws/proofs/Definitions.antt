@@ -1,23 +1,19 @@
--- The first fault of the definitions is the smallest that is.
+-- The first fault of the definitions, and that of the host's data size, is the smallest that is.
 use Rattle.std.proofs.Common.{◌≡◌, ℕ, List, [], Option, refl, sym, subst, inl, inr, arith}
-use Rattle.std.specs.Option.{option_map}
-use Rattle.ps_linkinfo.specs.declared.record.LinkRecord.{LinkRecord as Record}
-use Rattle.ps_resolve.specs.Searches.{fault_if}
-use Rattle.ps_resolve.specs.Sources.{host_of}
+use Rattle.ps_laws.proofs.Words.{option_map, Record, fault_if, host_of, SomeItem, OfDefinitions}
+use Rattle.ps_laws.proofs.Words.{in_record, Order, Fault, nat_lt, option_and_then, Decides-ltb}
+use Rattle.ps_laws.proofs.Words.{table_of, total_words, OfDataSize, grown_data_size, in_slot}
 use Rattle.ps_resolve.specs.Added.{segments}
-use Rattle.ps_resolve.specs.Standing.Phrases.{SomeItem}
-use Rattle.ps_resolve.specs.Standing.Keys.{OfDefinitions}
 use Rattle.ps_resolve.specs.Standing.Definitions.{HasEarlierNamesake, InDefinitions}
 use Rattle.ps_linkinfo.specs.RecordCounts.{is_definition}
 use Rattle.ps_resolve.specs.Symbols.{first_duplicate}
-use Rattle.ps_resolve.specs.Faults.{definitions_fault}
+use Rattle.ps_resolve.specs.Faults.{definitions_fault, data_fault}
 use Rattle.ps_resolve.proofs.LookingBack.{definitions_carried}
 use Rattle.ps_laws.proofs.Least.{Least, Precedes, least_if, least_then, least_items, at_apart}
-use Rattle.ps_words.specs.FaultPlaces.{in_record}
-use Rattle.ps_words.specs.declared.order.Order.{Order}
 use Rattle.ps_words.specs.declared.fault.Reason.TheVariants as reason
-use Rattle.ps_words.specs.declared.fault.Fault.{Fault}
 pub use Rattle.ps_resolve.proofs.LookingBack.{is_again, again, take_prefix, longer}
+use Rattle.ps_resolve.specs.declared.edits.data_size.TheConstants.{MAX_DATA_SIZE}
+use Rattle.ps_resolve.specs.Standing.DataSizes.{InDataSize}
 
 -- the first fault of the definitions is the smallest that applies
 pub step_7 : (order : Order) (host : List ℕ) (libs : List (List ℕ)) → Least (Precedes OfDefinitions) (InDefinitions order host libs) (definitions_fault (segments order host libs))
@@ -29,3 +25,12 @@ step_7 order host libs =
     (least_items (λ (r : ℕ × Record). fault_if (is_again is_definition s.records r) (in_record 0 s.slot r.0 reason.DoubledDefinition)) s.records
     (λ k r e. least_if (is_again is_definition s.records (k, r)) (in_record 0 s.slot k reason.DoubledDefinition) (again is_definition s.records k r))
     (λ i j a b x y h. at_apart (Precedes OfDefinitions) (in_record 0 s.slot i reason.DoubledDefinition) (in_record 0 s.slot j reason.DoubledDefinition) (inr (refl, inr (refl, inl (omega (arith, h))))) x y)))
+
+-- the first fault of the host's data size is the smallest that applies
+pub step_9 : (order : Order) (host : List ℕ) (libs : List (List ℕ)) → Least (Precedes OfDataSize) (InDataSize order host libs) (data_fault order (segments order host libs))
+unfolding data_fault
+step_9 order host libs =
+    let total = total_words (segments order host libs) in
+    least_then (λ s. option_and_then (λ t. fault_if (nat_lt MAX_DATA_SIZE (grown_data_size order s.code total t)) (in_slot 0 s.slot reason.DataTooLarge)) (table_of order s.code 1)) (host_of (segments order host libs))
+    (λ s is_it. least_then (λ t. fault_if (nat_lt MAX_DATA_SIZE (grown_data_size order s.code total t)) (in_slot 0 s.slot reason.DataTooLarge)) (table_of order s.code 1)
+    (λ t e. least_if (nat_lt MAX_DATA_SIZE (grown_data_size order s.code total t)) (in_slot 0 s.slot reason.DataTooLarge) (Decides-ltb MAX_DATA_SIZE (grown_data_size order s.code total t))))

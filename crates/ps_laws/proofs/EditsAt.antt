@@ -1,41 +1,21 @@
 -- The edits of a segment of a link: what each is, and which of them covers a place.
-use Rattle.std.proofs.Common.{rules, ◌≡◌, ℕ, zero, suc, ◌+◌, ◌-◌, ◌<◌, ◌≤◌, List, [], ◌∷◌, ◌++◌, length, map, Option, Some, None, Result, Ok, Err, Bool, true, false, refl, sym, ap, subst, ◌∙◌, inl, inr, arith}
-use Rattle.std.proofs.lemmas.Option.{same_Some}
-use Rattle.std.specs.Prelude.{◌⊎◌, if◌then◌else◌, ◌&&◌, nat_le, nat_lt}
-use Rattle.std.specs.List.{enumerate_from, slice_get, flat_map}
-use Rattle.std.specs.Map.{lookup}
-use Rattle.std.specs.Option.{option_map_or}
-use Rattle.std.specs.Str.{bytes_eq}
+use Rattle.std.proofs.Common.{rules, ◌≡◌, ℕ, zero, suc, ◌+◌, ◌-◌, ◌<◌, ◌≤◌, List, [], ◌∷◌, ◌++◌, length, map, Some, Result, Ok, Err, Bool, true, false, refl, sym, ap, subst, ◌∙◌, inl, inr, arith}
+use Rattle.ps_laws.proofs.Words.{same_Some, ◌⊎◌, if◌then◌else◌, ◌&&◌, nat_le}
+use Rattle.ps_laws.proofs.Words.{nat_lt, enumerate_from, slice_get, flat_map, table_of, total_words}
+use Rattle.ps_laws.proofs.Words.{private_offset, Reaches, IsSizePlace, summed_edits, refs_of, Body}
+use Rattle.ps_laws.proofs.Words.{Record, needs_linking, is_host, Segment, target_in, target_of}
+use Rattle.ps_laws.proofs.Words.{known_of, grown_data_size, Target, Order, Edit, Byte, Reason}
 use Rattle.std.proofs.lemmas.Bool.Decides.{nat_tests}
-use Rattle.ps_codefile.specs.Procedures.{table_of}
-use Rattle.ps_resolve.specs.Privates.{total_words}
 use Rattle.ps_linkinfo.specs.Operands.{operand_width}
-use Rattle.ps_resolve.specs.Standing.Privates.{private_offset}
-use Rattle.ps_resolve.specs.LinkedBytes.{Reaches, IsNumberPlace, IsSizePlace, summed_edits}
-use Rattle.ps_linkinfo.specs.Records.{refs_of}
-use Rattle.ps_linkinfo.specs.declared.record.Body.{Body}
-use Rattle.ps_linkinfo.specs.declared.record.Body.TheVariants.{UnitRef, PublRef, PrivRef}
-use Rattle.ps_linkinfo.specs.declared.record.LinkRecord.{LinkRecord as Record}
-use Rattle.ps_codefile.specs.Roles.{needs_linking, is_host}
-use Rattle.ps_resolve.specs.Sources.{Segment, host_records, units_of}
-use Rattle.ps_resolve.specs.Symbols.{definitions, definition_of}
+use Rattle.ps_resolve.specs.LinkedBytes.{IsNumberPlace}
 use Rattle.ps_resolve.specs.Operands.{edit_of}
-use Rattle.ps_resolve.specs.References.{unit_slot, public_base, target_in, target_of, record_edits}
-use Rattle.ps_resolve.specs.Linking.{known_of, data_edits, grown_data_size}
-use Rattle.ps_resolve.specs.declared.definitions.Def.{Def}
-use Rattle.ps_resolve.specs.declared.definitions.DefKind.{DefKind}
-use Rattle.ps_resolve.specs.declared.definitions.DefKind.TheVariants.{Public, Constant}
-use Rattle.ps_resolve.specs.declared.references.Target.{Target}
-use Rattle.ps_resolve.specs.declared.references.Target.TheVariants.{Slot, Base}
+use Rattle.ps_resolve.specs.References.{record_edits}
+use Rattle.ps_resolve.specs.Linking.{data_edits}
 use Rattle.ps_laws.proofs.Items.{In, in_left, in_right, in_flat}
 use Rattle.ps_laws.proofs.AddedUnits.{split_at, mapped, map_at}
 use Rattle.ps_laws.proofs.SoundCodes.{HasOuter}
 use Rattle.ps_words.specs.Edits.{place_of, width, covers}
-use Rattle.ps_words.specs.declared.order.Order.{Order}
-use Rattle.ps_words.specs.declared.edit.Edit.{Edit}
-use Rattle.ps_words.specs.declared.edit.Edit.TheVariants.{Byte, Word}
-use Rattle.ps_words.specs.declared.fault.Reason.{Reason}
-use Rattle.ps_words.specs.declared.fault.Reason.TheVariants as reason
+use Rattle.ps_words.specs.declared.edit.Edit.TheVariants.{Word}
 
 -- what is in a joined list is in one of its parts
 of_joined : {A : Type 0} (xs ys : List A) (a : A) → In a (xs ++ ys) → In a xs ⊎ In a ys

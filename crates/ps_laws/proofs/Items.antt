@@ -1,8 +1,8 @@
 -- What is in a list, by its place there.
 use Rattle.std.proofs.Common.{◌≡◌, ℕ, zero, suc, ◌+◌, ◌<◌, ◌≤◌, List, [], ◌∷◌, ◌++◌, length, take, Option, Some, None, Bool, true, false, refl, sym, ap, subst, ◌∙◌, inl, inr, arith}
-use Rattle.std.specs.Prelude.{if◌then◌else◌}
-use Rattle.std.specs.List.{range_with_len, slice_get, filter, filter_map, flat_map, cons_option, find}
-use Rattle.std.proofs.lemmas.Bool.{cases_lt, cases_order}
+use Rattle.ps_laws.proofs.Words.{if◌then◌else◌, range_with_len, slice_get, filter_map, flat_map}
+use Rattle.ps_laws.proofs.Words.{cons_option, find, cases_lt, cases_order}
+use Rattle.std.specs.List.{filter}
 use Rattle.ps_resolve.proofs.EachSegment.{find_has}
 pub use Rattle.ps_resolve.proofs.Items.{In, of_all, all_items, all_in, at_left, right_at, first_right, some_before, find_passes}
 

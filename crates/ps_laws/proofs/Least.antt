@@ -1,15 +1,9 @@
 -- The smallest of what applies, part by part.
 use Rattle.std.proofs.Common.{◌≡◌, ℕ, zero, suc, ◌+◌, ◌<◌, ◌≤◌, List, [], ◌∷◌, Option, Some, None, Bool, true, false, refl, sym, ap, subst, ◌∙◌, inl, inr, arith}
-use Rattle.std.specs.Prelude.{◌⊎◌, if◌then◌else◌}
-use Rattle.std.specs.Bool.{Decides}
-use Rattle.std.specs.List.{range_with_len, enumerate_from, slice_get, filter_map, cons_option}
-use Rattle.std.specs.Option.{option_or, option_map, option_and_then}
-use Rattle.std.proofs.lemmas.Bool.{cases_lt, false≢true}
-use Rattle.ps_words.specs.declared.fault.Fault.{Fault}
-use Rattle.ps_resolve.specs.First.{Before}
-use Rattle.ps_resolve.specs.Searches.{first_of, fault_if}
-use Rattle.ps_resolve.specs.Standing.Keys.{Step, key}
-use Rattle.ps_resolve.specs.Standing.Phrases.{SomeItem}
+use Rattle.ps_laws.proofs.Words.{◌⊎◌, if◌then◌else◌, Decides, range_with_len}
+use Rattle.ps_laws.proofs.Words.{enumerate_from, slice_get, filter_map, option_or, option_map}
+use Rattle.ps_laws.proofs.Words.{option_and_then, cases_lt, false≢true, Fault, Before, first_of}
+use Rattle.ps_laws.proofs.Words.{fault_if, Step, key, SomeItem}
 
 -- nothing applies, or this one does, and it is before each other one that applies
 pub data Least {X : Type 0} (IsBefore : X → X → Type 0) (Stands : X → Type 0) : Option X → Type 0 where

@@ -1,3 +1,4 @@
+pub mod Words
 pub mod Least
 pub mod Looking
 pub mod Items
@@ -10,7 +11,6 @@ pub mod Rounds
 pub mod Asked
 pub mod OfLink
 pub mod UnitPlaces
-pub mod DataSize
 pub mod PrivateOffsets
 pub mod Privates
 pub mod References
@@ -26,6 +26,5 @@ pub mod EditsAt
 pub mod ByteFacts
 pub mod LinkedBytes
 pub mod NotWanted
-pub mod UnitSources
 pub mod OneList
 pub mod SegmentOrigins

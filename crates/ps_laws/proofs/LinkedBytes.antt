@@ -1,22 +1,14 @@
 -- Where no fault applies, the edits of a link make the linked bytes, and each place has one.
 use Rattle.std.proofs.Common.{◌≡◌, ℕ, ◌<◌, ◌≤◌, List, length, map, Some, None, Result, Ok, Err, true, refl, inl}
-use Rattle.std.specs.Result.{result_err}
+use Rattle.ps_laws.proofs.Words.{result_err, table_of, OfReferences, IsSegment, IsOfFile}
+use Rattle.ps_laws.proofs.Words.{private_offset, IsReference, IsOnePlace, segments_of}
+use Rattle.ps_laws.proofs.Words.{summed_segment, NoneStands, Record, needs_linking, is_host}
+use Rattle.ps_laws.proofs.Words.{Segment, order_of, target_of, known_of, Target, in_record, Reason}
 use Rattle.std.proofs.lemmas.List.Elements.{All-same, All-map}
-use Rattle.ps_codefile.specs.Procedures.{table_of}
-use Rattle.ps_resolve.specs.Standing.Keys.{OfReferences}
-use Rattle.ps_resolve.specs.Standing.Segments.{IsSegment}
-use Rattle.ps_resolve.specs.OfLink.{IsOfFile}
 use Rattle.ps_resolve.specs.Standing.References.{RecordHas}
-use Rattle.ps_resolve.specs.Standing.Privates.{private_offset}
-use Rattle.ps_resolve.specs.LinkedBytes.{IsReference, IsLinkedByte, IsOnePlace, segments_of, summed_segment, HaveLinkedBytes, HaveOneLinkedByte, HaveApartPlaces}
-use Rattle.ps_resolve.specs.Standing.{NoneStands}
-use Rattle.ps_linkinfo.specs.declared.record.LinkRecord.{LinkRecord as Record}
-use Rattle.ps_codefile.specs.Roles.{needs_linking, is_host}
-use Rattle.ps_resolve.specs.Sources.{Segment, order_of}
+use Rattle.ps_resolve.specs.LinkedBytes.{IsLinkedByte, HaveLinkedBytes, HaveOneLinkedByte, HaveApartPlaces}
 use Rattle.ps_resolve.specs.AllFaults.{reading_fault}
-use Rattle.ps_resolve.specs.References.{target_of}
-use Rattle.ps_resolve.specs.Linking.{Edited, edited_segments, known_of, linked_byte}
-use Rattle.ps_resolve.specs.declared.references.Target.{Target}
+use Rattle.ps_resolve.specs.Linking.{Edited, edited_segments, linked_byte}
 use Rattle.ps_laws.proofs.Least.{Least, this}
 use Rattle.ps_laws.proofs.Steps.{Ranked}
 use Rattle.ps_laws.proofs.Sources.{OneStop}
@@ -32,8 +24,6 @@ use Rattle.ps_laws.proofs.OnePlace.{host_linked, one_place}
 use Rattle.ps_laws.proofs.OneName.{of_segments, one_unit}
 use Rattle.ps_laws.proofs.OneHost.{base_there, one_base, one_public}
 use Rattle.ps_laws.proofs.ByteFacts.{facts, one_byte}
-use Rattle.ps_words.specs.FaultPlaces.{in_record}
-use Rattle.ps_words.specs.declared.fault.Reason.{Reason}
 
 module _ (law : OneStop) (host : List ℕ) (libs : List (List ℕ)) (none : NoneStands host libs) where
   read : reading_fault host libs ≡ None

@@ -1,11 +1,7 @@
 -- Tests of items, and what they decide.
 use Rattle.std.proofs.Common.{◌≡◌, ℕ, zero, suc, ◌<◌, List, [], ◌∷◌, Some, None, Bool, true, false, refl, sym, ap, subst, ◌∙◌, inl, inr, arith, is_none}
-use Rattle.std.specs.Prelude.{◌⊎◌, if◌then◌else◌, not, ◌||◌}
-use Rattle.std.specs.Bool.{Decides}
-use Rattle.std.specs.List.{slice_get, list_any, find}
-use Rattle.std.proofs.lemmas.Bool.{false≢true}
-use Rattle.std.proofs.lemmas.Bool.Decides.{Decides-or, Decides-like}
-use Rattle.ps_resolve.specs.Standing.Phrases.{SomeItem}
+use Rattle.ps_laws.proofs.Words.{◌⊎◌, if◌then◌else◌, not, ◌||◌, Decides, slice_get}
+use Rattle.ps_laws.proofs.Words.{list_any, find, false≢true, Decides-or, Decides-like, SomeItem}
 pub use Rattle.ps_resolve.proofs.LookingBack.{of_test, any_of_take}
 
 -- the test of all items says whether P holds of one, where the test of each says whether P holds of

@@ -1,23 +1,14 @@
 -- The slot of a record that requests a unit does not itself want one that no library has.
-use Rattle.std.proofs.Common.{◌≡◌, ℕ, ◌+◌, List, ◌++◌, take, Option, Some, None, true, false, refl, sym, ap, subst, ◌∙◌, inl, inr, is_none}
-use Rattle.std.specs.List.{slice_get, find}
-use Rattle.std.specs.Option.{option_map, option_map_or, option_and_then}
-use Rattle.std.specs.Result.{result_ok}
-use Rattle.std.proofs.lemmas.Bool.{false≢true}
-use Rattle.std.proofs.lemmas.Option.{none-some}
-use Rattle.ps_codefile.specs.Dictionary.{slots, entry_at, role_of}
-use Rattle.ps_codefile.specs.Roles.{is_empty}
-use Rattle.ps_codefile.specs.declared.entry.Role.{Role}
+use Rattle.std.proofs.Common.{◌≡◌, ℕ, ◌+◌, List, ◌++◌, take, Option, Some, None, true, false, refl, sym, ap, subst, ◌∙◌, inl, inr, is_none, arith}
 use Rattle.ps_codefile.specs.declared.entry.Role.TheVariants as role
-use Rattle.ps_resolve.specs.Added.{added_segments}
-use Rattle.ps_resolve.specs.Faults.{is_role}
+use Rattle.ps_laws.proofs.Words.{Segment, is_named, chosen_library, unit_source, own_segment}
+use Rattle.ps_laws.proofs.Words.{IsGiver, HasRole, UnitReference, Order, slice_get, find}
+use Rattle.ps_laws.proofs.Words.{option_map, option_map_or, option_and_then, result_ok, false≢true}
+use Rattle.ps_laws.proofs.Words.{none-some, slots, is_empty, added_segments, is_role}
 use Rattle.ps_resolve.specs.Parts.{WantsMissing}
-use Rattle.ps_resolve.specs.Sources.{Segment, is_named, chosen_library, unit_source, source_of, own_segment, own_segments}
-use Rattle.ps_resolve.specs.RequestedUnits.{IsGiver}
+use Rattle.ps_resolve.specs.Sources.{own_segments}
 use Rattle.ps_resolve.specs.Standing.Rounds.{IsRequested}
-use Rattle.ps_resolve.specs.Standing.Slots.{HasRole}
 use Rattle.ps_resolve.specs.Standing.Sources.{NoneHas}
-use Rattle.ps_resolve.specs.declared.reading.added.UnitReference.{UnitReference}
 use Rattle.ps_laws.proofs.Items.{of_take}
 use Rattle.ps_laws.proofs.Segments.{own_in_slot}
 use Rattle.ps_laws.proofs.Sources.{none_has, ok_is}
@@ -25,7 +16,6 @@ use Rattle.ps_resolve.proofs.EachSegment.{own_made}
 use Rattle.ps_resolve.proofs.OfRounds.{in_empty}
 use Rattle.ps_laws.proofs.Asked.{empty_slot, own_at}
 use Rattle.ps_laws.proofs.AddedUnits.{given, split_at}
-use Rattle.ps_words.specs.declared.order.Order.{Order}
 
 -- 1. an added segment is in an empty slot, also where a later round has a fault
 module _ (order : Order) (host : List ℕ) (libs : List (List ℕ)) where
@@ -44,12 +34,7 @@ module _ (order : Order) (host : List ℕ) (libs : List (List ℕ)) where
       go (Some lib) e = absurd (false≢true e)
 
   own_has_library : (slot : ℕ) (s : Segment) → own_segment order host libs slot ≡ Some s → WantsMissing order host libs slot → ⊥
-  own_has_library slot s e wants =
-      let t = own_made order host libs slot s e in
-      let has = ok_is (role_of (entry_at order host slot)) t.0 t.1 in
-      let same : role.Wanted ≡ t.0 = (let a = sym wants.0 ∙ has in cc) in
-      let source : unit_source order (entry_at order host slot).name libs ≡ Some t.2 = subst (λ (x : Role). source_of order host libs slot x ≡ Some t.2) (sym same) t.4 in
-      none-some t.2 (sym (none_source (entry_at order host slot).name wants.1) ∙ source)
+  own_has_library slot s e wants = grind (arith, own_made, ok_is, none-some, none_source)
 
   -- 3. the giver of a name that is requested
   pub not_wanted : (k : ℕ) (g : UnitReference) → IsRequested order host libs k g → WantsMissing order host libs g.slot → ⊥

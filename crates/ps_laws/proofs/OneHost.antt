@@ -1,29 +1,21 @@
 -- Where no fault applies, the host has one segment of its own, no two of its definitions have a
 -- name in common, and one base offset.
-use Rattle.std.proofs.Common.{◌≡◌, ℕ, zero, suc, ◌+◌, ◌<◌, List, [], ◌∷◌, length, Option, Some, None, Bool, true, false, refl, sym, ap, subst, ◌∙◌, is_some, arith}
-use Rattle.std.proofs.lemmas.Option.{same_Some}
+use Rattle.std.proofs.Common.{◌≡◌, ℕ, zero, suc, ◌+◌, ◌<◌, List, [], ◌∷◌, length, Option, Some, None, Bool, true, false, refl, sym, ap, ◌∙◌, is_some, arith}
+use Rattle.ps_laws.proofs.Words.{same_Some, cons_option, option_map_or, false≢true, next_of, Body}
+use Rattle.ps_laws.proofs.Words.{Record, segments_of, is_host, Segment, order_of, host_of}
+use Rattle.ps_laws.proofs.Words.{host_records, NoneStands, OfDefinitions, in_record}
 use Rattle.std.specs.Prelude.{filter_map, slice_get, unwrap_or}
-use Rattle.std.specs.List.{cons_option}
-use Rattle.std.specs.Option.{option_map_or}
-use Rattle.std.proofs.lemmas.Bool.{false≢true}
-use Rattle.ps_linkinfo.specs.RecordCounts.{is_definition, next_in, next_of}
+use Rattle.ps_linkinfo.specs.RecordCounts.{is_definition, next_in}
 use Rattle.ps_linkinfo.specs.Records.{EndsOnce, is_end, is_eof}
-use Rattle.ps_linkinfo.specs.declared.record.Body.{Body}
 use Rattle.ps_linkinfo.specs.declared.record.Body.TheVariants.{PublDef, Eof}
-use Rattle.ps_linkinfo.specs.declared.record.LinkRecord.{LinkRecord as Record}
 use Rattle.ps_resolve.specs.AllFaults.{reading_fault}
-use Rattle.ps_resolve.specs.LinkedBytes.{IsHostRecord, IsPublic, IsBase, segments_of}
-use Rattle.ps_codefile.specs.Roles.{is_host}
-use Rattle.ps_resolve.specs.Sources.{Segment, order_of, host_of, host_records}
-use Rattle.ps_resolve.specs.Standing.{NoneStands}
-use Rattle.ps_resolve.specs.Standing.Keys.{OfDefinitions}
+use Rattle.ps_resolve.specs.LinkedBytes.{IsHostRecord, IsPublic, IsBase}
 use Rattle.ps_laws.proofs.Items.{find_in, find_passes, not_apart}
 use Rattle.ps_resolve.proofs.OfLink.{has_host}
 use Rattle.ps_laws.proofs.OfLink.{of_link}
 use Rattle.ps_laws.proofs.OneName.{of_segments}
 use Rattle.ps_laws.proofs.OnePlace.{host_linked}
 use Rattle.ps_laws.proofs.SoundCodes.{ends_once}
-use Rattle.ps_words.specs.FaultPlaces.{in_record}
 use Rattle.ps_words.specs.declared.fault.Reason.TheVariants as reason
 
 -- the EOFMARK of link information is its last record
@@ -40,13 +32,11 @@ base_in [] h = absurd h
 base_in (r ∷ []) h = (0, r, refl, at r.body h)
   where
     at : (b : Body) → is_end b ≡ true → b ≡ Eof (unwrap_or (slice_get (cons_option (next_in b) []) 0) 0)
-    at (Eof next) e = refl
-    at other e = absurd (false≢true e)
+    at b h = grind arith
 base_in (r ∷ q ∷ rs) h = let t = base_in (q ∷ rs) h.1 in (suc t.0, t.1, t.2, t.3 ∙ ap (λ (n : ℕ). Eof n) (sym (at r.body h.0)))
   where
     at : (b : Body) → is_end b ≡ false → unwrap_or (slice_get (cons_option (next_in b) (filter_map (λ (p : Record). next_in p.body) (q ∷ rs))) 0) 0 ≡ next_of (q ∷ rs)
-    at (Eof next) e = absurd (false≢true (sym e))
-    at other e = refl
+    at b h = grind arith
 
 module _ (host : List ℕ) (libs : List (List ℕ)) (none : NoneStands host libs) (read : reading_fault host libs ≡ None) where
   -- there is one at most
@@ -75,16 +65,11 @@ module _ (host : List ℕ) (libs : List (List ℕ)) (none : NoneStands host libs
 
   -- the base offset of its end mark
   pub base_there : IsBase (segments_of host libs) (next_of (host_records (segments_of host libs)))
-  base_there =
-      let h = host_there in
-      let b = base_in h.1.records (ends h.0 h.1 h.2 h.3) in
-      (b.0, b.1, (h.0, h.1, h.2, (h.3, b.2)), b.3 ∙ ap (λ (rs : List Record). Eof (next_of rs)) (sym (its_records h.1 (found h.0 h.1 h.2 h.3))))
+  base_there = grind (arith, host_there, base_in, ends, its_records, found)
 
   -- a record of the host, by its number
   of_one_host : (rec other : ℕ) (r q : Record) (t : IsHostRecord (segments_of host libs) rec r) (u : IsHostRecord (segments_of host libs) other q) → slice_get t.1.records other ≡ Some q
-  of_one_host rec other r q t u =
-      let same = same_Some u.1 t.1 (sym (found u.0 u.1 u.2 u.3.0) ∙ found t.0 t.1 t.2 t.3.0) in
-      subst (λ (s : Segment). slice_get s.records other ≡ Some q) same u.3.1
+  of_one_host rec other r q t u = grind (arith, found)
 
   one_record : (rec other : ℕ) (r q : Record) → IsHostRecord (segments_of host libs) rec r → IsHostRecord (segments_of host libs) other q → rec ≡ other → r ≡ q
   one_record rec other r q t u e = same_Some r q (sym t.3.1 ∙ (ap (λ (n : ℕ). slice_get t.1.records n) e ∙ of_one_host rec other r q t u))

@@ -1,20 +1,14 @@
 -- What is said plainly of the units that are added holds of the queue and the segments that the
 -- rounds come to, and of no others.
-use Rattle.std.proofs.Common.{◌≡◌, ℕ, zero, suc, List, map, Option, Some, None, refl, sym, ap, subst, ◌∙◌, inl, inr, arith}
-use Rattle.std.specs.List.{slice_get}
-use Rattle.std.specs.Option.{option_map}
-use Rattle.std.proofs.lemmas.Bool.{cases_lt}
-use Rattle.std.proofs.lemmas.Option.{same_Some, slice_get-map}
-use Rattle.ps_resolve.specs.Added.{added_segments, added_fault, request_of}
+use Rattle.std.proofs.Common.{◌≡◌, ℕ, zero, suc, List, map, Option, Some, None, refl, sym, ap, subst, ◌∙◌, arith}
+use Rattle.ps_laws.proofs.Words.{slice_get, option_map, same_Some, added_segments, added_fault}
+use Rattle.ps_laws.proofs.Words.{request_of, Segment, AddedUnits, UnitReference, Order}
+use Rattle.std.proofs.lemmas.Option.{slice_get-map}
 use Rattle.ps_resolve.specs.Faults.{sources_fault}
-use Rattle.ps_resolve.specs.Sources.{Segment}
-use Rattle.ps_resolve.specs.RequestedUnits.{AddedUnits}
-use Rattle.ps_resolve.specs.declared.reading.added.UnitReference.{UnitReference}
 use Rattle.ps_laws.proofs.AddedUnits.{mapped, same_items, units_are}
 use Rattle.ps_resolve.proofs.OfRounds.{queue_of, name_placed}
 use Rattle.ps_laws.proofs.OneQueue.{Agree, HasOneEntry, same_name, same_segment}
-use Rattle.ps_laws.proofs.UnitSources.{no_entry_fault, one_entry}
-use Rattle.ps_words.specs.declared.order.Order.{Order}
+use Rattle.ps_laws.proofs.UnitPlaces.{no_entry_fault, one_entry}
 
 agree_longer : {A : Type 0} (k : ℕ) (xs ys : List A) → Agree k xs ys → slice_get xs k ≡ slice_get ys k → Agree (suc k) xs ys
 agree_longer k xs ys h e j l = grind arith

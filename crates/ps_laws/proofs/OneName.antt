@@ -1,29 +1,17 @@
 -- Where no fault applies, no two units of a link have a name in common.
-use Rattle.std.proofs.Common.{◌≡◌, ℕ, ◌<◌, List, Some, None, true, refl, sym, ap, ◌∙◌, inl, inr}
-use Rattle.std.specs.Prelude.{◌⊎◌}
-use Rattle.std.specs.List.{slice_get}
-use Rattle.std.proofs.lemmas.Option.{same_Some}
-use Rattle.ps_codefile.specs.Dictionary.{entry_at}
-use Rattle.ps_codefile.specs.Roles.{is_unit}
-use Rattle.ps_resolve.specs.Added.{added_segments, segments}
+use Rattle.std.proofs.Common.{rules, ◌≡◌, ℕ, ◌<◌, List, Some, None, true, refl, sym, ap, ◌∙◌, inl, inr}
+use Rattle.ps_laws.proofs.Words.{◌⊎◌, slice_get, same_Some, entry_at, is_unit, added_segments}
+use Rattle.ps_laws.proofs.Words.{segments_of, IsOfRound, AddedUnits, Segment, order_of, NoneStands}
+use Rattle.ps_laws.proofs.Words.{OfSlots, IsSegment, IsUnitSlot, UnitReference, in_slot, Order}
+use Rattle.ps_resolve.specs.Added.{segments}
 use Rattle.ps_resolve.specs.AllFaults.{reading_fault}
-use Rattle.ps_resolve.specs.LinkedBytes.{IsSlotOf, segments_of}
-use Rattle.ps_resolve.specs.OfLink.{IsOfRound}
-use Rattle.ps_resolve.specs.RequestedUnits.{AddedUnits}
-use Rattle.ps_resolve.specs.Sources.{Segment, order_of}
-use Rattle.ps_resolve.specs.Standing.{NoneStands}
-use Rattle.ps_resolve.specs.Standing.Keys.{OfSlots}
-use Rattle.ps_resolve.specs.Standing.Segments.{IsSegment}
-use Rattle.ps_resolve.specs.Standing.Slots.{IsUnitSlot}
-use Rattle.ps_resolve.specs.declared.reading.added.UnitReference.{UnitReference}
+use Rattle.ps_resolve.specs.LinkedBytes.{IsSlotOf}
 use Rattle.ps_laws.proofs.AddedUnits.{unit_slot, units_are}
 use Rattle.ps_resolve.proofs.OfRounds.{queue_of}
 use Rattle.ps_laws.proofs.Items.{not_apart, of_all}
 use Rattle.ps_resolve.proofs.OfLink.{rounds_fine, sources_fine}
 use Rattle.ps_laws.proofs.OfLink.{of_link}
 use Rattle.ps_resolve.proofs.ReadingKnown.{all_at}
-use Rattle.ps_words.specs.FaultPlaces.{in_slot}
-use Rattle.ps_words.specs.declared.order.Order.{Order}
 use Rattle.ps_words.specs.declared.fault.Reason.TheVariants as reason
 
 -- a segment of the list of all is one of the link
@@ -45,10 +33,7 @@ module _ (host : List ℕ) (libs : List (List ℕ)) (none : NoneStands host libs
   IsAdded s = (j : ℕ) × (g : UnitReference) × IsOfRound order host libs j g s
 
   kind_of : (s : Segment) → IsSegment order host libs s → is_unit s.role ≡ true → IsOwn s ⊎ IsAdded s
-  kind_of s t unit = elim (of_link host libs read s t).asked [
-    | inl own ↦ inl (t.0, unit_slot order host s.slot s.role unit own.role, sym own.name)
-    | inr added ↦ inr added
-  ]
+  kind_of s t unit = search (rules, of_link, unit_slot)
 
   -- two of the host's own
   before_own : (s q : Segment) → IsOwn s → IsOwn q → s.name ≡ q.name → s.slot < q.slot → ⊥

@@ -1,28 +1,17 @@
 -- Where no fault applies, no place of a segment is covered twice.
-use Rattle.std.proofs.Common.{◌≡◌, ℕ, List, [], ◌∷◌, true, refl, sym, inl, inr}
-use Rattle.std.proofs.lemmas.Bool.{false≢true}
-use Rattle.ps_codefile.specs.Procedures.{is_reserved}
-use Rattle.ps_resolve.specs.Standing.Keys.{OfReferences}
-use Rattle.ps_resolve.specs.Standing.Segments.{IsSegment}
-use Rattle.ps_resolve.specs.OfLink.{IsOfFile}
+use Rattle.std.proofs.Common.{arith, ◌≡◌, ℕ, List, [], ◌∷◌, true, refl, sym, inl, inr}
+use Rattle.ps_laws.proofs.Words.{is_reserved, OfReferences, IsSegment, IsOfFile}
+use Rattle.ps_laws.proofs.Words.{IsReference, Reaches, IsSizePlace, IsOnePlace, segments_of}
+use Rattle.ps_laws.proofs.Words.{NoneStands, Role, Record, Before, needs_linking, is_host, Segment}
+use Rattle.ps_laws.proofs.Words.{order_of, Reason}
 use Rattle.ps_resolve.specs.Standing.References.{ReferenceHas}
-use Rattle.ps_resolve.specs.LinkedBytes.{IsReference, Reaches, IsSizePlace, IsOnePlace, segments_of}
-use Rattle.ps_resolve.specs.Standing.{NoneStands}
-use Rattle.ps_codefile.specs.declared.entry.Role.{Role}
-use Rattle.ps_codefile.specs.declared.entry.Role.TheVariants as role
-use Rattle.ps_linkinfo.specs.declared.record.LinkRecord.{LinkRecord as Record}
-use Rattle.ps_resolve.specs.First.{Before}
-use Rattle.ps_codefile.specs.Roles.{needs_linking, is_host}
-use Rattle.ps_resolve.specs.Sources.{Segment, order_of}
 use Rattle.ps_laws.proofs.Items.{not_apart}
 use Rattle.ps_laws.proofs.SoundCodes.{HasOuter, outer, number_reserved, size_reserved, own_apart}
 use Rattle.ps_words.specs.FaultPlaces.{in_reference}
-use Rattle.ps_words.specs.declared.fault.Reason.{Reason}
 use Rattle.ps_words.specs.declared.fault.Reason.TheVariants as reason
 
 pub host_linked : (r : Role) → is_host r ≡ true → needs_linking r ≡ true
-host_linked role.Host h = refl
-host_linked other h = absurd (false≢true h)
+host_linked r h = grind arith
 
 module _ (host : List ℕ) (libs : List (List ℕ)) (none : NoneStands host libs) (s : Segment) (is : IsSegment (order_of host) host libs s) (file : IsOfFile (order_of host) host libs s) where
   -- no reference has a fault

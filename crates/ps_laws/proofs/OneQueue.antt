@@ -1,18 +1,11 @@
 -- Just one queue of names and one list of segments have what is said of the units that are added.
 use Rattle.std.proofs.Common.{◌≡◌, ℕ, zero, suc, ◌+◌, ◌<◌, List, [], ◌∷◌, ◌++◌, length, take, Option, Some, None, Bool, refl, sym, ap, subst, ◌∙◌, inl, inr, arith}
-use Rattle.std.specs.List.{slice_get}
-use Rattle.std.proofs.lemmas.Bool.{cases_order}
-use Rattle.std.proofs.lemmas.Option.{same_Some}
-use Rattle.ps_codefile.specs.declared.entry.Role.{Role}
-use Rattle.ps_linkinfo.specs.declared.record.LinkRecord.{LinkRecord as Record}
-use Rattle.ps_resolve.specs.Standing.Sources.{IsNamed, HasEntry}
-use Rattle.ps_resolve.specs.First.{Before}
-use Rattle.ps_resolve.specs.Sources.{Segment, own_segments}
-use Rattle.ps_resolve.specs.RequestedUnits.{Asks, IsGiver, IsOfFirstLibrary, AddedUnits}
-use Rattle.ps_resolve.specs.declared.reading.added.UnitReference.{UnitReference}
+use Rattle.ps_laws.proofs.Words.{slice_get, cases_order, same_Some, Role, Record, IsNamed, HasEntry}
+use Rattle.ps_laws.proofs.Words.{Before, Segment, Asks, IsGiver, AddedUnits, UnitReference, Order}
+use Rattle.ps_resolve.specs.Sources.{own_segments}
+use Rattle.ps_resolve.specs.RequestedUnits.{IsOfFirstLibrary}
 use Rattle.ps_laws.proofs.Items.{not_apart, some_before}
 use Rattle.ps_laws.proofs.Least.{not_both}
-use Rattle.ps_words.specs.declared.order.Order.{Order}
 
 -- 1. lists that are the same up to a place
 abbrev pub Agree : {A : Type 0} → ℕ → List A → List A → Type 0

@@ -1,43 +1,18 @@
 -- A fault that applies has just the parts of its number.
-use Rattle.std.proofs.Common.{◌≡◌, ◌<◌, ℕ, ◌+◌, ◌*◌, List, length, Option, Some, None, Result, Ok, Err, Bool, true, false, refl, ap, sym, subst, ◌∙◌, inl, inr, arith}
-use Rattle.std.specs.Prelude.{if◌then◌else◌, ◌≢◌, ◌==◌, ◌&&◌, ◌||◌, ◌⊎◌, not, nat_le, nat_lt}
-use Rattle.std.specs.List.{slice_get}
-use Rattle.std.specs.Option.{option_or}
-use Rattle.std.proofs.lemmas.Bool.{false≢true}
-use Rattle.std.proofs.lemmas.Bool.Decides.{Decides-eqb}
-use Rattle.std.proofs.lemmas.Option.{same_Some}
+use Rattle.std.proofs.Common.{◌≡◌, ℕ, List, length, Some, Ok, Err, Bool, ap, sym, subst, ◌∙◌, inl, inr, arith}
+use Rattle.ps_laws.proofs.Words.{UnitReference, in_slot, in_record, Order, Fault, Reason, role_of}
+use Rattle.ps_laws.proofs.Words.{code_of, entry_at, EntryFault, CodeFault, InRound, Step}
+use Rattle.ps_laws.proofs.Words.{OfSlots, OfSources, OfAdded}
+use Rattle.ps_laws.proofs.Words.{Entry, Role, is_host}
+use Rattle.ps_laws.proofs.Words.{file_at}
 use Rattle.ps_codefile.specs.declared.entry.Role.TheVariants as role
-use Rattle.ps_resolve.specs.declared.reading.added.UnitReference.{UnitReference}
-use Rattle.ps_words.specs.FaultText.{number_of}
-use Rattle.ps_words.specs.FaultPlaces.{in_file, in_slot, in_record, in_reference, has_slot, has_record, has_reference, is_of_host, is_of_library}
-use Rattle.ps_words.specs.Words.{word_at}
-use Rattle.ps_words.specs.declared.order.Order.{Order}
-use Rattle.ps_words.specs.declared.fault.Fault.{Fault}
-use Rattle.ps_words.specs.declared.fault.Reason.{Reason}
 use Rattle.ps_words.specs.declared.fault.Reason.TheVariants as reason
-use Rattle.ps_codefile.specs.Dictionary.{block_len, is_nameless, role_of, code_of, has_bad_length, entry_at}
-use Rattle.ps_resolve.specs.Added.{empty_slots, segments}
-use Rattle.ps_resolve.specs.Standing.Phrases.{Because}
-use Rattle.ps_resolve.specs.Standing.Hosts.{HostHas, InHost}
-use Rattle.ps_resolve.specs.Standing.Slots.{HasRole, SlotHas, InSlots, InNoHost}
-use Rattle.ps_resolve.specs.Standing.Libraries.{LibraryHas, InLibraries}
-use Rattle.ps_resolve.specs.Standing.Sources.{EntriesHave, EntryFault, TablesHave, CodeFault, InSources}
-use Rattle.ps_resolve.specs.Standing.Rounds.{IsMissing, IsRequested, PlacedFault, InRound}
-use Rattle.ps_resolve.specs.Standing.Privates.{PrivateHas, InPrivates}
-use Rattle.ps_resolve.specs.Standing.References.{RecordHas, ReferenceHas, InReferences}
-use Rattle.ps_resolve.specs.Standing.Definitions.{InDefinitions}
-use Rattle.ps_resolve.specs.Standing.DataSizes.{InDataSize}
+use Rattle.ps_resolve.specs.Standing.Slots.{SlotHas}
+use Rattle.ps_resolve.specs.Standing.Sources.{TablesHave, InSources}
+use Rattle.ps_resolve.specs.Standing.Rounds.{IsRequested}
 use Rattle.ps_resolve.specs.Standing.{StandsIn}
 use Rattle.ps_resolve.specs.Parts.{HasItsParts, WantsMissing}
-use Rattle.ps_resolve.specs.Standing.Keys.{Step, rank, OfHost, OfSlots, OfNoHost, OfLibraries, OfSources, OfAdded, OfDefinitions, OfPrivates, OfDataSize, OfReferences}
-use Rattle.ps_codefile.specs.declared.entry.Entry.{Entry}
-use Rattle.ps_codefile.specs.declared.entry.Role.{Role}
-use Rattle.ps_linkinfo.specs.Records.{bad, bad_format, type_fault, format_of, list_len}
-use Rattle.ps_linkinfo.specs.declared.record.Body.{Body}
-use Rattle.ps_linkinfo.specs.declared.record.Body.TheVariants.{PublRef}
-use Rattle.ps_linkinfo.specs.declared.record.LinkRecord.{LinkRecord as Record}
-use Rattle.ps_codefile.specs.Roles.{is_host}
-use Rattle.ps_resolve.specs.Sources.{Segment, file_at}
+use Rattle.ps_linkinfo.specs.Records.{bad}
 
 -- the reasons for which a slot has no role, an entry no code, and a record is refused
 pub role_reason : (P : Reason → Type 0) → P reason.SegmentProcedure → P reason.NativeSegment → P reason.Intrinsic → P reason.UnknownKind → (e : Entry) (why : Reason) → role_of e ≡ Err why → P why
@@ -108,10 +83,4 @@ module _ (order : Order) (host : List ℕ) (libs : List (List ℕ)) (not_wanted 
   parts OfSlots f h = grind (arith, of_slot)
   parts OfSources f h = in_sources f h
   parts (OfAdded k) f h = in_round k f h
-  parts OfHost f h = grind arith
-  parts OfNoHost f h = grind arith
-  parts OfLibraries f h = grind arith
-  parts OfDefinitions f h = grind arith
-  parts OfPrivates f h = grind arith
-  parts OfDataSize f h = grind arith
-  parts OfReferences f h = grind arith
+  parts other f h = grind arith

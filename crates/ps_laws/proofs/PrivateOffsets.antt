@@ -1,18 +1,14 @@
 -- The offset of a private is the base offset of the host's end mark, and the words of all segments
 -- before and of the records before its own.
-use Rattle.std.proofs.Common.{◌≡◌, ℕ, ◌+◌, ◌<◌, ◌≤◌, List, [], ◌∷◌, ◌++◌, take, map, refl, sym, ap, subst, arith}
+use Rattle.std.proofs.Common.{◌≡◌, ℕ, ◌+◌, ◌<◌, ◌≤◌, List, [], ◌∷◌, ◌++◌, take, map, refl, ap, arith}
+use Rattle.ps_laws.proofs.Words.{flat_map, flat_map-append, Record, Segment, host_records}
+use Rattle.ps_laws.proofs.Words.{private_words, owner_of, all_words, total_words, next_of}
+use Rattle.ps_laws.proofs.Words.{private_offset, words_taken}
 use Rattle.std.specs.Prelude.{sum_by}
-use Rattle.std.specs.List.{flat_map}
-use Rattle.std.proofs.lemmas.Bool.{eq-eqb, le-ltb, lt-ltb, ne_eqb}
-use Rattle.std.proofs.lemmas.Grind.{flat_map-append}
+use Rattle.std.proofs.lemmas.Bool.{lt-ltb}
 use Rattle.std.proofs.lemmas.List.Sums.{sum_by-append, sum_by-cons}
-use Rattle.ps_linkinfo.specs.declared.record.LinkRecord.{LinkRecord as Record}
-use Rattle.ps_resolve.specs.Sources.{Segment, host_records}
-use Rattle.ps_resolve.specs.Privates.{private_words, owner_of, all_words, total_words}
-use Rattle.ps_linkinfo.specs.RecordCounts.{next_of}
 use Rattle.ps_resolve.specs.LinkedBytes.{all_private_words}
-use Rattle.ps_resolve.specs.Standing.Privates.{records_before, private_offset}
-use Rattle.ps_resolve.specs.References.{words_taken}
+use Rattle.ps_resolve.specs.Standing.Privates.{records_before}
 use Rattle.ps_laws.proofs.Segments.{Ascends}
 use Rattle.ps_resolve.proofs.LookingBack.{words_before}
 

@@ -1,18 +1,13 @@
 -- The first fault of the privates is the smallest that is.
 use Rattle.std.proofs.Common.{◌≡◌, ℕ, ◌+◌, List, [], ◌∷◌, ◌++◌, map, Option, refl, sym, ap, subst, ◌∙◌, inl, inr, arith, append_assoc}
-use Rattle.std.specs.Prelude.{◌⊎◌, ◌&&◌, nat_lt}
-use Rattle.std.specs.List.{enumerate_from}
-use Rattle.std.specs.Option.{option_map, option_or}
-use Rattle.std.proofs.lemmas.Bool.Decides.{Decides-and, Decides-ltb}
-use Rattle.ps_linkinfo.specs.declared.record.LinkRecord.{LinkRecord as Record}
-use Rattle.ps_resolve.specs.Searches.{first_of}
-use Rattle.ps_resolve.specs.Sources.{Segment, host_records}
+use Rattle.ps_laws.proofs.Words.{◌⊎◌, ◌&&◌, nat_lt, enumerate_from, option_map, option_or}
+use Rattle.ps_laws.proofs.Words.{Decides-and, Decides-ltb, Record, first_of, Segment, host_records}
+use Rattle.ps_laws.proofs.Words.{next_of, private_words, owner_of, all_words, OfPrivates}
+use Rattle.ps_laws.proofs.Words.{private_offset, words_taken, in_record, Order, Reason, Fault}
 use Rattle.ps_resolve.specs.Added.{segments}
-use Rattle.ps_linkinfo.specs.RecordCounts.{next_of, is_private_reference}
-use Rattle.ps_resolve.specs.Privates.{private_words, private_fault, owner_of, all_words, first_private_fault}
-use Rattle.ps_resolve.specs.Standing.Keys.{OfPrivates}
-use Rattle.ps_resolve.specs.Standing.Privates.{private_offset, PrivateHas, InPrivates}
-use Rattle.ps_resolve.specs.References.{words_taken}
+use Rattle.ps_linkinfo.specs.RecordCounts.{is_private_reference}
+use Rattle.ps_resolve.specs.Privates.{private_fault, first_private_fault}
+use Rattle.ps_resolve.specs.Standing.Privates.{PrivateHas, InPrivates}
 use Rattle.ps_resolve.specs.Faults.{privates_fault}
 use Rattle.ps_laws.proofs.Least.{Least, Precedes, least_same, least_or, least_if, least_items, at_apart}
 use Rattle.ps_laws.proofs.Steps.{Ranked, because, because_apart}
@@ -22,11 +17,7 @@ use Rattle.ps_laws.proofs.PrivateOffsets.{AreBelow, below_from, below_more, offs
 use Rattle.ps_resolve.proofs.LookingBack.{is_again, again, reason_at, record_fault, privates_carried}
 use Rattle.ps_resolve.specs.declared.allotment.TheConstants.{MAX_NEXT_FREE}
 pub use Rattle.ps_resolve.proofs.LookingBack.{more_words}
-use Rattle.ps_words.specs.FaultPlaces.{in_record}
-use Rattle.ps_words.specs.declared.order.Order.{Order}
-use Rattle.ps_words.specs.declared.fault.Reason.{Reason}
 use Rattle.ps_words.specs.declared.fault.Reason.TheVariants as reason
-use Rattle.ps_words.specs.declared.fault.Fault.{Fault}
 
 -- the same over all segments
 abbrev segment_fault : List Segment → Segment → Option Fault

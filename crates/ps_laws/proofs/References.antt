@@ -1,61 +1,41 @@
 -- The first fault of the references is the smallest that is.
-use Rattle.std.proofs.Common.{◌≡◌, ℕ, ◌+◌, ◌<◌, ◌≤◌, List, [], ◌∷◌, ◌++◌, length, take, map, Option, Some, None, Result, Ok, Err, Bool, true, false, refl, sym, ap, subst, ◌∙◌, inl, inr, arith, append_assoc, append-nil, is_some, unwrap_or}
-use Rattle.std.specs.Prelude.{◌≢◌, ◌⊎◌, if◌then◌else◌, ◌||◌, nat_le, nat_lt}
-use Rattle.std.specs.Bool.{Decides}
-use Rattle.std.specs.List.{range_with_len, enumerate_from, find, slice_get, list_any, flat_map}
-use Rattle.std.specs.Map.{lookup}
-use Rattle.std.specs.Option.{option_map, option_or}
-use Rattle.std.specs.Result.{result_err}
-use Rattle.std.specs.Str.{bytes_eq}
-use Rattle.std.proofs.lemmas.Bool.{cases_lt, false≢true}
-use Rattle.std.proofs.lemmas.Bool.Decides.{Decides-at, Decides-ltb, Decides-and, Decides-or, Decides-like}
-use Rattle.std.proofs.lemmas.Grind.{flat_map-append}
+use Rattle.std.proofs.Common.{◌≡◌, ℕ, ◌+◌, ◌<◌, ◌≤◌, List, [], ◌∷◌, ◌++◌, length, take, map, Option, Some, None, Result, Ok, Err, Bool, true, refl, sym, ap, subst, ◌∙◌, inl, inr, arith, append_assoc, append-nil, is_some, unwrap_or}
+use Rattle.ps_laws.proofs.Words.{◌≢◌, ◌⊎◌, if◌then◌else◌, ◌||◌, nat_le, nat_lt, Decides}
+use Rattle.ps_laws.proofs.Words.{range_with_len, enumerate_from, find, slice_get, list_any}
+use Rattle.ps_laws.proofs.Words.{flat_map, lookup, option_map, option_or, result_err, bytes_eq}
+use Rattle.ps_laws.proofs.Words.{false≢true, Decides-at, Decides-ltb, Decides-and, Decides-or}
+use Rattle.ps_laws.proofs.Words.{Decides-like, flat_map-append, bytes_eq-Decides, is_reserved}
+use Rattle.ps_laws.proofs.Words.{is_unit_reference, next_of, added_fault, private_words, owner_of}
+use Rattle.ps_laws.proofs.Words.{all_words, Because, SomeBelow, SomeItem, OfReferences, part}
+use Rattle.ps_laws.proofs.Words.{private_offset, refs_of, Body, Record, Before, first_of, fault_if}
+use Rattle.ps_laws.proofs.Words.{Segment, host_records, units_of, target_in, target_of, words_taken}
+use Rattle.ps_laws.proofs.Words.{known_of, Target, in_record, Order, Reason, Fault}
 use Rattle.std.proofs.lemmas.List.{map-append}
 use Rattle.std.proofs.lemmas.List.Folds.{list_any-append}
-use Rattle.std.proofs.lemmas.Option.{same_Some}
-use Rattle.std.proofs.lemmas.Slice.Eq.{bytes_eq-Decides}
-use Rattle.ps_codefile.specs.Procedures.{is_reserved}
-use Rattle.ps_linkinfo.specs.RecordCounts.{is_unit_reference, next_of}
-use Rattle.ps_resolve.specs.Added.{added_fault, segments}
-use Rattle.ps_resolve.specs.Privates.{private_words, owner_of, all_words}
-use Rattle.ps_resolve.specs.Standing.Phrases.{Because, SomeBelow, SomeItem}
-use Rattle.ps_resolve.specs.Standing.Keys.{OfReferences, part}
-use Rattle.ps_resolve.specs.Standing.Privates.{private_offset}
+use Rattle.ps_resolve.specs.Added.{segments}
 use Rattle.ps_linkinfo.specs.Operands.{operand_width}
-use Rattle.ps_resolve.specs.Standing.References.{Defines, RecordHas, IsTooLarge, Covers, Meet, ReferenceHas, InReferences}
-use Rattle.ps_linkinfo.specs.Records.{refs_of}
-use Rattle.ps_linkinfo.specs.declared.record.Body.{Body}
-use Rattle.ps_linkinfo.specs.declared.record.Body.TheVariants.{UnitRef, PublRef, PrivRef, PublDef, ConstDef, Eof}
-use Rattle.ps_linkinfo.specs.declared.record.LinkRecord.{LinkRecord as Record}
-use Rattle.ps_resolve.specs.First.{Before}
-use Rattle.ps_resolve.specs.Searches.{first_of, fault_if}
-use Rattle.ps_resolve.specs.Sources.{Segment, host_records, units_of}
+use Rattle.ps_resolve.specs.Standing.References.{Defines, RecordHas, Covers, Meet, ReferenceHas, InReferences}
+use Rattle.ps_linkinfo.specs.declared.record.Body.TheVariants.{UnitRef, PublRef}
 use Rattle.ps_resolve.specs.Symbols.{definitions, definition_of}
 use Rattle.ps_resolve.specs.Operands.{width_of, value_of, is_in, reference_reason, operands, refs_fault}
-use Rattle.ps_resolve.specs.References.{Known, known_definition, known_unit, public_base, unit_slot, target_in, target_of, words_taken, records_fault}
-use Rattle.ps_resolve.specs.Linking.{known_of}
+use Rattle.ps_resolve.specs.References.{Known, public_base, unit_slot, records_fault}
 use Rattle.ps_resolve.specs.Faults.{in_segment, segment_fault, references_fault_from, references_fault}
 use Rattle.ps_resolve.specs.declared.definitions.Def.{Def}
 use Rattle.ps_resolve.specs.declared.definitions.DefKind.{DefKind}
 use Rattle.ps_resolve.specs.declared.definitions.DefKind.TheVariants.{Public, Constant}
-use Rattle.ps_resolve.specs.declared.references.Target.{Target}
-use Rattle.ps_resolve.specs.declared.references.Target.TheVariants.{Slot, Base}
+use Rattle.ps_resolve.specs.declared.references.Target.TheVariants.{Base}
 use Rattle.ps_laws.proofs.Least.{Least, nothing, this, Precedes, least_same, least_or, least_if, least_items, at_apart}
 use Rattle.ps_laws.proofs.Asked.{HasUnit, units_named, asked_is_there}
 use Rattle.ps_laws.proofs.Steps.{Ranked, because, because_apart, any_of_range}
 use Rattle.ps_resolve.proofs.FirstSlots.{none_mapped, some_mapped}
-use Rattle.ps_laws.proofs.Items.{not_apart}
 use Rattle.ps_laws.proofs.Looking.{of_test, any_of_take, any_of_items, find_none, find_some}
 use Rattle.ps_laws.proofs.Segments.{over_segments, Ascends, ascend}
 use Rattle.ps_laws.proofs.Definitions.{take_prefix, longer}
 use Rattle.ps_laws.proofs.PrivateOffsets.{AreBelow, below_from, below_more, offset_in, words_split}
 use Rattle.ps_laws.proofs.Privates.{more_words}
 use Rattle.ps_laws.proofs.Sources.{at_most}
-use Rattle.ps_words.specs.FaultPlaces.{in_record, in_reference}
-use Rattle.ps_words.specs.declared.order.Order.{Order}
-use Rattle.ps_words.specs.declared.fault.Reason.{Reason}
+use Rattle.ps_words.specs.FaultPlaces.{in_reference}
 use Rattle.ps_words.specs.declared.fault.Reason.TheVariants as reason
-use Rattle.ps_words.specs.declared.fault.Fault.{Fault}
 use Rattle.ps_words.specs.declared.words.TheConstants.{MAX_OPERAND}
 
 -- tests of lists that are made of others

@@ -1,34 +1,24 @@
 -- The first fault of the units that are added is the smallest that is.
 use Rattle.std.proofs.Common.{rules, ◌≡◌, ℕ, ◌+◌, ◌≤◌, List, [], ◌∷◌, length, take, Option, Some, None, Bool, true, false, refl, sym, ap, subst, ◌∙◌, inl, inr, arith, append-nil, length-append, is_none, unwrap_or}
-use Rattle.std.specs.Prelude.{◌⊎◌, if◌then◌else◌}
-use Rattle.std.specs.Bool.{Decides}
-use Rattle.std.specs.List.{slice_get}
-use Rattle.std.specs.Option.{option_or, option_map, option_and_then}
-use Rattle.std.proofs.lemmas.Bool.{cases_lt, false≢true}
-use Rattle.std.proofs.lemmas.Bool.Decides.{Decides-or}
-use Rattle.ps_codefile.specs.Dictionary.{is_nameless, entry_at}
-use Rattle.ps_resolve.specs.Added.{empty_slots, is_missing, RoundsOutcome, after, requested_units, rounds, added_segments, added_fault}
-use Rattle.ps_resolve.specs.Standing.Phrases.{Because}
-use Rattle.ps_resolve.specs.Standing.Keys.{Step, OfSources, OfAdded, rank, part, record_read, key}
-use Rattle.ps_resolve.specs.Standing.Sources.{EntriesHave, CodeFault}
-use Rattle.ps_resolve.specs.Standing.Rounds.{IsMissing, PlacedFault, InRound}
-use Rattle.ps_codefile.specs.declared.entry.Entry.{Entry}
-use Rattle.ps_codefile.specs.declared.entry.Role.{Role}
+use Rattle.ps_laws.proofs.Words.{◌⊎◌, if◌then◌else◌, Decides, slice_get, option_or, option_map}
+use Rattle.ps_laws.proofs.Words.{option_and_then, cases_lt, false≢true, Decides-or, entry_at}
+use Rattle.ps_laws.proofs.Words.{RoundsOutcome, after, added_segments, added_fault, Because, Step}
+use Rattle.ps_laws.proofs.Words.{OfSources, OfAdded, rank, part, key, CodeFault, InRound, Entry}
+use Rattle.ps_laws.proofs.Words.{Role, entry_fault, code_fault, Before, Segment, unit_source}
+use Rattle.ps_laws.proofs.Words.{chosen_library, file_at, UnitReference, in_slot, in_record, Order}
+use Rattle.ps_laws.proofs.Words.{Reason, Fault}
+use Rattle.ps_codefile.specs.Dictionary.{is_nameless}
+use Rattle.ps_resolve.specs.Added.{empty_slots, is_missing, requested_units, rounds}
+use Rattle.ps_resolve.specs.Standing.Keys.{record_read}
+use Rattle.ps_resolve.specs.Standing.Sources.{EntriesHave}
+use Rattle.ps_resolve.specs.Standing.Rounds.{IsMissing, PlacedFault}
 use Rattle.ps_codefile.specs.declared.entry.Role.TheVariants as role
-use Rattle.ps_resolve.specs.Faults.{entry_fault, code_fault}
-use Rattle.ps_resolve.specs.First.{Before}
-use Rattle.ps_resolve.specs.Sources.{Segment, unit_source, chosen_library, file_at}
-use Rattle.ps_resolve.specs.declared.reading.added.UnitReference.{UnitReference}
 use Rattle.ps_resolve.proofs.EachRound.{IsTurn, all_rounds, round_fault, segments_before}
 use Rattle.ps_laws.proofs.Least.{Least, nothing, this, Precedes, least_same, least_order, least_map}
 use Rattle.ps_laws.proofs.Looking.{of_test}
 use Rattle.ps_laws.proofs.Sources.{Late, late, OneStop, none_has, unit_least, code_late}
 use Rattle.ps_laws.proofs.Parts.{record_reason}
-use Rattle.ps_words.specs.FaultPlaces.{in_slot, in_record}
-use Rattle.ps_words.specs.declared.order.Order.{Order}
-use Rattle.ps_words.specs.declared.fault.Reason.{Reason}
 use Rattle.ps_words.specs.declared.fault.Reason.TheVariants as reason
-use Rattle.ps_words.specs.declared.fault.Fault.{Fault}
 
 -- 1. one round
 -- what is wrong with the unit of a reference, where this slot, or none, is left for it

@@ -1,36 +1,30 @@
 -- Where no fault applies, the segments of a link have the origins that are said plainly.
-use Rattle.std.proofs.Common.{◌≡◌, ℕ, zero, suc, ◌+◌, ◌*◌, ◌<◌, ◌≤◌, List, [], ◌∷◌, ◌++◌, length, take, unwrap_or, Option, Some, None, Result, Ok, Err, true, false, refl, sym, ap, subst, ◌∙◌, inl, inr, arith}
-use Rattle.std.specs.Prelude.{◌≢◌, ◌⊎◌, ◌↔◌, All, slice_range, ◌==◌}
-use Rattle.std.specs.List.{slice_get, range_with_len}
-use Rattle.std.specs.Option.{option_map, option_map_or, option_or}
-use Rattle.std.specs.Result.{result_ok, result_err}
+use Rattle.std.proofs.Common.{◌≡◌, ℕ, zero, suc, ◌+◌, ◌<◌, ◌≤◌, List, [], ◌∷◌, ◌++◌, take, unwrap_or, Option, Some, None, Result, Ok, Err, true, false, refl, sym, ap, subst, ◌∙◌, inl, inr, arith}
+use Rattle.ps_laws.proofs.Words.{◌≢◌, ◌⊎◌, slice_get, range_with_len, option_map, option_map_or}
+use Rattle.ps_laws.proofs.Words.{option_or, result_ok, result_err, cases_order, false≢true}
+use Rattle.ps_laws.proofs.Words.{or_parts, same_Some, entry_at, role_of, code_of, request_of}
+use Rattle.ps_laws.proofs.Words.{added_segments, added_fault, SomeItem, IsOfFile, IsOfRound}
+use Rattle.ps_laws.proofs.Words.{request_by_slot, Request, HasRole, IsSegment, NoneStands}
+use Rattle.ps_laws.proofs.Words.{segments_of, Entry, Role, reading, Record, is_empty, Segment}
+use Rattle.ps_laws.proofs.Words.{order_of, file_at, source_of, unit_source, is_role, request_fault}
+use Rattle.ps_laws.proofs.Words.{role_fault, IsFile, Asks, IsGiver, UnitReference, in_slot, Order}
+use Rattle.ps_laws.proofs.Words.{Reason}
+use Rattle.std.specs.Prelude.{◌↔◌, All}
 use Rattle.std.proofs.Math.Dec.{ltb}
-use Rattle.std.proofs.lemmas.Bool.{cases_order, false≢true, ltb-false, or_parts}
-use Rattle.std.proofs.lemmas.Option.{same_Some, some_pair_parts}
-use Rattle.ps_codefile.specs.Dictionary.{entry_at, role_of, code_of, has_bad_length, is_nameless}
-use Rattle.ps_resolve.specs.Added.{request_of, added_segments, added_at, added_fault, segments, empty_slots, requested_units}
-use Rattle.ps_resolve.specs.Standing.Phrases.{SomeItem}
+use Rattle.std.proofs.lemmas.Bool.{ltb-false}
+use Rattle.std.proofs.lemmas.Option.{some_pair_parts}
+use Rattle.ps_codefile.specs.Dictionary.{is_nameless}
+use Rattle.ps_resolve.specs.Added.{added_at, segments, empty_slots, requested_units}
 use Rattle.ps_resolve.specs.AllFaults.{reading_fault}
-use Rattle.ps_resolve.specs.OfLink.{IsOfFile, IsOfSlot, IsOfRound}
-use Rattle.ps_resolve.specs.Requests.{request_by_slot}
-use Rattle.ps_resolve.specs.declared.reading.request.Request.{Request}
-use Rattle.ps_resolve.specs.Standing.Slots.{HasRole}
-use Rattle.ps_resolve.specs.Standing.Segments.{IsSegment}
-use Rattle.ps_resolve.specs.Standing.{NoneStands}
-use Rattle.ps_resolve.specs.LinkedBytes.{segments_of}
-use Rattle.ps_codefile.specs.declared.entry.Entry.{Entry}
-use Rattle.ps_codefile.specs.declared.entry.Role.{Role}
+use Rattle.ps_resolve.specs.OfLink.{IsOfSlot}
 use Rattle.ps_codefile.specs.declared.entry.Role.TheVariants as role
-use Rattle.ps_linkinfo.specs.Records.{Spells, reading}
-use Rattle.ps_linkinfo.specs.declared.record.LinkRecord.{LinkRecord as Record}
-use Rattle.ps_codefile.specs.Roles.{is_empty}
-use Rattle.ps_resolve.specs.Sources.{Segment, order_of, file_at, source_of, unit_source, own_segments}
-use Rattle.ps_resolve.specs.Faults.{is_role, request_fault, role_fault, slot_reason, slots_fault, sources_fault}
-use Rattle.ps_resolve.specs.Origins.{IsOwn, IsAddedUnit, IsFile, IsInPlace, IsUnitOf, IsSliceOf, IsReadFrom, HaveOneEach, AreBySlot, AreOwn, AreAdded, AreInPlace, AreOfLibraries, AreRead, AreOfRounds, IsTaken, AsksFor}
-use Rattle.ps_resolve.specs.RequestedUnits.{HasSlot, Asks, IsGiver}
-use Rattle.ps_resolve.specs.declared.reading.added.UnitReference.{UnitReference}
+use Rattle.ps_linkinfo.specs.Records.{Spells}
+use Rattle.ps_resolve.specs.Sources.{own_segments}
+use Rattle.ps_resolve.specs.Faults.{slot_reason, slots_fault, sources_fault}
+use Rattle.ps_resolve.specs.Origins.{IsOwn, IsAddedUnit, IsInPlace, IsUnitOf, IsSliceOf, IsReadFrom, HaveOneEach, AreBySlot, AreOwn, AreAdded, AreInPlace, AreOfLibraries, AreRead, AreOfRounds, IsTaken, AsksFor}
+use Rattle.ps_resolve.specs.RequestedUnits.{HasSlot}
 use Rattle.ps_resolve.proofs.FirstSlots.{none_mapped as map_none}
-use Rattle.ps_laws.proofs.Items.{In, all_items, not_apart, in_range, in_filter, of_take, some_before}
+use Rattle.ps_laws.proofs.Items.{In, all_items, in_range, in_filter, of_take, some_before}
 use Rattle.ps_resolve.proofs.EachRound.{request_parts}
 use Rattle.ps_resolve.proofs.OfLink.{own_known, round_known, rounds_fine, slots_fine, sources_fine}
 use Rattle.ps_laws.proofs.OfLink.{of_link}
@@ -43,10 +37,7 @@ use Rattle.ps_laws.proofs.Asked.{empty_slot, empty_ascend, found_added, in_segme
 use Rattle.ps_laws.proofs.AddedUnits.{both_none, has_own, given, units_are, split_at}
 use Rattle.ps_laws.proofs.Whole.{unread}
 use Rattle.ps_laws.proofs.OneName.{of_segments}
-use Rattle.ps_laws.proofs.UnitSources.{unit_of}
-use Rattle.ps_words.specs.FaultPlaces.{in_slot}
-use Rattle.ps_words.specs.declared.order.Order.{Order}
-use Rattle.ps_words.specs.declared.fault.Reason.{Reason}
+use Rattle.ps_laws.proofs.UnitPlaces.{unit_of}
 
 -- what is read is the only spelling: the law of link information
 abbrev pub OneSpelling : Type 0

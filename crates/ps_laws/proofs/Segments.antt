@@ -1,22 +1,14 @@
 -- The segments of a link, one slot after another.
 use Rattle.std.proofs.Common.{◌≡◌, ℕ, ◌+◌, ◌<◌, ◌≤◌, List, map, Option, Some, sym, subst, arith}
-use Rattle.std.specs.Prelude.{◌==◌}
-use Rattle.std.specs.List.{slice_get, find}
-use Rattle.std.specs.Option.{option_and_then}
-use Rattle.std.proofs.lemmas.Bool.Decides.{Decides-eqb}
-use Rattle.ps_codefile.specs.Dictionary.{slots}
+use Rattle.ps_laws.proofs.Words.{◌==◌, slice_get, find, option_and_then, Decides-eqb, slots}
+use Rattle.ps_laws.proofs.Words.{SomeItem, IsSegment, first_of, Segment, own_segment, Order, Fault}
 use Rattle.ps_resolve.specs.Added.{segments, segment_at}
-use Rattle.ps_resolve.specs.Standing.Phrases.{SomeItem}
-use Rattle.ps_resolve.specs.Standing.Segments.{IsSegment, SomeSegment}
-use Rattle.ps_resolve.specs.Searches.{first_of}
-use Rattle.ps_resolve.specs.Sources.{Segment, own_segment}
+use Rattle.ps_resolve.specs.Standing.Segments.{SomeSegment}
 use Rattle.ps_resolve.specs.Linkable.{AscendFrom}
 pub use Rattle.ps_resolve.proofs.ReadingKnown.{ascend}
 use Rattle.ps_resolve.proofs.ReadingKnown.{own_parts, slot_parts}
 use Rattle.ps_laws.proofs.Least.{Least, least_same, least_then, least_within, first_of_filter_map}
 use Rattle.ps_laws.proofs.Looking.{find_some}
-use Rattle.ps_words.specs.declared.order.Order.{Order}
-use Rattle.ps_words.specs.declared.fault.Fault.{Fault}
 
 pub own_in_slot : (order : Order) (host : List ℕ) (libs : List (List ℕ)) (slot : ℕ) (s : Segment) → own_segment order host libs slot ≡ Some s → s.slot ≡ slot
 own_in_slot order host libs slot s h = (own_parts order host libs slot s h).0

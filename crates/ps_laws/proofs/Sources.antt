@@ -1,32 +1,28 @@
 -- The first fault of the sources is the smallest that is.
-use Rattle.std.proofs.Common.{◌≡◌, ℕ, ◌+◌, ◌-◌, ◌*◌, ◌<◌, ◌≤◌, List, [], ◌∷◌, length, Option, Some, None, Result, Ok, Err, Bool, true, false, refl, sym, ap, subst, ◌∙◌, inl, inr, arith}
-use Rattle.std.specs.Prelude.{◌↔◌, slice_index, ◌⊎◌, ◌≢◌, if◌then◌else◌, nat_lt, not, ◌&&◌, ◌||◌, ◌==◌, nat_le}
-use Rattle.std.specs.Bool.{Decides}
-use Rattle.std.specs.List.{range_with_len, enumerate_from, slice_get, list_any, filter_map, find, list_all, cons_option}
-use Rattle.std.specs.Option.{option_or, option_map, option_and_then, option_map_or}
-use Rattle.std.specs.Result.{result_ok}
-use Rattle.std.specs.Str.{bytes_eq}
-use Rattle.std.proofs.lemmas.Bool.{cases_lt, false≢true}
-use Rattle.std.proofs.Common.{leb-true, le-leb, unwrap_or, is_none}
-use Rattle.std.proofs.lemmas.Bool.Decides.{Decides-at, Decides-ltb, Decides-and, Decides-or, Decides-not, Decides-like, Decides-eqb}
-use Rattle.std.proofs.lemmas.Option.{none-some, same_Some}
-use Rattle.std.proofs.lemmas.Slice.Eq.{bytes_eq-Decides}
-use Rattle.ps_codefile.specs.Dictionary.{slots, entry_at, role_of, code_of, information_of, is_filled}
-use Rattle.ps_codefile.specs.Procedures.{table_of, procedures, content_of, dictionary_start, dictionary_len, is_placed, numbers, tables, tables_fault}
-use Rattle.ps_resolve.specs.Standing.Phrases.{Because, SomeBelow, SomeItem}
-use Rattle.ps_resolve.specs.Standing.Keys.{OfSources, rank, part}
-use Rattle.ps_resolve.specs.Standing.Sources.{IsNamed, HasEntry, EntriesHave, NoneHas, EntryFault, UnitFault, HasBadTable, AreBad, TablesHave, CodeFault, InSources}
-use Rattle.ps_codefile.specs.declared.entry.Entry.{Entry}
-use Rattle.ps_codefile.specs.declared.entry.Role.{Role}
-use Rattle.ps_linkinfo.specs.Records.{reading, Stops}
-use Rattle.ps_linkinfo.specs.declared.record.LinkRecord.{LinkRecord as Record}
-use Rattle.ps_resolve.specs.Faults.{entries_reason, entry_fault, information_fault, code_fault, role_fault, source_fault, sources_fault}
+use Rattle.std.proofs.Common.{◌≡◌, ℕ, ◌+◌, ◌-◌, ◌*◌, ◌<◌, ◌≤◌, List, [], ◌∷◌, length, Option, Some, None, Result, Ok, Err, Bool, true, false, refl, sym, ap, subst, ◌∙◌, inl, inr, arith, leb-true, le-leb, unwrap_or, is_none}
+use Rattle.ps_laws.proofs.Words.{◌⊎◌, ◌≢◌, if◌then◌else◌, nat_lt, not, ◌&&◌, ◌||◌, ◌==◌, nat_le}
+use Rattle.ps_laws.proofs.Words.{Decides, range_with_len, enumerate_from, slice_get, list_any}
+use Rattle.ps_laws.proofs.Words.{filter_map, find, option_or, option_map, option_and_then}
+use Rattle.ps_laws.proofs.Words.{option_map_or, result_ok, bytes_eq, false≢true, Decides-at}
+use Rattle.ps_laws.proofs.Words.{Decides-ltb, Decides-and, Decides-or, Decides-like, Decides-eqb}
+use Rattle.ps_laws.proofs.Words.{none-some, same_Some, bytes_eq-Decides, slots, entry_at, role_of}
+use Rattle.ps_laws.proofs.Words.{code_of, information_of, table_of, Because, SomeBelow, SomeItem}
+use Rattle.ps_laws.proofs.Words.{OfSources, rank, part, IsNamed, HasEntry, EntryFault, CodeFault}
+use Rattle.ps_laws.proofs.Words.{Entry, Role, reading, Record, entry_fault, code_fault, role_fault}
+use Rattle.ps_laws.proofs.Words.{first_of, fault_if, is_host, needs_linking, is_named}
+use Rattle.ps_laws.proofs.Words.{chosen_library, source_of, unit_source, file_at, in_slot}
+use Rattle.ps_laws.proofs.Words.{in_record, Order, Reason, Fault}
+use Rattle.std.specs.Prelude.{◌↔◌, slice_index}
+use Rattle.std.specs.List.{list_all}
+use Rattle.std.proofs.lemmas.Bool.Decides.{Decides-not}
+use Rattle.ps_codefile.specs.Dictionary.{is_filled}
+use Rattle.ps_codefile.specs.Procedures.{procedures, content_of, dictionary_start, dictionary_len, is_placed, numbers, tables, tables_fault}
+use Rattle.ps_resolve.specs.Standing.Sources.{EntriesHave, NoneHas, UnitFault, HasBadTable, AreBad, TablesHave, InSources}
+use Rattle.ps_linkinfo.specs.Records.{Stops}
+use Rattle.ps_resolve.specs.Faults.{entries_reason, information_fault, source_fault, sources_fault}
 use Rattle.ps_resolve.specs.Requests.{is_missing}
-use Rattle.ps_resolve.specs.Searches.{first_of, fault_if}
-use Rattle.ps_codefile.specs.Roles.{is_host, needs_linking}
-use Rattle.ps_resolve.specs.Sources.{is_named, has_entry, chosen_library, source_of, unit_source, file_at}
+use Rattle.ps_resolve.specs.Sources.{has_entry}
 use Rattle.ps_resolve.proofs.Requested.{has_name}
-use Rattle.ps_words.specs.FaultPlaces.{in_slot, in_record}
 pub use Rattle.ps_resolve.proofs.FirstSlots.{ok_is}
 use Rattle.ps_laws.proofs.Least.{Least, nothing, this, Precedes, least_same, least_or, least_if, least_then, least_range, least_items, least_guard}
 use Rattle.ps_resolve.specs.Standing.Rounds.{PlacedFault}
@@ -34,11 +30,8 @@ use Rattle.ps_laws.proofs.Steps.{Ranked, because, any_of_range, any_lesser}
 use Rattle.ps_laws.proofs.Items.{not_apart}
 use Rattle.ps_laws.proofs.Looking.{of_test}
 use Rattle.ps_laws.proofs.Parts.{code_reason}
-use Rattle.ps_words.specs.declared.order.Order.{Order}
 use Rattle.ps_codefile.specs.declared.entry.Role.TheVariants as role
-use Rattle.ps_words.specs.declared.fault.Reason.{Reason}
 use Rattle.ps_words.specs.declared.fault.Reason.TheVariants as reason
-use Rattle.ps_words.specs.declared.fault.Fault.{Fault}
 
 pub at_most : (a b : ℕ) → Decides (nat_le a b) (a ≤ b)
 at_most a b = (λ e. leb-true a b e, λ h. le-leb a b h)

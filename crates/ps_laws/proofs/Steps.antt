@@ -1,33 +1,24 @@
 -- The first fault of each step is the smallest that is.
-use Rattle.std.proofs.Common.{◌≡◌, ℕ, zero, suc, ◌+◌, ◌<◌, ◌≤◌, List, length, Option, Result, Ok, Err, Bool, true, false, refl, sym, subst, inl, inr, arith}
-use Rattle.std.specs.Prelude.{◌⊎◌, if◌then◌else◌, nat_lt, not, ◌&&◌, ◌||◌}
-use Rattle.std.specs.Bool.{Decides}
-use Rattle.std.specs.List.{range_with_len, list_any}
-use Rattle.std.specs.Option.{option_map, option_map_or}
-use Rattle.std.specs.Result.{result_ok, result_err}
-use Rattle.std.specs.Str.{bytes_eq}
-use Rattle.std.proofs.lemmas.Bool.{cases_lt, false≢true}
-use Rattle.std.proofs.lemmas.Bool.Decides.{Decides-ltb, Decides-and, Decides-or, Decides-not, Decides-like}
-use Rattle.std.proofs.lemmas.Slice.Eq.{bytes_eq-Decides}
-use Rattle.ps_codefile.specs.Dictionary.{slots, OpenedFile, FileOrder, Zero, Ordered, Mixed, file_order, opened_alone, opened_as, opened_beside_as, same_order, entry_at, role_of}
-use Rattle.ps_resolve.specs.Standing.Phrases.{Because, SomeBelow}
+use Rattle.std.proofs.Common.{◌≡◌, ℕ, zero, suc, ◌+◌, ◌<◌, ◌≤◌, List, length, Option, Result, Ok, Err, Bool, false, refl, sym, subst, inl, inr, arith}
+use Rattle.ps_laws.proofs.Words.{◌⊎◌, if◌then◌else◌, nat_lt, not, ◌&&◌, ◌||◌}
+use Rattle.ps_laws.proofs.Words.{Decides, range_with_len, list_any, option_map, option_map_or}
+use Rattle.ps_laws.proofs.Words.{result_ok, result_err, bytes_eq, cases_lt, false≢true}
+use Rattle.ps_laws.proofs.Words.{Decides-ltb, Decides-and, Decides-or, Decides-like}
+use Rattle.ps_laws.proofs.Words.{bytes_eq-Decides, slots, entry_at, role_of, Because, SomeBelow}
+use Rattle.ps_laws.proofs.Words.{HasRole, IsUnitSlot, Step, OfHost, OfSlots, OfNoHost, OfLibraries}
+use Rattle.ps_laws.proofs.Words.{rank, Entry, Role, is_role, is_host, is_unit, in_slot, Order}
+use Rattle.ps_laws.proofs.Words.{Reason, Fault}
+use Rattle.std.proofs.lemmas.Bool.Decides.{Decides-not}
+use Rattle.ps_codefile.specs.Dictionary.{FileOrder, file_order, opened_alone, opened_as, opened_beside_as, same_order}
 use Rattle.ps_resolve.specs.Standing.Hosts.{HostHas, InHost}
-use Rattle.ps_resolve.specs.Standing.Slots.{HasRole, IsUnitSlot, SlotHas, InSlots, InNoHost}
+use Rattle.ps_resolve.specs.Standing.Slots.{SlotHas, InSlots, InNoHost}
 use Rattle.ps_resolve.specs.Standing.Libraries.{LibraryHas, InLibraries}
-use Rattle.ps_resolve.specs.Standing.Keys.{Step, OfHost, OfSlots, OfNoHost, OfLibraries, rank}
-use Rattle.ps_codefile.specs.declared.entry.Entry.{Entry}
-use Rattle.ps_codefile.specs.declared.entry.Role.{Role}
-use Rattle.ps_resolve.specs.Faults.{host_fault, is_role, slot_reason, slots_fault, no_host_fault, library_reason, library_fault, libraries_fault}
-use Rattle.ps_codefile.specs.Roles.{is_host, is_unit}
-use Rattle.ps_words.specs.FaultPlaces.{in_file, in_slot}
+use Rattle.ps_resolve.specs.Faults.{host_fault, slot_reason, slots_fault, no_host_fault, library_reason, library_fault, libraries_fault}
+use Rattle.ps_words.specs.FaultPlaces.{in_file}
 use Rattle.ps_laws.proofs.Parts.{role_reason}
 use Rattle.ps_laws.proofs.Least.{Least, nothing, this, Precedes, least_same, least_order, least_or, least_if, least_map, least_range, least_each}
-use Rattle.ps_words.specs.declared.order.Order.{Order}
-use Rattle.ps_words.specs.declared.order.Order.TheVariants.{Little, Big}
 use Rattle.ps_codefile.specs.declared.entry.Role.TheVariants as role
-use Rattle.ps_words.specs.declared.fault.Reason.{Reason}
 use Rattle.ps_words.specs.declared.fault.Reason.TheVariants as reason
-use Rattle.ps_words.specs.declared.fault.Fault.{Fault}
 
 abbrev pub Ranked : Reason → Reason → Type 0
 Ranked a b = rank a < rank b

@@ -1,23 +1,17 @@
 -- The offset that runs along with the records is the base offset and the words of all privates
 -- before it.
 use Rattle.std.proofs.Common.{◌≡◌, ℕ, suc, ◌+◌, ◌-◌, List, [], ◌∷◌, ◌++◌, length, take, map, refl, sym, ap, ◌∙◌, arith, append_assoc}
-use Rattle.std.specs.Prelude.{if◌then◌else◌}
-use Rattle.std.specs.List.{enumerate_from, flat_map}
-use Rattle.ps_linkinfo.specs.declared.record.LinkRecord.{LinkRecord as Record}
-use Rattle.ps_codefile.specs.Roles.{needs_linking, is_host}
-use Rattle.ps_resolve.specs.Sources.{Segment, host_records, order_of}
-use Rattle.ps_resolve.specs.Privates.{private_words, owner_of, all_words, total_words}
-use Rattle.ps_linkinfo.specs.RecordCounts.{next_of}
-use Rattle.ps_resolve.specs.Standing.Privates.{private_offset}
-use Rattle.ps_resolve.specs.LinkedBytes.{summed_edits, summed_segment, HaveSummedOffsets, segments_of}
-use Rattle.ps_resolve.specs.References.{Known, words_taken, record_edits, records_edits}
-use Rattle.ps_resolve.specs.Linking.{Edited, edited_from, known_of, data_edits, segment_edits}
+use Rattle.ps_laws.proofs.Words.{if◌then◌else◌, enumerate_from, flat_map, Record}
+use Rattle.ps_laws.proofs.Words.{needs_linking, is_host, Segment, host_records, order_of}
+use Rattle.ps_laws.proofs.Words.{private_words, owner_of, all_words, total_words, next_of}
+use Rattle.ps_laws.proofs.Words.{private_offset, summed_edits, summed_segment, segments_of}
+use Rattle.ps_laws.proofs.Words.{words_taken, known_of, Order, Edit, Byte}
+use Rattle.ps_resolve.specs.LinkedBytes.{HaveSummedOffsets}
+use Rattle.ps_resolve.specs.References.{Known, record_edits, records_edits}
+use Rattle.ps_resolve.specs.Linking.{Edited, edited_from, data_edits, segment_edits}
 use Rattle.ps_laws.proofs.Segments.{Ascends, ascend}
 use Rattle.ps_laws.proofs.PrivateOffsets.{AreBelow, below_from, below_more, words_split, offset_in}
 use Rattle.ps_resolve.proofs.LookingBack.{words_before}
-use Rattle.ps_words.specs.declared.order.Order.{Order}
-use Rattle.ps_words.specs.declared.edit.Edit.{Edit}
-use Rattle.ps_words.specs.declared.edit.Edit.TheVariants.{Byte}
 
 -- the edits of records, each with its own offset
 records_summed : (known : Known) (code : List ℕ) (offset : ℕ → ℕ) (rs : List Record) (rec off : ℕ) → ((n : ℕ) → offset (rec + n) ≡ off + private_words (take n rs))

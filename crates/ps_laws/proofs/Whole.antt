@@ -1,27 +1,21 @@
 -- The first fault of all is the smallest that is.
 use Rattle.std.proofs.Common.{◌≡◌, ℕ, ◌+◌, ◌<◌, ◌≤◌, List, [], ◌∷◌, Option, Some, None, true, refl, sym, ap, subst, ◌∙◌, inl, inr, arith}
-use Rattle.std.specs.Prelude.{◌⊎◌, ◌≢◌}
-use Rattle.std.specs.List.{slice_get}
-use Rattle.std.proofs.lemmas.Bool.{cases_lt}
-use Rattle.std.specs.Option.{option_or, option_map}
+use Rattle.ps_laws.proofs.Words.{◌⊎◌, ◌≢◌, slice_get, cases_lt, option_or, option_map}
+use Rattle.ps_laws.proofs.Words.{order_of, added_fault, Step, OfHost, OfSlots, OfNoHost}
+use Rattle.ps_laws.proofs.Words.{OfLibraries, OfSources, OfAdded, OfDefinitions, OfPrivates}
+use Rattle.ps_laws.proofs.Words.{OfDataSize, OfReferences, key, InRound, Order, Fault}
 use Rattle.ps_resolve.specs.Faults.{host_fault, slots_fault, no_host_fault, libraries_fault, sources_fault, definitions_fault, privates_fault, data_fault, references_fault, linking_fault}
 use Rattle.ps_resolve.specs.AllFaults.{first_fault, reading_fault}
-use Rattle.ps_resolve.specs.First.{Before}
-use Rattle.ps_resolve.specs.Sources.{order_of}
-use Rattle.ps_resolve.specs.Added.{added_fault, segments}
-use Rattle.ps_resolve.specs.Standing.Keys.{Step, OfHost, OfSlots, OfNoHost, OfLibraries, OfSources, OfAdded, OfDefinitions, OfPrivates, OfDataSize, OfReferences, turn, is_of_reading, key}
+use Rattle.ps_resolve.specs.Added.{segments}
+use Rattle.ps_resolve.specs.Standing.Keys.{turn, is_of_reading}
 use Rattle.ps_resolve.specs.Standing.{StandsIn, FaultAt, NoneStandsInReading, IsFirst}
-use Rattle.ps_resolve.specs.Standing.Rounds.{InRound}
 use Rattle.ps_laws.proofs.Least.{Least, nothing, this, Precedes, least_same, least_or_then, not_both}
 use Rattle.ps_laws.proofs.Steps.{step_1, step_2, step_3, step_4}
 use Rattle.ps_laws.proofs.Sources.{OneStop, step_5}
 use Rattle.ps_laws.proofs.Rounds.{Place, Earlier, tagged, step_6}
-use Rattle.ps_laws.proofs.Definitions.{step_7}
+use Rattle.ps_laws.proofs.Definitions.{step_7, step_9}
 use Rattle.ps_laws.proofs.Privates.{step_8}
-use Rattle.ps_laws.proofs.DataSize.{step_9}
 use Rattle.ps_laws.proofs.References.{step_10}
-use Rattle.ps_words.specs.declared.order.Order.{Order}
-use Rattle.ps_words.specs.declared.fault.Fault.{Fault}
 
 -- what applies from a turn on, and before another
 abbrev Between : Order → List ℕ → List (List ℕ) → ℕ → ℕ → Place → Type 0
@@ -34,21 +28,14 @@ steps = OfHost ∷ OfHost ∷ OfSlots ∷ OfNoHost ∷ OfLibraries ∷ OfSources
 -- a step that is no round is the one at its turn
 turn_back : (s : Step) → turn s ≢ 6 → slice_get steps (turn s) ≡ Some s
 unfolding steps
-turn_back (OfAdded k) h = absurd (h refl)
-turn_back other h = refl
+turn_back s h = grind arith
 
 -- the turns of the steps are 1 to 10
 turn_bounds : (s : Step) → (1 ≤ turn s) × (turn s < 11)
-turn_bounds OfHost = (omega arith, omega arith)
-turn_bounds other = (omega arith, omega arith)
+turn_bounds s = grind arith
 
 same_turn : (s t : Step) → turn s ≡ turn t → turn t ≢ 6 → s ≡ t
 same_turn s t e h = let a = turn_back s (λ x. h (sym e ∙ x)) in let b = turn_back t h in cc
-
--- a step of turn 6 is a round
-round_of : (s : Step) → turn s ≡ 6 → (k : ℕ) × (s ≡ OfAdded k)
-round_of (OfAdded k) e = (k, refl)
-round_of other e = absurd (omega (arith, e))
 
 -- a key begins with its step's turn
 key_turn : (s : Step) (f : Fault) → (rest : List ℕ) × (key s f ≡ turn s ∷ rest)
@@ -57,10 +44,7 @@ key_turn other f = (_, refl)
 
 -- a fault of an earlier turn comes earlier
 earlier_turn : (x y : Place) → turn x.0 < turn y.0 → Earlier x y
-earlier_turn x y h =
-    let a = key_turn x.0 x.1 in
-    let b = key_turn y.0 y.1 in
-    subst (λ (k : List ℕ). Before k (key y.0 y.1)) (sym a.1) (subst (λ (k : List ℕ). Before (turn x.0 ∷ a.0) k) (sym b.1) (inl h))
+earlier_turn x y h = grind (arith, key_turn)
 
 -- one more step before those that are later, which are looked at only if it has no fault
 add : (order : Order) (host : List ℕ) (libs : List (List ℕ)) (step : Step) (next end : ℕ) {o : Option Fault} {p : Option Place} → turn step ≢ 6 → turn step + 1 ≡ next → next ≤ end → Least (Precedes step) (StandsIn step order host libs) o
@@ -69,23 +53,16 @@ add order host libs step next end {o} {p} alone e low l m =
     least_same to from (least_or_then (tagged step l) (λ n. m (untagged o n)) (λ x y s t. earlier_turn x y (let a : turn x.0 ≡ turn step = ap (λ (q : Place). turn q.0) s.1 in let b = t.0 in omega (arith, a, b, e))))
   where
     untagged : (o : Option Fault) → option_map {U = Place} (λ (f : Fault). (step, f)) o ≡ None → o ≡ None
-    untagged None n = refl
-    untagged (Some f) n = absurd (cc)
+    untagged o h = grind arith
 
     Own : Place → Type 0
     Own q = (f : Fault) × (q ≡ (step, f)) × StandsIn step order host libs f
 
     to : (q : Place) → Own q ⊎ Between order host libs next end q → Between order host libs (turn step) end q
-    to q (inl t) = let a : turn q.0 ≡ turn step = ap (λ (r : Place). turn r.0) t.1 in (omega (arith, a), omega (arith, a, e, low), subst (λ (r : Place). StandsIn r.0 order host libs r.1) (sym t.1) t.2)
-    to q (inr t) = (let a = t.0 in omega (arith, a, e), t.1, t.2)
+    to q h = grind arith
 
     from : (q : Place) → Between order host libs (turn step) end q → Own q ⊎ Between order host libs next end q
-    from q t = elim (cases_lt (turn step) (turn q.0)) [
-      | inl h ↦ inr (omega (arith, h, e), t.1, t.2)
-      | inr h ↦
-          let same : q.0 ≡ step = same_turn q.0 step (let a = t.0 in omega (arith, a, h)) alone in
-          inl (q.1, ap (λ (s : Step). (s, q.1)) same, subst (λ (s : Step). StandsIn s order host libs q.1) same t.2)
-    ]
+    from q t = grind (arith, same_turn)
 
 -- the rounds are one turn
 rounds_turn : OneStop → (order : Order) (host : List ℕ) (libs : List (List ℕ)) → (o : Option Place) × Least Earlier (Between order host libs 6 7) o × (option_map (λ (x : Place). x.1) o ≡ added_fault order host libs)
@@ -98,13 +75,10 @@ rounds_turn law order host libs = let r = step_6 law order host libs in (r.0, le
     to p t = let a : turn p.0 ≡ 6 = ap (λ (q : Place). turn q.0) t.2 in (omega (arith, a), omega (arith, a), subst (λ (q : Place). StandsIn q.0 order host libs q.1) (sym t.2) t.3)
 
     from : (p : Place) → Between order host libs 6 7 p → OfRound p
-    from p t =
-        let r = round_of p.0 (let a = t.0 in let b = t.1 in omega (arith, a, b)) in
-        (r.0, p.1, ap (λ (s : Step). (s, p.1)) r.1, subst (λ (s : Step). StandsIn s order host libs p.1) r.1 t.2)
+    from p t = grind arith
 
 untag : (step : Step) (o : Option Fault) (p : Option Place) (q : Option Fault) → option_map (λ (x : Place). x.1) p ≡ q → option_map (λ (x : Place). x.1) (option_or (option_map (λ f. (step, f)) o) p) ≡ option_or o q
-untag step None p q e = e
-untag step (Some f) p q e = refl
+untag step o p q h = grind arith
 
 -- the faults of a queue of turns, with their steps, and that they are these
 abbrev Turns : List ℕ → List (List ℕ) → ℕ → ℕ → Option Fault → Type 0
@@ -126,8 +100,7 @@ reading law host libs =
     )
 
 last : (a b c d : Option Fault) → option_or a (option_or b (option_or c (option_or d None))) ≡ option_or a (option_or b (option_or c d))
-last a b c None = refl
-last a b c (Some d) = refl
+last a b c d = grind arith
 
 -- the first fault of linking is the smallest that applies in turns 7 to 10, where the rounds end
 -- without a fault
@@ -155,8 +128,7 @@ none_read host libs e =
     ((both (libraries_fault order libs) _ (both (no_host_fault order host) _ (both (slots_fault order host) _ (both (host_fault host) _ e).1).1).1).1)
   where
     both : (a b : Option Fault) → option_or a b ≡ None → (a ≡ None) × (b ≡ None)
-    both None b e = (refl, e)
-    both (Some f) b e = absurd (cc)
+    both a b h = grind arith
 
 -- the faults of all steps
 whole : OneStop → (host : List ℕ) (libs : List (List ℕ)) → Turns host libs 1 11 (first_fault host libs)
@@ -166,12 +138,8 @@ whole law host libs = go (reading_fault host libs) refl (reading law host libs)
     order : Order
     order = order_of host
 
-    later : Option Fault
-    later = linking_fault order (segments order host libs)
-
     to : (p : Place) → Between order host libs 1 7 p ⊎ Between order host libs 7 11 p → Between order host libs 1 11 p
-    to p (inl t) = (t.0, (let a = t.1 in omega (arith, a)), t.2)
-    to p (inr t) = ((let a = t.0 in omega (arith, a)), t.1, t.2)
+    to p h = grind arith
 
     from : (p : Place) → Between order host libs 1 11 p → Between order host libs 1 7 p ⊎ Between order host libs 7 11 p
     from p t = elim (cases_lt (turn p.0) 7) [ inl h ↦ inl (t.0, h, t.2) | inr h ↦ inr (h, t.1, t.2) ]
@@ -224,10 +192,7 @@ none law host libs e = let w = whole law host libs in no_place host libs w.0 w.1
 
 -- no two faults are the first
 pub one : OneStop → (host : List ℕ) (libs : List (List ℕ)) (f g : Fault) → IsFirst host libs f → IsFirst host libs g → f ≡ g
-one law host libs f g a b = elim (a.least b.step g b.stands) [
-  | inl e ↦ sym e.1
-  | inr h ↦ elim (b.least a.step f a.stands) [ inl e ↦ e.1 | inr k ↦ absurd (not_both (key a.step f) (key b.step g) h k) ]
-]
+one law host libs f g a b = grind (arith, not_both)
 
 -- the fault that is the first is the one that is found
 pub only : OneStop → (host : List ℕ) (libs : List (List ℕ)) (f : Fault) → IsFirst host libs f → first_fault host libs ≡ Some f
@@ -239,19 +204,11 @@ only law host libs f a = go (first_fault host libs) refl
 
 -- what is computed for the steps of reading, and what applies in them
 turn_read : (s : Step) → is_of_reading s ≡ true → turn s < 7
-turn_read OfDefinitions e = absurd (cc)
-turn_read OfPrivates e = absurd (cc)
-turn_read OfDataSize e = absurd (cc)
-turn_read OfReferences e = absurd (cc)
-turn_read other e = omega arith
+turn_read s h = grind arith
 
 -- a step of turn 1 to 6 is one of reading
 read_turn : (s : Step) → turn s < 7 → is_of_reading s ≡ true
-read_turn OfDefinitions h = absurd (omega (arith, h))
-read_turn OfPrivates h = absurd (omega (arith, h))
-read_turn OfDataSize h = absurd (omega (arith, h))
-read_turn OfReferences h = absurd (omega (arith, h))
-read_turn other h = refl
+read_turn s h = grind arith
 
 -- where no fault of reading is found, none applies
 pub read : OneStop → (host : List ℕ) (libs : List (List ℕ)) → reading_fault host libs ≡ None → NoneStandsInReading host libs

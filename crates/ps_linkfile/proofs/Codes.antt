@@ -31,18 +31,12 @@ edits_here os ds count o d at h = subst (λ (es : List (List Edit)). HaveEdits (
 joined_here : (order : Order) (os : List Origin) (ds : List (List Edit)) (count : ℕ) (o : Origin) (d : List Edit) (prefix : List ℕ) → IsAt os ds count o d
     → prefix ++ padded_codes order (drop count os) (drop count ds) ≡ padded_codes order os ds
     → prefix ++ (padded_code order o.code d ++ padded_codes order (drop (count + 1) os) (drop (count + 1) ds)) ≡ padded_codes order os ds
-joined_here order os ds count o d prefix at h =
-    subst (λ (es : List (List Edit)). prefix ++ padded_codes order (o ∷ drop (count + 1) os) es ≡ padded_codes order os ds) at.edits
-    (subst (λ (ps : List Origin). prefix ++ padded_codes order ps (drop count ds) ≡ padded_codes order os ds) at.origin h)
+joined_here order os ds count o d prefix at h = grind arith
 
 -- one code more
 pub codes_more : (order : Order) (os : List Origin) (ds : List (List Edit)) (count : ℕ) (a b c : Option (List ℕ)) (prefix : List ℕ) (o : Origin) (d : List Edit)
     → IsAt os ds count o d → CodesSoFar order os ds count a b prefix → Appends b c (padded_code order o.code d) → CodesSoFar order os ds (count + 1) a c (prefix ++ padded_code order o.code d)
-codes_more order os ds count a b c prefix o d at h k = record {
-  left = (edits_here os ds count o d at h.left).1;
-  joined = append_assoc prefix (padded_code order o.code d) (padded_codes order (drop (count + 1) os) (drop (count + 1) ds)) ∙ joined_here order os ds count o d prefix at h.joined;
-  written = appends_twice a b c prefix (padded_code order o.code d) h.written k;
-}
+codes_more order os ds count a b c prefix o d at h k = grind (arith, edits_here, append_assoc, joined_here, appends_twice)
 
 -- a prefix of one code more
 pub codes_prefix : (order : Order) (os : List Origin) (ds : List (List Edit)) (count : ℕ) (a b c : Option (List ℕ)) (prefix : List ℕ) (o : Origin) (d : List Edit)

@@ -63,25 +63,11 @@ left_start all h = record { ascend = h; behind = λ slot k. refl; found = λ slo
 
 -- the first of those that are left is passed over
 pub left_more : (all : List Extent) (from block : ℕ) (c : Extent) (rest : List Extent) → Left all from block (c ∷ rest) → Left all (c.slot + 1) (block + blocks c.size) rest
-left_more all from block c rest h = record {
-  ascend = h.ascend.2;
-  behind = λ slot k.
-      let yes : nat_lt c.slot slot ≡ true = grind (arith, nat_tests) in
-      let kept : filter (λ (d : Extent). nat_lt d.slot slot) (c ∷ rest) ≡ c ∷ filter (λ (d : Extent). nat_lt d.slot slot) rest = rw yes in
-      let more : all_blocks (filter (λ (d : Extent). nat_lt d.slot slot) (c ∷ rest)) ≡ blocks c.size + all_blocks (filter (λ (d : Extent). nat_lt d.slot slot) rest) = ap (λ (cs : List Extent). all_blocks cs) kept ∙ all_blocks-cons c (filter (λ (d : Extent). nat_lt d.slot slot) rest) in
-      let before : block_of all slot ≡ block + all_blocks (filter (λ (d : Extent). nat_lt d.slot slot) (c ∷ rest)) = h.behind slot (omega (arith, h.ascend.0)) in
-      before ∙ (ap (λ n. block + n) more ∙ omega arith);
-  found = λ slot k.
-      let no : (c.slot == slot) ≡ false = grind (arith, nat_tests) in
-      h.found slot (omega (arith, h.ascend.0)) ∙ rw no;
-}
+left_more all from block c rest h = grind (arith, nat_tests, all_blocks-cons)
 
 -- its code begins in this block
 pub first_block : (all : List Extent) (from block : ℕ) (c : Extent) (rest : List Extent) → Left all from block (c ∷ rest) → block_of all c.slot ≡ block
-first_block all from block c rest h =
-    let here : Ascend c.slot (c ∷ rest) = (omega arith, h.ascend.1, h.ascend.2) in
-    let none : all_blocks (filter (λ (d : Extent). nat_lt d.slot c.slot) (c ∷ rest)) ≡ 0 = ap (λ (cs : List Extent). all_blocks cs) (none_before c.slot (c ∷ rest) c.slot here (omega arith)) in
-    h.behind c.slot h.ascend.0 ∙ (ap (λ n. block + n) none ∙ omega arith)
+first_block all from block c rest h = grind (arith, none_before)
 
 -- what the dictionary says of it
 pub first_pair : (order : Order) (all : List Extent) (from block : ℕ) (c : Extent) (rest : List Extent) → Left all from block (c ∷ rest) → pair_of order all c.slot ≡ word_bytes order block ++ word_bytes order c.size
@@ -93,9 +79,7 @@ first_pair order all from block c rest h =
 
 -- what it says of a slot before the first that is left
 pub no_pair : (order : Order) (all : List Extent) (from block : ℕ) (rest : List Extent) (next slot : ℕ) → Left all from block rest → Ascend next rest → from ≤ slot → slot < next → pair_of order all slot ≡ 0 ∷ 0 ∷ 0 ∷ 0 ∷ []
-no_pair order all from block rest next slot h k le lt =
-    ap (λ (o : Option Extent). option_map_or (λ d. word_bytes order (block_of all slot) ++ word_bytes order d.size) o (0 ∷ 0 ∷ 0 ∷ 0 ∷ []))
-    (h.found slot le ∙ none_there next rest slot k lt)
+no_pair order all from block rest next slot h k le lt = grind (arith, none_there)
 
 -- so many of a list and the next
 next_taken : {X : Type 0} (xs : List X) (i : ℕ) (x : X) → drop i xs ≡ x ∷ drop (suc i) xs → take (suc i) xs ≡ take i xs ++ x ∷ []
@@ -105,8 +89,7 @@ next_taken {X} (y ∷ ys) zero x h = let is : y ≡ x = cc in ap (λ (z : X). z 
 next_taken {X} (y ∷ ys) (suc i) x h = ap (λ (zs : List X). y ∷ zs) (next_taken ys i x h)
 
 took : {X : Type 0} (xs : List X) (i : ℕ) (x : X) → drop i xs ≡ x ∷ drop (i + 1) xs → take (i + 1) xs ≡ take i xs ++ x ∷ []
-took {X} xs i x h =
-    ap (λ k. take k xs) (add-one i) ∙ next_taken xs i x (h ∙ ap (λ k. x ∷ drop k xs) (add-one i))
+took {X} xs i x h = grind (arith, add-one, next_taken)
 
 blocks_more : (cs : List Extent) (c : Extent) → all_blocks (cs ++ c ∷ []) ≡ all_blocks cs + blocks c.size
 blocks_more [] c = all_blocks-cons c [] ∙ omega arith
@@ -123,27 +106,14 @@ pub record LaidSoFar (all : List Extent) (count : ℕ) (starts : List ℕ) (bloc
 
 -- at first no code is laid out, and the next begins in block 1
 pub laid_none : (all : List Extent) → Ascend 0 all → LaidSoFar all 0 [] 1 0
-laid_none all h = record {
-  left = left_start all h;
-  few = omega arith;
-  small = omega arith;
-  many = refl;
-  begins = refl;
-  blocks = refl;
-}
+laid_none all h = grind arith
 
 laid_here : (all : List Extent) (count : ℕ) (starts : List ℕ) (block from : ℕ) (c : Extent) → drop count all ≡ c ∷ drop (count + 1) all → LaidSoFar all count starts block from → Left all from block (c ∷ drop (count + 1) all)
 laid_here all count starts block from c is h = subst (λ (cs : List Extent). Left all from block cs) is h.left
 
 -- where a code is left, fewer than sixteen are laid out, and its first block is a word
 pub laid_next : (all : List Extent) (count : ℕ) (starts : List ℕ) (block from : ℕ) (c : Extent) → drop count all ≡ c ∷ drop (count + 1) all → LaidSoFar all count starts block from → (count < 16) × (block ≤ MAX_WORD)
-laid_next all count starts block from c is h =
-    let at = laid_here all count starts block from c is h in
-    let low : from ≤ c.slot = at.ascend.0 in
-    let high : c.slot < 16 = at.ascend.1 in
-    let few = h.few in
-    let small = h.small in
-    (omega arith, omega arith)
+laid_next all count starts block from c is h = grind arith
 
 -- with one code more laid out, its start is the block that was reached, and the next begins after
 -- its blocks
@@ -176,8 +146,4 @@ laid_more all count starts block from c is size h =
 -- was reached is
 -- the number of all blocks, the dictionary's counted
 pub laid_done : (all : List Extent) (count : ℕ) (starts : List ℕ) (block from : ℕ) → length all ≤ count → LaidSoFar all count starts block from → (starts ≡ starts_of all) × (block ≡ 1 + all_blocks all)
-laid_done all count starts block from le h =
-    let whole : take count all ≡ all = take_all count all le in (
-      h.begins ∙ ap (λ (cs : List Extent). map (λ (c : Extent). block_of all c.slot) cs) whole,
-      h.blocks ∙ ap (λ (cs : List Extent). 1 + all_blocks cs) whole,
-    )
+laid_done all count starts block from le h = grind (arith, take_all)

@@ -1,12 +1,10 @@
 -- The sixteen pairs of a segment dictionary, byte by byte.
-use Rattle.std.proofs.Common.{◌≡◌, ◌≢◌, ℕ, zero, suc, ◌+◌, ◌-◌, ◌*◌, ◌/◌, ◌%◌, ◌≤◌, ◌<◌, ◌==◌, List, [], ◌∷◌, ◌++◌, length, get_or, drop, replicate, Option, Some, None, refl, sym, ◌∙◌, ap, subst, inl, inr, arith, length-append}
-use Rattle.std.specs.List.{flat_map, range_with_len, find}
-use Rattle.std.specs.Option.{option_map_or}
+use Rattle.std.proofs.Common.{◌≡◌, ◌≢◌, ℕ, zero, suc, ◌+◌, ◌-◌, ◌*◌, ◌/◌, ◌%◌, ◌≤◌, ◌<◌, List, [], ◌∷◌, ◌++◌, length, get_or, drop, replicate, sym, ◌∙◌, ap, subst, inl, inr, arith, length-append}
+use Rattle.std.specs.List.{flat_map, range_with_len}
 use Rattle.std.proofs.lemmas.Bool.{cases_lt}
 use Rattle.std.proofs.lemmas.List.{get_or-replicate, length-replicate, get_or_append_left, get_or-append_right, ext_get_or, drop_all}
 use Rattle.ps_words.specs.Words.{word_bytes, blocks}
 use Rattle.ps_words.specs.declared.order.Order.{Order}
-use Rattle.ps_words.specs.declared.order.Order.TheVariants.{Little, Big}
 use Rattle.ps_codefile.specs.Dictionary.{slots}
 use Rattle.ps_linkfile.specs.LinkedFile.{Extent, block_of, pair_of, all_pairs}
 use Rattle.ps_linkfile.specs.Writing.{Ascend}
@@ -15,12 +13,7 @@ use Rattle.ps_linkfile.proofs.Extents.{Left, left_start, left_more, first_block,
 -- place j of what f gives of the s-th number, where it gives four bytes of each
 pub four_at : (f : ℕ → List ℕ) → ((s : ℕ) → length (f s) ≡ 4) → (n a s j : ℕ) → s < n → j < 4 → get_or (flat_map f (range_with_len a n)) (4 * s + j) 0 ≡ get_or (f (a + s)) j 0
 four_at f h zero a s j k l = absurd (omega arith)
-four_at f h (suc n) a zero j k l =
-    let len : length (f a) ≡ 4 = h a in
-    let at : 4 * zero + j ≡ j = omega arith in
-    let is : a ≡ a + zero = omega arith in
-    ap (λ i. get_or (f a ++ flat_map f (range_with_len (a + 1) n)) i 0) at
-    ∙ (get_or_append_left (f a) (flat_map f (range_with_len (a + 1) n)) 0 j (omega arith) ∙ ap (λ i. get_or (f i) j 0) is)
+four_at f h (suc n) a zero j k l = grind (arith, get_or_append_left)
 four_at f h (suc n) a (suc s) j k l =
     let rest = flat_map f (range_with_len (a + 1) n) in
     let at : 4 * suc s + j - 4 ≡ 4 * s + j = omega arith in
@@ -35,17 +28,9 @@ four_each f h (suc n) a =
     let rest = four_each f h n (a + 1) in
     length-append (f a) (flat_map f (range_with_len (a + 1) n)) ∙ omega (arith, h a, rest)
 
-word_two : (order : Order) (v : ℕ) → length (word_bytes order v) ≡ 2
-word_two Little v = refl
-word_two Big v = refl
-
 -- the pair of a slot has four bytes
 pub pair_four : (order : Order) (all : List Extent) (slot : ℕ) → length (pair_of order all slot) ≡ 4
-pair_four order all slot = at (find (λ (c : Extent). c.slot == slot) all)
-  where
-    at : (o : Option Extent) → length (option_map_or (λ c. word_bytes order (block_of all slot) ++ word_bytes order c.size) o (0 ∷ 0 ∷ 0 ∷ 0 ∷ [])) ≡ 4
-    at None = refl
-    at (Some c) = length-append (word_bytes order (block_of all slot)) (word_bytes order c.size) ∙ omega (arith, word_two order (block_of all slot), word_two order c.size)
+pair_four order all slot = grind arith
 
 -- the sixteen pairs, slot by slot and byte by byte
 pub pairs_at : (order : Order) (all : List Extent) (slot j : ℕ) → slot < 16 → j < 4 → get_or (flat_map (pair_of order all) slots) (4 * slot + j) 0 ≡ get_or (pair_of order all slot) j 0
@@ -74,47 +59,16 @@ pub record IsPut (order : Order) (old new : List ℕ) (place v : ℕ) : Type 0 w
   pub others : (p : ℕ) → p ≢ place → p ≢ place + 1 → get_or new p 0 ≡ get_or old p 0
   pub size : length new ≡ length old
 
--- the bytes of two words one after another
-low_first : (order : Order) (a b : ℕ) → get_or (word_bytes order a) 0 0 ≡ get_or (word_bytes order a ++ word_bytes order b) 0 0
-low_first Little a b = refl
-low_first Big a b = refl
-
-low_second : (order : Order) (a b : ℕ) → get_or (word_bytes order a) 1 0 ≡ get_or (word_bytes order a ++ word_bytes order b) 1 0
-low_second Little a b = refl
-low_second Big a b = refl
-
-high_first : (order : Order) (a b : ℕ) → get_or (word_bytes order b) 0 0 ≡ get_or (word_bytes order a ++ word_bytes order b) 2 0
-high_first Little a b = refl
-high_first Big a b = refl
-
-high_second : (order : Order) (a b : ℕ) → get_or (word_bytes order b) 1 0 ≡ get_or (word_bytes order a ++ word_bytes order b) 3 0
-high_second Little a b = refl
-high_second Big a b = refl
-
 -- a pair is two words
 pair_put : (order : Order) (old mid new : List ℕ) (pair a b j : ℕ) → IsPut order old mid pair a → IsPut order mid new (pair + 2) b → j < 4 → get_or new (pair + j) 0 ≡ get_or (word_bytes order a ++ word_bytes order b) j 0
-pair_put order old mid new pair a b zero h k lt =
-    let at : pair + zero ≡ pair = omega arith in
-    ap (λ i. get_or new i 0) at ∙ (k.others pair (omega arith) (omega arith) ∙ (h.first ∙ low_first order a b))
-pair_put order old mid new pair a b (suc zero) h k lt =
-    k.others (pair + 1) (omega arith) (omega arith) ∙ (h.second ∙ low_second order a b)
-pair_put order old mid new pair a b (suc (suc zero)) h k lt =
-    k.first ∙ high_first order a b
-pair_put order old mid new pair a b (suc (suc (suc zero))) h k lt =
-    let at : pair + 3 ≡ pair + 2 + 1 = omega arith in
-    ap (λ i. get_or new i 0) at ∙ (k.second ∙ high_second order a b)
-pair_put order old mid new pair a b (suc (suc (suc (suc j)))) h k lt = absurd (omega arith)
+pair_put order old mid new pair a b j h k m = grind arith
 
 abbrev four_zeros : List ℕ
 four_zeros = 0 ∷ 0 ∷ 0 ∷ 0 ∷ []
 
 -- each of four zeros is 0, and so is what a read past them gives
 zeros_at : (j : ℕ) → get_or four_zeros j 0 ≡ 0
-zeros_at zero = refl
-zeros_at (suc zero) = refl
-zeros_at (suc (suc zero)) = refl
-zeros_at (suc (suc (suc zero))) = refl
-zeros_at (suc (suc (suc (suc j)))) = refl
+zeros_at j = grind arith
 
 -- the pairs of the first so many codes are stored, and the rest are zeros
 pub record PairsSoFar (order : Order) (all : List Extent) (count : ℕ) (pairs : List ℕ) (block from : ℕ) : Type 0 where

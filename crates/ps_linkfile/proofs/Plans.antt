@@ -1,26 +1,20 @@
 -- A plan of a link can be written, and its file is the linked file.
-use Rattle.std.proofs.Common.{◌≡◌, ℕ, ◌+◌, ◌*◌, ◌≤◌, ◌<◌, List, [], ◌∷◌, ◌++◌, length, map, Bool, true, false, cond, refl, sym, ◌∙◌, ap, subst}
+use Rattle.std.proofs.Common.{arith, ◌≡◌, ℕ, ◌+◌, ◌≤◌, ◌<◌, List, [], ◌∷◌, ◌++◌, length, map, refl, sym, ◌∙◌, ap, subst}
 use Rattle.std.proofs.lemmas.List.{length-map}
-use Rattle.std.specs.Prelude.{All, nat_lt}
-use Rattle.std.specs.List.{range_with_len, flat_map}
-use Rattle.std.proofs.lemmas.Bool.{ltb-true}
+use Rattle.std.specs.Prelude.{All}
+use Rattle.std.specs.List.{flat_map}
 use Rattle.std.proofs.lemmas.List.Elements.{All-nil, All-cons, All-head, All-tail}
-use Rattle.ps_words.specs.Words.{blocks}
 use Rattle.ps_words.specs.Edits.{patched_byte}
 use Rattle.ps_words.specs.declared.order.Order.{Order}
 use Rattle.ps_words.specs.declared.edit.Edit.{Edit}
 use Rattle.ps_codefile.specs.Dictionary.{block_len}
-use Rattle.ps_codefile.specs.declared.code_layout.TheConstants.{MAX_CODE_LEN}
 use Rattle.ps_resolve.specs.Added.{segments, slot_names}
-use Rattle.ps_linkinfo.specs.RecordCounts.{next_of}
-use Rattle.ps_resolve.specs.Privates.{private_words, total_words}
-use Rattle.ps_resolve.specs.Sources.{Segment, order_of, host_records}
+use Rattle.ps_resolve.specs.Privates.{private_words}
+use Rattle.ps_resolve.specs.Sources.{Segment, order_of}
 use Rattle.ps_resolve.specs.References.{Known}
-use Rattle.ps_resolve.specs.Linking.{Edited, edited_from, known_of, segment_edits}
-use Rattle.ps_resolve.specs.Plans.{Planned, Origin, origin_of, LinkSegments, IsPlan}
-use Rattle.ps_patch.specs.Patched.{patched_or_zero}
-use Rattle.ps_linkfile.specs.declared.summary.Summary.{Summary}
-use Rattle.ps_linkfile.specs.LinkedFile.{Extent, extent_of, extents, all_blocks, linked_segments, dictionary, padded_code, padded_segment, linked_file, summary_of}
+use Rattle.ps_resolve.specs.Linking.{Edited, edited_from, segment_edits}
+use Rattle.ps_resolve.specs.Plans.{Planned, origin_of, LinkSegments, IsPlan}
+use Rattle.ps_linkfile.specs.LinkedFile.{Extent, extent_of, extents, linked_segments, padded_code, padded_segment, linked_file, summary_of}
 use Rattle.ps_linkfile.specs.Writing.{extent_of_origin, extents_in, padded_codes, file_in, summary_in, Ascend, HaveEdits, IsReady}
 use Rattle.ps_linkfile.proofs.Slots.{extent_at, segments_ascend, segments_small}
 
@@ -41,10 +35,7 @@ extents_are host libs = refl
 
 -- the extents of the linked segments with their edits are those of the link
 pub edited_extents : (host : List ℕ) (libs : List (List ℕ)) → map extent_of_edited (linked_segments host libs) ≡ extents host libs
-edited_extents host libs =
-    let order = order_of host in
-    let ss = segments order host libs in
-    of_edited order (known_of ss) (total_words ss) (next_of (host_records ss)) ss
+edited_extents host libs = grind (arith, of_edited)
 
 -- what holds of each segment with its edits holds of each segment, and the other way round
 pub of_all_edited : (P : Segment → Type 0) (order : Order) (known : Known) (words free : ℕ) (ss : List Segment) → All (λ (e : Edited). P e.segment) (edited_from order known words free ss) → All P ss
@@ -67,83 +58,44 @@ extents_ascend host libs = subst (λ (cs : List Extent). Ascend 0 cs) (sym (exte
 -- each source has its own edits
 have_edits : (order : Order) (known : Known) (words free : ℕ) (ss : List Segment) (ds : List (List Edit)) → LinkSegments order (edited_from order known words free ss) ds → HaveEdits (map origin_of ss) ds
 have_edits order known words free [] [] h = tt
-have_edits order known words free [] (d ∷ ds) h = absurd h
-have_edits order known words free (s ∷ ss) [] h = absurd h
 have_edits order known words free (s ∷ ss) (d ∷ ds) h = (h.0.ready, have_edits order known words (free + private_words s.records) ss ds h.1)
+have_edits order known words free ss ds h = absurd h
 
 -- codes that are patched alike are padded alike
 pub map_alike : {Y : Type 0} (f g : ℕ → Y) → ((p : ℕ) → f p ≡ g p) → (xs : List ℕ) → map f xs ≡ map g xs
-map_alike f g h [] = refl
-map_alike {Y} f g h (x ∷ xs) = ap (λ (y : Y). y ∷ map f xs) (h x) ∙ ap (λ (ys : List Y). g x ∷ ys) (map_alike f g h xs)
-
-tested : (b : Bool) (x y : ℕ) → (b ≡ true → x ≡ y) → cond b x 0 ≡ cond b y 0
-tested true x y h = h refl
-tested false x y h = refl
+map_alike f g h xs = grind arith
 
 -- where two lists of edits leave the same byte at each place of a code, they leave the same whole
 -- blocks
 padded_alike : (order : Order) (code : List ℕ) (d e : List Edit) → ((p : ℕ) → p < length code → patched_byte order code d p ≡ patched_byte order code e p) → padded_code order code d ≡ padded_code order code e
-padded_alike order code d e h =
-    map_alike (patched_or_zero order code d) (patched_or_zero order code e)
-    (λ p. tested (nat_lt p (length code)) (patched_byte order code d p) (patched_byte order code e p) (λ within. h p (ltb-true p (length code) within)))
-    (range_with_len 0 (512 * blocks (length code)))
+padded_alike order code d e h = grind arith
 
 -- with edits that link the segments, the padded codes of the segments' origins are those of the
 -- linked segments
 codes_are : (order : Order) (known : Known) (words free : ℕ) (ss : List Segment) (ds : List (List Edit)) → LinkSegments order (edited_from order known words free ss) ds → padded_codes order (map origin_of ss) ds ≡ flat_map (padded_segment order) (edited_from order known words free ss)
 codes_are order known words free [] [] h = refl
-codes_are order known words free [] (d ∷ ds) h = absurd h
-codes_are order known words free (s ∷ ss) [] h = absurd h
 codes_are order known words free (s ∷ ss) (d ∷ ds) h =
     ap (λ (bs : List ℕ). bs ++ padded_codes order (map origin_of ss) ds) (padded_alike order s.code d (segment_edits order known words free s) h.0.bytes)
     ∙ ap (λ (bs : List ℕ). padded_code order s.code (segment_edits order known words free s) ++ bs) (codes_are order known words (free + private_words s.records) ss ds h.1)
+codes_are order known words free ss ds h = absurd h
 
 -- of a plan of a link
 pub plan_extents : (host : List ℕ) (libs : List (List ℕ)) (plan : Planned) → IsPlan host libs plan → extents_in plan ≡ extents host libs
-plan_extents host libs plan h =
-    ap (λ (os : List Origin). map extent_of_origin os) h.origins ∙ (of_origins (segments (order_of host) host libs) ∙ sym (extents_are host libs))
+plan_extents host libs plan h = grind (arith, of_origins, extents_are)
 
 -- the padded codes of a plan of a link are those of the link's segments with their edits
 plan_codes : (host : List ℕ) (libs : List (List ℕ)) (plan : Planned) → IsPlan host libs plan → padded_codes plan.order plan.origins plan.edits ≡ flat_map (padded_segment (order_of host)) (linked_segments host libs)
-plan_codes host libs plan h =
-    let order = order_of host in
-    let ss = segments order host libs in
-    ap (λ (o : Order). padded_codes o plan.origins plan.edits) h.order
-    ∙ (ap (λ (os : List Origin). padded_codes order os plan.edits) h.origins
-    ∙ codes_are order (known_of ss) (total_words ss) (next_of (host_records ss)) ss plan.edits h.edits)
+plan_codes host libs plan h = grind (arith, codes_are)
 
 -- the file of a plan of a link is the linked file
 pub plan_file : (host : List ℕ) (libs : List (List ℕ)) (plan : Planned) → IsPlan host libs plan → file_in plan ≡ linked_file host libs
-plan_file host libs plan h =
-    let codes = padded_codes plan.order plan.origins plan.edits in
-    ap (λ (o : Order). dictionary o plan.names plan.host (extents_in plan) ++ codes) h.order
-    ∙ (ap (λ (names : List (List ℕ)). dictionary (order_of host) names plan.host (extents_in plan) ++ codes) h.names
-    ∙ (ap (λ (bytes : List ℕ). dictionary (order_of host) (slot_names host (segments (order_of host) host libs)) bytes (extents_in plan) ++ codes) h.of_host
-    ∙ (ap (λ (cs : List Extent). dictionary (order_of host) (slot_names host (segments (order_of host) host libs)) host cs ++ codes) (plan_extents host libs plan h)
-    ∙ ap (λ (bs : List ℕ). dictionary (order_of host) (slot_names host (segments (order_of host) host libs)) host (extents host libs) ++ bs) (plan_codes host libs plan h))))
+plan_file host libs plan h = grind (arith, plan_extents, plan_codes)
 
 -- a plan of a link whose host has a whole dictionary can be written
 pub plan_ready : (host : List ℕ) (libs : List (List ℕ)) (plan : Planned) → IsPlan host libs plan → block_len ≤ length plan.host → IsReady plan
 unfolding slot_names
-plan_ready host libs plan h long =
-    let order = order_of host in
-    let ss = segments order host libs in
-    let is : extents_in plan ≡ map extent_at ss = plan_extents host libs plan h ∙ extents_are host libs in
-    record {
-      host = long;
-      names = ap (λ (names : List (List ℕ)). length names) h.names;
-      slots = subst (λ (cs : List Extent). Ascend 0 cs) (sym is) (segments_ascend order host libs);
-      sizes = subst (λ (cs : List Extent). All (λ c. c.size ≤ MAX_CODE_LEN) cs) (sym is) (segments_small order host libs);
-      edits = subst (λ (os : List Origin). HaveEdits os plan.edits) (sym h.origins) (have_edits order (known_of ss) (total_words ss) (next_of (host_records ss)) ss plan.edits h.edits);
-    }
+plan_ready host libs plan h long = grind (arith, extent_at, plan_extents, extents_are, segments_ascend, segments_small, have_edits)
 
 -- the summary of a plan of a link is that of the link
 pub plan_summary : (host : List ℕ) (libs : List (List ℕ)) (plan : Planned) → IsPlan host libs plan → summary_in plan ≡ summary_of host libs
-plan_summary host libs plan h =
-    let words = total_words (segments (order_of host) host libs) in
-    let made : ℕ → ℕ → ℕ → Summary = λ n w b. record { segments = n; private_words = w; blocks = b } in
-    let count : length plan.origins ≡ length (extents host libs) = sym (length-map plan.origins extent_of_origin) ∙ ap (λ (cs : List Extent). length cs) (plan_extents host libs plan h) in
-    let sum_is : 1 + all_blocks (extents_in plan) ≡ 1 + all_blocks (extents host libs) = ap (λ (cs : List Extent). 1 + all_blocks cs) (plan_extents host libs plan h) in
-    ap (λ n. made n plan.private_words (1 + all_blocks (extents_in plan))) count
-    ∙ (ap (λ w. made (length (extents host libs)) w (1 + all_blocks (extents_in plan))) h.private_words
-    ∙ ap (λ b. made (length (extents host libs)) words b) sum_is)
+plan_summary host libs plan h = grind (arith, length-map, plan_extents)

@@ -1,7 +1,6 @@
 -- How the counts of a writer rise while a file is written.
-use Rattle.std.proofs.Common.{◌≡◌, ◌≢◌, ◌∙◌, ℕ, ◌+◌, ◌*◌, ◌-◌, ◌≤◌, ◌<◌, List, [], ◌∷◌, length, map, drop, Ok, ap, subst, refl, arith}
+use Rattle.std.proofs.Common.{rules, ◌≡◌, ◌≢◌, ◌∙◌, ℕ, ◌+◌, ◌*◌, ◌-◌, ◌≤◌, ◌<◌, List, [], ◌∷◌, length, map, drop, Ok, ap, refl, arith}
 use Rattle.std.specs.Prelude.{All, min}
-use Rattle.std.proofs.lemmas.Bool.Decides.{nat_tests}
 use Rattle.std.specs.declared.io.Error.{Error}
 use Rattle.ps_words.specs.Words.{blocks}
 use Rattle.ps_codefile.specs.declared.code_layout.TheConstants.{MAX_CODE_LEN}
@@ -10,7 +9,6 @@ use Rattle.ps_linkfile.specs.Counts.{AreAtMost, CanCount, counts_after, Rises, N
 use Rattle.ps_resolve.specs.Plans.{Origin}
 use Rattle.ps_linkfile.specs.declared.counts.Counts.{Counts}
 use Rattle.ps_linkfile.specs.declared.error.WriteFault.{WriteFault}
-use Rattle.ps_linkfile.specs.declared.error.WriteFault.TheVariants.{Device, Stalled}
 use Rattle.ps_linkfile.specs.LinkedFile.{Extent, all_blocks}
 use Rattle.ps_linkfile.specs.Writing.{extent_of_origin, Ascend}
 use Rattle.ps_linkfile.proofs.Extents.{all_blocks-cons, few_codes, few_blocks}
@@ -26,58 +24,34 @@ pub record Progress (old new : Counts) (size i : ℕ) : Type 0 where
 
 -- a write took some of those that were left
 pub progress : (old mid : Counts) (size i taken left : ℕ) → Progress old mid size i → i < size → left ≡ size - i → taken ≤ left → taken ≢ 0 → Progress old (counts_after {E = Error} mid left (Ok taken)) size (i + taken)
-progress old mid size i taken left h lt is le ne = record {
-  by_bytes = grind (arith, nat_tests);
-  by_pieces = grind (arith, nat_tests);
-  unfinished = λ more. grind (arith, nat_tests);
-  shorts = grind (arith, nat_tests);
-  errors = h.errors;
-  stalls = grind (arith, nat_tests);
-}
+progress old mid size i taken left h lt is le ne = grind arith
 
 pub rises_none : (c : Counts) → Rises c c 0 0
 rises_none c = record { by_bytes = omega arith; by_pieces = omega arith; shorts = omega arith }
 
 -- some pieces, and then more, of a file that has still more
 pub rises_then : (a b c : Counts) (m x n y size pieces : ℕ) → Rises a b m x → Rises b c n y → m + n ≤ size → x + y ≤ pieces → Rises a c size pieces
-rises_then a b c m x n y size pieces h k le few = record {
-  by_bytes = omega (arith, h.by_bytes, k.by_bytes, le);
-  by_pieces = omega (arith, h.by_pieces, k.by_pieces, few);
-  shorts = omega (arith, h.shorts, k.shorts, le);
-}
+rises_then a b c m x n y size pieces h k le few = grind arith
 
 pub none_after : (a b c : Counts) → NoneFailed a b → NoneFailed b c → NoneFailed a c
 none_after a b c h k = record { errors = k.errors ∙ h.errors; stalls = k.stalls ∙ h.stalls }
 
 pub one_after : (a b c : Counts) (fault : WriteFault) → NoneFailed a b → OneFailed fault b c → OneFailed fault a c
-one_after a b c (Device error) h k = record { errors = omega (arith, h.errors, k.errors); stalls = k.stalls ∙ h.stalls }
-one_after a b c Stalled h k = record { errors = k.errors ∙ h.errors; stalls = omega (arith, h.stalls, k.stalls) }
+one_after a b c fault h k = grind arith
 
 pub if_device : (old new : Counts) (fault : WriteFault) → OneFailed fault old new → IfDevice fault (OneError old new)
-if_device old new (Device error) h = h
-if_device old new Stalled h = tt
+if_device old new fault h = grind arith
 
 pub if_stalled : (old new : Counts) (fault : WriteFault) → OneFailed fault old new → IfStalled fault (OneStall old new)
-if_stalled old new (Device error) h = tt
-if_stalled old new Stalled h = h
+if_stalled old new fault h = grind arith
 
 -- small counts have room for a file
 pub room_for : (c : Counts) (n : ℕ) → AreAtMost c 4294967296 → n ≤ 4294967296 → CanCount c n
-room_for c n h le = record {
-  writes = omega (arith, h.writes, le);
-  errors = omega (arith, h.errors, le);
-  stalls = omega (arith, h.stalls, le);
-  shorts = omega (arith, h.shorts, le);
-}
+room_for c n h le = grind arith
 
 -- room that is left after some pieces
 pub room_left : (a b : Counts) (size m x n : ℕ) → CanCount a size → Rises a b m x → NoneFailed a b → m + n ≤ size → CanCount b n
-room_left a b size m x n room h none le = record {
-  writes = omega (arith, room.writes, h.by_bytes, le);
-  errors = omega (arith, room.errors, none.errors, le);
-  stalls = omega (arith, room.stalls, none.stalls, le);
-  shorts = omega (arith, room.shorts, h.shorts, le);
-}
+room_left a b size m x n room h none le = grind arith
 
 -- a file has few blocks
 pub few_of_all : (cs : List Extent) → Ascend 0 cs → All (λ c. c.size ≤ MAX_CODE_LEN) cs → 1 + all_blocks cs ≤ MAX_FILE_BLOCKS
@@ -106,16 +80,7 @@ blocks_none os c = record { sum = omega arith; rises = rises_none c; none = reco
 -- the blocks of one source more
 pub blocks_more : (os : List Origin) (count n : ℕ) (o : Origin) (a b c : Counts) → drop count os ≡ o ∷ drop (count + 1) os → BlocksSoFar os count n a b
     → Rises b c (512 * blocks (length o.code)) (blocks (length o.code)) → NoneFailed b c → BlocksSoFar os (count + 1) (n + blocks (length o.code)) a c
-blocks_more os count n o a b c at h k none =
-    let one = blocks (length o.code) in
-    record {
-      sum = next_blocks os count n o at h.sum;
-      rises = rises_then a b c (512 * n) n (512 * one) one (512 * (n + one)) (n + one) h.rises k (distributes n one) (omega arith);
-      none = none_after a b c h.none none;
-    }
-  where
-    distributes : (x y : ℕ) → 512 * x + 512 * y ≤ 512 * (x + y)
-    distributes x y = omega arith
+blocks_more os count n o a b c at h k none = search (rules, next_blocks, rises_then, none_after)
 
 -- some blocks of one source more, at which the file stops
 pub blocks_stop : (os : List Origin) (count n : ℕ) (o : Origin) (a b c : Counts) → drop count os ≡ o ∷ drop (count + 1) os → BlocksSoFar os count n a b
@@ -140,7 +105,4 @@ blocks_room os count n o a b at h room =
 
 -- all are written
 pub blocks_done : (os : List Origin) (count n : ℕ) (a b : Counts) → drop count os ≡ [] → BlocksSoFar os count n a b → Rises a b (512 * blocks_in os) (blocks_in os)
-blocks_done os count n a b at h = subst (λ (m : ℕ). Rises a b (512 * m) m) (sum n (blocks_in (drop count os)) (blocks_in os) (ap blocks_in at) h.sum) h.rises
-  where
-    sum : (n rest all : ℕ) → rest ≡ 0 → n + rest ≡ all → n ≡ all
-    sum n rest all h k = omega arith
+blocks_done os count n a b at h = grind arith

@@ -1,6 +1,6 @@
 -- The order of a file that is shown, and its lines: those of a list of slots, and those of a walk
 -- over records.
-use Rattle.std.proofs.Common.{◌≡◌, ℕ, suc, ◌+◌, ◌-◌, ◌<◌, ◌≤◌, List, [], ◌∷◌, ◌++◌, length, length-append, map, append_assoc, append-nil, Bool, true, false, if◌then◌else◌, Option, Some, None, Result, Ok, Err, refl, sym, ◌∙◌, ap, arith}
+use Rattle.std.proofs.Common.{◌≡◌, ℕ, suc, ◌+◌, ◌-◌, ◌<◌, ◌≤◌, List, [], ◌∷◌, ◌++◌, length, length-append, map, append_assoc, append-nil, Bool, true, if◌then◌else◌, Option, Some, None, Result, Ok, Err, refl, sym, ◌∙◌, ap, arith}
 use Rattle.std.specs.List.{flat_map, filter, enumerate_from, range_with_len}
 use Rattle.ps_words.specs.FaultPlaces.{in_file}
 use Rattle.std.specs.Prelude.{codes}
@@ -8,7 +8,7 @@ use Rattle.ps_words.specs.declared.order.Order.{Order}
 use Rattle.ps_words.specs.declared.order.Order.TheVariants.{Little}
 use Rattle.ps_words.specs.declared.fault.Reason.{Reason}
 use Rattle.ps_words.specs.declared.fault.Reason.TheVariants as reason
-use Rattle.ps_codefile.specs.Dictionary.{OpenedFile, FileOrder, Zero, Ordered, Mixed, file_order, opened_as, opened_beside_as, entry_at, code_of, information_of}
+use Rattle.ps_codefile.specs.Dictionary.{OpenedFile, FileOrder, Zero, Ordered, file_order, opened_as, opened_beside_as, entry_at, code_of, information_of}
 use Rattle.ps_linkinfo.specs.Records.{reading}
 use Rattle.ps_linkinfo.specs.Left.{items_of}
 use Rattle.ps_linkinfo.specs.declared.record.LinkRecord.{LinkRecord as Record}
@@ -24,27 +24,17 @@ pub record Shows (short : Bool) (of : FileOrder) (file : List ℕ) (shown : File
 
 -- a file that is opened by itself shows the order in which its words are read
 pub read_shows : (short : Bool) (of : FileOrder) (file : List ℕ) (o : OpenedFile) → (if short then Err reason.ShortFile else opened_as file of) ≡ Ok o → Shows short of file (Ordered o.order) o
-read_shows true of file o h = cc
-read_shows false Zero file o h = cc
-read_shows false (Ordered order) file o h =
-    let is : o ≡ record { order = order; file = file } = cc in
-    record { order = ap (λ (q : OpenedFile). Ordered q.order) is; dict = is; sound = refl }
-read_shows false Mixed file o h = cc
+read_shows short of file o h = grind arith
 
 -- a file that is not opened by itself, but beside a little-endian one, shows no order
 pub beside_shows : (short : Bool) (of : FileOrder) (file : List ℕ) (why : Reason) (o : OpenedFile) → (if short then Err reason.ShortFile else opened_as file of) ≡ Err why
     → (if short then Err reason.ShortFile else opened_beside_as Little file of) ≡ Ok o → Shows short of file Zero o
-beside_shows true of file why o h k = cc
-beside_shows false Zero file why o h k = record { order = refl; dict = cc; sound = refl }
-beside_shows false (Ordered order) file why o h k = cc
-beside_shows false Mixed file why o h k = cc
+beside_shows short of file why o h k = grind arith
 
 -- where it is not opened beside one either, the reason for that is why it cannot be shown
 pub beside_fault : (short : Bool) (of : FileOrder) (file : List ℕ) (why other : Reason) → (if short then Err reason.ShortFile else opened_as file of) ≡ Err why
     → (if short then Err reason.ShortFile else opened_beside_as Little file of) ≡ Err other → (if short then Some (in_file 0 reason.ShortFile) else order_fault of) ≡ Some (in_file 0 other)
-beside_fault true of file why other h k = cc
-beside_fault false Zero file why other h k = cc
-beside_fault false kind file why other h k = cc
+beside_fault short of file why other h k = grind arith
 
 pub shown_is : (file : List ℕ) (found : FileOrder) (o : OpenedFile) → found ≡ file_order file → o ≡ record { order = known_order (file_order file); file = file } → shown_file found o.order o.file ≡ show_of file
 unfolding show_of
@@ -64,18 +54,14 @@ names_more {X} test name xs new all i n lt h e =
     rest = range_with_len (i + 1) (n - (i + 1))
 
     by : (b : Bool) → test i ≡ b → (if test i then name i ∷ [] else []) ++ map name (filter test rest) ≡ map name (filter test (i ∷ rest))
-    by true p = rw p refl
-    by false p = rw p refl
+    by b h = grind arith
 
 -- where no number is left, the names so far are all of them
 pub names_over : {X : Type 0} (test : ℕ → Bool) (name : ℕ → X) (xs all : List X) (i n : ℕ) → n ≤ i → xs ++ map name (filter test (range_with_len i (n - i))) ≡ all → xs ≡ all
-names_over {X} test name xs all i n le h =
-    let left : n - i ≡ 0 = omega arith in
-    sym (append-nil xs) ∙ (ap (λ (k : ℕ). xs ++ map name (filter test (range_with_len i k))) (sym left) ∙ h)
+names_over {X} test name xs all i n le h = grind (arith, append-nil)
 
 pub few_more : {X : Type 0} (b : Bool) (x : X) (xs new : List X) (i : ℕ) → length xs ≤ i → new ≡ xs ++ (if b then x ∷ [] else []) → length new ≤ i + 1
-few_more {X} true x xs new i h e = omega (arith, ap (λ (ys : List X). length ys) e, length-append xs (x ∷ []))
-few_more {X} false x xs new i h e = omega (arith, ap (λ (ys : List X). length ys) e, length-append xs [])
+few_more b x xs new i h k = grind (arith, length-append)
 
 -- the lines of items in a file with these units, the first of which has the index rec
 abbrev pub item_lines : List (List ℕ) → ℕ → List (Result Record Reason) → List ℕ
@@ -87,9 +73,7 @@ item_lines units rec (Err why ∷ items) = fault_line rec (Some why) ++ item_lin
 -- of its fault
 lines_of_items : (units : List (List ℕ)) (n : ℕ) (rs : List Record) (why : Option Reason) → item_lines units n (items_of (rs, why)) ≡ flat_map (record_line units) (enumerate_from n rs) ++ fault_line (n + length rs) why
 lines_of_items units n [] None = refl
-lines_of_items units n [] (Some why) =
-    let at : n ≡ n + 0 = omega arith in
-    append-nil (fault_line n (Some why)) ∙ ap (λ (k : ℕ). fault_line k (Some why)) at
+lines_of_items units n [] (Some why) = grind (arith, append-nil)
 lines_of_items units n (r ∷ rs) why =
     let at : n + 1 + length rs ≡ n + length (r ∷ rs) = omega arith in
     ap (λ (xs : List ℕ). record_line units (n, r) ++ xs) (lines_of_items units (n + 1) rs why ∙ ap (λ (k : ℕ). flat_map (record_line units) (enumerate_from (n + 1) rs) ++ fault_line k why) at)
@@ -97,9 +81,7 @@ lines_of_items units n (r ∷ rs) why =
 
 -- the lines of a reading's items are those of its records, and of its fault
 pub lines_of_reading : (units : List (List ℕ)) (read : List Record × Option Reason) → item_lines units 0 (items_of read) ≡ record_lines units read
-lines_of_reading units read =
-    let at : 0 + length read.0 ≡ length read.0 = omega arith in
-    lines_of_items units 0 read.0 read.1 ∙ ap (λ (k : ℕ). flat_map (record_line units) (enumerate_from 0 read.0) ++ fault_line k read.1) at
+lines_of_reading units read = grind (arith, lines_of_items)
 
 module _ (units : List (List ℕ)) (n : ℕ) (i : Result Record Reason) (old items : List (Result Record Reason)) where
   -- the line of a record, and those after it

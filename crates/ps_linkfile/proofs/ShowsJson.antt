@@ -27,18 +27,14 @@ walk_items units rec (Err why ∷ items) = fault_item rec (Some why) ++ walk_ite
 -- fault
 of_items : (units : List (List ℕ)) (n : ℕ) (rs : List Record) (why : Option Reason) → walk_items units n (items_of (rs, why)) ≡ flat_map (record_item units) (enumerate_from n rs) ++ fault_item (n + length rs) why
 of_items units n [] None = refl
-of_items units n [] (Some why) =
-    let at : n ≡ n + 0 = omega arith in
-    append-nil (fault_item n (Some why)) ∙ ap (λ (k : ℕ). fault_item k (Some why)) at
+of_items units n [] (Some why) = grind (arith, append-nil)
 of_items units n (r ∷ rs) why =
     let at : n + 1 + length rs ≡ n + length (r ∷ rs) = omega arith in
     ap (λ (xs : List ℕ). record_item units (n, r) ++ xs) (of_items units (n + 1) rs why ∙ ap (λ (k : ℕ). flat_map (record_item units) (enumerate_from (n + 1) rs) ++ fault_item k why) at)
     ∙ sym (append_assoc (record_item units (n, r)) (flat_map (record_item units) (enumerate_from (n + 1) rs)) (fault_item (n + length (r ∷ rs)) why))
 
 pub of_reading : (units : List (List ℕ)) (read : List Record × Option Reason) → walk_items units 0 (items_of read) ≡ record_items units read
-of_reading units read =
-    let at : 0 + length read.0 ≡ length read.0 = omega arith in
-    of_items units 0 read.0 read.1 ∙ ap (λ (k : ℕ). flat_map (record_item units) (enumerate_from 0 read.0) ++ fault_item k read.1) at
+of_reading units read = grind (arith, of_items)
 
 module _ (units : List (List ℕ)) (n : ℕ) (i : Result Record Reason) (old items : List (Result Record Reason)) where
   -- the item of a record, and those after it

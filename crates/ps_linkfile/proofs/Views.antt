@@ -1,5 +1,5 @@
 -- The sources of a plan, seen as codes of the file.
-use Rattle.std.proofs.Common.{◌≡◌, ℕ, ◌+◌, ◌≤◌, ◌<◌, List, [], ◌∷◌, length, map, get_or, drop, Some, false, refl, sym, ◌∙◌, ap, subst}
+use Rattle.std.proofs.Common.{arith, ◌≡◌, ℕ, ◌+◌, ◌≤◌, ◌<◌, List, [], ◌∷◌, length, map, get_or, drop, Some, false, refl, sym, ◌∙◌, ap, subst}
 use Rattle.std.specs.Prelude.{All, slice_get}
 use Rattle.std.proofs.lemmas.List.{drop-map, drop_more, length-map, get_or-map}
 use Rattle.std.proofs.lemmas.Option.{get_or_from_slice_get, slice_get_within}
@@ -21,8 +21,7 @@ no_source = record { slot = 0; file = 0; index = 0; linked = false; added = fals
 
 -- the item at a place of a list that f views
 pub view_at : {X Y : Type 0} (f : X → Y) (xs : List X) (i : ℕ) (d : X) → i < length xs → drop i (map f xs) ≡ f (get_or xs i d) ∷ drop (i + 1) (map f xs)
-view_at {X} {Y} f xs i d lt =
-    drop-map f i xs ∙ (ap (λ (ys : List X). map f ys) (drop_more xs i d lt) ∙ ap (λ (ys : List Y). f (get_or xs i d) ∷ ys) (sym (drop-map f (i + 1) xs)))
+view_at {X} {Y} f xs i d lt = grind (arith, drop-map, drop_more)
 
 -- the origins of a plan are those of its sources
 both_views : (ss : List Source) → map extent_of_origin (map origin_of_source ss) ≡ map extent_of_source ss
@@ -56,9 +55,7 @@ slot_at ss i h lt =
 
 -- the first block of its code, among those of all
 pub many_starts : (ss : List Source) (starts : List ℕ) → starts ≡ starts_of (map extent_of_source ss) → length starts ≡ length ss
-many_starts ss starts h =
-    let all = map extent_of_source ss in
-    ap (λ (bs : List ℕ). length bs) h ∙ (length-map all (λ (c : Extent). block_of all c.slot) ∙ length-map ss extent_of_source)
+many_starts ss starts h = grind (arith, length-map)
 
 -- the start at a source's place is the first block of the source's code
 pub start_at : (ss : List Source) (starts : List ℕ) (i : ℕ) → starts ≡ starts_of (map extent_of_source ss) → i < length ss → get_or starts i 0 ≡ block_of (map extent_of_source ss) (get_or ss i no_source).slot
@@ -75,7 +72,4 @@ got {X} xs i x h = drop_more xs i x (slice_get_within xs i x h) ∙ ap (λ (y : 
 
 -- a source and its edits
 pub is_at : (ss : List Source) (os : List Origin) (ds : List (List Edit)) (i : ℕ) (d : List Edit) → map origin_of_source ss ≡ os → i < length ss → slice_get ds i ≡ Some d → IsAt os ds i (origin_of_source (get_or ss i no_source)) d
-is_at ss os ds i d h lt k = record {
-  origin = source_at ss os i h lt;
-  edits = got ds i d k;
-}
+is_at ss os ds i d h lt k = grind (arith, source_at, got)

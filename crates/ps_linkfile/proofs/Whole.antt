@@ -24,7 +24,6 @@ use Rattle.ps_resolve.specs.Standing.Keys.{Step}
 use Rattle.ps_resolve.specs.Parts.{HasItsParts}
 use Rattle.ps_resolve.specs.Plans.{IsStopped}
 use Rattle.ps_resolve.specs.declared.linkage.Stop.{Stop}
-use Rattle.ps_resolve.specs.declared.linkage.Stop.TheVariants as stop
 use Rattle.ps_resolve.specs.Added.{segments, slot_names}
 use Rattle.ps_resolve.specs.Sources.{Segment, order_of, host_records}
 use Rattle.ps_resolve.specs.Linking.{Edited, known_of, linked_byte}
@@ -42,8 +41,7 @@ use Rattle.ps_resolve.proofs.FirstSlots.{neither_first}
 
 -- a part of a list, by its places
 part_at : (xs ys : List ℕ) (a b j : ℕ) → slice_range xs a b ≡ ys → j < b - a → get_or xs (a + j) 0 ≡ get_or ys j 0
-part_at xs ys a b j h lt =
-    sym (get_or-take (b - a) (drop a xs) j 0 lt ∙ get_or-drop a xs j 0) ∙ ap (λ (zs : List ℕ). get_or zs j 0) h
+part_at xs ys a b j h lt = grind (arith, get_or-take, get_or-drop)
 
 pub part_len : (xs : List ℕ) (a b : ℕ) → b ≤ length xs → length (slice_range xs a b) ≡ b - a
 part_len xs a b h = length-take (b - a) (drop a xs) ∙ omega (arith, length-drop a xs)
@@ -159,8 +157,7 @@ codes_laid order prefix block (e ∷ es) len =
     )
 
 whole_test : (short : Bool) (of : Result OpenedFile Reason) → option_map (in_file 0) (result_err (cond short (Err reason.ShortFile) of)) ≡ None → short ≡ false
-whole_test true of h = cc
-whole_test false of h = refl
+whole_test short of h = grind arith
 
 whole_host : (host : List ℕ) → host_fault host ≡ None → 512 ≤ length host
 whole_host host h = ltb-false (length host) 512 (whole_test (nat_lt (length host) 512) (opened_as host (file_order host)) h)
@@ -248,10 +245,7 @@ all_pairs_len order all = pairs_len order all
 -- so they are the dictionary
 pub dictionary_is : (order : Order) (all_names : List (List ℕ)) (host : List ℕ) (all : List Extent) (d pairs names tail : List ℕ) → d ≡ pairs ++ (names ++ (replicate 64 0 ++ tail)) → pairs ≡ all_pairs order all → names ≡ flat_map (λ name. name) all_names → tail ≡ slice_range host 256 512 → d ≡ dictionary order all_names host all
 unfolding dictionary
-dictionary_is order all_names host all d pairs names tail h p n t =
-    h ∙ (ap (λ (xs : List ℕ). xs ++ (names ++ (replicate 64 0 ++ tail))) p
-    ∙ (ap (λ (xs : List ℕ). all_pairs order all ++ (xs ++ (replicate 64 0 ++ tail))) n
-    ∙ ap (λ (xs : List ℕ). all_pairs order all ++ (flat_map (λ name. name) all_names ++ (replicate 64 0 ++ xs))) t))
+dictionary_is order all_names host all d pairs names tail h p n t = grind arith
 
 -- the facts of a linked file, of any codes
 pub record IsFile (order : Order) (names : List (List ℕ)) (host : List ℕ) (all : List Extent) (es : List Edited) (file : List ℕ) : Type 0 where
@@ -297,11 +291,7 @@ zero_at file h p le lt =
 
 -- pairs, names, 64 zeros and a tail of these lengths take one block
 head_len : (pairs names tail : List ℕ) → length pairs ≡ 64 → length names ≡ 128 → length tail ≡ 256 → length (pairs ++ (names ++ (replicate 64 0 ++ tail))) ≡ 512
-head_len pairs names tail a b c =
-    let zeros : length (replicate 64 0 ++ tail) ≡ 64 + length tail = length-append (replicate 64 0) tail ∙ ap (λ n. n + length tail) (length-replicate {A = ℕ} 64 0) in
-    let middle : length (names ++ (replicate 64 0 ++ tail)) ≡ length names + length (replicate 64 0 ++ tail) = length-append names (replicate 64 0 ++ tail) in
-    let whole : length (pairs ++ (names ++ (replicate 64 0 ++ tail))) ≡ length pairs + length (names ++ (replicate 64 0 ++ tail)) = length-append pairs (names ++ (replicate 64 0 ++ tail)) in
-    omega arith
+head_len pairs names tail a b c = grind (arith, replicate, length-append, length-replicate)
 
 whole_size : (head codes : List ℕ) (n : ℕ) → length head ≡ 512 → length codes ≡ 512 * n → length (head ++ codes) ≡ 512 * (1 + n)
 whole_size head codes n h k = length-append head codes ∙ omega (arith, h, k)
@@ -452,5 +442,4 @@ pub names_first : ((host : List ℕ) (libs : List (List ℕ)) (f : Fault) → fi
     → ((host : List ℕ) (libs : List (List ℕ)) (step : Step) (f : Fault) → FaultAt host libs step f → HasItsParts (order_of host) host libs f)
     → ((host : List ℕ) (libs : List (List ℕ)) → reading_fault host libs ≡ None → NoneStandsInReading host libs)
     → (host : List ℕ) (libs : List (List ℕ)) (why : Stop) → IsStopped host libs why → NamesFirst host libs (error_of why)
-names_first some parts read host libs (stop.Refused f) h = let first = some host libs f h in (first, parts host libs first.step f first.stands)
-names_first some parts read host libs stop.Memory h = read host libs h
+names_first h k m host libs why p = grind arith

@@ -1,4 +1,4 @@
-use Rattle.ps_resolve.specs.Sources.{order_of}
+use Rattle.ps_laws.proofs.Words.{order_of}
 use Rattle.ps_laws.proofs.NotWanted.{not_wanted}
 use Rattle.ps_laws.proofs.Parts.{parts}
 use Rattle.ps_laws.proofs.Whole.{some, none, one, only, read, unread}

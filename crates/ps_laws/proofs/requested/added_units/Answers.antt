@@ -1,4 +1,4 @@
-use Rattle.ps_resolve.specs.Sources.{order_of}
+use Rattle.ps_laws.proofs.Words.{order_of}
 use Rattle.ps_laws.proofs.Asked.{asked_is_there}
 use Rattle.ps_laws.proofs.AddedUnits.{units_are}
 use Rattle.ps_laws.proofs.OneList.{only_units}

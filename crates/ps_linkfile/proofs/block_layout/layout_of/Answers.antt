@@ -39,9 +39,7 @@ loop-source-preserved c =
     (item.slot + 1, rw (c.push.ensures.items, c.blocks_of-blocks.ensures) more)
 
 pub returns-clause-starts : goal.returns-clause-starts
-returns-clause-starts c =
-    let ss = c.args.sources.now in
-    (laid_done (map extent_of_source ss) c.loop-source.source-index _ _ _ (omega (arith, length-map ss extent_of_source, c.loop-source-test.false)) c.loop-source.invariant.1).0
+returns-clause-starts c = grind (arith, laid_done, extent_of_source, length-map)
 
 pub returns-clause-blocks : goal.returns-clause-blocks
 returns-clause-blocks c =

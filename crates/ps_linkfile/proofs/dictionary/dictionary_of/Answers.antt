@@ -18,11 +18,7 @@ pub pairs_of-pairs-requires-clause-starts : goal.pairs_of-pairs-requires-clause-
 pairs_of-pairs-requires-clause-starts g c = c.as_slice.ensures.value ∙ c.lay_out-layout.ensures.starts ∙ ap starts_of (seen c.sources.result.now c.args.plan.now.origins c.sources.ensures.origins)
 
 pub store-requires-2 : goal.store-requires-2
-store-requires-2 g c =
-    let flat : length c.as_flattened.result.now ≡ length c.names.result.now * 8 = c.as_flattened.ensures.len in
-    let sixteen : length c.names.result.now ≡ 16 = ap (λ (names : List (List ℕ)). length names) c.names.ensures ∙ c.requires.ready.names in
-    let names_128 : length c.as_flattened.result.now ≡ 128 = omega (arith, flat, sixteen) in
-    omega (arith, names_128, c.store.ensures.length, length-replicate {A = ℕ} 512 0)
+store-requires-2 g c = grind arith
 
 pub store-requires-3 : goal.store-requires-3
 store-requires-3 g c =

@@ -9,9 +9,7 @@ pub loop-k-init : goal.loop-k-init
 loop-k-init c = (1, 0, pairs_none c.args.order (map extent_of_source c.args.sources.now) c.requires.slots)
 
 pub put-requires : goal.put-requires
-put-requires c =
-    let low = slot_at c.args.sources.now c.loop-k.k c.requires.slots c.loop-k-test.true in
-    omega (arith, low, c.loop-k.invariant.2.size)
+put-requires c = grind (arith, slot_at)
 
 pub bounds-starts-k : goal.bounds-starts-k
 bounds-starts-k c = omega (arith, many_starts c.args.sources.now c.args.starts.now c.requires.starts, c.loop-k-test.true)
@@ -20,9 +18,7 @@ pub overflow_cast-source : goal.overflow_cast-source
 overflow_cast-source c = omega (arith, size_at c.args.sources.now c.loop-k.k c.requires.sizes c.loop-k-test.true)
 
 pub put-requires-in-loop-k : goal.put-requires-in-loop-k
-put-requires-in-loop-k c =
-    let low = slot_at c.args.sources.now c.loop-k.k c.requires.slots c.loop-k-test.true in
-    omega (arith, low, c.put.ensures.length, c.loop-k.invariant.2.size)
+put-requires-in-loop-k c = grind (arith, slot_at)
 
 pub loop-k-preserved : goal.loop-k-preserved
 loop-k-preserved c =

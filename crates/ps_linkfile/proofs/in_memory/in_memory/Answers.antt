@@ -1,4 +1,4 @@
-use Rattle.std.proofs.Common.{◌≡◌, [], append-nil, rules, sym}
+use Rattle.std.proofs.Common.{◌≡◌, append-nil, rules, sym, []}
 use Rattle.ps_linkfile.proofs.Written.{adds_first}
 use Rattle.ps_linkfile.proofs.in_memory.in_memory.Goals as goal
 

@@ -1,9 +1,9 @@
 use Rattle.std.proofs.Common.{◌≡◌, ◌+◌, ◌++◌, ◌∙◌, ℕ, List, [], length, drop, get_or, refl, sym, ap, arith}
 use Rattle.std.specs.List.{flat_map}
 use Rattle.std.proofs.lemmas.List.{length-map}
-use Rattle.ps_resolve.specs.Plans.{Origin, origin_of_source}
+use Rattle.ps_resolve.specs.Plans.{origin_of_source}
 use Rattle.ps_linkfile.specs.MapText.{code_line, source_line}
-use Rattle.ps_linkfile.specs.Writing.{extents_in, starts_of}
+use Rattle.ps_linkfile.specs.Writing.{extents_in}
 use Rattle.ps_linkfile.proofs.Maps.{line_at}
 use Rattle.ps_linkfile.proofs.Views.{many_starts, no_source, seen, seen_ascend, slot_at, source_at}
 use Rattle.ps_linkfile.proofs.Written.{all_written, items_left, items_over, none_yet, some_more}
@@ -13,18 +13,10 @@ pub loop-k-init : goal.loop-k-init
 loop-k-init g c = none_yet _ c.args.text.now _ _ refl
 
 pub bounds-names-source : goal.bounds-names-source
-bounds-names-source g c =
-    let plan = c.args.plan.now in
-    let ss = c.sources-source-items.result.now in
-    let low = slot_at ss c.loop-k.k (seen_ascend ss plan.origins c.sources-source-items.ensures.origins c.requires.ready.slots) c.loop-k-test.true in
-    omega (arith, low)
+bounds-names-source g c = grind (arith, slot_at, seen_ascend)
 
 pub bounds-starts-k : goal.bounds-starts-k
-bounds-starts-k g c =
-    let plan = c.args.plan.now in
-    let ss = c.sources-source-items.result.now in
-    let many = many_starts ss c.args.starts.now (c.requires.starts ∙ ap starts_of (seen ss plan.origins c.sources-source-items.ensures.origins)) in
-    omega (arith, many, c.loop-k-test.true)
+bounds-starts-k g c = grind (arith, many_starts, seen)
 
 pub loop-k-preserved : goal.loop-k-preserved
 loop-k-preserved g c =
@@ -41,8 +33,4 @@ loop-k-preserved g c =
     some_more _ _ _ c.loop-k.text _ _ _ _ (left ∙ ap (λ (bs : List ℕ). bs ++ rest) (sym line)) c.loop-k.invariant c.add_segment.ensures
 
 pub returns : goal.returns
-returns g c =
-    let plan = c.args.plan.now in
-    let ss = c.sources-source-items.result.now in
-    let long : length plan.origins ≡ length ss = ap (λ (ps : List Origin). length ps) (sym c.sources-source-items.ensures.origins) ∙ length-map ss origin_of_source in
-    all_written _ _ _ c.loop-k.text _ (items_over (source_line plan.names (extents_in plan)) plan.origins c.loop-k.k (omega (arith, long, c.loop-k-test.false))) c.loop-k.invariant
+returns g c = grind (arith, length-map, all_written, items_over)

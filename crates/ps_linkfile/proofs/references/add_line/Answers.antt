@@ -1,4 +1,4 @@
-use Rattle.std.proofs.Common.{◌≡◌, ◌∙◌, ◌++◌, ◌∷◌, [], ℕ, List, ap, codes}
+use Rattle.std.proofs.Common.{◌≡◌, ◌∙◌, ◌++◌, ◌∷◌, ℕ, List, [], ap, codes}
 use Rattle.ps_linkfile.specs.Lines.{field, shown_name, two_digits}
 use Rattle.ps_linkfile.specs.ReferencesText.{Listed, cause_line, hex_field}
 use Rattle.ps_linkfile.proofs.Written.{adds_is, adds_then}

@@ -23,8 +23,7 @@ loop-listing-preserved g c =
     }
 
 pub returns : goal.returns
-returns g c =
-    all_written _ _ _ c.loop-listing.text _ (numbered_over listed_items c.args.listings.now c.loop-listing.listing-index (omega (arith, c.loop-listing-test.false))) c.loop-listing.invariant.items
+returns g c = grind (arith, all_written, numbered_over)
 
 pub returns-then-has_failed : goal.returns-then-has_failed
 returns-then-has_failed g c = all_stopped _ _ _ c.loop-listing.text _ c.loop-listing.invariant.items (c.has_failed.ensures c.if-has_failed.true _)

@@ -1,4 +1,4 @@
-use Rattle.std.proofs.Common.{ap, ◌++◌, ◌∷◌, [], codes}
+use Rattle.std.proofs.Common.{ap, [], ◌++◌, ◌∷◌, codes}
 use Rattle.ps_codefile.specs.declared.entry.Entry.{Entry}
 use Rattle.ps_linkfile.specs.Lines.{field, line, shown_name, two_digits}
 use Rattle.ps_linkfile.specs.ShowText.{slot_line}
