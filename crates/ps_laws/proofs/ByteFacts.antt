@@ -1,5 +1,7 @@
 -- The byte that the edits of a segment make is its linked byte, and no other byte is.
-use Rattle.std.proofs.Common.{rules, ◌≡◌, ℕ, zero, suc, ◌+◌, ◌-◌, ◌≤◌, List, [], ◌∷◌, length, Option, Some, None, Result, Ok, Err, Bool, true, false, refl, sym, ap, subst, ◌∙◌, inl, inr, arith}
+use Rattle.std.proofs.Common.{rules, ◌≡◌, ℕ, zero, suc, ◌+◌, ◌-◌, ◌≤◌, List}
+use Rattle.std.proofs.Common.{[], ◌∷◌, length, Option, Some, None, Result, Ok, Err, Bool}
+use Rattle.std.proofs.Common.{true, false, refl, sym, ap, subst, ◌∙◌, inl, inr, arith}
 use Rattle.ps_laws.proofs.Words.{same_Some, ◌⊎◌, if◌then◌else◌, slice_get, find}
 use Rattle.ps_laws.proofs.Words.{cons_option, lookup, option_map_or, bytes_eq, bytes_eq-Decides}
 use Rattle.ps_laws.proofs.Words.{Decides, table_of, total_words, private_offset, next_of}
@@ -9,7 +11,8 @@ use Rattle.ps_laws.proofs.Words.{is_unit, Segment, host_records, units_of, targe
 use Rattle.ps_laws.proofs.Words.{known_of, grown_data_size, Target, Order, Edit, Byte, Reason}
 use Rattle.std.specs.Prelude.{slice_index}
 use Rattle.ps_resolve.specs.Standing.Privates.{words_before}
-use Rattle.ps_resolve.specs.LinkedBytes.{IsSlotOf, IsPublic, IsBase, all_private_words, Becomes, IsNumberPlace, IsLinkedByte}
+use Rattle.ps_resolve.specs.LinkedBytes.{IsSlotOf, IsPublic, IsBase, all_private_words, Becomes}
+use Rattle.ps_resolve.specs.LinkedBytes.{IsNumberPlace, IsLinkedByte}
 use Rattle.ps_linkinfo.specs.declared.record.Body.TheVariants.{UnitRef, PublRef, PrivRef, PublDef}
 use Rattle.ps_resolve.specs.Symbols.{def_in, definitions, definition_of}
 use Rattle.ps_resolve.specs.Operands.{edit_of}
@@ -23,125 +26,189 @@ use Rattle.ps_laws.proofs.Items.{In, find_in, find_passes}
 use Rattle.ps_laws.proofs.Looking.{of_test, find_none}
 use Rattle.ps_laws.proofs.PrivateOffsets.{all_are}
 use Rattle.ps_laws.proofs.SoundCodes.{HasOuter}
-use Rattle.ps_laws.proofs.EditsAt.{edit_place, IsNumber, IsSize, IsOfReference, what_covers, number_covers, size_covers, reference_covers}
+use Rattle.ps_laws.proofs.EditsAt.{edit_place, IsNumber, IsSize, IsOfReference, what_covers}
+use Rattle.ps_laws.proofs.EditsAt.{number_covers, size_covers, reference_covers}
 use Rattle.ps_words.specs.Words.{word_bytes, operand_bytes, displacement_at}
 use Rattle.ps_words.specs.Edits.{place_of, stored_bytes, covers}
 use Rattle.ps_words.specs.declared.edit.Edit.TheVariants.{Word}
 use Rattle.ps_words.specs.declared.fault.Reason.TheVariants as reason
 
 -- 1. what a reference becomes
-unit_slot_is : (name : List ℕ) (segs : List Segment) (slot : ℕ) → lookup (bytes_eq name) (units_of segs) ≡ Some slot → IsSlotOf segs name slot
+unit_slot_is : (name : List ℕ) (segs : List Segment) (slot : ℕ)
+    → lookup (bytes_eq name) (units_of segs) ≡ Some slot → IsSlotOf segs name slot
 unit_slot_is name [] slot e = absurd (cc)
 unit_slot_is name (s ∷ segs) slot e = go (is_unit s.role) refl e (unit_slot_is name segs slot)
   where
     further : IsSlotOf segs name slot → IsSlotOf (s ∷ segs) name slot
     further t = (suc t.0, t.1, t.2, t.3)
 
-    go : (b : Bool) → is_unit s.role ≡ b → lookup (bytes_eq name) (cons_option (if b then Some (s.name, s.slot) else None) (units_of segs)) ≡ Some slot → (lookup (bytes_eq name) (units_of segs) ≡ Some slot → IsSlotOf segs name slot) → IsSlotOf (s ∷ segs) name slot
+    go : (b : Bool) → is_unit s.role ≡ b
+        → lookup (bytes_eq name) (cons_option (if b then Some (s.name, s.slot) else None)
+        (units_of segs)) ≡ Some slot → (lookup (bytes_eq name) (units_of segs) ≡ Some slot
+        → IsSlotOf segs name slot) → IsSlotOf (s ∷ segs) name slot
     go false unit e later = further (later e)
     go true unit e later = at (bytes_eq name s.name) (bytes_eq-Decides name s.name) e
       where
-        at : (b : Bool) → Decides b (name ≡ s.name) → (if b then Some s.slot else lookup (bytes_eq name) (units_of segs)) ≡ Some slot → IsSlotOf (s ∷ segs) name slot
+        at : (b : Bool) → Decides b (name ≡ s.name)
+            → (if b then Some s.slot else lookup (bytes_eq name) (units_of segs)) ≡ Some slot
+            → IsSlotOf (s ∷ segs) name slot
         at true d e = (zero, s, refl, (unit, sym (d.0 refl), same_Some s.slot slot e))
         at false d e = further (later e)
 
 abbrev IsGiven : List Record → List ℕ → ℕ → Type 0
-IsGiven rs name value = (k : ℕ) × (d : Record) × (slice_get rs k ≡ Some d) × ((d.name ≡ name) × (d.body ≡ PublDef value))
+IsGiven rs name value = (k : ℕ) × (d : Record) × (slice_get rs k ≡ Some d)
+    × ((d.name ≡ name) × (d.body ≡ PublDef value))
 
 -- a record of a public definition is a PUBLDEF of its value
-public_in : (body : Body) (d : Def) → def_in body ≡ Some d → d.kind ≡ Public → body ≡ PublDef d.value
+public_in : (body : Body) (d : Def) → def_in body ≡ Some d → d.kind ≡ Public
+    → body ≡ PublDef d.value
 public_in body d h k = grind arith
 
 -- a public definition that is found for a name is that of a PUBLDEF record, which gives the name
 -- its value
-given : (name : List ℕ) (rs : List Record) (d : Def) → definition_of name (definitions rs) ≡ Some d → d.kind ≡ Public → IsGiven rs name d.value
+given : (name : List ℕ) (rs : List Record) (d : Def)
+    → definition_of name (definitions rs) ≡ Some d → d.kind ≡ Public
+    → IsGiven rs name d.value
 given name [] d e k = absurd (cc)
 given name (r ∷ rs) d e k = go (def_in r.body) refl e (λ h. given name rs d h k)
   where
     further : IsGiven rs name d.value → IsGiven (r ∷ rs) name d.value
     further t = (suc t.0, t.1, t.2, t.3)
 
-    go : (o : Option Def) → def_in r.body ≡ o → definition_of name (cons_option (elim o [ None ↦ None | Some d ↦ Some (r.name, d) ]) (definitions rs)) ≡ Some d → (definition_of name (definitions rs) ≡ Some d → IsGiven rs name d.value) → IsGiven (r ∷ rs) name d.value
+    go : (o : Option Def) → def_in r.body ≡ o
+        → definition_of name (cons_option (elim o [ None ↦ None | Some d ↦ Some (r.name, d) ])
+        (definitions rs)) ≡ Some d → (definition_of name (definitions rs) ≡ Some d
+        → IsGiven rs name d.value) → IsGiven (r ∷ rs) name d.value
     go None is e later = further (later e)
     go (Some c) is e later = at (bytes_eq name r.name) (bytes_eq-Decides name r.name) e
       where
-        at : (b : Bool) → Decides b (name ≡ r.name) → (if b then Some c else definition_of name (definitions rs)) ≡ Some d → IsGiven (r ∷ rs) name d.value
+        at : (b : Bool) → Decides b (name ≡ r.name)
+            → (if b then Some c else definition_of name (definitions rs)) ≡ Some d
+            → IsGiven (r ∷ rs) name d.value
         at true t e = (zero, r, refl, (sym (t.0 refl), public_in r.body d (is ∙ e) k))
         at false t e = further (later e)
 
 -- a value that the host's records give a name is a public of the link
-public_is : (segs : List Segment) (name : List ℕ) (value : ℕ) → IsGiven (host_records segs) name value → IsPublic segs name value
+public_is : (segs : List Segment) (name : List ℕ) (value : ℕ)
+    → IsGiven (host_records segs) name value → IsPublic segs name value
 public_is segs name value = grind (arith, find_in, find_passes)
 
 -- what the edit of a reference stores is what its operand becomes
-becomes : (order : Order) (segs : List Segment) → IsBase segs (next_of (host_records segs)) → (s : Segment) (rec : ℕ) (name : List ℕ) (body : Body) (i x : ℕ) (t : Target) → slice_get (refs_of body) i ≡ Some x → target_in (known_of segs) (private_offset segs s.slot rec) name body ≡ Ok t
+becomes : (order : Order) (segs : List Segment) → IsBase segs (next_of (host_records segs))
+    → (s : Segment) (rec : ℕ) (name : List ℕ) (body : Body) (i x : ℕ) (t : Target)
+    → slice_get (refs_of body) i ≡ Some x
+    → target_in (known_of segs) (private_offset segs s.slot rec) name body ≡ Ok t
     → Becomes segs s rec name body x (stored_bytes order (edit_of s.code t x))
-becomes order segs base s rec name (PrivRef words refs) i x t g e = let is : Base (private_offset segs s.slot rec) ≡ t = cc in (next_of (host_records segs), base, ap (λ (u : Target). stored_bytes order (edit_of s.code u x)) (sym is))
-becomes order segs base s rec name (UnitRef refs) i x t g e = go (lookup (bytes_eq name) (units_of segs)) refl e
+becomes order segs base s rec name (PrivRef words refs) i x t g e =
+    let is : Base (private_offset segs s.slot rec) ≡ t = cc in (
+      next_of (host_records segs),
+      base,
+      ap
+          (λ (u : Target). stored_bytes order (edit_of s.code u x)) (sym is),
+    )
+becomes order segs base s rec name (UnitRef refs) i x t g e =
+    go (lookup (bytes_eq name) (units_of segs)) refl e
   where
-    go : (o : Option ℕ) → lookup (bytes_eq name) (units_of segs) ≡ o → unit_slot o ≡ Ok t → Becomes segs s rec name (UnitRef refs) x (stored_bytes order (edit_of s.code t x))
+    go : (o : Option ℕ) → lookup (bytes_eq name) (units_of segs) ≡ o → unit_slot o ≡ Ok t
+        → Becomes segs s rec name (UnitRef refs) x (stored_bytes order (edit_of s.code t x))
     go None is e = absurd (cc)
-    go (Some slot) is e = let same : Slot slot ≡ t = cc in (slot, unit_slot_is name segs slot is, ap (λ (u : Target). stored_bytes order (edit_of s.code u x)) (sym same))
-becomes order segs base s rec name (PublRef refs) i x t g e = go (definition_of name (definitions (host_records segs))) refl e
+    go (Some slot) is e = let same : Slot slot ≡ t = cc in (
+      slot,
+      unit_slot_is name segs slot is,
+      ap (λ (u : Target). stored_bytes order (edit_of s.code u x)) (sym same),
+    )
+becomes order segs base s rec name (PublRef refs) i x t g e =
+    go (definition_of name (definitions (host_records segs))) refl e
   where
-    go : (o : Option Def) → definition_of name (definitions (host_records segs)) ≡ o → public_base o ≡ Ok t → Becomes segs s rec name (PublRef refs) x (stored_bytes order (edit_of s.code t x))
+    go : (o : Option Def) → definition_of name (definitions (host_records segs)) ≡ o
+        → public_base o ≡ Ok t → Becomes segs s rec name (PublRef refs) x
+        (stored_bytes order (edit_of s.code t x))
     go None is e = absurd (cc)
     go (Some d) is e = at d.kind refl e
       where
-        at : (k : DefKind) → d.kind ≡ k → (elim k as (λ _. Result Target Reason) [ Public ↦ Ok (Base d.value) | Constant ↦ Err reason.IllKind ]) ≡ Ok t → Becomes segs s rec name (PublRef refs) x (stored_bytes order (edit_of s.code t x))
+        at : (k : DefKind) → d.kind ≡ k
+            → (elim k as (λ _. Result Target Reason)
+            [ Public ↦ Ok (Base d.value) | Constant ↦ Err reason.IllKind ]) ≡ Ok t
+            → Becomes segs s rec name (PublRef refs) x (stored_bytes order (edit_of s.code t x))
         at Constant k e = absurd (cc)
-        at Public k e = let same : Base d.value ≡ t = cc in (d.value, public_is segs name d.value (given name (host_records segs) d is k), ap (λ (u : Target). stored_bytes order (edit_of s.code u x)) (sym same))
+        at Public k e = let same : Base d.value ≡ t = cc in (
+          d.value,
+          public_is segs name d.value (given name (host_records segs) d is k),
+          ap (λ (u : Target). stored_bytes order (edit_of s.code u x)) (sym same),
+        )
 becomes order segs base s rec name other i x t g e = absurd (cc)
 
 -- what names one thing becomes one
 abbrev pub OneUnit : List Segment → Type 0
-OneUnit segs = (name : List ℕ) (a b : ℕ) → IsSlotOf segs name a → IsSlotOf segs name b → a ≡ b
+OneUnit segs = (name : List ℕ) (a b : ℕ) → IsSlotOf segs name a → IsSlotOf segs name b
+    → a ≡ b
 
 abbrev pub OnePublic : List Segment → Type 0
-OnePublic segs = (name : List ℕ) (a b : ℕ) → IsPublic segs name a → IsPublic segs name b → a ≡ b
+OnePublic segs = (name : List ℕ) (a b : ℕ) → IsPublic segs name a → IsPublic segs name b
+    → a ≡ b
 
 abbrev pub OneBase : List Segment → Type 0
 OneBase segs = (a b : ℕ) → IsBase segs a → IsBase segs b → a ≡ b
 
 -- an operand becomes one thing only, where each unit has one slot, each public one value, and there
 -- is one base offset
-one_becomes : (segs : List Segment) → OneUnit segs → OnePublic segs → OneBase segs → (s : Segment) (rec : ℕ) (name : List ℕ) (body : Body) (x : ℕ) (b c : List ℕ) → Becomes segs s rec name body x b → Becomes segs s rec name body x c → b ≡ c
-one_becomes segs units publics bases s rec name (UnitRef refs) x b c t u = t.2 ∙ (ap (λ (n : ℕ). n ∷ []) (units name t.0 u.0 t.1 u.1) ∙ sym u.2)
-one_becomes segs units publics bases s rec name (PublRef refs) x b c t u = t.2 ∙ (ap (λ (n : ℕ). operand_bytes (displacement_at s.code x + n)) (publics name t.0 u.0 t.1 u.1) ∙ sym u.2)
-one_becomes segs units publics bases s rec name (PrivRef words refs) x b c t u = t.2 ∙ (ap (λ (n : ℕ). operand_bytes (displacement_at s.code x + (n + words_before segs s.slot rec))) (bases t.0 u.0 t.1 u.1) ∙ sym u.2)
+one_becomes : (segs : List Segment) → OneUnit segs → OnePublic segs → OneBase segs
+    → (s : Segment) (rec : ℕ) (name : List ℕ) (body : Body) (x : ℕ) (b c : List ℕ)
+    → Becomes segs s rec name body x b → Becomes segs s rec name body x c → b ≡ c
+one_becomes segs units publics bases s rec name (UnitRef refs) x b c t u =
+    t.2 ∙ (ap (λ (n : ℕ). n ∷ []) (units name t.0 u.0 t.1 u.1) ∙ sym u.2)
+one_becomes segs units publics bases s rec name (PublRef refs) x b c t u =
+    t.2 ∙ (ap (λ (n : ℕ). operand_bytes (displacement_at s.code x + n))
+    (publics name t.0 u.0 t.1 u.1) ∙ sym u.2)
+one_becomes segs units publics bases s rec name (PrivRef words refs) x b c t u =
+    t.2 ∙ (ap (λ (n : ℕ). operand_bytes
+    (displacement_at s.code x + (n + words_before segs s.slot rec))) (bases t.0 u.0 t.1 u.1)
+    ∙ sym u.2)
 one_becomes segs units publics bases s rec name other x b c t u = absurd t
 
 -- 2. the byte
-module _ (order : Order) (segs : List Segment) (base : IsBase segs (next_of (host_records segs))) (s : Segment) (long : needs_linking s.role ≡ true → 2 ≤ length s.code) (outer : (t : ℕ) → is_host s.role ≡ true → table_of order s.code 1 ≡ Some t → HasOuter order s.code t)
-    (hosts : is_host s.role ≡ true → needs_linking s.role ≡ true) (plain : needs_linking s.role ≡ false → s.records ≡ [])
-    (targets : (rec i x : ℕ) (r : Record) → IsReference s rec r i x → (t : Target) × (target_of (known_of segs) (private_offset segs s.slot rec) r ≡ Ok t)) (p : ℕ) (apart : IsOnePlace order s p) where
+module _ (order : Order) (segs : List Segment) (base : IsBase segs (next_of (host_records segs)))
+    (s : Segment) (long : needs_linking s.role ≡ true → 2 ≤ length s.code)
+    (outer : (t : ℕ) → is_host s.role ≡ true → table_of order s.code 1 ≡ Some t
+    → HasOuter order s.code t)
+    (hosts : is_host s.role ≡ true → needs_linking s.role ≡ true)
+    (plain : needs_linking s.role ≡ false → s.records ≡ [])
+    (targets : (rec i x : ℕ) (r : Record) → IsReference s rec r i x
+    → (t : Target) × (target_of (known_of segs) (private_offset segs s.slot rec) r ≡ Ok t))
+    (p : ℕ) (apart : IsOnePlace order s p) where
   abbrev pub edits : List Edit
   edits = summed_edits order segs s
 
   -- a segment with a reference is linked
-  linked_by : (rec i x : ℕ) (r : Record) → IsReference s rec r i x → needs_linking s.role ≡ true
+  linked_by : (rec i x : ℕ) (r : Record) → IsReference s rec r i x
+      → needs_linking s.role ≡ true
   linked_by rec i x r t = grind arith
 
   abbrev pub Uncovered : Type 0
   Uncovered = find (covers p) edits ≡ None
 
   no_edit : Uncovered → (f : Edit) → In f edits → covers p f ≡ true → ⊥
-  no_edit e f t on = find_none (covers p) (λ (g : Edit). covers p g ≡ true) (λ g. of_test (covers p g)) edits e (t.0, f, t.1, on)
+  no_edit e f t on = find_none (covers p) (λ (g : Edit). covers p g ≡ true)
+      (λ g. of_test (covers p g)) edits e (t.0, f, t.1, on)
 
   no_number : Uncovered → IsNumberPlace s p → ⊥
-  no_number e n = let c = number_covers order segs s long outer p n in no_edit e (Byte s.slot (length s.code - 2)) c.0 c.1
+  no_number e n = let c = number_covers order segs s long outer p n in
+      no_edit e (Byte s.slot (length s.code - 2)) c.0 c.1
 
   no_size : Uncovered → (t j : ℕ) → IsSizePlace order s t j p → ⊥
-  no_size e t j z = let c = size_covers order segs s long outer p t j (hosts z.0) z in no_edit e (Word (grown_data_size order s.code (total_words segs) t) (t - 8)) c.0 c.1
+  no_size e t j z = let c = size_covers order segs s long outer p t j (hosts z.0) z in
+      no_edit e (Word (grown_data_size order s.code (total_words segs) t) (t - 8)) c.0 c.1
 
   no_reference : Uncovered → (rec i x : ℕ) (r : Record) → Reaches s rec r i x p → ⊥
   no_reference e rec i x r u =
       let t = targets rec i x r u.0 in
-      let c = reference_covers order segs s long outer p rec i x r t.0 (linked_by rec i x r u.0) u t.1 in
+      let c = reference_covers order segs s long outer p rec i x r t.0
+      (linked_by rec i x r u.0) u t.1 in
       no_edit e (edit_of s.code t.0 x) c.0 c.1
 
   abbrev pub byte_at : Option Edit → ℕ
-  byte_at o = option_map_or (λ (edit : Edit). slice_index (stored_bytes order edit) (p - place_of edit)) o (slice_index s.code p)
+  byte_at o = option_map_or (λ (edit : Edit). slice_index (stored_bytes order edit)
+      (p - place_of edit)) o (slice_index s.code p)
 
   abbrev pub Facts : ℕ → Type 0
   Facts b = IsLinkedByte order segs s p b
@@ -160,7 +227,9 @@ module _ (order : Order) (segs : List Segment) (base : IsBase segs (next_of (hos
     kept = λ n z u. absurd (z h.0 h.1 h.2);
   }
     where
-      is_it : (t j : ℕ) → IsSizePlace order s t j p → byte_at (Some f) ≡ slice_index (word_bytes order (grown_data_size order s.code (all_private_words segs) t)) j
+      is_it : (t j : ℕ) → IsSizePlace order s t j p
+          → byte_at (Some f) ≡ slice_index
+          (word_bytes order (grown_data_size order s.code (all_private_words segs) t)) j
       is_it t j z = grind (arith, all_are)
 
   of_reference : (f : Edit) → IsOfReference segs s p f → Facts (byte_at (Some f))
@@ -177,41 +246,61 @@ module _ (order : Order) (segs : List Segment) (base : IsBase segs (next_of (hos
       whole : Edit
       whole = edit_of s.code t h.2
 
-      mine : (bytes : List ℕ) × Becomes segs s h.0 h.3.name h.3.body h.2 bytes × (byte_at (Some f) ≡ slice_index bytes (p - h.2))
+      mine : (bytes : List ℕ) × Becomes segs s h.0 h.3.name h.3.body h.2 bytes
+          × (byte_at (Some f) ≡ slice_index bytes (p - h.2))
       mine = (
         stored_bytes order whole,
         becomes order segs base s h.0 h.3.name h.3.body h.1 h.2 t h.4.0.1 h.5.1,
-        ap (λ (g : Edit). byte_at (Some g)) h.5.2 ∙ ap (λ (n : ℕ). slice_index (stored_bytes order whole) (p - n)) (edit_place s.code t h.2),
+        ap (λ (g : Edit). byte_at (Some g)) h.5.2
+            ∙ ap (λ (n : ℕ). slice_index (stored_bytes order whole) (p - n))
+            (edit_place s.code t h.2),
       )
 
-      is_it : (rec i x : ℕ) (r : Record) → Reaches s rec r i x p → (bytes : List ℕ) × Becomes segs s rec r.name r.body x bytes × (byte_at (Some f) ≡ slice_index bytes (p - x))
+      is_it : (rec i x : ℕ) (r : Record) → Reaches s rec r i x p
+          → (bytes : List ℕ) × Becomes segs s rec r.name r.body x bytes
+          × (byte_at (Some f) ≡ slice_index bytes (p - x))
       is_it rec i x r u =
           let one = apart.references h.0 h.1 h.2 rec i x h.3 r h.4 u in
-          let er : h.3 ≡ r = same_Some h.3 r (sym h.4.0.0 ∙ (ap (λ (n : ℕ). slice_get s.records n) one.0 ∙ u.0.0)) in
-          let ex : h.2 ≡ x = same_Some h.2 x (sym h.4.0.1 ∙ (ap (λ (n : ℕ). slice_get (refs_of h.3.body) n) one.1 ∙ (ap (λ (q : Record). slice_get (refs_of q.body) i) er ∙ u.0.1))) in
+          let er : h.3 ≡ r = same_Some h.3 r
+          (sym h.4.0.0 ∙ (ap (λ (n : ℕ). slice_get s.records n) one.0 ∙ u.0.0)) in
+          let ex : h.2 ≡ x = same_Some h.2 x
+          (sym h.4.0.1 ∙ (ap (λ (n : ℕ). slice_get (refs_of h.3.body) n) one.1
+          ∙ (ap (λ (q : Record). slice_get (refs_of q.body) i) er ∙ u.0.1))) in
           moved rec x r one.0 er ex mine
         where
           Fact : ℕ → Record → ℕ → Type 0
-          Fact rec r x = (bytes : List ℕ) × Becomes segs s rec r.name r.body x bytes × (byte_at (Some f) ≡ slice_index bytes (p - x))
+          Fact rec r x = (bytes : List ℕ) × Becomes segs s rec r.name r.body x bytes
+              × (byte_at (Some f) ≡ slice_index bytes (p - x))
 
-          moved : (rec x : ℕ) (r : Record) → h.0 ≡ rec → h.3 ≡ r → h.2 ≡ x → Fact h.0 h.3 h.2 → Fact rec r x
-          moved rec x r a b c fact = subst (λ (n : ℕ). Fact n r x) a (subst (λ (q : Record). Fact h.0 q x) b (subst (λ (n : ℕ). Fact h.0 h.3 n) c fact))
+          moved : (rec x : ℕ) (r : Record) → h.0 ≡ rec → h.3 ≡ r → h.2 ≡ x
+              → Fact h.0 h.3 h.2 → Fact rec r x
+          moved rec x r a b c fact = subst (λ (n : ℕ). Fact n r x) a
+              (subst (λ (q : Record). Fact h.0 q x) b
+              (subst (λ (n : ℕ). Fact h.0 h.3 n) c fact))
 
-  covered_by : (f : Edit) → find (covers p) edits ≡ Some f → IsNumber s p f ⊎ (IsSize order segs s p f ⊎ IsOfReference segs s p f)
-  covered_by f e = what_covers order segs s long outer p f (find_in (covers p) edits f e) (find_passes (covers p) edits f e)
+  covered_by : (f : Edit) → find (covers p) edits ≡ Some f
+      → IsNumber s p f ⊎ (IsSize order segs s p f ⊎ IsOfReference segs s p f)
+  covered_by f e = what_covers order segs s long outer p f (find_in (covers p) edits f e)
+      (find_passes (covers p) edits f e)
 
   pub facts : Facts (linked_byte order (summed_segment order segs s) p)
   facts = go (find (covers p) edits) refl
     where
       go : (o : Option Edit) → find (covers p) edits ≡ o → Facts (byte_at o)
       go None e = uncovered e
-      go (Some f) e = elim (covered_by f e) [ inl h ↦ of_number f h | inr u ↦ elim u [ inl h ↦ of_size f h | inr h ↦ of_reference f h ] ]
+      go (Some f) e = elim (covered_by f e) [
+        | inl h ↦ of_number f h
+        | inr u ↦ elim u
+            [ inl h ↦ of_size f h | inr h ↦ of_reference f h ]
+      ]
 
-  pub one_byte : OneUnit segs → OnePublic segs → OneBase segs → (b c : ℕ) → Facts b → Facts c → b ≡ c
+  pub one_byte : OneUnit segs → OnePublic segs → OneBase segs → (b c : ℕ) → Facts b
+      → Facts c → b ≡ c
   one_byte units publics bases b c x y = go (find (covers p) edits) refl
     where
       go : (o : Option Edit) → find (covers p) edits ≡ o → b ≡ c
-      go None e = x.kept (no_number e) (no_size e) (no_reference e) ∙ sym (y.kept (no_number e) (no_size e) (no_reference e))
+      go None e = x.kept (no_number e) (no_size e) (no_reference e)
+          ∙ sym (y.kept (no_number e) (no_size e) (no_reference e))
       go (Some f) e = elim (covered_by f e) [
         | inl h ↦ x.number h.0 ∙ sym (y.number h.0)
         | inr u ↦ elim u [
@@ -219,6 +308,8 @@ module _ (order : Order) (segs : List Segment) (base : IsBase segs (next_of (hos
           | inr h ↦
               let v = x.reference h.0 h.1 h.2 h.3 h.4 in
               let w = y.reference h.0 h.1 h.2 h.3 h.4 in
-              v.2 ∙ (ap (λ (bytes : List ℕ). slice_index bytes (p - h.2)) (one_becomes segs units publics bases s h.0 h.3.name h.3.body h.2 v.0 w.0 v.1 w.1) ∙ sym w.2)
+              v.2 ∙ (ap (λ (bytes : List ℕ). slice_index bytes (p - h.2))
+              (one_becomes segs units publics bases s h.0 h.3.name h.3.body h.2 v.0 w.0 v.1 w.1)
+              ∙ sym w.2)
         ]
       ]

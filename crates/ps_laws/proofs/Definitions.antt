@@ -16,21 +16,41 @@ use Rattle.ps_resolve.specs.declared.edits.data_size.TheConstants.{MAX_DATA_SIZE
 use Rattle.ps_resolve.specs.Standing.DataSizes.{InDataSize}
 
 -- the first fault of the definitions is the smallest that applies
-pub step_7 : (order : Order) (host : List ℕ) (libs : List (List ℕ)) → Least (Precedes OfDefinitions) (InDefinitions order host libs) (definitions_fault (segments order host libs))
+pub step_7 : (order : Order) (host : List ℕ) (libs : List (List ℕ))
+    → Least (Precedes OfDefinitions) (InDefinitions order host libs)
+    (definitions_fault (segments order host libs))
 unfolding definitions_fault
 step_7 order host libs =
-    least_then (λ s. option_map (λ rec. in_record 0 s.slot rec reason.DoubledDefinition) (first_duplicate s.records)) (host_of (segments order host libs))
-    (λ s is_it. subst (λ (o : Option Fault). Least (Precedes OfDefinitions) (λ f. SomeItem s.records (λ rec r. (f ≡ in_record 0 s.slot rec reason.DoubledDefinition) × HasEarlierNamesake is_definition s.records rec r)) o)
-    (sym (definitions_carried (λ rec. in_record 0 s.slot rec reason.DoubledDefinition) [] s.records 0 refl))
-    (least_items (λ (r : ℕ × Record). fault_if (is_again is_definition s.records r) (in_record 0 s.slot r.0 reason.DoubledDefinition)) s.records
-    (λ k r e. least_if (is_again is_definition s.records (k, r)) (in_record 0 s.slot k reason.DoubledDefinition) (again is_definition s.records k r))
-    (λ i j a b x y h. at_apart (Precedes OfDefinitions) (in_record 0 s.slot i reason.DoubledDefinition) (in_record 0 s.slot j reason.DoubledDefinition) (inr (refl, inr (refl, inl (omega (arith, h))))) x y)))
+    least_then (λ s. option_map (λ rec. in_record 0 s.slot rec reason.DoubledDefinition)
+    (first_duplicate s.records)) (host_of (segments order host libs))
+    (λ s is_it. subst (λ (o : Option Fault). Least (Precedes OfDefinitions)
+    (λ f. SomeItem s.records (λ rec r. (f ≡ in_record 0 s.slot rec reason.DoubledDefinition)
+    × HasEarlierNamesake is_definition s.records rec r)) o)
+    (sym (definitions_carried (λ rec. in_record 0 s.slot rec reason.DoubledDefinition) [] s.records
+    0 refl))
+    (least_items (λ (r : ℕ × Record). fault_if (is_again is_definition s.records r)
+    (in_record 0 s.slot r.0 reason.DoubledDefinition)) s.records
+    (λ k r e. least_if (is_again is_definition s.records (k, r))
+    (in_record 0 s.slot k reason.DoubledDefinition) (again is_definition s.records k r))
+    (λ i j a b x y h. at_apart (Precedes OfDefinitions)
+    (in_record 0 s.slot i reason.DoubledDefinition)
+    (in_record 0 s.slot j reason.DoubledDefinition)
+    (inr (refl, inr (refl, inl (omega (arith, h))))) x y)))
 
 -- the first fault of the host's data size is the smallest that applies
-pub step_9 : (order : Order) (host : List ℕ) (libs : List (List ℕ)) → Least (Precedes OfDataSize) (InDataSize order host libs) (data_fault order (segments order host libs))
+pub step_9 : (order : Order) (host : List ℕ) (libs : List (List ℕ))
+    → Least (Precedes OfDataSize) (InDataSize order host libs)
+    (data_fault order (segments order host libs))
 unfolding data_fault
 step_9 order host libs =
     let total = total_words (segments order host libs) in
-    least_then (λ s. option_and_then (λ t. fault_if (nat_lt MAX_DATA_SIZE (grown_data_size order s.code total t)) (in_slot 0 s.slot reason.DataTooLarge)) (table_of order s.code 1)) (host_of (segments order host libs))
-    (λ s is_it. least_then (λ t. fault_if (nat_lt MAX_DATA_SIZE (grown_data_size order s.code total t)) (in_slot 0 s.slot reason.DataTooLarge)) (table_of order s.code 1)
-    (λ t e. least_if (nat_lt MAX_DATA_SIZE (grown_data_size order s.code total t)) (in_slot 0 s.slot reason.DataTooLarge) (Decides-ltb MAX_DATA_SIZE (grown_data_size order s.code total t))))
+    least_then (λ s. option_and_then (λ t. fault_if
+    (nat_lt MAX_DATA_SIZE (grown_data_size order s.code total t))
+    (in_slot 0 s.slot reason.DataTooLarge)) (table_of order s.code 1))
+    (host_of (segments order host libs))
+    (λ s is_it. least_then (λ t. fault_if
+    (nat_lt MAX_DATA_SIZE (grown_data_size order s.code total t))
+    (in_slot 0 s.slot reason.DataTooLarge)) (table_of order s.code 1)
+    (λ t e. least_if (nat_lt MAX_DATA_SIZE (grown_data_size order s.code total t))
+    (in_slot 0 s.slot reason.DataTooLarge)
+    (Decides-ltb MAX_DATA_SIZE (grown_data_size order s.code total t))))

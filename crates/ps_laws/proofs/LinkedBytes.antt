@@ -1,12 +1,14 @@
 -- Where no fault applies, the edits of a link make the linked bytes, and each place has one.
-use Rattle.std.proofs.Common.{◌≡◌, ℕ, ◌<◌, ◌≤◌, List, length, map, Some, None, Result, Ok, Err, true, refl, inl}
+use Rattle.std.proofs.Common.{◌≡◌, ℕ, ◌<◌, ◌≤◌, List, length, map, Some, None}
+use Rattle.std.proofs.Common.{Result, Ok, Err, true, refl, inl}
 use Rattle.ps_laws.proofs.Words.{result_err, table_of, OfReferences, IsSegment, IsOfFile}
 use Rattle.ps_laws.proofs.Words.{private_offset, IsReference, IsOnePlace, segments_of}
 use Rattle.ps_laws.proofs.Words.{summed_segment, NoneStands, Record, needs_linking, is_host}
 use Rattle.ps_laws.proofs.Words.{Segment, order_of, target_of, known_of, Target, in_record, Reason}
 use Rattle.std.proofs.lemmas.List.Elements.{All-same, All-map}
 use Rattle.ps_resolve.specs.Standing.References.{RecordHas}
-use Rattle.ps_resolve.specs.LinkedBytes.{IsLinkedByte, HaveLinkedBytes, HaveOneLinkedByte, HaveApartPlaces}
+use Rattle.ps_resolve.specs.LinkedBytes.{IsLinkedByte, HaveLinkedBytes, HaveOneLinkedByte}
+use Rattle.ps_resolve.specs.LinkedBytes.{HaveApartPlaces}
 use Rattle.ps_resolve.specs.AllFaults.{reading_fault}
 use Rattle.ps_resolve.specs.Linking.{Edited, edited_segments, linked_byte}
 use Rattle.ps_laws.proofs.Least.{Least, this}
@@ -25,59 +27,92 @@ use Rattle.ps_laws.proofs.OneName.{of_segments, one_unit}
 use Rattle.ps_laws.proofs.OneHost.{base_there, one_base, one_public}
 use Rattle.ps_laws.proofs.ByteFacts.{facts, one_byte}
 
-module _ (law : OneStop) (host : List ℕ) (libs : List (List ℕ)) (none : NoneStands host libs) where
-  read : reading_fault host libs ≡ None
-  read = unread law host libs (λ step f r h. none step f h)
+module _ (law : OneStop) (host : List ℕ) (libs : List (List ℕ)) (none : NoneStands host libs)
+  where
+    read : reading_fault host libs ≡ None
+    read = unread law host libs (λ step f r h. none step f h)
 
-  file : (s : Segment) → IsSegment (order_of host) host libs s → IsOfFile (order_of host) host libs s
-  file s is = (of_link host libs read s is).file
+    file : (s : Segment) → IsSegment (order_of host) host libs s
+        → IsOfFile (order_of host) host libs s
+    file s is = (of_link host libs read s is).file
 
-  apart : (s : Segment) → IsSegment (order_of host) host libs s → (p : ℕ) → IsOnePlace (order_of host) s p
-  apart s is p = one_place host libs none s is (file s is) p
+    apart : (s : Segment) → IsSegment (order_of host) host libs s → (p : ℕ)
+        → IsOnePlace (order_of host) s p
+    apart s is p = one_place host libs none s is (file s is) p
 
-  pub places : HaveApartPlaces host libs
-  places = all_items (λ (s : Segment). (p : ℕ) → IsOnePlace (order_of host) s p) (segments_of host libs) (λ k s e p. apart s (of_segments (order_of host) host libs k s e) p)
+    pub places : HaveApartPlaces host libs
+    places = all_items (λ (s : Segment). (p : ℕ) → IsOnePlace (order_of host) s p)
+        (segments_of host libs) (λ k s e p. apart s (of_segments (order_of host) host libs k s e) p)
 
-  module _ (s : Segment) (is : IsSegment (order_of host) host libs s) where
-    long_code : needs_linking s.role ≡ true → 2 ≤ length s.code
-    long_code h = long (order_of host) s.code (is_host s.role) ((file s is).tables h)
+    module _ (s : Segment) (is : IsSegment (order_of host) host libs s) where
+      long_code : needs_linking s.role ≡ true → 2 ≤ length s.code
+      long_code h = long (order_of host) s.code (is_host s.role) ((file s is).tables h)
 
-    outer_block : (t : ℕ) → is_host s.role ≡ true → table_of (order_of host) s.code 1 ≡ Some t → HasOuter (order_of host) s.code t
-    outer_block t h table = outer (order_of host) s.code t (is_host s.role) h ((file s is).tables (host_linked s.role h)) table
+      outer_block : (t : ℕ) → is_host s.role ≡ true
+          → table_of (order_of host) s.code 1 ≡ Some t → HasOuter (order_of host) s.code t
+      outer_block t h table = outer (order_of host) s.code t (is_host s.role) h
+          ((file s is).tables (host_linked s.role h)) table
 
-    -- each reference of a record has what its operand becomes
-    targets : (rec i x : ℕ) (r : Record) → IsReference s rec r i x → (t : Target) × (target_of (known_of (segments_of host libs)) (private_offset (segments_of host libs) s.slot rec) r ≡ Ok t)
-    targets rec i x r u =
-        go (target_of (known_of (segments_of host libs)) (private_offset (segments_of host libs) s.slot rec) r) refl
-        (record_rows (segments_of host libs) (private_offset (segments_of host libs) s.slot rec) r.name r.body (asked_is_there (order_of host) host libs (rounds_fine host libs read) s is rec r u.0))
-      where
-        bad : (why : Reason) → Least Ranked (RecordHas (segments_of host libs) r.name r.body) (Some why) → ⊥
-        bad why (this y h l) = none OfReferences (in_record s.file s.slot rec why) (record { stands = (s, is, (rec, r, u.0, inl (why, refl, h))) })
+      -- each reference of a record has what its operand becomes
+      targets : (rec i x : ℕ) (r : Record) → IsReference s rec r i x
+          → (t : Target) × (target_of (known_of (segments_of host libs))
+          (private_offset (segments_of host libs) s.slot rec) r ≡ Ok t)
+      targets rec i x r u =
+          go (target_of (known_of (segments_of host libs))
+          (private_offset (segments_of host libs) s.slot rec) r) refl
+          (record_rows (segments_of host libs)
+          (private_offset (segments_of host libs) s.slot rec) r.name r.body
+          (asked_is_there (order_of host) host libs (rounds_fine host libs read) s is rec r u.0))
+        where
+          bad : (why : Reason) → Least Ranked (RecordHas (segments_of host libs) r.name r.body)
+              (Some why) → ⊥
+          bad why (this y h l) = none OfReferences (in_record s.file s.slot rec why)
+              (record { stands = (s, is, (rec, r, u.0, inl (why, refl, h))) })
 
-        go : (o : Result Target Reason) → target_of (known_of (segments_of host libs)) (private_offset (segments_of host libs) s.slot rec) r ≡ o → Least Ranked (RecordHas (segments_of host libs) r.name r.body) (result_err o)
-            → (t : Target) × (target_of (known_of (segments_of host libs)) (private_offset (segments_of host libs) s.slot rec) r ≡ Ok t)
-        go (Ok t) e l = (t, e)
-        go (Err why) e l = absurd (bad why l)
+          go : (o : Result Target Reason) → target_of (known_of (segments_of host libs))
+              (private_offset (segments_of host libs) s.slot rec) r ≡ o
+              → Least Ranked (RecordHas (segments_of host libs) r.name r.body) (result_err o)
+              → (t : Target)
+              × (target_of (known_of (segments_of host libs))
+              (private_offset (segments_of host libs) s.slot rec) r ≡ Ok t)
+          go (Ok t) e l = (t, e)
+          go (Err why) e l = absurd (bad why l)
 
-    is_byte : (p : ℕ) → IsLinkedByte (order_of host) (segments_of host libs) s p (linked_byte (order_of host) (summed_segment (order_of host) (segments_of host libs) s) p)
-    is_byte p = facts (order_of host) (segments_of host libs) (base_there host libs none read) s long_code outer_block (host_linked s.role) (file s is).unread targets p (apart s is p)
+      is_byte : (p : ℕ) → IsLinkedByte (order_of host) (segments_of host libs) s p
+          (linked_byte (order_of host) (summed_segment (order_of host) (segments_of host libs) s) p)
+      is_byte p = facts (order_of host) (segments_of host libs)
+          (base_there host libs none read) s long_code outer_block (host_linked s.role)
+          (file s is).unread targets p (apart s is p)
 
-    one_at : (p b c : ℕ) → IsLinkedByte (order_of host) (segments_of host libs) s p b → IsLinkedByte (order_of host) (segments_of host libs) s p c → b ≡ c
-    one_at p b c x y =
-        one_byte (order_of host) (segments_of host libs) (base_there host libs none read) s long_code outer_block (host_linked s.role) (file s is).unread targets p (apart s is p)
-        (one_unit host libs none read) (one_public host libs none read) (one_base host libs none read) b c x y
+      one_at : (p b c : ℕ) → IsLinkedByte (order_of host) (segments_of host libs) s p b
+          → IsLinkedByte (order_of host) (segments_of host libs) s p c → b ≡ c
+      one_at p b c x y =
+          one_byte (order_of host) (segments_of host libs)
+          (base_there host libs none read) s long_code outer_block (host_linked s.role)
+          (file s is).unread targets p (apart s is p)
+          (one_unit host libs none read) (one_public host libs none read)
+          (one_base host libs none read) b c x y
 
-  abbrev IsMade : Edited → Type 0
-  IsMade e = (p : ℕ) → p < length e.segment.code → IsLinkedByte (order_of host) (segments_of host libs) e.segment p (linked_byte (order_of host) e p)
+    abbrev IsMade : Edited → Type 0
+    IsMade e = (p : ℕ) → p < length e.segment.code
+        → IsLinkedByte (order_of host) (segments_of host libs) e.segment p
+        (linked_byte (order_of host) e p)
 
-  pub bytes : HaveLinkedBytes host libs
-  bytes =
-      All-same IsMade (edited_segments (order_of host) (segments_of host libs)) (map (summed_segment (order_of host) (segments_of host libs)) (segments_of host libs)) (offsets host libs)
-      (All-map IsMade (summed_segment (order_of host) (segments_of host libs)) (segments_of host libs)
-      (all_items (λ (s : Segment). IsMade (summed_segment (order_of host) (segments_of host libs) s)) (segments_of host libs) (λ k s e p lt. is_byte s (of_segments (order_of host) host libs k s e) p)))
+    pub bytes : HaveLinkedBytes host libs
+    bytes =
+        All-same IsMade (edited_segments (order_of host) (segments_of host libs))
+        (map (summed_segment (order_of host) (segments_of host libs)) (segments_of host libs))
+        (offsets host libs)
+        (All-map IsMade (summed_segment (order_of host) (segments_of host libs))
+        (segments_of host libs)
+        (all_items (λ (s : Segment). IsMade
+        (summed_segment (order_of host) (segments_of host libs) s)) (segments_of host libs)
+        (λ k s e p lt. is_byte s (of_segments (order_of host) host libs k s e) p)))
 
-  abbrev IsOne : Segment → Type 0
-  IsOne s = (p b c : ℕ) → IsLinkedByte (order_of host) (segments_of host libs) s p b → IsLinkedByte (order_of host) (segments_of host libs) s p c → b ≡ c
+    abbrev IsOne : Segment → Type 0
+    IsOne s = (p b c : ℕ) → IsLinkedByte (order_of host) (segments_of host libs) s p b
+        → IsLinkedByte (order_of host) (segments_of host libs) s p c → b ≡ c
 
-  pub one_linked : HaveOneLinkedByte host libs
-  one_linked = all_items IsOne (segments_of host libs) (λ k s e p b c x y. one_at s (of_segments (order_of host) host libs k s e) p b c x y)
+    pub one_linked : HaveOneLinkedByte host libs
+    one_linked = all_items IsOne (segments_of host libs)
+        (λ k s e p b c x y. one_at s (of_segments (order_of host) host libs k s e) p b c x y)

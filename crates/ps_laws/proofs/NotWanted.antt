@@ -1,9 +1,12 @@
 -- The slot of a record that requests a unit does not itself want one that no library has.
-use Rattle.std.proofs.Common.{◌≡◌, ℕ, ◌+◌, List, ◌++◌, take, Option, Some, None, true, false, refl, sym, ap, subst, ◌∙◌, inl, inr, is_none, arith}
+use Rattle.std.proofs.Common.{◌≡◌, ℕ, ◌+◌, List, ◌++◌, take, Option, Some, None}
+use Rattle.std.proofs.Common.{true, false, refl, sym, ap, subst, ◌∙◌, inl, inr, is_none}
+use Rattle.std.proofs.Common.{arith}
 use Rattle.ps_codefile.specs.declared.entry.Role.TheVariants as role
 use Rattle.ps_laws.proofs.Words.{Segment, is_named, chosen_library, unit_source, own_segment}
 use Rattle.ps_laws.proofs.Words.{IsGiver, HasRole, UnitReference, Order, slice_get, find}
-use Rattle.ps_laws.proofs.Words.{option_map, option_map_or, option_and_then, result_ok, false≢true}
+use Rattle.ps_laws.proofs.Words.{option_map, option_map_or, option_and_then, result_ok}
+use Rattle.ps_laws.proofs.Words.{false≢true}
 use Rattle.ps_laws.proofs.Words.{none-some, slots, is_empty, added_segments, is_role}
 use Rattle.ps_resolve.specs.Parts.{WantsMissing}
 use Rattle.ps_resolve.specs.Sources.{own_segments}
@@ -19,41 +22,56 @@ use Rattle.ps_laws.proofs.AddedUnits.{given, split_at}
 
 -- 1. an added segment is in an empty slot, also where a later round has a fault
 module _ (order : Order) (host : List ℕ) (libs : List (List ℕ)) where
-  added_slot : (j : ℕ) (s : Segment) → slice_get (added_segments order host libs) j ≡ Some s → is_role is_empty order host s.slot ≡ true
+  added_slot : (j : ℕ) (s : Segment) → slice_get (added_segments order host libs) j ≡ Some s
+      → is_role is_empty order host s.slot ≡ true
   added_slot j s e = (empty_slot order host j s.slot (in_empty order host libs j s e)).2
 
-  not_empty : (slot : ℕ) → HasRole order host slot role.Wanted → is_role is_empty order host slot ≡ true → ⊥
-  not_empty slot has e = false≢true (sym (ap (λ r. option_map_or is_empty (result_ok r) false) has) ∙ e)
+  not_empty : (slot : ℕ) → HasRole order host slot role.Wanted
+      → is_role is_empty order host slot ≡ true → ⊥
+  not_empty slot has e = false≢true (sym
+      (ap (λ r. option_map_or is_empty (result_ok r) false) has) ∙ e)
 
   -- 2. a segment of the host's own that a slot wants has its library
-  none_source : (name : List ℕ) → NoneHas order name libs → unit_source order name libs ≡ None
+  none_source : (name : List ℕ) → NoneHas order name libs
+      → unit_source order name libs ≡ None
   none_source name none = go (chosen_library order name libs) ((none_has order name libs).1 none)
     where
-      go : (o : Option (ℕ × List ℕ)) → is_none o ≡ true → option_and_then {U = ℕ × ℕ} (λ (lib : ℕ × List ℕ). option_map {U = ℕ × ℕ} (λ (i : ℕ). (lib.0 + 1, i)) (find (is_named order name lib.1) slots)) o ≡ None
+      go : (o : Option (ℕ × List ℕ)) → is_none o ≡ true
+          → option_and_then {U = ℕ × ℕ}
+          (λ (lib : ℕ × List ℕ). option_map {U = ℕ × ℕ} (λ (i : ℕ). (lib.0 + 1, i))
+          (find (is_named order name lib.1) slots)) o ≡ None
       go None e = refl
       go (Some lib) e = absurd (false≢true e)
 
-  own_has_library : (slot : ℕ) (s : Segment) → own_segment order host libs slot ≡ Some s → WantsMissing order host libs slot → ⊥
+  own_has_library : (slot : ℕ) (s : Segment) → own_segment order host libs slot ≡ Some s
+      → WantsMissing order host libs slot → ⊥
   own_has_library slot s e wants = grind (arith, own_made, ok_is, none-some, none_source)
 
   -- 3. the giver of a name that is requested
-  pub not_wanted : (k : ℕ) (g : UnitReference) → IsRequested order host libs k g → WantsMissing order host libs g.slot → ⊥
-  not_wanted k g t wants = elim (split_at (own_segments order host libs) (take k (added_segments order host libs)) giver.0 s there) [
-    | inl h ↦
-        let o = own_at order host libs s (giver.0, h) in
-        own_has_library o.0 s o.2 (subst (λ (n : ℕ). WantsMissing order host libs n) (slot ∙ own_in_slot order host libs o.0 s o.2) wants)
-    | inr u ↦
-        let v = of_take k (added_segments order host libs) u.0 s u.2 in
-        not_empty s.slot (subst (λ (n : ℕ). HasRole order host n role.Wanted) slot wants.0) (added_slot u.0 s v.1)
-  ]
+  pub not_wanted : (k : ℕ) (g : UnitReference) → IsRequested order host libs k g
+      → WantsMissing order host libs g.slot → ⊥
+  not_wanted k g t wants =
+      elim (split_at (own_segments order host libs)
+      (take k (added_segments order host libs)) giver.0 s there) [
+        | inl h ↦
+            let o = own_at order host libs s (giver.0, h) in
+            own_has_library o.0 s o.2 (subst (λ (n : ℕ). WantsMissing order host libs n)
+            (slot ∙ own_in_slot order host libs o.0 s o.2) wants)
+        | inr u ↦
+            let v = of_take k (added_segments order host libs) u.0 s u.2 in
+            not_empty s.slot (subst (λ (n : ℕ). HasRole order host n role.Wanted) slot wants.0)
+            (added_slot u.0 s v.1)
+      ]
     where
-      giver : (i : ℕ) × IsGiver (own_segments order host libs ++ take k (added_segments order host libs)) i g
+      giver : (i : ℕ) × IsGiver (own_segments order host libs
+          ++ take k (added_segments order host libs)) i g
       giver = given order host libs (take k (added_segments order host libs)) k g t.1
 
       s : Segment
       s = giver.1.0.0
 
-      there : slice_get (own_segments order host libs ++ take k (added_segments order host libs)) giver.0 ≡ Some s
+      there : slice_get (own_segments order host libs ++ take k (added_segments order host libs))
+          giver.0 ≡ Some s
       there = giver.1.0.1
 
       slot : g.slot ≡ s.slot

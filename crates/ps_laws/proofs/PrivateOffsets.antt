@@ -1,6 +1,7 @@
 -- The offset of a private is the base offset of the host's end mark, and the words of all segments
 -- before and of the records before its own.
-use Rattle.std.proofs.Common.{◌≡◌, ℕ, ◌+◌, ◌<◌, ◌≤◌, List, [], ◌∷◌, ◌++◌, take, map, refl, ap, arith}
+use Rattle.std.proofs.Common.{◌≡◌, ℕ, ◌+◌, ◌<◌, ◌≤◌, List, [], ◌∷◌}
+use Rattle.std.proofs.Common.{◌++◌, take, map, refl, ap, arith}
 use Rattle.ps_laws.proofs.Words.{flat_map, flat_map-append, Record, Segment, host_records}
 use Rattle.ps_laws.proofs.Words.{private_words, owner_of, all_words, total_words, next_of}
 use Rattle.ps_laws.proofs.Words.{private_offset, words_taken}
@@ -17,15 +18,21 @@ abbrev pub AreBelow : ℕ → List Segment → Type 0
 AreBelow slot [] = Unit {0}
 AreBelow slot (s ∷ ss) = (s.slot < slot) × AreBelow slot ss
 
-pub below_more : (slot : ℕ) (prefix : List Segment) (s : Segment) → AreBelow s.slot prefix → s.slot < slot → AreBelow slot (prefix ++ s ∷ [])
+pub below_more : (slot : ℕ) (prefix : List Segment) (s : Segment) → AreBelow s.slot prefix
+    → s.slot < slot → AreBelow slot (prefix ++ s ∷ [])
 below_more slot [] s b h = (h, tt)
-below_more slot (q ∷ prefix) s b h = ((let x = b.0 in omega (arith, x, h)), below_more slot prefix s b.1 h)
+below_more slot (q ∷ prefix) s b h =
+    ((let x = b.0 in omega (arith, x, h)), below_more slot prefix s b.1 h)
 
-pub below_from : (from slot : ℕ) (prefix : List Segment) → from ≤ slot → AreBelow from prefix → AreBelow slot prefix
+pub below_from : (from slot : ℕ) (prefix : List Segment) → from ≤ slot
+    → AreBelow from prefix → AreBelow slot prefix
 below_from from slot [] h b = tt
-below_from from slot (q ∷ prefix) h b = ((let x = b.0 in omega (arith, x, h)), below_from from slot prefix h b.1)
+below_from from slot (q ∷ prefix) h b =
+    ((let x = b.0 in omega (arith, x, h)), below_from from slot prefix h b.1)
 
-pub words_split : (prefix rest : List Segment) → all_words (map owner_of (prefix ++ rest)) ≡ all_words (map owner_of prefix) + all_words (map owner_of rest)
+pub words_split : (prefix rest : List Segment)
+    → all_words (map owner_of (prefix ++ rest))
+    ≡ all_words (map owner_of prefix) + all_words (map owner_of rest)
 words_split [] rest = omega arith
 words_split (s ∷ prefix) rest = let e = words_split prefix rest in omega (arith, e)
 
@@ -43,7 +50,8 @@ words_are (r ∷ rs) =
     omega (arith, a, b, c)
 
 -- which records of a segment are before one of a slot
-of_lesser : (slot rec : ℕ) (s : Segment) → s.slot < slot → records_before slot rec s ≡ s.records
+of_lesser : (slot rec : ℕ) (s : Segment) → s.slot < slot
+    → records_before slot rec s ≡ s.records
 of_lesser slot rec s h = rw (lt-ltb s.slot slot h) refl
 
 -- of a greater slot no record is before
@@ -57,11 +65,14 @@ of_same rec s = grind arith
 abbrev before : ℕ → ℕ → List Segment → ℕ
 before slot rec ss = words (flat_map (records_before slot rec) ss)
 
-next_segment : (slot rec : ℕ) (s : Segment) (ss : List Segment) → before slot rec (s ∷ ss) ≡ words (records_before slot rec s) + before slot rec ss
-next_segment slot rec s ss = sum_by-append (λ (r : Record). words_taken r.body) (records_before slot rec s) (flat_map (records_before slot rec) ss)
+next_segment : (slot rec : ℕ) (s : Segment) (ss : List Segment)
+    → before slot rec (s ∷ ss) ≡ words (records_before slot rec s) + before slot rec ss
+next_segment slot rec s ss = sum_by-append (λ (r : Record). words_taken r.body)
+    (records_before slot rec s) (flat_map (records_before slot rec) ss)
 
 -- of segments in smaller slots all words are before
-all_before : (slot rec : ℕ) (ss : List Segment) → AreBelow slot ss → before slot rec ss ≡ all_words (map owner_of ss)
+all_before : (slot rec : ℕ) (ss : List Segment) → AreBelow slot ss
+    → before slot rec ss ≡ all_words (map owner_of ss)
 all_before slot rec [] h = refl
 all_before slot rec (s ∷ ss) h =
     let a = next_segment slot rec s ss in
@@ -71,7 +82,8 @@ all_before slot rec (s ∷ ss) h =
     omega (arith, a, b, c, d)
 
 -- of segments in greater slots no words are before
-none_behind : (slot rec from : ℕ) (ss : List Segment) → slot < from → Ascends from ss → before slot rec ss ≡ 0
+none_behind : (slot rec from : ℕ) (ss : List Segment) → slot < from → Ascends from ss
+    → before slot rec ss ≡ 0
 none_behind slot rec from [] h a = refl
 none_behind slot rec from (s ∷ ss) h a =
     let low = a.0 in
@@ -83,11 +95,16 @@ none_behind slot rec from (s ∷ ss) h a =
 
 -- the offset of a private is the base offset, the words of the segments before, and those of the
 -- records before its own
-offset_is : (prefix : List Segment) (s : Segment) (rest : List Segment) (rec : ℕ) → AreBelow s.slot prefix → Ascends (s.slot + 1) rest
-    → private_offset (prefix ++ s ∷ rest) s.slot rec ≡ next_of (host_records (prefix ++ s ∷ rest)) + all_words (map owner_of prefix) + private_words (take rec s.records)
+offset_is : (prefix : List Segment) (s : Segment) (rest : List Segment) (rec : ℕ)
+    → AreBelow s.slot prefix → Ascends (s.slot + 1) rest
+    → private_offset (prefix ++ s ∷ rest) s.slot rec
+    ≡ next_of (host_records (prefix ++ s ∷ rest)) + all_words
+    (map owner_of prefix) + private_words (take rec s.records)
 offset_is prefix s rest rec below ascends =
     let e = ap words (flat_map-append (records_before s.slot rec) prefix (s ∷ rest)) in
-    let f = sum_by-append (λ (r : Record). words_taken r.body) (flat_map (records_before s.slot rec) prefix) (flat_map (records_before s.slot rec) (s ∷ rest)) in
+    let f = sum_by-append (λ (r : Record). words_taken r.body)
+    (flat_map (records_before s.slot rec) prefix)
+    (flat_map (records_before s.slot rec) (s ∷ rest)) in
     let g = next_segment s.slot rec s rest in
     let a = all_before s.slot rec prefix below in
     let b = ap words (of_same rec s) in
@@ -96,15 +113,19 @@ offset_is prefix s rest rec below ascends =
     omega (arith, e, f, g, a, b, c, d)
 
 -- the offsets of a segment among all
-pub offset_in : (all prefix : List Segment) (s : Segment) (rest : List Segment) (from : ℕ) → all ≡ prefix ++ s ∷ rest → AreBelow from prefix → Ascends from (s ∷ rest)
-    → (rec : ℕ) → private_offset all s.slot rec ≡ next_of (host_records all) + all_words (map owner_of prefix) + private_words (take rec s.records)
+pub offset_in : (all prefix : List Segment) (s : Segment) (rest : List Segment) (from : ℕ)
+    → all ≡ prefix ++ s ∷ rest → AreBelow from prefix → Ascends from (s ∷ rest)
+    → (rec : ℕ) → private_offset all s.slot rec
+    ≡ next_of (host_records all) + all_words (map owner_of prefix) + private_words
+    (take rec s.records)
 offset_in all prefix s rest from is below ascends rec = grind (arith, offset_is, below_from)
 
 -- the words of all privates, segment by segment and record by record
 pub all_are : (ss : List Segment) → all_private_words ss ≡ total_words ss
 all_are [] = refl
 all_are (s ∷ ss) =
-    let a = sum_by-append (λ (r : Record). words_taken r.body) s.records (flat_map (λ (q : Segment). q.records) ss) in
+    let a = sum_by-append (λ (r : Record). words_taken r.body) s.records
+    (flat_map (λ (q : Segment). q.records) ss) in
     let b = words_are s.records in
     let c = all_are ss in
     omega (arith, a, b, c)

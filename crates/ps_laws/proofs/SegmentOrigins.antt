@@ -1,6 +1,9 @@
 -- Where no fault applies, the segments of a link have the origins that are said plainly.
-use Rattle.std.proofs.Common.{◌≡◌, ℕ, zero, suc, ◌+◌, ◌<◌, ◌≤◌, List, [], ◌∷◌, ◌++◌, take, unwrap_or, Option, Some, None, Result, Ok, Err, true, false, refl, sym, ap, subst, ◌∙◌, inl, inr, arith}
-use Rattle.ps_laws.proofs.Words.{◌≢◌, ◌⊎◌, slice_get, range_with_len, option_map, option_map_or}
+use Rattle.std.proofs.Common.{◌≡◌, ℕ, zero, suc, ◌+◌, ◌<◌, ◌≤◌, List, []}
+use Rattle.std.proofs.Common.{◌∷◌, ◌++◌, take, unwrap_or, Option, Some, None, Result, Ok}
+use Rattle.std.proofs.Common.{Err, true, false, refl, sym, ap, subst, ◌∙◌, inl, inr, arith}
+use Rattle.ps_laws.proofs.Words.{◌≢◌, ◌⊎◌, slice_get, range_with_len, option_map}
+use Rattle.ps_laws.proofs.Words.{option_map_or}
 use Rattle.ps_laws.proofs.Words.{option_or, result_ok, result_err, cases_order, false≢true}
 use Rattle.ps_laws.proofs.Words.{or_parts, same_Some, entry_at, role_of, code_of, request_of}
 use Rattle.ps_laws.proofs.Words.{added_segments, added_fault, SomeItem, IsOfFile, IsOfRound}
@@ -21,7 +24,9 @@ use Rattle.ps_codefile.specs.declared.entry.Role.TheVariants as role
 use Rattle.ps_linkinfo.specs.Records.{Spells}
 use Rattle.ps_resolve.specs.Sources.{own_segments}
 use Rattle.ps_resolve.specs.Faults.{slot_reason, slots_fault, sources_fault}
-use Rattle.ps_resolve.specs.Origins.{IsOwn, IsAddedUnit, IsInPlace, IsUnitOf, IsSliceOf, IsReadFrom, HaveOneEach, AreBySlot, AreOwn, AreAdded, AreInPlace, AreOfLibraries, AreRead, AreOfRounds, IsTaken, AsksFor}
+use Rattle.ps_resolve.specs.Origins.{IsOwn, IsAddedUnit, IsInPlace, IsUnitOf, IsSliceOf, IsReadFrom}
+use Rattle.ps_resolve.specs.Origins.{HaveOneEach, AreBySlot, AreOwn, AreAdded, AreInPlace}
+use Rattle.ps_resolve.specs.Origins.{AreOfLibraries, AreRead, AreOfRounds, IsTaken, AsksFor}
 use Rattle.ps_resolve.specs.RequestedUnits.{HasSlot}
 use Rattle.ps_resolve.proofs.FirstSlots.{none_mapped as map_none}
 use Rattle.ps_laws.proofs.Items.{In, all_items, in_range, in_filter, of_take, some_before}
@@ -41,60 +46,76 @@ use Rattle.ps_laws.proofs.UnitPlaces.{unit_of}
 
 -- what is read is the only spelling: the law of link information
 abbrev pub OneSpelling : Type 0
-OneSpelling = (order : Order) (bytes : List ℕ) (rs : List Record) → Spells order bytes rs ↔ (reading order bytes ≡ (rs, None))
+OneSpelling = (order : Order) (bytes : List ℕ) (rs : List Record)
+    → Spells order bytes rs ↔ (reading order bytes ≡ (rs, None))
 
 -- 1. a segment and its source
 -- a code with which nothing is wrong is the slice of its file that the entry reports
-slice_of : (file : List ℕ) (e : Entry) (code : List ℕ) → code_of file e ≡ Ok code → IsSliceOf file e code
+slice_of : (file : List ℕ) (e : Entry) (code : List ℕ) → code_of file e ≡ Ok code
+    → IsSliceOf file e code
 slice_of file e code h = grind (arith, whole_code, ltb, ltb-false)
 
 -- what is read of a segment's entry
-read_from : OneSpelling → (order : Order) (host : List ℕ) (libs : List (List ℕ)) (s : Segment) → IsFile host libs s.file (file_at host libs s.file) → s.index < 16
+read_from : OneSpelling → (order : Order) (host : List ℕ) (libs : List (List ℕ)) (s : Segment)
+    → IsFile host libs s.file (file_at host libs s.file) → s.index < 16
     → IsOfFile order host libs s → IsReadFrom order host libs s
 read_from law order host libs s there inside h = record {
   source = file_at host libs s.file;
   file = there;
   within = inside;
   code = h.code;
-  slice = slice_of (file_at host libs s.file) (entry_at order (file_at host libs s.file) s.index) s.code h.code;
+  slice = slice_of (file_at host libs s.file)
+      (entry_at order (file_at host libs s.file) s.index) s.code h.code;
   records = λ l. (law order _ s.records).1 (h.records l);
   unread = h.unread;
 }
 
 -- 2. slots ascend
 abbrev Rises : List Segment → Type 0
-Rises segs = (i j : ℕ) (s q : Segment) → i < j → slice_get segs i ≡ Some s → slice_get segs j ≡ Some q → s.slot < q.slot
+Rises segs = (i j : ℕ) (s q : Segment) → i < j → slice_get segs i ≡ Some s
+    → slice_get segs j ≡ Some q → s.slot < q.slot
 
 -- no segment of a list whose slots ascend has a slot below the start
-lowest : (from : ℕ) (segs : List Segment) → Ascends from segs → (j : ℕ) (q : Segment) → slice_get segs j ≡ Some q → from ≤ q.slot
+lowest : (from : ℕ) (segs : List Segment) → Ascends from segs → (j : ℕ) (q : Segment)
+    → slice_get segs j ≡ Some q → from ≤ q.slot
 lowest from [] a j q e = absurd (cc)
-lowest from (s ∷ ss) a zero q e = let same : s ≡ q = cc in subst (λ (x : Segment). from ≤ x.slot) same a.0
-lowest from (s ∷ ss) a (suc j) q e = let h = lowest (s.slot + 1) ss a.1 j q e in let b = a.0 in omega (arith, h, b)
+lowest from (s ∷ ss) a zero q e = let same : s ≡ q = cc in
+    subst (λ (x : Segment). from ≤ x.slot) same a.0
+lowest from (s ∷ ss) a (suc j) q e = let h = lowest (s.slot + 1) ss a.1 j q e in let b = a.0 in
+    omega (arith, h, b)
 
 -- where slots ascend, a later segment has a greater slot
 rises : (from : ℕ) (segs : List Segment) → Ascends from segs → Rises segs
 rises from [] a i j s q l e u = absurd (cc)
 rises from (x ∷ xs) a i zero s q l e u = absurd (omega (arith, l))
-rises from (x ∷ xs) a zero (suc j) s q l e u = let same : x ≡ s = cc in let h = lowest (x.slot + 1) xs a.1 j q u in subst (λ (y : Segment). y.slot < q.slot) same (omega (arith, h))
-rises from (x ∷ xs) a (suc i) (suc j) s q l e u = rises (x.slot + 1) xs a.1 i j s q (omega (arith, l)) e u
+rises from (x ∷ xs) a zero (suc j) s q l e u = let same : x ≡ s = cc in let h =
+    lowest (x.slot + 1) xs a.1 j q u in subst (λ (y : Segment). y.slot < q.slot) same
+    (omega (arith, h))
+rises from (x ∷ xs) a (suc i) (suc j) s q l e u =
+    rises (x.slot + 1) xs a.1 i j s q (omega (arith, l)) e u
 
 -- where later segments have greater slots, no two places have the same slot
-one_place : (segs : List Segment) → Rises segs → (i j : ℕ) (s q : Segment) → slice_get segs i ≡ Some s → slice_get segs j ≡ Some q → s.slot ≡ q.slot → i ≡ j
+one_place : (segs : List Segment) → Rises segs → (i j : ℕ) (s q : Segment)
+    → slice_get segs i ≡ Some s → slice_get segs j ≡ Some q → s.slot ≡ q.slot
+    → i ≡ j
 one_place segs r i j s q e u same = grind arith
 
 -- 3. what is known of each segment of a link
 -- where a segment of this role is from
 abbrev HasPlace : Order → List ℕ → List (List ℕ) → Segment → Type 0
-HasPlace order host libs s = (s.role ≢ role.Wanted → IsInPlace s) × (s.role ≡ role.Wanted → IsUnitOf order host libs s.name s.file s.index)
+HasPlace order host libs s = (s.role ≢ role.Wanted → IsInPlace s)
+    × (s.role ≡ role.Wanted → IsUnitOf order host libs s.name s.file s.index)
 
-record HasOrigin (order : Order) (host : List ℕ) (libs : List (List ℕ)) (s : Segment) : Type 0 where
-  read : IsReadFrom order host libs s
-  place : HasPlace order host libs s
-  own : s.added ≡ false → IsOwn order host s
-  added_unit : s.added ≡ true → IsAddedUnit order host (segments order host libs) s
-  round : s.added ≡ true → SomeItem (added_segments order host libs) (λ k q. q ≡ s)
+record HasOrigin (order : Order) (host : List ℕ) (libs : List (List ℕ)) (s : Segment) : Type 0
+  where
+    read : IsReadFrom order host libs s
+    place : HasPlace order host libs s
+    own : s.added ≡ false → IsOwn order host s
+    added_unit : s.added ≡ true → IsAddedUnit order host (segments order host libs) s
+    round : s.added ≡ true → SomeItem (added_segments order host libs) (λ k q. q ≡ s)
 
-module _ (law : OneStop) (spells : OneSpelling) (host : List ℕ) (libs : List (List ℕ)) (none : NoneStands host libs) where
+module _ (law : OneStop) (spells : OneSpelling) (host : List ℕ) (libs : List (List ℕ))
+    (none : NoneStands host libs) where
   abbrev order : Order
   order = order_of host
 
@@ -106,12 +127,16 @@ module _ (law : OneStop) (spells : OneSpelling) (host : List ℕ) (libs : List (
 
   -- a unit in the libraries
   module _ (s : Segment) (h : IsOfFile order host libs s) where
-    of_unit : (q : Request) → q.name ≡ s.name → request_fault order host libs q ≡ None → unit_source order s.name libs ≡ Some (s.file, s.index)
+    of_unit : (q : Request) → q.name ≡ s.name → request_fault order host libs q ≡ None
+        → unit_source order s.name libs ≡ Some (s.file, s.index)
         → IsUnitOf order host libs s.name s.file s.index × IsReadFrom order host libs s
     of_unit q name fits source =
         let at = ap (λ (n : List ℕ). unit_source order n libs) name ∙ source in
-        let unit = subst (λ (n : List ℕ). IsUnitOf order host libs n s.file s.index) name (unit_of order host libs q (s.file, s.index) fits at) in
-        let file : IsFile host libs s.file (file_at host libs s.file) = subst (IsFile host libs s.file) (sym (ap (λ (o : Option (List ℕ)). unwrap_or o []) unit.file)) unit.file in
+        let unit = subst (λ (n : List ℕ). IsUnitOf order host libs n s.file s.index) name
+        (unit_of order host libs q (s.file, s.index) fits at) in
+        let file : IsFile host libs s.file (file_at host libs s.file) =
+        subst (IsFile host libs s.file)
+        (sym (ap (λ (o : Option (List ℕ)). unwrap_or o []) unit.file)) unit.file in
         (unit, read_from spells order host libs s file unit.within h)
 
     -- a slot's own segment
@@ -121,92 +146,143 @@ module _ (law : OneStop) (spells : OneSpelling) (host : List ℕ) (libs : List (
         is_own : s.role ≢ role.Empty → IsOwn order host s
         is_own filled = record { role = known.role; filled = filled; name = known.name }
 
-        made : IsReadFrom order host libs s → HasPlace order host libs s → s.role ≢ role.Empty → HasOrigin order host libs s
+        made : IsReadFrom order host libs s → HasPlace order host libs s → s.role ≢ role.Empty
+            → HasOrigin order host libs s
         made read place filled = grind arith
 
-        here : s.role ≢ role.Empty → s.role ≢ role.Wanted → ◌≡◌ {A = Option (ℕ × ℕ)} (Some (0, s.slot)) (Some (s.file, s.index)) → HasOrigin order host libs s
+        here : s.role ≢ role.Empty → s.role ≢ role.Wanted
+            → ◌≡◌ {A = Option (ℕ × ℕ)} (Some (0, s.slot)) (Some (s.file, s.index))
+            → HasOrigin order host libs s
         here filled other e = grind (arith, some_pair_parts, read_from)
 
-        by : (r : Role) → s.role ≡ r → source_of order host libs s.slot r ≡ Some (s.file, s.index) → role_fault order host libs s.slot r ≡ None → HasOrigin order host libs s
+        by : (r : Role) → s.role ≡ r
+            → source_of order host libs s.slot r ≡ Some (s.file, s.index)
+            → role_fault order host libs s.slot r ≡ None → HasOrigin order host libs s
         by role.Empty is source fits = absurd (cc)
         by role.Wanted is source fits =
-            let u = of_unit (request_by_slot order host s.slot) (sym known.name) fits (ap (λ (n : List ℕ). unit_source order n libs) known.name ∙ source) in
+            let u = of_unit (request_by_slot order host s.slot) (sym known.name) fits
+            (ap (λ (n : List ℕ). unit_source order n libs) known.name ∙ source) in
             made u.1 (λ x. absurd (x is), λ w. u.0) (λ e. let a = sym is ∙ e in cc)
-        by other is source fits = here (λ e. let a = sym is ∙ e in cc) (λ e. let a = sym is ∙ e in cc) source
+        by other is source fits = here (λ e. let a = sym is ∙ e in cc)
+            (λ e. let a = sym is ∙ e in cc) source
 
   -- an added segment
-  is_empty_role : (slot : ℕ) → is_role is_empty order host slot ≡ true → HasRole order host slot role.Empty
+  is_empty_role : (slot : ℕ) → is_role is_empty order host slot ≡ true
+      → HasRole order host slot role.Empty
   is_empty_role slot = go (role_of (entry_at order host slot))
     where
-      go : (o : Result Role Reason) → option_map_or is_empty (result_ok o) false ≡ true → o ≡ Ok role.Empty
+      go : (o : Result Role Reason) → option_map_or is_empty (result_ok o) false ≡ true
+          → o ≡ Ok role.Empty
       go o h = grind arith
 
   -- a segment of the host's own slots, or an added one, is a segment of the link
-  own_listed : (k : ℕ) (s : Segment) → slice_get (own_segments order host libs) k ≡ Some s → In s (segments order host libs)
+  own_listed : (k : ℕ) (s : Segment) → slice_get (own_segments order host libs) k ≡ Some s
+      → In s (segments order host libs)
   own_listed k s e =
       let o = own_at order host libs s (k, e) in
-      in_segments order host libs o.0 s o.1 (ap (λ (x : Option Segment). option_or x (added_at order host libs o.0)) o.2)
+      in_segments order host libs o.0 s o.1
+      (ap (λ (x : Option Segment). option_or x (added_at order host libs o.0)) o.2)
 
-  added_listed : (k : ℕ) (s : Segment) → slice_get (added_segments order host libs) k ≡ Some s → In s (segments order host libs)
+  added_listed : (k : ℕ) (s : Segment) → slice_get (added_segments order host libs) k ≡ Some s
+      → In s (segments order host libs)
   added_listed k s e =
       let b = (empty_slot order host k s.slot (in_empty order host libs k s e)).1 in
       in_segments order host libs s.slot s (omega (arith, b)) (found_added order host libs k s e)
 
-  module _ (j : ℕ) (s : Segment) (in_round : slice_get (added_segments order host libs) j ≡ Some s) where
+  module _ (j : ℕ) (s : Segment) (in_round : slice_get (added_segments order host libs) j
+      ≡ Some s) where
     -- the slot of each round is the next empty one
-    rises_with : (i : ℕ) (x y : ℕ) → x < y → slice_get (empty_slots order host) i ≡ Some x → slice_get (empty_slots order host) j ≡ Some y → i < j
+    rises_with : (i : ℕ) (x y : ℕ) → x < y → slice_get (empty_slots order host) i ≡ Some x
+        → slice_get (empty_slots order host) j ≡ Some y → i < j
     rises_with i x y lt e u = elim (cases_order i j) [
-      | inl same ↦ (let a = same_Some x y (sym (subst (λ (n : ℕ). slice_get (empty_slots order host) n ≡ Some x) same e) ∙ u) in absurd (omega (arith, a, lt)))
-      | inr k ↦ elim k [ inl h ↦ h | inr h ↦ (let a = empty_ascend order host j i y x h u e in absurd (omega (arith, a, lt))) ]
+      | inl same ↦ (let a = same_Some x y
+          (sym (subst (λ (n : ℕ). slice_get (empty_slots order host) n ≡ Some x) same e) ∙ u)
+          in absurd (omega (arith, a, lt)))
+      | inr k ↦ elim k [
+        | inl h ↦ h
+        | inr h ↦
+            (let a = empty_ascend order host j i y x h u e in absurd (omega (arith, a, lt)))
+      ]
     ]
 
-    is_empty_slot : (slot : ℕ) → 7 ≤ slot → slot < 16 → HasRole order host slot role.Empty → In slot (empty_slots order host)
+    is_empty_slot : (slot : ℕ) → 7 ≤ slot → slot < 16 → HasRole order host slot role.Empty
+        → In slot (empty_slots order host)
     unfolding empty_slots
     is_empty_slot slot low high has =
-        in_filter (is_role is_empty order host) (range_with_len 7 9) slot (in_range 7 9 slot low (omega (arith, high))) (ap (λ (o : Result Role Reason). option_map_or is_empty (result_ok o) false) has)
+        in_filter (is_role is_empty order host) (range_with_len 7 9) slot
+        (in_range 7 9 slot low (omega (arith, high)))
+        (ap (λ (o : Result Role Reason). option_map_or is_empty (result_ok o) false) has)
 
-    none_left : (slot : ℕ) → 7 ≤ slot → slot < s.slot → HasRole order host slot role.Empty → IsTaken (segments order host libs) slot
+    none_left : (slot : ℕ) → 7 ≤ slot → slot < s.slot → HasRole order host slot role.Empty
+        → IsTaken (segments order host libs) slot
     none_left slot low lt has = go (slice_get (added_segments order host libs) i.0) refl
       where
         at : slice_get (empty_slots order host) j ≡ Some s.slot
         at = in_empty order host libs j s in_round
 
         i : In slot (empty_slots order host)
-        i = is_empty_slot slot low (let b = (empty_slot order host j s.slot at).1 in omega (arith, b, lt)) has
+        i = is_empty_slot slot low (let b = (empty_slot order host j s.slot at).1 in
+            omega (arith, b, lt)) has
 
         before : i.0 < j
         before = rises_with i.0 slot s.slot lt i.1 at
 
-        go : (o : Option Segment) → slice_get (added_segments order host libs) i.0 ≡ o → IsTaken (segments order host libs) slot
-        go None e = absurd (some_before (added_segments order host libs) i.0 j s (let h = before in omega (arith, h)) in_round e)
-        go (Some q) e = let l = added_listed i.0 q e in (l.0, q, l.1, same_Some q.slot slot (sym (in_empty order host libs i.0 q e) ∙ i.1))
+        go : (o : Option Segment) → slice_get (added_segments order host libs) i.0 ≡ o
+            → IsTaken (segments order host libs) slot
+        go None e = absurd (some_before (added_segments order host libs) i.0 j s
+            (let h = before in omega (arith, h)) in_round e)
+        go (Some q) e = let l = added_listed i.0 q e in
+            (l.0, q, l.1, same_Some q.slot slot (sym (in_empty order host libs i.0 q e) ∙ i.1))
 
     -- what requests it was there in its round
-    asked_before : (g : UnitReference) → slice_get (requested_units order host libs (take j (added_segments order host libs))) j ≡ Some g → s.name ≡ g.name
-        → SomeItem (segments order host libs) (λ k q. ((q.added ≡ false) ⊎ (q.slot < s.slot)) × AsksFor q s.name)
-    asked_before g earlier name = elim (split_at (own_segments order host libs) (take j (added_segments order host libs)) giver.0 asks.0 asks.1) [
-      | inl h ↦
-          let o = own_at order host libs asks.0 (giver.0, h) in
-          let l = own_listed giver.0 asks.0 h in
-          (l.0, asks.0, l.1, (inl (own_known order host libs fine.0 o.0 asks.0 o.1 o.2).1.not_added, asking))
-      | inr t ↦
-          let u = of_take j (added_segments order host libs) t.0 asks.0 t.2 in
-          let l = added_listed t.0 asks.0 u.1 in
-          let a = in_empty order host libs t.0 asks.0 u.1 in
-          (l.0, asks.0, l.1, (inr (empty_ascend order host t.0 j asks.0.slot s.slot u.0 a (in_empty order host libs j s in_round)), asking))
-    ]
+    asked_before : (g : UnitReference) → slice_get
+        (requested_units order host libs (take j (added_segments order host libs))) j ≡ Some g
+        → s.name ≡ g.name
+        → SomeItem (segments order host libs)
+        (λ k q. ((q.added ≡ false) ⊎ (q.slot < s.slot)) × AsksFor q s.name)
+    asked_before g earlier name =
+        elim (split_at (own_segments order host libs)
+        (take j (added_segments order host libs)) giver.0 asks.0 asks.1) [
+          | inl h ↦
+              let o = own_at order host libs asks.0 (giver.0, h) in
+              let l = own_listed giver.0 asks.0 h in (
+                l.0,
+                asks.0,
+                l.1,
+                (
+                  inl (own_known order host libs fine.0 o.0 asks.0 o.1 o.2).1.not_added,
+                  asking,
+                ),
+              )
+          | inr t ↦
+              let u = of_take j (added_segments order host libs) t.0 asks.0 t.2 in
+              let l = added_listed t.0 asks.0 u.1 in
+              let a = in_empty order host libs t.0 asks.0 u.1 in (
+                l.0,
+                asks.0,
+                l.1,
+                (
+                  inr (empty_ascend order host t.0 j asks.0.slot s.slot u.0 a
+                      (in_empty order host libs j s in_round)),
+                  asking,
+                ),
+              )
+        ]
       where
-        giver : (i : ℕ) × IsGiver (own_segments order host libs ++ take j (added_segments order host libs)) i g
+        giver : (i : ℕ)
+            × IsGiver (own_segments order host libs ++ take j (added_segments order host libs)) i g
         giver = given order host libs (take j (added_segments order host libs)) j g earlier
 
-        asks : Asks (own_segments order host libs ++ take j (added_segments order host libs)) giver.0 g.rec g.name
+        asks : Asks (own_segments order host libs ++ take j (added_segments order host libs))
+            giver.0 g.rec g.name
         asks = giver.1.1
 
         asking : AsksFor asks.0 s.name
         asking = (g.rec, asks.2, asks.3, (asks.4, asks.5 ∙ sym name))
 
     -- the name that is looked up in that round
-    of_round : (g : UnitReference) → IsOfRound order host libs j g s → HasOrigin order host libs s
+    of_round : (g : UnitReference) → IsOfRound order host libs j g s
+        → HasOrigin order host libs s
     of_round g known = record {
       read = u.1;
       place = (λ h. absurd (h known.role), λ h. u.0);
@@ -216,7 +292,8 @@ module _ (law : OneStop) (spells : OneSpelling) (host : List ℕ) (libs : List (
     }
       where
         u : IsUnitOf order host libs s.name s.file s.index × IsReadFrom order host libs s
-        u = of_unit s (round_known order host libs j g s known) (request_of g s.slot) (sym known.name) known.fits known.source
+        u = of_unit s (round_known order host libs j g s known) (request_of g s.slot)
+            (sym known.name) known.fits known.source
 
         unit_added : IsAddedUnit order host (segments order host libs) s
         unit_added =
@@ -229,35 +306,46 @@ module _ (law : OneStop) (spells : OneSpelling) (host : List ℕ) (libs : List (
               role = known.role;
               asked = asked_before g known.earlier known.name;
               named = ap is_nameless known.name ∙ (or_parts (is_nameless g.name) _ parts.0).0;
-              free = λ h. (units.requested j g known.requested).1 (subst (λ (n : List ℕ). HasSlot order host n) known.name h);
+              free = λ h. (units.requested j g known.requested).1
+                  (subst (λ (n : List ℕ). HasSlot order host n) known.name h);
             }
 
   -- each of them
   known : (s : Segment) → IsSegment order host libs s → HasOrigin order host libs s
   known s t =
       let link = of_link host libs no_fault s t in
-      elim link.asked [ inl own ↦ of_slot s link.file link.slot own | inr r ↦ of_round r.0 s r.2.there r.1 r.2 ]
+      elim link.asked [
+        | inl own ↦ of_slot s link.file link.slot own
+        | inr r ↦ of_round r.0 s r.2.there r.1 r.2
+      ]
 
-  each : (P : Segment → Type 0) → ((s : Segment) → HasOrigin order host libs s → P s) → All P (segments_of host libs)
-  each P h = all_items P (segments_of host libs) (λ k s e. h s (known s (of_segments order host libs k s e)))
+  each : (P : Segment → Type 0) → ((s : Segment) → HasOrigin order host libs s → P s)
+      → All P (segments_of host libs)
+  each P h = all_items P (segments_of host libs)
+      (λ k s e. h s (known s (of_segments order host libs k s e)))
 
   pub own : AreOwn host (segments_of host libs)
   own = each (λ s. s.added ≡ false → IsOwn order host s) (λ s k. k.own)
 
   pub added_ones : AreAdded host (segments_of host libs)
-  added_ones = each (λ s. s.added ≡ true → IsAddedUnit order host (segments_of host libs) s) (λ s k. k.added_unit)
+  added_ones = each (λ s. s.added ≡ true → IsAddedUnit order host (segments_of host libs) s)
+      (λ s k. k.added_unit)
 
   pub rounds : AreOfRounds host libs (segments_of host libs)
   rounds = (
-    each (λ s. s.added ≡ true → SomeItem (added_segments order host libs) (λ k q. q ≡ s)) (λ s k. k.round),
-    all_items (λ (s : Segment). SomeItem (segments_of host libs) (λ k q. q ≡ s)) (added_segments order host libs) (λ k s e. let l = added_listed k s e in (l.0, s, l.1, refl)),
+    each (λ s. s.added ≡ true → SomeItem (added_segments order host libs) (λ k q. q ≡ s))
+        (λ s k. k.round),
+    all_items (λ (s : Segment). SomeItem (segments_of host libs) (λ k q. q ≡ s))
+        (added_segments order host libs)
+        (λ k s e. let l = added_listed k s e in (l.0, s, l.1, refl)),
   )
 
   pub in_place : AreInPlace (segments_of host libs)
   in_place = each (λ s. s.role ≢ role.Wanted → IsInPlace s) (λ s k. k.place.0)
 
   pub of_libraries : AreOfLibraries host libs (segments_of host libs)
-  of_libraries = each (λ s. s.role ≡ role.Wanted → IsUnitOf order host libs s.name s.file s.index) (λ s k. k.place.1)
+  of_libraries = each (λ s. s.role ≡ role.Wanted
+      → IsUnitOf order host libs s.name s.file s.index) (λ s k. k.place.1)
 
   pub all_read : AreRead host libs (segments_of host libs)
   all_read = each (λ s. IsReadFrom order host libs s) (λ s k. k.read)
@@ -265,28 +353,43 @@ module _ (law : OneStop) (spells : OneSpelling) (host : List ℕ) (libs : List (
   -- 4. each slot that is not empty has a segment
   has_role : (slot : ℕ) → slot < 16 → (r : Role) × HasRole order host slot r
   unfolding slots_fault
-  has_role slot inside = go (role_of (entry_at order host slot)) refl (both_none (result_err (role_of (entry_at order host slot))) _ no_reason).0
+  has_role slot inside = go (role_of (entry_at order host slot)) refl
+      (both_none (result_err (role_of (entry_at order host slot))) _ no_reason).0
     where
       no_reason : slot_reason order host slot ≡ None
       no_reason =
           map_none (in_slot 0 slot) (slot_reason order host slot)
-          (none_at (λ n. option_map (in_slot 0 n) (slot_reason order host n)) 0 16 slot (slots_fine host libs no_fault) (omega arith) (omega (arith, inside)))
+          (none_at (λ n. option_map (in_slot 0 n) (slot_reason order host n)) 0 16 slot
+          (slots_fine host libs no_fault) (omega arith) (omega (arith, inside)))
 
-      go : (o : Result Role Reason) → role_of (entry_at order host slot) ≡ o → result_err o ≡ None → (r : Role) × HasRole order host slot r
+      go : (o : Result Role Reason) → role_of (entry_at order host slot) ≡ o
+          → result_err o ≡ None → (r : Role) × HasRole order host slot r
       go (Ok r) is e = (r, is)
       go (Err why) is e = absurd (cc)
 
   pub one_each : HaveOneEach host (segments_of host libs)
   one_each slot inside filled =
       let r = has_role slot inside in
-      let s = has_own order host libs fine.0 slot inside r.0 r.1 (λ e. filled (subst (λ (x : Role). HasRole order host slot x) e r.1)) in
-      let i = in_segments order host libs slot s.0 inside (ap (λ (x : Option Segment). option_or x (added_at order host libs slot)) s.1) in
-      let at = own_in_slot order host libs slot s.0 s.1 in
-      (i.0, s.0, i.1, (at, λ other q e same. one_place (segments order host libs) (rises 0 (segments order host libs) (ascend order host libs)) other i.0 q s.0 e i.1 (same ∙ sym at)))
+      let s = has_own order host libs fine.0 slot inside r.0 r.1
+      (λ e. filled (subst (λ (x : Role). HasRole order host slot x) e r.1)) in
+      let i = in_segments order host libs slot s.0 inside
+      (ap (λ (x : Option Segment). option_or x (added_at order host libs slot)) s.1) in
+      let at = own_in_slot order host libs slot s.0 s.1 in (
+        i.0,
+        s.0,
+        i.1,
+        (
+          at,
+          λ other q e same. one_place (segments order host libs)
+              (rises 0 (segments order host libs) (ascend order host libs)) other i.0 q s.0 e i.1
+              (same ∙ sym at),
+        ),
+      )
 
 -- the segments of a link are by slot, and each slot is below 16
 pub by_slot : (host : List ℕ) (libs : List (List ℕ)) → AreBySlot (segments_of host libs)
 by_slot host libs = (
   rises 0 (segments_of host libs) (ascend (order_of host) host libs),
-  all_items (λ (s : Segment). s.slot < 16) (segments_of host libs) (λ k s e. (of_segments (order_of host) host libs k s e).0),
+  all_items (λ (s : Segment). s.slot < 16) (segments_of host libs)
+      (λ k s e. (of_segments (order_of host) host libs k s e).0),
 )

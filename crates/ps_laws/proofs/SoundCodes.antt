@@ -1,6 +1,7 @@
 -- What follows for a segment of a link from its file: its records end once, and in its code the
 -- number and the data size lie apart, at reserved places.
-use Rattle.std.proofs.Common.{◌≡◌, ℕ, ◌+◌, ◌<◌, ◌≤◌, List, length, Some, None, Bool, true, false, arith}
+use Rattle.std.proofs.Common.{◌≡◌, ℕ, ◌+◌, ◌<◌, ◌≤◌, List, length, Some, None}
+use Rattle.std.proofs.Common.{Bool, true, false, arith}
 use Rattle.std.proofs.lemmas.Bool.{eqb-false}
 use Rattle.ps_laws.proofs.Words.{table_of, is_reserved, needs_linking, IsOfFile, Segment, Order}
 use Rattle.ps_laws.proofs.Words.{◌==◌, ◌&&◌, ◌||◌, or_parts}
@@ -11,15 +12,19 @@ use Rattle.ps_linkinfo.specs.Records.{EndsOnce}
 use Rattle.ps_linkinfo.proofs.Stands.{reading_is}
 
 -- the records of a linked one end in the only EOFMARK
-pub ends_once : (order : Order) (host : List ℕ) (libs : List (List ℕ)) (s : Segment) → IsOfFile order host libs s → needs_linking s.role ≡ true → EndsOnce s.records
+pub ends_once : (order : Order) (host : List ℕ) (libs : List (List ℕ)) (s : Segment)
+    → IsOfFile order host libs s → needs_linking s.role ≡ true → EndsOnce s.records
 ends_once order host libs s h linked = grind (arith, reading_is)
 
-has_tables : (order : Order) (code : List ℕ) (host : Bool) → tables_fault order code host ≡ None
-    → HasTables order code × ((host && (procedures code == 0 || content_of order code 1 == 0)) ≡ false)
+has_tables : (order : Order) (code : List ℕ) (host : Bool)
+    → tables_fault order code host ≡ None
+    → HasTables order code
+    × ((host && (procedures code == 0 || content_of order code 1 == 0)) ≡ false)
 has_tables order code host h = grind arith
 
 -- the bounds of a code whose tables have no fault
-pub long : (order : Order) (code : List ℕ) (host : Bool) → tables_fault order code host ≡ None → 2 ≤ length code
+pub long : (order : Order) (code : List ℕ) (host : Bool) → tables_fault order code host ≡ None
+    → 2 ≤ length code
 long order code host h = let fits = (has_tables order code host h).0.fits in omega (arith, fits)
 
 pub record HasOuter (order : Order) (code : List ℕ) (t : ℕ) : Type 0 where
@@ -29,17 +34,23 @@ pub record HasOuter (order : Order) (code : List ℕ) (t : ℕ) : Type 0 where
 
 -- where the tables of a host have no fault, that of its outer block is whole before the procedure
 -- dictionary
-pub outer : (order : Order) (code : List ℕ) (t : ℕ) (host : Bool) → host ≡ true → tables_fault order code host ≡ None → table_of order code 1 ≡ Some t → HasOuter order code t
+pub outer : (order : Order) (code : List ℕ) (t : ℕ) (host : Bool) → host ≡ true
+    → tables_fault order code host ≡ None → table_of order code 1 ≡ Some t
+    → HasOuter order code t
 outer order code t host is h e = grind (arith, has_tables, or_parts, eqb-false, whole_table)
 
 -- the last place but one of a code is reserved
-pub number_reserved : (order : Order) (code : List ℕ) (p : ℕ) → p + 2 ≡ length code → is_reserved order code p ≡ true
+pub number_reserved : (order : Order) (code : List ℕ) (p : ℕ) → p + 2 ≡ length code
+    → is_reserved order code p ≡ true
 number_reserved order code p h = grind arith
 
 -- the two places of the data size of the outer block are reserved
-pub size_reserved : (order : Order) (code : List ℕ) (t j p : ℕ) → HasOuter order code t → table_of order code 1 ≡ Some t → j < 2 → p + 8 ≡ t + j → is_reserved order code p ≡ true
+pub size_reserved : (order : Order) (code : List ℕ) (t j p : ℕ) → HasOuter order code t
+    → table_of order code 1 ≡ Some t → j < 2 → p + 8 ≡ t + j
+    → is_reserved order code p ≡ true
 size_reserved order code t j p o e h k = grind arith
 
 -- and they are apart
-pub own_apart : (order : Order) (code : List ℕ) (t j p : ℕ) → HasOuter order code t → j < 2 → p + 8 ≡ t + j → p + 2 ≡ length code → ⊥
+pub own_apart : (order : Order) (code : List ℕ) (t j p : ℕ) → HasOuter order code t → j < 2
+    → p + 8 ≡ t + j → p + 2 ≡ length code → ⊥
 own_apart order code t j p o h k n = grind arith

@@ -1,5 +1,7 @@
 -- The codes of a plan's sources, one after another.
-use Rattle.std.proofs.Common.{◌≡◌, ℕ, ◌+◌, ◌*◌, List, [], ◌∷◌, ◌++◌, length, map, drop, Option, ◌∙◌, subst, append_assoc, arith, length-append}
+use Rattle.std.proofs.Common.{◌≡◌, ℕ, ◌+◌, ◌*◌, List, [], ◌∷◌, ◌++◌}
+use Rattle.std.proofs.Common.{length, map, drop, Option, ◌∙◌, subst, append_assoc, arith}
+use Rattle.std.proofs.Common.{length-append}
 use Rattle.std.proofs.lemmas.List.FromFn.{length-map-range_with_len}
 use Rattle.std.specs.Io.KnownBytes.{Appends}
 use Rattle.ps_words.specs.Words.{blocks}
@@ -14,40 +16,66 @@ use Rattle.ps_linkfile.proofs.Extents.{all_blocks-cons}
 use Rattle.ps_linkfile.proofs.Prefixes.{appends_twice, prefix_more}
 
 -- the codes of the first so many sources were appended
-pub record CodesSoFar (order : Order) (os : List Origin) (ds : List (List Edit)) (count : ℕ) (old new : Option (List ℕ)) (prefix : List ℕ) : Type 0 where
+pub record CodesSoFar (order : Order) (os : List Origin) (ds : List (List Edit)) (count : ℕ)
+    (old new : Option (List ℕ)) (prefix : List ℕ) : Type 0 where
   pub left : HaveEdits (drop count os) (drop count ds)
-  pub joined : prefix ++ padded_codes order (drop count os) (drop count ds) ≡ padded_codes order os ds
+  pub joined : prefix ++ padded_codes order (drop count os) (drop count ds)
+      ≡ padded_codes order os ds
   pub written : Appends old new prefix
 
 -- a source and its edits
-pub record IsAt (os : List Origin) (ds : List (List Edit)) (count : ℕ) (o : Origin) (d : List Edit) : Type 0 where
+pub record IsAt (os : List Origin) (ds : List (List Edit)) (count : ℕ) (o : Origin)
+    (d : List Edit) : Type 0 where
   pub origin : drop count os ≡ o ∷ drop (count + 1) os
   pub edits : drop count ds ≡ d ∷ drop (count + 1) ds
 
-pub edits_here : (os : List Origin) (ds : List (List Edit)) (count : ℕ) (o : Origin) (d : List Edit) → IsAt os ds count o d → HaveEdits (drop count os) (drop count ds) → HaveEdits (o ∷ drop (count + 1) os) (d ∷ drop (count + 1) ds)
-edits_here os ds count o d at h = subst (λ (es : List (List Edit)). HaveEdits (o ∷ drop (count + 1) os) es) at.edits (subst (λ (ps : List Origin). HaveEdits ps (drop count ds)) at.origin h)
+pub edits_here : (os : List Origin) (ds : List (List Edit)) (count : ℕ) (o : Origin)
+    (d : List Edit) → IsAt os ds count o d → HaveEdits (drop count os) (drop count ds)
+    → HaveEdits (o ∷ drop (count + 1) os) (d ∷ drop (count + 1) ds)
+edits_here os ds count o d at h =
+    subst (λ (es : List (List Edit)). HaveEdits (o ∷ drop (count + 1) os) es) at.edits
+    (subst (λ (ps : List Origin). HaveEdits ps (drop count ds)) at.origin h)
 
 -- the codes so far, the code of this source and those after it are all codes
-joined_here : (order : Order) (os : List Origin) (ds : List (List Edit)) (count : ℕ) (o : Origin) (d : List Edit) (prefix : List ℕ) → IsAt os ds count o d
+joined_here : (order : Order) (os : List Origin) (ds : List (List Edit)) (count : ℕ) (o : Origin)
+    (d : List Edit) (prefix : List ℕ) → IsAt os ds count o d
     → prefix ++ padded_codes order (drop count os) (drop count ds) ≡ padded_codes order os ds
-    → prefix ++ (padded_code order o.code d ++ padded_codes order (drop (count + 1) os) (drop (count + 1) ds)) ≡ padded_codes order os ds
+    → prefix ++ (padded_code order o.code d
+    ++ padded_codes order (drop (count + 1) os) (drop (count + 1) ds))
+    ≡ padded_codes order os ds
 joined_here order os ds count o d prefix at h = grind arith
 
 -- one code more
-pub codes_more : (order : Order) (os : List Origin) (ds : List (List Edit)) (count : ℕ) (a b c : Option (List ℕ)) (prefix : List ℕ) (o : Origin) (d : List Edit)
-    → IsAt os ds count o d → CodesSoFar order os ds count a b prefix → Appends b c (padded_code order o.code d) → CodesSoFar order os ds (count + 1) a c (prefix ++ padded_code order o.code d)
-codes_more order os ds count a b c prefix o d at h k = grind (arith, edits_here, append_assoc, joined_here, appends_twice)
+pub codes_more : (order : Order) (os : List Origin) (ds : List (List Edit)) (count : ℕ)
+    (a b c : Option (List ℕ)) (prefix : List ℕ) (o : Origin) (d : List Edit)
+    → IsAt os ds count o d → CodesSoFar order os ds count a b prefix
+    → Appends b c (padded_code order o.code d)
+    → CodesSoFar order os ds (count + 1) a c (prefix ++ padded_code order o.code d)
+codes_more order os ds count a b c prefix o d at h k =
+    grind (arith, edits_here, append_assoc, joined_here, appends_twice)
 
 -- a prefix of one code more
-pub codes_prefix : (order : Order) (os : List Origin) (ds : List (List Edit)) (count : ℕ) (a b c : Option (List ℕ)) (prefix : List ℕ) (o : Origin) (d : List Edit)
-    → IsAt os ds count o d → CodesSoFar order os ds count a b prefix → AppendsPrefix b c (padded_code order o.code d) → AppendsPrefix a c (padded_codes order os ds)
+pub codes_prefix : (order : Order) (os : List Origin) (ds : List (List Edit)) (count : ℕ)
+    (a b c : Option (List ℕ)) (prefix : List ℕ) (o : Origin) (d : List Edit)
+    → IsAt os ds count o d → CodesSoFar order os ds count a b prefix
+    → AppendsPrefix b c (padded_code order o.code d)
+    → AppendsPrefix a c (padded_codes order os ds)
 codes_prefix order os ds count a b c prefix o d at h k =
-    prefix_more a b c prefix (padded_code order o.code d) (padded_codes order (drop (count + 1) os) (drop (count + 1) ds)) (padded_codes order os ds) (joined_here order os ds count o d prefix at h.joined) h.written k
+    prefix_more a b c prefix (padded_code order o.code d)
+    (padded_codes order (drop (count + 1) os) (drop (count + 1) ds)) (padded_codes order os ds)
+    (joined_here order os ds count o d prefix at h.joined) h.written k
 
 -- the codes are whole blocks
-pub codes_len : (order : Order) (os : List Origin) (ds : List (List Edit)) → HaveEdits os ds → length (padded_codes order os ds) ≡ 512 * all_blocks (map extent_of_origin os)
+pub codes_len : (order : Order) (os : List Origin) (ds : List (List Edit)) → HaveEdits os ds
+    → length (padded_codes order os ds) ≡ 512 * all_blocks (map extent_of_origin os)
 codes_len order [] ds h = omega arith
 codes_len order (o ∷ os) [] h = absurd h
 codes_len order (o ∷ os) (d ∷ ds) h =
     length-append (padded_code order o.code d) (padded_codes order os ds)
-    ∙ omega (arith, length-map-range_with_len (patched_or_zero order o.code d) 0 (512 * blocks (length o.code)), codes_len order os ds h.1, all_blocks-cons (extent_of_origin o) (map extent_of_origin os))
+    ∙ omega (
+      arith,
+      length-map-range_with_len (patched_or_zero order o.code d) 0
+          (512 * blocks (length o.code)),
+      codes_len order os ds h.1,
+      all_blocks-cons (extent_of_origin o) (map extent_of_origin os),
+    )

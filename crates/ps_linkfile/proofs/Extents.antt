@@ -1,5 +1,8 @@
 -- The blocks of codes whose slots ascend.
-use Rattle.std.proofs.Common.{◌≡◌, ℕ, zero, suc, ◌+◌, ◌*◌, ◌≤◌, ◌<◌, ◌==◌, List, [], ◌∷◌, ◌++◌, length, length-append, map, take, drop, Option, Some, None, true, false, refl, sym, ◌∙◌, ap, subst, add-one, arith}
+use Rattle.std.proofs.Common.{◌≡◌, ℕ, zero, suc, ◌+◌, ◌*◌, ◌≤◌, ◌<◌}
+use Rattle.std.proofs.Common.{◌==◌, List, [], ◌∷◌, ◌++◌, length, length-append, map}
+use Rattle.std.proofs.Common.{take, drop, Option, Some, None, true, false, refl, sym, ◌∙◌, ap}
+use Rattle.std.proofs.Common.{subst, add-one, arith}
 use Rattle.std.specs.Prelude.{nat_lt, All}
 use Rattle.std.specs.List.{filter, find}
 use Rattle.std.specs.Option.{option_map_or}
@@ -15,16 +18,20 @@ use Rattle.ps_codefile.specs.declared.code_layout.TheConstants.{MAX_CODE_LEN, MA
 use Rattle.ps_linkfile.specs.LinkedFile.{Extent, all_blocks, block_of, pair_of}
 use Rattle.ps_linkfile.specs.Writing.{starts_of, Ascend}
 
-pub all_blocks-cons : (c : Extent) (cs : List Extent) → all_blocks (c ∷ cs) ≡ blocks c.size + all_blocks cs
+pub all_blocks-cons : (c : Extent) (cs : List Extent)
+    → all_blocks (c ∷ cs) ≡ blocks c.size + all_blocks cs
 all_blocks-cons c cs = sum_by-cons (λ (d : Extent). blocks d.size) c cs
 
 -- sixteen slots at most
-pub few_codes : (from : ℕ) (cs : List Extent) → from ≤ 16 → Ascend from cs → from + length cs ≤ 16
+pub few_codes : (from : ℕ) (cs : List Extent) → from ≤ 16 → Ascend from cs
+    → from + length cs ≤ 16
 few_codes from [] k h = omega arith
-few_codes from (c ∷ cs) k h = let rest = few_codes (c.slot + 1) cs (omega (arith, h.1)) h.2 in omega (arith, rest, h.0)
+few_codes from (c ∷ cs) k h = let rest = few_codes (c.slot + 1) cs (omega (arith, h.1)) h.2 in
+    omega (arith, rest, h.0)
 
 -- a code takes at most MAX_CODE_BLOCKS blocks
-pub few_blocks : (cs : List Extent) → All (λ c. c.size ≤ MAX_CODE_LEN) cs → all_blocks cs ≤ MAX_CODE_BLOCKS * length cs
+pub few_blocks : (cs : List Extent) → All (λ c. c.size ≤ MAX_CODE_LEN) cs
+    → all_blocks cs ≤ MAX_CODE_BLOCKS * length cs
 few_blocks [] h = omega arith
 few_blocks (c ∷ cs) h =
     let P : Extent → Type 0 = λ d. d.size ≤ MAX_CODE_LEN in
@@ -35,17 +42,20 @@ few_blocks (c ∷ cs) h =
 -- each slot is one of sixteen
 pub slots_below : (from : ℕ) (cs : List Extent) → Ascend from cs → All (λ c. c.slot < 16) cs
 slots_below from [] h = All-nil (λ (c : Extent). c.slot < 16)
-slots_below from (c ∷ cs) h = All-cons (λ (d : Extent). d.slot < 16) c cs h.1 (slots_below (c.slot + 1) cs h.2)
+slots_below from (c ∷ cs) h = All-cons (λ (d : Extent). d.slot < 16) c cs h.1
+    (slots_below (c.slot + 1) cs h.2)
 
 -- no code is before the first
-pub none_before : (from : ℕ) (cs : List Extent) (slot : ℕ) → Ascend from cs → slot ≤ from → filter (λ c. nat_lt c.slot slot) cs ≡ []
+pub none_before : (from : ℕ) (cs : List Extent) (slot : ℕ) → Ascend from cs → slot ≤ from
+    → filter (λ c. nat_lt c.slot slot) cs ≡ []
 none_before from [] slot h k = refl
 none_before from (c ∷ cs) slot h k =
     let no : nat_lt c.slot slot ≡ false = grind (arith, nat_tests, h.0) in
     rw no (none_before (c.slot + 1) cs slot h.2 (omega (arith, h.0)))
 
 -- where slots ascend from a number on, no code has a slot below it
-pub none_there : (from : ℕ) (cs : List Extent) (slot : ℕ) → Ascend from cs → slot < from → find (λ c. c.slot == slot) cs ≡ None
+pub none_there : (from : ℕ) (cs : List Extent) (slot : ℕ) → Ascend from cs → slot < from
+    → find (λ c. c.slot == slot) cs ≡ None
 none_there from [] slot h k = refl
 none_there from (c ∷ cs) slot h k =
     let no : (c.slot == slot) ≡ false = grind (arith, nat_tests, h.0) in
@@ -55,48 +65,65 @@ none_there from (c ∷ cs) slot h k =
 -- block.
 pub record Left (all : List Extent) (from block : ℕ) (rest : List Extent) : Type 0 where
   pub ascend : Ascend from rest
-  pub behind : (slot : ℕ) → from ≤ slot → block_of all slot ≡ block + all_blocks (filter (λ c. nat_lt c.slot slot) rest)
-  pub found : (slot : ℕ) → from ≤ slot → find (λ c. c.slot == slot) all ≡ find (λ c. c.slot == slot) rest
+  pub behind : (slot : ℕ) → from ≤ slot
+      → block_of all slot ≡ block + all_blocks (filter (λ c. nat_lt c.slot slot) rest)
+  pub found : (slot : ℕ) → from ≤ slot
+      → find (λ c. c.slot == slot) all ≡ find (λ c. c.slot == slot) rest
 
 pub left_start : (all : List Extent) → Ascend 0 all → Left all 0 1 all
 left_start all h = record { ascend = h; behind = λ slot k. refl; found = λ slot k. refl }
 
 -- the first of those that are left is passed over
-pub left_more : (all : List Extent) (from block : ℕ) (c : Extent) (rest : List Extent) → Left all from block (c ∷ rest) → Left all (c.slot + 1) (block + blocks c.size) rest
+pub left_more : (all : List Extent) (from block : ℕ) (c : Extent) (rest : List Extent)
+    → Left all from block (c ∷ rest) → Left all (c.slot + 1) (block + blocks c.size) rest
 left_more all from block c rest h = grind (arith, nat_tests, all_blocks-cons)
 
 -- its code begins in this block
-pub first_block : (all : List Extent) (from block : ℕ) (c : Extent) (rest : List Extent) → Left all from block (c ∷ rest) → block_of all c.slot ≡ block
+pub first_block : (all : List Extent) (from block : ℕ) (c : Extent) (rest : List Extent)
+    → Left all from block (c ∷ rest) → block_of all c.slot ≡ block
 first_block all from block c rest h = grind (arith, none_before)
 
 -- what the dictionary says of it
-pub first_pair : (order : Order) (all : List Extent) (from block : ℕ) (c : Extent) (rest : List Extent) → Left all from block (c ∷ rest) → pair_of order all c.slot ≡ word_bytes order block ++ word_bytes order c.size
+pub first_pair : (order : Order) (all : List Extent) (from block : ℕ) (c : Extent)
+    (rest : List Extent) → Left all from block (c ∷ rest)
+    → pair_of order all c.slot ≡ word_bytes order block ++ word_bytes order c.size
 first_pair order all from block c rest h =
     let is : (c.slot == c.slot) ≡ true = eq-eqb c.slot c.slot refl in
-    let there : find (λ (d : Extent). d.slot == c.slot) all ≡ Some c = h.found c.slot h.ascend.0 ∙ rw is in
-    ap (λ (o : Option Extent). option_map_or (λ d. word_bytes order (block_of all c.slot) ++ word_bytes order d.size) o (0 ∷ 0 ∷ 0 ∷ 0 ∷ [])) there
-    ∙ ap (λ b. word_bytes order b ++ word_bytes order c.size) (first_block all from block c rest h)
+    let there : find (λ (d : Extent). d.slot == c.slot) all ≡ Some c =
+    h.found c.slot h.ascend.0 ∙ rw is in
+    ap (λ (o : Option Extent). option_map_or
+    (λ d. word_bytes order (block_of all c.slot) ++ word_bytes order d.size) o
+    (0 ∷ 0 ∷ 0 ∷ 0 ∷ [])) there
+    ∙ ap (λ b. word_bytes order b ++ word_bytes order c.size)
+    (first_block all from block c rest h)
 
 -- what it says of a slot before the first that is left
-pub no_pair : (order : Order) (all : List Extent) (from block : ℕ) (rest : List Extent) (next slot : ℕ) → Left all from block rest → Ascend next rest → from ≤ slot → slot < next → pair_of order all slot ≡ 0 ∷ 0 ∷ 0 ∷ 0 ∷ []
+pub no_pair : (order : Order) (all : List Extent) (from block : ℕ) (rest : List Extent)
+    (next slot : ℕ) → Left all from block rest → Ascend next rest → from ≤ slot
+    → slot < next → pair_of order all slot ≡ 0 ∷ 0 ∷ 0 ∷ 0 ∷ []
 no_pair order all from block rest next slot h k le lt = grind (arith, none_there)
 
 -- so many of a list and the next
-next_taken : {X : Type 0} (xs : List X) (i : ℕ) (x : X) → drop i xs ≡ x ∷ drop (suc i) xs → take (suc i) xs ≡ take i xs ++ x ∷ []
+next_taken : {X : Type 0} (xs : List X) (i : ℕ) (x : X) → drop i xs ≡ x ∷ drop (suc i) xs
+    → take (suc i) xs ≡ take i xs ++ x ∷ []
 next_taken [] zero x h = cc
 next_taken [] (suc i) x h = cc
 next_taken {X} (y ∷ ys) zero x h = let is : y ≡ x = cc in ap (λ (z : X). z ∷ []) is
 next_taken {X} (y ∷ ys) (suc i) x h = ap (λ (zs : List X). y ∷ zs) (next_taken ys i x h)
 
-took : {X : Type 0} (xs : List X) (i : ℕ) (x : X) → drop i xs ≡ x ∷ drop (i + 1) xs → take (i + 1) xs ≡ take i xs ++ x ∷ []
+took : {X : Type 0} (xs : List X) (i : ℕ) (x : X) → drop i xs ≡ x ∷ drop (i + 1) xs
+    → take (i + 1) xs ≡ take i xs ++ x ∷ []
 took {X} xs i x h = grind (arith, add-one, next_taken)
 
-blocks_more : (cs : List Extent) (c : Extent) → all_blocks (cs ++ c ∷ []) ≡ all_blocks cs + blocks c.size
+blocks_more : (cs : List Extent) (c : Extent)
+    → all_blocks (cs ++ c ∷ []) ≡ all_blocks cs + blocks c.size
 blocks_more [] c = all_blocks-cons c [] ∙ omega arith
-blocks_more (d ∷ ds) c = all_blocks-cons d (ds ++ c ∷ []) ∙ omega (arith, blocks_more ds c, all_blocks-cons d ds)
+blocks_more (d ∷ ds) c = all_blocks-cons d (ds ++ c ∷ [])
+    ∙ omega (arith, blocks_more ds c, all_blocks-cons d ds)
 
 -- the first so many codes are laid out; the next begins in this block
-pub record LaidSoFar (all : List Extent) (count : ℕ) (starts : List ℕ) (block from : ℕ) : Type 0 where
+pub record LaidSoFar (all : List Extent) (count : ℕ) (starts : List ℕ)
+    (block from : ℕ) : Type 0 where
   pub left : Left all from block (drop count all)
   pub few : count ≤ from
   pub small : block ≤ 1 + MAX_CODE_BLOCKS * count
@@ -108,23 +135,33 @@ pub record LaidSoFar (all : List Extent) (count : ℕ) (starts : List ℕ) (bloc
 pub laid_none : (all : List Extent) → Ascend 0 all → LaidSoFar all 0 [] 1 0
 laid_none all h = grind arith
 
-laid_here : (all : List Extent) (count : ℕ) (starts : List ℕ) (block from : ℕ) (c : Extent) → drop count all ≡ c ∷ drop (count + 1) all → LaidSoFar all count starts block from → Left all from block (c ∷ drop (count + 1) all)
-laid_here all count starts block from c is h = subst (λ (cs : List Extent). Left all from block cs) is h.left
+laid_here : (all : List Extent) (count : ℕ) (starts : List ℕ) (block from : ℕ) (c : Extent)
+    → drop count all ≡ c ∷ drop (count + 1) all → LaidSoFar all count starts block from
+    → Left all from block (c ∷ drop (count + 1) all)
+laid_here all count starts block from c is h =
+    subst (λ (cs : List Extent). Left all from block cs) is h.left
 
 -- where a code is left, fewer than sixteen are laid out, and its first block is a word
-pub laid_next : (all : List Extent) (count : ℕ) (starts : List ℕ) (block from : ℕ) (c : Extent) → drop count all ≡ c ∷ drop (count + 1) all → LaidSoFar all count starts block from → (count < 16) × (block ≤ MAX_WORD)
+pub laid_next : (all : List Extent) (count : ℕ) (starts : List ℕ) (block from : ℕ)
+    (c : Extent) → drop count all ≡ c ∷ drop (count + 1) all
+    → LaidSoFar all count starts block from → (count < 16) × (block ≤ MAX_WORD)
 laid_next all count starts block from c is h = grind arith
 
 -- with one code more laid out, its start is the block that was reached, and the next begins after
 -- its blocks
-pub laid_more : (all : List Extent) (count : ℕ) (starts : List ℕ) (block from : ℕ) (c : Extent)
-    → drop count all ≡ c ∷ drop (count + 1) all → c.size ≤ MAX_CODE_LEN → LaidSoFar all count starts block from → LaidSoFar all (count + 1) (starts ++ block ∷ []) (block + blocks c.size) (c.slot + 1)
+pub laid_more : (all : List Extent) (count : ℕ) (starts : List ℕ) (block from : ℕ)
+    (c : Extent)
+    → drop count all ≡ c ∷ drop (count + 1) all → c.size ≤ MAX_CODE_LEN
+    → LaidSoFar all count starts block from
+    → LaidSoFar all (count + 1) (starts ++ block ∷ []) (block + blocks c.size) (c.slot + 1)
 laid_more all count starts block from c is size h =
     let at = laid_here all count starts block from c is h in
     let more : take (count + 1) all ≡ take count all ++ c ∷ [] = took all count c is in
-    let begins : block_of all c.slot ≡ block = first_block all from block c (drop (count + 1) all) at in
+    let begins : block_of all c.slot ≡ block =
+    first_block all from block c (drop (count + 1) all) at in
     let start : Extent → ℕ = λ d. block_of all d.slot in
-    let sum_is : all_blocks (take (count + 1) all) ≡ all_blocks (take count all) + blocks c.size = ap (λ (cs : List Extent). all_blocks cs) more ∙ blocks_more (take count all) c in
+    let sum_is : all_blocks (take (count + 1) all) ≡ all_blocks (take count all) + blocks c.size =
+    ap (λ (cs : List Extent). all_blocks cs) more ∙ blocks_more (take count all) c in
     let low : from ≤ c.slot = at.ascend.0 in
     let few = h.few in
     let small = h.small in
@@ -145,5 +182,7 @@ laid_more all count starts block from c is size h =
 -- once all codes are laid out, the starts are the first blocks of all of them, and the block that
 -- was reached is
 -- the number of all blocks, the dictionary's counted
-pub laid_done : (all : List Extent) (count : ℕ) (starts : List ℕ) (block from : ℕ) → length all ≤ count → LaidSoFar all count starts block from → (starts ≡ starts_of all) × (block ≡ 1 + all_blocks all)
+pub laid_done : (all : List Extent) (count : ℕ) (starts : List ℕ) (block from : ℕ)
+    → length all ≤ count → LaidSoFar all count starts block from
+    → (starts ≡ starts_of all) × (block ≡ 1 + all_blocks all)
 laid_done all count starts block from le h = grind (arith, take_all)

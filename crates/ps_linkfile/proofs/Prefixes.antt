@@ -1,5 +1,8 @@
 -- Prefixes of what is to be written, and lists that are a function of their places.
-use Rattle.std.proofs.Common.{◌≡◌, ℕ, zero, suc, ◌+◌, ◌-◌, ◌<◌, List, [], ◌∷◌, ◌++◌, length, take, drop, map, get_or, Option, Some, None, Result, Ok, Err, OnErr, refl, sym, ◌∙◌, ap, subst, append_assoc, arith, length-drop}
+use Rattle.std.proofs.Common.{◌≡◌, ℕ, zero, suc, ◌+◌, ◌-◌, ◌<◌, List, []}
+use Rattle.std.proofs.Common.{◌∷◌, ◌++◌, length, take, drop, map, get_or, Option, Some}
+use Rattle.std.proofs.Common.{None, Result, Ok, Err, OnErr, refl, sym, ◌∙◌, ap, subst}
+use Rattle.std.proofs.Common.{append_assoc, arith, length-drop}
 use Rattle.std.proofs.lemmas.List.{append-nil, take_all, take-append-drop, ext_get_or}
 use Rattle.std.proofs.Math.Seq.{take-append_seam, take-add}
 use Rattle.std.proofs.lemmas.List.FromFn.{length-map-range_with_len, get_or-map-range_with_len}
@@ -13,51 +16,70 @@ appends_none None = tt
 appends_none (Some xs) = sym (append-nil xs)
 
 -- two additions after one another
-pub appends_twice : (a b c : Option (List ℕ)) (xs ys : List ℕ) → Appends a b xs → Appends b c ys → Appends a c (xs ++ ys)
+pub appends_twice : (a b c : Option (List ℕ)) (xs ys : List ℕ) → Appends a b xs
+    → Appends b c ys → Appends a c (xs ++ ys)
 appends_twice None b c xs ys h k = tt
 appends_twice (Some xa) None c xs ys h k = absurd h
 appends_twice (Some xa) (Some xb) None xs ys h k = absurd k
-appends_twice (Some xa) (Some xb) (Some xc) xs ys h k = k ∙ (ap (λ (zs : List ℕ). zs ++ ys) h ∙ append_assoc xa xs ys)
+appends_twice (Some xa) (Some xb) (Some xc) xs ys h k =
+    k ∙ (ap (λ (zs : List ℕ). zs ++ ys) h ∙ append_assoc xa xs ys)
 
 -- a prefix and then a prefix of the rest
-pub appends_more : (a b c : Option (List ℕ)) (i n : ℕ) (bs : List ℕ) → Appends a b (take i bs) → Appends b c (take n (take (length bs - i) (drop i bs))) → Appends a c (take (i + n) bs)
+pub appends_more : (a b c : Option (List ℕ)) (i n : ℕ) (bs : List ℕ)
+    → Appends a b (take i bs) → Appends b c (take n (take (length bs - i) (drop i bs)))
+    → Appends a c (take (i + n) bs)
 appends_more a b c i n bs h k =
     let whole = take_all (length bs - i) (drop i bs) (omega (arith, length-drop i bs)) in
-    rw take-add (appends_twice a b c (take i bs) (take n (drop i bs)) h (subst (λ (xs : List ℕ). Appends b c (take n xs)) whole k))
+    rw take-add (appends_twice a b c (take i bs) (take n (drop i bs)) h
+    (subst (λ (xs : List ℕ). Appends b c (take n xs)) whole k))
 
 -- a prefix, with what is left
-pub prefix_from : (a c : Option (List ℕ)) (prefix rest bs : List ℕ) → prefix ++ rest ≡ bs → Appends a c prefix → AppendsPrefix a c bs
+pub prefix_from : (a c : Option (List ℕ)) (prefix rest bs : List ℕ) → prefix ++ rest ≡ bs
+    → Appends a c prefix → AppendsPrefix a c bs
 prefix_from a c prefix rest bs e h = (length prefix, rw (← e, take-append_seam) h)
 
 -- some bytes, and then a prefix of more, of which still more may follow
-pub prefix_more : (a b c : Option (List ℕ)) (xs ys zs bs : List ℕ) → xs ++ (ys ++ zs) ≡ bs → Appends a b xs → AppendsPrefix b c ys → AppendsPrefix a c bs
+pub prefix_more : (a b c : Option (List ℕ)) (xs ys zs bs : List ℕ) → xs ++ (ys ++ zs) ≡ bs
+    → Appends a b xs → AppendsPrefix b c ys → AppendsPrefix a c bs
 prefix_more a b c xs ys zs bs e h k =
     prefix_from a c (xs ++ take k.0 ys) (drop k.0 ys ++ zs) bs
-    (append_assoc xs (take k.0 ys) (drop k.0 ys ++ zs) ∙ (ap (λ (us : List ℕ). xs ++ us) (sym (append_assoc (take k.0 ys) (drop k.0 ys) zs) ∙ ap (λ (us : List ℕ). us ++ zs) (take-append-drop k.0 ys)) ∙ e))
+    (append_assoc xs (take k.0 ys) (drop k.0 ys ++ zs)
+    ∙ (ap (λ (us : List ℕ). xs ++ us)
+    (sym (append_assoc (take k.0 ys) (drop k.0 ys) zs)
+    ∙ ap (λ (us : List ℕ). us ++ zs) (take-append-drop k.0 ys)) ∙ e))
     (appends_twice a b c xs (take k.0 ys) h k.1)
 
 -- a prefix, of which more may follow
-pub prefix_then : (a c : Option (List ℕ)) (ys zs : List ℕ) → AppendsPrefix a c ys → AppendsPrefix a c (ys ++ zs)
+pub prefix_then : (a c : Option (List ℕ)) (ys zs : List ℕ) → AppendsPrefix a c ys
+    → AppendsPrefix a c (ys ++ zs)
 prefix_then a c ys zs k =
     prefix_from a c (take k.0 ys) (drop k.0 ys ++ zs) (ys ++ zs)
-    (sym (append_assoc (take k.0 ys) (drop k.0 ys) zs) ∙ ap (λ (us : List ℕ). us ++ zs) (take-append-drop k.0 ys)) k.1
+    (sym (append_assoc (take k.0 ys) (drop k.0 ys) zs)
+    ∙ ap (λ (us : List ℕ). us ++ zs) (take-append-drop k.0 ys)) k.1
 
 -- some bytes, and then a prefix of the rest
-pub prefix_last : (a b c : Option (List ℕ)) (xs ys : List ℕ) → Appends a b xs → AppendsPrefix b c ys → AppendsPrefix a c (xs ++ ys)
-prefix_last a b c xs ys h k = prefix_more a b c xs ys [] (xs ++ ys) (ap (λ (us : List ℕ). xs ++ us) (append-nil ys)) h k
+pub prefix_last : (a b c : Option (List ℕ)) (xs ys : List ℕ) → Appends a b xs
+    → AppendsPrefix b c ys → AppendsPrefix a c (xs ++ ys)
+prefix_last a b c xs ys h k = prefix_more a b c xs ys [] (xs ++ ys)
+    (ap (λ (us : List ℕ). xs ++ us) (append-nil ys)) h k
 
 -- what is f of its place, from a on
-pub image_is : (f : ℕ → ℕ) (a n : ℕ) (xs : List ℕ) → length xs ≡ n → ((k : ℕ) → k < n → get_or xs k 0 ≡ f (a + k)) → xs ≡ map f (range_with_len a n)
+pub image_is : (f : ℕ → ℕ) (a n : ℕ) (xs : List ℕ) → length xs ≡ n
+    → ((k : ℕ) → k < n → get_or xs k 0 ≡ f (a + k)) → xs ≡ map f (range_with_len a n)
 image_is f a n xs len h =
     ext_get_or 0 xs (map f (range_with_len a n)) (len ∙ sym (length-map-range_with_len f a n))
-    (λ i lt. let within : i < n = omega arith in h i within ∙ sym (get_or-map-range_with_len f a n i (a + i) 0 within refl))
+    (λ i lt. let within : i < n = omega arith in
+    h i within ∙ sym (get_or-map-range_with_len f a n i (a + i) 0 within refl))
 
 -- m places from a on, and n more
-pub image_split : (f : ℕ → ℕ) (a m n k b : ℕ) → k ≡ m + n → b ≡ a + m → map f (range_with_len a k) ≡ map f (range_with_len a m) ++ map f (range_with_len b n)
-image_split f a zero n k b e g = let x : k ≡ n = omega arith in let y : b ≡ a = omega arith in rw (x, y)
+pub image_split : (f : ℕ → ℕ) (a m n k b : ℕ) → k ≡ m + n → b ≡ a + m
+    → map f (range_with_len a k) ≡ map f (range_with_len a m) ++ map f (range_with_len b n)
+image_split f a zero n k b e g = let x : k ≡ n = omega arith in let y : b ≡ a = omega arith in
+    rw (x, y)
 image_split f a (suc m) n k b e g =
     let x : k ≡ suc (m + n) = omega arith in
-    rw x (ap (λ (us : List ℕ). f a ∷ us) (image_split f (a + 1) m n (m + n) b refl (omega arith)))
+    rw x (ap (λ (us : List ℕ). f a ∷ us)
+    (image_split f (a + 1) m n (m + n) b refl (omega arith)))
 
 pub on_err_always : {T E P : Type 0} (r : Result T E) → P → OnErr r P
 on_err_always (Ok x) p = tt

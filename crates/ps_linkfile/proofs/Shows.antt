@@ -1,6 +1,9 @@
 -- The order of a file that is shown, and its lines: those of a list of slots, and those of a walk
 -- over records.
-use Rattle.std.proofs.Common.{◌≡◌, ℕ, suc, ◌+◌, ◌-◌, ◌<◌, ◌≤◌, List, [], ◌∷◌, ◌++◌, length, length-append, map, append_assoc, append-nil, Bool, true, if◌then◌else◌, Option, Some, None, Result, Ok, Err, refl, sym, ◌∙◌, ap, arith}
+use Rattle.std.proofs.Common.{◌≡◌, ℕ, suc, ◌+◌, ◌-◌, ◌<◌, ◌≤◌, List, []}
+use Rattle.std.proofs.Common.{◌∷◌, ◌++◌, length, length-append, map, append_assoc}
+use Rattle.std.proofs.Common.{append-nil, Bool, true, if◌then◌else◌, Option, Some, None}
+use Rattle.std.proofs.Common.{Result, Ok, Err, refl, sym, ◌∙◌, ap, arith}
 use Rattle.std.specs.List.{flat_map, filter, enumerate_from, range_with_len}
 use Rattle.ps_words.specs.FaultPlaces.{in_file}
 use Rattle.std.specs.Prelude.{codes}
@@ -8,41 +11,57 @@ use Rattle.ps_words.specs.declared.order.Order.{Order}
 use Rattle.ps_words.specs.declared.order.Order.TheVariants.{Little}
 use Rattle.ps_words.specs.declared.fault.Reason.{Reason}
 use Rattle.ps_words.specs.declared.fault.Reason.TheVariants as reason
-use Rattle.ps_codefile.specs.Dictionary.{OpenedFile, FileOrder, Zero, Ordered, file_order, opened_as, opened_beside_as, entry_at, code_of, information_of}
+use Rattle.ps_codefile.specs.Dictionary.{OpenedFile, FileOrder, Zero, Ordered, file_order}
+use Rattle.ps_codefile.specs.Dictionary.{opened_as, opened_beside_as, entry_at, code_of}
+use Rattle.ps_codefile.specs.Dictionary.{information_of}
 use Rattle.ps_linkinfo.specs.Records.{reading}
 use Rattle.ps_linkinfo.specs.Left.{items_of}
 use Rattle.ps_linkinfo.specs.declared.record.LinkRecord.{LinkRecord as Record}
 use Rattle.ps_resolve.specs.Sources.{known_order}
 use Rattle.ps_linkfile.specs.Lines.{line, two_digits, fault_words}
-use Rattle.ps_linkfile.specs.ShowText.{unit_names, record_line, record_lines, fault_line, has_links, links_lines, shown_file, show_of, order_fault}
+use Rattle.ps_linkfile.specs.ShowText.{unit_names, record_line, record_lines, fault_line, has_links}
+use Rattle.ps_linkfile.specs.ShowText.{links_lines, shown_file, show_of, order_fault}
 
 -- a file whose kind words show an order
-pub record Shows (short : Bool) (of : FileOrder) (file : List ℕ) (shown : FileOrder) (o : OpenedFile) : Type 0 where
+pub record Shows (short : Bool) (of : FileOrder) (file : List ℕ) (shown : FileOrder)
+    (o : OpenedFile) : Type 0 where
   pub order : shown ≡ of
   pub dict : o ≡ record { order = known_order of; file = file }
   pub sound : (if short then Some (in_file 0 reason.ShortFile) else order_fault of) ≡ None
 
 -- a file that is opened by itself shows the order in which its words are read
-pub read_shows : (short : Bool) (of : FileOrder) (file : List ℕ) (o : OpenedFile) → (if short then Err reason.ShortFile else opened_as file of) ≡ Ok o → Shows short of file (Ordered o.order) o
+pub read_shows : (short : Bool) (of : FileOrder) (file : List ℕ) (o : OpenedFile)
+    → (if short then Err reason.ShortFile else opened_as file of) ≡ Ok o
+    → Shows short of file (Ordered o.order) o
 read_shows short of file o h = grind arith
 
 -- a file that is not opened by itself, but beside a little-endian one, shows no order
-pub beside_shows : (short : Bool) (of : FileOrder) (file : List ℕ) (why : Reason) (o : OpenedFile) → (if short then Err reason.ShortFile else opened_as file of) ≡ Err why
-    → (if short then Err reason.ShortFile else opened_beside_as Little file of) ≡ Ok o → Shows short of file Zero o
+pub beside_shows : (short : Bool) (of : FileOrder) (file : List ℕ) (why : Reason) (o : OpenedFile)
+    → (if short then Err reason.ShortFile else opened_as file of) ≡ Err why
+    → (if short then Err reason.ShortFile else opened_beside_as Little file of) ≡ Ok o
+    → Shows short of file Zero o
 beside_shows short of file why o h k = grind arith
 
 -- where it is not opened beside one either, the reason for that is why it cannot be shown
-pub beside_fault : (short : Bool) (of : FileOrder) (file : List ℕ) (why other : Reason) → (if short then Err reason.ShortFile else opened_as file of) ≡ Err why
-    → (if short then Err reason.ShortFile else opened_beside_as Little file of) ≡ Err other → (if short then Some (in_file 0 reason.ShortFile) else order_fault of) ≡ Some (in_file 0 other)
+pub beside_fault : (short : Bool) (of : FileOrder) (file : List ℕ) (why other : Reason)
+    → (if short then Err reason.ShortFile else opened_as file of) ≡ Err why
+    → (if short then Err reason.ShortFile else opened_beside_as Little file of) ≡ Err other
+    → (if short then Some (in_file 0 reason.ShortFile) else order_fault of)
+    ≡ Some (in_file 0 other)
 beside_fault short of file why other h k = grind arith
 
-pub shown_is : (file : List ℕ) (found : FileOrder) (o : OpenedFile) → found ≡ file_order file → o ≡ record { order = known_order (file_order file); file = file } → shown_file found o.order o.file ≡ show_of file
+pub shown_is : (file : List ℕ) (found : FileOrder) (o : OpenedFile) → found ≡ file_order file
+    → o ≡ record { order = known_order (file_order file); file = file }
+    → shown_file found o.order o.file ≡ show_of file
 unfolding show_of
-shown_is file found o h k = ap (λ (f : FileOrder). shown_file f o.order o.file) h ∙ ap (λ (q : OpenedFile). shown_file (file_order file) q.order q.file) k
+shown_is file found o h k = ap (λ (f : FileOrder). shown_file f o.order o.file) h
+    ∙ ap (λ (q : OpenedFile). shown_file (file_order file) q.order q.file) k
 
 -- the names of those that pass, with one number more
-pub names_more : {X : Type 0} (test : ℕ → Bool) (name : ℕ → X) (xs new all : List X) (i n : ℕ) → i < n → xs ++ map name (filter test (range_with_len i (n - i))) ≡ all
-    → new ≡ xs ++ (if test i then name i ∷ [] else []) → new ++ map name (filter test (range_with_len (i + 1) (n - (i + 1)))) ≡ all
+pub names_more : {X : Type 0} (test : ℕ → Bool) (name : ℕ → X) (xs new all : List X)
+    (i n : ℕ) → i < n → xs ++ map name (filter test (range_with_len i (n - i))) ≡ all
+    → new ≡ xs ++ (if test i then name i ∷ [] else [])
+    → new ++ map name (filter test (range_with_len (i + 1) (n - (i + 1)))) ≡ all
 names_more {X} test name xs new all i n lt h e =
     let left : n - i ≡ suc (n - (i + 1)) = omega arith in
     ap (λ (ys : List X). ys ++ map name (filter test rest)) e
@@ -53,53 +72,78 @@ names_more {X} test name xs new all i n lt h e =
     rest : List ℕ
     rest = range_with_len (i + 1) (n - (i + 1))
 
-    by : (b : Bool) → test i ≡ b → (if test i then name i ∷ [] else []) ++ map name (filter test rest) ≡ map name (filter test (i ∷ rest))
+    by : (b : Bool) → test i ≡ b → (if test i then name i ∷ [] else [])
+        ++ map name (filter test rest) ≡ map name (filter test (i ∷ rest))
     by b h = grind arith
 
 -- where no number is left, the names so far are all of them
-pub names_over : {X : Type 0} (test : ℕ → Bool) (name : ℕ → X) (xs all : List X) (i n : ℕ) → n ≤ i → xs ++ map name (filter test (range_with_len i (n - i))) ≡ all → xs ≡ all
+pub names_over : {X : Type 0} (test : ℕ → Bool) (name : ℕ → X) (xs all : List X) (i n : ℕ)
+    → n ≤ i → xs ++ map name (filter test (range_with_len i (n - i))) ≡ all → xs ≡ all
 names_over {X} test name xs all i n le h = grind (arith, append-nil)
 
-pub few_more : {X : Type 0} (b : Bool) (x : X) (xs new : List X) (i : ℕ) → length xs ≤ i → new ≡ xs ++ (if b then x ∷ [] else []) → length new ≤ i + 1
+pub few_more : {X : Type 0} (b : Bool) (x : X) (xs new : List X) (i : ℕ) → length xs ≤ i
+    → new ≡ xs ++ (if b then x ∷ [] else []) → length new ≤ i + 1
 few_more b x xs new i h k = grind (arith, length-append)
 
 -- the lines of items in a file with these units, the first of which has the index rec
 abbrev pub item_lines : List (List ℕ) → ℕ → List (Result Record Reason) → List ℕ
 item_lines units rec [] = []
-item_lines units rec (Ok r ∷ items) = record_line units (rec, r) ++ item_lines units (rec + 1) items
+item_lines units rec (Ok r ∷ items) = record_line units (rec, r)
+    ++ item_lines units (rec + 1) items
 item_lines units rec (Err why ∷ items) = fault_line rec (Some why) ++ item_lines units rec items
 
 -- the lines of a reading's items, the first of which has the index n, are those of its records and
 -- of its fault
-lines_of_items : (units : List (List ℕ)) (n : ℕ) (rs : List Record) (why : Option Reason) → item_lines units n (items_of (rs, why)) ≡ flat_map (record_line units) (enumerate_from n rs) ++ fault_line (n + length rs) why
+lines_of_items : (units : List (List ℕ)) (n : ℕ) (rs : List Record) (why : Option Reason)
+    → item_lines units n (items_of (rs, why))
+    ≡ flat_map (record_line units) (enumerate_from n rs) ++ fault_line (n + length rs) why
 lines_of_items units n [] None = refl
 lines_of_items units n [] (Some why) = grind (arith, append-nil)
 lines_of_items units n (r ∷ rs) why =
     let at : n + 1 + length rs ≡ n + length (r ∷ rs) = omega arith in
-    ap (λ (xs : List ℕ). record_line units (n, r) ++ xs) (lines_of_items units (n + 1) rs why ∙ ap (λ (k : ℕ). flat_map (record_line units) (enumerate_from (n + 1) rs) ++ fault_line k why) at)
-    ∙ sym (append_assoc (record_line units (n, r)) (flat_map (record_line units) (enumerate_from (n + 1) rs)) (fault_line (n + length (r ∷ rs)) why))
+    ap (λ (xs : List ℕ). record_line units (n, r) ++ xs)
+    (lines_of_items units (n + 1) rs why
+    ∙ ap (λ (k : ℕ). flat_map (record_line units) (enumerate_from (n + 1) rs)
+    ++ fault_line k why) at)
+    ∙ sym (append_assoc (record_line units (n, r))
+    (flat_map (record_line units) (enumerate_from (n + 1) rs))
+    (fault_line (n + length (r ∷ rs)) why))
 
 -- the lines of a reading's items are those of its records, and of its fault
-pub lines_of_reading : (units : List (List ℕ)) (read : List Record × Option Reason) → item_lines units 0 (items_of read) ≡ record_lines units read
+pub lines_of_reading : (units : List (List ℕ)) (read : List Record × Option Reason)
+    → item_lines units 0 (items_of read) ≡ record_lines units read
 lines_of_reading units read = grind (arith, lines_of_items)
 
-module _ (units : List (List ℕ)) (n : ℕ) (i : Result Record Reason) (old items : List (Result Record Reason)) where
+module _ (units : List (List ℕ)) (n : ℕ) (i : Result Record Reason)
+    (old items : List (Result Record Reason)) where
   -- the line of a record, and those after it
-  pub record_next : (r : Record) → old ≡ i ∷ items → i ≡ Ok r → item_lines units n old ≡ record_line units (n, r) ++ item_lines units (n + 1) items
-  record_next r p q = ap (item_lines units n) (p ∙ ap (λ (j : Result Record Reason). j ∷ items) q)
+  pub record_next : (r : Record) → old ≡ i ∷ items → i ≡ Ok r
+      → item_lines units n old ≡ record_line units (n, r) ++ item_lines units (n + 1) items
+  record_next r p q = ap (item_lines units n)
+      (p ∙ ap (λ (j : Result Record Reason). j ∷ items) q)
 
   -- the line of a fault, and those after it
-  pub fault_next : (why : Reason) → old ≡ i ∷ items → i ≡ Err why → item_lines units n old ≡ fault_line n (Some why) ++ item_lines units n items
-  fault_next why p q = ap (item_lines units n) (p ∙ ap (λ (j : Result Record Reason). j ∷ items) q)
+  pub fault_next : (why : Reason) → old ≡ i ∷ items → i ≡ Err why
+      → item_lines units n old ≡ fault_line n (Some why) ++ item_lines units n items
+  fault_next why p q = ap (item_lines units n)
+      (p ∙ ap (λ (j : Result Record Reason). j ∷ items) q)
 
 -- the lines of a slot whose code is refused
-pub links_of_fault : (order : Order) (file : List ℕ) (slot : ℕ) (why : Reason) → has_links (entry_at order file slot) ≡ true → code_of file (entry_at order file slot) ≡ Err why
-    → line (codes "links " ++ two_digits slot) ++ line (fault_words why) ≡ links_lines order file slot
+pub links_of_fault : (order : Order) (file : List ℕ) (slot : ℕ) (why : Reason)
+    → has_links (entry_at order file slot) ≡ true
+    → code_of file (entry_at order file slot) ≡ Err why
+    → line (codes "links " ++ two_digits slot) ++ line (fault_words why)
+    ≡ links_lines order file slot
 unfolding links_lines
 links_of_fault order file slot why h k = rw (h, k) refl
 
 -- the lines of a slot whose code is in the file
-pub links_of_records : (order : Order) (file : List ℕ) (slot : ℕ) (code : List ℕ) → has_links (entry_at order file slot) ≡ true → code_of file (entry_at order file slot) ≡ Ok code
-    → line (codes "links " ++ two_digits slot) ++ record_lines (unit_names order file) (reading order (information_of file (entry_at order file slot))) ≡ links_lines order file slot
+pub links_of_records : (order : Order) (file : List ℕ) (slot : ℕ) (code : List ℕ)
+    → has_links (entry_at order file slot) ≡ true
+    → code_of file (entry_at order file slot) ≡ Ok code
+    → line (codes "links " ++ two_digits slot)
+    ++ record_lines (unit_names order file)
+    (reading order (information_of file (entry_at order file slot)))
+    ≡ links_lines order file slot
 unfolding links_lines
 links_of_records order file slot code h k = rw (h, k) refl

@@ -1,5 +1,6 @@
 -- The segments of a link are by slot, and no code is longer than MAX_CODE_LEN bytes.
-use Rattle.std.proofs.Common.{ℕ, ◌+◌, ◌<◌, ◌≤◌, List, [], ◌∷◌, length, map, sym, subst, inl, inr, arith}
+use Rattle.std.proofs.Common.{ℕ, ◌+◌, ◌<◌, ◌≤◌, List, [], ◌∷◌, length, map}
+use Rattle.std.proofs.Common.{sym, subst, inl, inr, arith}
 use Rattle.std.specs.Prelude.{All}
 use Rattle.std.proofs.lemmas.List.Elements.{All-map, All-tail}
 use Rattle.ps_words.specs.declared.order.Order.{Order}
@@ -23,30 +24,54 @@ extent_at s = record { slot = s.slot; size = length s.code }
 abbrev IsSmall : Segment → Type 0
 IsSmall s = length s.code ≤ MAX_CODE_LEN
 
-made_small : (order : Order) (host : List ℕ) (libs : List (List ℕ)) (slot : ℕ) (name : List ℕ) (r : Role) (at : ℕ × ℕ) (s : Segment) → IsMade order host libs slot name r at s → IsSmall s
+made_small : (order : Order) (host : List ℕ) (libs : List (List ℕ)) (slot : ℕ)
+    (name : List ℕ) (r : Role) (at : ℕ × ℕ) (s : Segment)
+    → IsMade order host libs slot name r at s → IsSmall s
 made_small order host libs slot name r at s h =
-    let is = whole (file_at host libs at.0) (entry_at order (file_at host libs at.0) at.1) h.code h.given in
+    let is = whole (file_at host libs at.0)
+    (entry_at order (file_at host libs at.0) at.1) h.code h.given in
     let small : length h.code ≤ MAX_CODE_LEN = omega (arith, is.len, is.small) in
     subst IsSmall (sym h.is) small
 
 -- no code is longer than MAX_CODE_LEN bytes
-all_small : (order : Order) (host : List ℕ) (libs : List (List ℕ)) → All IsSmall (segments order host libs)
+all_small : (order : Order) (host : List ℕ) (libs : List (List ℕ))
+    → All IsSmall (segments order host libs)
 unfolding segments
-all_small order host libs = each_slot IsSmall (segment_at order host libs) (λ x s lt h. elim (at_slot order host libs IsSmall added x s h) [ inl own ↦ (let t = own_made order host libs x s own in made_small order host libs x (entry_at order host x).name t.0 t.2 s t.3) | inr t ↦ t.2 ])
+all_small order host libs = each_slot IsSmall (segment_at order host libs)
+    (λ x s lt h. elim (at_slot order host libs IsSmall added x s h) [
+      | inl own ↦ (let t = own_made order host libs x s own in
+          made_small order host libs x (entry_at order host x).name t.0 t.2 s t.3)
+      | inr t ↦ t.2
+    ])
   where
     added : All IsSmall (added_segments order host libs)
-    added = each_added order host libs IsSmall (λ j g s round. let t = added_made order host libs g s.slot s round.brought in subst IsSmall (sym t.2) (made_small order host libs s.slot g.name Wanted t.0 t.1 t.3))
+    added = each_added order host libs IsSmall
+        (λ j g s round. let t = added_made order host libs g s.slot s round.brought in
+        subst IsSmall (sym t.2) (made_small order host libs s.slot g.name Wanted t.0 t.1 t.3))
 
-all_within : (order : Order) (host : List ℕ) (libs : List (List ℕ)) → All (λ s. s.slot < 16) (segments order host libs)
+all_within : (order : Order) (host : List ℕ) (libs : List (List ℕ))
+    → All (λ s. s.slot < 16) (segments order host libs)
 unfolding segments
-all_within order host libs = each_slot (λ (s : Segment). s.slot < 16) (segment_at order host libs) (λ x s lt h. let at = (slot_parts order host libs x s h).0 in omega arith)
+all_within order host libs = each_slot (λ (s : Segment). s.slot < 16) (segment_at order host libs)
+    (λ x s lt h. let at = (slot_parts order host libs x s h).0 in omega arith)
 
-extents_ascend : (from : ℕ) (ss : List Segment) → AscendFrom from (map (λ (s : Segment). s.slot) ss) → All (λ s. s.slot < 16) ss → Ascend from (map extent_at ss)
+extents_ascend : (from : ℕ) (ss : List Segment)
+    → AscendFrom from (map (λ (s : Segment). s.slot) ss) → All (λ s. s.slot < 16) ss
+    → Ascend from (map extent_at ss)
 extents_ascend from [] rises within = tt
-extents_ascend from (s ∷ ss) rises within = (rises.0, within 0 s (omega arith), extents_ascend (s.slot + 1) ss rises.1 (All-tail (λ (q : Segment). q.slot < 16) s ss within))
+extents_ascend from (s ∷ ss) rises within = (
+  rises.0,
+  within 0 s (omega arith),
+  extents_ascend (s.slot + 1) ss rises.1
+      (All-tail (λ (q : Segment). q.slot < 16) s ss within),
+)
 
-pub segments_ascend : (order : Order) (host : List ℕ) (libs : List (List ℕ)) → Ascend 0 (map extent_at (segments order host libs))
-segments_ascend order host libs = extents_ascend 0 (segments order host libs) (ascend order host libs) (all_within order host libs)
+pub segments_ascend : (order : Order) (host : List ℕ) (libs : List (List ℕ))
+    → Ascend 0 (map extent_at (segments order host libs))
+segments_ascend order host libs = extents_ascend 0 (segments order host libs)
+    (ascend order host libs) (all_within order host libs)
 
-pub segments_small : (order : Order) (host : List ℕ) (libs : List (List ℕ)) → All (λ c. c.size ≤ MAX_CODE_LEN) (map extent_at (segments order host libs))
-segments_small order host libs = All-map (λ (c : Extent). c.size ≤ MAX_CODE_LEN) extent_at (segments order host libs) (all_small order host libs)
+pub segments_small : (order : Order) (host : List ℕ) (libs : List (List ℕ))
+    → All (λ c. c.size ≤ MAX_CODE_LEN) (map extent_at (segments order host libs))
+segments_small order host libs = All-map (λ (c : Extent). c.size ≤ MAX_CODE_LEN) extent_at
+    (segments order host libs) (all_small order host libs)

@@ -7,15 +7,20 @@ use Rattle.ps_linkfile.specs.declared.error.WriteFault.{WriteFault}
 use Rattle.ps_linkfile.specs.declared.failures.Failures.{Failures}
 use Rattle.ps_linkfile.specs.Failures.{failures_with}
 
--- The text was added between old and new. `added` says of a writer as it was at first, of a text and
+-- The text was added between old and new. `added` says of a writer as it was at first, of a text
+-- and
 -- of a writer that it is that writer once the text was added.
-pub record Adds {S : Type 0} (added : S → List ℕ → S → Type 0) (old : S) (text : List ℕ) (new : S) : Type 0 where
-  pub after : (first : S) (before : List ℕ) → added first before old → added first (before ++ text) new
+pub record Adds {S : Type 0} (added : S → List ℕ → S → Type 0) (old : S) (text : List ℕ)
+    (new : S) : Type 0 where
+  pub after : (first : S) (before : List ℕ) → added first before old
+      → added first (before ++ text) new
 
 -- What a known writer had at first and has now, of a text that was added in front of it: all that
 -- was not gathered, or a prefix of it from when a write failed.
-abbrev pub IsSent : Option (List ℕ) → List ℕ → Option (List ℕ) → List ℕ → Option WriteFault → Type 0
-IsSent first text now gathered None = (sent : List ℕ) × Appends first now sent × (sent ++ gathered ≡ text)
+abbrev pub IsSent : Option (List ℕ) → List ℕ → Option (List ℕ) → List ℕ
+    → Option WriteFault → Type 0
+IsSent first text now gathered None = (sent : List ℕ) × Appends first now sent
+    × (sent ++ gathered ≡ text)
 IsSent first text now gathered (Some fault) = AppendsPrefix first now text
 
 -- What failed at the writer at first and now: nothing more, or the one write that failed.

@@ -1,6 +1,7 @@
 -- How often a writer was called, and how its counts rise.
 -- Source: this project's profile.
-use Rattle.std.specs.Prelude.{◌≡◌, ℕ, ◌+◌, ◌^◌, ◌<◌, ◌≤◌, ◌==◌, ◌&&◌, nat_lt, if◌then◌else◌, Result, Ok, Err, ⊤}
+use Rattle.std.specs.Prelude.{◌≡◌, ℕ, ◌+◌, ◌^◌, ◌<◌, ◌≤◌, ◌==◌}
+use Rattle.std.specs.Prelude.{◌&&◌, nat_lt, if◌then◌else◌, Result, Ok, Err, ⊤}
 use Rattle.ps_linkfile.specs.declared.counts.Counts.{Counts}
 use Rattle.ps_linkfile.specs.declared.error.WriteFault.{WriteFault}
 use Rattle.ps_linkfile.specs.declared.error.WriteFault.TheVariants.{Device, Stalled}
@@ -31,7 +32,8 @@ counts_after old size (Ok taken) = record {
   stalls = if nat_lt taken size && taken == 0 then old.stalls + 1 else old.stalls;
   shorts = if nat_lt taken size then old.shorts + 1 else old.shorts;
 }
-counts_after old size (Err error) = record { writes = old.writes + 1; errors = old.errors + 1; stalls = old.stalls; shorts = old.shorts }
+counts_after old size (Err error) = record
+    { writes = old.writes + 1; errors = old.errors + 1; stalls = old.stalls; shorts = old.shorts }
 
 -- there were at most as many writes as bytes
 abbrev pub RisesByBytes : Counts → Counts → ℕ → Type 0

@@ -1,6 +1,7 @@
 -- How many writes of a writer failed, and how these counts rise.
 -- Source: this project's profile.
-use Rattle.std.specs.Prelude.{ℕ, ◌+◌, ◌==◌, ◌&&◌, min, nat_lt, if◌then◌else◌, Result, Ok, Err}
+use Rattle.std.specs.Prelude.{ℕ, ◌+◌, ◌==◌, ◌&&◌, min, nat_lt, if◌then◌else◌}
+use Rattle.std.specs.Prelude.{Result, Ok, Err}
 use Rattle.ps_linkfile.specs.declared.failures.Failures.{Failures}
 use Rattle.ps_linkfile.specs.declared.error.WriteFault.{WriteFault}
 use Rattle.ps_linkfile.specs.declared.error.WriteFault.TheVariants.{Device, Stalled}

@@ -1,7 +1,8 @@
 -- The parts of a JSON document that map, show and their kin are made of: names, items of an array,
 -- and words that are true or false.
 -- Source: RFC 8259; which members there are is this project's profile.
-use Rattle.std.specs.Prelude.{ℕ, ◌==◌, if◌then◌else◌, Bool, List, [], ◌∷◌, ◌++◌, codes, decimal}
+use Rattle.std.specs.Prelude.{ℕ, ◌==◌, if◌then◌else◌, Bool, List, [], ◌∷◌}
+use Rattle.std.specs.Prelude.{◌++◌, codes, decimal}
 use Rattle.std.specs.List.{flat_map}
 use Rattle.ps_words.specs.FaultText.{number_of, name_of}
 use Rattle.ps_words.specs.declared.fault.Reason.{Reason}
@@ -11,11 +12,13 @@ use Rattle.ps_linkfile.specs.ReferencesText.{hex_byte}
 -- a byte of a name inside a string: as a line shows it, but a quote (34) and a backslash (92) have
 -- a backslash before them
 abbrev pub json_byte : ℕ → List ℕ
-json_byte b = if b == 34 then 92 ∷ 34 ∷ [] else if b == 92 then 92 ∷ 92 ∷ [] else shown_byte b ∷ []
+json_byte b = if b == 34 then 92 ∷ 34 ∷ [] else if b == 92 then 92 ∷ 92 ∷ []
+    else shown_byte b ∷ []
 
 -- `"name":"UTIL    ","name_hex":"5554494C20202020"`: a name as a line shows it, and all its bytes
 abbrev pub json_name : List ℕ → List ℕ
-json_name name = codes "\"name\":\"" ++ flat_map json_byte name ++ codes "\",\"name_hex\":\"" ++ flat_map hex_byte name ++ codes "\""
+json_name name = codes "\"name\":\"" ++ flat_map json_byte name ++ codes "\",\"name_hex\":\""
+    ++ flat_map hex_byte name ++ codes "\""
 
 -- what is before an item of an array on the line of the item before it
 abbrev pub comma_unless : Bool → List ℕ
@@ -34,4 +37,5 @@ json_bool b = if b then codes "true" else codes "false"
 
 -- `{"number":19,"reason":"RecordsTruncated"}`
 abbrev pub json_reason : Reason → List ℕ
-json_reason why = codes "{\"number\":" ++ decimal (number_of why) ++ codes ",\"reason\":\"" ++ name_of why ++ codes "\"}"
+json_reason why = codes "{\"number\":" ++ decimal (number_of why) ++ codes ",\"reason\":\""
+    ++ name_of why ++ codes "\"}"

@@ -1,7 +1,9 @@
 -- The linked file: block 0 has its segment dictionary, and the blocks after it have the code of
 -- each segment, by slot, each padded with zeros to its last block's end.
 -- Source: UCSD Pascal II.0 manual, code file format; the layout is this project's profile.
-use Rattle.std.specs.Prelude.{◌≡◌, ℕ, ◌+◌, ◌*◌, ◌<◌, ◌≤◌, ◌==◌, List, [], ◌∷◌, ◌++◌, length, map, replicate, slice_index, slice_range, nat_lt, All, sum_by}
+use Rattle.std.specs.Prelude.{◌≡◌, ℕ, ◌+◌, ◌*◌, ◌<◌, ◌≤◌, ◌==◌, List}
+use Rattle.std.specs.Prelude.{[], ◌∷◌, ◌++◌, length, map, replicate, slice_index}
+use Rattle.std.specs.Prelude.{slice_range, nat_lt, All, sum_by}
 use Rattle.std.specs.List.{range_with_len, filter, find, flat_map}
 use Rattle.std.specs.Option.{option_map_or}
 use Rattle.ps_words.specs.Words.{word_bytes, blocks}
@@ -34,7 +36,8 @@ block_of codes slot = 1 + all_blocks (filter (λ c. nat_lt c.slot slot) codes)
 -- where it has none
 abbrev pub pair_of : Order → List Extent → ℕ → List ℕ
 pair_of order codes slot =
-    option_map_or (λ c. word_bytes order (block_of codes slot) ++ word_bytes order c.size) (find (λ c. c.slot == slot) codes) (0 ∷ 0 ∷ 0 ∷ 0 ∷ [])
+    option_map_or (λ c. word_bytes order (block_of codes slot) ++ word_bytes order c.size)
+    (find (λ c. c.slot == slot) codes) (0 ∷ 0 ∷ 0 ∷ 0 ∷ [])
 
 -- the code of a segment
 abbrev pub extent_of : Segment → Extent
@@ -49,12 +52,22 @@ extents host libs = map extent_of (segments_of host libs)
 pub record LinkedFile (host : List ℕ) (libs : List (List ℕ)) (file : List ℕ) : Type 0 where
   pub accepted : NoneStands host libs
   pub size : length file ≡ block_len * (1 + all_blocks (extents host libs))
-  pub pairs : (slot : ℕ) → slot < 16 → slice_range file (4 * slot) (4 * slot + 4) ≡ pair_of (order_of host) (extents host libs) slot
-  pub names : slice_range file names_start kinds_start ≡ flat_map (λ name. name) (slot_names host (segments (order_of host) host libs))
-  pub kinds_and_texts : (p : ℕ) → kinds_start ≤ p → p < tail_start → slice_index file p ≡ 0
+  pub pairs : (slot : ℕ) → slot < 16
+      → slice_range file (4 * slot) (4 * slot + 4)
+      ≡ pair_of (order_of host) (extents host libs) slot
+  pub names : slice_range file names_start kinds_start
+      ≡ flat_map (λ name. name) (slot_names host (segments (order_of host) host libs))
+  pub kinds_and_texts : (p : ℕ) → kinds_start ≤ p → p < tail_start
+      → slice_index file p ≡ 0
   pub tail : slice_range file tail_start block_len ≡ slice_range host tail_start block_len
-  pub codes : All (λ s. (p : ℕ) → p < length s.code → IsLinkedByte (order_of host) (segments_of host libs) s p (slice_index file (block_len * block_of (extents host libs) s.slot + p))) (segments_of host libs)
-  pub padding : All (λ s. (p : ℕ) → length s.code ≤ p → p < block_len * blocks (length s.code) → slice_index file (block_len * block_of (extents host libs) s.slot + p) ≡ 0) (segments_of host libs)
+  pub codes : All (λ s. (p : ℕ) → p < length s.code
+      → IsLinkedByte (order_of host) (segments_of host libs) s p
+      (slice_index file (block_len * block_of (extents host libs) s.slot + p)))
+      (segments_of host libs)
+  pub padding : All (λ s. (p : ℕ) → length s.code ≤ p
+      → p < block_len * blocks (length s.code)
+      → slice_index file (block_len * block_of (extents host libs) s.slot + p) ≡ 0)
+      (segments_of host libs)
 
 -- the segments of a link, by slot, each with its edits
 abbrev pub linked_segments : List ℕ → List (List ℕ) → List Edited
@@ -67,11 +80,13 @@ all_pairs order codes = flat_map (pair_of order codes) slots
 -- the segment dictionary, with these names of the slots and the tail of the host's
 unfoldable pub dictionary : Order → List (List ℕ) → List ℕ → List Extent → List ℕ
 dictionary order names host codes =
-    all_pairs order codes ++ (flat_map (λ name. name) names ++ (replicate 64 0 ++ slice_range host tail_start block_len))
+    all_pairs order codes ++ (flat_map (λ name. name) names
+    ++ (replicate 64 0 ++ slice_range host tail_start block_len))
 
 -- a code with its edits, and zeros to its last block's end
 abbrev pub padded_code : Order → List ℕ → List Edit → List ℕ
-padded_code order code edits = map (patched_or_zero order code edits) (range_with_len 0 (block_len * blocks (length code)))
+padded_code order code edits = map (patched_or_zero order code edits)
+    (range_with_len 0 (block_len * blocks (length code)))
 
 -- the same of a segment with its edits
 abbrev pub padded_segment : Order → Edited → List ℕ
@@ -79,7 +94,9 @@ padded_segment order e = padded_code order e.segment.code e.edits
 
 -- the one list that is the linked file where no fault applies
 abbrev pub linked_file : List ℕ → List (List ℕ) → List ℕ
-linked_file host libs = dictionary (order_of host) (slot_names host (segments (order_of host) host libs)) host (extents host libs) ++ flat_map (padded_segment (order_of host)) (linked_segments host libs)
+linked_file host libs = dictionary (order_of host)
+    (slot_names host (segments (order_of host) host libs)) host (extents host libs)
+    ++ flat_map (padded_segment (order_of host)) (linked_segments host libs)
 
 -- its segments, the words of all privates, and its blocks, the dictionary's counted
 abbrev pub summary_of : List ℕ → List (List ℕ) → Summary

@@ -24,49 +24,63 @@ member key n = codes ",\"" ++ key ++ codes "\":" ++ decimal n
 -- parts of the line of a segment, as the item of this index
 abbrev pub code_members : ℕ → List ℕ → ℕ → ℕ → ℕ → ℕ → Bool → List ℕ
 code_members slot name file entry block size added =
-    codes "{\"slot\":" ++ decimal slot ++ codes "," ++ json_name name ++ member (codes "file") file ++ member (codes "entry") entry
-    ++ member (codes "block") block ++ member (codes "length") size ++ codes ",\"added\":" ++ json_bool added ++ codes "}"
+    codes "{\"slot\":" ++ decimal slot ++ codes "," ++ json_name name ++ member (codes "file") file
+    ++ member (codes "entry") entry
+    ++ member (codes "block") block ++ member (codes "length") size ++ codes ",\"added\":"
+    ++ json_bool added ++ codes "}"
 
-abbrev pub code_item : ℕ → ℕ → List ℕ → ℕ → ℕ → ℕ → ℕ → Bool → List ℕ
-code_item i slot name file entry block size added = separator i ++ code_members slot name file entry block size added
+abbrev pub code_item : ℕ → ℕ → List ℕ → ℕ → ℕ → ℕ → ℕ → Bool
+    → List ℕ
+code_item i slot name file entry block size added =
+    separator i ++ code_members slot name file entry block size added
 
 -- that of a plan's source, by the names of all slots
 abbrev pub source_item : List (List ℕ) → List Extent → ℕ × Origin → List ℕ
-source_item names codes_of o = code_item o.0 o.1.slot (name_in names o.1.slot) o.1.file o.1.index (block_of codes_of o.1.slot) (length o.1.code) o.1.added
+source_item names codes_of o = code_item o.0 o.1.slot (name_in names o.1.slot) o.1.file o.1.index
+    (block_of codes_of o.1.slot) (length o.1.code) o.1.added
 
 -- `{"kind":"public","name":..,"name_hex":..,"value":3}`
 abbrev pub definition_item : ℕ × (List ℕ × Def) → List ℕ
-definition_item d = separator d.0 ++ codes "{\"kind\":\"" ++ kind_word d.1.1.kind ++ codes "\"," ++ json_name d.1.0 ++ member (codes "value") d.1.1.value ++ codes "}"
+definition_item d = separator d.0 ++ codes "{\"kind\":\"" ++ kind_word d.1.1.kind ++ codes "\","
+    ++ json_name d.1.0 ++ member (codes "value") d.1.1.value ++ codes "}"
 
 -- `{"slot":7,"name":..,"name_hex":..,"offset":8,"words":4}`
 abbrev pub private_members : Private → List ℕ
-private_members v = codes "{\"slot\":" ++ decimal v.slot ++ codes "," ++ json_name v.name ++ member (codes "offset") v.offset ++ member (codes "words") v.words ++ codes "}"
+private_members v = codes "{\"slot\":" ++ decimal v.slot ++ codes "," ++ json_name v.name
+    ++ member (codes "offset") v.offset ++ member (codes "words") v.words ++ codes "}"
 
 abbrev pub private_item : ℕ × Private → List ℕ
 private_item v = separator v.0 ++ private_members v.1
 
 -- the lists of the items
 abbrev pub segment_list : List (List ℕ) → List Extent → List Origin → List ℕ
-segment_list names codes_of origins = codes "{\"segments\":[" ++ flat_map (source_item names codes_of) (enumerate_from 0 origins)
+segment_list names codes_of origins = codes "{\"segments\":["
+    ++ flat_map (source_item names codes_of) (enumerate_from 0 origins)
 
 abbrev pub definition_list : List (List ℕ × Def) → List ℕ
-definition_list defs = codes "\n],\"definitions\":[" ++ flat_map definition_item (enumerate_from 0 defs)
+definition_list defs = codes "\n],\"definitions\":["
+    ++ flat_map definition_item (enumerate_from 0 defs)
 
 abbrev pub private_list : List Private → List ℕ
-private_list privates = codes "\n],\"privates\":[" ++ flat_map private_item (enumerate_from 0 privates) ++ codes "\n]"
+private_list privates = codes "\n],\"privates\":["
+    ++ flat_map private_item (enumerate_from 0 privates) ++ codes "\n]"
 
 -- the numbers of the last line
 abbrev pub last_members : ℕ → ℕ → ℕ → List ℕ
-last_members next size blocks = member (codes "next") next ++ member (codes "data") size ++ member (codes "blocks") blocks
+last_members next size blocks = member (codes "next") next ++ member (codes "data") size
+    ++ member (codes "blocks") blocks
 
 -- all of a map but its end: the items of its lines, and the numbers of the last one
-abbrev pub map_members : List (List ℕ) → List Extent → List Origin → List (List ℕ × Def) → List Private → ℕ → ℕ → List ℕ
+abbrev pub map_members : List (List ℕ) → List Extent → List Origin → List (List ℕ × Def)
+    → List Private → ℕ → ℕ → List ℕ
 map_members names codes_of origins defs privates next size =
-    segment_list names codes_of origins ++ definition_list defs ++ private_list privates ++ last_members next size (1 + all_blocks codes_of)
+    segment_list names codes_of origins ++ definition_list defs ++ private_list privates
+    ++ last_members next size (1 + all_blocks codes_of)
 
 -- that of the map that a plan stands for
 abbrev pub members_in : Planned → List ℕ
-members_in plan = map_members plan.names (extents_in plan) plan.origins plan.definitions plan.privates plan.next_free plan.data_size
+members_in plan = map_members plan.names
+    (extents_in plan) plan.origins plan.definitions plan.privates plan.next_free plan.data_size
 
 -- that of the map of a host and its libraries
 unfoldable pub members_of : List ℕ → List (List ℕ) → List ℕ
@@ -74,7 +88,8 @@ members_of host libs =
     let order = order_of host in
     let segs = segments order host libs in
     let records = host_records segs in
-    map_members (slot_names host segs) (extents host libs) (map origin_of segs) (definitions records) (all_allotted (next_of records) (map owner_of segs))
+    map_members (slot_names host segs) (extents host libs) (map origin_of segs)
+    (definitions records) (all_allotted (next_of records) (map owner_of segs))
     (next_of records + total_words segs) (data_size order segs)
 
 -- the end of a document

@@ -1,7 +1,8 @@
 -- The map of a link: its segments by slot, the definitions in record order, the privates by slot
 -- and then by record, and what is free after them.
 -- Source: this project's profile.
-use Rattle.std.specs.Prelude.{ℕ, ◌+◌, if◌then◌else◌, Bool, List, [], ◌∷◌, ◌++◌, length, map, codes, decimal, slice_get, unwrap_or}
+use Rattle.std.specs.Prelude.{ℕ, ◌+◌, if◌then◌else◌, Bool, List, [], ◌∷◌}
+use Rattle.std.specs.Prelude.{◌++◌, length, map, codes, decimal, slice_get, unwrap_or}
 use Rattle.std.specs.List.{flat_map}
 use Rattle.ps_resolve.specs.Sources.{Segment, order_of, host_records}
 use Rattle.ps_resolve.specs.Added.{segments}
@@ -27,12 +28,14 @@ added_word added = if added then codes " added" else []
 -- bytes, and whether it was added
 abbrev pub code_line : ℕ → List ℕ → ℕ → ℕ → ℕ → ℕ → Bool → List ℕ
 code_line slot name file entry block size added =
-    line (codes "segment " ++ two_digits slot ++ (32 ∷ []) ++ shown_name name ++ field (codes "file") file ++ codes " entry " ++ two_digits entry
+    line (codes "segment " ++ two_digits slot ++ (32 ∷ []) ++ shown_name name
+    ++ field (codes "file") file ++ codes " entry " ++ two_digits entry
     ++ field (codes "block") block ++ field (codes "length") size ++ added_word added)
 
 -- the line of a segment, whose code begins in the block that its slot has among these codes
 abbrev pub segment_line : List Extent → Segment → List ℕ
-segment_line codes_of s = code_line s.slot s.name s.file s.index (block_of codes_of s.slot) (length s.code) s.added
+segment_line codes_of s = code_line s.slot s.name s.file s.index (block_of codes_of s.slot)
+    (length s.code) s.added
 
 -- the first word of a definition's line
 abbrev pub kind_word : DefKind → List ℕ
@@ -41,15 +44,19 @@ kind_word Constant = codes "constant"
 
 -- `public COUNT    value 3`
 abbrev pub definition_line : List ℕ × Def → List ℕ
-definition_line d = line (kind_word d.1.kind ++ (32 ∷ []) ++ shown_name d.0 ++ field (codes "value") d.1.value)
+definition_line d = line (kind_word d.1.kind ++ (32 ∷ []) ++ shown_name d.0
+    ++ field (codes "value") d.1.value)
 
 -- `private 07 STATE    offset 8 words 4`
 abbrev pub private_line : Private → List ℕ
-private_line v = line (codes "private " ++ two_digits v.slot ++ (32 ∷ []) ++ shown_name v.name ++ field (codes "offset") v.offset ++ field (codes "words") v.words)
+private_line v = line (codes "private " ++ two_digits v.slot ++ (32 ∷ []) ++ shown_name v.name
+    ++ field (codes "offset") v.offset ++ field (codes "words") v.words)
 
 -- `next 12 data 18 blocks 3`
 abbrev pub last_line : ℕ → ℕ → ℕ → List ℕ
-last_line next size blocks = line (codes "next " ++ decimal next ++ field (codes "data") size ++ field (codes "blocks") blocks)
+last_line next size blocks =
+    line (codes "next " ++ decimal next ++ field (codes "data") size
+    ++ field (codes "blocks") blocks)
 
 -- the map of a host and its libraries
 unfoldable pub map_of : List ℕ → List (List ℕ) → List ℕ
@@ -60,7 +67,8 @@ map_of host libs =
     flat_map (segment_line codes_of) segs
     ++ flat_map definition_line (definitions (host_records segs))
     ++ flat_map private_line (all_allotted (next_of (host_records segs)) (map owner_of segs))
-    ++ last_line (next_of (host_records segs) + total_words segs) (data_size order segs) (1 + all_blocks codes_of)
+    ++ last_line (next_of (host_records segs) + total_words segs) (data_size order segs)
+    (1 + all_blocks codes_of)
 
 -- the name of a slot, among those of all slots
 abbrev pub name_in : List (List ℕ) → ℕ → List ℕ
@@ -68,7 +76,8 @@ name_in names slot = unwrap_or (slice_get names slot) []
 
 -- the line of a plan's source, by the names of all slots
 abbrev pub source_line : List (List ℕ) → List Extent → Origin → List ℕ
-source_line names codes_of o = code_line o.slot (name_in names o.slot) o.file o.index (block_of codes_of o.slot) (length o.code) o.added
+source_line names codes_of o = code_line o.slot (name_in names o.slot) o.file o.index
+    (block_of codes_of o.slot) (length o.code) o.added
 
 -- the map that a plan stands for
 abbrev pub map_in : Planned → List ℕ

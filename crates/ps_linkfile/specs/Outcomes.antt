@@ -20,8 +20,10 @@ abbrev pub AppendsPrefix : Option (List ℕ) → Option (List ℕ) → List ℕ 
 AppendsPrefix old new bytes = (n : ℕ) × Appends old new (take n bytes)
 
 -- a known writer takes the linked file
-abbrev pub AppendsLinkedFile : List ℕ → List (List ℕ) → Option (List ℕ) → Option (List ℕ) → Type 0
-AppendsLinkedFile host libs old new = (file : List ℕ) × (LinkedFile host libs file × Appends old new file)
+abbrev pub AppendsLinkedFile : List ℕ → List (List ℕ) → Option (List ℕ)
+    → Option (List ℕ) → Type 0
+AppendsLinkedFile host libs old new = (file : List ℕ)
+    × (LinkedFile host libs file × Appends old new file)
 
 -- the error of a link that has no plan
 abbrev pub error_of : Stop → LinkError
@@ -45,7 +47,8 @@ IsUnlinked host libs (Write fault) = first_fault host libs ≡ None
 -- number; memory runs out only where no fault applies in the steps of reading, and a write fails
 -- only where none applies
 abbrev pub NamesFirst : List ℕ → List (List ℕ) → LinkError → Type 0
-NamesFirst host libs (Refused fault) = IsFirst host libs fault × HasItsParts (order_of host) host libs fault
+NamesFirst host libs (Refused fault) = IsFirst host libs fault
+    × HasItsParts (order_of host) host libs fault
 NamesFirst host libs Memory = NoneStandsInReading host libs
 NamesFirst host libs (Write fault) = NoneStands host libs
 
@@ -62,13 +65,16 @@ LeavesUntouched Memory old new = new ≡ old
 LeavesUntouched (Write fault) old new = ⊤
 
 -- where a write failed, a known writer took a prefix of the linked file
-abbrev pub LeavesPrefix : List ℕ → List (List ℕ) → LinkError → Option (List ℕ) → Option (List ℕ) → Type 0
+abbrev pub LeavesPrefix : List ℕ → List (List ℕ) → LinkError → Option (List ℕ)
+    → Option (List ℕ) → Type 0
 LeavesPrefix host libs (Refused fault) old new = ⊤
 LeavesPrefix host libs Memory old new = ⊤
-LeavesPrefix host libs (Write fault) old new = (file : List ℕ) × (LinkedFile host libs file × AppendsPrefix old new file)
+LeavesPrefix host libs (Write fault) old new =
+    (file : List ℕ) × (LinkedFile host libs file × AppendsPrefix old new file)
 
 -- where a write failed, a known writer took a prefix of the text
-abbrev pub LeavesTextPrefix : List ℕ → LinkError → Option (List ℕ) → Option (List ℕ) → Type 0
+abbrev pub LeavesTextPrefix : List ℕ → LinkError → Option (List ℕ) → Option (List ℕ)
+    → Type 0
 LeavesTextPrefix text (Refused fault) old new = ⊤
 LeavesTextPrefix text Memory old new = ⊤
 LeavesTextPrefix text (Write fault) old new = AppendsPrefix old new text

@@ -1,13 +1,15 @@
 -- The map of a link and what it stores, as JSON: the values of the lines.
 -- Source: RFC 8259; which members there are is this project's profile.
-use Rattle.std.specs.Prelude.{◌≡◌, ℕ, ◌+◌, ◌*◌, List, [], ◌++◌, codes, decimal, Option, Some, None}
+use Rattle.std.specs.Prelude.{◌≡◌, ℕ, ◌+◌, ◌*◌, List, [], ◌++◌, codes, decimal}
+use Rattle.std.specs.Prelude.{Option, Some, None}
 use Rattle.std.specs.List.{flat_map, enumerate_from}
 use Rattle.ps_codefile.specs.Dictionary.{block_len}
 use Rattle.ps_resolve.specs.Plans.{Planned}
 use Rattle.ps_linkfile.specs.JsonText.{json_name, separator}
 use Rattle.ps_linkfile.specs.MapJson.{member, members_in, members_of}
 use Rattle.ps_linkfile.specs.MapText.{map_in}
-use Rattle.ps_linkfile.specs.ReferencesText.{Listed, cause_width, hex_bytes, listed_lines, references_of}
+use Rattle.ps_linkfile.specs.ReferencesText.{Listed, cause_width, hex_bytes, listed_lines}
+use Rattle.ps_linkfile.specs.ReferencesText.{references_of}
 use Rattle.ps_linkfile.specs.declared.cause.ReferenceKind.{ReferenceKind}
 use Rattle.ps_linkfile.specs.declared.cause.ReferenceKind.TheVariants.{Unit, Public, Private}
 use Rattle.ps_linkfile.specs.declared.cause.Cause.{Cause}
@@ -44,7 +46,8 @@ record_kind Private = codes "{\"kind\":\"PRIVREF\","
 abbrev pub stored_record : Cause → List ℕ
 stored_record Number = codes "null"
 stored_record DataSize = codes "null"
-stored_record (Reference kind name rec) = record_kind kind ++ json_name name ++ member (codes "index") rec ++ codes "}"
+stored_record (Reference kind name rec) =
+    record_kind kind ++ json_name name ++ member (codes "index") rec ++ codes "}"
 
 -- a member of bytes in hexadecimal digits, which begins so
 abbrev pub hex_member : List ℕ → List ℕ → ℕ → ℕ → List ℕ
@@ -54,8 +57,11 @@ hex_member before code p width = before ++ hex_bytes code p width ++ codes "\""
 -- "is":"8003","record":{..}}`: the parts of the line of a place
 abbrev pub cause_item : Listed → ℕ → Cause → List ℕ
 cause_item s p cause =
-    stored_head cause ++ decimal s.slot ++ codes "," ++ json_name s.name ++ member (codes "at") p ++ member (codes "offset") (block_len * s.block + p)
-    ++ hex_member (codes ",\"was\":\"") s.code p (cause_width cause) ++ hex_member (codes ",\"is\":\"") s.linked p (cause_width cause) ++ codes ",\"record\":" ++ stored_record cause ++ stored_end cause
+    stored_head cause ++ decimal s.slot ++ codes "," ++ json_name s.name ++ member (codes "at") p
+    ++ member (codes "offset") (block_len * s.block + p)
+    ++ hex_member (codes ",\"was\":\"") s.code p (cause_width cause)
+    ++ hex_member (codes ",\"is\":\"") s.linked p (cause_width cause) ++ codes ",\"record\":"
+    ++ stored_record cause ++ stored_end cause
 
 -- the item of a place, if a link stores what begins there
 abbrev pub place_item : Listed → ℕ × Option Cause → List ℕ
@@ -68,7 +74,8 @@ listed_items s = separator s.0 ++ flat_map (place_item s.1) (enumerate_from 0 s.
 
 -- what is after the members of the map: the items of all segments, by slot
 abbrev pub references_json : List Listed → List ℕ
-references_json listings = codes ",\"references\":[" ++ flat_map listed_items (enumerate_from 0 listings) ++ codes "\n]}\n"
+references_json listings = codes ",\"references\":["
+    ++ flat_map listed_items (enumerate_from 0 listings) ++ codes "\n]}\n"
 
 -- the document
 abbrev pub referenced_json : Referenced → List ℕ
@@ -77,4 +84,6 @@ referenced_json r = members_in r.plan ++ references_json r.listings
 -- the document of a host and its libraries: its items are of the segments whose lines are those of
 -- the references of the link
 abbrev pub IsReferencesJson : List ℕ → List (List ℕ) → List ℕ → Type 0
-IsReferencesJson host libs text = (listings : List Listed) × (flat_map listed_lines listings ≡ references_of host libs) × (text ≡ members_of host libs ++ references_json listings)
+IsReferencesJson host libs text = (listings : List Listed)
+    × (flat_map listed_lines listings ≡ references_of host libs)
+    × (text ≡ members_of host libs ++ references_json listings)

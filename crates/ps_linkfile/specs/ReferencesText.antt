@@ -1,7 +1,9 @@
 -- What a link stores in each segment, as text: by slot and then by place, a line for the number of
 -- the segment, for the data size of the host's outer block, and for each reference.
 -- Source: this project's profile.
-use Rattle.std.specs.Prelude.{ℕ, ◌+◌, ◌*◌, ◌/◌, ◌%◌, ◌==◌, if◌then◌else◌, Bool, false, List, [], ◌∷◌, ◌++◌, length, map, take, drop, codes, nat_lt, Option, Some, None}
+use Rattle.std.specs.Prelude.{ℕ, ◌+◌, ◌*◌, ◌/◌, ◌%◌, ◌==◌}
+use Rattle.std.specs.Prelude.{if◌then◌else◌, Bool, false, List, [], ◌∷◌, ◌++◌}
+use Rattle.std.specs.Prelude.{length, map, take, drop, codes, nat_lt, Option, Some, None}
 use Rattle.std.specs.List.{flat_map, enumerate_from, list_any, range_with_len}
 use Rattle.std.specs.Option.{option_or}
 use Rattle.ps_words.specs.Edits.{patched_byte}
@@ -13,7 +15,8 @@ use Rattle.ps_codefile.specs.Roles.{needs_linking}
 use Rattle.ps_linkinfo.specs.Numbered.{numbered_records}
 use Rattle.ps_linkinfo.specs.Records.{refs_of}
 use Rattle.ps_linkinfo.specs.declared.record.Body.{Body}
-use Rattle.ps_linkinfo.specs.declared.record.Body.TheVariants.{UnitRef, PublRef, PrivRef, PublDef, ConstDef, Eof}
+use Rattle.ps_linkinfo.specs.declared.record.Body.TheVariants.{UnitRef, PublRef, PrivRef, PublDef}
+use Rattle.ps_linkinfo.specs.declared.record.Body.TheVariants.{ConstDef, Eof}
 use Rattle.ps_linkinfo.specs.declared.record.LinkRecord.{LinkRecord as Record}
 use Rattle.ps_resolve.specs.Sources.{Segment, order_of}
 use Rattle.ps_resolve.specs.Linking.{Edited}
@@ -49,7 +52,8 @@ cause_in rec name (Eof next) = None
 
 -- what the record stores at a place that is one of its references
 abbrev pub record_at : ℕ × Record → ℕ → Option Cause
-record_at r p = if list_any (λ x. x == p) (refs_of r.1.body) then cause_in r.0 r.1.name r.1.body else None
+record_at r p = if list_any (λ x. x == p) (refs_of r.1.body) then cause_in r.0 r.1.name r.1.body
+    else None
 
 -- what the first of the records stores there that refers to the place
 abbrev pub records_at : List (ℕ × Record) → ℕ → Option Cause
@@ -59,7 +63,8 @@ records_at (r ∷ rs) p = option_or (record_at r p) (records_at rs p)
 -- Why a link stores what begins at the place, in a code of this size, with these edits and these
 -- records. No place has two of them, where no fault applies.
 abbrev pub cause_at : ℕ → List Edit → List Record → ℕ → Option Cause
-cause_at size edits records p = option_or (number_at size p) (option_or (size_at edits p) (records_at (numbered_records 0 records) p))
+cause_at size edits records p = option_or (number_at size p)
+    (option_or (size_at edits p) (records_at (numbered_records 0 records) p))
 
 -- a segment's code before and after a link, and why the link stores what begins at each place; in
 -- the linked file the code begins in this block
@@ -110,7 +115,8 @@ kind_of_reference Private = codes " PRIVREF "
 abbrev pub cause_record : Cause → List ℕ
 cause_record Number = []
 cause_record DataSize = []
-cause_record (Reference kind name rec) = kind_of_reference kind ++ shown_name name ++ field (codes "record") rec
+cause_record (Reference kind name rec) =
+    kind_of_reference kind ++ shown_name name ++ field (codes "record") rec
 
 -- a digit of a hexadecimal number, from `0` to `9` and from `A` to `F`
 abbrev pub hex_digit : ℕ → ℕ
@@ -134,8 +140,10 @@ hex_field word code p width = (32 ∷ []) ++ word ++ (32 ∷ []) ++ hex_bytes co
 -- the place in its code and in the linked file, and the bytes there before and after the link
 abbrev pub cause_line : Listed → ℕ → Cause → List ℕ
 cause_line s p cause =
-    line (cause_word cause ++ two_digits s.slot ++ (32 ∷ []) ++ shown_name s.name ++ field (codes "at") p ++ field (codes "file") (block_len * s.block + p)
-    ++ hex_field (codes "was") s.code p (cause_width cause) ++ hex_field (codes "is") s.linked p (cause_width cause) ++ cause_record cause)
+    line (cause_word cause ++ two_digits s.slot ++ (32 ∷ []) ++ shown_name s.name
+    ++ field (codes "at") p ++ field (codes "file") (block_len * s.block + p)
+    ++ hex_field (codes "was") s.code p (cause_width cause)
+    ++ hex_field (codes "is") s.linked p (cause_width cause) ++ cause_record cause)
 
 -- the line of a place, if a link stores what begins there
 abbrev pub place_line : Listed → ℕ × Option Cause → List ℕ
@@ -149,8 +157,10 @@ listed_lines s = flat_map (place_line s) (enumerate_from 0 s.causes)
 -- those of a segment of a link, with its edits; nothing is stored in one that is linked already
 abbrev pub segment_references : Order → List Extent → Edited → List ℕ
 segment_references order codes_of e =
-    if needs_linking e.segment.role then listed_lines (listed_in order (block_of codes_of e.segment.slot) e.segment e.edits) else []
+    if needs_linking e.segment.role then listed_lines
+    (listed_in order (block_of codes_of e.segment.slot) e.segment e.edits) else []
 
 -- what a link of a host and its libraries stores, by slot and then by place
 unfoldable pub references_of : List ℕ → List (List ℕ) → List ℕ
-references_of host libs = flat_map (segment_references (order_of host) (extents host libs)) (linked_segments host libs)
+references_of host libs = flat_map (segment_references (order_of host) (extents host libs))
+    (linked_segments host libs)

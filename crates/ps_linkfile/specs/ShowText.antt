@@ -1,7 +1,9 @@
 -- What a code file has: its byte order, its sixteen slots, and the link information of each segment
 -- that is to be linked, record by record.
 -- Source: this project's profile.
-use Rattle.std.specs.Prelude.{◌≡◌, ℕ, ◌==◌, ◌&&◌, ◌||◌, if◌then◌else◌, List, [], ◌∷◌, ◌++◌, length, map, nat_lt, codes, decimal, Bool, Option, Some, None, Ok, Err}
+use Rattle.std.specs.Prelude.{◌≡◌, ℕ, ◌==◌, ◌&&◌, ◌||◌, if◌then◌else◌}
+use Rattle.std.specs.Prelude.{List, [], ◌∷◌, ◌++◌, length, map, nat_lt, codes, decimal}
+use Rattle.std.specs.Prelude.{Bool, Option, Some, None, Ok, Err}
 use Rattle.std.specs.List.{flat_map, enumerate_from, filter, list_any}
 use Rattle.std.specs.Str.{bytes_eq}
 use Rattle.ps_words.specs.declared.order.Order.{Order}
@@ -10,11 +12,13 @@ use Rattle.ps_words.specs.FaultPlaces.{in_file}
 use Rattle.ps_words.specs.declared.fault.Reason.{Reason}
 use Rattle.ps_words.specs.declared.fault.Reason.TheVariants as reason
 use Rattle.ps_words.specs.declared.fault.Fault.{Fault}
-use Rattle.ps_codefile.specs.Dictionary.{slots, block_len, FileOrder, Zero, Ordered, Mixed, file_order, entry_at, is_filled, code_of, information_of}
+use Rattle.ps_codefile.specs.Dictionary.{slots, block_len, FileOrder, Zero, Ordered, Mixed}
+use Rattle.ps_codefile.specs.Dictionary.{file_order, entry_at, is_filled, code_of, information_of}
 use Rattle.ps_codefile.specs.declared.entry.Entry.{Entry}
 use Rattle.ps_linkinfo.specs.Records.{reading}
 use Rattle.ps_linkinfo.specs.declared.record.Body.{Body}
-use Rattle.ps_linkinfo.specs.declared.record.Body.TheVariants.{UnitRef, PublRef, PrivRef, PublDef, ConstDef, Eof}
+use Rattle.ps_linkinfo.specs.declared.record.Body.TheVariants.{UnitRef, PublRef, PrivRef, PublDef}
+use Rattle.ps_linkinfo.specs.declared.record.Body.TheVariants.{ConstDef, Eof}
 use Rattle.ps_linkinfo.specs.declared.record.LinkRecord.{LinkRecord as Record}
 use Rattle.ps_codefile.specs.Roles.{is_unit}
 use Rattle.ps_resolve.specs.Sources.{known_order}
@@ -35,7 +39,9 @@ order_words Mixed = []
 unfoldable pub slot_line : Order → List ℕ → ℕ → List ℕ
 slot_line order file slot =
     let e = entry_at order file slot in
-    line (codes "slot " ++ two_digits slot ++ (32 ∷ []) ++ shown_name e.name ++ field (codes "kind") e.kind ++ field (codes "address") e.address ++ field (codes "length") e.length ++ field (codes "text") e.text)
+    line (codes "slot " ++ two_digits slot ++ (32 ∷ []) ++ shown_name e.name
+    ++ field (codes "kind") e.kind ++ field (codes "address") e.address
+    ++ field (codes "length") e.length ++ field (codes "text") e.text)
 
 -- one reference, as ` 4`
 abbrev pub reference : ℕ → List ℕ
@@ -47,7 +53,8 @@ references refs = codes " at" ++ flat_map reference refs
 
 -- the names of the slots that have a unit, in place or wanted
 unfoldable pub unit_names : Order → List ℕ → List (List ℕ)
-unit_names order file = map (λ slot. (entry_at order file slot).name) (filter (is_role is_unit order file) slots)
+unit_names order file = map (λ slot. (entry_at order file slot).name)
+    (filter (is_role is_unit order file) slots)
 
 -- one of these units has the name
 abbrev pub is_listed : List (List ℕ) → List ℕ → Bool
@@ -59,11 +66,15 @@ unlisted_word units name = if is_listed units name then [] else codes " unlisted
 
 -- what a record has, in a file with these units
 abbrev pub record_words : List (List ℕ) → List ℕ → Body → List ℕ
-record_words units name (UnitRef refs) = codes " UNITREF " ++ shown_name name ++ references refs ++ unlisted_word units name
+record_words units name (UnitRef refs) =
+    codes " UNITREF " ++ shown_name name ++ references refs ++ unlisted_word units name
 record_words units name (PublRef refs) = codes " PUBLREF " ++ shown_name name ++ references refs
-record_words units name (PrivRef words refs) = codes " PRIVREF " ++ shown_name name ++ field (codes "words") words ++ references refs
-record_words units name (PublDef value) = codes " PUBLDEF " ++ shown_name name ++ field (codes "value") value
-record_words units name (ConstDef value) = codes " CONSTDEF " ++ shown_name name ++ field (codes "value") value
+record_words units name (PrivRef words refs) =
+    codes " PRIVREF " ++ shown_name name ++ field (codes "words") words ++ references refs
+record_words units name (PublDef value) =
+    codes " PUBLDEF " ++ shown_name name ++ field (codes "value") value
+record_words units name (ConstDef value) =
+    codes " CONSTDEF " ++ shown_name name ++ field (codes "value") value
 record_words units name (Eof next) = codes " EOFMARK" ++ field (codes "next") next
 
 -- the line of a record, as `0 PUBLREF COUNT    at 1`
@@ -77,7 +88,8 @@ fault_line rec (Some why) = line (decimal rec ++ (32 ∷ []) ++ fault_words why)
 
 -- the records up to the end mark, or up to the first fault and that fault
 abbrev pub record_lines : List (List ℕ) → List Record × Option Reason → List ℕ
-record_lines units read = flat_map (record_line units) (enumerate_from 0 read.0) ++ fault_line (length read.0) read.1
+record_lines units read = flat_map (record_line units) (enumerate_from 0 read.0)
+    ++ fault_line (length read.0) read.1
 
 -- the slot has a host segment or a unit
 abbrev pub has_links : Entry → Bool
@@ -89,12 +101,18 @@ unfoldable pub links_lines : Order → List ℕ → ℕ → List ℕ
 links_lines order file slot =
     let e = entry_at order file slot in
     if has_links e
-    then line (codes "links " ++ two_digits slot) ++ (elim (code_of file e) [ Err why ↦ line (fault_words why) | Ok code ↦ record_lines (unit_names order file) (reading order (information_of file e)) ])
+    then line (codes "links " ++ two_digits slot)
+    ++ (elim (code_of file e) [
+      | Err why ↦ line (fault_words why)
+      | Ok code ↦ record_lines (unit_names order file)
+          (reading order (information_of file e))
+    ])
     else []
 
 -- the text of a file that shows this order, and whose words are read in that one
 abbrev pub shown_file : FileOrder → Order → List ℕ → List ℕ
-shown_file found order file = line (order_words found) ++ flat_map (slot_line order file) slots ++ flat_map (links_lines order file) slots
+shown_file found order file = line (order_words found) ++ flat_map (slot_line order file) slots
+    ++ flat_map (links_lines order file) slots
 
 -- the show of a code file
 unfoldable pub show_of : List ℕ → List ℕ
@@ -113,7 +131,8 @@ order_fault Mixed = Some (in_file 0 reason.NoOrder)
 
 -- why a file cannot be shown: it has under 512 bytes, or its kind words fit neither byte order
 abbrev pub show_fault : List ℕ → Option Fault
-show_fault file = if nat_lt (length file) block_len then Some (in_file 0 reason.ShortFile) else order_fault (file_order file)
+show_fault file = if nat_lt (length file) block_len then Some (in_file 0 reason.ShortFile)
+    else order_fault (file_order file)
 
 -- why there is no text: that fault, or memory ran out although there is no fault; never a write
 abbrev pub IsUnshown : List ℕ → LinkError → Type 0

@@ -1,13 +1,15 @@
 -- The file that a plan of a link stands for, and what a plan is owed so that it can be written.
 -- Source: this project's profile.
-use Rattle.std.specs.Prelude.{◌≡◌, ℕ, ◌+◌, ◌<◌, ◌≤◌, List, [], ◌∷◌, ◌++◌, length, map, All, ⊤}
+use Rattle.std.specs.Prelude.{◌≡◌, ℕ, ◌+◌, ◌<◌, ◌≤◌, List, [], ◌∷◌}
+use Rattle.std.specs.Prelude.{◌++◌, length, map, All, ⊤}
 use Rattle.ps_words.specs.Edits.{AreEdits}
 use Rattle.ps_words.specs.declared.order.Order.{Order}
 use Rattle.ps_words.specs.declared.edit.Edit.{Edit}
 use Rattle.ps_codefile.specs.Dictionary.{block_len}
 use Rattle.ps_codefile.specs.declared.code_layout.TheConstants.{MAX_CODE_LEN}
 use Rattle.ps_resolve.specs.Plans.{Planned, Origin}
-use Rattle.ps_linkfile.specs.LinkedFile.{Extent, all_blocks, block_of, dictionary, padded_code, LinkedFile, summary_of}
+use Rattle.ps_linkfile.specs.LinkedFile.{Extent, all_blocks, block_of, dictionary, padded_code}
+use Rattle.ps_linkfile.specs.LinkedFile.{LinkedFile, summary_of}
 use Rattle.ps_linkfile.specs.declared.summary.Summary.{Summary}
 
 -- the code of a plan's source
@@ -22,11 +24,13 @@ extents_in plan = map extent_of_origin plan.origins
 abbrev pub padded_codes : Order → List Origin → List (List Edit) → List ℕ
 padded_codes order [] edits = []
 padded_codes order (o ∷ os) [] = []
-padded_codes order (o ∷ os) (edits ∷ rest) = padded_code order o.code edits ++ padded_codes order os rest
+padded_codes order (o ∷ os) (edits ∷ rest) =
+    padded_code order o.code edits ++ padded_codes order os rest
 
 -- the file that is written
 abbrev pub file_in : Planned → List ℕ
-file_in plan = dictionary plan.order plan.names plan.host (extents_in plan) ++ padded_codes plan.order plan.origins plan.edits
+file_in plan = dictionary plan.order plan.names plan.host (extents_in plan)
+    ++ padded_codes plan.order plan.origins plan.edits
 
 -- the summary of what is written: the plan's sources, its private words, and the blocks, the
 -- dictionary's counted

@@ -1,5 +1,7 @@
 -- One segment more of those that are linked one after another.
-use Rattle.std.proofs.Common.{◌≡◌, ℕ, ◌+◌, ◌<◌, ◌≤◌, ◌++◌, List, [], ◌∷◌, length, map, get_or, drop, Option, None, sym, ◌∙◌, ap, subst, arith}
+use Rattle.std.proofs.Common.{◌≡◌, ℕ, ◌+◌, ◌<◌, ◌≤◌, ◌++◌, List, []}
+use Rattle.std.proofs.Common.{◌∷◌, length, map, get_or, drop, Option, None, sym, ◌∙◌}
+use Rattle.std.proofs.Common.{ap, subst, arith}
 use Rattle.std.specs.Prelude.{⊤}
 use Rattle.ps_words.specs.declared.order.Order.{Order}
 use Rattle.ps_words.specs.declared.edit.Edit.{Edit}
@@ -21,39 +23,69 @@ use Rattle.ps_resolve.proofs.Segs.{drop_at}
 use Rattle.ps_resolve.proofs.Stages.{skip, keep}
 use Rattle.ps_words.specs.declared.words.TheConstants.{MAX_WORD}
 
-module _ (order : Order) (known : Known) (ss : List SegmentView) (i : ℕ) (v : SegmentView) (lt : i < length ss) (is : v ≡ get_or ss i v) (free : ℕ) where
+module _ (order : Order) (known : Known) (ss : List SegmentView) (i : ℕ) (v : SegmentView)
+    (lt : i < length ss) (is : v ≡ get_or ss i v) (free : ℕ) where
   head_is : map segment_of (drop i ss) ≡ segment_of v ∷ map segment_of (drop (i + 1) ss)
   head_is = ap (map segment_of) (drop_at ss i v lt is)
 
-  words_head : all_words (map owner_of (map segment_of (drop i ss))) ≡ private_words (segment_of v).records + all_words (map owner_of (map segment_of (drop (i + 1) ss)))
+  words_head : all_words (map owner_of (map segment_of (drop i ss)))
+      ≡ private_words (segment_of v).records + all_words
+      (map owner_of (map segment_of (drop (i + 1) ss)))
   words_head = ap (λ (xs : List Segment). all_words (map owner_of xs)) head_is
 
-  pub room_at : (total : ℕ) → free + all_words (map owner_of (map segment_of (drop i ss))) ≡ total → total ≤ MAX_WORD → free + private_words (segment_of v).records ≤ MAX_WORD
+  pub room_at : (total : ℕ) → free + all_words (map owner_of (map segment_of (drop i ss)))
+      ≡ total → total ≤ MAX_WORD → free + private_words (segment_of v).records ≤ MAX_WORD
   room_at total h lt = omega (arith, words_head)
 
-  pub stop_at : (base : ℕ) (stop : Stop) → references_fault_from order known free (map segment_of (drop i ss)) ≡ references_fault_from order known base (map segment_of ss)
-      → IsStop ⊤ (segment_fault order known free (segment_of v)) stop → AreOfReferences order known base (map segment_of ss) stop
-  stop_at base (Refused fault) h d = sym h ∙ ap (references_fault_from order known free) head_is ∙ keep _ _ fault d
+  pub stop_at : (base : ℕ) (stop : Stop)
+      → references_fault_from order known free (map segment_of (drop i ss))
+      ≡ references_fault_from order known base (map segment_of ss)
+      → IsStop ⊤ (segment_fault order known free (segment_of v)) stop
+      → AreOfReferences order known base (map segment_of ss) stop
+  stop_at base (Refused fault) h d = sym h ∙ ap (references_fault_from order known free) head_is
+      ∙ keep _ _ fault d
   stop_at base Memory h d = tt
 
   module _ (end : ℕ) (goes : end ≡ free + private_words (segment_of v).records) where
-    pub words_on : (total : ℕ) → free + all_words (map owner_of (map segment_of (drop i ss))) ≡ total → end + all_words (map owner_of (map segment_of (drop (i + 1) ss))) ≡ total
+    pub words_on : (total : ℕ) → free + all_words (map owner_of (map segment_of (drop i ss)))
+        ≡ total → end + all_words (map owner_of (map segment_of (drop (i + 1) ss))) ≡ total
     words_on total h = omega (arith, words_head, goes)
 
-    pub first_on : (first : Option Fault) → references_fault_from order known free (map segment_of (drop i ss)) ≡ first → segment_fault order known free (segment_of v) ≡ None
+    pub first_on : (first : Option Fault)
+        → references_fault_from order known free (map segment_of (drop i ss)) ≡ first
+        → segment_fault order known free (segment_of v) ≡ None
         → references_fault_from order known end (map segment_of (drop (i + 1) ss)) ≡ first
     first_on first h none =
-        ap (λ (n : ℕ). references_fault_from order known n (map segment_of (drop (i + 1) ss))) goes
+        ap (λ (n : ℕ). references_fault_from order known n (map segment_of (drop (i + 1) ss)))
+        goes
         ∙ sym (ap (references_fault_from order known free) head_is ∙ skip _ _ none) ∙ h
 
     pub links_on : (words : ℕ) (all : List Edited) (done : List (List Edit)) (d : List Edit)
-        → LinksSegment order (record { segment = segment_of v; edits = segment_edits order known words free (segment_of v) }) d
-        → ((behind : List (List Edit)) → LinkSegments order (edited_from order known words free (map segment_of (drop i ss))) behind → LinkSegments order all (done ++ behind))
-        → (behind : List (List Edit)) → LinkSegments order (edited_from order known words end (map segment_of (drop (i + 1) ss))) behind → LinkSegments order all (done ++ d ∷ behind)
+        → LinksSegment order
+        (record {
+          segment = segment_of v;
+          edits =
+              segment_edits order known words free (segment_of v);
+        }) d
+        → ((behind : List (List Edit))
+        → LinkSegments order (edited_from order known words free (map segment_of (drop i ss)))
+        behind → LinkSegments order all (done ++ behind))
+        → (behind : List (List Edit)) → LinkSegments order
+        (edited_from order known words end (map segment_of (drop (i + 1) ss))) behind
+        → LinkSegments order all (done ++ d ∷ behind)
     links_on words all done d link before behind h =
-        before (d ∷ behind) (subst (λ (xs : List Segment). LinkSegments order (edited_from order known words free xs) (d ∷ behind)) (sym head_is)
-        (link, subst (λ (n : ℕ). LinkSegments order (edited_from order known words n (map segment_of (drop (i + 1) ss))) behind) goes h))
+        before (d ∷ behind)
+        (subst (λ (xs : List Segment). LinkSegments order
+        (edited_from order known words free xs) (d ∷ behind)) (sym head_is) (
+          link,
+          subst (λ (n : ℕ). LinkSegments order
+              (edited_from order known words n (map segment_of (drop (i + 1) ss))) behind) goes h,
+        ))
 
 -- no segment is left
-pub none_left : (order : Order) (known : Known) (words free i : ℕ) (ss : List SegmentView) → length ss ≤ i → LinkSegments order (edited_from order known words free (map segment_of (drop i ss))) []
-none_left order known words free i ss h = subst (λ (xs : List SegmentView). LinkSegments order (edited_from order known words free (map segment_of xs)) []) (sym (drop_all i ss h)) tt
+pub none_left : (order : Order) (known : Known) (words free i : ℕ) (ss : List SegmentView)
+    → length ss ≤ i → LinkSegments order
+    (edited_from order known words free (map segment_of (drop i ss))) []
+none_left order known words free i ss h =
+    subst (λ (xs : List SegmentView). LinkSegments order
+    (edited_from order known words free (map segment_of xs)) []) (sym (drop_all i ss h)) tt

@@ -1,5 +1,7 @@
 -- One record more of the privates.
-use Rattle.std.proofs.Common.{◌≡◌, ℕ, ◌+◌, ◌<◌, ◌≤◌, ◌++◌, List, [], ◌∷◌, length, length-append, Bool, true, false, is_some, Option, Some, None, refl, sym, ◌∙◌, ap, subst, arith, append_assoc}
+use Rattle.std.proofs.Common.{◌≡◌, ℕ, ◌+◌, ◌<◌, ◌≤◌, ◌++◌, List, []}
+use Rattle.std.proofs.Common.{◌∷◌, length, length-append, Bool, true, false, is_some, Option}
+use Rattle.std.proofs.Common.{Some, None, refl, sym, ◌∙◌, ap, subst, arith, append_assoc}
 use Rattle.std.specs.Prelude.{nat_eq, nat_lt}
 use Rattle.std.specs.Option.{option_eq, option_or}
 use Rattle.std.specs.Bool.{Decides}
@@ -10,7 +12,9 @@ use Rattle.std.proofs.lemmas.Bool.Decides.{Decides-eqb, nat_tests}
 use Rattle.std.proofs.lemmas.Option.{same_Some}
 use Rattle.ps_words.specs.declared.fault.Reason.TheVariants as reason
 use Rattle.ps_linkinfo.specs.RecordCounts.{is_private_reference, privates_in}
-use Rattle.ps_resolve.specs.Privates.{Owner, words_in, allotted_privates, private_words, private_fault, all_allotted, first_private_fault, unallotted_fault}
+use Rattle.ps_resolve.specs.Privates.{Owner, words_in, allotted_privates, private_words}
+use Rattle.ps_resolve.specs.Privates.{private_fault, all_allotted, first_private_fault}
+use Rattle.ps_resolve.specs.Privates.{unallotted_fault}
 use Rattle.ps_resolve.specs.Stops.{IsStop}
 use Rattle.ps_linkinfo.specs.declared.record.LinkRecord.{LinkRecord as Record}
 use Rattle.ps_resolve.specs.Builders.{FindsNamesake, IsFirstNamesake}
@@ -27,35 +31,54 @@ use Rattle.ps_resolve.specs.declared.allotment.TheConstants.{MAX_NEXT_FREE}
 fits_test : (n : ℕ) → n ≤ MAX_NEXT_FREE → nat_lt MAX_NEXT_FREE n ≡ false
 fits_test n h = grind (arith, nat_tests)
 
-module _ (slot rec next : ℕ) (seen : List (List ℕ)) (ps : List Private) (r : Record) (rs : List Record) where
-  pub skip_privates : words_in r.body ≡ None → ps ++ allotted_privates slot rec next (r ∷ rs) ≡ ps ++ allotted_privates slot (rec + 1) next rs
+module _ (slot rec next : ℕ) (seen : List (List ℕ)) (ps : List Private) (r : Record)
+    (rs : List Record) where
+  pub skip_privates : words_in r.body ≡ None
+      → ps ++ allotted_privates slot rec next (r ∷ rs)
+      ≡ ps ++ allotted_privates slot (rec + 1) next rs
   skip_privates h = rw (h, allotted_privates) refl
 
   pub skip_words : words_in r.body ≡ None → private_words (r ∷ rs) ≡ private_words rs
   skip_words h = rw (h, private_words) refl
 
-  pub skip_fault : words_in r.body ≡ None → private_fault rec next seen (r ∷ rs) ≡ private_fault (rec + 1) next seen rs
+  pub skip_fault : words_in r.body ≡ None
+      → private_fault rec next seen (r ∷ rs) ≡ private_fault (rec + 1) next seen rs
   skip_fault h = rw (h, private_fault) refl
 
   pub more_privates : (w : ℕ) → words_in r.body ≡ Some w
-      → ps ++ allotted_privates slot rec next (r ∷ rs) ≡ (ps ++ record { slot = slot; rec = rec; name = r.name; offset = next; words = w } ∷ []) ++ allotted_privates slot (rec + 1) (next + w) rs
-  more_privates w h = rw (h, allotted_privates) (sym (append_assoc ps (record { slot = slot; rec = rec; name = r.name; offset = next; words = w } ∷ []) (allotted_privates slot (rec + 1) (next + w) rs)))
+      → ps ++ allotted_privates slot rec next (r ∷ rs)
+      ≡ (ps ++ record { slot = slot; rec = rec; name = r.name; offset = next; words = w }
+      ∷ []) ++ allotted_privates slot (rec + 1) (next + w) rs
+  more_privates w h = rw (h, allotted_privates)
+      (sym (append_assoc ps
+      (record { slot = slot; rec = rec; name = r.name; offset = next; words = w } ∷ [])
+      (allotted_privates slot (rec + 1) (next + w) rs)))
 
-  pub more_words : (w : ℕ) → words_in r.body ≡ Some w → private_words (r ∷ rs) ≡ w + private_words rs
+  pub more_words : (w : ℕ) → words_in r.body ≡ Some w
+      → private_words (r ∷ rs) ≡ w + private_words rs
   more_words w h = rw (h, private_words) refl
 
-  pub more_fault : (w : ℕ) → words_in r.body ≡ Some w → list_any (bytes_eq r.name) seen ≡ false → next + w ≤ MAX_NEXT_FREE
-      → private_fault rec next seen (r ∷ rs) ≡ private_fault (rec + 1) (next + w) (seen ++ r.name ∷ []) rs
+  pub more_fault : (w : ℕ) → words_in r.body ≡ Some w
+      → list_any (bytes_eq r.name) seen ≡ false → next + w ≤ MAX_NEXT_FREE
+      → private_fault rec next seen (r ∷ rs)
+      ≡ private_fault (rec + 1) (next + w) (seen ++ r.name ∷ []) rs
   more_fault w h k le = rw (h, private_fault) (rw (k, fits_test (next + w) le) refl)
 
 -- what requests a private is counted
-pub privates_counted : (slot n next : ℕ) (rs : List Record) → length (allotted_privates slot n next rs) ≡ privates_in rs
+pub privates_counted : (slot n next : ℕ) (rs : List Record)
+    → length (allotted_privates slot n next rs) ≡ privates_in rs
 privates_counted slot n next [] = refl
-privates_counted slot n next (r ∷ rs) = at (λ m free. privates_counted slot m free rs) (words_in r.body) refl
+privates_counted slot n next (r ∷ rs) =
+    at (λ m free. privates_counted slot m free rs) (words_in r.body) refl
   where
-    at : ((m free : ℕ) → length (allotted_privates slot m free rs) ≡ privates_in rs) → (o : Option ℕ) → words_in r.body ≡ o → length (allotted_privates slot n next (r ∷ rs)) ≡ privates_in (r ∷ rs)
-    at rest None h = let a = one_private r rs false (asks_is r.body ∙ ap is_some h) in let b = ap length (skip_privates slot n next [] [] r rs h) in omega (arith, rest (n + 1) next)
-    at rest (Some w) h = let a = one_private r rs true (asks_is r.body ∙ ap is_some h) in let b = ap length (more_privates slot n next [] [] r rs w h) in omega (arith, rest (n + 1) (next + w))
+    at : ((m free : ℕ) → length (allotted_privates slot m free rs) ≡ privates_in rs)
+        → (o : Option ℕ) → words_in r.body ≡ o
+        → length (allotted_privates slot n next (r ∷ rs)) ≡ privates_in (r ∷ rs)
+    at rest None h = let a = one_private r rs false (asks_is r.body ∙ ap is_some h) in let b =
+        ap length (skip_privates slot n next [] [] r rs h) in omega (arith, rest (n + 1) next)
+    at rest (Some w) h = let a = one_private r rs true (asks_is r.body ∙ ap is_some h) in let b =
+        ap length (more_privates slot n next [] [] r rs w h) in
+        omega (arith, rest (n + 1) (next + w))
 
 -- where none requests one, there is none
 pub record NoPrivates (slot next : ℕ) (rs : List Record) : Type 0 where
@@ -65,27 +88,41 @@ pub record NoPrivates (slot next : ℕ) (rs : List Record) : Type 0 where
 
 -- where no record requests a private, none is allotted, no word is taken, and no private has a
 -- fault
-no_asks : (slot next : ℕ) (rs : List Record) (n : ℕ) → privates_in rs ≡ 0 → (allotted_privates slot n next rs ≡ []) × (private_words rs ≡ 0) × (private_fault n next [] rs ≡ None)
+no_asks : (slot next : ℕ) (rs : List Record) (n : ℕ) → privates_in rs ≡ 0
+    → (allotted_privates slot n next rs ≡ []) × (private_words rs ≡ 0)
+    × (private_fault n next [] rs ≡ None)
 no_asks slot next [] n h = (refl, refl, refl)
 no_asks slot next (r ∷ rs) n h = at (λ e. no_asks slot next rs (n + 1) e) (words_in r.body) refl
   where
-    at : (privates_in rs ≡ 0 → (allotted_privates slot (n + 1) next rs ≡ []) × (private_words rs ≡ 0) × (private_fault (n + 1) next [] rs ≡ None))
-        → (o : Option ℕ) → words_in r.body ≡ o → (allotted_privates slot n next (r ∷ rs) ≡ []) × (private_words (r ∷ rs) ≡ 0) × (private_fault n next [] (r ∷ rs) ≡ None)
+    at : (privates_in rs ≡ 0 → (allotted_privates slot (n + 1) next rs ≡ [])
+        × (private_words rs ≡ 0) × (private_fault (n + 1) next [] rs ≡ None))
+        → (o : Option ℕ) → words_in r.body ≡ o
+        → (allotted_privates slot n next (r ∷ rs) ≡ [])
+        × (private_words (r ∷ rs) ≡ 0) × (private_fault n next [] (r ∷ rs) ≡ None)
     at rest None e =
         let a = one_private r rs false (asks_is r.body ∙ ap is_some e) in
-        let more = rest (omega arith) in
-        (skip_privates slot n next [] [] r rs e ∙ more.0, skip_words slot n next [] [] r rs e ∙ more.1, skip_fault slot n next [] [] r rs e ∙ more.2)
-    at rest (Some w) e = let a = one_private r rs true (asks_is r.body ∙ ap is_some e) in absurd (omega arith)
+        let more = rest (omega arith) in (
+          skip_privates slot n next [] [] r rs e ∙ more.0,
+          skip_words slot n next [] [] r rs e ∙ more.1,
+          skip_fault slot n next [] [] r rs e ∙ more.2,
+        )
+    at rest (Some w) e = let a = one_private r rs true (asks_is r.body ∙ ap is_some e) in
+        absurd (omega arith)
 
-pub no_privates : (slot next : ℕ) (rs : List Record) → privates_in rs ≡ 0 → NoPrivates slot next rs
-no_privates slot next rs h = let all = no_asks slot next rs 0 h in record { privates = all.0; words = all.1; first = all.2 }
+pub no_privates : (slot next : ℕ) (rs : List Record) → privates_in rs ≡ 0
+    → NoPrivates slot next rs
+no_privates slot next rs h = let all = no_asks slot next rs 0 h in
+    record { privates = all.0; words = all.1; first = all.2 }
 
 -- a name that is there already, and a private that ends too far
-module _ (n next : ℕ) (seen : List (List ℕ)) (r : Record) (rs : List Record) (w : ℕ) (asks : words_in r.body ≡ Some w) where
-  pub again_fault : list_any (bytes_eq r.name) seen ≡ true → private_fault n next seen (r ∷ rs) ≡ Some (n, reason.DoubledPrivate)
+module _ (n next : ℕ) (seen : List (List ℕ)) (r : Record) (rs : List Record) (w : ℕ)
+    (asks : words_in r.body ≡ Some w) where
+  pub again_fault : list_any (bytes_eq r.name) seen ≡ true
+      → private_fault n next seen (r ∷ rs) ≡ Some (n, reason.DoubledPrivate)
   again_fault k = rw (asks, private_fault) (rw k refl)
 
-  pub far_fault : list_any (bytes_eq r.name) seen ≡ false → MAX_NEXT_FREE < next + w → private_fault n next seen (r ∷ rs) ≡ Some (n, reason.NoRoom)
+  pub far_fault : list_any (bytes_eq r.name) seen ≡ false → MAX_NEXT_FREE < next + w
+      → private_fault n next seen (r ∷ rs) ≡ Some (n, reason.NoRoom)
   far_fault k lt = rw (asks, private_fault) (rw (k, far_test (next + w) lt) refl)
     where
       far_test : (m : ℕ) → MAX_NEXT_FREE < m → nat_lt MAX_NEXT_FREE m ≡ true
@@ -93,22 +130,33 @@ module _ (n next : ℕ) (seen : List (List ℕ)) (r : Record) (rs : List Record)
 
 -- With the privates so far, those of the records from this index on are all, and so with words and
 -- faults. The first that is a duplicate, if there is one, is none of those before.
-pub record Allots (slot next : ℕ) (duplicate : Option ℕ) (before : List Private) (all : List Record) (ps : List Private) (free n : ℕ) (rs : List Record) : Type 0 where
+pub record Allots (slot next : ℕ) (duplicate : Option ℕ) (before : List Private)
+    (all : List Record) (ps : List Private) (free n : ℕ) (rs : List Record) : Type 0 where
   pub stands : Stands all n rs
   pub later : (m : ℕ) → duplicate ≡ Some m → n ≤ m
-  pub privates : ps ++ allotted_privates slot n free rs ≡ before ++ allotted_privates slot 0 next all
+  pub privates : ps ++ allotted_privates slot n free rs
+      ≡ before ++ allotted_privates slot 0 next all
   pub words : free + private_words rs ≡ next + private_words all
   pub first : private_fault n free (names stands.prefix) rs ≡ private_fault 0 next [] all
 
-pub allots : (slot next : ℕ) (duplicate : Option ℕ) (before : List Private) (all : List Record) → Allots slot next duplicate before all before next 0 all
-allots slot next duplicate before all = record { stands = record { prefix = []; whole = refl; count = refl }; later = λ m e. omega arith; privates = refl; words = refl; first = refl }
+pub allots : (slot next : ℕ) (duplicate : Option ℕ) (before : List Private) (all : List Record)
+    → Allots slot next duplicate before all before next 0 all
+allots slot next duplicate before all = record {
+  stands = record { prefix = []; whole = refl; count = refl };
+  later = λ m e. omega arith;
+  privates = refl;
+  words = refl;
+  first = refl;
+}
 
 -- what the test of the first that is a duplicate says
-pub is_duplicate : (d : Option ℕ) (n : ℕ) → option_eq nat_eq d (Some n) ≡ true → d ≡ Some n
+pub is_duplicate : (d : Option ℕ) (n : ℕ) → option_eq nat_eq d (Some n) ≡ true
+    → d ≡ Some n
 is_duplicate None n h = absurd (false≢true h)
 is_duplicate (Some m) n h = ap (λ (k : ℕ). Some k) ((Decides-eqb m n).0 h)
 
-pub not_duplicate : (d : Option ℕ) (n : ℕ) → option_eq nat_eq d (Some n) ≡ false → d ≡ Some n → ⊥
+pub not_duplicate : (d : Option ℕ) (n : ℕ) → option_eq nat_eq d (Some n) ≡ false
+    → d ≡ Some n → ⊥
 not_duplicate None n h e = cc
 not_duplicate (Some m) n h e = false≢true (sym h ∙ (Decides-eqb m n).1 (same_Some m n e))
 
@@ -126,25 +174,37 @@ over n m le other = at (nat_lt n m) refl
     at true h = below n m h
     at false h = absurd (other (same n m le h))
 
-module _ (slot next : ℕ) (duplicate : Option ℕ) (before : List Private) (all : List Record) (ps : List Private) (free n : ℕ) (r : Record) (rs : List Record) (found : FindsNamesake is_private_reference all duplicate) (a : Allots slot next duplicate before all ps free n (r ∷ rs)) where
+module _ (slot next : ℕ) (duplicate : Option ℕ) (before : List Private) (all : List Record)
+    (ps : List Private) (free n : ℕ) (r : Record) (rs : List Record)
+    (found : FindsNamesake is_private_reference all duplicate)
+    (a : Allots slot next duplicate before all ps free n (r ∷ rs)) where
   here : slice_get all n ≡ Some r
   here = there all n r rs a.stands
 
   -- the record of the first that is a duplicate has an earlier namesake, and no other so far has
   duplicate_here : duplicate ≡ Some n → HasEarlierNamesake is_private_reference all n r
   duplicate_here e =
-      let first : IsFirstNamesake is_private_reference all n = subst (λ (d : Option ℕ). FindsNamesake is_private_reference all d) e found in
+      let first : IsFirstNamesake is_private_reference all n =
+      subst (λ (d : Option ℕ). FindsNamesake is_private_reference all d) e found in
       let same : first.item ≡ r = same_Some _ _ (sym first.there ∙ here) in
       subst (λ (q : Record). HasEarlierNamesake is_private_reference all n q) same first.again
 
-  not_here : (duplicate ≡ Some n → ⊥) → HasEarlierNamesake is_private_reference all n r → ⊥
+  not_here : (duplicate ≡ Some n → ⊥) → HasEarlierNamesake is_private_reference all n r
+      → ⊥
   not_here other h = at duplicate refl
     where
       at : (d : Option ℕ) → duplicate ≡ d → ⊥
-      at None e = (subst (λ (o : Option ℕ). FindsNamesake is_private_reference all o) e found) n r here h
+      at None e = (subst (λ (o : Option ℕ). FindsNamesake is_private_reference all o) e found) n
+          r here h
       at (Some m) e =
-          let first : IsFirstNamesake is_private_reference all m = subst (λ (o : Option ℕ). FindsNamesake is_private_reference all o) e found in
-          first.first n r (omega (arith, over n m (a.later m e) (λ same. other (e ∙ ap (λ (k : ℕ). Some k) same)))) here h
+          let first : IsFirstNamesake is_private_reference all m =
+          subst (λ (o : Option ℕ). FindsNamesake is_private_reference all o) e found in
+          first.first n r
+          (omega (
+            arith,
+            over n m (a.later m e)
+                (λ same. other (e ∙ ap (λ (k : ℕ). Some k) same)),
+          )) here h
 
   on : (duplicate ≡ Some n → ⊥) → (m : ℕ) → duplicate ≡ Some m → n + 1 ≤ m
   on other m e = over n m (a.later m e) (λ same. other (e ∙ ap (λ (k : ℕ). Some k) same))
@@ -152,53 +212,79 @@ module _ (slot next : ℕ) (duplicate : Option ℕ) (before : List Private) (all
   asks : (w : Option ℕ) → words_in r.body ≡ w → is_private_reference r.body ≡ is_some w
   asks w h = asks_is r.body ∙ ap is_some h
 
-  pub allot_on : words_in r.body ≡ None → Allots slot next duplicate before all ps free (n + 1) rs
+  pub allot_on : words_in r.body ≡ None
+      → Allots slot next duplicate before all ps free (n + 1) rs
   allot_on passed = record {
     stands = further all n r rs a.stands;
     later = on (λ e. false≢true (sym (asks None passed) ∙ (duplicate_here e).0));
     privates = sym (skip_privates slot n free [] ps r rs passed) ∙ a.privates;
-    words = ap (λ (k : ℕ). free + k) (sym (skip_words slot n free [] ps r rs passed)) ∙ a.words;
+    words = ap (λ (k : ℕ). free + k) (sym (skip_words slot n free [] ps r rs passed))
+        ∙ a.words;
     first =
-        ap (λ (seen : List (List ℕ)). private_fault (n + 1) free seen rs) (same_names is_private_reference a.stands.prefix r (asks None passed))
+        ap (λ (seen : List (List ℕ)). private_fault (n + 1) free seen rs)
+        (same_names is_private_reference a.stands.prefix r (asks None passed))
         ∙ sym (skip_fault slot n free (names a.stands.prefix) ps r rs passed)
         ∙ a.first;
   }
 
   module _ (w : ℕ) (some : words_in r.body ≡ Some w) where
-    is_seen : Decides (list_any (bytes_eq r.name) (names a.stands.prefix)) (HasEarlierNamesake is_private_reference all n r)
+    is_seen : Decides (list_any (bytes_eq r.name) (names a.stands.prefix))
+        (HasEarlierNamesake is_private_reference all n r)
     is_seen = looked is_private_reference all n r rs a.stands (asks (Some w) some)
 
-    fresh : (duplicate ≡ Some n → ⊥) → list_any (bytes_eq r.name) (names a.stands.prefix) ≡ false
-    fresh other = not_seen (list_any (bytes_eq r.name) (names a.stands.prefix)) (λ e. not_here other (is_seen.0 e))
+    fresh : (duplicate ≡ Some n → ⊥)
+        → list_any (bytes_eq r.name) (names a.stands.prefix) ≡ false
+    fresh other = not_seen (list_any (bytes_eq r.name) (names a.stands.prefix))
+        (λ e. not_here other (is_seen.0 e))
       where
         not_seen : (b : Bool) → (b ≡ true → ⊥) → b ≡ false
         not_seen true h = absurd (h refl)
         not_seen false h = refl
 
     pub allot_more : (duplicate ≡ Some n → ⊥) → free + w ≤ MAX_NEXT_FREE
-        → Allots slot next duplicate before all (ps ++ record { slot = slot; rec = n; name = r.name; offset = free; words = w } ∷ []) (free + w) (n + 1) rs
+        → Allots slot next duplicate before all
+        (ps ++ record { slot = slot; rec = n; name = r.name; offset = free; words = w } ∷ [])
+        (free + w) (n + 1) rs
     allot_more other fits = record {
       stands = further all n r rs a.stands;
       later = on other;
       privates = sym (more_privates slot n free [] ps r rs w some) ∙ a.privates;
       words = omega (arith, more_words slot n free [] ps r rs w some, a.words);
       first =
-          ap (λ (seen : List (List ℕ)). private_fault (n + 1) (free + w) seen rs) (one_name is_private_reference a.stands.prefix r (asks (Some w) some))
+          ap (λ (seen : List (List ℕ)). private_fault (n + 1) (free + w) seen rs)
+          (one_name is_private_reference a.stands.prefix r (asks (Some w) some))
           ∙ sym (more_fault slot n free (names a.stands.prefix) ps r rs w some (fresh other) fits)
           ∙ a.first;
     }
 
-    pub duplicate_fault : duplicate ≡ Some n → private_fault 0 next [] all ≡ Some (n, reason.DoubledPrivate)
-    duplicate_fault e = sym a.first ∙ again_fault n free (names a.stands.prefix) r rs w some (is_seen.1 (duplicate_here e))
+    pub duplicate_fault : duplicate ≡ Some n
+        → private_fault 0 next [] all ≡ Some (n, reason.DoubledPrivate)
+    duplicate_fault e = sym a.first ∙ again_fault n free (names a.stands.prefix) r rs w some
+        (is_seen.1 (duplicate_here e))
 
-    pub room_fault : (duplicate ≡ Some n → ⊥) → MAX_NEXT_FREE < free + w → private_fault 0 next [] all ≡ Some (n, reason.NoRoom)
-    room_fault other lt = sym a.first ∙ far_fault n free (names a.stands.prefix) r rs w some (fresh other) lt
+    pub room_fault : (duplicate ≡ Some n → ⊥) → MAX_NEXT_FREE < free + w
+        → private_fault 0 next [] all ≡ Some (n, reason.NoRoom)
+    room_fault other lt = sym a.first ∙ far_fault n free (names a.stands.prefix) r rs w some
+        (fresh other) lt
 
 -- a stop at the first segment that is left is one at all
 module _ (o : Owner) (rest all : List Owner) (next free : ℕ) where
-  pub stopped_in : (before : List Private) (stop : Stop) → before ++ all_allotted free (o ∷ rest) ≡ all_allotted next all
-      → first_private_fault free (o ∷ rest) ≡ first_private_fault next all → IsStop (0 < length (allotted_privates o.slot 0 free o.records)) (unallotted_fault o.file o.slot free o.records) stop
+  pub stopped_in : (before : List Private) (stop : Stop)
+      → before ++ all_allotted free (o ∷ rest) ≡ all_allotted next all
+      → first_private_fault free (o ∷ rest) ≡ first_private_fault next all
+      → IsStop (0 < length (allotted_privates o.slot 0 free o.records))
+      (unallotted_fault o.file o.slot free o.records) stop
       → IsStop (0 < length (all_allotted next all)) (first_private_fault next all) stop
-  stopped_in before (Refused fault) privates first d = sym first ∙ ap (λ (f : Option Fault). option_or f (first_private_fault (free + private_words o.records) rest)) d
+  stopped_in before (Refused fault) privates first d =
+      sym first ∙ ap (λ (f : Option Fault). option_or f
+      (first_private_fault (free + private_words o.records) rest)) d
   stopped_in before Memory privates first d =
-      omega (arith, ap length privates, length-append before (allotted_privates o.slot 0 free o.records ++ all_allotted (free + private_words o.records) rest), length-append (allotted_privates o.slot 0 free o.records) (all_allotted (free + private_words o.records) rest))
+      omega (
+        arith,
+        ap length privates,
+        length-append before
+            (allotted_privates o.slot 0 free o.records
+            ++ all_allotted (free + private_words o.records) rest),
+        length-append (allotted_privates o.slot 0 free o.records)
+            (all_allotted (free + private_words o.records) rest),
+      )

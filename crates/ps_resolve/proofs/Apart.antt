@@ -2,21 +2,27 @@
 use Rattle.std.proofs.Common.{◌≡◌, ◌∙◌, ℕ, ◌+◌, List, ◌∷◌, Bool, ap, cond}
 use Rattle.std.specs.Prelude.{count_by}
 use Rattle.std.proofs.lemmas.List.Sums.{sum_by-cons}
-use Rattle.ps_linkinfo.specs.RecordCounts.{is_private_reference, is_public_reference, is_unit_reference, privates_in, publics_in, units_in}
+use Rattle.ps_linkinfo.specs.RecordCounts.{is_private_reference, is_public_reference}
+use Rattle.ps_linkinfo.specs.RecordCounts.{is_unit_reference, privates_in, publics_in, units_in}
 use Rattle.ps_linkinfo.specs.declared.record.LinkRecord.{LinkRecord as Record}
 
-pub one_more : {X : Type 0} (test : X → Bool) (x : X) (xs : List X) → count_by test (x ∷ xs) ≡ cond (test x) 1 0 + count_by test xs
+pub one_more : {X : Type 0} (test : X → Bool) (x : X) (xs : List X)
+    → count_by test (x ∷ xs) ≡ cond (test x) 1 0 + count_by test xs
 one_more test x xs = sum_by-cons (λ y. cond (test y) 1 0) x xs
 
-counted : {X : Type 0} (test : X → Bool) (x : X) (xs : List X) (b : Bool) → test x ≡ b → count_by test (x ∷ xs) ≡ cond b 1 0 + count_by test xs
-counted test x xs b h = one_more test x xs ∙ ap (λ (c : Bool). cond {A = ℕ} c 1 0 + count_by test xs) h
+counted : {X : Type 0} (test : X → Bool) (x : X) (xs : List X) (b : Bool) → test x ≡ b
+    → count_by test (x ∷ xs) ≡ cond b 1 0 + count_by test xs
+counted test x xs b h = one_more test x xs
+    ∙ ap (λ (c : Bool). cond {A = ℕ} c 1 0 + count_by test xs) h
 
 module _ (r : Record) (rs : List Record) (b : Bool) where
   pub one_unit : is_unit_reference r.body ≡ b → units_in (r ∷ rs) ≡ cond b 1 0 + units_in rs
   one_unit h = counted (λ s. is_unit_reference s.body) r rs b h
 
-  pub one_public : is_public_reference r.body ≡ b → publics_in (r ∷ rs) ≡ cond b 1 0 + publics_in rs
+  pub one_public : is_public_reference r.body ≡ b
+      → publics_in (r ∷ rs) ≡ cond b 1 0 + publics_in rs
   one_public h = counted (λ s. is_public_reference s.body) r rs b h
 
-  pub one_private : is_private_reference r.body ≡ b → privates_in (r ∷ rs) ≡ cond b 1 0 + privates_in rs
+  pub one_private : is_private_reference r.body ≡ b
+      → privates_in (r ∷ rs) ≡ cond b 1 0 + privates_in rs
   one_private h = counted (λ s. is_private_reference s.body) r rs b h

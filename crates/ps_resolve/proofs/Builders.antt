@@ -1,6 +1,9 @@
 -- What the builders of definitions and of allotments say of their refusals, by looking back; and
 -- how the privates of an allotment are.
-use Rattle.std.proofs.Common.{◌≡◌, ℕ, zero, suc, ◌+◌, ◌<◌, List, [], ◌∷◌, ◌++◌, length, length-append, take, map, get_or, Option, Some, None, Bool, true, false, refl, sym, ap, subst, ◌∙◌, inl, inr, arith, append_assoc}
+use Rattle.std.proofs.Common.{◌≡◌, ℕ, zero, suc, ◌+◌, ◌<◌, List, [], ◌∷◌}
+use Rattle.std.proofs.Common.{◌++◌, length, length-append, take, map, get_or, Option, Some}
+use Rattle.std.proofs.Common.{None, Bool, true, false, refl, sym, ap, subst, ◌∙◌, inl, inr}
+use Rattle.std.proofs.Common.{arith, append_assoc}
 use Rattle.std.specs.Prelude.{◌==◌, ◌&&◌, ◌||◌, count_by, nat_le, nat_lt}
 use Rattle.std.specs.Bool.{Decides}
 use Rattle.std.specs.List.{enumerate_from, filter_map, slice_get, flat_map}
@@ -18,18 +21,24 @@ use Rattle.ps_words.specs.declared.fault.Reason.TheVariants as reason
 use Rattle.ps_resolve.specs.First.{Before}
 use Rattle.ps_resolve.specs.Searches.{first_of, fault_if}
 use Rattle.ps_resolve.specs.Symbols.{definitions, first_duplicate}
-use Rattle.ps_resolve.specs.Privates.{Owner, allotted_privates, private_words, private_fault, all_allotted, all_words, first_private_fault}
+use Rattle.ps_resolve.specs.Privates.{Owner, allotted_privates, private_words, private_fault}
+use Rattle.ps_resolve.specs.Privates.{all_allotted, all_words, first_private_fault}
 use Rattle.ps_resolve.specs.Offsets.{RiseFrom}
 use Rattle.ps_resolve.specs.Standing.Phrases.{SomeItem}
 use Rattle.ps_resolve.specs.Standing.Definitions.{HasEarlierNamesake}
 use Rattle.ps_linkinfo.specs.RecordCounts.{is_definition, is_private_reference}
 use Rattle.ps_resolve.specs.References.{words_taken, words_taken_by}
 use Rattle.ps_resolve.specs.Stops.{IsStop, duplicate_fault}
-use Rattle.ps_resolve.specs.Builders.{HaveNoNamesakes, StopsDefinitions, offset_at, HaveDistinctPrivates, HaveRoom, IsUnfit, IsFirstUnfit, StopsPrivates, Asked, asked_in, all_asked, asked_of, AreByRecord, words_of_all}
+use Rattle.ps_resolve.specs.Builders.{HaveNoNamesakes, StopsDefinitions, offset_at}
+use Rattle.ps_resolve.specs.Builders.{HaveDistinctPrivates, HaveRoom, IsUnfit, IsFirstUnfit}
+use Rattle.ps_resolve.specs.Builders.{StopsPrivates, Asked, asked_in, all_asked, asked_of}
+use Rattle.ps_resolve.specs.Builders.{AreByRecord, words_of_all}
 use Rattle.ps_resolve.specs.declared.allotment.Private.{Private}
 use Rattle.ps_resolve.specs.declared.linkage.Stop.{Stop}
 use Rattle.ps_resolve.specs.declared.linkage.Stop.TheVariants.{Refused, Memory}
-use Rattle.ps_resolve.proofs.LookingBack.{is_again, again, take_prefix, longer, of_test, definitions_carried, words_before, reason_at, record_fault, privates_carried}
+use Rattle.ps_resolve.proofs.LookingBack.{is_again, again, take_prefix, longer, of_test}
+use Rattle.ps_resolve.proofs.LookingBack.{definitions_carried, words_before, reason_at}
+use Rattle.ps_resolve.proofs.LookingBack.{record_fault, privates_carried}
 use Rattle.ps_resolve.proofs.Allots.{privates_counted}
 use Rattle.ps_resolve.proofs.Apart.{one_more as counted}
 use Rattle.ps_resolve.proofs.Duplicates.{definitions_counted}
@@ -38,26 +47,35 @@ use Rattle.ps_resolve.proofs.Rises.{behind}
 use Rattle.ps_resolve.specs.declared.allotment.TheConstants.{MAX_NEXT_FREE}
 
 -- the first that f gives of a list's items and their numbers
-record Given {A X : Type 0} (f : ℕ × A → Option X) (n : ℕ) (items : List A) (x : X) : Type 0 where
-  at : ℕ
-  item : A
-  there : slice_get items at ≡ Some item
-  gives : (k : ℕ) → k ≡ n + at → f (k, item) ≡ Some x
-  before : (j k : ℕ) (b : A) → j < at → k ≡ n + j → slice_get items j ≡ Some b → f (k, b) ≡ None
+record Given {A X : Type 0} (f : ℕ × A → Option X) (n : ℕ) (items : List A) (x : X) : Type 0
+  where
+    at : ℕ
+    item : A
+    there : slice_get items at ≡ Some item
+    gives : (k : ℕ) → k ≡ n + at → f (k, item) ≡ Some x
+    before : (j k : ℕ) (b : A) → j < at → k ≡ n + j → slice_get items j ≡ Some b
+        → f (k, b) ≡ None
 
 -- where it gives none of any, it gives none of each
-none_given : {A X : Type 0} (f : ℕ × A → Option X) (n : ℕ) (items : List A) → first_of f (enumerate_from n items) ≡ None → (i k : ℕ) (a : A) → k ≡ n + i → slice_get items i ≡ Some a → f (k, a) ≡ None
+none_given : {A X : Type 0} (f : ℕ × A → Option X) (n : ℕ) (items : List A)
+    → first_of f (enumerate_from n items) ≡ None → (i k : ℕ) (a : A) → k ≡ n + i
+    → slice_get items i ≡ Some a → f (k, a) ≡ None
 none_given f n [] h i k a is e = absurd (cc)
 none_given f n (b ∷ items) h zero k a is e = grind arith
-none_given f n (b ∷ items) h (suc i) k a is e = none_given f (n + 1) items (or_none _ _ h).1 i k a (omega (arith, is)) e
+none_given f n (b ∷ items) h (suc i) k a is e =
+    none_given f (n + 1) items (or_none _ _ h).1 i k a (omega (arith, is)) e
 
 -- what it gives of some is what it gives of one, and it gives none of those before
-some_given : {A X : Type 0} (f : ℕ × A → Option X) (n : ℕ) (items : List A) (x : X) → first_of f (enumerate_from n items) ≡ Some x → Given f n items x
+some_given : {A X : Type 0} (f : ℕ × A → Option X) (n : ℕ) (items : List A) (x : X)
+    → first_of f (enumerate_from n items) ≡ Some x → Given f n items x
 some_given f n [] x h = absurd (cc)
-some_given {A} {X} f n (a ∷ items) x h = go (f (n, a)) refl h (λ e. some_given f (n + 1) items x e)
+some_given {A} {X} f n (a ∷ items) x h =
+    go (f (n, a)) refl h (λ e. some_given f (n + 1) items x e)
   where
-    go : (o : Option X) → f (n, a) ≡ o → option_or o (first_of f (enumerate_from (n + 1) items)) ≡ Some x
-        → (first_of f (enumerate_from (n + 1) items) ≡ Some x → Given f (n + 1) items x) → Given f n (a ∷ items) x
+    go : (o : Option X) → f (n, a) ≡ o
+        → option_or o (first_of f (enumerate_from (n + 1) items)) ≡ Some x
+        → (first_of f (enumerate_from (n + 1) items) ≡ Some x → Given f (n + 1) items x)
+        → Given f n (a ∷ items) x
     go (Some y) g h rest = record {
       at = zero;
       item = a;
@@ -75,25 +93,33 @@ some_given {A} {X} f n (a ∷ items) x h = go (f (n, a)) refl h (λ e. some_give
           before = earlier later;
         }
       where
-        earlier : (later : Given f (n + 1) items x) → (j k : ℕ) (b : A) → j < suc later.at → k ≡ n + j → slice_get (a ∷ items) j ≡ Some b → f (k, b) ≡ None
-        earlier later zero k b lt is e = subst (λ (m : ℕ). f (m, b) ≡ None) (omega (arith, is)) (subst (λ (c : A). f (n, c) ≡ None) (cc) g)
-        earlier later (suc j) k b lt is e = later.before j k b (omega (arith, lt)) (omega (arith, is)) e
+        earlier : (later : Given f (n + 1) items x) → (j k : ℕ) (b : A) → j < suc later.at
+            → k ≡ n + j → slice_get (a ∷ items) j ≡ Some b → f (k, b) ≡ None
+        earlier later zero k b lt is e =
+            subst (λ (m : ℕ). f (m, b) ≡ None) (omega (arith, is))
+            (subst (λ (c : A). f (n, c) ≡ None) (cc) g)
+        earlier later (suc j) k b lt is e =
+            later.before j k b (omega (arith, lt)) (omega (arith, is)) e
 
 -- a fault that is there where P holds
-not_there : {X P : Type 0} (b : Bool) (x : X) → Decides b P → fault_if b x ≡ None → P → ⊥
+not_there : {X P : Type 0} (b : Bool) (x : X) → Decides b P → fault_if b x ≡ None → P
+    → ⊥
 not_there true x d h p = absurd (cc)
 not_there false x d h p = false≢true (d.1 p)
 
-is_there : {X P : Type 0} (b : Bool) (x y : X) → Decides b P → fault_if b x ≡ Some y → P × (y ≡ x)
+is_there : {X P : Type 0} (b : Bool) (x y : X) → Decides b P → fault_if b x ≡ Some y
+    → P × (y ≡ x)
 is_there true x y d h = (d.0 refl, cc)
 is_there false x y d h = absurd (cc)
 
 -- where some items pass a test, one does
-some_counted : {A : Type 0} (test : A → Bool) (items : List A) → 0 < count_by test items → SomeItem items (λ _ a. test a ≡ true)
+some_counted : {A : Type 0} (test : A → Bool) (items : List A) → 0 < count_by test items
+    → SomeItem items (λ _ a. test a ≡ true)
 some_counted test [] h = absurd (omega (arith, h))
 some_counted test (a ∷ items) h = elim (cases_Bool (test a)) [
   | inl passes ↦ (zero, a, refl, passes)
-  | inr fails ↦ let t = some_counted test items (grind (arith, counted test a items)) in (suc t.0, t.1, t.2, t.3)
+  | inr fails ↦ let t = some_counted test items (grind (arith, counted test a items)) in
+      (suc t.0, t.1, t.2, t.3)
 ]
 
 -- 1. definitions
@@ -111,23 +137,28 @@ module _ (file slot : ℕ) (rs : List Record) where
   pub defined_once : first_duplicate rs ≡ None → HaveNoNamesakes is_definition rs
   defined_once once rec r there is =
       not_there (is_again is_definition rs (rec, r)) (told rec) (again is_definition rs rec r)
-      (none_given again_fault 0 rs (sym looking_back ∙ ap (option_map told) once) rec rec r (omega arith) there) is
+      (none_given again_fault 0 rs (sym looking_back ∙ ap (option_map told) once) rec rec r
+      (omega arith) there) is
 
-  pub stops_definitions : (stop : Stop) → IsStop (0 < length (definitions rs)) (duplicate_fault file slot rs) stop → StopsDefinitions file slot rs stop
+  pub stops_definitions : (stop : Stop) → IsStop (0 < length (definitions rs))
+      (duplicate_fault file slot rs) stop → StopsDefinitions file slot rs stop
   stops_definitions (Refused fault) d =
       let found = some_given again_fault 0 rs fault (sym looking_back ∙ d) in
       let at = found.at in
-      let here = is_there (is_again is_definition rs (at, found.item)) (told at) fault (again is_definition rs at found.item) (found.gives at (omega arith)) in (
+      let here = is_there (is_again is_definition rs (at, found.item)) (told at) fault
+      (again is_definition rs at found.item) (found.gives at (omega arith)) in (
         at,
         record {
           item = found.item;
           there = found.there;
           again = here.0;
-          first = λ n r lt there is. not_there (is_again is_definition rs (n, r)) (told n) (again is_definition rs n r) (found.before n n r lt (omega arith) there) is;
+          first = λ n r lt there is. not_there (is_again is_definition rs (n, r)) (told n)
+              (again is_definition rs n r) (found.before n n r lt (omega arith) there) is;
         },
         here.1,
       )
-  stops_definitions Memory d = some_counted (λ r. is_definition r.body) rs (omega (arith, d, definitions_counted rs))
+  stops_definitions Memory d = some_counted (λ r. is_definition r.body) rs
+      (omega (arith, d, definitions_counted rs))
 
   -- the same, with the number of the record
   abbrev IsNamed : Stop → Type 0
@@ -135,92 +166,150 @@ module _ (file slot : ℕ) (rs : List Record) where
   IsNamed Memory = 0 < length (definitions rs)
 
   pub not_defined : (stop : Stop) → IsNamed stop → StopsDefinitions file slot rs stop
-  not_defined (Refused fault) d = stops_definitions (Refused fault) (ap (option_map told) d.1 ∙ ap (λ (f : Fault). Some f) (sym d.2))
+  not_defined (Refused fault) d = stops_definitions (Refused fault)
+      (ap (option_map told) d.1 ∙ ap (λ (f : Fault). Some f) (sym d.2))
   not_defined Memory d = stops_definitions Memory d
 
 -- 2. the words before a record
 words_are : (rs : List Record) → words_taken_by rs ≡ private_words rs
 words_are [] = refl
-words_are (r ∷ rs) = omega (arith, sum_by-cons (λ (q : Record). words_taken q.body) r rs, words_are rs, words_before r rs)
+words_are (r ∷ rs) = omega (
+  arith,
+  sum_by-cons (λ (q : Record). words_taken q.body) r rs,
+  words_are rs,
+  words_before r rs,
+)
 
 all_are : (ss : List Owner) → words_taken_by (flat_map (λ q. q.records) ss) ≡ all_words ss
 all_are [] = refl
-all_are (s ∷ ss) = omega (arith, sum_by-append (λ (q : Record). words_taken q.body) s.records (flat_map (λ (q : Owner). q.records) ss), words_are s.records, all_are ss)
+all_are (s ∷ ss) = omega (
+  arith,
+  sum_by-append (λ (q : Record). words_taken q.body) s.records
+      (flat_map (λ (q : Owner). q.records) ss),
+  words_are s.records,
+  all_are ss,
+)
 
-one_behind : (prefix : List Owner) (s : Owner) → all_words (prefix ++ s ∷ []) ≡ all_words prefix + private_words s.records
+one_behind : (prefix : List Owner) (s : Owner)
+    → all_words (prefix ++ s ∷ []) ≡ all_words prefix + private_words s.records
 one_behind [] s = omega arith
 one_behind (q ∷ prefix) s = omega (arith, one_behind prefix s)
 
 -- the offset at a record of the first segment after a prefix
-offset_is : (base : ℕ) (prefix : List Owner) (s : Owner) (rest : List Owner) (rec : ℕ) → offset_at base (prefix ++ s ∷ rest) (length prefix) s rec ≡ base + all_words prefix + private_words (take rec s.records)
+offset_is : (base : ℕ) (prefix : List Owner) (s : Owner) (rest : List Owner) (rec : ℕ)
+    → offset_at base (prefix ++ s ∷ rest) (length prefix) s rec
+    ≡ base + all_words prefix + private_words (take rec s.records)
 offset_is base prefix s rest rec =
-    let a = ap (λ (qs : List Owner). words_taken_by (flat_map (λ (q : Owner). q.records) qs ++ take rec s.records)) (take_prefix prefix (s ∷ rest)) in
-    let b = sum_by-append (λ (q : Record). words_taken q.body) (flat_map (λ (q : Owner). q.records) prefix) (take rec s.records) in
+    let a = ap (λ (qs : List Owner). words_taken_by
+    (flat_map (λ (q : Owner). q.records) qs ++ take rec s.records))
+    (take_prefix prefix (s ∷ rest)) in
+    let b = sum_by-append (λ (q : Record). words_taken q.body)
+    (flat_map (λ (q : Owner). q.records) prefix) (take rec s.records) in
     omega (arith, a, b, all_are prefix, words_are (take rec s.records))
 
 -- 3. privates
 module _ (base : ℕ) (ss : List Owner) where
   abbrev record_faults : ℕ × Owner → ℕ × Record → Option Fault
-  record_faults k = record_fault (λ why rec. in_record k.1.file k.1.slot rec why) (λ rec. offset_at base ss k.0 k.1 rec) k.1.records
+  record_faults k = record_fault (λ why rec. in_record k.1.file k.1.slot rec why)
+      (λ rec. offset_at base ss k.0 k.1 rec) k.1.records
 
   abbrev segment_fault : ℕ × Owner → Option Fault
   segment_fault k = first_of (record_faults k) (enumerate_from 0 k.1.records)
 
   -- the search that carries the offset so far is the one that looks back over the segments
-  segments_carried : (prefix rest : List Owner) (n : ℕ) → ss ≡ prefix ++ rest → n ≡ length prefix
-      → first_private_fault (base + all_words prefix) rest ≡ first_of segment_fault (enumerate_from n rest)
+  segments_carried : (prefix rest : List Owner) (n : ℕ) → ss ≡ prefix ++ rest
+      → n ≡ length prefix
+      → first_private_fault (base + all_words prefix) rest
+      ≡ first_of segment_fault (enumerate_from n rest)
   segments_carried prefix [] n is e = refl
   segments_carried prefix (s ∷ rest) n is e =
       let start = base + all_words prefix in
       let h : Reason → ℕ → Fault = λ why rec. in_record s.file s.slot rec why in
-      let mine : option_map (λ (f : ℕ × Reason). h f.1 f.0) (private_fault 0 start [] s.records) ≡ segment_fault (n, s) =
-      ap (λ (m : ℕ). option_map (λ (f : ℕ × Reason). h f.1 f.0) (private_fault 0 m [] s.records)) (omega arith)
+      let mine : option_map (λ (f : ℕ × Reason). h f.1 f.0) (private_fault 0 start [] s.records)
+      ≡ segment_fault (n, s) =
+      ap (λ (m : ℕ). option_map (λ (f : ℕ × Reason). h f.1 f.0)
+      (private_fault 0 m [] s.records)) (omega arith)
       ∙ privates_carried h (λ rec. offset_at base ss n s rec) start [] s.records 0 refl
-      (λ rec. ap (λ (qs : List Owner). offset_at base qs n s rec) is ∙ (ap (λ (k : ℕ). offset_at base (prefix ++ s ∷ rest) k s rec) e ∙ offset_is base prefix s rest rec)) in
-      let later : first_private_fault (start + private_words s.records) rest ≡ first_of segment_fault (enumerate_from (n + 1) rest) =
+      (λ rec. ap (λ (qs : List Owner). offset_at base qs n s rec) is
+      ∙ (ap (λ (k : ℕ). offset_at base (prefix ++ s ∷ rest) k s rec) e
+      ∙ offset_is base prefix s rest rec)) in
+      let later : first_private_fault (start + private_words s.records) rest
+      ≡ first_of segment_fault (enumerate_from (n + 1) rest) =
       ap (λ (m : ℕ). first_private_fault m rest) (omega (arith, one_behind prefix s))
-      ∙ segments_carried (prefix ++ s ∷ []) rest (n + 1) (is ∙ sym (append_assoc prefix (s ∷ []) rest)) (omega (arith, longer prefix s, e)) in
-      ap (λ (o : Option Fault). option_or o (first_private_fault (start + private_words s.records) rest)) mine ∙ ap (option_or (segment_fault (n, s))) later
+      ∙ segments_carried (prefix ++ s ∷ []) rest (n + 1)
+      (is ∙ sym (append_assoc prefix (s ∷ []) rest)) (omega (arith, longer prefix s, e)) in
+      ap (λ (o : Option Fault). option_or o
+      (first_private_fault (start + private_words s.records) rest)) mine
+      ∙ ap (option_or (segment_fault (n, s))) later
 
   segments_back : first_private_fault base ss ≡ first_of segment_fault (enumerate_from 0 ss)
-  segments_back = ap (λ (n : ℕ). first_private_fault n ss) (omega arith) ∙ segments_carried [] ss 0 refl refl
+  segments_back = ap (λ (n : ℕ). first_private_fault n ss) (omega arith)
+      ∙ segments_carried [] ss 0 refl refl
 
   module _ (k : ℕ) (s : Owner) (rec : ℕ) (r : Record) where
     abbrev full : Bool
-    full = is_private_reference r.body && nat_lt MAX_NEXT_FREE (offset_at base ss k s rec + words_taken r.body)
+    full = is_private_reference r.body && nat_lt MAX_NEXT_FREE
+        (offset_at base ss k s rec + words_taken r.body)
 
-    is_full : Decides full ((is_private_reference r.body ≡ true) × (MAX_NEXT_FREE < offset_at base ss k s rec + words_taken r.body))
+    is_full : Decides full ((is_private_reference r.body ≡ true)
+        × (MAX_NEXT_FREE < offset_at base ss k s rec + words_taken r.body))
     is_full =
-        Decides-and (is_private_reference r.body) (nat_lt MAX_NEXT_FREE (offset_at base ss k s rec + words_taken r.body)) (of_test (is_private_reference r.body))
+        Decides-and (is_private_reference r.body)
+        (nat_lt MAX_NEXT_FREE (offset_at base ss k s rec + words_taken r.body))
+        (of_test (is_private_reference r.body))
         (Decides-ltb MAX_NEXT_FREE (offset_at base ss k s rec + words_taken r.body))
 
-    neither : record_faults (k, s) (rec, r) ≡ None → (fault_if (is_again is_private_reference s.records (rec, r)) reason.DoubledPrivate ≡ None) × (fault_if full reason.NoRoom ≡ None)
-    neither e = or_none _ _ (none_mapped (λ why. in_record s.file s.slot rec why) (reason_at (λ n. offset_at base ss k s n) s.records (rec, r)) e)
+    neither : record_faults (k, s) (rec, r) ≡ None
+        → (fault_if (is_again is_private_reference s.records (rec, r)) reason.DoubledPrivate
+        ≡ None) × (fault_if full reason.NoRoom ≡ None)
+    neither e = or_none _ _ (none_mapped (λ why. in_record s.file s.slot rec why)
+        (reason_at (λ n. offset_at base ss k s n) s.records (rec, r)) e)
 
     -- a record without a fault is not unfit
-    fits : record_faults (k, s) (rec, r) ≡ None → (why : Reason) → IsUnfit base ss k s rec r why → ⊥
-    fits e reason.DoubledPrivate u = not_there (is_again is_private_reference s.records (rec, r)) reason.DoubledPrivate (again is_private_reference s.records rec r) (neither e).0 u
+    fits : record_faults (k, s) (rec, r) ≡ None → (why : Reason)
+        → IsUnfit base ss k s rec r why → ⊥
+    fits e reason.DoubledPrivate u = not_there
+        (is_again is_private_reference s.records (rec, r)) reason.DoubledPrivate
+        (again is_private_reference s.records rec r) (neither e).0 u
     fits e reason.NoRoom u = not_there full reason.NoRoom is_full (neither e).1 (u.1, u.2)
     fits e other u = u
 
     -- a record is unfit by the reason that the search gives
-    unfit : (why : Reason) → reason_at (λ n. offset_at base ss k s n) s.records (rec, r) ≡ Some why → IsUnfit base ss k s rec r why
-    unfit why e = go (is_again is_private_reference s.records (rec, r)) full (again is_private_reference s.records rec r) is_full e
+    unfit : (why : Reason) → reason_at (λ n. offset_at base ss k s n) s.records (rec, r)
+        ≡ Some why → IsUnfit base ss k s rec r why
+    unfit why e = go (is_again is_private_reference s.records (rec, r)) full
+        (again is_private_reference s.records rec r) is_full e
       where
-        go : (b c : Bool) → Decides b (HasEarlierNamesake is_private_reference s.records rec r) → Decides c ((is_private_reference r.body ≡ true) × (MAX_NEXT_FREE < offset_at base ss k s rec + words_taken r.body))
-            → option_or (fault_if b reason.DoubledPrivate) (fault_if c reason.NoRoom) ≡ Some why → IsUnfit base ss k s rec r why
-        go true c d f h = let is : reason.DoubledPrivate ≡ why = cc in subst (IsUnfit base ss k s rec r) is (d.0 refl)
+        go : (b c : Bool) → Decides b (HasEarlierNamesake is_private_reference s.records rec r)
+            → Decides c ((is_private_reference r.body ≡ true)
+            × (MAX_NEXT_FREE < offset_at base ss k s rec + words_taken r.body))
+            → option_or (fault_if b reason.DoubledPrivate) (fault_if c reason.NoRoom) ≡ Some why
+            → IsUnfit base ss k s rec r why
+        go true c d f h = let is : reason.DoubledPrivate ≡ why = cc in
+            subst (IsUnfit base ss k s rec r) is (d.0 refl)
         go false true d f h =
             let x = f.0 refl in
             let is : reason.NoRoom ≡ why = cc in
-            subst (IsUnfit base ss k s rec r) is (λ (a : HasEarlierNamesake is_private_reference s.records rec r). false≢true (d.1 a), x.0, x.1)
+            subst (IsUnfit base ss k s rec r) is (
+              λ (a : HasEarlierNamesake is_private_reference s.records rec r). false≢true
+                  (d.1 a),
+              x.0,
+              x.1,
+            )
         go false false d f h = absurd (cc)
 
-  none_in : (k : ℕ) (s : Owner) → segment_fault (k, s) ≡ None → (rec : ℕ) (r : Record) → slice_get s.records rec ≡ Some r → (why : Reason) → IsUnfit base ss k s rec r why → ⊥
-  none_in k s e rec r there = fits k s rec r (none_given (record_faults (k, s)) 0 s.records e rec rec r (omega arith) there)
+  none_in : (k : ℕ) (s : Owner) → segment_fault (k, s) ≡ None → (rec : ℕ) (r : Record)
+      → slice_get s.records rec ≡ Some r → (why : Reason) → IsUnfit base ss k s rec r why
+      → ⊥
+  none_in k s e rec r there = fits k s rec r
+      (none_given (record_faults (k, s)) 0 s.records e rec rec r (omega arith) there)
 
-  none_unfit : first_private_fault base ss ≡ None → (k : ℕ) (s : Owner) (rec : ℕ) (r : Record) → slice_get ss k ≡ Some s → slice_get s.records rec ≡ Some r → (why : Reason) → IsUnfit base ss k s rec r why → ⊥
-  none_unfit e k s rec r of there = none_in k s (none_given segment_fault 0 ss (sym segments_back ∙ e) k k s (omega arith) of) rec r there
+  none_unfit : first_private_fault base ss ≡ None
+      → (k : ℕ) (s : Owner) (rec : ℕ) (r : Record) → slice_get ss k ≡ Some s
+      → slice_get s.records rec ≡ Some r → (why : Reason) → IsUnfit base ss k s rec r why
+      → ⊥
+  none_unfit e k s rec r of there = none_in k s
+      (none_given segment_fault 0 ss (sym segments_back ∙ e) k k s (omega arith) of) rec r there
 
   pub distinct_names : first_private_fault base ss ≡ None → HaveDistinctPrivates ss
   distinct_names e k s of rec r there is = none_unfit e k s rec r of there reason.DoubledPrivate is
@@ -228,18 +317,26 @@ module _ (base : ℕ) (ss : List Owner) where
   pub room : first_private_fault base ss ≡ None → HaveRoom base ss
   room e k rec s r of there asks =
       elim (cases_lt MAX_NEXT_FREE (offset_at base ss k s rec + words_taken r.body)) [
-        | inl lt ↦ absurd (none_unfit e k s rec r of there reason.NoRoom (λ (a : HasEarlierNamesake is_private_reference s.records rec r). distinct_names e k s of rec r there a, asks, lt))
+        | inl lt ↦ absurd (none_unfit e k s rec r of there reason.NoRoom (
+          λ (a : HasEarlierNamesake is_private_reference s.records rec r). distinct_names e k s
+              of rec r there a,
+          asks,
+          lt,
+        ))
         | inr le ↦ le
       ]
 
   -- the first segment with a fault, and its first record with one
-  first_unfit : (fault : Fault) → first_private_fault base ss ≡ Some fault → IsFirstUnfit base ss fault
+  first_unfit : (fault : Fault) → first_private_fault base ss ≡ Some fault
+      → IsFirstUnfit base ss fault
   first_unfit fault e =
       let found = some_given segment_fault 0 ss fault (sym segments_back ∙ e) in
       let k = found.at in
       let s = found.item in
       let one = some_given (record_faults (k, s)) 0 s.records fault (found.gives k (omega arith)) in
-      let why = some_mapped (λ (w : Reason). in_record s.file s.slot one.at w) (reason_at (λ n. offset_at base ss k s n) s.records (one.at, one.item)) fault (one.gives one.at (omega arith)) in
+      let why = some_mapped (λ (w : Reason). in_record s.file s.slot one.at w)
+      (reason_at (λ n. offset_at base ss k s n) s.records (one.at, one.item)) fault
+      (one.gives one.at (omega arith)) in
       record {
         segment = k;
         rec = one.at;
@@ -252,34 +349,63 @@ module _ (base : ℕ) (ss : List Owner) where
         told = why.2;
         first = λ j n q r other of there u b. elim b [
           | inl lt ↦ none_in j q (found.before j j q lt (omega arith) of) n r there other u
-          | inr t ↦ elim t.1 [ inl lt ↦ same_segment k s one.at found.there one.before j n q r other of there u t.0 lt | inr x ↦ x.1 ]
+          | inr t ↦ elim t.1 [
+            | inl lt ↦ same_segment k s one.at found.there one.before j n q r
+                other of there u t.0 lt
+            | inr x ↦ x.1
+          ]
         ];
       }
     where
-      same_segment : (k : ℕ) (s : Owner) (rec : ℕ) → slice_get ss k ≡ Some s → ((j i : ℕ) (b : Record) → j < rec → i ≡ 0 + j → slice_get s.records j ≡ Some b → record_faults (k, s) (i, b) ≡ None)
-          → (j n : ℕ) (q : Owner) (r : Record) (other : Reason) → slice_get ss j ≡ Some q → slice_get q.records n ≡ Some r → IsUnfit base ss j q n r other → j ≡ k → n < rec → ⊥
+      same_segment : (k : ℕ) (s : Owner) (rec : ℕ) → slice_get ss k ≡ Some s
+          → ((j i : ℕ) (b : Record) → j < rec → i ≡ 0 + j
+          → slice_get s.records j ≡ Some b → record_faults (k, s) (i, b) ≡ None)
+          → (j n : ℕ) (q : Owner) (r : Record) (other : Reason) → slice_get ss j ≡ Some q
+          → slice_get q.records n ≡ Some r → IsUnfit base ss j q n r other → j ≡ k
+          → n < rec → ⊥
       same_segment k s rec at_k before j n q r other of there u at lt =
           let is : q ≡ s = cc in
-          let u2 : IsUnfit base ss k s n r other = subst (λ (o : Owner). IsUnfit base ss k o n r other) is (subst (λ (m : ℕ). IsUnfit base ss m q n r other) at u) in
-          fits k s n r (before n n r lt (omega arith) (subst (λ (o : Owner). slice_get o.records n ≡ Some r) is there)) other u2
+          let u2 : IsUnfit base ss k s n r other =
+          subst (λ (o : Owner). IsUnfit base ss k o n r other) is
+          (subst (λ (m : ℕ). IsUnfit base ss m q n r other) at u) in
+          fits k s n r (before n n r lt (omega arith)
+          (subst (λ (o : Owner). slice_get o.records n ≡ Some r) is there)) other u2
 
 -- where a private of segments is allotted, a record of one of them requests it
-some_segment : (next : ℕ) (ss : List Owner) → 0 < length (all_allotted next ss) → SomeItem ss (λ k s. SomeItem s.records (λ rec r. is_private_reference r.body ≡ true))
+some_segment : (next : ℕ) (ss : List Owner) → 0 < length (all_allotted next ss)
+    → SomeItem ss (λ k s. SomeItem s.records (λ rec r. is_private_reference r.body ≡ true))
 some_segment next [] h = absurd (omega (arith, h))
-some_segment next (s ∷ ss) h = elim (cases_lt 0 (length (allotted_privates s.slot 0 next s.records))) [
-  | inl some ↦ (zero, s, refl, some_counted (λ r. is_private_reference r.body) s.records (omega (arith, some, privates_counted s.slot 0 next s.records)))
-  | inr none ↦
-      let t = some_segment (next + private_words s.records) ss (omega (arith, h, none, length-append (allotted_privates s.slot 0 next s.records) (all_allotted (next + private_words s.records) ss))) in
-      (suc t.0, t.1, t.2, t.3)
-]
+some_segment next (s ∷ ss) h =
+    elim (cases_lt 0 (length (allotted_privates s.slot 0 next s.records))) [
+      | inl some ↦ (
+        zero,
+        s,
+        refl,
+        some_counted (λ r. is_private_reference r.body) s.records
+            (omega (arith, some, privates_counted s.slot 0 next s.records)),
+      )
+      | inr none ↦
+          let t = some_segment (next + private_words s.records) ss
+          (omega (
+            arith,
+            h,
+            none,
+            length-append (allotted_privates s.slot 0 next s.records)
+                (all_allotted (next + private_words s.records) ss),
+          )) in
+          (suc t.0, t.1, t.2, t.3)
+    ]
 
-pub not_allotted : (base : ℕ) (ss : List Owner) (stop : Stop) → IsStop (0 < length (all_allotted base ss)) (first_private_fault base ss) stop → StopsPrivates base ss stop
+pub not_allotted : (base : ℕ) (ss : List Owner) (stop : Stop)
+    → IsStop (0 < length (all_allotted base ss)) (first_private_fault base ss) stop
+    → StopsPrivates base ss stop
 not_allotted base ss (Refused fault) d = first_unfit base ss fault d
 not_allotted base ss Memory d = some_segment base ss d
 
 -- 4. what is allotted
 -- slots first, then records
-later_record : (a b s r : ℕ) → (nat_lt a s || (a == s && nat_le (b + 1) r)) ≡ true → Before (a ∷ b ∷ []) (s ∷ r ∷ [])
+later_record : (a b s r : ℕ) → (nat_lt a s || (a == s && nat_le (b + 1) r)) ≡ true
+    → Before (a ∷ b ∷ []) (s ∷ r ∷ [])
 later_record a b s r h = grind (arith, nat_tests)
 
 -- privates whose slot and record rise are by slot and, of one slot, by record
@@ -291,11 +417,14 @@ by_record ps rises i j p q lt is_p is_q =
     later_record p.slot p.rec q.slot q.rec (rw (x, y) at h)
 
 -- the privates have the words that their records request
-words_allotted : (slot rec next : ℕ) (rs : List Record) → words_of_all (allotted_privates slot rec next rs) ≡ private_words rs
+words_allotted : (slot rec next : ℕ) (rs : List Record)
+    → words_of_all (allotted_privates slot rec next rs) ≡ private_words rs
 words_allotted slot rec next [] = refl
 words_allotted slot rec next (r ∷ rs) =
     let rest = λ (n : ℕ). words_allotted slot (rec + 1) n rs in
-    let more = λ (w : ℕ). sum_by-cons (λ (p : Private). p.words) (record { slot = slot; rec = rec; name = r.name; offset = next; words = w }) (allotted_privates slot (rec + 1) (next + w) rs) in
+    let more = λ (w : ℕ). sum_by-cons (λ (p : Private). p.words)
+    (record { slot = slot; rec = rec; name = r.name; offset = next; words = w })
+    (allotted_privates slot (rec + 1) (next + w) rs) in
     grind (arith, rest, more)
 
 -- and so have the privates of all segments
@@ -304,13 +433,16 @@ summed next [] = refl
 summed next (s ∷ ss) =
     omega (
       arith,
-      sum_by-append (λ (p : Private). p.words) (allotted_privates s.slot 0 next s.records) (all_allotted (next + private_words s.records) ss),
+      sum_by-append (λ (p : Private). p.words) (allotted_privates s.slot 0 next s.records)
+          (all_allotted (next + private_words s.records) ss),
       words_allotted s.slot 0 next s.records,
       summed (next + private_words s.records) ss,
     )
 
 -- the privates of a segment, without their offsets
-asked_allotted : (s : Owner) (rec next : ℕ) (rs : List Record) → map asked_of (allotted_privates s.slot rec next rs) ≡ filter_map (asked_in s) (enumerate_from rec rs)
+asked_allotted : (s : Owner) (rec next : ℕ) (rs : List Record)
+    → map asked_of (allotted_privates s.slot rec next rs)
+    ≡ filter_map (asked_in s) (enumerate_from rec rs)
 asked_allotted s rec next [] = refl
 asked_allotted s rec next (r ∷ rs) =
     let rest = λ (n : ℕ). asked_allotted s (rec + 1) n rs in
@@ -320,6 +452,9 @@ asked_allotted s rec next (r ∷ rs) =
 pub asked : (next : ℕ) (ss : List Owner) → map asked_of (all_allotted next ss) ≡ all_asked ss
 asked next [] = refl
 asked next (s ∷ ss) =
-    map-append asked_of (allotted_privates s.slot 0 next s.records) (all_allotted (next + private_words s.records) ss)
-    ∙ (ap (λ (xs : List Asked). xs ++ map asked_of (all_allotted (next + private_words s.records) ss)) (asked_allotted s 0 next s.records)
-    ∙ ap (λ (xs : List Asked). filter_map (asked_in s) (enumerate_from 0 s.records) ++ xs) (asked (next + private_words s.records) ss))
+    map-append asked_of (allotted_privates s.slot 0 next s.records)
+    (all_allotted (next + private_words s.records) ss)
+    ∙ (ap (λ (xs : List Asked). xs ++ map asked_of
+    (all_allotted (next + private_words s.records) ss)) (asked_allotted s 0 next s.records)
+    ∙ ap (λ (xs : List Asked). filter_map (asked_in s) (enumerate_from 0 s.records) ++ xs)
+    (asked (next + private_words s.records) ss))

@@ -1,7 +1,10 @@
 -- One record more of a table of definitions.
-use Rattle.std.proofs.Common.{◌≡◌, ℕ, ◌+◌, List, [], ◌∷◌, ◌++◌, length, true, false, Option, Some, None, is_some, refl, sym, ◌∙◌, arith, append_assoc, length-append, ◌<◌}
+use Rattle.std.proofs.Common.{◌≡◌, ℕ, ◌+◌, List, [], ◌∷◌, ◌++◌, length, true}
+use Rattle.std.proofs.Common.{false, Option, Some, None, is_some, refl, sym, ◌∙◌, arith}
+use Rattle.std.proofs.Common.{append_assoc, length-append, ◌<◌}
 use Rattle.std.specs.List.{filter_map}
-use Rattle.ps_resolve.specs.Symbols.{def_in, definition_in, definitions, definition_of, first_duplicate, first_duplicate_from}
+use Rattle.ps_resolve.specs.Symbols.{def_in, definition_in, definitions, definition_of}
+use Rattle.ps_resolve.specs.Symbols.{first_duplicate, first_duplicate_from}
 use Rattle.ps_resolve.specs.declared.definitions.Def.{Def}
 use Rattle.ps_linkinfo.specs.RecordCounts.{is_definition, definitions_in}
 use Rattle.ps_linkinfo.specs.declared.record.LinkRecord.{LinkRecord as Record}
@@ -14,36 +17,54 @@ none_is o h = grind arith
 
 module _ (rec : ℕ) (ds : List (List ℕ × Def)) (r : Record) (rs : List Record) where
   -- a record that defines nothing
-  pub none_entries : def_in r.body ≡ None → ds ++ definitions (r ∷ rs) ≡ ds ++ definitions rs
-  none_entries h = let e : definition_in r ≡ None = rw (h, definition_in) refl in rw (e, filter_map) refl
+  pub none_entries : def_in r.body ≡ None
+      → ds ++ definitions (r ∷ rs) ≡ ds ++ definitions rs
+  none_entries h = let e : definition_in r ≡ None = rw (h, definition_in) refl in
+      rw (e, filter_map) refl
 
-  pub none_first : def_in r.body ≡ None → first_duplicate_from rec ds (r ∷ rs) ≡ first_duplicate_from (rec + 1) ds rs
+  pub none_first : def_in r.body ≡ None
+      → first_duplicate_from rec ds (r ∷ rs) ≡ first_duplicate_from (rec + 1) ds rs
   none_first h = rw (h, first_duplicate_from) refl
 
   -- a name that is new
-  pub new_entries : (d : Def) → def_in r.body ≡ Some d → ds ++ definitions (r ∷ rs) ≡ (ds ++ (r.name, d) ∷ []) ++ definitions rs
-  new_entries d h = let e : definition_in r ≡ Some (r.name, d) = rw (h, definition_in) refl in rw (e, filter_map) (sym (append_assoc ds ((r.name, d) ∷ []) (definitions rs)))
+  pub new_entries : (d : Def) → def_in r.body ≡ Some d
+      → ds ++ definitions (r ∷ rs) ≡ (ds ++ (r.name, d) ∷ []) ++ definitions rs
+  new_entries d h = let e : definition_in r ≡ Some (r.name, d) = rw (h, definition_in) refl in
+      rw (e, filter_map) (sym (append_assoc ds ((r.name, d) ∷ []) (definitions rs)))
 
-  pub new_first : (d : Def) → def_in r.body ≡ Some d → is_some (definition_of r.name ds) ≡ false → first_duplicate_from rec ds (r ∷ rs) ≡ first_duplicate_from (rec + 1) (ds ++ (r.name, d) ∷ []) rs
+  pub new_first : (d : Def) → def_in r.body ≡ Some d
+      → is_some (definition_of r.name ds) ≡ false
+      → first_duplicate_from rec ds (r ∷ rs)
+      ≡ first_duplicate_from (rec + 1) (ds ++ (r.name, d) ∷ []) rs
   new_first d h k = rw (h, first_duplicate_from) (rw k refl)
 
 -- where one of what is left defines something, there is a definition
-pub some_there : (ds : List (List ℕ × Def)) (r : Record) (rs : List Record) (d : Def) → def_in r.body ≡ Some d → 0 < length (ds ++ definitions (r ∷ rs))
-some_there ds r rs d h = rw (new_entries 0 ds r rs d h, append_assoc) (omega (arith, length-append ds ((r.name, d) ∷ definitions rs)))
+pub some_there : (ds : List (List ℕ × Def)) (r : Record) (rs : List Record) (d : Def)
+    → def_in r.body ≡ Some d → 0 < length (ds ++ definitions (r ∷ rs))
+some_there ds r rs d h = rw (new_entries 0 ds r rs d h, append_assoc)
+    (omega (arith, length-append ds ((r.name, d) ∷ definitions rs)))
 
 -- with the table so far, the definitions of the records from this index on are all, and the first
 -- that is a duplicate is theirs
-pub record Defines (all : List Record) (ds : List (List ℕ × Def)) (n : ℕ) (rs : List Record) : Type 0 where
+pub record Defines (all : List Record) (ds : List (List ℕ × Def)) (n : ℕ)
+    (rs : List Record) : Type 0 where
   pub entries : ds ++ definitions rs ≡ definitions all
   pub first : first_duplicate_from n ds rs ≡ first_duplicate all
 
 -- there are as many definitions as records that define a name
 pub definitions_counted : (rs : List Record) → length (definitions rs) ≡ definitions_in rs
 definitions_counted [] = refl
-definitions_counted (r ∷ rs) = grind (arith, definitions_counted rs, defines_is r.body, one_more (λ s. is_definition s.body) r rs)
+definitions_counted (r ∷ rs) =
+    grind (
+      arith,
+      definitions_counted rs,
+      defines_is r.body,
+      one_more (λ s. is_definition s.body) r rs,
+    )
 
 -- records that define nothing define no name again
-none_duplicate : (rs : List Record) (n : ℕ) (ds : List (List ℕ × Def)) → definitions rs ≡ [] → first_duplicate_from n ds rs ≡ None
+none_duplicate : (rs : List Record) (n : ℕ) (ds : List (List ℕ × Def))
+    → definitions rs ≡ [] → first_duplicate_from n ds rs ≡ None
 none_duplicate [] n ds h = refl
 none_duplicate (r ∷ rs) n ds h = grind (arith, none_duplicate rs (n + 1) ds)
 
@@ -51,12 +72,15 @@ pub positive : (n : ℕ) → (n ≡ 0 → ⊥) → 0 < n
 positive n h = omega (arith, h)
 
 -- where nothing defines a name, there are no definitions, and none is duplicate
-pub no_definitions : (rs : List Record) → definitions_in rs ≡ 0 → (definitions rs ≡ []) × (first_duplicate rs ≡ None)
+pub no_definitions : (rs : List Record) → definitions_in rs ≡ 0
+    → (definitions rs ≡ []) × (first_duplicate rs ≡ None)
 no_definitions rs h = (none, none_duplicate rs 0 [] none)
   where
     none : definitions rs ≡ []
     none = nil_from_length (definitions rs) (definitions_counted rs ∙ h)
 
 -- a name that is there already
-pub again_first : (n : ℕ) (ds : List (List ℕ × Def)) (r : Record) (rs : List Record) (d : Def) → def_in r.body ≡ Some d → is_some (definition_of r.name ds) ≡ true → first_duplicate_from n ds (r ∷ rs) ≡ Some n
+pub again_first : (n : ℕ) (ds : List (List ℕ × Def)) (r : Record) (rs : List Record) (d : Def)
+    → def_in r.body ≡ Some d → is_some (definition_of r.name ds) ≡ true
+    → first_duplicate_from n ds (r ∷ rs) ≡ Some n
 again_first n ds r rs d h k = rw (h, first_duplicate_from) (rw k refl)

@@ -11,14 +11,19 @@ use Rattle.ps_resolve.specs.declared.linkage.Stop.TheVariants.{Refused, Memory}
 use Rattle.ps_resolve.proofs.Stages.{skip, keep}
 
 module _ (host : List ℕ) (libs : List (List ℕ)) where
-  pub first_read : (fault : Fault) → reading_fault host libs ≡ Some fault → first_fault host libs ≡ Some fault
+  pub first_read : (fault : Fault) → reading_fault host libs ≡ Some fault
+      → first_fault host libs ≡ Some fault
   unfolding first_fault
   first_read fault h = keep _ _ fault h
 
-  pub first_linked : reading_fault host libs ≡ None → first_fault host libs ≡ linking_fault (order_of host) (segments (order_of host) host libs)
+  pub first_linked : reading_fault host libs ≡ None
+      → first_fault host libs ≡ linking_fault (order_of host)
+      (segments (order_of host) host libs)
   unfolding first_fault
   first_linked h = skip _ _ h
 
-  pub stopped : reading_fault host libs ≡ None → (stop : Stop) → AreStopped (order_of host) (segments (order_of host) host libs) stop → IsStopped host libs stop
+  pub stopped : reading_fault host libs ≡ None → (stop : Stop)
+      → AreStopped (order_of host) (segments (order_of host) host libs) stop
+      → IsStopped host libs stop
   stopped h (Refused fault) d = first_linked h ∙ d
   stopped h Memory d = h

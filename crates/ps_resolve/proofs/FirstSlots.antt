@@ -1,43 +1,56 @@
 -- The first of several slots, from one of them on.
-use Rattle.std.proofs.Common.{◌≡◌, ℕ, suc, ◌+◌, ◌-◌, ◌<◌, ◌≤◌, List, [], ◌∷◌, Bool, true, false, Option, Some, None, Result, Ok, Err, is_some, refl, ◌∙◌, ap, arith}
+use Rattle.std.proofs.Common.{◌≡◌, ℕ, suc, ◌+◌, ◌-◌, ◌<◌, ◌≤◌, List, []}
+use Rattle.std.proofs.Common.{◌∷◌, Bool, true, false, Option, Some, None, Result, Ok, Err}
+use Rattle.std.proofs.Common.{is_some, refl, ◌∙◌, ap, arith}
 use Rattle.std.specs.List.{range_with_len, find, list_any}
 use Rattle.std.specs.Option.{option_or, option_map}
 use Rattle.std.specs.Result.{result_ok}
 use Rattle.ps_resolve.specs.Searches.{first_of}
 
 -- the numbers from i up to n are i and those after it
-pub range_more : (i n : ℕ) → i < n → range_with_len i (n - i) ≡ i ∷ range_with_len (i + 1) (n - (i + 1))
+pub range_more : (i n : ℕ) → i < n → range_with_len i (n - i)
+    ≡ i ∷ range_with_len (i + 1) (n - (i + 1))
 range_more i n lt =
     let left : n - i ≡ suc (n - (i + 1)) = omega arith in
     ap (λ (k : ℕ). range_with_len i k) left
 
 -- the first fault from i on is that of i, or else the first after it
-pub first_more : {Y : Type 0} (f : ℕ → Option Y) (i n : ℕ) → i < n → first_of f (range_with_len i (n - i)) ≡ option_or (f i) (first_of f (range_with_len (i + 1) (n - (i + 1))))
+pub first_more : {Y : Type 0} (f : ℕ → Option Y) (i n : ℕ) → i < n
+    → first_of f (range_with_len i (n - i))
+    ≡ option_or (f i) (first_of f (range_with_len (i + 1) (n - (i + 1))))
 first_more f i n lt = ap (λ (xs : List ℕ). first_of f xs) (range_more i n lt)
 
-pub first_here : {Y : Type 0} (f : ℕ → Option Y) (i n : ℕ) (y : Y) → i < n → f i ≡ Some y → first_of f (range_with_len i (n - i)) ≡ Some y
+pub first_here : {Y : Type 0} (f : ℕ → Option Y) (i n : ℕ) (y : Y) → i < n
+    → f i ≡ Some y → first_of f (range_with_len i (n - i)) ≡ Some y
 first_here f i n y lt h = first_more f i n lt ∙ rw h
 
-pub first_later : {Y : Type 0} (f : ℕ → Option Y) (i n : ℕ) → i < n → f i ≡ None → first_of f (range_with_len i (n - i)) ≡ first_of f (range_with_len (i + 1) (n - (i + 1)))
+pub first_later : {Y : Type 0} (f : ℕ → Option Y) (i n : ℕ) → i < n → f i ≡ None
+    → first_of f (range_with_len i (n - i)) ≡ first_of f (range_with_len (i + 1) (n - (i + 1)))
 first_later f i n lt h = first_more f i n lt ∙ rw h
 
 -- the first number from i on that passes is i, where it passes, or else the first after it
-pub found_here : (p : ℕ → Bool) (i n : ℕ) → i < n → p i ≡ true → find p (range_with_len i (n - i)) ≡ Some i
+pub found_here : (p : ℕ → Bool) (i n : ℕ) → i < n → p i ≡ true
+    → find p (range_with_len i (n - i)) ≡ Some i
 found_here p i n lt h = ap (λ (xs : List ℕ). find p xs) (range_more i n lt) ∙ rw h
 
-pub found_later : (p : ℕ → Bool) (i n : ℕ) → i < n → p i ≡ false → find p (range_with_len i (n - i)) ≡ find p (range_with_len (i + 1) (n - (i + 1)))
+pub found_later : (p : ℕ → Bool) (i n : ℕ) → i < n → p i ≡ false
+    → find p (range_with_len i (n - i)) ≡ find p (range_with_len (i + 1) (n - (i + 1)))
 found_later p i n lt h = ap (λ (xs : List ℕ). find p xs) (range_more i n lt) ∙ rw h
 
-pub found_none : (p : ℕ → Bool) (i n : ℕ) → n ≤ i → find p (range_with_len i (n - i)) ≡ None
-found_none p i n le = let left : n - i ≡ 0 = omega arith in ap (λ (k : ℕ). find p (range_with_len i k)) left
+pub found_none : (p : ℕ → Bool) (i n : ℕ) → n ≤ i
+    → find p (range_with_len i (n - i)) ≡ None
+found_none p i n le = let left : n - i ≡ 0 = omega arith in
+    ap (λ (k : ℕ). find p (range_with_len i k)) left
 
 -- some number passes where a first one does
-pub any_found : {X : Type 0} (p : X → Bool) (xs : List X) → list_any p xs ≡ is_some (find p xs)
+pub any_found : {X : Type 0} (p : X → Bool) (xs : List X)
+    → list_any p xs ≡ is_some (find p xs)
 any_found p [] = refl
 any_found p (x ∷ xs) = grind (arith, any_found p xs)
 
 -- what two searches one after the other do not find
-pub or_none : {Y : Type 0} (a b : Option Y) → option_or a b ≡ None → (a ≡ None) × (b ≡ None)
+pub or_none : {Y : Type 0} (a b : Option Y) → option_or a b ≡ None
+    → (a ≡ None) × (b ≡ None)
 or_none None b h = (refl, h)
 or_none (Some y) b h = cc
 
@@ -47,12 +60,14 @@ neither_first a b h = (or_none a b h).0
 pub neither_second : {Y : Type 0} (a b : Option Y) → option_or a b ≡ None → b ≡ None
 neither_second a b h = (or_none a b h).1
 
-pub none_mapped : {X Y : Type 0} (f : X → Y) (o : Option X) → option_map f o ≡ None → o ≡ None
+pub none_mapped : {X Y : Type 0} (f : X → Y) (o : Option X) → option_map f o ≡ None
+    → o ≡ None
 none_mapped f None h = refl
 none_mapped f (Some x) h = cc
 
 -- what it is made of
-pub some_mapped : {X Y : Type 0} (f : X → Y) (o : Option X) (y : Y) → option_map f o ≡ Some y → (x : X) × (o ≡ Some x) × (y ≡ f x)
+pub some_mapped : {X Y : Type 0} (f : X → Y) (o : Option X) (y : Y) → option_map f o ≡ Some y
+    → (x : X) × (o ≡ Some x) × (y ≡ f x)
 some_mapped f None y h = cc
 some_mapped f (Some x) y h = (x, refl, cc)
 

@@ -1,5 +1,7 @@
 -- The segments of a link, put together slot by slot from the host's own and those that were added.
-use Rattle.std.proofs.Common.{◌≡◌, ◌≢◌, ℕ, zero, suc, ◌+◌, ◌<◌, ◌≤◌, List, ◌∷◌, true, false, if◌then◌else◌, Option, Some, None, refl, ◌∙◌, ap, inl, inr, arith}
+use Rattle.std.proofs.Common.{◌≡◌, ◌≢◌, ℕ, zero, suc, ◌+◌, ◌<◌, ◌≤◌}
+use Rattle.std.proofs.Common.{List, ◌∷◌, true, false, if◌then◌else◌, Option, Some, None}
+use Rattle.std.proofs.Common.{refl, ◌∙◌, ap, inl, inr, arith}
 use Rattle.std.specs.Prelude.{◌⊎◌}
 use Rattle.std.specs.List.{range_with_len, filter_map, find}
 use Rattle.std.specs.Option.{option_or}
@@ -20,44 +22,70 @@ pub other_slot : (j : ℕ) (s : Segment) → s.slot ≢ j → is_in_slot j s ≡
 other_slot j s differs = ne_eqb s.slot j differs
 
 -- of the segments of the numbers from a on none applies in a slot below a
-none_before : (f : ℕ → Option Segment) → InPlace f → (j n a : ℕ) → j < a → find (is_in_slot j) (filter_map f (range_with_len a n)) ≡ None
+none_before : (f : ℕ → Option Segment) → InPlace f → (j n a : ℕ) → j < a
+    → find (is_in_slot j) (filter_map f (range_with_len a n)) ≡ None
 none_before f place j zero a lt = refl
 none_before f place j (suc n) a lt = by (f a) refl (none_before f place j n (a + 1) (omega arith))
   where
-    by : (o : Option Segment) → f a ≡ o → find (is_in_slot j) (filter_map f (range_with_len (a + 1) n)) ≡ None → find (is_in_slot j) (filter_map f (a ∷ range_with_len (a + 1) n)) ≡ None
+    by : (o : Option Segment) → f a ≡ o
+        → find (is_in_slot j) (filter_map f (range_with_len (a + 1) n)) ≡ None
+        → find (is_in_slot j) (filter_map f (a ∷ range_with_len (a + 1) n)) ≡ None
     by None e rest = rw e rest
-    by (Some s) e rest = let is = place a s e in rw (e, other_slot j s (λ same. omega (arith, is, same, lt))) rest
+    by (Some s) e rest = let is = place a s e in
+        rw (e, other_slot j s (λ same. omega (arith, is, same, lt))) rest
 
 -- the segment that is found in a slot is that of the number of the slot
-pub found_there : (f : ℕ → Option Segment) → InPlace f → (j n a : ℕ) → a ≤ j → j < a + n → find (is_in_slot j) (filter_map f (range_with_len a n)) ≡ f j
+pub found_there : (f : ℕ → Option Segment) → InPlace f → (j n a : ℕ) → a ≤ j
+    → j < a + n → find (is_in_slot j) (filter_map f (range_with_len a n)) ≡ f j
 found_there f place j zero a le lt = absurd (omega arith)
-found_there f place j (suc n) a le lt = by (λ h. found_there f place j n (a + 1) (omega (arith, h)) (omega (arith, lt))) (cases_lt a j)
+found_there f place j (suc n) a le lt = by
+    (λ h. found_there f place j n (a + 1) (omega (arith, h)) (omega (arith, lt))) (cases_lt a j)
   where
-    here : (o : Option Segment) → f a ≡ o → a ≡ j → find (is_in_slot j) (filter_map f (a ∷ range_with_len (a + 1) n)) ≡ o
+    here : (o : Option Segment) → f a ≡ o → a ≡ j
+        → find (is_in_slot j) (filter_map f (a ∷ range_with_len (a + 1) n)) ≡ o
     here None e same = rw e (none_before f place j n (a + 1) (omega arith))
-    here (Some s) e same = let is = place a s e in let at : is_in_slot j s ≡ true = eq-eqb s.slot j (is ∙ same) in rw (e, at) refl
+    here (Some s) e same = let is = place a s e in let at : is_in_slot j s ≡ true =
+        eq-eqb s.slot j (is ∙ same) in rw (e, at) refl
 
-    later : find (is_in_slot j) (filter_map f (range_with_len (a + 1) n)) ≡ f j → a < j → (o : Option Segment) → f a ≡ o → find (is_in_slot j) (filter_map f (a ∷ range_with_len (a + 1) n)) ≡ f j
+    later : find (is_in_slot j) (filter_map f (range_with_len (a + 1) n)) ≡ f j → a < j
+        → (o : Option Segment) → f a ≡ o
+        → find (is_in_slot j) (filter_map f (a ∷ range_with_len (a + 1) n)) ≡ f j
     later rest h None e = rw e rest
-    later rest h (Some s) e = let is = place a s e in rw (e, other_slot j s (λ same. omega (arith, is, same, h))) rest
+    later rest h (Some s) e = let is = place a s e in
+        rw (e, other_slot j s (λ same. omega (arith, is, same, h))) rest
 
-    by : (a < j → find (is_in_slot j) (filter_map f (range_with_len (a + 1) n)) ≡ f j) → (a < j) ⊎ (j ≤ a) → find (is_in_slot j) (filter_map f (a ∷ range_with_len (a + 1) n)) ≡ f j
+    by : (a < j → find (is_in_slot j) (filter_map f (range_with_len (a + 1) n)) ≡ f j)
+        → (a < j) ⊎ (j ≤ a) → find (is_in_slot j)
+        (filter_map f (a ∷ range_with_len (a + 1) n)) ≡ f j
     by rest (inl h) = later (rest h) h (f a) refl
     by rest (inr h) = let same : a ≡ j = omega arith in here (f a) refl same ∙ ap f same
 
 -- f and g keep the same segments of a range of numbers, where they give the same of each
-pub same_kept : (f g : ℕ → Option Segment) (n a : ℕ) → ((i : ℕ) → a ≤ i → i < a + n → f i ≡ g i) → filter_map f (range_with_len a n) ≡ filter_map g (range_with_len a n)
+pub same_kept : (f g : ℕ → Option Segment) (n a : ℕ)
+    → ((i : ℕ) → a ≤ i → i < a + n → f i ≡ g i)
+    → filter_map f (range_with_len a n) ≡ filter_map g (range_with_len a n)
 same_kept f g zero a same = refl
-same_kept f g (suc n) a same = by (g a) refl (same_kept f g n (a + 1) (λ i low high. same i (omega (arith, low)) (omega (arith, high))))
+same_kept f g (suc n) a same = by (g a) refl
+    (same_kept f g n (a + 1) (λ i low high. same i (omega (arith, low)) (omega (arith, high))))
   where
-    by : (o : Option Segment) → g a ≡ o → filter_map f (range_with_len (a + 1) n) ≡ filter_map g (range_with_len (a + 1) n) → filter_map f (a ∷ range_with_len (a + 1) n) ≡ filter_map g (a ∷ range_with_len (a + 1) n)
+    by : (o : Option Segment) → g a ≡ o
+        → filter_map f (range_with_len (a + 1) n) ≡ filter_map g (range_with_len (a + 1) n)
+        → filter_map f (a ∷ range_with_len (a + 1) n)
+        ≡ filter_map g (a ∷ range_with_len (a + 1) n)
     by None e rest = rw (same a (omega arith) (omega arith), e) rest
-    by (Some s) e rest = rw (same a (omega arith) (omega arith), e) (ap (λ (xs : List Segment). s ∷ xs) rest)
+    by (Some s) e rest = rw (same a (omega arith) (omega arith), e)
+        (ap (λ (xs : List Segment). s ∷ xs) rest)
 
 -- the own segments and the added ones, slot by slot, are those of the link
-pub in_slots_are : (order : Order) (host : List ℕ) (libs : List (List ℕ)) → segments_in_slots order host (own_segments order host libs) (added_segments order host libs) ≡ segments order host libs
+pub in_slots_are : (order : Order) (host : List ℕ) (libs : List (List ℕ))
+    → segments_in_slots order host (own_segments order host libs) (added_segments order host libs)
+    ≡ segments order host libs
 unfolding segments_in_slots segments own_segments
 in_slots_are order host libs =
-    same_kept (segment_in_slot order host (own_segments order host libs) (added_segments order host libs)) (segment_at order host libs) 16 0
-    (λ i low h. ap (λ (o : Option Segment). option_or o (if is_role is_empty order host i then find (is_in_slot i) (added_segments order host libs) else None))
-    (found_there (own_segment order host libs) (λ j s e. (own_parts order host libs j s e).0) i 16 0 (omega arith) h))
+    same_kept (segment_in_slot order host (own_segments order host libs)
+    (added_segments order host libs)) (segment_at order host libs) 16 0
+    (λ i low h. ap (λ (o : Option Segment). option_or o
+    (if is_role is_empty order host i then find (is_in_slot i) (added_segments order host libs)
+    else None))
+    (found_there (own_segment order host libs)
+    (λ j s e. (own_parts order host libs j s e).0) i 16 0 (omega arith) h))

@@ -1,5 +1,6 @@
 -- As many lists of edits as segments, and as many sources.
-use Rattle.std.proofs.Common.{◌≡◌, ℕ, ◌+◌, List, [], ◌∷◌, length, map, refl, sym, ◌∙◌, ap, arith}
+use Rattle.std.proofs.Common.{◌≡◌, ℕ, ◌+◌, List, [], ◌∷◌, length, map, refl, sym}
+use Rattle.std.proofs.Common.{◌∙◌, ap, arith}
 use Rattle.std.proofs.lemmas.List.{length-map}
 use Rattle.ps_words.specs.declared.order.Order.{Order}
 use Rattle.ps_words.specs.declared.edit.Edit.{Edit}
@@ -11,19 +12,27 @@ use Rattle.ps_resolve.specs.Plans.{LinkSegments, origin_of, origin_of_source}
 use Rattle.ps_resolve.specs.declared.plan.Source.{Source}
 
 -- lists of edits that link segments are as many as these
-linked_len : (order : Order) (es : List Edited) (ds : List (List Edit)) → LinkSegments order es ds → length ds ≡ length es
+linked_len : (order : Order) (es : List Edited) (ds : List (List Edit)) → LinkSegments order es ds
+    → length ds ≡ length es
 linked_len order [] [] h = refl
 linked_len order [] (d ∷ ds) h = absurd h
 linked_len order (e ∷ es) [] h = absurd h
 linked_len order (e ∷ es) (d ∷ ds) h = let r = linked_len order es ds h.1 in omega (arith, r)
 
-pub edited_len : (order : Order) (known : Known) (words free : ℕ) (segs : List Segment) → length (edited_from order known words free segs) ≡ length segs
+pub edited_len : (order : Order) (known : Known) (words free : ℕ) (segs : List Segment)
+    → length (edited_from order known words free segs) ≡ length segs
 edited_len order known words free [] = refl
-edited_len order known words free (s ∷ ss) = let r = edited_len order known words (free + private_words s.records) ss in omega (arith, r)
+edited_len order known words free (s ∷ ss) = let r =
+    edited_len order known words (free + private_words s.records) ss in omega (arith, r)
 
 -- the lists of edits that link segments are as many as the sources of these
-pub lengths : (order : Order) (known : Known) (words free : ℕ) (segs : List Segment) (ds : List (List Edit)) (sources : List Source) → LinkSegments order (edited_from order known words free segs) ds → map origin_of_source sources ≡ map origin_of segs
+pub lengths : (order : Order) (known : Known) (words free : ℕ) (segs : List Segment)
+    (ds : List (List Edit)) (sources : List Source)
+    → LinkSegments order (edited_from order known words free segs) ds
+    → map origin_of_source sources ≡ map origin_of segs
     → length ds ≡ length sources
 lengths order known words free segs ds sources h o =
-    linked_len order (edited_from order known words free segs) ds h ∙ edited_len order known words free segs
-    ∙ sym (length-map segs origin_of) ∙ sym (ap length o) ∙ length-map sources origin_of_source
+    linked_len order (edited_from order known words free segs) ds h
+    ∙ edited_len order known words free segs
+    ∙ sym (length-map segs origin_of) ∙ sym (ap length o)
+    ∙ length-map sources origin_of_source

@@ -1,5 +1,6 @@
 -- What is known of each segment of a link whose files were read without a fault.
-use Rattle.std.proofs.Common.{◌≡◌, ℕ, ◌<◌, List, get_or, Option, Some, None, true, refl, sym, ap, subst, ◌∙◌, inl, inr, is_some, arith}
+use Rattle.std.proofs.Common.{◌≡◌, ℕ, ◌<◌, List, get_or, Option, Some, None, true, refl}
+use Rattle.std.proofs.Common.{sym, ap, subst, ◌∙◌, inl, inr, is_some, arith}
 use Rattle.std.specs.Prelude.{◌⊎◌}
 use Rattle.std.specs.Option.{option_and_then}
 use Rattle.std.specs.Result.{result_ok}
@@ -8,9 +9,11 @@ use Rattle.ps_codefile.specs.declared.entry.Role.{Role}
 use Rattle.ps_codefile.specs.declared.entry.Role.TheVariants as role
 use Rattle.ps_linkinfo.specs.Records.{reading}
 use Rattle.ps_linkinfo.specs.declared.record.LinkRecord.{LinkRecord as Record}
-use Rattle.ps_resolve.specs.Added.{added_fault, added_segments, as_added, request_of, segment_at, segments}
+use Rattle.ps_resolve.specs.Added.{added_fault, added_segments, as_added, request_of, segment_at}
+use Rattle.ps_resolve.specs.Added.{segments}
 use Rattle.ps_resolve.specs.AllFaults.{reading_fault}
-use Rattle.ps_resolve.specs.Faults.{code_fault, role_fault, source_fault, sources_fault, slots_fault, no_host_fault}
+use Rattle.ps_resolve.specs.Faults.{code_fault, role_fault, source_fault, sources_fault}
+use Rattle.ps_resolve.specs.Faults.{slots_fault, no_host_fault}
 use Rattle.ps_resolve.specs.OfLink.{AreOfLink, IsOfFile, IsOfSlot, IsOfRound}
 use Rattle.ps_resolve.specs.Requests.{request_by_slot}
 use Rattle.ps_resolve.specs.Sources.{Segment, file_at, host_of, order_of, source_of, own_segment}
@@ -30,7 +33,8 @@ read_whole (rs, o) h = ap (λ (o : Option Reason). (rs, o)) h
 
 module _ (order : Order) (host : List ℕ) (libs : List (List ℕ)) where
   -- 1. the entry of a segment, whose code has no fault
-  of_file : (slot : ℕ) (name : List ℕ) (r : Role) (place : ℕ × ℕ) (s : Segment) → IsMade order host libs slot name r place s
+  of_file : (slot : ℕ) (name : List ℕ) (r : Role) (place : ℕ × ℕ) (s : Segment)
+      → IsMade order host libs slot name r place s
       → code_fault order host libs slot r place ≡ None → IsOfFile order host libs s
   of_file slot name r place s made fine =
       let file = file_at host libs place.0 in
@@ -39,24 +43,37 @@ module _ (order : Order) (host : List ℕ) (libs : List (List ℕ)) where
       subst (IsOfFile order host libs) (sym made.is) (record {
         code = made.given;
         tables = λ h. none_mapped _ _ (or_none _ _ (rw h at linked)).0;
-        records = λ h. rw h (read_whole (reading order (information_of file entry)) (none_mapped _ _ (or_none _ _ (rw h at linked)).1));
+        records = λ h. rw h (read_whole (reading order (information_of file entry))
+            (none_mapped _ _ (or_none _ _ (rw h at linked)).1));
         unread = λ h. rw h refl;
       })
 
-  as_added_file : (s : Segment) → IsOfFile order host libs s → IsOfFile order host libs (as_added s)
-  as_added_file s h = record { code = h.code; tables = h.tables; records = h.records; unread = h.unread }
+  as_added_file : (s : Segment) → IsOfFile order host libs s
+      → IsOfFile order host libs (as_added s)
+  as_added_file s h = record {
+    code = h.code;
+    tables = h.tables;
+    records = h.records;
+    unread =
+        h.unread;
+  }
 
   -- 2. a slot's own segment, where the sources have no fault
   module _ (fine : sources_fault order host libs ≡ None) where
     source_none : (slot : ℕ) → slot < 16 → source_fault order host libs slot ≡ None
     unfolding sources_fault
-    source_none slot h = none_at (source_fault order host libs) 0 16 slot fine (omega arith) (omega (arith, h))
+    source_none slot h = none_at (source_fault order host libs) 0 16 slot fine (omega arith)
+        (omega (arith, h))
 
     -- a slot has none by its role
-    pub role_none : (slot : ℕ) → slot < 16 → (r : Role) → HasRole order host slot r → role_fault order host libs slot r ≡ None
-    role_none slot inside r has = sym (ap (option_and_then (role_fault order host libs slot)) (ap result_ok has)) ∙ source_none slot inside
+    pub role_none : (slot : ℕ) → slot < 16 → (r : Role) → HasRole order host slot r
+        → role_fault order host libs slot r ≡ None
+    role_none slot inside r has =
+        sym (ap (option_and_then (role_fault order host libs slot)) (ap result_ok has))
+        ∙ source_none slot inside
 
-    pub own_known : (slot : ℕ) (s : Segment) → slot < 16 → own_segment order host libs slot ≡ Some s
+    pub own_known : (slot : ℕ) (s : Segment) → slot < 16
+        → own_segment order host libs slot ≡ Some s
         → IsOfFile order host libs s × IsOfSlot order host libs s
     own_known slot s inside e =
         let t = own_made order host libs slot s e in
@@ -65,7 +82,8 @@ module _ (order : Order) (host : List ℕ) (libs : List (List ℕ)) where
         let fits = role_none slot inside r has in
         let made = t.3 in (
           of_file slot (entry_at order host slot).name r t.2 s made
-              (sym (ap (option_and_then (code_fault order host libs slot r)) t.4) ∙ by_role slot r fits),
+              (sym (ap (option_and_then (code_fault order host libs slot r)) t.4)
+              ∙ by_role slot r fits),
           subst (IsOfSlot order host libs) (sym made.is) (record {
             own = e ∙ ap (λ (q : Segment). Some q) made.is;
             role = has;
@@ -77,18 +95,22 @@ module _ (order : Order) (host : List ℕ) (libs : List (List ℕ)) where
         )
       where
         by_role : (slot : ℕ) (r : Role) → role_fault order host libs slot r ≡ None
-            → option_and_then (code_fault order host libs slot r) (source_of order host libs slot r) ≡ None
-        by_role slot role.Wanted h = (request_parts order host libs (request_by_slot order host slot) h).2
+            → option_and_then (code_fault order host libs slot r)
+            (source_of order host libs slot r) ≡ None
+        by_role slot role.Wanted h =
+            (request_parts order host libs (request_by_slot order host slot) h).2
         by_role slot other h = h
 
   -- 3. a segment that was added
-  pub round_known : (j : ℕ) (g : UnitReference) (s : Segment) → IsOfRound order host libs j g s → IsOfFile order host libs s
+  pub round_known : (j : ℕ) (g : UnitReference) (s : Segment) → IsOfRound order host libs j g s
+      → IsOfFile order host libs s
   round_known j g s round =
       let made = added_made order host libs g s.slot s round.brought in
       let parts = request_parts order host libs (request_of g s.slot) round.fits in
       subst (IsOfFile order host libs) (sym made.2) (as_added_file made.1
       (of_file s.slot g.name role.Wanted made.0 made.1 made.3
-      (sym (ap (option_and_then (code_fault order host libs s.slot role.Wanted)) made.4) ∙ parts.2)))
+      (sym (ap (option_and_then (code_fault order host libs s.slot role.Wanted)) made.4)
+      ∙ parts.2)))
 
 -- 4. each segment of a link
 module _ (host : List ℕ) (libs : List (List ℕ)) (read : reading_fault host libs ≡ None) where
@@ -117,14 +139,19 @@ module _ (host : List ℕ) (libs : List (List ℕ)) (read : reading_fault host l
   has_host = host_there order host libs parts.1 parts.2
 
   abbrev IsKnown : Segment → Type 0
-  IsKnown s = IsOfFile order host libs s × (IsOfSlot order host libs s ⊎ ((j : ℕ) × (g : UnitReference) × IsOfRound order host libs j g s))
+  IsKnown s = IsOfFile order host libs s
+      × (IsOfSlot order host libs s ⊎
+      ((j : ℕ) × (g : UnitReference) × IsOfRound order host libs j g s))
 
-  known : (s : Segment) → s.slot < 16 → segment_at order host libs s.slot ≡ Some s → IsKnown s
+  known : (s : Segment) → s.slot < 16 → segment_at order host libs s.slot ≡ Some s
+      → IsKnown s
   known s inside there =
       let added = added_segments order host libs in
       elim (at_slot order host libs (λ q. In q added) (all_in added) s.slot s there) [
-        | inl own ↦ (let k = own_known order host libs parts.2 s.slot s inside own in (k.0, inl k.1))
-        | inr t ↦ (let k = segment_named order host libs t.2.0 s t.2.1 in (round_known order host libs t.2.0 k.0 s k.1, inr (t.2.0, k.0, k.1)))
+        | inl own ↦ (let k = own_known order host libs parts.2 s.slot s inside own in
+            (k.0, inl k.1))
+        | inr t ↦ (let k = segment_named order host libs t.2.0 s t.2.1 in
+            (round_known order host libs t.2.0 k.0 s k.1, inr (t.2.0, k.0, k.1)))
       ]
 
   pub of_link : AreOfLink host libs (segments order host libs)

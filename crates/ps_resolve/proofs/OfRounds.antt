@@ -1,6 +1,7 @@
 -- Each segment that is added is that of a round, and where the rounds end without a fault each name
 -- that is requested has its round.
-use Rattle.std.proofs.Common.{◌≡◌, ℕ, ◌≤◌, List, ◌∷◌, ◌++◌, length, get_or, Option, Some, None, refl, sym, ap, subst, ◌∙◌, inl, inr, arith}
+use Rattle.std.proofs.Common.{◌≡◌, ℕ, ◌≤◌, List, ◌∷◌, ◌++◌, length, get_or}
+use Rattle.std.proofs.Common.{Option, Some, None, refl, sym, ap, subst, ◌∙◌, inl, inr, arith}
 use Rattle.std.specs.Prelude.{◌⊎◌, All}
 use Rattle.std.specs.List.{slice_get}
 use Rattle.std.proofs.lemmas.Bool.{cases_lt}
@@ -9,11 +10,14 @@ use Rattle.std.proofs.lemmas.Option.{same_Some, none-some, slice_get-get_or, sli
 use Rattle.ps_codefile.specs.declared.entry.Role.TheVariants as role
 use Rattle.ps_words.specs.declared.order.Order.{Order}
 use Rattle.ps_words.specs.declared.fault.Fault.{Fault}
-use Rattle.ps_resolve.specs.Added.{all_unit_references, empty_slots, placed_fault, as_added, added_segment, RoundsOutcome, requested_units, added_segments, added_fault}
+use Rattle.ps_resolve.specs.Added.{all_unit_references, empty_slots, placed_fault, as_added}
+use Rattle.ps_resolve.specs.Added.{added_segment, RoundsOutcome, requested_units, added_segments}
+use Rattle.ps_resolve.specs.Added.{added_fault}
 use Rattle.ps_resolve.specs.OfLink.{IsOfRound}
 use Rattle.ps_resolve.specs.Sources.{Segment, unit_source}
 use Rattle.ps_resolve.specs.declared.reading.added.UnitReference.{UnitReference}
-use Rattle.ps_resolve.proofs.EachRound.{IsTurn, all_rounds, own_units, requested_rest, segments_before}
+use Rattle.ps_resolve.proofs.EachRound.{IsTurn, all_rounds, own_units, requested_rest}
+use Rattle.ps_resolve.proofs.EachRound.{segments_before}
 use Rattle.ps_resolve.proofs.EachSegment.{added_made, segment_with}
 use Rattle.ps_resolve.proofs.Items.{at_left, first_right, some_before}
 use Rattle.ps_resolve.proofs.Requesting.{grown}
@@ -24,28 +28,37 @@ module _ (order : Order) (host : List ℕ) (libs : List (List ℕ)) where
 
   -- the segment that a round adds
   round_is : (prefix rest : List Segment) (k : ℕ) (g : UnitReference) (slot : ℕ) (s : Segment)
-      → IsTurn order host libs prefix (s ∷ rest) k g (Some slot) → placed_fault order host libs g slot ≡ None
+      → IsTurn order host libs prefix (s ∷ rest) k g (Some slot)
+      → placed_fault order host libs g slot ≡ None
       → added_segment order host libs g slot ≡ Some s → IsOfRound order host libs k g s
   round_is prefix rest k g slot s turn fits from =
       let before = segments_before order host libs prefix (s ∷ rest) k turn.all turn.many in
       let requested = requested_units order host libs prefix in
       let more = grown (own_units order host libs) requested (all_unit_references (s ∷ rest)) in
-      let all : queue_of ≡ requested ++ more.0 = ap (requested_units order host libs) turn.all ∙ requested_rest order host libs prefix (s ∷ rest) ∙ more.1 in
+      let all : queue_of ≡ requested ++ more.0 =
+      ap (requested_units order host libs) turn.all
+      ∙ requested_rest order host libs prefix (s ∷ rest) ∙ more.1 in
       let made = added_made order host libs g slot s from in
-      let is : s ≡ as_added (segment_with order host libs slot g.name role.Wanted made.0 made.3.code) = made.2 ∙ ap as_added made.3.is in
+      let is : s ≡ as_added
+      (segment_with order host libs slot g.name role.Wanted made.0 made.3.code) =
+      made.2 ∙ ap as_added made.3.is in
       let slot_is : slot ≡ s.slot = sym (ap (λ (q : Segment). q.slot) is) in
       let name : s.name ≡ g.name = ap (λ (q : Segment). q.name) is in
       record {
-        earlier = ap (λ (ss : List Segment). slice_get (requested_units order host libs ss) k) before ∙ turn.name;
-        requested = ap (λ (gs : List UnitReference). slice_get gs k) all ∙ at_left requested more.0 k g turn.name;
-        there = ap (λ (ss : List Segment). slice_get ss k) turn.all ∙ first_right prefix (s ∷ rest) k turn.many;
+        earlier = ap (λ (ss : List Segment). slice_get (requested_units order host libs ss) k)
+            before ∙ turn.name;
+        requested = ap (λ (gs : List UnitReference). slice_get gs k) all
+            ∙ at_left requested more.0 k g turn.name;
+        there = ap (λ (ss : List Segment). slice_get ss k) turn.all
+            ∙ first_right prefix (s ∷ rest) k turn.many;
         slot = turn.slot_is ∙ ap (λ (n : ℕ). Some n) slot_is;
         fits = subst (λ (n : ℕ). placed_fault order host libs g n ≡ None) slot_is fits;
         brought = subst (λ (n : ℕ). added_segment order host libs g n ≡ Some s) slot_is from;
         name = name;
         role = ap (λ (q : Segment). q.role) is;
         is_added = ap (λ (q : Segment). q.added) is;
-        source = ap (λ (n : List ℕ). unit_source order n libs) name ∙ made.4 ∙ ap (λ (q : Segment). Some (source_at q)) (sym is);
+        source = ap (λ (n : List ℕ). unit_source order n libs) name ∙ made.4
+            ∙ ap (λ (q : Segment). Some (source_at q)) (sym is);
       }
     where
       source_at : Segment → ℕ × ℕ
@@ -56,23 +69,29 @@ module _ (order : Order) (host : List ℕ) (libs : List (List ℕ)) where
   abbrev HasTurn : Option Fault → ℕ → Type 0
   HasTurn fault j =
       ((g : UnitReference) × (s : Segment) × IsOfRound order host libs j g s)
-      ⊎ ((slice_get (added_segments order host libs) j ≡ None) × (fault ≡ None → slice_get queue_of j ≡ None))
+      ⊎ ((slice_get (added_segments order host libs) j ≡ None)
+      × (fault ≡ None → slice_get queue_of j ≡ None))
 
   -- no segment is added after the last
-  none_after : (prefix : List Segment) (k : ℕ) → added_segments order host libs ≡ prefix → k ≡ length prefix → (j : ℕ) → k ≤ j
+  none_after : (prefix : List Segment) (k : ℕ) → added_segments order host libs ≡ prefix
+      → k ≡ length prefix → (j : ℕ) → k ≤ j
       → slice_get (added_segments order host libs) j ≡ None
   none_after prefix k is many j low =
-      slice_get_past (added_segments order host libs) j (omega (arith, ap (λ (ss : List Segment). length ss) is, many, low))
+      slice_get_past (added_segments order host libs) j
+      (omega (arith, ap (λ (ss : List Segment). length ss) is, many, low))
 
   -- and no name is left
-  no_name : (prefix : List Segment) (k : ℕ) → added_segments order host libs ≡ prefix → slice_get (requested_units order host libs prefix) k ≡ None
+  no_name : (prefix : List Segment) (k : ℕ) → added_segments order host libs ≡ prefix
+      → slice_get (requested_units order host libs prefix) k ≡ None
       → (j : ℕ) → k ≤ j → slice_get queue_of j ≡ None
   no_name prefix k is none j low = by (slice_get queue_of j) refl
     where
       by : (o : Option UnitReference) → slice_get queue_of j ≡ o → o ≡ None
       by None e = refl
       by (Some g) e =
-          let there = sym (ap (λ (ss : List Segment). slice_get (requested_units order host libs ss) j) is) ∙ e in
+          let there = sym
+          (ap (λ (ss : List Segment). slice_get (requested_units order host libs ss) j) is)
+          ∙ e in
           absurd (some_before (requested_units order host libs prefix) k j g low there none)
 
   -- so it is from each round on
@@ -82,18 +101,26 @@ module _ (order : Order) (host : List ℕ) (libs : List (List ℕ)) where
   turns : (j : ℕ) → HasTurn (added_fault order host libs) j
   turns j =
       all_rounds order host libs HaveTurns
-      (λ prefix k is many none j low. inr (none_after prefix k is many j low, λ _. no_name prefix k is none j low))
-      (λ prefix k g slot f turn is j low. inr (none_after prefix k (turn.all ∙ append-nil prefix) turn.many j low, λ e. absurd (cc)))
+      (λ prefix k is many none j low. inr
+      (none_after prefix k is many j low, λ _. no_name prefix k is none j low))
+      (λ prefix k g slot f turn is j low. inr
+      (none_after prefix k (turn.all ∙ append-nil prefix) turn.many j low, λ e. absurd (cc)))
       (λ prefix k g slot s rest turn fits from later j low. elim (cases_lt k j) [
         | inl h ↦ later j (omega (arith, h))
-        | inr h ↦ subst (HasTurn rest.fault) (omega (arith, h, low)) (inl (g, s, round_is prefix rest.added k g slot s turn fits from))
+        | inr h ↦ subst (HasTurn rest.fault) (omega (arith, h, low))
+            (inl (g, s, round_is prefix rest.added k g slot s turn fits from))
       ]) j (omega arith)
 
   -- an added segment is that of its round
-  pub segment_named : (j : ℕ) (s : Segment) → slice_get (added_segments order host libs) j ≡ Some s
+  pub segment_named : (j : ℕ) (s : Segment)
+      → slice_get (added_segments order host libs) j ≡ Some s
       → (g : UnitReference) × IsOfRound order host libs j g s
   segment_named j s e = elim (turns j) [
-    | inl t ↦ (t.0, subst (IsOfRound order host libs j t.0) (same_Some t.1 s (sym t.2.there ∙ e)) t.2)
+    | inl t ↦ (
+      t.0,
+      subst (IsOfRound order host libs j t.0)
+          (same_Some t.1 s (sym t.2.there ∙ e)) t.2,
+    )
     | inr n ↦ absurd (none-some s (sym n.0 ∙ e))
   ]
 
@@ -103,7 +130,8 @@ module _ (order : Order) (host : List ℕ) (libs : List (List ℕ)) where
   in_empty j s e = (segment_named j s e).1.slot
 
   -- what holds of the segment of each round holds of all that are added
-  pub each_added : (P : Segment → Type 0) → ((j : ℕ) (g : UnitReference) (s : Segment) → IsOfRound order host libs j g s → P s)
+  pub each_added : (P : Segment → Type 0)
+      → ((j : ℕ) (g : UnitReference) (s : Segment) → IsOfRound order host libs j g s → P s)
       → All P (added_segments order host libs)
   each_added P h i d lt =
       let added = added_segments order host libs in
@@ -114,7 +142,8 @@ module _ (order : Order) (host : List ℕ) (libs : List (List ℕ)) where
   abbrev pub HasRound : ℕ → Type 0
   HasRound j =
       ((g : UnitReference) × (s : Segment) × IsOfRound order host libs j g s)
-      ⊎ ((slice_get queue_of j ≡ None) × (slice_get (added_segments order host libs) j ≡ None))
+      ⊎ ((slice_get queue_of j ≡ None)
+      × (slice_get (added_segments order host libs) j ≡ None))
 
   module _ (fine : added_fault order host libs ≡ None) where
     pub round_at : (j : ℕ) → HasRound j
@@ -123,8 +152,13 @@ module _ (order : Order) (host : List ℕ) (libs : List (List ℕ)) where
       | inr n ↦ inr (n.1 fine, n.0)
     ]
 
-    pub name_placed : (j : ℕ) (g : UnitReference) → slice_get queue_of j ≡ Some g → (s : Segment) × IsOfRound order host libs j g s
+    pub name_placed : (j : ℕ) (g : UnitReference) → slice_get queue_of j ≡ Some g
+        → (s : Segment) × IsOfRound order host libs j g s
     name_placed j g e = elim (round_at j) [
-      | inl t ↦ (t.1, subst (λ (h : UnitReference). IsOfRound order host libs j h t.1) (same_Some t.0 g (sym t.2.requested ∙ e)) t.2)
+      | inl t ↦ (
+        t.1,
+        subst (λ (h : UnitReference). IsOfRound order host libs j h t.1)
+            (same_Some t.0 g (sym t.2.requested ∙ e)) t.2,
+      )
       | inr n ↦ absurd (none-some g (sym n.0 ∙ e))
     ]

@@ -1,6 +1,9 @@
 -- The edits of a segment that are no reference's: they cover reserved places, each once, and so are
 -- beside those of the references.
-use Rattle.std.proofs.Common.{◌≡◌, ℕ, suc, ◌+◌, ◌-◌, ◌*◌, ◌<◌, ◌≤◌, ◌++◌, ◌&&◌, ◌||◌, List, [], ◌∷◌, length, Bool, true, false, Option, Some, None, get_or, ◌⊎◌, inl, inr, refl, sym, ◌∙◌, ap, subst, arith}
+use Rattle.std.proofs.Common.{◌≡◌, ℕ, suc, ◌+◌, ◌-◌, ◌*◌, ◌<◌, ◌≤◌}
+use Rattle.std.proofs.Common.{◌++◌, ◌&&◌, ◌||◌, List, [], ◌∷◌, length, Bool, true}
+use Rattle.std.proofs.Common.{false, Option, Some, None, get_or, ◌⊎◌, inl, inr, refl, sym}
+use Rattle.std.proofs.Common.{◌∙◌, ap, subst, arith}
 use Rattle.std.specs.Prelude.{IsPermutation, All, IfSome, nat_le, nat_lt}
 use Rattle.std.specs.Option.{option_to_list}
 use Rattle.std.proofs.lemmas.Bool.{cases_lt}
@@ -21,7 +24,8 @@ use Rattle.ps_resolve.specs.TakenPlaces.{AreTaken}
 use Rattle.ps_resolve.specs.declared.edit_table.PlaceState.{PlaceState}
 use Rattle.ps_resolve.specs.declared.edit_table.PlaceState.TheVariants as stored
 use Rattle.ps_resolve.specs.declared.edit_table.PlaceState.TheVariants.{Free}
-use Rattle.ps_resolve.proofs.InPlaces.{IsIdle, idle_narrow, table_more, put_more, put_taken, none_listed}
+use Rattle.ps_resolve.proofs.InPlaces.{IsIdle, idle_narrow, table_more, put_more, put_taken}
+use Rattle.ps_resolve.proofs.InPlaces.{none_listed}
 use Rattle.ps_resolve.proofs.Inside.{records_inside}
 
 -- where two tests hold, it holds that either both do or a third one does
@@ -31,8 +35,10 @@ either_true true false c h k = cc
 either_true false b c h k = cc
 
 -- the place of a segment's number is one of the procedure dictionary's
-number_reserved : (order : Order) (code : List ℕ) → 4 ≤ length code → is_reserved order code (length code - 2) ≡ true
-number_reserved order code h = either_true _ _ _ (le (length code) (procedures code)) (lt (length code) h)
+number_reserved : (order : Order) (code : List ℕ) → 4 ≤ length code
+    → is_reserved order code (length code - 2) ≡ true
+number_reserved order code h = either_true _ _ _ (le (length code) (procedures code))
+    (lt (length code) h)
   where
     le : (n c : ℕ) → nat_le (n - (2 + 2 * c)) (n - 2) ≡ true
     le n c = grind (arith, nat_tests)
@@ -40,35 +46,53 @@ number_reserved order code h = either_true _ _ _ (le (length code) (procedures c
     lt : (n : ℕ) → 4 ≤ n → nat_lt (n - 2) n ≡ true
     lt n h = grind (arith, nat_tests)
 
-module _ (order : Order) (known : Known) (code : List ℕ) (rs : List Record) (off slot : ℕ) (table : Option Edit) (h : 4 ≤ length code) (d : IfSome table (IsOfTable order code))
+module _ (order : Order) (known : Known) (code : List ℕ) (rs : List Record) (off slot : ℕ)
+    (table : Option Edit) (h : 4 ≤ length code) (d : IfSome table (IsOfTable order code))
     (none : records_fault known (is_reserved order code) code 0 off [] rs ≡ None) where
-  table_inside : (o : Option Edit) → IfSome o (IsOfTable order code) → All (IsInside (length code)) (option_to_list o)
+  table_inside : (o : Option Edit) → IfSome o (IsOfTable order code)
+      → All (IsInside (length code)) (option_to_list o)
   table_inside None e = All-nil (IsInside (length code))
-  table_inside (Some e) t = All-cons (IsInside (length code)) e [] (record { storable = t.storable; within = omega (arith, t.before) }) (All-nil (IsInside (length code)))
+  table_inside (Some e) t = All-cons (IsInside (length code)) e []
+      (record { storable = t.storable; within = omega (arith, t.before) })
+      (All-nil (IsInside (length code)))
 
   -- all of them lie in the code
-  pub edits_inside : All (IsInside (length code)) (Byte slot (length code - 2) ∷ (option_to_list table ++ records_edits known code off rs))
-  edits_inside = All-cons (IsInside (length code)) (Byte slot (length code - 2)) (option_to_list table ++ records_edits known code off rs) (record { storable = tt; within = omega arith })
-      (All-append (IsInside (length code)) (option_to_list table) (records_edits known code off rs) (table_inside table d) (records_inside known (is_reserved order code) code rs 0 off [] none))
+  pub edits_inside : All (IsInside (length code))
+      (Byte slot (length code - 2) ∷ (option_to_list table ++ records_edits known code off rs))
+  edits_inside = All-cons (IsInside (length code)) (Byte slot (length code - 2))
+      (option_to_list table ++ records_edits known code off rs)
+      (record { storable = tt; within = omega arith })
+      (All-append (IsInside (length code)) (option_to_list table) (records_edits known code off rs)
+      (table_inside table d) (records_inside known
+      (is_reserved order code) code rs 0 off [] none))
 
 -- the edit of the data size suits the host's segment
-pub own_of_table : (order : Order) (code : List ℕ) (b : Bool) (size : Edit) → (b ≡ true → IsOfTable order code size) → IfSome (data_size_edit b size) (IsOfTable order code)
+pub own_of_table : (order : Order) (code : List ℕ) (b : Bool) (size : Edit)
+    → (b ≡ true → IsOfTable order code size)
+    → IfSome (data_size_edit b size) (IsOfTable order code)
 own_of_table order code true size h = h refl
 own_of_table order code false size h = tt
 
 -- A table of the places of a code has these edits, each at reserved places, and no place more is
 -- taken.
-pub record IsOwnTable (tables : ProcedureTables) (edits : List Edit) (ts : List PlaceState) : Type 0 where
-  pub table : IsTableOf tables.code ts
-  pub taken : AreTaken tables ts []
-  pub same : IsPermutation edits (edits_of ts)
+pub record IsOwnTable (tables : ProcedureTables) (edits : List Edit) (ts : List PlaceState) : Type 0
+  where
+    pub table : IsTableOf tables.code ts
+    pub taken : AreTaken tables ts []
+    pub same : IsPermutation edits (edits_of ts)
 
 -- one edit of reserved places more
-own_more : (tables : ProcedureTables) (es : List Edit) (ts : List PlaceState) (e : Edit) → IsOwnTable tables es ts → place_of e + width e ≤ length tables.code → ((p : ℕ) → covers p e ≡ true → is_reserved tables.order tables.code p ≡ true)
-    → ((p : ℕ) → covers p e ≡ true → IsIdle (get_or ts p Free)) → ((p : ℕ) → is_wide (get_or ts p Free) ≡ true → suc p ≡ place_of e → ⊥) → IsOwnTable tables (es ++ e ∷ []) (put_in ts e)
+own_more : (tables : ProcedureTables) (es : List Edit) (ts : List PlaceState) (e : Edit)
+    → IsOwnTable tables es ts → place_of e + width e ≤ length tables.code
+    → ((p : ℕ) → covers p e ≡ true → is_reserved tables.order tables.code p ≡ true)
+    → ((p : ℕ) → covers p e ≡ true → IsIdle (get_or ts p Free))
+    → ((p : ℕ) → is_wide (get_or ts p Free) ≡ true → suc p ≡ place_of e → ⊥)
+    → IsOwnTable tables (es ++ e ∷ []) (put_in ts e)
 own_more tables es ts e own le reserved idle beside = record {
   table = table_more tables.code ts e own.table beside (omega (arith, own.table.len));
-  taken = λ p lt. put_taken ts e p (omega (arith, own.table.len)) ∙ ap (λ (b : Bool). b || covers p e) (own.taken p lt) ∙ kept (is_reserved tables.order tables.code p) (covers p e) (reserved p);
+  taken = λ p lt. put_taken ts e p (omega (arith, own.table.len))
+      ∙ ap (λ (b : Bool). b || covers p e) (own.taken p lt)
+      ∙ kept (is_reserved tables.order tables.code p) (covers p e) (reserved p);
   same = put_more es ts e own.same (omega (arith, own.table.len)) idle;
 }
   where
@@ -77,8 +101,10 @@ own_more tables es ts e own le reserved idle beside = record {
     kept false true h = sym (h refl)
     kept false false h = refl
 
-module _ (tables : ProcedureTables) (ts : List PlaceState) (slot : ℕ) (large : 4 ≤ length tables.code) (len : length ts ≡ length tables.code)
-    (first : (p : ℕ) → p < length tables.code → get_or ts p Free ≡ first_state (is_reserved tables.order tables.code p)) where
+module _ (tables : ProcedureTables) (ts : List PlaceState) (slot : ℕ)
+    (large : 4 ≤ length tables.code) (len : length ts ≡ length tables.code)
+    (first : (p : ℕ) → p < length tables.code
+    → get_or ts p Free ≡ first_state (is_reserved tables.order tables.code p)) where
   abbrev number : Edit
   number = Byte slot (length tables.code - 2)
 
@@ -94,13 +120,15 @@ module _ (tables : ProcedureTables) (ts : List PlaceState) (slot : ℕ) (large :
       at (inr past) = subst IsIdle (sym (get_or_past ts p Free (omega (arith, len)))) refl
 
   narrow : (p : ℕ) → is_wide (get_or ts p Free) ≡ true → ⊥
-  narrow p wide = let both : true ≡ false = sym wide ∙ idle_narrow (get_or ts p Free) (idle p) in cc
+  narrow p wide = let both : true ≡ false = sym wide ∙ idle_narrow (get_or ts p Free) (idle p)
+      in cc
 
   no_edits : IsOwnTable tables [] ts
   no_edits = record {
     table = record { len = len; spaced = λ p wide. absurd (narrow p wide) };
     taken = λ p lt. ap is_taken (first p lt) ∙ at (is_reserved tables.order tables.code p);
-    same = subst (λ (es : List Edit). IsPermutation [] es) (sym (none_listed 0 ts idle)) (IsPermutation-refl []);
+    same = subst (λ (es : List Edit). IsPermutation [] es) (sym (none_listed 0 ts idle))
+        (IsPermutation-refl []);
   }
     where
       at : (b : Bool) → is_taken (first_state b) ≡ (b || false)
@@ -113,17 +141,26 @@ module _ (tables : ProcedureTables) (ts : List PlaceState) (slot : ℕ) (large :
   -- the table of the number of the segment
   pub number_table : IsOwnTable tables (number ∷ []) (put_in ts number)
   number_table = own_more tables [] ts number no_edits (omega arith)
-      (λ p covered. subst (λ (n : ℕ). is_reserved tables.order tables.code n ≡ true) (sym (at_number p covered)) (number_reserved tables.order tables.code large))
+      (λ p covered. subst (λ (n : ℕ). is_reserved tables.order tables.code n ≡ true)
+      (sym (at_number p covered)) (number_reserved tables.order tables.code large))
       (λ p covered. idle p) (λ p wide next. narrow p wide)
 
   -- the table of that and an edit of the procedure tables
-  pub size_table : (size : Edit) → IsOfTable tables.order tables.code size → IsOwnTable tables (number ∷ size ∷ []) (put_in (put_in ts number) size)
-  size_table size of_table = own_more tables (number ∷ []) (put_in ts number) size number_table (omega (arith, of_table.before)) of_table.reserved
-      (λ p covered. let low : p < length tables.code - 2 = below (place_of size) (width size) p of_table.before covered in subst IsIdle (sym (kept p low)) (idle p))
-      (λ p wide next. narrow p (subst (λ (s : PlaceState). is_wide s ≡ true) (kept p (omega (arith, of_table.before, next))) wide))
+  pub size_table : (size : Edit) → IsOfTable tables.order tables.code size
+      → IsOwnTable tables (number ∷ size ∷ []) (put_in (put_in ts number) size)
+  size_table size of_table = own_more tables (number ∷ []) (put_in ts number) size number_table
+      (omega (arith, of_table.before)) of_table.reserved
+      (λ p covered. let low : p < length tables.code - 2 =
+      below (place_of size) (width size) p of_table.before covered in
+      subst IsIdle (sym (kept p low)) (idle p))
+      (λ p wide next. narrow p (subst (λ (s : PlaceState). is_wide s ≡ true)
+      (kept p (omega (arith, of_table.before, next))) wide))
     where
-      below : (x w p : ℕ) → x + w ≤ length tables.code - 2 → (nat_le x p && nat_lt p (x + w)) ≡ true → p < length tables.code - 2
+      below : (x w p : ℕ) → x + w ≤ length tables.code - 2
+          → (nat_le x p && nat_lt p (x + w)) ≡ true → p < length tables.code - 2
       below x w p le covered = grind (arith, nat_tests)
 
-      kept : (p : ℕ) → p < length tables.code - 2 → get_or (put_in ts number) p Free ≡ get_or ts p Free
-      kept p low = get_or-set_other ts (length tables.code - 2) p (stored.Byte slot) Free (λ same. absurd (omega arith))
+      kept : (p : ℕ) → p < length tables.code - 2
+          → get_or (put_in ts number) p Free ≡ get_or ts p Free
+      kept p low = get_or-set_other ts (length tables.code - 2) p (stored.Byte slot) Free
+          (λ same. absurd (omega arith))

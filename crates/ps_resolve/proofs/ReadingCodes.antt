@@ -1,5 +1,7 @@
 -- How long a code is that is whole in its file, and which kinds have one of a linked segment.
-use Rattle.std.proofs.Common.{◌≡◌, ◌==◌, ◌&&◌, ◌||◌, ◌+◌, ◌*◌, ◌%◌, ◌≤◌, ◌-◌, ℕ, List, drop, length, Bool, true, false, if◌then◌else◌, Ok, Err, refl, sym, ◌∙◌, ap, arith}
+use Rattle.std.proofs.Common.{◌≡◌, ◌==◌, ◌&&◌, ◌||◌, ◌+◌, ◌*◌, ◌%◌}
+use Rattle.std.proofs.Common.{◌≤◌, ◌-◌, ℕ, List, drop, length, Bool, true, false}
+use Rattle.std.proofs.Common.{if◌then◌else◌, Ok, Err, refl, sym, ◌∙◌, ap, arith}
 use Rattle.std.proofs.Math.Dec.{ltb}
 use Rattle.std.specs.List.{slice_range}
 use Rattle.std.proofs.lemmas.List.{length-take, length-drop}
@@ -10,20 +12,25 @@ use Rattle.ps_codefile.specs.Dictionary.{code_of, has_bad_length, kind_needs_lin
 use Rattle.ps_codefile.specs.declared.code_layout.TheConstants.{MAX_CODE_LEN}
 
 -- a code that is given has no bad length, is not cut short, and is the slice of its file
-pub whole_code : (bad zero short : Bool) (x code : List ℕ) → (if bad then Err reason.BadLength else (if zero then Err reason.BadAddress else (if short then Err reason.Truncated else Ok x))) ≡ Ok code → (bad ≡ false) × (short ≡ false) × (x ≡ code)
+pub whole_code : (bad zero short : Bool) (x code : List ℕ)
+    → (if bad then Err reason.BadLength
+    else (if zero then Err reason.BadAddress else (if short then Err reason.Truncated else Ok x)))
+    ≡ Ok code → (bad ≡ false) × (short ≡ false) × (x ≡ code)
 whole_code true zero short x code h = cc
 whole_code false true short x code h = cc
 whole_code false false true x code h = cc
 whole_code false false false x code h = (refl, refl, cc)
 
 -- a slice of n bytes that ends within the file has n bytes
-length_within : (xs : List ℕ) (a n : ℕ) → ltb (length xs) (a + n) ≡ false → length (slice_range xs a (a + n)) ≡ n
+length_within : (xs : List ℕ) (a n : ℕ) → ltb (length xs) (a + n) ≡ false
+    → length (slice_range xs a (a + n)) ≡ n
 length_within xs a n h =
     let le : a + n ≤ length xs = grind (arith, nat_tests) in
     omega (arith, length-take (a + n - a) (drop a xs), length-drop a xs)
 
 -- a length that is not refused is MAX_CODE_LEN at most
-small_code : (n : ℕ) (other : Bool) → (ltb MAX_CODE_LEN n || other) ≡ false → n ≤ MAX_CODE_LEN
+small_code : (n : ℕ) (other : Bool) → (ltb MAX_CODE_LEN n || other) ≡ false
+    → n ≤ MAX_CODE_LEN
 small_code n other h = at (ltb MAX_CODE_LEN n) refl
   where
     at : (b : Bool) → ltb MAX_CODE_LEN n ≡ b → n ≤ MAX_CODE_LEN
@@ -31,7 +38,8 @@ small_code n other h = at (ltb MAX_CODE_LEN n) refl
     at false q = grind (arith, nat_tests)
 
 -- the length of a linked segment that is not refused is 4 at least
-large_code : (n : ℕ) (long odd : Bool) → (long || (true && (odd || ltb n 4))) ≡ false → 4 ≤ n
+large_code : (n : ℕ) (long odd : Bool) → (long || (true && (odd || ltb n 4))) ≡ false
+    → 4 ≤ n
 large_code n true odd h = cc
 large_code n false true h = cc
 large_code n false false h = grind (arith, nat_tests)
@@ -42,11 +50,15 @@ pub record IsWholeCode (e : Entry) (code : List ℕ) : Type 0 where
   pub large : kind_needs_linking e.kind ≡ true → 4 ≤ e.length
 
 -- a code with which nothing is wrong has the length of its entry, which is within its limits
-pub whole : (file : List ℕ) (e : Entry) (code : List ℕ) → code_of file e ≡ Ok code → IsWholeCode e code
+pub whole : (file : List ℕ) (e : Entry) (code : List ℕ) → code_of file e ≡ Ok code
+    → IsWholeCode e code
 whole file e code h =
-    let parts = whole_code (has_bad_length e) (e.address == 0) (ltb (length file) (512 * e.address + e.length)) (slice_range file (512 * e.address) (512 * e.address + e.length)) code h in
+    let parts = whole_code (has_bad_length e) (e.address == 0)
+    (ltb (length file) (512 * e.address + e.length))
+    (slice_range file (512 * e.address) (512 * e.address + e.length)) code h in
     record {
       len = ap length (sym parts.2) ∙ length_within file (512 * e.address) e.length parts.1;
       small = small_code e.length _ parts.0;
-      large = λ linked. large_code e.length (ltb MAX_CODE_LEN e.length) (e.length % 2 == 1) (rw linked at parts.0);
+      large = λ linked. large_code e.length (ltb MAX_CODE_LEN e.length) (e.length % 2 == 1)
+          (rw linked at parts.0);
     }

@@ -1,6 +1,7 @@
 -- The host, read by itself, and what is known of the segments of a link once the files were read
 -- without a fault.
-use Rattle.std.proofs.Common.{◌≡◌, ℕ, List, length, Bool, true, false, if◌then◌else◌, Option, Some, Ok, Err}
+use Rattle.std.proofs.Common.{◌≡◌, ℕ, List, length, Bool, true, false, if◌then◌else◌}
+use Rattle.std.proofs.Common.{Option, Some, Ok, Err}
 use Rattle.std.proofs.Math.Dec.{ltb}
 use Rattle.std.specs.Option.{option_or}
 use Rattle.ps_words.specs.FaultPlaces.{in_file}
@@ -8,30 +9,38 @@ use Rattle.ps_words.specs.declared.order.Order.{Order}
 use Rattle.ps_words.specs.declared.fault.Reason.{Reason}
 use Rattle.ps_words.specs.declared.fault.Reason.TheVariants as reason
 use Rattle.ps_words.specs.declared.fault.Fault.{Fault}
-use Rattle.ps_codefile.specs.Dictionary.{OpenedFile, FileOrder, Zero, file_order, opened_alone, opened_as}
+use Rattle.ps_codefile.specs.Dictionary.{OpenedFile, FileOrder, Zero, file_order, opened_alone}
+use Rattle.ps_codefile.specs.Dictionary.{opened_as}
 use Rattle.ps_resolve.specs.Sources.{known_order, order_of}
 use Rattle.ps_resolve.specs.Faults.{slots_fault, no_host_fault, libraries_fault}
 use Rattle.ps_resolve.specs.AllFaults.{reading_fault, reading_rest}
 
 -- a host that is read is read in its own byte order
-read_as : (short : Bool) (of : FileOrder) (file : List ℕ) (o : OpenedFile) → (if short then Err reason.ShortFile else opened_as file of) ≡ Ok o → o ≡ record { order = known_order of; file = file }
+read_as : (short : Bool) (of : FileOrder) (file : List ℕ) (o : OpenedFile)
+    → (if short then Err reason.ShortFile else opened_as file of) ≡ Ok o
+    → o ≡ record { order = known_order of; file = file }
 read_as true of file o h = cc
 read_as false Zero file o h = cc
 read_as false other file o h = cc
 
-pub host_refused : (host : List ℕ) (libs : List (List ℕ)) (why : Reason) → opened_alone host ≡ Err why → reading_fault host libs ≡ Some (in_file 0 why)
+pub host_refused : (host : List ℕ) (libs : List (List ℕ)) (why : Reason)
+    → opened_alone host ≡ Err why → reading_fault host libs ≡ Some (in_file 0 why)
 unfolding reading_fault
 host_refused host libs why h = rw h
 
-pub host_is : (host : List ℕ) (o : OpenedFile) → opened_alone host ≡ Ok o → o ≡ record { order = order_of host; file = host }
+pub host_is : (host : List ℕ) (o : OpenedFile) → opened_alone host ≡ Ok o
+    → o ≡ record { order = order_of host; file = host }
 host_is host o h = read_as (ltb (length host) 512) (file_order host) host o h
 
 -- what is looked at after the host's order
 abbrev pub rest_of : Order → List ℕ → List (List ℕ) → Option Fault
-rest_of order host libs = option_or (slots_fault order host) (option_or (no_host_fault order host) (option_or (libraries_fault order libs) (reading_rest order host libs)))
+rest_of order host libs = option_or (slots_fault order host)
+    (option_or (no_host_fault order host)
+    (option_or (libraries_fault order libs) (reading_rest order host libs)))
 
 -- where the host is read, the first fault of reading is that of what is looked at after it
-pub host_read : (host : List ℕ) (libs : List (List ℕ)) (o : OpenedFile) → opened_alone host ≡ Ok o → reading_fault host libs ≡ rest_of o.order o.file libs
+pub host_read : (host : List ℕ) (libs : List (List ℕ)) (o : OpenedFile)
+    → opened_alone host ≡ Ok o → reading_fault host libs ≡ rest_of o.order o.file libs
 unfolding reading_fault
 host_read host libs o h =
     rw (h, host_is host o h)

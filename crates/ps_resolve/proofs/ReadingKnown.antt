@@ -1,6 +1,9 @@
 -- What is known of the segments of a link once the files were read without a fault: they rise by
 -- slot, and one of them is the host's own.
-use Rattle.std.proofs.Common.{◌≡◌, ℕ, zero, suc, ◌+◌, ◌<◌, ◌≤◌, List, [], ◌∷◌, map, length, get_or, Bool, true, false, ◌&&◌, not, Option, Some, None, is_some, Result, Ok, refl, sym, ◌∙◌, ap, subst, inl, inr, arith}
+use Rattle.std.proofs.Common.{◌≡◌, ℕ, zero, suc, ◌+◌, ◌<◌, ◌≤◌, List, []}
+use Rattle.std.proofs.Common.{◌∷◌, map, length, get_or, Bool, true, false, ◌&&◌, not}
+use Rattle.std.proofs.Common.{Option, Some, None, is_some, Result, Ok, refl, sym, ◌∙◌, ap}
+use Rattle.std.proofs.Common.{subst, inl, inr, arith}
 use Rattle.std.specs.List.{range_with_len, filter_map, find, list_any}
 use Rattle.std.specs.Prelude.{All}
 use Rattle.std.specs.Option.{option_or, option_map, option_map_or}
@@ -20,7 +23,8 @@ use Rattle.ps_resolve.specs.Added.{added_at, segment_at, segments, added_segment
 use Rattle.ps_resolve.specs.Searches.{first_of, fault_if}
 use Rattle.ps_codefile.specs.Roles.{is_host, is_empty}
 use Rattle.ps_resolve.specs.Sources.{Segment, own_segment, segment_from, host_of}
-use Rattle.ps_resolve.specs.Faults.{is_role, slot_reason, slots_fault, no_host_fault, sources_fault, source_fault}
+use Rattle.ps_resolve.specs.Faults.{is_role, slot_reason, slots_fault, no_host_fault, sources_fault}
+use Rattle.ps_resolve.specs.Faults.{source_fault}
 use Rattle.ps_resolve.specs.Linkable.{AscendFrom, HasOneHost}
 use Rattle.ps_resolve.proofs.EachRound.{source_made}
 use Rattle.ps_resolve.proofs.EachSegment.{at_slot, each_slot, find_has, own_made}
@@ -29,40 +33,55 @@ use Rattle.ps_resolve.proofs.OfRounds.{each_added}
 use Rattle.ps_resolve.proofs.ReadingSources.{own_fault, read_from_host, is_own_host}
 
 -- the own segment of a slot is in the slot and has the role of it
-pub own_parts : (order : Order) (host : List ℕ) (libs : List (List ℕ)) (slot : ℕ) (s : Segment) → own_segment order host libs slot ≡ Some s → (s.slot ≡ slot) × (result_ok (role_of (entry_at order host slot)) ≡ Some s.role)
-own_parts order host libs slot s h = let t = own_made order host libs slot s h in (ap (λ (x : Segment). x.slot) t.3.is, t.1 ∙ ap (λ (x : Segment). Some x.role) (sym t.3.is))
+pub own_parts : (order : Order) (host : List ℕ) (libs : List (List ℕ)) (slot : ℕ)
+    (s : Segment) → own_segment order host libs slot ≡ Some s
+    → (s.slot ≡ slot) × (result_ok (role_of (entry_at order host slot)) ≡ Some s.role)
+own_parts order host libs slot s h = let t = own_made order host libs slot s h in
+    (ap (λ (x : Segment). x.slot) t.3.is, t.1 ∙ ap (λ (x : Segment). Some x.role) (sym t.3.is))
 
 abbrev IsWanted : Segment → Type 0
 IsWanted s = s.role ≡ role.Wanted
 
 -- each added segment has the role of a wanted unit
-added_wanted : (order : Order) (host : List ℕ) (libs : List (List ℕ)) → All IsWanted (added_segments order host libs)
+added_wanted : (order : Order) (host : List ℕ) (libs : List (List ℕ))
+    → All IsWanted (added_segments order host libs)
 added_wanted order host libs = each_added order host libs IsWanted (λ j g s round. round.role)
 
 -- a slot whose role is Empty has not that of the host
-empty_role : (q : Result Role Reason) → option_map_or is_empty (result_ok q) false ≡ true → option_map_or is_host (result_ok q) false ≡ false
+empty_role : (q : Result Role Reason) → option_map_or is_empty (result_ok q) false ≡ true
+    → option_map_or is_host (result_ok q) false ≡ false
 empty_role (Ok role.Empty) h = refl
 empty_role other h = cc
 
 -- the segment of a slot, its own or one that was added there, is in the slot and is the host's just
 -- where the slot's role is
-pub slot_parts : (order : Order) (host : List ℕ) (libs : List (List ℕ)) (slot : ℕ) (s : Segment) → segment_at order host libs slot ≡ Some s → (s.slot ≡ slot) × (is_role is_host order host slot ≡ is_host s.role)
-slot_parts order host libs slot s h = elim (at_slot order host libs IsWanted (added_wanted order host libs) slot s h) [
-  | inl own ↦ (let parts = own_parts order host libs slot s own in (parts.0, ap (λ (o : Option Role). option_map_or is_host o false) parts.1))
-  | inr t ↦ (t.1, empty_role (role_of (entry_at order host slot)) t.0 ∙ sym (ap is_host t.2))
-]
+pub slot_parts : (order : Order) (host : List ℕ) (libs : List (List ℕ)) (slot : ℕ)
+    (s : Segment) → segment_at order host libs slot ≡ Some s
+    → (s.slot ≡ slot) × (is_role is_host order host slot ≡ is_host s.role)
+slot_parts order host libs slot s h =
+    elim (at_slot order host libs IsWanted (added_wanted order host libs) slot s h) [
+      | inl own ↦ (let parts = own_parts order host libs slot s own in
+          (parts.0, ap (λ (o : Option Role). option_map_or is_host o false) parts.1))
+      | inr t ↦ (t.1, empty_role (role_of (entry_at order host slot)) t.0 ∙ sym (ap is_host t.2))
+    ]
 
-host_role : (order : Order) (host : List ℕ) (libs : List (List ℕ)) (slot : ℕ) (s : Segment) → segment_at order host libs slot ≡ Some s → is_role is_host order host slot ≡ is_host s.role
+host_role : (order : Order) (host : List ℕ) (libs : List (List ℕ)) (slot : ℕ) (s : Segment)
+    → segment_at order host libs slot ≡ Some s
+    → is_role is_host order host slot ≡ is_host s.role
 host_role order host libs slot s h = (slot_parts order host libs slot s h).1
 
 -- what passes the test for the role of the host is the role Host
-host_of_role : (q : Result Role Reason) → option_map_or is_host (result_ok q) false ≡ true → q ≡ Ok role.Host
+host_of_role : (q : Result Role Reason) → option_map_or is_host (result_ok q) false ≡ true
+    → q ≡ Ok role.Host
 host_of_role (Ok role.Host) h = refl
 host_of_role other h = cc
 
 -- a slot with the role of the host has a segment, where its source has no fault
-slot_host : (order : Order) (host : List ℕ) (libs : List (List ℕ)) (slot : ℕ) → source_fault order host libs slot ≡ None → is_role is_host order host slot ≡ true → (s : Segment) × (segment_at order host libs slot ≡ Some s)
-slot_host order host libs slot none is = by (segment_from order host libs slot name role.Host (0, slot)) refl
+slot_host : (order : Order) (host : List ℕ) (libs : List (List ℕ)) (slot : ℕ)
+    → source_fault order host libs slot ≡ None → is_role is_host order host slot ≡ true
+    → (s : Segment) × (segment_at order host libs slot ≡ Some s)
+slot_host order host libs slot none is =
+    by (segment_from order host libs slot name role.Host (0, slot)) refl
   where
     name : List ℕ
     name = (entry_at order host slot).name
@@ -70,50 +89,81 @@ slot_host order host libs slot none is = by (segment_from order host libs slot n
     of : role_of (entry_at order host slot) ≡ Ok role.Host
     of = host_of_role (role_of (entry_at order host slot)) is
 
-    by : (o : Option Segment) → segment_from order host libs slot name role.Host (0, slot) ≡ o → (s : Segment) × (segment_at order host libs slot ≡ Some s)
-    by None e = absurd (source_made order host libs slot name role.Host (0, slot) (sym (own_fault order host libs slot role.Host of is_own_host) ∙ none) e)
-    by (Some s) e = (s, ap (λ (o : Option Segment). option_or o (added_at order host libs slot)) (read_from_host order host libs slot role.Host of is_own_host ∙ e))
+    by : (o : Option Segment) → segment_from order host libs slot name role.Host (0, slot) ≡ o
+        → (s : Segment) × (segment_at order host libs slot ≡ Some s)
+    by None e = absurd (source_made order host libs slot name role.Host (0, slot)
+        (sym (own_fault order host libs slot role.Host of is_own_host) ∙ none) e)
+    by (Some s) e = (
+      s,
+      ap (λ (o : Option Segment). option_or o (added_at order host libs slot))
+          (read_from_host order host libs slot role.Host of is_own_host ∙ e),
+    )
 
 -- where one of these slots has the role of the host, and no source a fault, one of their segments
 -- is a host's
-found_host : (order : Order) (host : List ℕ) (libs : List (List ℕ)) (xs : List ℕ) → list_any (is_role is_host order host) xs ≡ true → first_of (source_fault order host libs) xs ≡ None
-    → is_some (find (λ (s : Segment). is_host s.role) (filter_map (segment_at order host libs) xs)) ≡ true
+found_host : (order : Order) (host : List ℕ) (libs : List (List ℕ)) (xs : List ℕ)
+    → list_any (is_role is_host order host) xs ≡ true
+    → first_of (source_fault order host libs) xs ≡ None
+    → is_some (find (λ (s : Segment). is_host s.role)
+    (filter_map (segment_at order host libs) xs)) ≡ true
 found_host order host libs [] any none = any
 found_host order host libs (x ∷ xs) any none =
-    by (λ a. found_host order host libs xs a (neither_second (source_fault order host libs x) (first_of (source_fault order host libs) xs) none)) (segment_at order host libs x) refl (is_role is_host order host x) refl
+    by (λ a. found_host order host libs xs a
+    (neither_second (source_fault order host libs x)
+    (first_of (source_fault order host libs) xs) none)) (segment_at order host libs x) refl
+    (is_role is_host order host x) refl
   where
-    by : (list_any (is_role is_host order host) xs ≡ true → is_some (find (λ (s : Segment). is_host s.role) (filter_map (segment_at order host libs) xs)) ≡ true)
-        → (o : Option Segment) → segment_at order host libs x ≡ o → (b : Bool) → is_role is_host order host x ≡ b → is_some (find (λ (s : Segment). is_host s.role) (filter_map (segment_at order host libs) (x ∷ xs))) ≡ true
+    by : (list_any (is_role is_host order host) xs ≡ true
+        → is_some (find (λ (s : Segment). is_host s.role)
+        (filter_map (segment_at order host libs) xs)) ≡ true)
+        → (o : Option Segment) → segment_at order host libs x ≡ o → (b : Bool)
+        → is_role is_host order host x ≡ b
+        → is_some (find (λ (s : Segment). is_host s.role)
+        (filter_map (segment_at order host libs) (x ∷ xs))) ≡ true
     by rest None o true b =
-        let there = slot_host order host libs x (neither_first (source_fault order host libs x) (first_of (source_fault order host libs) xs) none) b in
+        let there = slot_host order host libs x
+        (neither_first (source_fault order host libs x)
+        (first_of (source_fault order host libs) xs) none) b in
         let none_is_some = sym o ∙ there.1 in
         cc
     by rest None o false b = rw o (rest (rw b at any))
-    by rest (Some s) o true b = let h : is_host s.role ≡ true = sym (host_role order host libs x s o) ∙ b in rw (o, h)
-    by rest (Some s) o false b = let h : is_host s.role ≡ false = sym (host_role order host libs x s o) ∙ b in rw (o, h) (rest (rw b at any))
+    by rest (Some s) o true b = let h : is_host s.role ≡ true =
+        sym (host_role order host libs x s o) ∙ b in rw (o, h)
+    by rest (Some s) o false b = let h : is_host s.role ≡ false =
+        sym (host_role order host libs x s o) ∙ b in rw (o, h) (rest (rw b at any))
 
 is_there : (b : Bool) (fault : Fault) → fault_if (not b) fault ≡ None → b ≡ true
 is_there true fault h = refl
 is_there false fault h = cc
 
 -- one of the segments is the host's own
-pub host_there : (order : Order) (host : List ℕ) (libs : List (List ℕ)) → no_host_fault order host ≡ None → sources_fault order host libs ≡ None → is_some (host_of (segments order host libs)) ≡ true
+pub host_there : (order : Order) (host : List ℕ) (libs : List (List ℕ))
+    → no_host_fault order host ≡ None → sources_fault order host libs ≡ None
+    → is_some (host_of (segments order host libs)) ≡ true
 unfolding no_host_fault sources_fault segments
 host_there order host libs has none = found_host order host libs slots (is_there _ _ has) none
 
 -- the segments rise by slot
-ascend_from : (order : Order) (host : List ℕ) (libs : List (List ℕ)) (n a from : ℕ) → from ≤ a → AscendFrom from (map (λ (s : Segment). s.slot) (filter_map (segment_at order host libs) (range_with_len a n)))
+ascend_from : (order : Order) (host : List ℕ) (libs : List (List ℕ)) (n a from : ℕ)
+    → from ≤ a → AscendFrom from (map (λ (s : Segment). s.slot)
+    (filter_map (segment_at order host libs) (range_with_len a n)))
 ascend_from order host libs zero a from le = tt
-ascend_from order host libs (suc n) a from le = by (λ next l. ascend_from order host libs n (a + 1) next l) (segment_at order host libs a) refl
+ascend_from order host libs (suc n) a from le =
+    by (λ next l. ascend_from order host libs n (a + 1) next l) (segment_at order host libs a) refl
   where
-    by : ((next : ℕ) → next ≤ a + 1 → AscendFrom next (map (λ (s : Segment). s.slot) (filter_map (segment_at order host libs) (range_with_len (a + 1) n)))) → (o : Option Segment) → segment_at order host libs a ≡ o
-        → AscendFrom from (map (λ (s : Segment). s.slot) (filter_map (segment_at order host libs) (a ∷ range_with_len (a + 1) n)))
+    by : ((next : ℕ) → next ≤ a + 1
+        → AscendFrom next (map (λ (s : Segment). s.slot)
+        (filter_map (segment_at order host libs) (range_with_len (a + 1) n))))
+        → (o : Option Segment) → segment_at order host libs a ≡ o
+        → AscendFrom from (map (λ (s : Segment). s.slot)
+        (filter_map (segment_at order host libs) (a ∷ range_with_len (a + 1) n)))
     by rest None o = rw o (rest from (omega arith))
     by rest (Some s) o =
         let is = (slot_parts order host libs a s o).0 in
         rw o (omega (arith, is), rest (s.slot + 1) (omega (arith, is)))
 
-pub ascend : (order : Order) (host : List ℕ) (libs : List (List ℕ)) → AscendFrom 0 (map (λ (s : Segment). s.slot) (segments order host libs))
+pub ascend : (order : Order) (host : List ℕ) (libs : List (List ℕ))
+    → AscendFrom 0 (map (λ (s : Segment). s.slot) (segments order host libs))
 unfolding segments
 ascend order host libs = ascend_from order host libs 16 0 0 (omega arith)
 
@@ -123,10 +173,12 @@ stands_not true x h = cc
 stands_not false x h = refl
 
 -- where none of a range of numbers has a fault, each has none
-pub none_at : {X : Type 0} (f : ℕ → Option X) (a n i : ℕ) → first_of f (range_with_len a n) ≡ None → a ≤ i → i < a + n → f i ≡ None
+pub none_at : {X : Type 0} (f : ℕ → Option X) (a n i : ℕ)
+    → first_of f (range_with_len a n) ≡ None → a ≤ i → i < a + n → f i ≡ None
 none_at f a zero i none low high = absurd (omega arith)
 none_at f a (suc n) i none low high = elim (cases_eq a i) [
-  | inl same ↦ ap f (sym same) ∙ neither_first (f a) (first_of f (range_with_len (a + 1) n)) none
+  | inl same ↦ ap f (sym same) ∙ neither_first (f a)
+      (first_of f (range_with_len (a + 1) n)) none
   | inr differs ↦
       let later = neither_second (f a) (first_of f (range_with_len (a + 1) n)) none in
       none_at f (a + 1) n i later (omega (arith, differs)) (omega arith)
@@ -141,20 +193,28 @@ module _ (order : Order) (host : List ℕ) (libs : List (List ℕ)) where
   unfolding segments
   all_at =
       each_slot IsAt (segment_at order host libs) (λ x s lt h.
-      let at = (slot_parts order host libs x s h).0 in
-      (omega (arith, at, lt), subst (λ (n : ℕ). segment_at order host libs n ≡ Some s) (sym at) h))
+      let at = (slot_parts order host libs x s h).0 in (
+        omega (arith, at, lt),
+        subst (λ (n : ℕ). segment_at order host libs n ≡ Some s)
+            (sym at) h,
+      ))
 
   module _ (none : slots_fault order host ≡ None) where
     -- the second of two hosts would have a fault
-    not_two : (s q : Segment) → IsAt s → IsAt q → is_host s.role ≡ true → is_host q.role ≡ true → s.slot < q.slot → ⊥
+    not_two : (s q : Segment) → IsAt s → IsAt q → is_host s.role ≡ true
+        → is_host q.role ≡ true → s.slot < q.slot → ⊥
     unfolding slots_fault
     not_two s q a b u v lt =
         let test = is_role is_host order host in
-        let fine = none_at (λ slot. option_map (in_slot 0 slot) (slot_reason order host slot)) 0 16 q.slot none (omega arith) (omega (arith, b.0)) in
+        let fine = none_at (λ slot. option_map (in_slot 0 slot) (slot_reason order host slot)) 0 16
+        q.slot none (omega arith) (omega (arith, b.0)) in
         let reason = none_mapped (in_slot 0 q.slot) (slot_reason order host q.slot) fine in
-        let two : (test q.slot && list_any test (range_with_len 0 q.slot)) ≡ false = stands_not _ _ (neither_first _ _ (neither_second _ _ reason)) in
-        let earlier = ap test (get_or-range_with_len 0 q.slot s.slot 0 lt ∙ omega arith) ∙ host_role order host libs s.slot s a.1 ∙ u in
-        let within : s.slot < length (range_with_len 0 q.slot) = omega (arith, length-range_with_len 0 q.slot, lt) in
+        let two : (test q.slot && list_any test (range_with_len 0 q.slot)) ≡ false =
+        stands_not _ _ (neither_first _ _ (neither_second _ _ reason)) in
+        let earlier = ap test (get_or-range_with_len 0 q.slot s.slot 0 lt ∙ omega arith)
+        ∙ host_role order host libs s.slot s a.1 ∙ u in
+        let within : s.slot < length (range_with_len 0 q.slot) =
+        omega (arith, length-range_with_len 0 q.slot, lt) in
         let there = list_any_at test (range_with_len 0 q.slot) s.slot 0 within earlier in
         false≢true (sym two ∙ and_from _ _ (host_role order host libs q.slot q b.1 ∙ v) there)
 
@@ -172,7 +232,8 @@ module _ (order : Order) (host : List ℕ) (libs : List (List ℕ)) where
 
         same : (q : Segment) → IsAt q → is_host q.role ≡ true → q ≡ s
         same q at its = elim (cases_order q.slot s.slot) [
-          | inl e ↦ same_Some q s (sym at.1 ∙ ap (segment_at order host libs) e ∙ (all_at i d lt).1)
+          | inl e ↦ same_Some q s (sym at.1 ∙ ap (segment_at order host libs) e
+              ∙ (all_at i d lt).1)
           | inr u ↦ elim u [
             | inl h ↦ absurd (not_two q s at (all_at i d lt) its is h)
             | inr h ↦ absurd (not_two s q (all_at i d lt) at is its h)
@@ -180,7 +241,8 @@ module _ (order : Order) (host : List ℕ) (libs : List (List ℕ)) where
         ]
 
         by : (o : Option Segment) → find test segs ≡ o → o ≡ Some s
-        by None e = absurd (false≢true (ap is_some (sym e) ∙ sym (any_found test segs) ∙ list_any_at test segs i d lt is))
+        by None e = absurd (false≢true
+            (ap is_some (sym e) ∙ sym (any_found test segs) ∙ list_any_at test segs i d lt is))
         by (Some q) e =
             let has = find_has IsAt test segs q e all_at in
             ap (λ (x : Segment). Some x) (same q has.1 has.0)

@@ -1,5 +1,7 @@
 -- What is read of the slots of a host, where reading has no fault: the segments of the link.
-use Rattle.std.proofs.Common.{◌≡◌, ℕ, List, [], ◌∷◌, ◌++◌, ◌==◌, ◌≢◌, take, Bool, false, if◌then◌else◌, Option, Some, None, Result, Ok, Err, refl, sym, ◌∙◌, ap}
+use Rattle.std.proofs.Common.{◌≡◌, ℕ, List, [], ◌∷◌, ◌++◌, ◌==◌, ◌≢◌}
+use Rattle.std.proofs.Common.{take, Bool, false, if◌then◌else◌, Option, Some, None, Result}
+use Rattle.std.proofs.Common.{Ok, Err, refl, sym, ◌∙◌, ap}
 use Rattle.std.specs.List.{cons_option, filter_map, find}
 use Rattle.std.proofs.lemmas.Bool.{eq-eqb, ne_eqb}
 use Rattle.std.specs.Option.{option_and_then, option_map, option_map_or, option_or}
@@ -10,11 +12,17 @@ use Rattle.ps_words.specs.declared.fault.Fault.{Fault}
 use Rattle.ps_words.specs.declared.fault.Reason.{Reason}
 use Rattle.ps_codefile.specs.Dictionary.{OpenedFile, entry_at, opened_alone, role_of, slots}
 use Rattle.ps_resolve.specs.Searches.{first_of}
-use Rattle.ps_resolve.specs.Sources.{Segment, own_segment, own_segments, opened_files, order_of, units_of}
-use Rattle.ps_resolve.specs.Faults.{slots_fault, no_host_fault, libraries_fault, source_fault, sources_fault}
-use Rattle.ps_resolve.specs.Added.{RoundsOutcome, added_fault, all_unit_references, empty_slots, requested_from, rounds, rounds_in, rounds_of, segments}
+use Rattle.ps_resolve.specs.Sources.{Segment, own_segment, own_segments, opened_files, order_of}
+use Rattle.ps_resolve.specs.Sources.{units_of}
+use Rattle.ps_resolve.specs.Faults.{slots_fault, no_host_fault, libraries_fault, source_fault}
+use Rattle.ps_resolve.specs.Faults.{sources_fault}
+use Rattle.ps_resolve.specs.Added.{RoundsOutcome, added_fault, all_unit_references, empty_slots}
+use Rattle.ps_resolve.specs.Added.{requested_from, rounds, rounds_in, rounds_of, segments}
 use Rattle.ps_resolve.specs.AllFaults.{reading_fault, reading_rest}
-use Rattle.ps_resolve.specs.Readings.{HostFiles, all_read, host_reading_fault, own_reading_fault, opened_host, read_requests, read_rounds, read_segment, read_segments, fault_of_added, queued_request, slot_after, slot_fault, slot_reading, slot_request, wanted_request}
+use Rattle.ps_resolve.specs.Readings.{HostFiles, all_read, host_reading_fault, own_reading_fault}
+use Rattle.ps_resolve.specs.Readings.{opened_host, read_requests, read_rounds, read_segment}
+use Rattle.ps_resolve.specs.Readings.{read_segments, fault_of_added, queued_request, slot_after}
+use Rattle.ps_resolve.specs.Readings.{slot_fault, slot_reading, slot_request, wanted_request}
 use Rattle.ps_resolve.specs.declared.reading.request.Request.{Request}
 use Rattle.ps_resolve.specs.Views.{is_in_slot, segments_in_slots}
 use Rattle.ps_resolve.proofs.FirstSlots.{neither_first, neither_second}
@@ -24,34 +32,46 @@ use Rattle.ps_resolve.proofs.ReadingLibraries.{all_opened}
 
 module _ (order : Order) (host : List ℕ) (libs : List (List ℕ)) where
   -- where no source has a fault, the segments that were read are all own ones
-  read_from : (xs : List ℕ) → first_of (source_fault order host libs) xs ≡ None → filter_map (read_segment order host libs) xs ≡ filter_map (own_segment order host libs) xs
+  read_from : (xs : List ℕ) → first_of (source_fault order host libs) xs ≡ None
+      → filter_map (read_segment order host libs) xs
+      ≡ filter_map (own_segment order host libs) xs
   read_from [] h = refl
   read_from (x ∷ xs) h =
-      let fine : source_fault order host libs x ≡ None = neither_first _ (first_of (source_fault order host libs) xs) h in
+      let fine : source_fault order host libs x ≡ None =
+      neither_first _ (first_of (source_fault order host libs) xs) h in
       let here : read_segment order host libs x ≡ own_segment order host libs x = rw fine refl in
       let rest = read_from xs (neither_second (source_fault order host libs x) _ h) in
-      ap (λ (o : Option Segment). cons_option o (filter_map (read_segment order host libs) xs)) here ∙ ap (cons_option (own_segment order host libs x)) rest
+      ap (λ (o : Option Segment). cons_option o (filter_map (read_segment order host libs) xs))
+      here ∙ ap (cons_option (own_segment order host libs x)) rest
 
-  pub read_are : sources_fault order host libs ≡ None → read_segments order host libs ≡ own_segments order host libs
+  pub read_are : sources_fault order host libs ≡ None
+      → read_segments order host libs ≡ own_segments order host libs
   unfolding sources_fault read_segments own_segments
   read_are h = read_from slots h
 
-  pub rounds_are : sources_fault order host libs ≡ None → read_rounds order host libs ≡ rounds order host libs
+  pub rounds_are : sources_fault order host libs ≡ None
+      → read_rounds order host libs ≡ rounds order host libs
   unfolding read_rounds rounds
   rounds_are h = ap (rounds_of order host libs) (read_are h)
 
   -- all that were read are the segments of the link
-  pub all_are : sources_fault order host libs ≡ None → all_read order host libs ≡ segments order host libs
+  pub all_are : sources_fault order host libs ≡ None
+      → all_read order host libs ≡ segments order host libs
   unfolding all_read
   all_are h =
-      ap (λ (own : List Segment). segments_in_slots order host own (read_rounds order host libs).added) (read_are h)
-      ∙ (ap (λ (r : RoundsOutcome). segments_in_slots order host (own_segments order host libs) r.added) (rounds_are h) ∙ in_slots_are order host libs)
+      ap (λ (own : List Segment). segments_in_slots order host own
+      (read_rounds order host libs).added) (read_are h)
+      ∙ (ap (λ (r : RoundsOutcome). segments_in_slots order host
+      (own_segments order host libs) r.added) (rounds_are h) ∙ in_slots_are order host libs)
 
   -- the first fault of their sources and of the units that are added
-  sources_then : option_or (sources_fault order host libs) (read_rounds order host libs).fault ≡ reading_rest order host libs
+  sources_then : option_or (sources_fault order host libs) (read_rounds order host libs).fault
+      ≡ reading_rest order host libs
   sources_then = by (sources_fault order host libs) refl
     where
-      by : (o : Option Fault) → sources_fault order host libs ≡ o → option_or (sources_fault order host libs) (read_rounds order host libs).fault ≡ reading_rest order host libs
+      by : (o : Option Fault) → sources_fault order host libs ≡ o
+          → option_or (sources_fault order host libs) (read_rounds order host libs).fault
+          ≡ reading_rest order host libs
       by (Some fault) e = rw e refl
       by None e = rw e (ap (λ (r : RoundsOutcome). r.fault) (rounds_are e))
 
@@ -61,23 +81,31 @@ module _ (order : Order) (host : List ℕ) (libs : List (List ℕ)) where
   libraries_are h = all_opened order libs 1 h
 
   abbrev sources_rest : List (List ℕ) → Option Fault
-  sources_rest files = option_or (sources_fault order host files) (read_rounds order host files).fault
+  sources_rest files = option_or (sources_fault order host files)
+      (read_rounds order host files).fault
 
   -- the first fault of a host and its libraries, as it is defined step by step
   pub reading_is : host_reading_fault order host libs ≡ rest_of order host libs
   unfolding host_reading_fault
-  reading_is = ap (λ (o : Option Fault). option_or (slots_fault order host) (option_or (no_host_fault order host) o)) (by (libraries_fault order libs) refl)
+  reading_is = ap (λ (o : Option Fault). option_or (slots_fault order host)
+      (option_or (no_host_fault order host) o)) (by (libraries_fault order libs) refl)
     where
-      by : (o : Option Fault) → libraries_fault order libs ≡ o → option_or (libraries_fault order libs) (sources_rest (opened_files order libs)) ≡ option_or (libraries_fault order libs) (reading_rest order host libs)
+      by : (o : Option Fault) → libraries_fault order libs ≡ o
+          → option_or (libraries_fault order libs) (sources_rest (opened_files order libs))
+          ≡ option_or (libraries_fault order libs) (reading_rest order host libs)
       by (Some fault) e = rw e refl
       by None e = rw e (ap sources_rest (libraries_are e) ∙ sources_then order host libs)
 
   -- where there is none, the segments that were read are those of the link
-  pub segments_are : host_reading_fault order host libs ≡ None → all_read order host (opened_files order libs) ≡ segments order host libs
+  pub segments_are : host_reading_fault order host libs ≡ None
+      → all_read order host (opened_files order libs) ≡ segments order host libs
   segments_are h =
-      let behind = neither_second (no_host_fault order host) _ (neither_second (slots_fault order host) _ (sym reading_is ∙ h)) in
-      let opened = libraries_are (neither_first (libraries_fault order libs) (reading_rest order host libs) behind) in
-      let fine = neither_first (sources_fault order host libs) (added_fault order host libs) (neither_second (libraries_fault order libs) (reading_rest order host libs) behind) in
+      let behind = neither_second (no_host_fault order host) _
+      (neither_second (slots_fault order host) _ (sym reading_is ∙ h)) in
+      let opened = libraries_are (neither_first (libraries_fault order libs)
+      (reading_rest order host libs) behind) in
+      let fine = neither_first (sources_fault order host libs) (added_fault order host libs)
+      (neither_second (libraries_fault order libs) (reading_rest order host libs) behind) in
       ap (all_read order host) opened ∙ all_are order host libs fine
 
   -- what is read of the slots, by the words of the definitions
@@ -85,77 +113,120 @@ module _ (order : Order) (host : List ℕ) (libs : List (List ℕ)) where
   files = opened_files order libs
 
   -- the fault of the own slots is the first, and else that of the units that are added
-  pub units_last : (own last : Option Fault) → own ≡ own_reading_fault order host libs → last ≡ (read_rounds order host files).fault → option_or own last ≡ host_reading_fault order host libs
+  pub units_last : (own last : Option Fault) → own ≡ own_reading_fault order host libs
+      → last ≡ (read_rounds order host files).fault
+      → option_or own last ≡ host_reading_fault order host libs
   unfolding own_reading_fault host_reading_fault
   units_last own last is ends =
       ap (λ (o : Option Fault). option_or o last) is
-      ∙ (ap (option_or (option_or (option_or (slots_fault order host) (option_or (no_host_fault order host) (libraries_fault order libs))) (sources_fault order host files))) ends
-      ∙ in_turn (slots_fault order host) (no_host_fault order host) (libraries_fault order libs) (sources_fault order host files) (read_rounds order host files).fault)
+      ∙
+      (ap (option_or (option_or (option_or (slots_fault order host)
+      (option_or (no_host_fault order host) (libraries_fault order libs)))
+      (sources_fault order host files))) ends
+      ∙ in_turn (slots_fault order host) (no_host_fault order host) (libraries_fault order libs)
+      (sources_fault order host files) (read_rounds order host files).fault)
     where
-      in_turn : (a b c d e : Option Fault) → option_or (option_or (option_or a (option_or b c)) d) e ≡ option_or a (option_or b (option_or c (option_or d e)))
+      in_turn : (a b c d e : Option Fault)
+          → option_or (option_or (option_or a (option_or b c)) d) e
+          ≡ option_or a (option_or b (option_or c (option_or d e)))
       in_turn (Some fault) b c d e = refl
       in_turn None (Some fault) c d e = refl
       in_turn None None (Some fault) d e = refl
       in_turn None None None d e = refl
 
   pub own_is : (of_files sources own : Option Fault) → own ≡ option_or of_files sources
-      → of_files ≡ option_or (slots_fault order host) (option_or (no_host_fault order host) (libraries_fault order libs)) → sources ≡ sources_fault order host files → own ≡ own_reading_fault order host libs
+      → of_files ≡ option_or (slots_fault order host)
+      (option_or (no_host_fault order host) (libraries_fault order libs))
+      → sources ≡ sources_fault order host files
+      → own ≡ own_reading_fault order host libs
   unfolding own_reading_fault
-  own_is of_files sources own is first second = is ∙ (ap (λ (o : Option Fault). option_or o sources) first ∙ ap (option_or (option_or (slots_fault order host) (option_or (no_host_fault order host) (libraries_fault order libs)))) second)
+  own_is of_files sources own is first second =
+      is ∙ (ap (λ (o : Option Fault). option_or o sources) first
+      ∙ ap (option_or (option_or (slots_fault order host)
+      (option_or (no_host_fault order host) (libraries_fault order libs)))) second)
 
-  pub first_own : (fault : Fault) → own_reading_fault order host libs ≡ Some fault → host_reading_fault order host libs ≡ Some fault
+  pub first_own : (fault : Fault) → own_reading_fault order host libs ≡ Some fault
+      → host_reading_fault order host libs ≡ Some fault
   first_own fault h =
-      sym (units_last (own_reading_fault order host libs) (read_rounds order host files).fault refl refl)
+      sym (units_last (own_reading_fault order host libs)
+      (read_rounds order host files).fault refl refl)
       ∙ ap (λ (o : Option Fault). option_or o (read_rounds order host files).fault) h
 
   module _ (own : List Segment) (is : own ≡ read_segments order host files) where
-    pub in_rounds : (empty : List ℕ) → empty ≡ empty_slots order host → rounds_in order host files own empty ≡ read_rounds order host files
+    pub in_rounds : (empty : List ℕ) → empty ≡ empty_slots order host
+        → rounds_in order host files own empty ≡ read_rounds order host files
     unfolding read_rounds
-    in_rounds empty left = ap (rounds_in order host files own) left ∙ ap (λ (segs : List Segment). rounds_in order host files segs (empty_slots order host)) is
+    in_rounds empty left = ap (rounds_in order host files own) left
+        ∙ ap (λ (segs : List Segment). rounds_in order host files segs (empty_slots order host))
+        is
 
     module _ (added : List Segment) (with : added ≡ (read_rounds order host files).added) where
       pub all_of : segments_in_slots order host own added ≡ all_read order host files
       unfolding all_read
-      all_of = ap (segments_in_slots order host own) with ∙ ap (λ (segs : List Segment). segments_in_slots order host segs (read_rounds order host files).added) is
+      all_of = ap (segments_in_slots order host own) with
+          ∙ ap (λ (segs : List Segment). segments_in_slots order host segs
+          (read_rounds order host files).added) is
 
-      pub requests_of : take 10 (requested_from (units_of own) [] (all_unit_references (own ++ added))) ≡ read_requests order host files
+      pub requests_of : take 10 (requested_from (units_of own) []
+          (all_unit_references (own ++ added))) ≡ read_requests order host files
       unfolding read_requests
       requests_of =
-          ap (λ (segs : List Segment). take 10 (requested_from (units_of own) [] (all_unit_references (own ++ segs)))) with
-          ∙ ap (λ (segs : List Segment). take 10 (requested_from (units_of segs) [] (all_unit_references (segs ++ (read_rounds order host files).added)))) is
+          ap (λ (segs : List Segment). take 10
+          (requested_from (units_of own) [] (all_unit_references (own ++ segs)))) with
+          ∙ ap (λ (segs : List Segment). take 10
+          (requested_from (units_of segs) []
+          (all_unit_references (segs ++ (read_rounds order host files).added)))) is
 
 -- a host that is opened or refused
-pub host_err : (host : List ℕ) (libs : List (List ℕ)) (why : Reason) → opened_host host libs ≡ Err why → opened_alone host ≡ Err why
+pub host_err : (host : List ℕ) (libs : List (List ℕ)) (why : Reason)
+    → opened_host host libs ≡ Err why → opened_alone host ≡ Err why
 host_err host libs why h = by (opened_alone host) refl
   where
-    by : (r : Result OpenedFile Reason) → opened_alone host ≡ r → opened_alone host ≡ Err why
+    by : (r : Result OpenedFile Reason) → opened_alone host ≡ r
+        → opened_alone host ≡ Err why
     by (Err other) e = let t = rw (e, opened_host) at h in e ∙ cc
     by (Ok o) e = let t = rw (e, opened_host) at h in cc
 
-pub host_ok : (host : List ℕ) (libs : List (List ℕ)) (v : HostFiles) → opened_host host libs ≡ Ok v → (opened_alone host ≡ Ok (record { order = v.order; file = v.file })) × (v.libs ≡ libs)
+pub host_ok : (host : List ℕ) (libs : List (List ℕ)) (v : HostFiles)
+    → opened_host host libs ≡ Ok v
+    → (opened_alone host ≡ Ok (record { order = v.order; file = v.file })) × (v.libs ≡ libs)
 host_ok host libs v h = by (opened_alone host) refl
   where
-    by : (r : Result OpenedFile Reason) → opened_alone host ≡ r → (opened_alone host ≡ Ok (record { order = v.order; file = v.file })) × (v.libs ≡ libs)
+    by : (r : Result OpenedFile Reason) → opened_alone host ≡ r
+        → (opened_alone host ≡ Ok (record { order = v.order; file = v.file }))
+        × (v.libs ≡ libs)
     by (Err why) e = let t = rw (e, opened_host) at h in cc
     by (Ok o) e =
-        let t : ◌≡◌ {A = Result HostFiles Reason} (Ok (record { order = o.order; file = o.file; libs = libs })) (Ok v) = rw (e, opened_host) at h in
-        let is : record { order = o.order; file = o.file; libs = libs } ≡ v = cc in
-        (e ∙ ap (λ (x : HostFiles). Ok (record { order = x.order; file = x.file })) is, sym (ap (λ (x : HostFiles). x.libs) is))
+        let t : ◌≡◌ {A = Result HostFiles Reason}
+        (Ok (record { order = o.order; file = o.file; libs = libs })) (Ok v) =
+        rw (e, opened_host) at h in
+        let is : record { order = o.order; file = o.file; libs = libs } ≡ v = cc in (
+          e ∙ ap (λ (x : HostFiles). Ok (record { order = x.order; file = x.file })) is,
+          sym (ap (λ (x : HostFiles). x.libs) is),
+        )
 
 -- so its first fault is that of the reading of its files
-pub fault_of_host : (host : List ℕ) (libs : List (List ℕ)) (v : HostFiles) → opened_host host libs ≡ Ok v → host_reading_fault v.order v.file v.libs ≡ reading_fault host libs
+pub fault_of_host : (host : List ℕ) (libs : List (List ℕ)) (v : HostFiles)
+    → opened_host host libs ≡ Ok v → host_reading_fault v.order v.file v.libs
+    ≡ reading_fault host libs
 fault_of_host host libs v h =
     let t = host_ok host libs v h in
-    ap (host_reading_fault v.order v.file) t.1 ∙ (reading_is v.order v.file libs ∙ sym (host_read host libs (record { order = v.order; file = v.file }) t.0))
+    ap (host_reading_fault v.order v.file) t.1
+    ∙ (reading_is v.order v.file libs
+    ∙ sym (host_read host libs (record { order = v.order; file = v.file }) t.0))
 
-pub fault_of_none : (host : List ℕ) (libs : List (List ℕ)) (why : Reason) → opened_host host libs ≡ Err why → reading_fault host libs ≡ Some (in_file 0 why)
+pub fault_of_none : (host : List ℕ) (libs : List (List ℕ)) (why : Reason)
+    → opened_host host libs ≡ Err why → reading_fault host libs ≡ Some (in_file 0 why)
 fault_of_none host libs why h = host_refused host libs why (host_err host libs why h)
 
 -- and it is the host file, in its own order
-pub host_of_files : (host : List ℕ) (libs : List (List ℕ)) (v : HostFiles) → opened_host host libs ≡ Ok v → v ≡ record { order = order_of host; file = host; libs = libs }
+pub host_of_files : (host : List ℕ) (libs : List (List ℕ)) (v : HostFiles)
+    → opened_host host libs ≡ Ok v → v
+    ≡ record { order = order_of host; file = host; libs = libs }
 host_of_files host libs v h =
     let t = host_ok host libs v h in
-    ap (λ (o : OpenedFile). record { order = o.order; file = o.file; libs = v.libs }) (host_is host (record { order = v.order; file = v.file }) t.0)
+    ap (λ (o : OpenedFile). record { order = o.order; file = o.file; libs = v.libs })
+    (host_is host (record { order = v.order; file = v.file }) t.0)
     ∙ ap (λ (xs : List (List ℕ)). record { order = order_of host; file = host; libs = xs }) t.1
 
 -- what is read of a slot
@@ -163,33 +234,56 @@ module _ (order : Order) (host : List ℕ) (files : List (List ℕ)) (slot : ℕ
   abbrev added : RoundsOutcome
   added = read_rounds order host files
 
-  pub refused_by : (fault : Fault) → source_fault order host files slot ≡ Some fault → slot_fault order host files slot ≡ Some fault
+  pub refused_by : (fault : Fault) → source_fault order host files slot ≡ Some fault
+      → slot_fault order host files slot ≡ Some fault
   refused_by fault e = rw e refl
 
   module _ (fine : source_fault order host files slot ≡ None) where
-    at_next : slot_fault order host files slot ≡ fault_of_added added (empty_slots order host) slot
+    at_next : slot_fault order host files slot
+        ≡ fault_of_added added (empty_slots order host) slot
     at_next = rw fine refl
 
-    pub next_by : (next : ℕ) → slot_after added (empty_slots order host) ≡ Some next → next ≡ slot → slot_fault order host files slot ≡ added.fault
-    next_by next e same = at_next ∙ (ap (λ (o : Option ℕ). if option_map_or (λ (n : ℕ). n == slot) o false then added.fault else None) e ∙ ap (λ (b : Bool). if b then added.fault else None) (eq-eqb next slot same))
+    pub next_by : (next : ℕ) → slot_after added (empty_slots order host) ≡ Some next
+        → next ≡ slot → slot_fault order host files slot ≡ added.fault
+    next_by next e same =
+        at_next ∙ (ap (λ (o : Option ℕ). if option_map_or (λ (n : ℕ). n == slot) o false
+        then added.fault else None) e ∙ ap (λ (b : Bool). if b then added.fault else None)
+        (eq-eqb next slot same))
 
-    pub other_by : (next : ℕ) → slot_after added (empty_slots order host) ≡ Some next → next ≢ slot → slot_fault order host files slot ≡ None
-    other_by next e differs = at_next ∙ (ap (λ (o : Option ℕ). if option_map_or (λ (n : ℕ). n == slot) o false then added.fault else None) e ∙ ap (λ (b : Bool). if b then added.fault else None) (ne_eqb next slot differs))
+    pub other_by : (next : ℕ) → slot_after added (empty_slots order host) ≡ Some next
+        → next ≢ slot → slot_fault order host files slot ≡ None
+    other_by next e differs = at_next ∙
+        (ap (λ (o : Option ℕ). if option_map_or (λ (n : ℕ). n == slot) o false
+        then added.fault else None) e ∙ ap (λ (b : Bool). if b then added.fault else None)
+        (ne_eqb next slot differs))
 
-    pub none_by : slot_after added (empty_slots order host) ≡ None → slot_fault order host files slot ≡ None
-    none_by e = at_next ∙ ap (λ (o : Option ℕ). if option_map_or (λ (n : ℕ). n == slot) o false then added.fault else None) e
+    pub none_by : slot_after added (empty_slots order host) ≡ None
+        → slot_fault order host files slot ≡ None
+    none_by e = at_next ∙ ap (λ (o : Option ℕ). if option_map_or
+        (λ (n : ℕ). n == slot) o false then added.fault else None) e
 
-  pub reading_by : (segs : List Segment) (o : Option Segment) → slot_fault order host files slot ≡ None → segs ≡ all_read order host files → o ≡ find (is_in_slot slot) segs → slot_reading order host files slot ≡ option_map Ok o
+  pub reading_by : (segs : List Segment) (o : Option Segment)
+      → slot_fault order host files slot ≡ None → segs ≡ all_read order host files
+      → o ≡ find (is_in_slot slot) segs
+      → slot_reading order host files slot ≡ option_map Ok o
   reading_by segs o fine all found =
-      ap (λ (f : Option Fault). elim f [ Some fault ↦ Some (Err fault) | None ↦ option_map Ok (find (is_in_slot slot) (all_read order host files)) ]) fine
+      ap (λ (f : Option Fault). elim f [
+        | Some fault ↦ Some (Err fault)
+        | None ↦ option_map Ok (find (is_in_slot slot) (all_read order host files))
+      ]) fine
       ∙ ap (option_map (λ (s : Segment). Ok s)) (sym (found ∙ ap (find (is_in_slot slot)) all))
 
   -- the request of a slot
   abbrev own : Option Request
-  own = option_and_then (wanted_request order host slot) (result_ok (role_of (entry_at order host slot)))
+  own = option_and_then (wanted_request order host slot)
+      (result_ok (role_of (entry_at order host slot)))
 
-  pub request_of_slot : (r : Request) → own ≡ Some r → slot_request order host files slot ≡ Some r
-  request_of_slot r e = ap (λ (o : Option Request). option_or o (queued_request (read_requests order host files) (empty_slots order host) slot)) e
+  pub request_of_slot : (r : Request) → own ≡ Some r
+      → slot_request order host files slot ≡ Some r
+  request_of_slot r e = ap (λ (o : Option Request). option_or o
+      (queued_request (read_requests order host files) (empty_slots order host) slot)) e
 
-  pub request_by : own ≡ None → slot_request order host files slot ≡ queued_request (read_requests order host files) (empty_slots order host) slot
-  request_by e = ap (λ (o : Option Request). option_or o (queued_request (read_requests order host files) (empty_slots order host) slot)) e
+  pub request_by : own ≡ None → slot_request order host files slot
+      ≡ queued_request (read_requests order host files) (empty_slots order host) slot
+  request_by e = ap (λ (o : Option Request). option_or o
+      (queued_request (read_requests order host files) (empty_slots order host) slot)) e

@@ -1,5 +1,8 @@
 -- The segments of a link, slot by slot.
-use Rattle.std.proofs.Common.{◌≡◌, ℕ, ◌+◌, ◌-◌, ◌<◌, ◌≤◌, List, [], ◌∷◌, ◌++◌, append_assoc, length, length-append, map, Option, Some, None, Result, Ok, ◌⊎◌, inl, inr, ⊎_elim, refl, sym, ◌∙◌, ap, subst, arith}
+use Rattle.std.proofs.Common.{◌≡◌, ℕ, ◌+◌, ◌-◌, ◌<◌, ◌≤◌, List, []}
+use Rattle.std.proofs.Common.{◌∷◌, ◌++◌, append_assoc, length, length-append, map, Option}
+use Rattle.std.proofs.Common.{Some, None, Result, Ok, ◌⊎◌, inl, inr, ⊎_elim, refl, sym}
+use Rattle.std.proofs.Common.{◌∙◌, ap, subst, arith}
 use Rattle.std.specs.List.{range_with_len, filter_map}
 use Rattle.std.specs.Prelude.{All}
 use Rattle.std.specs.Option.{option_map, option_and_then, option_to_list, IfSome}
@@ -19,37 +22,56 @@ use Rattle.ps_resolve.proofs.FirstSlots.{range_more}
 abbrev pub IsOwn : Role → Type 0
 IsOwn r = (r ≡ role.Plain) ⊎ ((r ≡ role.Host) ⊎ (r ≡ role.Unit))
 
-own_each : (P : Role → Type 0) → P role.Plain → P role.Host → P role.Unit → (r : Role) → IsOwn r → P r
-own_each P plain host unit r is = ⊎_elim (λ e. subst P (sym e) plain) (λ rest. ⊎_elim (λ e. subst P (sym e) host) (λ e. subst P (sym e) unit) rest) is
+own_each : (P : Role → Type 0) → P role.Plain → P role.Host → P role.Unit → (r : Role)
+    → IsOwn r → P r
+own_each P plain host unit r is = ⊎_elim (λ e. subst P (sym e) plain)
+    (λ rest. ⊎_elim (λ e. subst P (sym e) host) (λ e. subst P (sym e) unit) rest) is
 
 pub is_own_host : IsOwn role.Host
 is_own_host = inr (inl refl)
 
 abbrev segment_as : Order → List ℕ → List (List ℕ) → ℕ → Role → Option Segment
-segment_as order host libs slot r = option_and_then (segment_from order host libs slot (entry_at order host slot).name r) (source_of order host libs slot r)
+segment_as order host libs slot r = option_and_then
+    (segment_from order host libs slot (entry_at order host slot).name r)
+    (source_of order host libs slot r)
 
 -- the fault of a slot of role Plain, Host or Unit is that of the code of the entry of the host
 -- there
-pub own_fault : (order : Order) (host : List ℕ) (libs : List (List ℕ)) (slot : ℕ) (r : Role) → role_of (entry_at order host slot) ≡ Ok r → IsOwn r → source_fault order host libs slot ≡ code_fault order host libs slot r (0, slot)
+pub own_fault : (order : Order) (host : List ℕ) (libs : List (List ℕ)) (slot : ℕ) (r : Role)
+    → role_of (entry_at order host slot) ≡ Ok r → IsOwn r
+    → source_fault order host libs slot ≡ code_fault order host libs slot r (0, slot)
 own_fault order host libs slot r of is =
-    ap (λ (q : Result Role Reason). option_and_then (role_fault order host libs slot) (result_ok q)) of
-    ∙ own_each (λ (r : Role). role_fault order host libs slot r ≡ code_fault order host libs slot r (0, slot)) refl refl refl r is
+    ap (λ (q : Result Role Reason). option_and_then (role_fault order host libs slot)
+    (result_ok q)) of
+    ∙ own_each (λ (r : Role). role_fault order host libs slot r
+    ≡ code_fault order host libs slot r (0, slot)) refl refl refl r is
 
 -- the own segment of a slot of role Plain, Host or Unit is read from the entry of the host there
-pub read_from_host : (order : Order) (host : List ℕ) (libs : List (List ℕ)) (slot : ℕ) (r : Role) → role_of (entry_at order host slot) ≡ Ok r → IsOwn r → own_segment order host libs slot ≡ segment_from order host libs slot (entry_at order host slot).name r (0, slot)
+pub read_from_host : (order : Order) (host : List ℕ) (libs : List (List ℕ)) (slot : ℕ)
+    (r : Role) → role_of (entry_at order host slot) ≡ Ok r → IsOwn r
+    → own_segment order host libs slot
+    ≡ segment_from order host libs slot (entry_at order host slot).name r (0, slot)
 read_from_host order host libs slot r of is =
-    ap (λ (q : Result Role Reason). option_and_then (segment_as order host libs slot) (result_ok q)) of
-    ∙ own_each (λ (r : Role). segment_as order host libs slot r ≡ segment_from order host libs slot (entry_at order host slot).name r (0, slot)) refl refl refl r is
+    ap (λ (q : Result Role Reason). option_and_then (segment_as order host libs slot)
+    (result_ok q)) of
+    ∙ own_each (λ (r : Role). segment_as order host libs slot r
+    ≡ segment_from order host libs slot (entry_at order host slot).name r (0, slot)) refl refl
+    refl r is
 
 -- what is kept of the numbers from i on is that of i and what is kept after it
-pub kept_more : {Y : Type 0} (h : ℕ → Option Y) (i n : ℕ) → i < n → filter_map h (range_with_len i (n - i)) ≡ option_to_list (h i) ++ filter_map h (range_with_len (i + 1) (n - (i + 1)))
-kept_more {Y = Y} h i n lt = ap (λ (xs : List ℕ). filter_map h xs) (range_more i n lt) ∙ at (h i) refl
+pub kept_more : {Y : Type 0} (h : ℕ → Option Y) (i n : ℕ) → i < n
+    → filter_map h (range_with_len i (n - i))
+    ≡ option_to_list (h i) ++ filter_map h (range_with_len (i + 1) (n - (i + 1)))
+kept_more {Y = Y} h i n lt = ap (λ (xs : List ℕ). filter_map h xs) (range_more i n lt)
+    ∙ at (h i) refl
   where
-    at : (o : Option Y) → h i ≡ o → filter_map h (i ∷ range_with_len (i + 1) (n - (i + 1))) ≡ option_to_list (h i) ++ filter_map h (range_with_len (i + 1) (n - (i + 1)))
+    at : (o : Option Y) → h i ≡ o → filter_map h (i ∷ range_with_len (i + 1) (n - (i + 1)))
+        ≡ option_to_list (h i) ++ filter_map h (range_with_len (i + 1) (n - (i + 1)))
     at None e = rw e
     at (Some y) e = rw e
 
-pub mapped_one : {X Y : Type 0} (f : X → Y) (o : Option X) → map f (option_to_list o) ≡ option_to_list (option_map f o)
+pub mapped_one : {X Y : Type 0} (f : X → Y) (o : Option X)
+    → map f (option_to_list o) ≡ option_to_list (option_map f o)
 mapped_one f None = refl
 mapped_one f (Some x) = refl
 
@@ -58,19 +80,26 @@ at_most_one None = omega arith
 at_most_one (Some x) = omega arith
 
 -- one segment more
-pub all_with : {X : Type 0} (P : X → Type 0) (xs : List X) (o : Option X) → All P xs → IfSome o P → All P (xs ++ option_to_list o)
+pub all_with : {X : Type 0} (P : X → Type 0) (xs : List X) (o : Option X) → All P xs
+    → IfSome o P → All P (xs ++ option_to_list o)
 all_with P xs None all h = All-append P xs [] all (All-nil P)
 all_with P xs (Some x) all h = All-append P xs (x ∷ []) all (All-cons P x [] h (All-nil P))
 
 -- those so far and those left are the same in all, when the one of number i, if there is one, joins
 -- those so far
-pub kept_on : {X Y : Type 0} (f : X → Y) (h : ℕ → Option Y) (xs : List X) (o : Option X) (i n : ℕ) → i < n → option_map f o ≡ h i
-    → map f xs ++ filter_map h (range_with_len i (n - i)) ≡ map f (xs ++ option_to_list o) ++ filter_map h (range_with_len (i + 1) (n - (i + 1)))
+pub kept_on : {X Y : Type 0} (f : X → Y) (h : ℕ → Option Y) (xs : List X) (o : Option X)
+    (i n : ℕ) → i < n → option_map f o ≡ h i
+    → map f xs ++ filter_map h (range_with_len i (n - i))
+    ≡ map f (xs ++ option_to_list o) ++ filter_map h (range_with_len (i + 1) (n - (i + 1)))
 kept_on {X} {Y} f h xs o i n lt is =
     let rest = filter_map h (range_with_len (i + 1) (n - (i + 1))) in
-    let one : option_to_list (h i) ≡ map f (option_to_list o) = ap (λ (y : Option Y). option_to_list y) (sym is) ∙ sym (mapped_one f o) in
-    ap (λ (ys : List Y). map f xs ++ ys) (kept_more h i n lt ∙ ap (λ (ys : List Y). ys ++ rest) one)
-    ∙ (sym (append_assoc (map f xs) (map f (option_to_list o)) rest) ∙ ap (λ (ys : List Y). ys ++ rest) (sym (map-append f xs (option_to_list o))))
+    let one : option_to_list (h i) ≡ map f (option_to_list o) =
+    ap (λ (y : Option Y). option_to_list y) (sym is) ∙ sym (mapped_one f o) in
+    ap (λ (ys : List Y). map f xs ++ ys)
+    (kept_more h i n lt ∙ ap (λ (ys : List Y). ys ++ rest) one)
+    ∙ (sym (append_assoc (map f xs) (map f (option_to_list o)) rest)
+    ∙ ap (λ (ys : List Y). ys ++ rest) (sym (map-append f xs (option_to_list o))))
 
-pub few_more : {X : Type 0} (xs : List X) (o : Option X) (n : ℕ) → length xs ≤ n → length (xs ++ option_to_list o) ≤ n + 1
+pub few_more : {X : Type 0} (xs : List X) (o : Option X) (n : ℕ) → length xs ≤ n
+    → length (xs ++ option_to_list o) ≤ n + 1
 few_more xs o n h = omega (arith, length-append xs (option_to_list o), at_most_one o)

@@ -1,5 +1,8 @@
 -- Names that are already known: requesting them again does not change the queue.
-use Rattle.std.proofs.Common.{◌≡◌, ◌∙◌, ℕ, ◌+◌, ◌≤◌, ◌++◌, List, [], ◌∷◌, length, length-append, append_assoc, append-nil, map, take, drop, get_or, ◌<◌, Bool, true, false, if◌then◌else◌, inl, inr, ⊎_elim, refl, sym, ap, subst, arith}
+use Rattle.std.proofs.Common.{◌≡◌, ◌∙◌, ℕ, ◌+◌, ◌≤◌, ◌++◌, List, []}
+use Rattle.std.proofs.Common.{◌∷◌, length, length-append, append_assoc, append-nil, map, take}
+use Rattle.std.proofs.Common.{drop, get_or, ◌<◌, Bool, true, false, if◌then◌else◌, inl}
+use Rattle.std.proofs.Common.{inr, ⊎_elim, refl, sym, ap, subst, arith}
 use Rattle.std.specs.Prelude.{All, ◌||◌, is_some}
 use Rattle.std.specs.List.{list_any}
 use Rattle.std.specs.Map.{lookup}
@@ -11,7 +14,8 @@ use Rattle.std.proofs.lemmas.List.Folds.{list_any-append}
 use Rattle.std.proofs.lemmas.Slice.Eq.{bytes_eq-Decides}
 use Rattle.ps_linkinfo.specs.RecordCounts.{is_unit_reference}
 use Rattle.ps_linkinfo.specs.declared.record.LinkRecord.{LinkRecord as Record}
-use Rattle.ps_resolve.specs.Added.{is_already_known, requested_from, unit_references, all_unit_references, IsAlreadyKnown, AreAlreadyKnown}
+use Rattle.ps_resolve.specs.Added.{is_already_known, requested_from, unit_references}
+use Rattle.ps_resolve.specs.Added.{all_unit_references, IsAlreadyKnown, AreAlreadyKnown}
 use Rattle.ps_resolve.specs.Views.{SegmentView, segment_of}
 use Rattle.ps_resolve.specs.declared.reading.added.UnitReference.{UnitReference}
 use Rattle.ps_resolve.proofs.Adding.{few_kept, kept_segment, queue_prefix}
@@ -20,38 +24,57 @@ use Rattle.ps_resolve.proofs.Sharing.{all_taken}
 
 module _ (units : List (List ℕ × ℕ)) where
   -- what is known stays so
-  pub known_longer : (queue more : List UnitReference) (name : List ℕ) → is_already_known units queue name ≡ true → is_already_known units (queue ++ more) name ≡ true
+  pub known_longer : (queue more : List UnitReference) (name : List ℕ)
+      → is_already_known units queue name ≡ true
+      → is_already_known units (queue ++ more) name ≡ true
   known_longer queue more name h =
       let test : UnitReference → Bool = λ g. bytes_eq g.name name in
       elim (or_cases (is_some (lookup (bytes_eq name) units)) (list_any test queue) h) [
         | inl e ↦ or_left (is_some (lookup (bytes_eq name) units)) _ e
-        | inr e ↦ or_right _ (list_any test (queue ++ more)) (list_any-append test queue more ∙ or_left (list_any test queue) _ e)
+        | inr e ↦ or_right _ (list_any test (queue ++ more))
+            (list_any-append test queue more ∙ or_left (list_any test queue) _ e)
       ]
 
-  pub known_last : (queue : List UnitReference) (g : UnitReference) → is_already_known units (queue ++ g ∷ []) g.name ≡ true
+  pub known_last : (queue : List UnitReference) (g : UnitReference)
+      → is_already_known units (queue ++ g ∷ []) g.name ≡ true
   known_last queue g =
       let test : UnitReference → Bool = λ h. bytes_eq h.name g.name in
       let itself : test g ≡ true = (bytes_eq-Decides g.name g.name).1 refl in
-      let last = list_any-append test queue (g ∷ []) ∙ or_right (list_any test queue) (test g || false) (or_left (test g) false itself) in
+      let last = list_any-append test queue (g ∷ [])
+      ∙ or_right (list_any test queue) (test g || false) (or_left (test g) false itself) in
       or_right (is_some (lookup (bytes_eq g.name) units)) (list_any test (queue ++ g ∷ [])) last
 
   -- a queue grows at its end
-  pub grown : (queue gs : List UnitReference) → (more : List UnitReference) × (requested_from units queue gs ≡ queue ++ more)
+  pub grown : (queue gs : List UnitReference)
+      → (more : List UnitReference) × (requested_from units queue gs ≡ queue ++ more)
   grown queue [] = ([], sym (append-nil queue))
   grown queue (g ∷ gs) = by (λ r. grown r gs) (is_already_known units queue g.name) refl
     where
-      by : ((r : List UnitReference) → (more : List UnitReference) × (requested_from units r gs ≡ r ++ more)) → (b : Bool) → is_already_known units queue g.name ≡ b → (more : List UnitReference) × (requested_from units queue (g ∷ gs) ≡ queue ++ more)
+      by : ((r : List UnitReference) → (more : List UnitReference)
+          × (requested_from units r gs ≡ r ++ more)) → (b : Bool)
+          → is_already_known units queue g.name ≡ b
+          → (more : List UnitReference)
+          × (requested_from units queue (g ∷ gs) ≡ queue ++ more)
       by rest true e = let r = rest queue in (r.0, rw e r.1)
-      by rest false e = let r = rest (queue ++ g ∷ []) in (g ∷ r.0, rw e (r.1 ∙ append_assoc queue (g ∷ []) r.0))
+      by rest false e = let r = rest (queue ++ g ∷ []) in
+          (g ∷ r.0, rw e (r.1 ∙ append_assoc queue (g ∷ []) r.0))
 
-  known_behind : (queue gs : List UnitReference) (name : List ℕ) → is_already_known units queue name ≡ true → is_already_known units (requested_from units queue gs) name ≡ true
+  known_behind : (queue gs : List UnitReference) (name : List ℕ)
+      → is_already_known units queue name ≡ true
+      → is_already_known units (requested_from units queue gs) name ≡ true
   known_behind queue gs name h = let g = grown queue gs in rw g.1 (known_longer queue g.0 name h)
 
-  enqueue_known : (queue : List UnitReference) (g : UnitReference) (gs : List UnitReference) → is_already_known units queue g.name ≡ true → requested_from units queue (g ∷ gs) ≡ requested_from units queue gs
-  enqueue_known queue g gs e = ap (λ (b : Bool). requested_from units (if b then queue else queue ++ g ∷ []) gs) e
+  enqueue_known : (queue : List UnitReference) (g : UnitReference) (gs : List UnitReference)
+      → is_already_known units queue g.name ≡ true
+      → requested_from units queue (g ∷ gs) ≡ requested_from units queue gs
+  enqueue_known queue g gs e =
+      ap (λ (b : Bool). requested_from units (if b then queue else queue ++ g ∷ []) gs) e
 
-  enqueue_new : (queue : List UnitReference) (g : UnitReference) (gs : List UnitReference) → is_already_known units queue g.name ≡ false → requested_from units queue (g ∷ gs) ≡ requested_from units (queue ++ g ∷ []) gs
-  enqueue_new queue g gs e = ap (λ (b : Bool). requested_from units (if b then queue else queue ++ g ∷ []) gs) e
+  enqueue_new : (queue : List UnitReference) (g : UnitReference) (gs : List UnitReference)
+      → is_already_known units queue g.name ≡ false
+      → requested_from units queue (g ∷ gs) ≡ requested_from units (queue ++ g ∷ []) gs
+  enqueue_new queue g gs e =
+      ap (λ (b : Bool). requested_from units (if b then queue else queue ++ g ∷ []) gs) e
 
   module _ (file slot n : ℕ) (r : Record) (rs : List Record) where
     abbrev asked : UnitReference
@@ -60,16 +83,21 @@ module _ (units : List (List ℕ × ℕ)) where
     abbrev behind : List UnitReference
     behind = unit_references file slot (n + 1) rs
 
-    first_asks : is_unit_reference r.body ≡ true → unit_references file slot n (r ∷ rs) ≡ asked ∷ behind
+    first_asks : is_unit_reference r.body ≡ true
+        → unit_references file slot n (r ∷ rs) ≡ asked ∷ behind
     first_asks e = ap (λ (b : Bool). if b then asked ∷ behind else behind) e
 
-    first_is_none : is_unit_reference r.body ≡ false → unit_references file slot n (r ∷ rs) ≡ behind
+    first_is_none : is_unit_reference r.body ≡ false
+        → unit_references file slot n (r ∷ rs) ≡ behind
     first_is_none e = ap (λ (b : Bool). if b then asked ∷ behind else behind) e
 
   -- all names that records request are known after them
-  all_known : (file slot n : ℕ) (rs : List Record) (queue : List UnitReference) → All (IsAlreadyKnown units (requested_from units queue (unit_references file slot n rs))) rs
+  all_known : (file slot n : ℕ) (rs : List Record) (queue : List UnitReference)
+      → All (IsAlreadyKnown units (requested_from units queue (unit_references file slot n rs)))
+      rs
   all_known file slot n [] queue = All-nil (IsAlreadyKnown units queue)
-  all_known file slot n (r ∷ rs) queue = by (λ q. all_known file slot (n + 1) rs q) (is_unit_reference r.body) refl
+  all_known file slot n (r ∷ rs) queue =
+      by (λ q. all_known file slot (n + 1) rs q) (is_unit_reference r.body) refl
     where
       gs : List UnitReference
       gs = unit_references file slot (n + 1) rs
@@ -80,72 +108,126 @@ module _ (units : List (List ℕ × ℕ)) where
       Known : List UnitReference → Type 0
       Known q = All (IsAlreadyKnown units q) (r ∷ rs)
 
-      seen : ((q : List UnitReference) → All (IsAlreadyKnown units (requested_from units q gs)) rs) → (b : Bool) → is_already_known units queue r.name ≡ b → Known (requested_from units queue (g ∷ gs))
-      seen rest true e = subst Known (sym (enqueue_known queue g gs e)) (All-cons (IsAlreadyKnown units (requested_from units queue gs)) r rs (λ _. known_behind queue gs r.name e) (rest queue))
-      seen rest false e = subst Known (sym (enqueue_new queue g gs e)) (All-cons (IsAlreadyKnown units (requested_from units (queue ++ g ∷ []) gs)) r rs (λ _. known_behind (queue ++ g ∷ []) gs r.name (known_last queue g)) (rest (queue ++ g ∷ [])))
+      seen : ((q : List UnitReference) → All
+          (IsAlreadyKnown units (requested_from units q gs)) rs) → (b : Bool)
+          → is_already_known units queue r.name ≡ b
+          → Known (requested_from units queue (g ∷ gs))
+      seen rest true e = subst Known (sym (enqueue_known queue g gs e))
+          (All-cons (IsAlreadyKnown units (requested_from units queue gs)) r rs
+          (λ _. known_behind queue gs r.name e) (rest queue))
+      seen rest false e = subst Known (sym (enqueue_new queue g gs e))
+          (All-cons (IsAlreadyKnown units (requested_from units (queue ++ g ∷ []) gs)) r rs
+          (λ _. known_behind (queue ++ g ∷ []) gs r.name (known_last queue g))
+          (rest (queue ++ g ∷ [])))
 
-      by : ((q : List UnitReference) → All (IsAlreadyKnown units (requested_from units q gs)) rs) → (b : Bool) → is_unit_reference r.body ≡ b → Known (requested_from units queue (unit_references file slot n (r ∷ rs)))
-      by rest true e = subst (λ (q : List UnitReference). Known (requested_from units queue q)) (sym (first_asks file slot n r rs e)) (seen rest (is_already_known units queue r.name) refl)
-      by rest false e = subst (λ (q : List UnitReference). Known (requested_from units queue q)) (sym (first_is_none file slot n r rs e))
-          (All-cons (IsAlreadyKnown units (requested_from units queue gs)) r rs (λ h. let no : true ≡ false = sym h ∙ e in cc) (rest queue))
+      by : ((q : List UnitReference) → All (IsAlreadyKnown units (requested_from units q gs)) rs)
+          → (b : Bool) → is_unit_reference r.body ≡ b
+          → Known (requested_from units queue (unit_references file slot n (r ∷ rs)))
+      by rest true e = subst (λ (q : List UnitReference). Known (requested_from units queue q))
+          (sym (first_asks file slot n r rs e))
+          (seen rest (is_already_known units queue r.name) refl)
+      by rest false e = subst (λ (q : List UnitReference). Known (requested_from units queue q))
+          (sym (first_is_none file slot n r rs e))
+          (All-cons (IsAlreadyKnown units (requested_from units queue gs)) r rs
+          (λ h. let no : true ≡ false = sym h ∙ e in cc) (rest queue))
 
   -- what is kept of a queue is full, or the whole queue
-  of_kept : (whole : List UnitReference) (rs : List Record) → All (IsAlreadyKnown units whole) rs → AreAlreadyKnown units (take 10 whole) rs
+  of_kept : (whole : List UnitReference) (rs : List Record) → All (IsAlreadyKnown units whole) rs
+      → AreAlreadyKnown units (take 10 whole) rs
   of_kept whole rs h = ⊎_elim
-      (λ short. inr (subst (λ (q : List UnitReference). All (IsAlreadyKnown units q) rs) (sym (take_all 10 whole (omega (arith, short)))) h))
+      (λ short. inr (subst (λ (q : List UnitReference). All (IsAlreadyKnown units q) rs)
+      (sym (take_all 10 whole (omega (arith, short)))) h))
       (λ long. inl (let n = length-take-le 10 whole long in omega (arith, n)))
       (cases_lt (length whole) 10)
 
   -- the names that a segment requests are known after it
-  pub known_here : (file slot : ℕ) (rs : List Record) (queue now : List UnitReference) → now ≡ take 10 (requested_from units queue (unit_references file slot 0 rs)) → AreAlreadyKnown units now rs
-  known_here file slot rs queue now is = subst (λ (q : List UnitReference). AreAlreadyKnown units q rs) (sym is) (of_kept (requested_from units queue (unit_references file slot 0 rs)) rs (all_known file slot 0 rs queue))
+  pub known_here : (file slot : ℕ) (rs : List Record) (queue now : List UnitReference)
+      → now ≡ take 10 (requested_from units queue (unit_references file slot 0 rs))
+      → AreAlreadyKnown units now rs
+  known_here file slot rs queue now is =
+      subst (λ (q : List UnitReference). AreAlreadyKnown units q rs) (sym is)
+      (of_kept (requested_from units queue (unit_references file slot 0 rs)) rs
+      (all_known file slot 0 rs queue))
 
-  more_known : (queue gs : List UnitReference) (rs : List Record) → All (IsAlreadyKnown units queue) rs → All (IsAlreadyKnown units (requested_from units queue gs)) rs
+  more_known : (queue gs : List UnitReference) (rs : List Record)
+      → All (IsAlreadyKnown units queue) rs
+      → All (IsAlreadyKnown units (requested_from units queue gs)) rs
   more_known queue gs [] h = All-nil (IsAlreadyKnown units (requested_from units queue gs))
-  more_known queue gs (r ∷ rs) h = All-cons (IsAlreadyKnown units (requested_from units queue gs)) r rs (λ asks. known_behind queue gs r.name (All-head (IsAlreadyKnown units queue) r rs h asks)) (more_known queue gs rs (All-tail (IsAlreadyKnown units queue) r rs h))
+  more_known queue gs (r ∷ rs) h = All-cons
+      (IsAlreadyKnown units (requested_from units queue gs)) r rs
+      (λ asks. known_behind queue gs r.name (All-head (IsAlreadyKnown units queue) r rs h asks))
+      (more_known queue gs rs (All-tail (IsAlreadyKnown units queue) r rs h))
 
   -- and after any names more
-  pub still_known : (queue gs now : List UnitReference) (rs : List Record) → now ≡ take 10 (requested_from units queue gs) → AreAlreadyKnown units queue rs → AreAlreadyKnown units now rs
+  pub still_known : (queue gs now : List UnitReference) (rs : List Record)
+      → now ≡ take 10 (requested_from units queue gs) → AreAlreadyKnown units queue rs
+      → AreAlreadyKnown units now rs
   still_known queue gs now rs is (inl full) =
       subst (λ (q : List UnitReference). AreAlreadyKnown units q rs) (sym is)
-      (inl (let g = grown queue gs in let long : 10 ≤ length (requested_from units queue gs) = omega (arith, full, ap length g.1, length-append queue g.0) in let n = length-take-le 10 (requested_from units queue gs) long in omega (arith, n)))
-  still_known queue gs now rs is (inr h) = subst (λ (q : List UnitReference). AreAlreadyKnown units q rs) (sym is) (of_kept (requested_from units queue gs) rs (more_known queue gs rs h))
+      (inl (let g = grown queue gs in let long : 10 ≤ length (requested_from units queue gs) =
+      omega (arith, full, ap length g.1, length-append queue g.0) in let n =
+      length-take-le 10 (requested_from units queue gs) long in omega (arith, n)))
+  still_known queue gs now rs is (inr h) =
+      subst (λ (q : List UnitReference). AreAlreadyKnown units q rs) (sym is)
+      (of_kept (requested_from units queue gs) rs (more_known queue gs rs h))
 
-  same_queue : (file slot n : ℕ) (queue : List UnitReference) (rs : List Record) → All (IsAlreadyKnown units queue) rs → requested_from units queue (unit_references file slot n rs) ≡ queue
+  same_queue : (file slot n : ℕ) (queue : List UnitReference) (rs : List Record)
+      → All (IsAlreadyKnown units queue) rs
+      → requested_from units queue (unit_references file slot n rs) ≡ queue
   same_queue file slot n queue [] h = refl
-  same_queue file slot n queue (r ∷ rs) h = by (same_queue file slot (n + 1) queue rs (All-tail (IsAlreadyKnown units queue) r rs h)) (is_unit_reference r.body) refl
+  same_queue file slot n queue (r ∷ rs) h =
+      by (same_queue file slot (n + 1) queue rs (All-tail (IsAlreadyKnown units queue) r rs h))
+      (is_unit_reference r.body) refl
     where
-      by : requested_from units queue (unit_references file slot (n + 1) rs) ≡ queue → (b : Bool) → is_unit_reference r.body ≡ b → requested_from units queue (unit_references file slot n (r ∷ rs)) ≡ queue
+      by : requested_from units queue (unit_references file slot (n + 1) rs) ≡ queue
+          → (b : Bool) → is_unit_reference r.body ≡ b
+          → requested_from units queue (unit_references file slot n (r ∷ rs)) ≡ queue
       by rest true e =
           ap (requested_from units queue) (first_asks file slot n r rs e)
-          ∙ (enqueue_known queue (record { name = r.name; file = file; slot = slot; rec = n }) (unit_references file slot (n + 1) rs) (All-head (IsAlreadyKnown units queue) r rs h e) ∙ rest)
+          ∙ (enqueue_known queue (record { name = r.name; file = file; slot = slot; rec = n })
+          (unit_references file slot (n + 1) rs)
+          (All-head (IsAlreadyKnown units queue) r rs h e) ∙ rest)
       by rest false e = ap (requested_from units queue) (first_is_none file slot n r rs e) ∙ rest
 
   -- names that are known change no queue
-  pub nothing_new : (file slot : ℕ) (queue : List UnitReference) (rs : List Record) → length queue ≤ 10 → AreAlreadyKnown units queue rs → queue ≡ take 10 (requested_from units queue (unit_references file slot 0 rs))
-  nothing_new file slot queue rs few (inl full) = sym (queue_prefix units 10 queue (unit_references file slot 0 rs) full ∙ take_all 10 queue few)
-  nothing_new file slot queue rs few (inr h) = sym (ap (take 10) (same_queue file slot 0 queue rs h) ∙ take_all 10 queue few)
+  pub nothing_new : (file slot : ℕ) (queue : List UnitReference) (rs : List Record)
+      → length queue ≤ 10 → AreAlreadyKnown units queue rs
+      → queue ≡ take 10 (requested_from units queue (unit_references file slot 0 rs))
+  nothing_new file slot queue rs few (inl full) =
+      sym (queue_prefix units 10 queue (unit_references file slot 0 rs) full
+      ∙ take_all 10 queue few)
+  nothing_new file slot queue rs few (inr h) =
+      sym (ap (take 10) (same_queue file slot 0 queue rs h) ∙ take_all 10 queue few)
 
--- The queue after the first i of these segments: with what the others request it is that of all, and
+-- The queue after the first i of these segments: with what the others request it is that of all,
+-- and
 -- what these request is known.
-pub record HaveRequested (units : List (List ℕ × ℕ)) (own : List SegmentView) (i : ℕ) (queue : List UnitReference) : Type 0 where
-  pub whole : take 10 (requested_from units queue (all_unit_references (map segment_of (drop i own)))) ≡ take 10 (requested_from units [] (all_unit_references (map segment_of own)))
+pub record HaveRequested (units : List (List ℕ × ℕ)) (own : List SegmentView) (i : ℕ)
+    (queue : List UnitReference) : Type 0 where
+  pub whole : take 10 (requested_from units queue
+      (all_unit_references (map segment_of (drop i own))))
+      ≡ take 10 (requested_from units [] (all_unit_references (map segment_of own)))
   pub few : length queue ≤ 10
   pub known : All (λ s. AreAlreadyKnown units queue s.records) (take i own)
 
 -- one segment more
-pub requested_more : (units : List (List ℕ × ℕ)) (own : List SegmentView) (i : ℕ) (v : SegmentView) (queue now : List UnitReference) → i < length own → v ≡ get_or own i v
-    → now ≡ take 10 (requested_from units queue (unit_references v.file v.slot 0 v.records)) → HaveRequested units own i queue → HaveRequested units own (i + 1) now
+pub requested_more : (units : List (List ℕ × ℕ)) (own : List SegmentView) (i : ℕ)
+    (v : SegmentView) (queue now : List UnitReference) → i < length own → v ≡ get_or own i v
+    → now ≡ take 10 (requested_from units queue (unit_references v.file v.slot 0 v.records))
+    → HaveRequested units own i queue → HaveRequested units own (i + 1) now
 requested_more units own i v queue now lt there is so_far =
     let one = unit_references v.file v.slot 0 v.records in
     let rest = all_unit_references (map segment_of (drop (i + 1) own)) in
     let all = all_unit_references (map segment_of (drop i own)) in
-    let split : all ≡ one ++ rest = ap (λ (xs : List SegmentView). all_unit_references (map segment_of xs)) (drop_at own i v lt there) in
+    let split : all ≡ one ++ rest = ap
+    (λ (xs : List SegmentView). all_unit_references (map segment_of xs))
+    (drop_at own i v lt there) in
     record {
       whole = kept_segment units queue now one rest all split is ∙ so_far.whole;
       few = rw is (few_kept (requested_from units queue one));
       known = all_taken (λ (q : SegmentView). AreAlreadyKnown units now q.records) i own v lt there
-          (All-weaker (λ (q : SegmentView). AreAlreadyKnown units queue q.records) (λ (q : SegmentView). AreAlreadyKnown units now q.records)
+          (All-weaker (λ (q : SegmentView). AreAlreadyKnown units queue q.records)
+          (λ (q : SegmentView). AreAlreadyKnown units now q.records)
           (λ q h. still_known units queue one now q.records is h) (take i own) so_far.known)
           (known_here units v.file v.slot v.records queue now is);
     }

@@ -1,7 +1,8 @@
 -- What of the records of a link a fault is about: the earlier reference that covers a place, and
 -- the words of the privates before a record.
 -- Source: this project's profile.
-use Rattle.std.specs.Prelude.{ℕ, ◌+◌, ◌==◌, ◌&&◌, if◌then◌else◌, List, [], length, take, sum_by, nat_lt, Bool, false, Option}
+use Rattle.std.specs.Prelude.{ℕ, ◌+◌, ◌==◌, ◌&&◌, if◌then◌else◌, List, []}
+use Rattle.std.specs.Prelude.{length, take, sum_by, nat_lt, Bool, false, Option}
 use Rattle.std.specs.List.{find, range_with_len}
 use Rattle.std.specs.Option.{option_map, option_map_or}
 use Rattle.ps_linkinfo.specs.Operands.{operand_of}
@@ -20,7 +21,8 @@ share_a_byte a b = nat_lt a.place (b.place + b.width) && nat_lt b.place (a.place
 
 -- the operand of this reference of a record has a byte of the operand
 abbrev pub covers : Operand → Body → ℕ → Bool
-covers operand body reference = option_map_or (share_a_byte operand) (operand_of body reference) false
+covers operand body reference = option_map_or (share_a_byte operand)
+    (operand_of body reference) false
 
 -- the first reference of a record, of its first n, that does
 abbrev pub first_covering : Operand → ℕ → Body → Option ℕ
@@ -28,20 +30,24 @@ first_covering operand n body = find (covers operand body) (range_with_len 0 n)
 
 -- of a record with this index so many references are before this place
 abbrev pub references_before : ReferencePlace → ℕ × Record → ℕ
-references_before place r = if nat_lt r.0 place.rec then length (refs_of r.1.body) else (if r.0 == place.rec then place.reference else 0)
+references_before place r = if nat_lt r.0 place.rec then length (refs_of r.1.body)
+    else (if r.0 == place.rec then place.reference else 0)
 
 -- that reference, as a place
 abbrev pub covering_in : ReferencePlace → Operand → ℕ × Record → Option ReferencePlace
-covering_in place operand r = option_map (λ k. record { rec = r.0; reference = k }) (first_covering operand (references_before place r) r.1.body)
+covering_in place operand r = option_map (λ k. record { rec = r.0; reference = k })
+    (first_covering operand (references_before place r) r.1.body)
 
 -- the first reference, by record and then in the record's list, that is before this place and whose
 -- operand has a byte of the operand
-abbrev pub first_before : ReferencePlace → Operand → List (ℕ × Record) → Option ReferencePlace
+abbrev pub first_before : ReferencePlace → Operand → List (ℕ × Record)
+    → Option ReferencePlace
 first_before place operand rs = first_of (covering_in place operand) rs
 
 -- those records of a segment that are before record `rec` of this slot
 abbrev pub records_before : ℕ → ℕ → Segment → List Record
-records_before slot rec s = if nat_lt s.slot slot then s.records else (if s.slot == slot then take rec s.records else [])
+records_before slot rec s = if nat_lt s.slot slot then s.records
+    else (if s.slot == slot then take rec s.records else [])
 
 -- how many words the privates of all those records take
 abbrev pub words_before : ℕ → ℕ → List Segment → ℕ

@@ -1,6 +1,7 @@
 -- Edits of a segment: why they are not found, and which edit may be beside those of the references.
 -- Source: this project's profile.
-use Rattle.std.specs.Prelude.{◌≡◌, ℕ, ◌+◌, ◌-◌, ◌≤◌, List, length, Bool, true, false, Option, Some, None, ⊤}
+use Rattle.std.specs.Prelude.{◌≡◌, ℕ, ◌+◌, ◌-◌, ◌≤◌, List, length, Bool, true}
+use Rattle.std.specs.Prelude.{false, Option, Some, None, ⊤}
 use Rattle.std.specs.Option.{option_map}
 use Rattle.ps_words.specs.Edits.{IsStorable, covers, place_of, width}
 use Rattle.ps_words.specs.declared.order.Order.{Order}
@@ -20,12 +21,15 @@ use Rattle.ps_resolve.specs.declared.references.Target.{Target}
 
 -- why there is no operand at x, where these are taken
 abbrev pub reason_in : ProcedureTables → List (ℕ × ℕ) → Target → ℕ → Option Reason
-reason_in tables taken target x = reference_reason (is_reserved tables.order tables.code) tables.code taken target x
+reason_in tables taken target x = reference_reason
+    (is_reserved tables.order tables.code) tables.code taken target x
 
 -- the first fault of the references of a record that is there, where these operands are taken
-abbrev pub refs_fault_at : RecordPlace → ProcedureTables → Target → List (ℕ × ℕ) → List ℕ → Option Fault
+abbrev pub refs_fault_at : RecordPlace → ProcedureTables → Target → List (ℕ × ℕ)
+    → List ℕ → Option Fault
 refs_fault_at place tables target taken refs =
-    option_map (λ f. in_reference place.file place.slot place.rec f.0 f.1) (refs_fault (is_reserved tables.order tables.code) tables.code target 0 taken refs)
+    option_map (λ f. in_reference place.file place.slot place.rec f.0 f.1)
+    (refs_fault (is_reserved tables.order tables.code) tables.code target 0 taken refs)
 
 -- no segment from this one on has a fault of its references, or this is the first, or memory ran
 -- out

@@ -1,6 +1,7 @@
 -- What is known of the segments of a link, once the files were read without a fault.
 -- Source: this project's profile.
-use Rattle.std.specs.Prelude.{◌≡◌, ℕ, ◌+◌, ◌≤◌, List, [], ◌∷◌, length, map, true, Some, Result, All, ⊤}
+use Rattle.std.specs.Prelude.{◌≡◌, ℕ, ◌+◌, ◌≤◌, List, [], ◌∷◌, length, map}
+use Rattle.std.specs.Prelude.{true, Some, Result, All, ⊤}
 use Rattle.ps_words.specs.declared.order.Order.{Order}
 use Rattle.ps_words.specs.declared.edit.Edit.{Edit}
 use Rattle.ps_words.specs.declared.fault.Reason.{Reason}
@@ -42,7 +43,8 @@ pub record IsHost (order : Order) (h : HostSegment) : Type 0 where
 
 -- The segments of a link, by slot: each sound, one of them the host's, those that share link
 -- information alike; and the names of the slots of the linked file.
-pub record AreSegments (order : Order) (host : List ℕ) (names : List (List ℕ)) (host_segment : HostSegment) (ss : List SegmentView) : Type 0 where
+pub record AreSegments (order : Order) (host : List ℕ) (names : List (List ℕ))
+    (host_segment : HostSegment) (ss : List SegmentView) : Type 0 where
   pub sound : All (IsSound order) ss
   pub found : host_of (map segment_of ss) ≡ Some (segment_of host_segment.segment.now)
   pub own : IsHost order host_segment
@@ -64,15 +66,18 @@ pub record ReadSegments : Type 0 where
 
 -- Segments whose privates were allotted from `base` on, and that what stores the host's data size,
 -- `size`, suits.
-pub record AreLinkable (order : Order) (size : Edit) (base : ℕ) (ss : List SegmentView) : Type 0 where
-  pub sound : All (IsSound order) ss
-  pub room : base + all_words (map owner_of (map segment_of ss)) ≤ MAX_WORD
-  pub table : All (λ s. is_host s.role ≡ true → IsOfTable order s.code size) (map segment_of ss)
-  pub alike : AreAlike ss
+pub record AreLinkable (order : Order) (size : Edit) (base : ℕ) (ss : List SegmentView) : Type 0
+  where
+    pub sound : All (IsSound order) ss
+    pub room : base + all_words (map owner_of (map segment_of ss)) ≤ MAX_WORD
+    pub table : All (λ s. is_host s.role ≡ true → IsOfTable order s.code size)
+        (map segment_of ss)
+    pub alike : AreAlike ss
 
 -- such a segment after earlier ones, of whose names it is known what they stand for, with the
 -- offset of the first of its privates
-pub record IsNext (order : Order) (known : Known) (size : Edit) (earlier : List SegmentView) (s : SegmentView) (free : ℕ) : Type 0 where
+pub record IsNext (order : Order) (known : Known) (size : Edit) (earlier : List SegmentView)
+    (s : SegmentView) (free : ℕ) : Type 0 where
   pub sound : IsSound order s
   pub room : free + private_words s.records ≤ MAX_WORD
   pub table : is_host s.role ≡ true → IsOfTable order s.code size

@@ -2,7 +2,8 @@
 -- code.
 -- Source: this project's profile; the data size of the outer block that grows by the private words
 -- is that of the published II.0 Linker source.
-use Rattle.std.specs.Prelude.{ℕ, ◌+◌, ◌-◌, ◌*◌, if◌then◌else◌, List, [], ◌∷◌, ◌++◌, length}
+use Rattle.std.specs.Prelude.{ℕ, ◌+◌, ◌-◌, ◌*◌, if◌then◌else◌, List, []}
+use Rattle.std.specs.Prelude.{◌∷◌, ◌++◌, length}
 use Rattle.std.specs.Option.{option_map_or}
 use Rattle.ps_words.specs.Words.{word_at}
 use Rattle.ps_words.specs.Edits.{patched_byte}
@@ -31,16 +32,19 @@ grown_data_size order code words table = word_at order code (data_place table) +
 
 -- the grown data size of the outer block of a code, which a host's has
 abbrev pub data_size_of : Order → ℕ → List ℕ → ℕ
-data_size_of order words code = option_map_or (grown_data_size order code words) (table_of order code 1) 0
+data_size_of order words code = option_map_or (grown_data_size order code words)
+    (table_of order code 1) 0
 
 -- that of the host's segment
 abbrev pub data_size : Order → List Segment → ℕ
-data_size order segs = option_map_or (λ s. data_size_of order (total_words segs) s.code) (host_of segs) 0
+data_size order segs = option_map_or (λ s. data_size_of order (total_words segs) s.code)
+    (host_of segs) 0
 
 -- the edit of the data size in the code of the host segment, grown by the private words
 abbrev pub data_edits : Order → ℕ → List ℕ → List Edit
 data_edits order words code =
-    option_map_or (λ t. Word (grown_data_size order code words t) (data_place t) ∷ []) (table_of order code 1) []
+    option_map_or (λ t. Word (grown_data_size order code words t) (data_place t) ∷ [])
+    (table_of order code 1) []
 
 -- All edits of a segment, where so many private words are allotted in all and the first of its own
 -- privates has the offset `free`:
@@ -52,7 +56,9 @@ data_edits order words code =
 abbrev pub segment_edits : Order → Known → ℕ → ℕ → Segment → List Edit
 segment_edits order known words free s =
     if needs_linking s.role
-    then Byte s.slot (length s.code - 2) ∷ ((if is_host s.role then data_edits order words s.code else []) ++ records_edits known s.code free s.records)
+    then Byte s.slot (length s.code - 2)
+    ∷ ((if is_host s.role then data_edits order words s.code else [])
+    ++ records_edits known s.code free s.records)
     else []
 
 -- a segment with its edits
@@ -64,11 +70,13 @@ pub record Edited : Type 0 where
 abbrev pub edited_from : Order → Known → ℕ → ℕ → List Segment → List Edited
 edited_from order known words free [] = []
 edited_from order known words free (s ∷ ss) =
-    record { segment = s; edits = segment_edits order known words free s } ∷ edited_from order known words (free + private_words s.records) ss
+    record { segment = s; edits = segment_edits order known words free s }
+    ∷ edited_from order known words (free + private_words s.records) ss
 
 -- the segments of a link, each with its edits
 abbrev pub edited_segments : Order → List Segment → List Edited
-edited_segments order segs = edited_from order (known_of segs) (total_words segs) (next_of (host_records segs)) segs
+edited_segments order segs = edited_from order (known_of segs) (total_words segs)
+    (next_of (host_records segs)) segs
 
 -- the byte at place p of the segment in the linked file: what its edit there stores, and its
 -- input's byte where it has none there

@@ -15,10 +15,14 @@ use Rattle.ps_resolve.specs.Readings.{slot_reading}
 -- variables take no room
 abbrev pub placing_fault : Order → Segment → Option Fault
 placing_fault order s =
-    if is_unit s.role then option_or (unallotted_fault s.file s.slot lone_base s.records) (segment_fault order each_name lone_base s) else None
+    if is_unit s.role then option_or (unallotted_fault s.file s.slot lone_base s.records)
+    (segment_fault order each_name lone_base s) else None
 
 -- the first fault of the segment in a slot by itself: of its code, tables and records, and then of
 -- its privates and references
 abbrev pub lone_fault : Order → List ℕ → List (List ℕ) → ℕ → Option Fault
 lone_fault order host files slot =
-    option_and_then (λ read. elim read [ Err fault ↦ Some fault | Ok s ↦ placing_fault order s ]) (slot_reading order host files slot)
+    option_and_then (λ read. elim read [
+      | Err fault ↦ Some fault
+      | Ok s ↦ placing_fault order s
+    ]) (slot_reading order host files slot)

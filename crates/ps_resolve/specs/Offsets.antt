@@ -1,13 +1,16 @@
 -- The privates of an allotment: that each begins where the words of all before it end, that they
 -- are by slot and then by record, and the offset of one of them.
 -- Source: this project's profile.
-use Rattle.std.specs.Prelude.{◌≡◌, ℕ, ◌+◌, ◌<◌, ◌==◌, ◌&&◌, ◌||◌, List, [], ◌∷◌, length, take, sum_by, slice_index_or, find, nat_le, nat_lt, Bool, true, Option, ⊤}
+use Rattle.std.specs.Prelude.{◌≡◌, ℕ, ◌+◌, ◌<◌, ◌==◌, ◌&&◌, ◌||◌, List}
+use Rattle.std.specs.Prelude.{[], ◌∷◌, length, take, sum_by, slice_index_or, find, nat_le}
+use Rattle.std.specs.Prelude.{nat_lt, Bool, true, Option, ⊤}
 use Rattle.std.specs.Option.{option_map}
 use Rattle.ps_resolve.specs.declared.allotment.Private.{Private}
 
 -- each private begins where the words of all before it end
 abbrev pub FollowOn : ℕ → List Private → Type 0
-FollowOn next ps = (k : ℕ) (d : Private) → k < length ps → (slice_index_or ps k d).offset ≡ next + sum_by (λ p. p.words) (take k ps)
+FollowOn next ps = (k : ℕ) (d : Private) → k < length ps
+    → (slice_index_or ps k d).offset ≡ next + sum_by (λ p. p.words) (take k ps)
 
 -- the private is of this record of this slot, or of a later one
 abbrev pub is_from : ℕ → ℕ → Private → Bool

@@ -1,6 +1,7 @@
 -- Operands that references name, and the first fault of them.
 -- Source: this project's profile; BIG operands are those of the UCSD Pascal II.0 manual.
-use Rattle.std.specs.Prelude.{ℕ, ◌+◌, ◌&&◌, List, [], ◌∷◌, ◌++◌, length, map, Bool, nat_le, nat_lt, Option, None}
+use Rattle.std.specs.Prelude.{ℕ, ◌+◌, ◌&&◌, List, [], ◌∷◌, ◌++◌, length, map}
+use Rattle.std.specs.Prelude.{Bool, nat_le, nat_lt, Option, None}
 use Rattle.std.specs.List.{range_with_len, list_any}
 use Rattle.std.specs.Option.{option_map, option_or}
 use Rattle.ps_words.specs.Words.{displacement_at}
@@ -33,7 +34,8 @@ abbrev pub is_in : ℕ → ℕ × ℕ → Bool
 is_in p operand = nat_le operand.0 p && nat_lt p (operand.0 + operand.1)
 
 -- why there is no operand at x, where `taken` are the operands of the references before
-abbrev pub reference_reason : (ℕ → Bool) → List ℕ → List (ℕ × ℕ) → Target → ℕ → Option Reason
+abbrev pub reference_reason : (ℕ → Bool) → List ℕ → List (ℕ × ℕ) → Target → ℕ
+    → Option Reason
 reference_reason reserved code taken target x =
     let places = range_with_len x (width_of target) in
     option_or (fault_if (nat_lt (length code) (x + width_of target)) reason.OutsideCode)
@@ -46,7 +48,8 @@ abbrev pub operands : Target → List ℕ → List (ℕ × ℕ)
 operands target refs = map (λ x. (x, width_of target)) refs
 
 -- the first fault of the references, the first of which has number i
-abbrev pub refs_fault : (ℕ → Bool) → List ℕ → Target → ℕ → List (ℕ × ℕ) → List ℕ → Option (ℕ × Reason)
+abbrev pub refs_fault : (ℕ → Bool) → List ℕ → Target → ℕ → List (ℕ × ℕ)
+    → List ℕ → Option (ℕ × Reason)
 refs_fault reserved code target i taken [] = None
 refs_fault reserved code target i taken (x ∷ xs) =
     option_or (option_map (λ why. (i, why)) (reference_reason reserved code taken target x))

@@ -1,6 +1,7 @@
 -- A plan of a link: where the code of each segment comes from, and the edits that link it.
 -- Source: this project's profile.
-use Rattle.std.specs.Prelude.{◌≡◌, ℕ, ◌+◌, ◌<◌, List, [], ◌∷◌, length, map, Bool, IsPermutation, ⊤, Some, None}
+use Rattle.std.specs.Prelude.{◌≡◌, ℕ, ◌+◌, ◌<◌, List, [], ◌∷◌, length, map}
+use Rattle.std.specs.Prelude.{Bool, IsPermutation, ⊤, Some, None}
 use Rattle.ps_words.specs.Edits.{AreEdits, patched_byte}
 use Rattle.ps_words.specs.declared.order.Order.{Order}
 use Rattle.ps_words.specs.declared.edit.Edit.{Edit}
@@ -31,11 +32,25 @@ pub record Origin : Type 0 where
 
 -- the origin of a plan's source
 abbrev pub origin_of_source : Source → Origin
-origin_of_source s = record { slot = s.slot; file = s.file; index = s.index; linked = s.linked; added = s.added; code = s.code.now }
+origin_of_source s = record {
+  slot = s.slot;
+  file = s.file;
+  index = s.index;
+  linked = s.linked;
+  added = s.added;
+  code = s.code.now;
+}
 
 -- the origin of a segment of a link
 abbrev pub origin_of : Segment → Origin
-origin_of s = record { slot = s.slot; file = s.file; index = s.index; linked = needs_linking s.role; added = s.added; code = s.code }
+origin_of s = record {
+  slot = s.slot;
+  file = s.file;
+  index = s.index;
+  linked = needs_linking s.role;
+  added = s.added;
+  code = s.code;
+}
 
 -- what a plan holds; the names are those of all slots, by slot, and the edits are in the order of
 -- the sources
@@ -56,7 +71,8 @@ pub record Planned : Type 0 where
 pub record LinksSegment (order : Order) (e : Edited) (edits : List Edit) : Type 0 where
   pub ready : AreEdits (length e.segment.code) edits
   pub each : IsPermutation e.edits edits
-  pub bytes : (p : ℕ) → p < length e.segment.code → patched_byte order e.segment.code edits p ≡ linked_byte order e p
+  pub bytes : (p : ℕ) → p < length e.segment.code
+      → patched_byte order e.segment.code edits p ≡ linked_byte order e p
 
 -- each list of edits links its segment, and there are as many lists as segments
 abbrev pub LinkSegments : Order → List Edited → List (List Edit) → Type 0
@@ -66,7 +82,8 @@ LinkSegments order [] (d ∷ ds) = ⊥
 LinkSegments order (e ∷ es) [] = ⊥
 
 -- the plan is that of a link of these segments, of which the host file has this content
-pub record IsPlanOf (host_order : Order) (host : List ℕ) (segs : List Segment) (plan : Planned) : Type 0 where
+pub record IsPlanOf (host_order : Order) (host : List ℕ) (segs : List Segment)
+    (plan : Planned) : Type 0 where
   pub order : plan.order ≡ host_order
   pub of_host : plan.host ≡ host
   pub names : plan.names ≡ slot_names host segs

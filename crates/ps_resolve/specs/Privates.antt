@@ -2,7 +2,8 @@
 -- before it, and the first that cannot be.
 -- Source: the end mark's base offset is that of the published II.0 Linker source; the order of
 -- allotment is this project's profile.
-use Rattle.std.specs.Prelude.{map, ℕ, ◌+◌, if◌then◌else◌, List, [], ◌∷◌, ◌++◌, nat_lt, Option, Some, None}
+use Rattle.std.specs.Prelude.{map, ℕ, ◌+◌, if◌then◌else◌, List, [], ◌∷◌, ◌++◌}
+use Rattle.std.specs.Prelude.{nat_lt, Option, Some, None}
 use Rattle.std.specs.List.{list_any}
 use Rattle.std.specs.Str.{bytes_eq}
 use Rattle.std.specs.Option.{option_map, option_or}
@@ -14,7 +15,8 @@ use Rattle.ps_words.specs.declared.fault.Reason.TheVariants as reason
 use Rattle.ps_words.specs.declared.fault.Fault.{Fault}
 use Rattle.ps_words.specs.FaultPlaces.{in_record}
 use Rattle.ps_linkinfo.specs.declared.record.Body.{Body}
-use Rattle.ps_linkinfo.specs.declared.record.Body.TheVariants.{UnitRef, PublRef, PrivRef, PublDef, ConstDef, Eof}
+use Rattle.ps_linkinfo.specs.declared.record.Body.TheVariants.{UnitRef, PublRef, PrivRef, PublDef}
+use Rattle.ps_linkinfo.specs.declared.record.Body.TheVariants.{ConstDef, Eof}
 use Rattle.ps_linkinfo.specs.declared.record.LinkRecord.{LinkRecord as Record}
 use Rattle.ps_resolve.specs.declared.allotment.Private.{Private}
 use Rattle.ps_resolve.specs.declared.allotment.TheConstants.{MAX_NEXT_FREE}
@@ -34,17 +36,26 @@ allotted_privates slot rec next [] = []
 allotted_privates slot rec next (r ∷ rs) =
     elim (words_in r.body) [
       | None ↦ allotted_privates slot (rec + 1) next rs
-      | Some words ↦ record { slot = slot; rec = rec; name = r.name; offset = next; words = words } ∷ allotted_privates slot (rec + 1) (next + words) rs
+      | Some words ↦ record {
+        slot = slot;
+        rec = rec;
+        name = r.name;
+        offset = next;
+        words =
+            words;
+      } ∷ allotted_privates slot (rec + 1) (next + words) rs
     ]
 
 -- the words of all of them
 abbrev pub private_words : List Record → ℕ
 private_words [] = 0
-private_words (r ∷ rs) = elim (words_in r.body) [ None ↦ private_words rs | Some words ↦ words + private_words rs ]
+private_words (r ∷ rs) = elim (words_in r.body)
+    [ None ↦ private_words rs | Some words ↦ words + private_words rs ]
 
 -- the first that has the name of one before it, of the names `seen` or of the records, or that ends
 -- past MAX_NEXT_FREE
-abbrev pub private_fault : ℕ → ℕ → List (List ℕ) → List Record → Option (ℕ × Reason)
+abbrev pub private_fault : ℕ → ℕ → List (List ℕ) → List Record
+    → Option (ℕ × Reason)
 private_fault rec next seen [] = None
 private_fault rec next seen (r ∷ rs) =
     elim (words_in r.body) [
@@ -57,7 +68,8 @@ private_fault rec next seen (r ∷ rs) =
 
 -- that fault in the records of a segment, with its file and its slot
 abbrev pub unallotted_fault : ℕ → ℕ → ℕ → List Record → Option Fault
-unallotted_fault file slot next rs = option_map (λ f. in_record file slot f.0 f.1) (private_fault 0 next [] rs)
+unallotted_fault file slot next rs = option_map (λ f. in_record file slot f.0 f.1)
+    (private_fault 0 next [] rs)
 
 -- a segment as far as its privates need it: its slot, the number of the file that it comes from,
 -- and its records
@@ -68,7 +80,12 @@ pub record Owner : Type 0 where
 
 -- the owner of privates that a linkage stands for
 abbrev pub owner_of_linkage : Linkage → Owner
-owner_of_linkage s = record { slot = s.slot; file = s.file; records = (reading s.order s.bytes.now).0 }
+owner_of_linkage s = record {
+  slot = s.slot;
+  file = s.file;
+  records =
+      (reading s.order s.bytes.now).0;
+}
 
 -- a segment as an owner of privates
 abbrev pub owner_of : Segment → Owner
@@ -77,7 +94,8 @@ owner_of s = record { slot = s.slot; file = s.file; records = s.records }
 -- the privates of all segments, by slot and then by record, from the offset `next` on
 abbrev pub all_allotted : ℕ → List Owner → List Private
 all_allotted next [] = []
-all_allotted next (s ∷ ss) = allotted_privates s.slot 0 next s.records ++ all_allotted (next + private_words s.records) ss
+all_allotted next (s ∷ ss) = allotted_privates s.slot 0 next s.records
+    ++ all_allotted (next + private_words s.records) ss
 
 -- the words of the privates of these owners
 abbrev pub all_words : List Owner → ℕ
@@ -88,7 +106,8 @@ all_words (s ∷ ss) = private_words s.records + all_words ss
 abbrev pub first_private_fault : ℕ → List Owner → Option Fault
 first_private_fault next [] = None
 first_private_fault next (s ∷ ss) =
-    option_or (unallotted_fault s.file s.slot next s.records) (first_private_fault (next + private_words s.records) ss)
+    option_or (unallotted_fault s.file s.slot next s.records)
+    (first_private_fault (next + private_words s.records) ss)
 
 -- what an allotment holds: the privates, the words of all of them, and the offset after the last
 pub record Allotted : Type 0 where
@@ -98,7 +117,12 @@ pub record Allotted : Type 0 where
 
 -- the allotment of these owners from a base offset on
 abbrev pub allotment_of : ℕ → List Owner → Allotted
-allotment_of next ss = record { privates = all_allotted next ss; words = all_words ss; next_free = next + all_words ss }
+allotment_of next ss = record {
+  privates = all_allotted next ss;
+  words = all_words ss;
+  next_free =
+      next + all_words ss;
+}
 
 -- the words of all privates of the segments
 abbrev pub total_words : List Segment → ℕ

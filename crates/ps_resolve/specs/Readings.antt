@@ -1,6 +1,9 @@
--- What is read of each slot of a host, also after the first fault, and the names that are requested.
+-- What is read of each slot of a host, also after the first fault, and the names that are
+-- requested.
 -- Source: this project's profile.
-use Rattle.std.specs.Prelude.{◌≡◌, ◌≤◌, ℕ, ◌==◌, ◌++◌, if◌then◌else◌, List, [], length, map, take, slice_get, All, false, Option, Some, None, Result, Ok, Err, is_none, option_and_then}
+use Rattle.std.specs.Prelude.{◌≡◌, ◌≤◌, ℕ, ◌==◌, ◌++◌, if◌then◌else◌}
+use Rattle.std.specs.Prelude.{List, [], length, map, take, slice_get, All, false, Option, Some}
+use Rattle.std.specs.Prelude.{None, Result, Ok, Err, is_none, option_and_then}
 use Rattle.std.specs.List.{enumerate_from, filter_map, find}
 use Rattle.std.specs.Option.{option_map, option_map_or, option_or}
 use Rattle.std.specs.Result.{result_ok}
@@ -12,15 +15,18 @@ use Rattle.ps_codefile.specs.declared.entry.Role.{Role}
 use Rattle.ps_codefile.specs.declared.entry.Role.TheVariants.{Empty, Wanted, Plain, Host, Unit}
 use Rattle.ps_resolve.specs.Requests.{is_missing, request_by_slot}
 use Rattle.ps_resolve.specs.Sources.{Segment, own_segment, opened_files, unit_source, units_of}
-use Rattle.ps_resolve.specs.Faults.{slots_fault, no_host_fault, libraries_fault, source_fault, sources_fault}
-use Rattle.ps_resolve.specs.Added.{RoundsOutcome, all_unit_references, empty_slots, requested_from, request_of, rounds_of}
+use Rattle.ps_resolve.specs.Faults.{slots_fault, no_host_fault, libraries_fault, source_fault}
+use Rattle.ps_resolve.specs.Faults.{sources_fault}
+use Rattle.ps_resolve.specs.Added.{RoundsOutcome, all_unit_references, empty_slots, requested_from}
+use Rattle.ps_resolve.specs.Added.{request_of, rounds_of}
 use Rattle.ps_resolve.specs.Views.{SegmentView, IsRead, segment_of, segments_in_slots}
 use Rattle.ps_resolve.specs.declared.reading.added.UnitReference.{UnitReference}
 use Rattle.ps_resolve.specs.declared.reading.request.Request.{Request}
 
 -- the own segment of a slot, where its source has no fault
 abbrev pub read_segment : Order → List ℕ → List (List ℕ) → ℕ → Option Segment
-read_segment order host libs slot = if is_none (source_fault order host libs slot) then own_segment order host libs slot else None
+read_segment order host libs slot = if is_none (source_fault order host libs slot)
+    then own_segment order host libs slot else None
 
 -- those of all slots, by slot
 unfoldable pub read_segments : Order → List ℕ → List (List ℕ) → List Segment
@@ -32,13 +38,15 @@ read_rounds order host libs = rounds_of order host libs (read_segments order hos
 
 -- the own segments and the added ones, by slot
 unfoldable pub all_read : Order → List ℕ → List (List ℕ) → List Segment
-all_read order host libs = segments_in_slots order host (read_segments order host libs) (read_rounds order host libs).added
+all_read order host libs = segments_in_slots order host (read_segments order host libs)
+    (read_rounds order host libs).added
 
 -- the names that they request, each with the record that first gave it, of which ten are kept
 unfoldable pub read_requests : Order → List ℕ → List (List ℕ) → List UnitReference
 read_requests order host libs =
     let own = read_segments order host libs in
-    take 10 (requested_from (units_of own) [] (all_unit_references (own ++ (read_rounds order host libs).added)))
+    take 10 (requested_from (units_of own) []
+    (all_unit_references (own ++ (read_rounds order host libs).added)))
 
 -- the empty slot that is next after those that rounds have given
 abbrev pub slot_after : RoundsOutcome → List ℕ → Option ℕ
@@ -46,14 +54,17 @@ slot_after rounds empty = slice_get empty (length rounds.added)
 
 -- the fault with which the rounds end, if it is that of the unit that takes this slot
 abbrev pub fault_of_added : RoundsOutcome → List ℕ → ℕ → Option Fault
-fault_of_added rounds empty slot = if option_map_or (λ next. next == slot) (slot_after rounds empty) false then rounds.fault else None
+fault_of_added rounds empty slot = if option_map_or (λ next. next == slot)
+    (slot_after rounds empty) false then rounds.fault else None
 
 -- why a slot has no segment: the fault of its source, or of the unit that would be added there
 abbrev pub slot_fault : Order → List ℕ → List (List ℕ) → ℕ → Option Fault
-slot_fault order host libs slot = option_or (source_fault order host libs slot) (fault_of_added (read_rounds order host libs) (empty_slots order host) slot)
+slot_fault order host libs slot = option_or (source_fault order host libs slot)
+    (fault_of_added (read_rounds order host libs) (empty_slots order host) slot)
 
 -- what is read of a slot: its fault, or its segment, if it has one
-abbrev pub slot_reading : Order → List ℕ → List (List ℕ) → ℕ → Option (Result Segment Fault)
+abbrev pub slot_reading : Order → List ℕ → List (List ℕ) → ℕ
+    → Option (Result Segment Fault)
 slot_reading order host libs slot =
     elim (slot_fault order host libs slot) [
       | Some fault ↦ Some (Err fault)
@@ -71,12 +82,14 @@ wanted_request order host slot Unit = None
 -- the request of a name of the queue that takes an empty slot: the k-th name takes the k-th slot
 abbrev pub queued_request : List UnitReference → List ℕ → ℕ → Option Request
 queued_request queue empty slot =
-    option_and_then (λ k. option_map (λ g. request_of g slot) (slice_get queue k.0)) (find (λ k. k.1 == slot) (enumerate_from 0 empty))
+    option_and_then (λ k. option_map (λ g. request_of g slot) (slice_get queue k.0))
+    (find (λ k. k.1 == slot) (enumerate_from 0 empty))
 
 -- the request that a slot has, if it has one
 abbrev pub slot_request : Order → List ℕ → List (List ℕ) → ℕ → Option Request
 slot_request order host libs slot =
-    option_or (option_and_then (wanted_request order host slot) (result_ok (role_of (entry_at order host slot))))
+    option_or (option_and_then (wanted_request order host slot)
+    (result_ok (role_of (entry_at order host slot))))
     (queued_request (read_requests order host libs) (empty_slots order host) slot)
 
 -- the entry of the host that has the segment of a slot of this role
@@ -89,7 +102,8 @@ own_entry slot Unit = Some (0, slot)
 
 -- the file and the entry that have the unit of a name, where it is not missing
 abbrev pub named_entry : Order → List (List ℕ) → List ℕ → Option (ℕ × ℕ)
-named_entry order libs name = if is_missing order libs name then None else unit_source order name libs
+named_entry order libs name = if is_missing order libs name then None
+    else unit_source order name libs
 
 -- the file, 0 for the host and k for the k-th library, and the entry there that the segment of a
 -- slot comes from, also where it is refused
@@ -103,13 +117,16 @@ slot_entry order host libs slot =
 -- The first fault of a host that is read in its own order, with these libraries.
 unfoldable pub host_reading_fault : Order → List ℕ → List (List ℕ) → Option Fault
 host_reading_fault order host libs =
-    option_or (slots_fault order host) (option_or (no_host_fault order host) (option_or (libraries_fault order libs)
-    (option_or (sources_fault order host (opened_files order libs)) (read_rounds order host (opened_files order libs)).fault)))
+    option_or (slots_fault order host) (option_or (no_host_fault order host)
+    (option_or (libraries_fault order libs)
+    (option_or (sources_fault order host (opened_files order libs))
+    (read_rounds order host (opened_files order libs)).fault)))
 
 -- The first fault of its own slots and of the libraries, before units are added.
 unfoldable pub own_reading_fault : Order → List ℕ → List (List ℕ) → Option Fault
 own_reading_fault order host libs =
-    option_or (option_or (slots_fault order host) (option_or (no_host_fault order host) (libraries_fault order libs)))
+    option_or (option_or (slots_fault order host)
+    (option_or (no_host_fault order host) (libraries_fault order libs)))
     (sources_fault order host (opened_files order libs))
 
 -- A host file that was opened, with its libraries.
@@ -119,13 +136,16 @@ pub record HostFiles : Type 0 where
   pub libs : List (List ℕ)
 
 -- what was read of such files
-pub record IsReading (order : Order) (host : List ℕ) (libs : List (List ℕ)) (empty : List ℕ) (segments : List SegmentView) (queue : List UnitReference) (next : Option ℕ) (last : Option Fault) (fault : Option Fault) : Type 0 where
+pub record IsReading (order : Order) (host : List ℕ) (libs : List (List ℕ)) (empty : List ℕ)
+    (segments : List SegmentView) (queue : List UnitReference) (next : Option ℕ)
+    (last : Option Fault) (fault : Option Fault) : Type 0 where
   pub whole : 512 ≤ length host
   pub slots_left : empty ≡ empty_slots order host
   pub all : map segment_of segments ≡ all_read order host (opened_files order libs)
   pub read : All (IsRead order host (opened_files order libs)) segments
   pub requested : queue ≡ read_requests order host (opened_files order libs)
-  pub following : next ≡ slot_after (read_rounds order host (opened_files order libs)) (empty_slots order host)
+  pub following : next ≡ slot_after (read_rounds order host (opened_files order libs))
+      (empty_slots order host)
   pub ends : last ≡ (read_rounds order host (opened_files order libs)).fault
   pub first : fault ≡ host_reading_fault order host libs
 

@@ -1,7 +1,9 @@
 -- The references of a segment: what their operands become, and the first fault of them.
 -- Source: the link records UNITREF, PUBLREF and PRIVREF are those of the published II.0 Linker
 -- source; which fault comes first is this project's profile.
-use Rattle.std.specs.Prelude.{◌≡◌, ℕ, ◌+◌, List, [], ◌∷◌, ◌++◌, map, Bool, true, false, if◌then◌else◌, Option, Some, None, Result, Ok, Err, All, sum_by}
+use Rattle.std.specs.Prelude.{◌≡◌, ℕ, ◌+◌, List, [], ◌∷◌, ◌++◌, map, Bool}
+use Rattle.std.specs.Prelude.{true, false, if◌then◌else◌, Option, Some, None, Result, Ok, Err}
+use Rattle.std.specs.Prelude.{All, sum_by}
 use Rattle.std.specs.Option.{option_map, option_or}
 use Rattle.std.specs.Map.{lookup}
 use Rattle.std.specs.Str.{bytes_eq}
@@ -10,7 +12,8 @@ use Rattle.ps_words.specs.declared.fault.Reason.{Reason}
 use Rattle.ps_words.specs.declared.fault.Reason.TheVariants as reason
 use Rattle.ps_linkinfo.specs.Records.{refs_of}
 use Rattle.ps_linkinfo.specs.declared.record.Body.{Body}
-use Rattle.ps_linkinfo.specs.declared.record.Body.TheVariants.{UnitRef, PublRef, PrivRef, PublDef, ConstDef, Eof}
+use Rattle.ps_linkinfo.specs.declared.record.Body.TheVariants.{UnitRef, PublRef, PrivRef, PublDef}
+use Rattle.ps_linkinfo.specs.declared.record.Body.TheVariants.{ConstDef, Eof}
 use Rattle.ps_linkinfo.specs.declared.record.LinkRecord.{LinkRecord as Record}
 use Rattle.ps_resolve.specs.Symbols.{definition_of}
 use Rattle.ps_resolve.specs.Privates.{words_in}
@@ -42,7 +45,8 @@ each_name = record { each = true; definitions = []; units = [] }
 
 -- the definition of a name
 abbrev pub known_definition : Known → List ℕ → Option Def
-known_definition known name = if known.each then Some (record { kind = Public; value = lone_base }) else definition_of name known.definitions
+known_definition known name = if known.each then Some (record { kind = Public; value = lone_base })
+    else definition_of name known.definitions
 
 -- the slot of the unit of a name
 abbrev pub known_unit : Known → List ℕ → Option ℕ
@@ -51,7 +55,10 @@ known_unit known name = if known.each then Some 0 else lookup (bytes_eq name) kn
 -- the base offset of a public variable, or why its definition gives none
 abbrev pub public_base : Option Def → Result Target Reason
 public_base None = Err reason.MissingDefinition
-public_base (Some d) = elim d.kind [ Public ↦ Ok (Base d.value) | Constant ↦ Err reason.IllKind ]
+public_base (Some d) = elim d.kind [
+  | Public ↦ Ok (Base d.value)
+  | Constant ↦ Err reason.IllKind
+]
 
 -- the slot of a unit, or the fault of a unit that no slot has
 abbrev pub unit_slot : Option ℕ → Result Target Reason
@@ -89,20 +96,25 @@ words_taken_by rs = sum_by (λ r. words_taken r.body) rs
 
 -- The first fault of the records, the first of which has number `rec`, after references with the
 -- operands `taken`.
-abbrev pub records_fault : Known → (ℕ → Bool) → List ℕ → ℕ → ℕ → List (ℕ × ℕ) → List Record → Option (ℕ × (Option ℕ × Reason))
+abbrev pub records_fault : Known → (ℕ → Bool) → List ℕ → ℕ → ℕ
+    → List (ℕ × ℕ) → List Record → Option (ℕ × (Option ℕ × Reason))
 records_fault known reserved code rec off taken [] = None
 records_fault known reserved code rec off taken (r ∷ rs) =
     elim (target_of known off r) [
       | Err why ↦ Some (rec, (None, why))
-      | Ok t ↦ option_or (option_map (λ f. (rec, (Some f.0, f.1))) (refs_fault reserved code t 0 taken (refs_of r.body)))
-          (records_fault known reserved code (rec + 1) (off + words_taken r.body) (taken ++ operands t (refs_of r.body)) rs)
+      | Ok t ↦ option_or (option_map (λ f. (rec, (Some f.0, f.1)))
+          (refs_fault reserved code t 0 taken (refs_of r.body)))
+          (records_fault known reserved code (rec + 1) (off + words_taken r.body)
+          (taken ++ operands t (refs_of r.body)) rs)
     ]
 
 -- the edits of the records' references, in order
 abbrev pub record_edits : Known → List ℕ → ℕ → Record → List Edit
-record_edits known code off r = elim (target_of known off r) [ Err why ↦ [] | Ok t ↦ map (edit_of code t) (refs_of r.body) ]
+record_edits known code off r = elim (target_of known off r)
+    [ Err why ↦ [] | Ok t ↦ map (edit_of code t) (refs_of r.body) ]
 
 -- the edits of the references of these records, in record order
 abbrev pub records_edits : Known → List ℕ → ℕ → List Record → List Edit
 records_edits known code off [] = []
-records_edits known code off (r ∷ rs) = record_edits known code off r ++ records_edits known code (off + words_taken r.body) rs
+records_edits known code off (r ∷ rs) =
+    record_edits known code off r ++ records_edits known code (off + words_taken r.body) rs

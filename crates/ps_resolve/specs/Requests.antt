@@ -1,4 +1,5 @@
--- Requests for a unit: who requests it, the slot that it takes, when it is missing, and its segment.
+-- Requests for a unit: who requests it, the slot that it takes, when it is missing, and its
+-- segment.
 -- Source: this project's profile.
 use Rattle.std.specs.Prelude.{ℕ, ◌||◌, List, Bool, true, Option, is_none, option_and_then}
 use Rattle.std.specs.Option.{option_map}
@@ -24,7 +25,8 @@ missing_at slot (Record place) = in_record place.file place.slot place.rec reaso
 
 -- the request of a slot of the host, for the unit of its name
 abbrev pub request_by_slot : Order → List ℕ → ℕ → Request
-request_by_slot order host slot = record { name = (entry_at order host slot).name; slot = slot; requester = Slot }
+request_by_slot order host slot = record
+    { name = (entry_at order host slot).name; slot = slot; requester = Slot }
 
 -- the segment, marked as added
 abbrev pub as_added : Segment → Segment
@@ -38,4 +40,6 @@ as_requested (Record place) s = as_added s
 -- the segment that a request brings into its slot
 abbrev pub requested_segment : Order → List ℕ → List (List ℕ) → Request → Option Segment
 requested_segment order host libs r =
-    option_map (as_requested r.requester) (option_and_then (segment_from order host libs r.slot r.name Wanted) (unit_source order r.name libs))
+    option_map (as_requested r.requester)
+    (option_and_then (segment_from order host libs r.slot r.name Wanted)
+    (unit_source order r.name libs))

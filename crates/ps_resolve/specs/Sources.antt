@@ -1,13 +1,17 @@
 -- The segments that the host's own slots have in a linked file, and where each comes from: the host
 -- file, and for a wanted unit the first library that has a filled entry of its name.
 -- Source: this project's profile.
-use Rattle.std.specs.Prelude.{ℕ, ◌+◌, ◌&&◌, if◌then◌else◌, List, [], ◌∷◌, slice_get, map, Bool, false, Option, Some, None, unwrap_or, option_and_then}
+use Rattle.std.specs.Prelude.{ℕ, ◌+◌, ◌&&◌, if◌then◌else◌, List, [], ◌∷◌}
+use Rattle.std.specs.Prelude.{slice_get, map, Bool, false, Option, Some, None, unwrap_or}
+use Rattle.std.specs.Prelude.{option_and_then}
 use Rattle.std.specs.Borrow.{Bor}
 use Rattle.std.specs.List.{list_any, filter_map, find, enumerate_from}
 use Rattle.std.specs.Option.{option_map, option_map_or}
 use Rattle.std.specs.Result.{result_ok}
 use Rattle.std.specs.Str.{bytes_eq}
-use Rattle.ps_codefile.specs.Dictionary.{slots, FileOrder, Zero, Ordered, Mixed, file_order, opened_beside, entry_at, role_of, is_filled, code_of, information_of}
+use Rattle.ps_codefile.specs.Dictionary.{slots, FileOrder, Zero, Ordered, Mixed, file_order}
+use Rattle.ps_codefile.specs.Dictionary.{opened_beside, entry_at, role_of, is_filled, code_of}
+use Rattle.ps_codefile.specs.Dictionary.{information_of}
 use Rattle.ps_codefile.specs.Roles.{needs_linking, is_host, is_unit}
 use Rattle.ps_codefile.specs.declared.entry.Role.{Role}
 use Rattle.ps_codefile.specs.declared.entry.Role.TheVariants.{Empty, Wanted, Plain, Host, Unit}
@@ -33,7 +37,8 @@ order_of host = known_order (file_order host)
 
 -- what a library holds that is read beside the host; one that is refused holds nothing
 abbrev pub opened_file : Order → List ℕ → List ℕ
-opened_file order lib = option_map_or (λ opened. opened.file) (result_ok (opened_beside order lib)) []
+opened_file order lib = option_map_or (λ opened. opened.file)
+    (result_ok (opened_beside order lib)) []
 
 -- so of all libraries
 abbrev pub opened_files : Order → List (List ℕ) → List (List ℕ)
@@ -62,11 +67,13 @@ library_file library = library + 1
 -- the first such entry of the first such library: the number of its file, and its slot there
 abbrev pub unit_source : Order → List ℕ → List (List ℕ) → Option (ℕ × ℕ)
 unit_source order name libs =
-    option_and_then (λ lib. option_map (λ i. (library_file lib.0, i)) (find (is_named order name lib.1) slots)) (chosen_library order name libs)
+    option_and_then (λ lib. option_map (λ i. (library_file lib.0, i))
+    (find (is_named order name lib.1) slots)) (chosen_library order name libs)
 
 -- the file, 0 for the host and k for the k-th library, and the entry there that a slot's code comes
 -- from
-abbrev pub source_of : Order → List ℕ → List (List ℕ) → ℕ → Role → Option (ℕ × ℕ)
+abbrev pub source_of : Order → List ℕ → List (List ℕ) → ℕ → Role
+    → Option (ℕ × ℕ)
 source_of order host libs slot Empty = None
 source_of order host libs slot Plain = Some (0, slot)
 source_of order host libs slot Host = Some (0, slot)
@@ -97,16 +104,29 @@ pub record Segment : Type 0 where
 
 -- the segment that a slot gets from an entry of a file, with this name and role, where the entry
 -- has a code
-abbrev pub segment_from : Order → List ℕ → List (List ℕ) → ℕ → List ℕ → Role → ℕ × ℕ → Option Segment
+abbrev pub segment_from : Order → List ℕ → List (List ℕ) → ℕ → List ℕ → Role
+    → ℕ × ℕ → Option Segment
 segment_from order host libs slot name role at =
     let file = file_at host libs at.0 in
     let e = entry_at order file at.1 in
-    option_map (λ code. record { slot = slot; name = name; role = role; added = false; file = at.0; index = at.1; code = code; records = records_of order file e (needs_linking role) }) (result_ok (code_of file e))
+    option_map (λ code. record {
+      slot = slot;
+      name = name;
+      role = role;
+      added = false;
+      file = at.0;
+      index = at.1;
+      code = code;
+      records = records_of order file e (needs_linking role);
+    })
+    (result_ok (code_of file e))
 
 -- the segment of the slot's own role, where it is not empty
 abbrev pub own_segment : Order → List ℕ → List (List ℕ) → ℕ → Option Segment
 own_segment order host libs slot =
-    option_and_then (λ role. option_and_then (segment_from order host libs slot (entry_at order host slot).name role) (source_of order host libs slot role)) (result_ok (role_of (entry_at order host slot)))
+    option_and_then (λ role. option_and_then
+    (segment_from order host libs slot (entry_at order host slot).name role)
+    (source_of order host libs slot role)) (result_ok (role_of (entry_at order host slot)))
 
 -- those of all slots, by slot
 unfoldable pub own_segments : Order → List ℕ → List (List ℕ) → List Segment

@@ -6,7 +6,9 @@ use Rattle.ps_resolve.specs.First.{Before}
 use Rattle.ps_resolve.specs.Sources.{order_of}
 use Rattle.ps_words.specs.declared.order.Order.{Order}
 use Rattle.ps_words.specs.declared.fault.Fault.{Fault}
-use Rattle.ps_resolve.specs.Standing.Keys.{Step, is_of_reading, key, OfHost, OfSlots, OfNoHost, OfLibraries, OfSources, OfAdded, OfDefinitions, OfPrivates, OfDataSize, OfReferences}
+use Rattle.ps_resolve.specs.Standing.Keys.{Step, is_of_reading, key, OfHost, OfSlots, OfNoHost}
+use Rattle.ps_resolve.specs.Standing.Keys.{OfLibraries, OfSources, OfAdded, OfDefinitions}
+use Rattle.ps_resolve.specs.Standing.Keys.{OfPrivates, OfDataSize, OfReferences}
 use Rattle.ps_resolve.specs.Standing.Hosts.{InHost}
 use Rattle.ps_resolve.specs.Standing.Slots.{InSlots, InNoHost}
 use Rattle.ps_resolve.specs.Standing.Libraries.{InLibraries}
@@ -45,12 +47,14 @@ StandsIn OfReferences order host libs f = InReferences order host libs f
 -- The fault applies in this step, whatever the steps before it have: what a step is about may mean
 -- little where an earlier one has a fault, and a fault that applies only so is never first, since
 -- that of the earlier step has the smaller key.
-pub record FaultAt (host : List ℕ) (libs : List (List ℕ)) (step : Step) (f : Fault) : Type 0 where
-  pub stands : StandsIn step (order_of host) host libs f
+pub record FaultAt (host : List ℕ) (libs : List (List ℕ)) (step : Step) (f : Fault) : Type 0
+  where
+    pub stands : StandsIn step (order_of host) host libs f
 
 -- no fault applies in the steps of reading
 abbrev pub NoneStandsInReading : List ℕ → List (List ℕ) → Type 0
-NoneStandsInReading host libs = (step : Step) (f : Fault) → is_of_reading step ≡ true → FaultAt host libs step f → ⊥
+NoneStandsInReading host libs = (step : Step) (f : Fault) → is_of_reading step ≡ true
+    → FaultAt host libs step f → ⊥
 
 -- no fault applies, in any step
 abbrev pub NoneStands : List ℕ → List (List ℕ) → Type 0
@@ -60,4 +64,5 @@ NoneStands host libs = (step : Step) (f : Fault) → FaultAt host libs step f �
 pub record IsFirst (host : List ℕ) (libs : List (List ℕ)) (f : Fault) : Type 0 where
   pub step : Step
   pub stands : FaultAt host libs step f
-  pub least : (other : Step) (g : Fault) → FaultAt host libs other g → ((other ≡ step) × (g ≡ f)) ⊎ Before (key step f) (key other g)
+  pub least : (other : Step) (g : Fault) → FaultAt host libs other g
+      → ((other ≡ step) × (g ≡ f)) ⊎ Before (key step f) (key other g)

@@ -17,4 +17,5 @@ IsStop wants fault Memory = wants
 
 -- the fault of the first record of a segment that defines a name again
 abbrev pub duplicate_fault : ℕ → ℕ → List Record → Option Fault
-duplicate_fault file slot rs = option_map (λ rec. in_record file slot rec reason.DoubledDefinition) (first_duplicate rs)
+duplicate_fault file slot rs = option_map (λ rec. in_record file slot rec reason.DoubledDefinition)
+    (first_duplicate rs)

@@ -11,4 +11,6 @@ use Rattle.ps_resolve.specs.declared.edit_table.PlaceState.{PlaceState}
 -- operands
 abbrev pub AreTaken : ProcedureTables → List PlaceState → List (ℕ × ℕ) → Type 0
 AreTaken tables ts taken =
-    (p : ℕ) → p < length tables.code → is_taken_at ts p ≡ (is_reserved tables.order tables.code p || list_any (is_in p) taken)
+    (p : ℕ) → p < length tables.code
+    → is_taken_at ts p ≡ (is_reserved tables.order tables.code p
+    || list_any (is_in p) taken)

@@ -1,7 +1,9 @@
 -- The segments that the files have, seen as the segments of the link, and what is known of them
 -- once the files were read without a fault.
 -- Source: this project's profile.
-use Rattle.std.specs.Prelude.{◌≡◌, ◌≤◌, ◌*◌, ◌==◌, nat_lt, if◌then◌else◌, ℕ, All, List, [], ◌∷◌, length, drop, Bool, true, Option, Some, None, ◌&&◌}
+use Rattle.std.specs.Prelude.{◌≡◌, ◌≤◌, ◌*◌, ◌==◌, nat_lt, if◌then◌else◌}
+use Rattle.std.specs.Prelude.{ℕ, All, List, [], ◌∷◌, length, drop, Bool, true, Option, Some}
+use Rattle.std.specs.Prelude.{None, ◌&&◌}
 use Rattle.std.specs.List.{find, filter_map, list_any, Contains}
 use Rattle.std.specs.Option.{option_or}
 use Rattle.ps_words.specs.declared.order.Order.{Order}
@@ -51,16 +53,19 @@ as_requested_view (Record place) s = record s { added = true }
 -- the link information of the segment, where its references are resolved, begins in its block of
 -- its file, and its records are all that are there
 abbrev pub IsPlaced : Order → List ℕ → List (List ℕ) → SegmentView → Type 0
-IsPlaced order host libs s = needs_linking s.role ≡ true → reading order (drop (block_len * s.block) (file_at host libs s.file)) ≡ (s.records, None)
+IsPlaced order host libs s = needs_linking s.role ≡ true
+    → reading order (drop (block_len * s.block) (file_at host libs s.file)) ≡ (s.records, None)
 
 -- so it is with those of the segments that are from this file, which has this number
 abbrev pub ArePlacedIn : Order → List ℕ → ℕ → List SegmentView → Type 0
-ArePlacedIn order file k segs = All (λ s. s.file ≡ k → needs_linking s.role ≡ true → reading order (drop (block_len * s.block) file) ≡ (s.records, None)) segs
+ArePlacedIn order file k segs = All (λ s. s.file ≡ k → needs_linking s.role ≡ true
+    → reading order (drop (block_len * s.block) file) ≡ (s.records, None)) segs
 
 -- where the link information of two linked segments begins in one block of one file, they have the
 -- same records
 abbrev pub IsLike : SegmentView → SegmentView → Type 0
-IsLike s q = needs_linking s.role ≡ true → needs_linking q.role ≡ true → s.file ≡ q.file → s.block ≡ q.block → s.records ≡ q.records
+IsLike s q = needs_linking s.role ≡ true → needs_linking q.role ≡ true → s.file ≡ q.file
+    → s.block ≡ q.block → s.records ≡ q.records
 
 -- so it is with any two of the segments
 abbrev pub AreAlike : List SegmentView → Type 0
@@ -70,11 +75,13 @@ AreAlike segs = All (λ s. All (IsLike s) segs) segs
 -- this block of this file
 abbrev pub HasRecordsAt : List SegmentView → ℕ → ℕ → List LinkRecord → Type 0
 HasRecordsAt segs file block rs =
-    (s : SegmentView) × Contains segs s × (needs_linking s.role ≡ true) × (s.file ≡ file) × (s.block ≡ block) × (s.records ≡ rs)
+    (s : SegmentView) × Contains segs s × (needs_linking s.role ≡ true) × (s.file ≡ file)
+    × (s.block ≡ block) × (s.records ≡ rs)
 
 -- one of these segments is linked, and its link information begins in this block of this file
 abbrev pub has_records_at : ℕ → ℕ → List SegmentView → Bool
-has_records_at file block = list_any (λ s. needs_linking s.role && s.file == file && s.block == block)
+has_records_at file block =
+    list_any (λ s. needs_linking s.role && s.file == file && s.block == block)
 
 -- the segment is in this slot
 abbrev pub is_in_slot : ℕ → Segment → Bool
@@ -86,11 +93,15 @@ put_by_slot s [] = s ∷ []
 put_by_slot s (x ∷ xs) = if nat_lt s.slot x.slot then s ∷ x ∷ xs else x ∷ put_by_slot s xs
 
 -- the own segment that is in a slot, or in an empty slot the added one
-abbrev pub segment_in_slot : Order → List ℕ → List Segment → List Segment → ℕ → Option Segment
-segment_in_slot order host own added slot = option_or (find (is_in_slot slot) own) (if is_role is_empty order host slot then find (is_in_slot slot) added else None)
+abbrev pub segment_in_slot : Order → List ℕ → List Segment → List Segment → ℕ
+    → Option Segment
+segment_in_slot order host own added slot =
+    option_or (find (is_in_slot slot) own)
+    (if is_role is_empty order host slot then find (is_in_slot slot) added else None)
 
 -- those of all slots
-unfoldable pub segments_in_slots : Order → List ℕ → List Segment → List Segment → List Segment
+unfoldable pub segments_in_slots : Order → List ℕ → List Segment → List Segment
+    → List Segment
 segments_in_slots order host own added = filter_map (segment_in_slot order host own added) slots
 
 -- the code of a linked segment has its number and a procedure word at least, and its procedure
@@ -98,10 +109,12 @@ segments_in_slots order host own added = filter_map (segment_in_slot order host 
 pub record IsSound (order : Order) (s : SegmentView) : Type 0 where
   pub large : needs_linking s.role ≡ true → 4 ≤ length s.code
   pub tables : needs_linking s.role ≡ true → tables_fault order s.code (is_host s.role) ≡ None
-  pub kept : needs_linking s.role ≡ true → s.tables ≡ Some (record { order = order; code = s.code })
+  pub kept : needs_linking s.role ≡ true
+      → s.tables ≡ Some (record { order = order; code = s.code })
   pub slot : s.slot ≤ 15
 
 -- a segment as the files have it: its records are those of its place, and it is sound
-pub record IsRead (order : Order) (host : List ℕ) (libs : List (List ℕ)) (s : SegmentView) : Type 0 where
+pub record IsRead (order : Order) (host : List ℕ) (libs : List (List ℕ))
+    (s : SegmentView) : Type 0 where
   pub placed : IsPlaced order host libs s
   pub sound : IsSound order s

@@ -17,4 +17,6 @@ use Rattle.ps_resolve.specs.declared.edits.data_size.TheConstants.{MAX_DATA_SIZE
 abbrev pub InDataSize : Order → List ℕ → List (List ℕ) → Fault → Type 0
 InDataSize order host libs f =
     OfHostSegment order host libs (λ s. (t : ℕ) × (table_of order s.code 1 ≡ Some t)
-    × ((f ≡ in_slot 0 s.slot reason.DataTooLarge) × (MAX_DATA_SIZE < grown_data_size order s.code (total_words (segments order host libs)) t)))
+    × ((f ≡ in_slot 0 s.slot reason.DataTooLarge)
+    × (MAX_DATA_SIZE < grown_data_size order s.code
+    (total_words (segments order host libs)) t)))

@@ -14,10 +14,13 @@ use Rattle.ps_linkinfo.specs.RecordCounts.{is_definition}
 -- the record passes the test, and so does an earlier one that has its name
 abbrev pub HasEarlierNamesake : (Body → Bool) → List Record → ℕ → Record → Type 0
 HasEarlierNamesake test records rec r =
-    (test r.body ≡ true) × SomeBelow rec (λ other. (q : Record) × (slice_get records other ≡ Some q) × ((test q.body ≡ true) × (q.name ≡ r.name)))
+    (test r.body ≡ true) × SomeBelow rec
+    (λ other. (q : Record) × (slice_get records other ≡ Some q)
+    × ((test q.body ≡ true) × (q.name ≡ r.name)))
 
 -- a record of the host's segment defines a name that an earlier one defines
 abbrev pub InDefinitions : Order → List ℕ → List (List ℕ) → Fault → Type 0
 InDefinitions order host libs f =
     OfHostSegment order host libs (λ s. SomeItem s.records (λ rec r.
-    (f ≡ in_record 0 s.slot rec reason.DoubledDefinition) × HasEarlierNamesake is_definition s.records rec r))
+    (f ≡ in_record 0 s.slot rec reason.DoubledDefinition)
+    × HasEarlierNamesake is_definition s.records rec r))

@@ -1,7 +1,8 @@
 -- The steps of a link, each of which looks for the faults of one kind of place, and the key of a
 -- fault by which the first is known.
 -- Source: this project's profile.
-use Rattle.std.specs.Prelude.{ℕ, ◌+◌, List, [], ◌∷◌, Bool, true, false, Option, Some, None, unwrap_or}
+use Rattle.std.specs.Prelude.{ℕ, ◌+◌, List, [], ◌∷◌, Bool, true, false, Option, Some}
+use Rattle.std.specs.Prelude.{None, unwrap_or}
 use Rattle.ps_words.specs.declared.fault.Reason.{Reason}
 use Rattle.ps_words.specs.declared.fault.Fault.{Fault}
 use Rattle.ps_words.specs.declared.fault.Reason.TheVariants as reason
@@ -99,5 +100,7 @@ record_read other rec = part rec
 
 -- what faults are ordered by: step; slot, or the library, or the round; record; reference; rank
 abbrev pub key : Step → Fault → List ℕ
-key (OfAdded k) f = turn (OfAdded k) ∷ k ∷ record_read f.reason f.rec ∷ part f.reference ∷ rank f.reason ∷ []
-key step f = turn step ∷ unwrap_or f.slot f.file ∷ part f.rec ∷ part f.reference ∷ rank f.reason ∷ []
+key (OfAdded k) f = turn (OfAdded k) ∷ k ∷ record_read f.reason f.rec ∷ part f.reference
+    ∷ rank f.reason ∷ []
+key step f = turn step ∷ unwrap_or f.slot f.file ∷ part f.rec ∷ part f.reference
+    ∷ rank f.reason ∷ []

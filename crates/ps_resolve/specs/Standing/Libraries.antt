@@ -15,9 +15,12 @@ use Rattle.ps_resolve.specs.Standing.Phrases.{Because, SomeItem}
 abbrev pub LibraryHas : Order → List ℕ → Reason → Type 0
 LibraryHas order lib reason.ShortFile = length lib < 512
 LibraryHas order lib reason.NoOrder = (512 ≤ length lib) × (file_order lib ≡ Mixed)
-LibraryHas order lib reason.OrderMismatch = (512 ≤ length lib) × (other : Order) × (file_order lib ≡ Ordered other) × (other ≢ order)
+LibraryHas order lib reason.OrderMismatch =
+    (512 ≤ length lib) × (other : Order) × (file_order lib ≡ Ordered other)
+    × (other ≢ order)
 LibraryHas order lib other = ⊥
 
 -- a fault of a library file, reported with its number, from 1, and without a slot
 abbrev pub InLibraries : Order → List (List ℕ) → Fault → Type 0
-InLibraries order libs f = SomeItem libs (λ k lib. Because (in_file (library_file k)) (LibraryHas order lib) f)
+InLibraries order libs f = SomeItem libs
+    (λ k lib. Because (in_file (library_file k)) (LibraryHas order lib) f)

@@ -1,6 +1,7 @@
 -- Faults of the private variables, and where each of them lies.
 -- Source: this project's profile.
-use Rattle.std.specs.Prelude.{nat_lt, ◌==◌, ◌≡◌, ℕ, ◌+◌, ◌<◌, List, [], take, true, if◌then◌else◌}
+use Rattle.std.specs.Prelude.{nat_lt, ◌==◌, ◌≡◌, ℕ, ◌+◌, ◌<◌, List, [], take}
+use Rattle.std.specs.Prelude.{true, if◌then◌else◌}
 use Rattle.ps_linkinfo.specs.declared.record.LinkRecord.{LinkRecord as Record}
 use Rattle.ps_resolve.specs.Sources.{Segment, host_records}
 use Rattle.ps_resolve.specs.Added.{segments}
@@ -20,7 +21,8 @@ use Rattle.ps_resolve.specs.declared.allotment.TheConstants.{MAX_NEXT_FREE}
 -- the records of a segment that are before record `rec` of slot `slot`: all of a smaller slot, and
 -- the first `rec` of the slot itself
 abbrev pub records_before : ℕ → ℕ → Segment → List Record
-records_before slot rec s = if nat_lt s.slot slot then s.records else (if s.slot == slot then take rec s.records else [])
+records_before slot rec s = if nat_lt s.slot slot then s.records
+    else (if s.slot == slot then take rec s.records else [])
 
 -- the words of all privates before record `rec` of slot `slot`, by slot and then by record
 abbrev pub words_before : List Segment → ℕ → ℕ → ℕ
@@ -31,10 +33,13 @@ words_before segs slot rec = words_taken_by (flat_map (records_before slot rec) 
 abbrev pub private_offset : List Segment → ℕ → ℕ → ℕ
 private_offset segs slot rec = next_of (host_records segs) + words_before segs slot rec
 
--- A PRIVREF has the name of an earlier one of its segment, or its private ends after offset MAX_NEXT_FREE.
+-- A PRIVREF has the name of an earlier one of its segment, or its private ends after offset
+-- MAX_NEXT_FREE.
 abbrev pub PrivateHas : List Segment → Segment → ℕ → Record → Reason → Type 0
-PrivateHas segs s rec r reason.DoubledPrivate = HasEarlierNamesake is_private_reference s.records rec r
-PrivateHas segs s rec r reason.NoRoom = (is_private_reference r.body ≡ true) × (MAX_NEXT_FREE < private_offset segs s.slot rec + words_taken r.body)
+PrivateHas segs s rec r reason.DoubledPrivate =
+    HasEarlierNamesake is_private_reference s.records rec r
+PrivateHas segs s rec r reason.NoRoom = (is_private_reference r.body ≡ true)
+    × (MAX_NEXT_FREE < private_offset segs s.slot rec + words_taken r.body)
 PrivateHas segs s rec r other = ⊥
 
 -- a fault of a private variable, reported with its record

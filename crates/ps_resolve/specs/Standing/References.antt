@@ -1,6 +1,7 @@
 -- Faults of the references: of the record, and of each place that it names.
 -- Source: this project's profile.
-use Rattle.std.specs.Prelude.{◌≡◌, ◌≢◌, ◌⊎◌, ℕ, ◌+◌, ◌<◌, ◌≤◌, List, [], ◌∷◌, length, slice_get, true, Some, Ok}
+use Rattle.std.specs.Prelude.{◌≡◌, ◌≢◌, ◌⊎◌, ℕ, ◌+◌, ◌<◌, ◌≤◌}
+use Rattle.std.specs.Prelude.{List, [], ◌∷◌, length, slice_get, true, Some, Ok}
 use Rattle.ps_codefile.specs.Procedures.{is_reserved}
 use Rattle.ps_linkinfo.specs.Operands.{operand_width}
 use Rattle.ps_linkinfo.specs.Records.{refs_of}
@@ -30,19 +31,25 @@ use Rattle.ps_words.specs.declared.words.TheConstants.{MAX_OPERAND}
 -- the name's definition is this one: the first that has the name
 abbrev pub Defines : List (List ℕ × Def) → List ℕ → Def → Type 0
 Defines ds name d =
-    SomeItem ds (λ k e. ((e.0 ≡ name) × (e.1 ≡ d)) × ((lesser : ℕ) (other : List ℕ × Def) → lesser < k → slice_get ds lesser ≡ Some other → other.0 ≢ name))
+    SomeItem ds (λ k e. ((e.0 ≡ name) × (e.1 ≡ d))
+    × ((lesser : ℕ) (other : List ℕ × Def) → lesser < k
+    → slice_get ds lesser ≡ Some other → other.0 ≢ name))
 
 -- A PUBLREF names nothing that the host defines, or a constant; a UNITREF always finds its unit,
 -- which was added where it was missing.
 abbrev pub RecordHas : List Segment → List ℕ → Body → Reason → Type 0
-RecordHas segs name (PublRef refs) reason.MissingDefinition = SomeItem (definitions (host_records segs)) (λ k d. d.0 ≡ name) → ⊥
-RecordHas segs name (PublRef refs) reason.IllKind = (d : Def) × Defines (definitions (host_records segs)) name d × (d.kind ≡ Constant)
+RecordHas segs name (PublRef refs) reason.MissingDefinition =
+    SomeItem (definitions (host_records segs)) (λ k d. d.0 ≡ name) → ⊥
+RecordHas segs name (PublRef refs) reason.IllKind =
+    (d : Def) × Defines (definitions (host_records segs)) name d × (d.kind ≡ Constant)
 RecordHas segs name body other = ⊥
 
 -- the BIG operand at x of record `rec` becomes more than it can hold, by what the record's name or
 -- its private stands for
 abbrev pub IsTooLarge : List Segment → Segment → ℕ → Record → ℕ → Type 0
-IsTooLarge segs s rec r x = (t : Target) × (target_of (known_of segs) (private_offset segs s.slot rec) r ≡ Ok t) × (MAX_OPERAND < value_of s.code t x)
+IsTooLarge segs s rec r x = (t : Target)
+    × (target_of (known_of segs) (private_offset segs s.slot rec) r ≡ Ok t)
+    × (MAX_OPERAND < value_of s.code t x)
 
 -- the operand at x covers the place
 abbrev pub Covers : Body → ℕ → ℕ → Type 0
@@ -55,11 +62,15 @@ Meet body x other y = (p : ℕ) × Covers body x p × Covers other y p
 -- The operand at x reaches after the code, or into the procedure dictionary or an attribute table,
 -- or meets the operand of an earlier reference of the segment, or becomes more than a BIG operand
 -- can hold.
-abbrev pub ReferenceHas : Order → List Segment → Segment → ℕ → Record → ℕ → ℕ → Reason → Type 0
-ReferenceHas order segs s rec r i x reason.OutsideCode = (p : ℕ) × Covers r.body x p × (length s.code ≤ p)
-ReferenceHas order segs s rec r i x reason.ReservedPlace = (p : ℕ) × Covers r.body x p × (is_reserved order s.code p ≡ true)
+abbrev pub ReferenceHas : Order → List Segment → Segment → ℕ → Record → ℕ → ℕ
+    → Reason → Type 0
+ReferenceHas order segs s rec r i x reason.OutsideCode =
+    (p : ℕ) × Covers r.body x p × (length s.code ≤ p)
+ReferenceHas order segs s rec r i x reason.ReservedPlace =
+    (p : ℕ) × Covers r.body x p × (is_reserved order s.code p ≡ true)
 ReferenceHas order segs s rec r i x reason.Overlap =
-    SomeItem s.records (λ lesser q. SomeItem (refs_of q.body) (λ j y. Before (lesser ∷ j ∷ []) (rec ∷ i ∷ []) × Meet r.body x q.body y))
+    SomeItem s.records (λ lesser q. SomeItem (refs_of q.body)
+    (λ j y. Before (lesser ∷ j ∷ []) (rec ∷ i ∷ []) × Meet r.body x q.body y))
 ReferenceHas order segs s rec r i x reason.OperandTooLarge = IsTooLarge segs s rec r x
 ReferenceHas order segs s rec r i x other = ⊥
 
@@ -69,4 +80,5 @@ abbrev pub InReferences : Order → List ℕ → List (List ℕ) → Fault → T
 InReferences order host libs f =
     SomeSegment order host libs (λ s. SomeItem s.records (λ rec r.
     Because (in_record s.file s.slot rec) (RecordHas (segments order host libs) r.name r.body) f
-    ⊎ SomeItem (refs_of r.body) (λ i x. Because (in_reference s.file s.slot rec i) (ReferenceHas order (segments order host libs) s rec r i x) f)))
+    ⊎ SomeItem (refs_of r.body) (λ i x. Because (in_reference s.file s.slot rec i)
+    (ReferenceHas order (segments order host libs) s rec r i x) f)))

@@ -1,6 +1,7 @@
 -- Faults of the units that only a unit names, each of which is added in a round of its own.
 -- Source: this project's profile.
-use Rattle.std.specs.Prelude.{◌≡◌, ◌⊎◌, ℕ, ◌≤◌, List, length, slice_get, take, true, Some, None}
+use Rattle.std.specs.Prelude.{◌≡◌, ◌⊎◌, ℕ, ◌≤◌, List, length, slice_get, take}
+use Rattle.std.specs.Prelude.{true, Some, None}
 use Rattle.ps_codefile.specs.Dictionary.{entry_at, is_nameless}
 use Rattle.ps_resolve.specs.Sources.{unit_source, file_at}
 use Rattle.ps_resolve.specs.Added.{added_segments, requested_units, empty_slots}
@@ -16,23 +17,29 @@ use Rattle.ps_resolve.specs.Standing.Sources.{NoneHas, EntryFault, CodeFault}
 -- the name that is looked up in round k, where the rounds before it had no fault: each of them
 -- added its segment
 abbrev pub IsRequested : Order → List ℕ → List (List ℕ) → ℕ → UnitReference → Type 0
-IsRequested order host libs k g = (k ≤ length (added_segments order host libs)) × (slice_get (requested_units order host libs (take k (added_segments order host libs))) k ≡ Some g)
+IsRequested order host libs k g = (k ≤ length (added_segments order host libs))
+    × (slice_get (requested_units order host libs (take k (added_segments order host libs))) k
+    ≡ Some g)
 
 -- nothing has this name, or no library has an entry of it
 abbrev pub IsMissing : Order → List (List ℕ) → List ℕ → Type 0
 IsMissing order libs name = (is_nameless name ≡ true) ⊎ NoneHas order name libs
 
 -- what is wrong with the unit of a name in its slot: the library's entries, or its code
-abbrev pub PlacedFault : Order → List ℕ → List (List ℕ) → List ℕ → ℕ → Fault → Type 0
+abbrev pub PlacedFault : Order → List ℕ → List (List ℕ) → List ℕ → ℕ → Fault
+    → Type 0
 PlacedFault order host libs name slot f =
     EntryFault order name libs slot f
     ⊎ ((at : ℕ × ℕ) × (unit_source order name libs ≡ Some at)
-    × CodeFault order (file_at host libs at.0) at.0 (entry_at order (file_at host libs at.0) at.1) slot role.Wanted f)
+    × CodeFault order (file_at host libs at.0) at.0
+    (entry_at order (file_at host libs at.0) at.1) slot role.Wanted f)
 
 -- the unit is missing, or no slot is left for it, or the slot's unit has a fault
 abbrev pub InRound : Order → List ℕ → List (List ℕ) → ℕ → Fault → Type 0
 InRound order host libs k f =
     (g : UnitReference) × IsRequested order host libs k g
     × (((f ≡ in_record g.file g.slot g.rec reason.MissingUnit) × IsMissing order libs g.name)
-    ⊎ (((f ≡ in_record g.file g.slot g.rec reason.NoSlot) × (slice_get (empty_slots order host) k ≡ None))
-    ⊎ ((slot : ℕ) × (slice_get (empty_slots order host) k ≡ Some slot) × PlacedFault order host libs g.name slot f)))
+    ⊎ (((f ≡ in_record g.file g.slot g.rec reason.NoSlot)
+    × (slice_get (empty_slots order host) k ≡ None))
+    ⊎ ((slot : ℕ) × (slice_get (empty_slots order host) k ≡ Some slot)
+    × PlacedFault order host libs g.name slot f)))

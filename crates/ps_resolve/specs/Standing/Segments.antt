@@ -14,5 +14,7 @@ abbrev pub SomeSegment : Order → List ℕ → List (List ℕ) → (Segment →
 SomeSegment order host libs P = (s : Segment) × IsSegment order host libs s × P s
 
 -- P holds of the host's own segment
-abbrev pub OfHostSegment : Order → List ℕ → List (List ℕ) → (Segment → Type 0) → Type 0
-OfHostSegment order host libs P = (s : Segment) × (host_of (segments order host libs) ≡ Some s) × P s
+abbrev pub OfHostSegment : Order → List ℕ → List (List ℕ) → (Segment → Type 0)
+    → Type 0
+OfHostSegment order host libs P = (s : Segment) × (host_of (segments order host libs) ≡ Some s)
+    × P s

@@ -11,8 +11,11 @@ returns c =
       some = some law;
       none = none law;
       one = one law;
-      parts = λ host libs step f h. parts (order_of host) host libs (not_wanted (order_of host) host libs) step f h.stands;
-      used = λ host libs f e. (let first = some law host libs f e in (parts (order_of host) host libs (not_wanted (order_of host) host libs) first.step f first.stands.stands).used);
+      parts = λ host libs step f h. parts (order_of host) host libs
+          (not_wanted (order_of host) host libs) step f h.stands;
+      used = λ host libs f e. (let first = some law host libs f e in
+          (parts (order_of host) host libs
+          (not_wanted (order_of host) host libs) first.step f first.stands.stands).used);
       only = only law;
       read = read law;
       unread = unread law;

@@ -7,7 +7,9 @@ use Rattle.ps_laws.proofs.requested.added_units.Goals as goal
 
 pub returns : goal.returns
 returns c = record {
-  units = λ host libs e. let fine = none_read host libs e in units_are (order_of host) host libs fine.0 fine.1;
-  one = λ host libs e queue others are. let fine = none_read host libs e in only_units (order_of host) host libs fine.0 fine.1 queue others are;
+  units = λ host libs e. let fine = none_read host libs e in
+      units_are (order_of host) host libs fine.0 fine.1;
+  one = λ host libs e queue others are. let fine = none_read host libs e in
+      only_units (order_of host) host libs fine.0 fine.1 queue others are;
   there = λ host libs e. asked_is_there (order_of host) host libs (none_read host libs e).1;
 }

@@ -5,20 +5,27 @@ use Rattle.ps_linkfile.proofs.Views.{extent_of_source, no_source, view_at, size_
 use Rattle.ps_linkfile.proofs.block_layout.layout_of.Goals as goal
 
 pub loop-source-init : goal.loop-source-init
-loop-source-init c = rw c.new-starts.ensures (0, laid_none (map extent_of_source c.args.sources.now) c.requires.slots)
+loop-source-init c = rw c.new-starts.ensures
+    (0, laid_none (map extent_of_source c.args.sources.now) c.requires.slots)
 
 pub overflow_cast-blocks : goal.overflow_cast-blocks
 overflow_cast-blocks c =
     let ss = c.args.sources.now in
     let i = c.loop-source.source-index in
-    let (count, block) = laid_next (map extent_of_source ss) i _ _ _ (extent_of_source (get_or ss i no_source)) (view_at extent_of_source ss i no_source c.loop-source-test.true) c.loop-source.invariant.1 in
+    let (count, block) = laid_next (map extent_of_source ss) i _ _ _
+    (extent_of_source (get_or ss i no_source))
+    (view_at extent_of_source ss i no_source c.loop-source-test.true) c.loop-source.invariant.1
+    in
     omega (arith, block)
 
 pub overflow_add-blocks : goal.overflow_add-blocks
 overflow_add-blocks c =
     let ss = c.args.sources.now in
     let i = c.loop-source.source-index in
-    let (count, block) = laid_next (map extent_of_source ss) i _ _ _ (extent_of_source (get_or ss i no_source)) (view_at extent_of_source ss i no_source c.loop-source-test.true) c.loop-source.invariant.1 in
+    let (count, block) = laid_next (map extent_of_source ss) i _ _ _
+    (extent_of_source (get_or ss i no_source))
+    (view_at extent_of_source ss i no_source c.loop-source-test.true) c.loop-source.invariant.1
+    in
     let size = size_at ss i c.requires.sizes c.loop-source-test.true in
     omega (arith, block, size, c.blocks_of-blocks.ensures)
 
@@ -26,7 +33,10 @@ pub push-requires : goal.push-requires
 push-requires c =
     let ss = c.args.sources.now in
     let i = c.loop-source.source-index in
-    let (count, block) = laid_next (map extent_of_source ss) i _ _ _ (extent_of_source (get_or ss i no_source)) (view_at extent_of_source ss i no_source c.loop-source-test.true) c.loop-source.invariant.1 in
+    let (count, block) = laid_next (map extent_of_source ss) i _ _ _
+    (extent_of_source (get_or ss i no_source))
+    (view_at extent_of_source ss i no_source c.loop-source-test.true) c.loop-source.invariant.1
+    in
     omega (arith, count, c.loop-source.invariant.1.many)
 
 pub loop-source-preserved : goal.loop-source-preserved
@@ -35,7 +45,9 @@ loop-source-preserved c =
     let i = c.loop-source.source-index in
     let all = map extent_of_source ss in
     let item = extent_of_source (get_or ss i no_source) in
-    let more = laid_more all i c.loop-source.starts.items c.loop-source.blocks _ item (view_at extent_of_source ss i no_source c.loop-source-test.true) (size_at ss i c.requires.sizes c.loop-source-test.true) c.loop-source.invariant.1 in
+    let more = laid_more all i c.loop-source.starts.items c.loop-source.blocks _ item
+    (view_at extent_of_source ss i no_source c.loop-source-test.true)
+    (size_at ss i c.requires.sizes c.loop-source-test.true) c.loop-source.invariant.1 in
     (item.slot + 1, rw (c.push.ensures.items, c.blocks_of-blocks.ensures) more)
 
 pub returns-clause-starts : goal.returns-clause-starts
@@ -44,4 +56,6 @@ returns-clause-starts c = grind (arith, laid_done, extent_of_source, length-map)
 pub returns-clause-blocks : goal.returns-clause-blocks
 returns-clause-blocks c =
     let ss = c.args.sources.now in
-    (laid_done (map extent_of_source ss) c.loop-source.source-index _ _ _ (omega (arith, length-map ss extent_of_source, c.loop-source-test.false)) c.loop-source.invariant.1).1
+    (laid_done (map extent_of_source ss) c.loop-source.source-index _ _ _
+    (omega (arith, length-map ss extent_of_source, c.loop-source-test.false))
+    c.loop-source.invariant.1).1

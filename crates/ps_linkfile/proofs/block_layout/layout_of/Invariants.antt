@@ -6,4 +6,6 @@ use Rattle.ps_linkfile.proofs.block_layout.layout_of.Given as goal
 
 -- the codes of the sources so far are laid out
 abbrev pub invariant-loop-source : goal.invariant-loop-source
-invariant-loop-source l = (from : ℕ) × LaidSoFar (map (λ s. extent_of_origin (origin_of_source s)) l.sources) l.source-index l.starts.items l.blocks from
+invariant-loop-source l = (from : ℕ) × LaidSoFar
+    (map (λ s. extent_of_origin (origin_of_source s)) l.sources) l.source-index l.starts.items
+    l.blocks from

@@ -1,4 +1,5 @@
-use Rattle.std.proofs.Common.{◌≡◌, ◌*◌, ◌∙◌, ℕ, List, length, map, replicate, refl, sym, ap, arith}
+use Rattle.std.proofs.Common.{◌≡◌, ◌*◌, ◌∙◌, ℕ, List, length, map, replicate}
+use Rattle.std.proofs.Common.{refl, sym, ap, arith}
 use Rattle.std.specs.List.{flat_map}
 use Rattle.std.proofs.lemmas.List.{length-replicate}
 use Rattle.ps_words.specs.declared.order.Order.{Order}
@@ -9,35 +10,62 @@ use Rattle.ps_linkfile.proofs.Whole.{part_len, all_pairs_len, stored_parts, dict
 use Rattle.ps_linkfile.proofs.dictionary.dictionary_of.Goals as goal
 
 pub pairs_of-pairs-requires-clause-slots : goal.pairs_of-pairs-requires-clause-slots
-pairs_of-pairs-requires-clause-slots g c = seen_ascend c.sources.result.now c.args.plan.now.origins c.sources.ensures.origins c.requires.ready.slots
+pairs_of-pairs-requires-clause-slots g c =
+    seen_ascend c.sources.result.now c.args.plan.now.origins c.sources.ensures.origins
+    c.requires.ready.slots
 
 pub pairs_of-pairs-requires-clause-sizes : goal.pairs_of-pairs-requires-clause-sizes
-pairs_of-pairs-requires-clause-sizes g c = seen_small c.sources.result.now c.args.plan.now.origins c.sources.ensures.origins c.requires.ready.sizes
+pairs_of-pairs-requires-clause-sizes g c =
+    seen_small c.sources.result.now c.args.plan.now.origins c.sources.ensures.origins
+    c.requires.ready.sizes
 
 pub pairs_of-pairs-requires-clause-starts : goal.pairs_of-pairs-requires-clause-starts
-pairs_of-pairs-requires-clause-starts g c = c.as_slice.ensures.value ∙ c.lay_out-layout.ensures.starts ∙ ap starts_of (seen c.sources.result.now c.args.plan.now.origins c.sources.ensures.origins)
+pairs_of-pairs-requires-clause-starts g c =
+    c.as_slice.ensures.value ∙ c.lay_out-layout.ensures.starts
+    ∙ ap starts_of (seen c.sources.result.now c.args.plan.now.origins c.sources.ensures.origins)
 
 pub store-requires-2 : goal.store-requires-2
 store-requires-2 g c = grind arith
 
 pub store-requires-3 : goal.store-requires-3
 store-requires-3 g c =
-    let tail_256 : length c.tail.result.now ≡ 256 = ap (λ (xs : List ℕ). length xs) c.tail.ensures ∙ part_len c.args.plan.now.host 256 512 (omega (arith, c.requires.ready.host)) in
-    omega (arith, tail_256, c.store.ensures.length, c.store-2.ensures.length, length-replicate {A = ℕ} 512 0)
+    let tail_256 : length c.tail.result.now ≡ 256 =
+    ap (λ (xs : List ℕ). length xs) c.tail.ensures
+    ∙ part_len c.args.plan.now.host 256 512 (omega (arith, c.requires.ready.host)) in
+    omega (
+      arith,
+      tail_256,
+      c.store.ensures.length,
+      c.store-2.ensures.length,
+      length-replicate {A = ℕ} 512 0,
+    )
 
 pub returns : goal.returns
 returns g c =
     let plan = c.args.plan.now in
-    let pairs_64 : length c.pairs_of-pairs.result ≡ 64 = ap (λ (xs : List ℕ). length xs) c.pairs_of-pairs.ensures ∙ all_pairs_len _ _ in
-    let flat : length c.as_flattened.result.now ≡ length c.names.result.now * 8 = c.as_flattened.ensures.len in
-    let sixteen : length c.names.result.now ≡ 16 = ap (λ (names : List (List ℕ)). length names) c.names.ensures ∙ c.requires.ready.names in
+    let pairs_64 : length c.pairs_of-pairs.result ≡ 64 =
+    ap (λ (xs : List ℕ). length xs) c.pairs_of-pairs.ensures ∙ all_pairs_len _ _ in
+    let flat : length c.as_flattened.result.now ≡ length c.names.result.now * 8 =
+    c.as_flattened.ensures.len in
+    let sixteen : length c.names.result.now ≡ 16 =
+    ap (λ (names : List (List ℕ)). length names) c.names.ensures ∙ c.requires.ready.names
+    in
     let names_128 : length c.as_flattened.result.now ≡ 128 = omega (arith, flat, sixteen) in
-    let names_are = c.as_flattened.ensures.value ∙ ap (λ (names : List (List ℕ)). flat_map (λ name. name) names) c.names.ensures in
-    let tail_256 : length c.tail.result.now ≡ 256 = ap (λ (xs : List ℕ). length xs) c.tail.ensures ∙ part_len plan.host 256 512 (omega (arith, c.requires.ready.host)) in
+    let names_are = c.as_flattened.ensures.value
+    ∙ ap (λ (names : List (List ℕ)). flat_map (λ name. name) names) c.names.ensures in
+    let tail_256 : length c.tail.result.now ≡ 256 =
+    ap (λ (xs : List ℕ). length xs) c.tail.ensures
+    ∙ part_len plan.host 256 512 (omega (arith, c.requires.ready.host)) in
     let pairs_are : c.pairs_of-pairs.result ≡ all_pairs plan.order (extents_in plan) =
     c.pairs_of-pairs.ensures
-    ∙ (ap (λ (o : Order). all_pairs o (map extent_of_source c.sources.result.now)) c.order.ensures
-    ∙ ap (λ (cs : List Extent). all_pairs plan.order cs) (sym (seen c.sources.result.now plan.origins c.sources.ensures.origins))) in
-    dictionary_is plan.order plan.names plan.host (extents_in plan) _ c.pairs_of-pairs.result c.as_flattened.result.now c.tail.result.now
-    (stored_parts (replicate 512 0) _ _ _ c.pairs_of-pairs.result c.as_flattened.result.now (replicate 64 0) c.tail.result.now (length-replicate {A = ℕ} 512 0) refl pairs_64 names_128 tail_256 c.store.ensures.stored c.store-2.ensures.stored c.store-3.ensures.stored)
+    ∙ (ap (λ (o : Order). all_pairs o (map extent_of_source c.sources.result.now))
+    c.order.ensures
+    ∙ ap (λ (cs : List Extent). all_pairs plan.order cs)
+    (sym (seen c.sources.result.now plan.origins c.sources.ensures.origins))) in
+    dictionary_is plan.order plan.names plan.host
+    (extents_in plan) _ c.pairs_of-pairs.result c.as_flattened.result.now c.tail.result.now
+    (stored_parts (replicate 512 0) _ _ _ c.pairs_of-pairs.result c.as_flattened.result.now
+    (replicate 64 0) c.tail.result.now
+    (length-replicate {A = ℕ} 512 0) refl pairs_64 names_128 tail_256 c.store.ensures.stored
+    c.store-2.ensures.stored c.store-3.ensures.stored)
     pairs_are names_are c.tail.ensures

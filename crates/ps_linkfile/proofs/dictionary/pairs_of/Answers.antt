@@ -1,21 +1,30 @@
-use Rattle.std.proofs.Common.{◌≡◌, ◌+◌, ◌*◌, ℕ, length, map, get_or, sym, ◌∙◌, subst, arith}
+use Rattle.std.proofs.Common.{◌≡◌, ◌+◌, ◌*◌, ℕ, length, map, get_or, sym, ◌∙◌}
+use Rattle.std.proofs.Common.{subst, arith}
 use Rattle.std.proofs.lemmas.List.{length-map}
 use Rattle.ps_words.specs.Words.{blocks}
 use Rattle.ps_linkfile.proofs.Pairs.{IsPut, PairsSoFar, pairs_none, pairs_more, pairs_done}
-use Rattle.ps_linkfile.proofs.Views.{extent_of_source, no_source, view_at, size_at, slot_at, many_starts, start_at}
+use Rattle.ps_linkfile.proofs.Views.{extent_of_source, no_source, view_at, size_at, slot_at}
+use Rattle.ps_linkfile.proofs.Views.{many_starts, start_at}
 use Rattle.ps_linkfile.proofs.dictionary.pairs_of.Goals as goal
 
 pub loop-k-init : goal.loop-k-init
-loop-k-init c = (1, 0, pairs_none c.args.order (map extent_of_source c.args.sources.now) c.requires.slots)
+loop-k-init c = (
+  1,
+  0,
+  pairs_none c.args.order
+      (map extent_of_source c.args.sources.now) c.requires.slots,
+)
 
 pub put-requires : goal.put-requires
 put-requires c = grind (arith, slot_at)
 
 pub bounds-starts-k : goal.bounds-starts-k
-bounds-starts-k c = omega (arith, many_starts c.args.sources.now c.args.starts.now c.requires.starts, c.loop-k-test.true)
+bounds-starts-k c = omega
+    (arith, many_starts c.args.sources.now c.args.starts.now c.requires.starts, c.loop-k-test.true)
 
 pub overflow_cast-source : goal.overflow_cast-source
-overflow_cast-source c = omega (arith, size_at c.args.sources.now c.loop-k.k c.requires.sizes c.loop-k-test.true)
+overflow_cast-source c = omega
+    (arith, size_at c.args.sources.now c.loop-k.k c.requires.sizes c.loop-k-test.true)
 
 pub put-requires-in-loop-k : goal.put-requires-in-loop-k
 put-requires-in-loop-k c = grind (arith, slot_at)
@@ -30,12 +39,27 @@ loop-k-preserved c =
     let start = get_or c.args.starts.now k 0 in
     let (block, from, so_far) = c.loop-k.invariant in
     let first : IsPut order c.loop-k.pairs c.put.new.bytes (4 * item.slot) start =
-    record { first = c.put.ensures.first; second = c.put.ensures.second; others = c.put.ensures.others; size = c.put.ensures.length } in
-    let second : IsPut order c.put.new.bytes c.put-in-loop-k.new.bytes (4 * item.slot + 2) item.size =
-    record { first = c.put-in-loop-k.ensures.first; second = c.put-in-loop-k.ensures.second; others = c.put-in-loop-k.ensures.others; size = c.put-in-loop-k.ensures.length } in (
+    record {
+      first = c.put.ensures.first;
+      second = c.put.ensures.second;
+      others =
+          c.put.ensures.others;
+      size = c.put.ensures.length;
+    } in
+    let second : IsPut order c.put.new.bytes c.put-in-loop-k.new.bytes
+    (4 * item.slot + 2) item.size =
+    record {
+      first = c.put-in-loop-k.ensures.first;
+      second = c.put-in-loop-k.ensures.second;
+      others = c.put-in-loop-k.ensures.others;
+      size = c.put-in-loop-k.ensures.length;
+    } in (
       block + blocks item.size,
       item.slot + 1,
-      pairs_more order all k _ _ _ block from start item (view_at extent_of_source ss k no_source c.loop-k-test.true) (start_at ss c.args.starts.now k c.requires.starts c.loop-k-test.true) so_far first second,
+      pairs_more order all k _ _ _ block from start item
+          (view_at extent_of_source ss k no_source c.loop-k-test.true)
+          (start_at ss c.args.starts.now k c.requires.starts c.loop-k-test.true) so_far first
+          second,
     )
 
 pub returns : goal.returns

@@ -6,4 +6,6 @@ use Rattle.ps_linkfile.proofs.dictionary.pairs_of.Given as goal
 
 -- the pairs of the sources so far are stored
 abbrev pub invariant-loop-k : goal.invariant-loop-k
-invariant-loop-k l = (block : ℕ) × (from : ℕ) × PairsSoFar l.order (map (λ s. extent_of_origin (origin_of_source s)) l.sources) l.k l.pairs block from
+invariant-loop-k l = (block : ℕ) × (from : ℕ)
+    × PairsSoFar l.order (map (λ s. extent_of_origin (origin_of_source s)) l.sources) l.k l.pairs
+    block from

@@ -10,8 +10,13 @@ loop-byte-init g c = none_yet _ c.args.text.now _ _ refl
 pub loop-byte-preserved : goal.loop-byte-preserved
 loop-byte-preserved g c =
     let bs = c.args.bytes.now in
-    some_more _ _ _ c.loop-byte.text _ _ _ _ (items_left json_byte bs c.loop-byte.byte-index _ (drop_more bs c.loop-byte.byte-index _ c.loop-byte-test.true)) c.loop-byte.invariant c.add_byte.ensures
+    some_more _ _ _ c.loop-byte.text _ _ _ _
+    (items_left json_byte bs c.loop-byte.byte-index _
+    (drop_more bs c.loop-byte.byte-index _ c.loop-byte-test.true)) c.loop-byte.invariant
+    c.add_byte.ensures
 
 pub returns : goal.returns
 returns g c =
-    all_written _ _ _ c.loop-byte.text _ (items_over json_byte c.args.bytes.now c.loop-byte.byte-index (omega (arith, c.loop-byte-test.false))) c.loop-byte.invariant
+    all_written _ _ _ c.loop-byte.text _
+    (items_over json_byte c.args.bytes.now c.loop-byte.byte-index
+    (omega (arith, c.loop-byte-test.false))) c.loop-byte.invariant

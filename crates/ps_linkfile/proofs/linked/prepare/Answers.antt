@@ -10,7 +10,9 @@ use Rattle.ps_linkfile.proofs.linked.prepare.Goals as goal
 pub invariant_of-result : goal.invariant_of-result
 invariant_of-result g c =
     let plan = c.in_ok-plan.ensures.plan in
-    plan_ready _ _ c.in_ok-plan.plan plan (subst (λ (bytes : List ℕ). 512 ≤ length bytes) (sym plan.of_host) (long_host _ _ c.in_ok-plan.ensures.sound))
+    plan_ready _ _ c.in_ok-plan.plan plan
+    (subst (λ (bytes : List ℕ). 512 ≤ length bytes) (sym plan.of_host)
+    (long_host _ _ c.in_ok-plan.ensures.sound))
 
 pub returns-clause-linked : goal.returns-clause-linked
 returns-clause-linked g c =
@@ -18,7 +20,10 @@ returns-clause-linked g c =
     let libs = map (λ lib. lib.now) c.args.libs.now in
     let plan = c.in_ok-plan.ensures.plan in
     record {
-      file = subst (λ (file : List ℕ). LinkedFile host libs file) (sym (plan_file host libs c.in_ok-plan.plan plan)) (there host libs c.slot_names_are_whole.ensures c.first_of_all.ensures.none c.bytes_are_linked.ensures.made c.in_ok-plan.ensures.sound);
+      file = subst (λ (file : List ℕ). LinkedFile host libs file)
+          (sym (plan_file host libs c.in_ok-plan.plan plan))
+          (there host libs c.slot_names_are_whole.ensures c.first_of_all.ensures.none
+          c.bytes_are_linked.ensures.made c.in_ok-plan.ensures.sound);
       summary = plan_summary host libs c.in_ok-plan.plan plan;
     }
 
@@ -34,4 +39,5 @@ returns-clause-accepted g c = c.first_of_all.ensures.none _ _ c.in_ok-plan.ensur
 pub returns-in_err-plan-clause-first : goal.returns-in_err-plan-clause-first
 returns-in_err-plan-clause-first g c =
     let p = err_from_is_err_and c.from_residual.result c.from_residual.ensures.1 in
-    rw (p.1, p.2) (names_first c.first_of_all.ensures.some c.first_of_all.ensures.parts c.first_of_all.ensures.read _ _ _ c.in_err-plan.ensures.stop)
+    rw (p.1, p.2) (names_first c.first_of_all.ensures.some c.first_of_all.ensures.parts
+    c.first_of_all.ensures.read _ _ _ c.in_err-plan.ensures.stop)

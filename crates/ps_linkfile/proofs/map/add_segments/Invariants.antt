@@ -8,4 +8,6 @@ use Rattle.ps_linkfile.proofs.map.add_segments.Given as goal
 -- the lines of the sources that are left are still to be written
 abbrev pub invariant-loop-k : goal.invariant-loop-k
 invariant-loop-k g l =
-    Written g.S.TextWriter.added l.fn.text (flat_map (source_line l.plan.names (extents_in l.plan)) l.plan.origins) (flat_map (source_line l.plan.names (extents_in l.plan)) (drop l.k l.plan.origins)) l.text
+    Written g.S.TextWriter.added l.fn.text
+    (flat_map (source_line l.plan.names (extents_in l.plan)) l.plan.origins)
+    (flat_map (source_line l.plan.names (extents_in l.plan)) (drop l.k l.plan.origins)) l.text

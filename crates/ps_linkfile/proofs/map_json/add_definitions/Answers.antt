@@ -11,11 +11,16 @@ loop-i-init g c = none_yet _ c.args.text.now _ _ refl
 pub loop-i-preserved : goal.loop-i-preserved
 loop-i-preserved g c =
     let defs = c.args.definitions.now in
-    some_more _ _ _ c.loop-i.text _ _ _ _ (numbered_left definition_item defs c.loop-i.i c.at.result (got defs c.loop-i.i c.at.result c.at.ensures)) c.loop-i.invariant c.add_definition.ensures
+    some_more _ _ _ c.loop-i.text _ _ _ _
+    (numbered_left definition_item defs c.loop-i.i c.at.result
+    (got defs c.loop-i.i c.at.result c.at.ensures)) c.loop-i.invariant c.add_definition.ensures
 
 pub returns : goal.returns
 returns g c =
-    all_written _ _ _ c.loop-i.text _ (numbered_over definition_item c.args.definitions.now c.loop-i.i (omega (arith, c.len-i-end.ensures, c.loop-i-test.false))) c.loop-i.invariant
+    all_written _ _ _ c.loop-i.text _
+    (numbered_over definition_item c.args.definitions.now c.loop-i.i
+    (omega (arith, c.len-i-end.ensures, c.loop-i-test.false))) c.loop-i.invariant
 
 pub returns-then-has_failed : goal.returns-then-has_failed
-returns-then-has_failed g c = all_stopped _ _ _ c.loop-i.text _ c.loop-i.invariant (c.has_failed.ensures c.if-has_failed.true _)
+returns-then-has_failed g c = all_stopped _ _ _ c.loop-i.text _ c.loop-i.invariant
+    (c.has_failed.ensures c.if-has_failed.true _)

@@ -11,11 +11,15 @@ loop-i-init g c = none_yet _ c.args.text.now _ _ refl
 pub loop-i-preserved : goal.loop-i-preserved
 loop-i-preserved g c =
     let ps = c.args.privates.now in
-    some_more _ _ _ c.loop-i.text _ _ _ _ (numbered_left private_item ps c.loop-i.i _ (drop_more ps c.loop-i.i _ c.loop-i-test.true)) c.loop-i.invariant c.add_private.ensures
+    some_more _ _ _ c.loop-i.text _ _ _ _
+    (numbered_left private_item ps c.loop-i.i _ (drop_more ps c.loop-i.i _ c.loop-i-test.true))
+    c.loop-i.invariant c.add_private.ensures
 
 pub returns : goal.returns
 returns g c =
-    all_written _ _ _ c.loop-i.text _ (numbered_over private_item c.args.privates.now c.loop-i.i (omega (arith, c.loop-i-test.false))) c.loop-i.invariant
+    all_written _ _ _ c.loop-i.text _ (numbered_over private_item c.args.privates.now c.loop-i.i
+    (omega (arith, c.loop-i-test.false))) c.loop-i.invariant
 
 pub returns-then-has_failed : goal.returns-then-has_failed
-returns-then-has_failed g c = all_stopped _ _ _ c.loop-i.text _ c.loop-i.invariant (c.has_failed.ensures c.if-has_failed.true _)
+returns-then-has_failed g c = all_stopped _ _ _ c.loop-i.text _ c.loop-i.invariant
+    (c.has_failed.ensures c.if-has_failed.true _)

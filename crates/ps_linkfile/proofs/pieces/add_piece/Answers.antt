@@ -1,4 +1,5 @@
-use Rattle.std.proofs.Common.{◌≤◌, ◌+◌, ◌-◌, ◌∙◌, ℕ, List, drop, length, ap, arith}
+use Rattle.std.proofs.Common.{◌≤◌, ◌+◌, ◌-◌, ◌∙◌, ℕ, List, drop, length, ap}
+use Rattle.std.proofs.Common.{arith}
 use Rattle.std.specs.Prelude.{min}
 use Rattle.std.specs.List.{flat_map}
 use Rattle.std.proofs.lemmas.List.{length-drop, take_all}
@@ -14,6 +15,13 @@ returns g c =
     let from : ℕ = c.args.from in
     let start : ℕ = c.write_piece-start.result in
     let text : List ℕ = drop start c.write_piece-start.new.piece in
-    let long : length text ≤ 384 - start = omega (arith, length-drop start c.write_piece-start.new.piece, c.write_piece-start.array_long) in
+    let long : length text ≤ 384 - start =
+    omega (
+      arith,
+      length-drop start c.write_piece-start.new.piece,
+      c.write_piece-start.array_long,
+    ) in
     adds_is _ _ _ _ _ (take_all (384 - start) text long ∙ (c.write_piece-start.ensures.text
-    ∙ ap (flat_map reference) (piece_is refs from c.min-end.result c.requires (c.min-end.ensures ∙ ap (λ (n : ℕ). min n (from + PIECE_REFERENCES)) c.len.ensures.len)))) c.add.ensures
+    ∙ ap (flat_map reference) (piece_is refs from c.min-end.result c.requires
+    (c.min-end.ensures ∙ ap (λ (n : ℕ). min n (from + PIECE_REFERENCES))
+    c.len.ensures.len)))) c.add.ensures

@@ -1,4 +1,5 @@
-use Rattle.std.proofs.Common.{◌≡◌, ◌≤◌, ◌+◌, ◌-◌, ◌++◌, ◌∙◌, ℕ, List, [], drop, take, length, get_or, ap, sym, arith}
+use Rattle.std.proofs.Common.{◌≡◌, ◌≤◌, ◌+◌, ◌-◌, ◌++◌, ◌∙◌, ℕ}
+use Rattle.std.proofs.Common.{List, [], drop, take, length, get_or, ap, sym, arith}
 use Rattle.std.specs.List.{flat_map}
 use Rattle.std.proofs.Math.ListN.{drop_of_length-le}
 use Rattle.ps_linkfile.specs.ShowText.{reference}
@@ -30,7 +31,9 @@ loop-step-preserved c =
       inside = omega (arith, inv.inside, written.before);
       text = written.text
           ∙ (ap (λ (n : ℕ). reference n ++ old) c.get.ensures
-          ∙ (ap (λ (ys : List ℕ). reference (get_or refs i 0) ++ ys) (inv.text ∙ ap (λ (n : ℕ). flat_map reference (take step (drop n refs))) (sym behind))
+          ∙ (ap (λ (ys : List ℕ). reference (get_or refs i 0) ++ ys)
+          (inv.text ∙ ap (λ (n : ℕ). flat_map reference (take step (drop n refs)))
+          (sym behind))
           ∙ (one_more refs i step (omega arith)
           ∙ ap (λ (n : ℕ). flat_map reference (take (step + 1) (drop n refs))) next)));
     }

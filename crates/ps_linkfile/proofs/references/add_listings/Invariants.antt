@@ -6,4 +6,6 @@ use Rattle.ps_linkfile.proofs.references.add_listings.Given as goal
 
 -- the lines of the segments that are left are still to be written
 abbrev pub invariant-loop-listing : goal.invariant-loop-listing
-invariant-loop-listing g l = Written g.S.TextWriter.added l.fn.text (flat_map listed_lines l.listings) (flat_map listed_lines (drop l.listing-index l.listings)) l.text
+invariant-loop-listing g l = Written g.S.TextWriter.added l.fn.text
+    (flat_map listed_lines l.listings) (flat_map listed_lines (drop l.listing-index l.listings))
+    l.text

@@ -11,6 +11,8 @@ abbrev pub invariant-loop-item : goal.invariant-loop-item
 invariant-loop-item g l = record {
   can : (goal.iterator-loop-item g).can_next l.item-iterator;
   finite : (goal.iterator-loop-item g).is_finite l.item-iterator;
-  lines : Written g.S.TextWriter.added l.fn.text (record_lines l.units (reading l.fn.order l.information)) (item_lines l.units l.rec (items_left l.item-iterator)) l.text;
+  lines : Written g.S.TextWriter.added l.fn.text
+      (record_lines l.units (reading l.fn.order l.information))
+      (item_lines l.units l.rec (items_left l.item-iterator)) l.text;
   few : l.rec + length (items_left l.item-iterator) ≤ length l.information / 16 + 1;
 }

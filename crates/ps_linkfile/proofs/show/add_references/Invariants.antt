@@ -9,4 +9,5 @@ use Rattle.ps_linkfile.proofs.show.add_references.Given as goal
 abbrev pub invariant-loop-index : goal.invariant-loop-index
 invariant-loop-index g l =
     let refs : List ℕ = l.refs in
-    Written g.S.TextWriter.added l.fn.text (references refs) (flat_map reference (drop (PIECE_REFERENCES * l.index) refs)) l.text
+    Written g.S.TextWriter.added l.fn.text (references refs)
+    (flat_map reference (drop (PIECE_REFERENCES * l.index) refs)) l.text

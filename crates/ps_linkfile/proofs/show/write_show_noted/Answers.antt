@@ -9,12 +9,18 @@ use Rattle.ps_linkfile.proofs.show.write_show_noted.Goals as goal
 pub returns-clause-written : goal.returns-clause-written
 returns-clause-written g c =
     let shown = c.in_ok-read.field-0 in
-    subst (λ (bytes : List ℕ). Appends (g.W.Write.contents c.args.out.now) (g.W.Write.contents c.write_text_noted.new.out) bytes)
-    (shown_is c.args.file.now (order_shown shown.order) shown.dict c.in_ok-read.ensures.order c.in_ok-read.ensures.dict) c.in_ok-write_text_noted.ensures.all
+    subst (λ (bytes : List ℕ). Appends (g.W.Write.contents c.args.out.now)
+    (g.W.Write.contents c.write_text_noted.new.out) bytes)
+    (shown_is c.args.file.now (order_shown shown.order) shown.dict c.in_ok-read.ensures.order
+    c.in_ok-read.ensures.dict) c.in_ok-write_text_noted.ensures.all
 
-pub returns-in_err-write_text_noted-clause-prefix : goal.returns-in_err-write_text_noted-clause-prefix
+pub returns-in_err-write_text_noted-clause-prefix :
+    goal.returns-in_err-write_text_noted-clause-prefix
 returns-in_err-write_text_noted-clause-prefix g c =
     let shown = c.in_ok-read.field-0 in
-    let p = err_from_is_err_and c.from_residual-in_err-write_text_noted.result c.from_residual-in_err-write_text_noted.ensures.1 in
-    rw (p.1, p.2) (subst (λ (bytes : List ℕ). AppendsPrefix (g.W.Write.contents c.args.out.now) (g.W.Write.contents c.write_text_noted.new.out) bytes)
-    (shown_is c.args.file.now (order_shown shown.order) shown.dict c.in_ok-read.ensures.order c.in_ok-read.ensures.dict) c.in_err-write_text_noted.ensures.prefix)
+    let p = err_from_is_err_and c.from_residual-in_err-write_text_noted.result
+    c.from_residual-in_err-write_text_noted.ensures.1 in
+    rw (p.1, p.2) (subst (λ (bytes : List ℕ). AppendsPrefix (g.W.Write.contents c.args.out.now)
+    (g.W.Write.contents c.write_text_noted.new.out) bytes)
+    (shown_is c.args.file.now (order_shown shown.order) shown.dict c.in_ok-read.ensures.order
+    c.in_ok-read.ensures.dict) c.in_err-write_text_noted.ensures.prefix)

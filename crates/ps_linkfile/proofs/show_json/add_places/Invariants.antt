@@ -8,4 +8,5 @@ use Rattle.ps_linkfile.proofs.show_json.add_places.Given as goal
 abbrev pub invariant-loop-index : goal.invariant-loop-index
 invariant-loop-index g l =
     let refs : List ℕ = l.refs in
-    Written g.S.TextWriter.added l.fn.text (flat_map reference_item (enumerate_from 0 refs)) (flat_map reference_item (enumerate_from l.index (drop l.index refs))) l.text
+    Written g.S.TextWriter.added l.fn.text (flat_map reference_item (enumerate_from 0 refs))
+    (flat_map reference_item (enumerate_from l.index (drop l.index refs))) l.text

@@ -8,5 +8,7 @@ use Rattle.ps_linkfile.proofs.show_json.add_slot.Goals as goal
 pub returns : goal.returns
 unfolding slot_item
 returns g c =
-    let entry = adds_is _ _ _ _ _ (ap (λ (e : Entry). separator c.args.slot ++ entry_members c.args.slot e) c.entry.ensures) c.add_separated.ensures in
+    let entry = adds_is _ _ _ _ _
+    (ap (λ (e : Entry). separator c.args.slot ++ entry_members c.args.slot e) c.entry.ensures)
+    c.add_separated.ensures in
     adds_then _ _ _ _ _ _ (adds_then _ _ _ _ _ _ entry c.add_links.ensures) c.add.ensures

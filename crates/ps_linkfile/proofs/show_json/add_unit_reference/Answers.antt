@@ -5,5 +5,6 @@ use Rattle.ps_linkfile.proofs.show_json.add_unit_reference.Goals as goal
 
 pub returns : goal.returns
 returns g c =
-    let word = adds_is _ _ _ _ _ (c.json_bool.ensures ∙ ap (λ (b : Bool). json_bool (not b)) c.is_listed.ensures) c.add-2.ensures in
+    let word = adds_is _ _ _ _ _ (c.json_bool.ensures
+    ∙ ap (λ (b : Bool). json_bool (not b)) c.is_listed.ensures) c.add-2.ensures in
     adds_then _ _ _ _ _ _ (adds_then _ _ _ _ _ _ c.add_reference.ensures c.add.ensures) word

@@ -8,7 +8,8 @@ abbrev pub invariant-loop-at : goal.invariant-loop-at
 invariant-loop-at g l = record {
   within : l.at ≤ length l.bytes;
   written : Appends (g.W.Write.contents l.fn.out) (g.W.Write.contents l.out) (take l.at l.bytes);
-  counts : Progress (g.T.WriteCounter.counts l.fn.counter l.fn.out) (g.T.WriteCounter.counts l.counter l.out) (length l.bytes) l.at;
+  counts : Progress (g.T.WriteCounter.counts l.fn.counter l.fn.out)
+      (g.T.WriteCounter.counts l.counter l.out) (length l.bytes) l.at;
 }
 
 abbrev pub decreases-loop-at : goal.decreases-loop-at

@@ -5,4 +5,5 @@ use Rattle.ps_resolve.proofs.causes.covering_reference.Given as goal
 
 -- the first of all is the first of those that are left
 abbrev pub invariant-loop-rec : goal.invariant-loop-rec
-invariant-loop-rec l = first_before l.place l.operand l.rec-iterator ≡ first_before l.place l.operand (numbered_records 0 l.records)
+invariant-loop-rec l = first_before l.place l.operand l.rec-iterator
+    ≡ first_before l.place l.operand (numbered_records 0 l.records)

@@ -6,20 +6,36 @@ use Rattle.ps_resolve.proofs.causes.words_of_first.Goals as goal
 pub returns-in_err-words-clause-many : goal.returns-in_err-words-clause-many
 returns-in_err-words-clause-many c =
     let r = c.in-Some.record in
-    let step = one (AddUp c.args.records.now c.args.count c.loop-rec.words) _ _ _ r c.loop-rec.invariant c.in-Some.ensures.steps in
-    let most = within c.args.records.now c.args.count c.loop-rec.words c.in-Some.rec r step.0 step.2 c.if-rec-count.true in
-    let much : 4294967296 ≤ c.loop-rec.words + c.from.result = omega (arith, c.in_err-words.ensures) in
+    let step = one (AddUp c.args.records.now c.args.count c.loop-rec.words) _ _ _ r
+    c.loop-rec.invariant c.in-Some.ensures.steps in
+    let most = within c.args.records.now c.args.count c.loop-rec.words c.in-Some.rec r step.0 step.2
+    c.if-rec-count.true in
+    let much : 4294967296 ≤ c.loop-rec.words + c.from.result =
+    omega (arith, c.in_err-words.ensures) in
     λ _. omega (arith, most, much, c.from.ensures, c.words_taken.ensures)
 
 pub loop-rec-preserved-then-rec-count : goal.loop-rec-preserved-then-rec-count
 loop-rec-preserved-then-rec-count c =
     let r = c.in-Some.record in
-    let step = one (AddUp c.args.records.now c.args.count c.loop-rec.words) _ _ _ r c.loop-rec.invariant c.in-Some.ensures.steps in
-    let more = counted c.args.records.now c.args.count c.loop-rec.words c.in-Some.rec r step.0 step.2 c.if-rec-count.true in
-    (c.in-Some.rec + 1, step.0, step.1, rw (c.in_ok-words.ensures.1, c.from.ensures, c.words_taken.ensures) more)
+    let step = one (AddUp c.args.records.now c.args.count c.loop-rec.words) _ _ _ r
+    c.loop-rec.invariant c.in-Some.ensures.steps in
+    let more = counted c.args.records.now c.args.count c.loop-rec.words c.in-Some.rec r step.0
+    step.2 c.if-rec-count.true in (
+      c.in-Some.rec + 1,
+      step.0,
+      step.1,
+      rw
+          (c.in_ok-words.ensures.1, c.from.ensures, c.words_taken.ensures) more,
+    )
 
 pub loop-rec-preserved : goal.loop-rec-preserved
 loop-rec-preserved c =
     let r = c.in-Some.record in
-    let step = one (AddUp c.args.records.now c.args.count c.loop-rec.words) _ _ _ r c.loop-rec.invariant c.in-Some.ensures.steps in
-    (c.in-Some.rec + 1, step.0, step.1, not_counted c.args.records.now c.args.count c.loop-rec.words c.in-Some.rec r step.0 step.2 (omega (arith, c.if-rec-count.false)))
+    let step = one (AddUp c.args.records.now c.args.count c.loop-rec.words) _ _ _ r
+    c.loop-rec.invariant c.in-Some.ensures.steps in (
+      c.in-Some.rec + 1,
+      step.0,
+      step.1,
+      not_counted c.args.records.now c.args.count c.loop-rec.words
+          c.in-Some.rec r step.0 step.2 (omega (arith, c.if-rec-count.false)),
+    )

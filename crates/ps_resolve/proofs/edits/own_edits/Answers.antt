@@ -10,14 +10,21 @@ pub returns-then-not-host : goal.returns-then-not-host
 returns-then-not-host g c =
     let tables : ProcedureTables = c.args.procedures.now in
     let ts : List PlaceState = c.in_ok-edits.edits.states.items in
-    let put = c.put.ensures ∙ ap (λ (xs : List ℕ). put_in ts (Byte c.args.slot (length xs - 2))) c.code.ensures in
-    let own = number_table tables ts c.args.slot c.requires.long c.in_ok-edits.ensures.len c.in_ok-edits.ensures.states in
-    rw (put, c.if-not-host.true) (record { table = own.table; taken = own.taken; edits = own.same; stop = tt })
+    let put = c.put.ensures
+    ∙ ap (λ (xs : List ℕ). put_in ts (Byte c.args.slot (length xs - 2))) c.code.ensures in
+    let own = number_table tables ts c.args.slot c.requires.long c.in_ok-edits.ensures.len
+    c.in_ok-edits.ensures.states in
+    rw (put, c.if-not-host.true)
+    (record { table = own.table; taken = own.taken; edits = own.same; stop = tt })
 
 pub returns : goal.returns
 returns g c =
     let tables : ProcedureTables = c.args.procedures.now in
     let ts : List PlaceState = c.in_ok-edits.edits.states.items in
-    let put = c.put-2.ensures ∙ ap (λ (us : List PlaceState). put_in us c.args.size) (c.put.ensures ∙ ap (λ (xs : List ℕ). put_in ts (Byte c.args.slot (length xs - 2))) c.code.ensures) in
-    let own = size_table tables ts c.args.slot c.requires.long c.in_ok-edits.ensures.len c.in_ok-edits.ensures.states c.args.size (c.requires.table c.if-not-host.false) in
-    rw (put, c.if-not-host.false) (record { table = own.table; taken = own.taken; edits = own.same; stop = tt })
+    let put = c.put-2.ensures ∙ ap (λ (us : List PlaceState). put_in us c.args.size)
+    (c.put.ensures ∙ ap (λ (xs : List ℕ). put_in ts (Byte c.args.slot (length xs - 2)))
+    c.code.ensures) in
+    let own = size_table tables ts c.args.slot c.requires.long c.in_ok-edits.ensures.len
+    c.in_ok-edits.ensures.states c.args.size (c.requires.table c.if-not-host.false) in
+    rw (put, c.if-not-host.false)
+    (record { table = own.table; taken = own.taken; edits = own.same; stop = tt })

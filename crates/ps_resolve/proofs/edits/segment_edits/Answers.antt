@@ -1,7 +1,9 @@
-use Rattle.std.proofs.Common.{◌≡◌, ℕ, ◌-◌, ◌++◌, ◌∷◌, ◌∙◌, List, Option, true, length, subst, sym, ap}
+use Rattle.std.proofs.Common.{◌≡◌, ℕ, ◌-◌, ◌++◌, ◌∷◌, ◌∙◌, List, Option}
+use Rattle.std.proofs.Common.{true, length, subst, sym, ap}
 use Rattle.std.specs.Prelude.{IsPermutation}
 use Rattle.std.specs.Option.{option_to_list}
-use Rattle.std.proofs.lemmas.List.Sorted.{All-permutation, IsPermutation-append_left, IsPermutation-trans}
+use Rattle.std.proofs.lemmas.List.Sorted.{All-permutation, IsPermutation-append_left}
+use Rattle.std.proofs.lemmas.List.Sorted.{IsPermutation-trans}
 use Rattle.ps_words.specs.Edits.{AreApart, AreEdits, IsInside}
 use Rattle.ps_words.specs.declared.edit.Edit.{Edit}
 use Rattle.ps_words.specs.declared.edit.Edit.TheVariants.{Byte}
@@ -37,19 +39,37 @@ returns-in_ok-edits-in-Some g c =
     let sorted : List Edit = c.in_ok-edits-in-Some.edits.items in
     let rest : List Edit = records_edits known code free v.records in
     let own_edits : List Edit = Byte v.slot (length code - 2) ∷ option_to_list own in
-    let tables_is = c.procs-procedures.ensures ∙ same_Some _ _ (c.in-Some.ensures.tables ∙ c.requires.sound.kept linked) in
-    let code_is : c.procs-procedures.result.code ≡ code = ap (λ (t : ProcedureTables). t.code) tables_is in
-    let slot_is : c.segment.inside.slot ≡ v.slot = ap (λ (s : SegmentView). s.slot) c.segment.view_is in
-    let host_is : c.is_host-host.result ≡ is_host v.role = c.is_host-host.ensures ∙ ap (λ (s : SegmentView). is_host s.role) c.segment.view_is in
-    let own_listed : IsPermutation own_edits (edits_of own_states) = rw (slot_is, code_is, host_is) at c.in_ok-own-in-Some.ensures.edits in
+    let tables_is = c.procs-procedures.ensures
+    ∙ same_Some _ _ (c.in-Some.ensures.tables ∙ c.requires.sound.kept linked) in
+    let code_is : c.procs-procedures.result.code ≡ code =
+    ap (λ (t : ProcedureTables). t.code) tables_is in
+    let slot_is : c.segment.inside.slot ≡ v.slot =
+    ap (λ (s : SegmentView). s.slot) c.segment.view_is in
+    let host_is : c.is_host-host.result ≡ is_host v.role =
+    c.is_host-host.ensures ∙ ap (λ (s : SegmentView). is_host s.role) c.segment.view_is in
+    let own_listed : IsPermutation own_edits (edits_of own_states) =
+    rw (slot_is, code_is, host_is) at c.in_ok-own-in-Some.ensures.edits in
     let listed : IsPermutation (all_of known v own free) (edits_of states) =
-    IsPermutation-trans (all_of known v own free) (edits_of own_states ++ rest) (edits_of states) (IsPermutation-append_left rest own_edits (edits_of own_states) own_listed) c.in_ok-table-in-Some.ensures.edits in
-    let same : IsPermutation (all_of known v own free) sorted = subst (λ (es : List Edit). IsPermutation (all_of known v own free) es) (sym c.in_ok-edits-in-Some.ensures) listed in
-    let inside = edits_inside order known code v.records free v.slot own large table (map_none _ _ sound) in
+    IsPermutation-trans (all_of known v own free) (edits_of own_states ++ rest) (edits_of states)
+    (IsPermutation-append_left rest own_edits (edits_of own_states) own_listed)
+    c.in_ok-table-in-Some.ensures.edits in
+    let same : IsPermutation (all_of known v own free) sorted =
+    subst (λ (es : List Edit). IsPermutation (all_of known v own free) es)
+    (sym c.in_ok-edits-in-Some.ensures) listed in
+    let inside = edits_inside order known code v.records free v.slot own large table
+    (map_none _ _ sound) in
     let apart = edits_apart 0 states c.in_ok-table-in-Some.ensures.table.spaced in
-    let ready : AreEdits (length code) sorted = record { inside = All-permutation (IsInside (length code)) (all_of known v own free) sorted same inside; apart = subst (λ (es : List Edit). AreApart 0 es) (sym c.in_ok-edits-in-Some.ensures) apart } in
+    let ready : AreEdits (length code) sorted =
     record {
-      links = λ words e. linked_links order known v free linked size sorted same ready (λ edits listed p. c.edits_patch_alike_in_any_order.ensures order code edits listed p) words e;
+      inside = All-permutation (IsInside (length code))
+          (all_of known v own free) sorted same inside;
+      apart =
+          subst (λ (es : List Edit). AreApart 0 es) (sym c.in_ok-edits-in-Some.ensures) apart;
+    } in
+    record {
+      links = λ words e. linked_links order known v free linked size sorted same ready
+          (λ edits listed p. c.edits_patch_alike_in_any_order.ensures order code edits listed p)
+          words e;
       end = c.in_ok-table-in-Some.ensures.end;
       sound = sound;
       stop = tt;

@@ -1,4 +1,5 @@
-use Rattle.std.proofs.Common.{◌≡◌, ℕ, ◌+◌, ◌<◌, ◌∷◌, [], List, length, map, get_or, true, sym, subst, arith, append-nil}
+use Rattle.std.proofs.Common.{◌≡◌, ℕ, ◌+◌, ◌<◌, ◌∷◌, [], List, length, map}
+use Rattle.std.proofs.Common.{get_or, true, sym, subst, arith, append-nil}
 use Rattle.std.specs.Prelude.{All}
 use Rattle.std.proofs.lemmas.List.Elements.{All-take}
 use Rattle.std.proofs.lemmas.Result.{err_from_is_err_and}
@@ -32,16 +33,23 @@ segment_edits-requires g c =
     let is : v ≡ get_or ss i v = c.index-segments-index.is in
     record {
       sound = subst (IsSound order) (sym is) (c.requires.sound i v lt);
-      room = room_at order known ss i v lt is c.loop-index.free (c.args.base + all_words (map owner_of (map segment_of ss))) c.loop-index.invariant.words c.requires.room;
-      table = at_map (λ (s : Segment). is_host s.role ≡ true → IsOfTable order s.code size) segment_of ss i v lt is c.requires.table;
-      alike = All-take (IsLike v) i ss (subst (λ (s : SegmentView). All (IsLike s) ss) (sym is) (c.requires.alike i v lt));
+      room = room_at order known ss i v lt is c.loop-index.free
+          (c.args.base + all_words (map owner_of (map segment_of ss))) c.loop-index.invariant.words
+          c.requires.room;
+      table = at_map (λ (s : Segment). is_host s.role ≡ true → IsOfTable order s.code size)
+          segment_of ss i v lt is c.requires.table;
+      alike = All-take (IsLike v) i ss (subst (λ (s : SegmentView). All (IsLike s) ss) (sym is)
+          (c.requires.alike i v lt));
       named = c.loop-index.invariant.named;
     }
 
 pub returns-in_err-found-clause-stop : goal.returns-in_err-found-clause-stop
 returns-in_err-found-clause-stop g c =
-    let p = err_from_is_err_and c.from_residual-in_err-found.result c.from_residual-in_err-found.ensures.1 in
-    rw (p.1, p.2) (stop_at c.args.link.now.order c.args.link.now.names.now c.args.segments.now c.loop-index.index c.index-segments-index.result (omega arith) c.index-segments-index.is c.loop-index.free
+    let p = err_from_is_err_and c.from_residual-in_err-found.result
+    c.from_residual-in_err-found.ensures.1 in
+    rw (p.1, p.2) (stop_at c.args.link.now.order c.args.link.now.names.now c.args.segments.now
+    c.loop-index.index c.index-segments-index.result
+    (omega arith) c.index-segments-index.is c.loop-index.free
     c.args.base c.in_err-found.field-0.0 c.loop-index.invariant.first c.in_err-found.ensures.stop)
 
 pub loop-index-preserved : goal.loop-index-preserved
@@ -59,20 +67,28 @@ loop-index-preserved g c =
     let inv = c.loop-index.invariant in
     let sound = c.in_ok-found.ensures.sound in
     record {
-      words = words_on order known ss i v lt is free end c.in_ok-found.ensures.end (c.args.base + all_words (map owner_of (map segment_of ss))) inv.words;
-      first = first_on order known ss i v lt is free end c.in_ok-found.ensures.end (references_fault_from order known c.args.base (map segment_of ss)) inv.first sound;
+      words = words_on order known ss i v lt is free end c.in_ok-found.ensures.end
+          (c.args.base + all_words (map owner_of (map segment_of ss))) inv.words;
+      first = first_on order known ss i v lt is free end c.in_ok-found.ensures.end
+          (references_fault_from order known c.args.base (map segment_of ss)) inv.first sound;
       links = λ words all behind h. rw (c.in_ok-push.ensures.items, map_push)
-          (links_on order known ss i v lt is free end c.in_ok-found.ensures.end words (edited_from order known words c.args.base (map segment_of ss)) (map (λ e. e.items) c.loop-index.edits.items) c.in_ok-found.found.items
-          (c.in_ok-found.ensures.links words (at_map (λ (s : Segment). is_host s.role ≡ true → data_edits order words s.code ≡ size ∷ []) segment_of ss i v lt is all))
+          (links_on order known ss i v lt is free end c.in_ok-found.ensures.end words
+          (edited_from order known words c.args.base (map segment_of ss))
+          (map (λ e. e.items) c.loop-index.edits.items) c.in_ok-found.found.items
+          (c.in_ok-found.ensures.links words
+          (at_map (λ (s : Segment). is_host s.role ≡ true
+          → data_edits order words s.code ≡ size ∷ []) segment_of ss i v lt is all))
           (inv.links words all) behind h);
       named = all_taken (λ (s : SegmentView). HaveTargets known s.records) i ss v lt is inv.named
-          (have_targets known (is_reserved order v.code) v.code v.records 0 free [] (none_mapped _ _ sound));
+          (have_targets known (is_reserved order v.code) v.code v.records 0 free []
+          (none_mapped _ _ sound));
     }
 
 pub returns-clause-links : goal.returns-clause-links
 returns-clause-links g c = λ words all.
     let ss : List SegmentView = c.args.segments.now in
     let i : ℕ = c.loop-index.index in
-    let past = none_left c.args.link.now.order c.args.link.now.names.now words c.loop-index.free i ss (omega arith) in
+    let past = none_left c.args.link.now.order c.args.link.now.names.now words c.loop-index.free i
+    ss (omega arith) in
     let linked = c.loop-index.invariant.links words all [] past in
     rw append-nil at linked

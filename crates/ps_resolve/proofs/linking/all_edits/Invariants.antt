@@ -1,4 +1,5 @@
-use Rattle.std.proofs.Common.{◌≡◌, ℕ, ◌+◌, ◌++◌, ◌∷◌, [], List, map, take, drop, true}
+use Rattle.std.proofs.Common.{◌≡◌, ℕ, ◌+◌, ◌++◌, ◌∷◌, [], List, map, take}
+use Rattle.std.proofs.Common.{drop, true}
 use Rattle.std.specs.Prelude.{All}
 use Rattle.ps_words.specs.declared.edit.Edit.{Edit}
 use Rattle.ps_resolve.specs.Faults.{references_fault_from}
@@ -18,9 +19,14 @@ invariant-loop-index g l =
     let rest = map segment_of (drop l.index l.segments) in
     record {
       words : l.free + all_words (map owner_of rest) ≡ l.base + all_words (map owner_of all);
-      first : references_fault_from l.link.order l.link.names.now l.free rest ≡ references_fault_from l.link.order l.link.names.now l.base all;
-      links : (words : ℕ) → All (λ s. is_host s.role ≡ true → data_edits l.link.order words s.code ≡ l.link.size ∷ []) all
-          → (behind : List (List Edit)) → LinkSegments l.link.order (edited_from l.link.order l.link.names.now words l.free rest) behind
-          → LinkSegments l.link.order (edited_from l.link.order l.link.names.now words l.base all) (map (λ e. e.items) l.edits.items ++ behind);
+      first : references_fault_from l.link.order l.link.names.now l.free rest
+          ≡ references_fault_from l.link.order l.link.names.now l.base all;
+      links : (words : ℕ) → All (λ s. is_host s.role ≡ true
+          → data_edits l.link.order words s.code ≡ l.link.size ∷ []) all
+          → (behind : List (List Edit))
+          → LinkSegments l.link.order
+          (edited_from l.link.order l.link.names.now words l.free rest) behind
+          → LinkSegments l.link.order (edited_from l.link.order l.link.names.now words l.base all)
+          (map (λ e. e.items) l.edits.items ++ behind);
       named : All (λ s. HaveTargets l.link.names.now s.records) (take l.index l.segments);
     }

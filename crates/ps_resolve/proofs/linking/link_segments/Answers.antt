@@ -1,4 +1,5 @@
-use Rattle.std.proofs.Common.{◌≡◌, ℕ, ◌+◌, [], ◌∷◌, List, map, Some, refl, sym, ◌∙◌, ap, subst, arith}
+use Rattle.std.proofs.Common.{◌≡◌, ℕ, ◌+◌, [], ◌∷◌, List, map, Some, refl, sym}
+use Rattle.std.proofs.Common.{◌∙◌, ap, subst, arith}
 use Rattle.std.specs.Option.{option_map_or}
 use Rattle.std.proofs.lemmas.Result.{err_from_is_err_and}
 use Rattle.std.proofs.lemmas.List.{length-map}
@@ -16,19 +17,27 @@ use Rattle.ps_resolve.specs.Views.{SegmentView}
 use Rattle.ps_resolve.specs.declared.reading.host.HostSegment.{HostSegment}
 use Rattle.ps_resolve.proofs.Hosts.{of_hosts}
 use Rattle.ps_resolve.proofs.Segs.{owners_of_segments, slots_are}
-use Rattle.ps_resolve.proofs.Stages.{records_are, definitions_stop, privates_stop, words_are, allotment_is, size_stop, references_stop, none_stands, all_linked, as_many}
+use Rattle.ps_resolve.proofs.Stages.{records_are, definitions_stop, privates_stop, words_are}
+use Rattle.ps_resolve.proofs.Stages.{allotment_is, size_stop, references_stop, none_stands}
+use Rattle.ps_resolve.proofs.Stages.{all_linked, as_many}
 use Rattle.ps_resolve.proofs.linking.link_segments.Goals as goal
 
 -- what is known of the segments, as a slice lends them
-given : {order : Order} {host : List ℕ} {names : List (List ℕ)} {own : HostSegment} {items lent : List SegmentView} → lent ≡ items → AreSegments order host names own items → AreSegments order host names own lent
+given : {order : Order} {host : List ℕ} {names : List (List ℕ)} {own : HostSegment}
+    {items lent : List SegmentView} → lent ≡ items → AreSegments order host names own items
+    → AreSegments order host names own lent
 given {order} {host} {names} {own} same h = subst (AreSegments order host names own) (sym same) h
 
 -- the host's own segment, with the records that are lent beside it
 abbrev own_of : HostSegment → SegmentView
 own_of h = record h.segment.now { records = h.records.now }
 
-found_own : {order : Order} {host : List ℕ} {names : List (List ℕ)} {own : HostSegment} {ss : List SegmentView} → AreSegments order host names own ss → host_of (map segment_of ss) ≡ Some (segment_of (own_of own))
-found_own {order} {host} {names} {own} h = h.found ∙ ap (λ (rs : List Record). Some (segment_of (record own.segment.now { records = rs }))) (sym h.own.records)
+found_own : {order : Order} {host : List ℕ} {names : List (List ℕ)} {own : HostSegment}
+    {ss : List SegmentView} → AreSegments order host names own ss
+    → host_of (map segment_of ss) ≡ Some (segment_of (own_of own))
+found_own {order} {host} {names} {own} h =
+    h.found ∙ ap (λ (rs : List Record). Some
+    (segment_of (record own.segment.now { records = rs }))) (sym h.own.records)
 
 pub returns-in_err-definitions-clause-stop : goal.returns-in_err-definitions-clause-stop
 returns-in_err-definitions-clause-stop g c =
@@ -36,23 +45,29 @@ returns-in_err-definitions-clause-stop g c =
     let own = own_of c.segments.inside.own in
     let is = found_own known in
     let p = err_from_is_err_and c.from_residual.result c.from_residual.ensures.1 in
-    rw (p.1, p.2, ← c.segments.view_is, ← c.as_slice-all.ensures.value) (definitions_stop c.segments.inside.order c.as_slice-all.result.now own is c.in_err-definitions.field-0.0 (rw c.slot.ensures at c.in_err-definitions.ensures.stop))
+    rw (p.1, p.2, ← c.segments.view_is, ← c.as_slice-all.ensures.value)
+    (definitions_stop c.segments.inside.order c.as_slice-all.result.now own is
+    c.in_err-definitions.field-0.0 (rw c.slot.ensures at c.in_err-definitions.ensures.stop))
 
 pub of_segments-requires : goal.of_segments-requires
 of_segments-requires g c =
     let known = given c.as_slice-all.ensures.value c.segments.invariant in
     let segs : List Segment = map segment_of c.as_slice-all.result.now in
     let owners = owners_of_segments c.as_slice-all.result.now in
-    subst (λ (ns : List ℕ). AscendFrom 0 ns) (sym (ap (map (λ (o : Owner). o.slot)) owners ∙ slots_are segs)) known.ascending
+    subst (λ (ns : List ℕ). AscendFrom 0 ns)
+    (sym (ap (map (λ (o : Owner). o.slot)) owners ∙ slots_are segs)) known.ascending
 
 pub returns-in_err-allotment-clause-stop : goal.returns-in_err-allotment-clause-stop
 returns-in_err-allotment-clause-stop g c =
     let known = given c.as_slice-all.ensures.value c.segments.invariant in
     let own = own_of c.segments.inside.own in
     let is = found_own known in
-    let p = err_from_is_err_and c.from_residual-in_err-allotment.result c.from_residual-in_err-allotment.ensures.1 in
+    let p = err_from_is_err_and c.from_residual-in_err-allotment.result
+    c.from_residual-in_err-allotment.ensures.1 in
     let ds = c.in_ok-definitions in
-    rw (p.1, p.2, ← c.segments.view_is, ← c.as_slice-all.ensures.value) (privates_stop c.segments.inside.order c.as_slice-all.result.now own is ds.definitions ds.ensures.found ds.ensures.once c.next-base.result c.next-base.ensures
+    rw (p.1, p.2, ← c.segments.view_is, ← c.as_slice-all.ensures.value)
+    (privates_stop c.segments.inside.order c.as_slice-all.result.now own is ds.definitions
+    ds.ensures.found ds.ensures.once c.next-base.result c.next-base.ensures
     c.in_err-allotment.field-0.0 c.in_err-allotment.ensures.stop)
 
 pub grown_data_size-requires : goal.grown_data_size-requires
@@ -63,11 +78,15 @@ returns-in_err-size-clause-stop g c =
     let known = given c.as_slice-all.ensures.value c.segments.invariant in
     let own = own_of c.segments.inside.own in
     let is = found_own known in
-    let p = err_from_is_err_and c.from_residual-in_err-size.result c.from_residual-in_err-size.ensures.1 in
+    let p = err_from_is_err_and c.from_residual-in_err-size.result
+    c.from_residual-in_err-size.ensures.1 in
     let ds = c.in_ok-definitions in
     let a = c.in_ok-allotment in
-    rw (p.1, p.2, ← c.segments.view_is, ← c.as_slice-all.ensures.value) (size_stop c.segments.inside.order c.as_slice-all.result.now own is ds.definitions ds.ensures.found ds.ensures.once c.next-base.result c.next-base.ensures
-    a.allotment a.ensures.found a.ensures.once c.words.result c.words.ensures c.in_err-size.field-0.0 c.in_err-size.ensures.stop)
+    rw (p.1, p.2, ← c.segments.view_is, ← c.as_slice-all.ensures.value)
+    (size_stop c.segments.inside.order c.as_slice-all.result.now own is ds.definitions
+    ds.ensures.found ds.ensures.once c.next-base.result c.next-base.ensures
+    a.allotment a.ensures.found a.ensures.once c.words.result c.words.ensures
+    c.in_err-size.field-0.0 c.in_err-size.ensures.stop)
 
 pub all_edits-requires : goal.all_edits-requires
 all_edits-requires g c =
@@ -75,15 +94,19 @@ all_edits-requires g c =
     let own = own_of c.segments.inside.own in
     let is = found_own known in
     let ss : List SegmentView = c.as_slice-all.result.now in
-    let end : c.in_ok-allotment.allotment.next_free ≡ c.next-base.result + all_words (map owner_of (map segment_of ss)) =
-    ap (λ (a : Allotted). a.next_free) c.in_ok-allotment.ensures.found ∙ ap (λ (os : List Owner). c.next-base.result + all_words os) (owners_of_segments ss) in
+    let end : c.in_ok-allotment.allotment.next_free
+    ≡ c.next-base.result + all_words (map owner_of (map segment_of ss)) =
+    ap (λ (a : Allotted). a.next_free) c.in_ok-allotment.ensures.found
+    ∙ ap (λ (os : List Owner). c.next-base.result + all_words os) (owners_of_segments ss) in
     let free = ap (λ (a : Allotted). a.next_free) c.allotment.view_is in
     let size : Edit = c.edit.result in
     record {
       sound = known.sound;
       room = omega (arith, end, free, c.allotment.ranges.1.0.1);
-      table = of_hosts (map segment_of ss) (segment_of own) is known.one_host (λ s. IsOfTable c.segments.inside.order s.code size)
-          (subst (IsOfTable c.segments.inside.order own.code) (sym c.edit.ensures) c.in_ok-size.ensures.table);
+      table = of_hosts (map segment_of ss) (segment_of own) is known.one_host
+          (λ s. IsOfTable c.segments.inside.order s.code size)
+          (subst (IsOfTable c.segments.inside.order own.code)
+          (sym c.edit.ensures) c.in_ok-size.ensures.table);
       alike = known.alike;
     }
 
@@ -92,11 +115,16 @@ returns-in_err-edits-clause-stop g c =
     let known = given c.as_slice-all.ensures.value c.segments.invariant in
     let own = own_of c.segments.inside.own in
     let is = found_own known in
-    let p = err_from_is_err_and c.from_residual-in_err-edits.result c.from_residual-in_err-edits.ensures.1 in
+    let p = err_from_is_err_and c.from_residual-in_err-edits.result
+    c.from_residual-in_err-edits.ensures.1 in
     let ds = c.in_ok-definitions in
     let a = c.in_ok-allotment in
-    rw (p.1, p.2, ← c.segments.view_is, ← c.as_slice-all.ensures.value) (references_stop c.segments.inside.order c.as_slice-all.result.now own is ds.definitions ds.ensures.found ds.ensures.once c.next-base.result c.next-base.ensures
-    a.allotment a.ensures.found a.ensures.once c.words.result c.words.ensures c.in_ok-size.ensures.fits c.of-units.result c.of-units.ensures c.in_err-edits.field-0.0 c.in_err-edits.ensures.stop)
+    rw (p.1, p.2, ← c.segments.view_is, ← c.as_slice-all.ensures.value)
+    (references_stop c.segments.inside.order c.as_slice-all.result.now own is ds.definitions
+    ds.ensures.found ds.ensures.once c.next-base.result c.next-base.ensures
+    a.allotment a.ensures.found a.ensures.once c.words.result c.words.ensures
+    c.in_ok-size.ensures.fits c.of-units.result c.of-units.ensures c.in_err-edits.field-0.0
+    c.in_err-edits.ensures.stop)
 
 pub invariant_of-result : goal.invariant_of-result
 invariant_of-result g c =
@@ -107,9 +135,15 @@ invariant_of-result g c =
     let a = c.in_ok-allotment in
     let size = c.in_ok-size.ensures in
     let edits = c.in_ok-edits in (
-      sym (length-map edits.edits.items (λ e. e.items)) ∙ as_many c.segments.inside.order c.as_slice-all.result.now own is ds.definitions ds.ensures.found ds.ensures.once c.next-base.result c.next-base.ensures
-          a.allotment a.ensures.found a.ensures.once c.words.result c.words.ensures size.fits c.of-units.result c.of-units.ensures
-          known.one_host c.edit.result (size.edit ∙ ap (λ (e : Edit). e ∷ []) (sym c.edit.ensures)) (map (λ e. e.items) edits.edits.items) edits.ensures.links c.sources_of-sources.result.items c.sources_of-sources.ensures,
+      sym (length-map edits.edits.items (λ e. e.items))
+          ∙ as_many c.segments.inside.order c.as_slice-all.result.now own is ds.definitions
+          ds.ensures.found ds.ensures.once c.next-base.result c.next-base.ensures
+          a.allotment a.ensures.found a.ensures.once c.words.result c.words.ensures size.fits
+          c.of-units.result c.of-units.ensures
+          known.one_host c.edit.result (size.edit
+          ∙ ap (λ (e : Edit). e ∷ []) (sym c.edit.ensures))
+          (map (λ e. e.items) edits.edits.items) edits.ensures.links
+          c.sources_of-sources.result.items c.sources_of-sources.ensures,
       c.segments.invariant.whole,
     )
 
@@ -124,21 +158,30 @@ returns-clause-plan g c =
     let a = c.in_ok-allotment in
     let size = c.in_ok-size.ensures in
     let edits = c.in_ok-edits in
-    let words = words_are order ss own is ds.definitions ds.ensures.found ds.ensures.once c.next-base.result c.next-base.ensures a.allotment a.ensures.found a.ensures.once c.words.result c.words.ensures in
-    let whole = allotment_is order ss own is ds.definitions ds.ensures.found ds.ensures.once c.next-base.result c.next-base.ensures a.allotment a.ensures.found a.ensures.once c.words.result c.words.ensures in
+    let words = words_are order ss own is ds.definitions ds.ensures.found ds.ensures.once
+    c.next-base.result c.next-base.ensures a.allotment a.ensures.found a.ensures.once
+    c.words.result c.words.ensures in
+    let whole = allotment_is order ss own is ds.definitions ds.ensures.found ds.ensures.once
+    c.next-base.result c.next-base.ensures a.allotment a.ensures.found a.ensures.once
+    c.words.result c.words.ensures in
     rw (← c.segments.view_is, ← c.as_slice-all.ensures.value) (record {
       order = refl;
       of_host = refl;
       names = known.named;
       origins = c.sources_of-sources.ensures;
-      edits = all_linked order ss own is ds.definitions ds.ensures.found ds.ensures.once c.next-base.result c.next-base.ensures a.allotment a.ensures.found a.ensures.once c.words.result c.words.ensures size.fits c.of-units.result c.of-units.ensures
-          known.one_host c.edit.result (size.edit ∙ ap (λ (e : Edit). e ∷ []) (sym c.edit.ensures)) (map (λ e. e.items) edits.edits.items) edits.ensures.links;
+      edits = all_linked order ss own is ds.definitions ds.ensures.found ds.ensures.once
+          c.next-base.result c.next-base.ensures a.allotment a.ensures.found a.ensures.once
+          c.words.result c.words.ensures size.fits c.of-units.result c.of-units.ensures
+          known.one_host c.edit.result (size.edit
+          ∙ ap (λ (e : Edit). e ∷ []) (sym c.edit.ensures))
+          (map (λ e. e.items) edits.edits.items) edits.ensures.links;
       definitions = ds.ensures.found ∙ ap definitions (sym (records_are order ss own is));
       privates = ap (λ (b : Allotted). b.privates) whole;
       next_free = ap (λ (b : Allotted). b.next_free) whole;
       private_words = ap (λ (b : Allotted). b.words) whole;
       data_size = size.size ∙ ap (λ (n : ℕ). data_size_of order n own.code) words
-          ∙ sym (ap (λ o. option_map_or (λ s. data_size_of order (total_words (map segment_of ss)) s.code) o 0) is);
+          ∙ sym (ap (λ o. option_map_or
+          (λ s. data_size_of order (total_words (map segment_of ss)) s.code) o 0) is);
     })
 
 pub returns-clause-sound : goal.returns-clause-sound
@@ -148,5 +191,8 @@ returns-clause-sound g c =
     let is = found_own known in
     let ds = c.in_ok-definitions in
     let a = c.in_ok-allotment in
-    rw (← c.segments.view_is, ← c.as_slice-all.ensures.value) (none_stands c.segments.inside.order c.as_slice-all.result.now own is ds.definitions ds.ensures.found ds.ensures.once c.next-base.result c.next-base.ensures
-    a.allotment a.ensures.found a.ensures.once c.words.result c.words.ensures c.in_ok-size.ensures.fits c.of-units.result c.of-units.ensures c.in_ok-edits.ensures.sound)
+    rw (← c.segments.view_is, ← c.as_slice-all.ensures.value)
+    (none_stands c.segments.inside.order c.as_slice-all.result.now own is ds.definitions
+    ds.ensures.found ds.ensures.once c.next-base.result c.next-base.ensures
+    a.allotment a.ensures.found a.ensures.once c.words.result c.words.ensures
+    c.in_ok-size.ensures.fits c.of-units.result c.of-units.ensures c.in_ok-edits.ensures.sound)

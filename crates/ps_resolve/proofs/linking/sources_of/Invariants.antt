@@ -5,4 +5,5 @@ use Rattle.ps_resolve.proofs.linking.sources_of.Given as goal
 
 -- those so far are of the segments so far
 abbrev pub invariant-loop-segment : goal.invariant-loop-segment
-invariant-loop-segment l = map origin_of_source l.sources.items ≡ map origin_of (map segment_of (take l.segment-index l.segments))
+invariant-loop-segment l = map origin_of_source l.sources.items
+    ≡ map origin_of (map segment_of (take l.segment-index l.segments))

@@ -1,4 +1,5 @@
-use Rattle.std.proofs.Common.{◌≡◌, ◌+◌, ◌++◌, ◌∙◌, [], ◌∷◌, List, ℕ, ap, sym, subst}
+use Rattle.std.proofs.Common.{◌≡◌, ◌+◌, ◌++◌, ◌∙◌, [], ◌∷◌, List, ℕ, ap}
+use Rattle.std.proofs.Common.{sym, subst}
 use Rattle.std.specs.Prelude.{if◌then◌else◌}
 use Rattle.std.proofs.lemmas.Bool.{not-false, not-true}
 use Rattle.std.specs.List.{list_any}
@@ -7,17 +8,24 @@ use Rattle.ps_linkinfo.specs.RecordCounts.{is_private_reference}
 use Rattle.ps_resolve.proofs.EarlierNames.{Scans, scan_end, scan_found, scan_more, scan_on, scans}
 use Rattle.ps_resolve.proofs.Numbers.{one, none}
 use Rattle.ps_resolve.proofs.namesakes.first_namesake.Goals as goal
-use Rattle.ps_resolve.proofs.namesakes.first_namesake.Goals.{else-is_private-via-then-is_private+in_ok-insert+else-not-branch, else-is_private-via-else-is_private}
+use Rattle.ps_resolve.proofs.namesakes.first_namesake.Goals.{else-is_private-via-then-is_private+in_ok-insert+else-not-branch}
+use Rattle.ps_resolve.proofs.namesakes.first_namesake.Goals.{else-is_private-via-else-is_private}
 
 pub loop-rec-init : goal.loop-rec-init
 loop-rec-init g c =
-    let all = c.args.records.now in
-    (0, all, c.into_iter-rec-iterator.ensures.into_iter_gives ∙ c.records-rec-items.ensures, rw c.in_ok-names.ensures.empty (scans is_private_reference all))
+    let all = c.args.records.now in (
+      0,
+      all,
+      c.into_iter-rec-iterator.ensures.into_iter_gives ∙ c.records-rec-items.ensures,
+      rw c.in_ok-names.ensures.empty (scans is_private_reference all),
+    )
 
 pub returns-then-not-branch-clause-found : goal.returns-then-not-branch-clause-found
 returns-then-not-branch-clause-found g c =
-    let step = one (Scans is_private_reference c.args.records.now c.loop-rec.names.keys) _ _ _ c.in-Some.record c.loop-rec.invariant c.in-Some.ensures.steps in
-    scan_found _ _ _ _ _ _ step.2 (sym c.is_private.ensures ∙ c.if-is_private.true) (not-false _ (sym c.in_ok-insert.ensures.added ∙ c.if-not-branch.true))
+    let step = one (Scans is_private_reference c.args.records.now c.loop-rec.names.keys) _ _ _
+    c.in-Some.record c.loop-rec.invariant c.in-Some.ensures.steps in
+    scan_found _ _ _ _ _ _ step.2 (sym c.is_private.ensures ∙ c.if-is_private.true)
+    (not-false _ (sym c.in_ok-insert.ensures.added ∙ c.if-not-branch.true))
 
 pub loop-rec-preserved : goal.loop-rec-preserved
 loop-rec-preserved g c =
@@ -25,20 +33,37 @@ loop-rec-preserved g c =
     let seen = c.loop-rec.names.keys in
     let rec = c.in-Some.rec in
     let r = c.in-Some.record in
-    let step = one (Scans is_private_reference all seen) _ _ rec r c.loop-rec.invariant c.in-Some.ensures.steps in
+    let step = one (Scans is_private_reference all seen) _ _ rec r c.loop-rec.invariant
+    c.in-Some.ensures.steps in
     elim c.else-is_private.branch [
       | else-is_private-via-then-is_private+in_ok-insert+else-not-branch w ↦
           let is = sym c.is_private.ensures ∙ w.if-is_private.true in
-          let new = not-true (list_any (bytes_eq r.name) seen) (sym w.in_ok-insert.ensures.added ∙ w.if-not-branch.false) in
-          let keys : c.else-is_private.names.keys ≡ seen ++ r.name ∷ [] = ap (λ v. v.keys) w.names-is ∙ w.in_ok-insert.ensures.keys ∙ ap (λ b. if b then seen else seen ++ r.name ∷ []) new in
-          (rec + 1, step.0, step.1, subst (λ (ks : List (List ℕ)). Scans is_private_reference all ks (rec + 1) step.0) (sym keys) (scan_more _ _ _ _ _ _ step.2 is new))
+          let new = not-true (list_any (bytes_eq r.name) seen)
+          (sym w.in_ok-insert.ensures.added ∙ w.if-not-branch.false) in
+          let keys : c.else-is_private.names.keys ≡ seen ++ r.name ∷ [] =
+          ap (λ v. v.keys) w.names-is ∙ w.in_ok-insert.ensures.keys
+          ∙ ap (λ b. if b then seen else seen ++ r.name ∷ []) new in (
+            rec + 1,
+            step.0,
+            step.1,
+            subst
+                (λ (ks : List (List ℕ)). Scans is_private_reference all ks (rec + 1) step.0)
+                (sym keys) (scan_more _ _ _ _ _ _ step.2 is new),
+          )
       | else-is_private-via-else-is_private w ↦
           let no = sym c.is_private.ensures ∙ w.if-is_private.false in
-          let keys : c.else-is_private.names.keys ≡ seen = ap (λ v. v.keys) w.names-is in
-          (rec + 1, step.0, step.1, subst (λ (ks : List (List ℕ)). Scans is_private_reference all ks (rec + 1) step.0) (sym keys) (scan_on _ _ _ _ _ _ step.2 no))
+          let keys : c.else-is_private.names.keys ≡ seen = ap (λ v. v.keys) w.names-is in (
+            rec + 1,
+            step.0,
+            step.1,
+            subst
+                (λ (ks : List (List ℕ)). Scans is_private_reference all ks (rec + 1) step.0)
+                (sym keys) (scan_on _ _ _ _ _ _ step.2 no),
+          )
     ]
 
 pub returns-clause-found : goal.returns-clause-found
 returns-clause-found g c =
-    let end = none (Scans is_private_reference c.args.records.now c.loop-rec.names.keys) c.loop-rec.rec-iterator c.loop-rec.invariant c.in-None.ensures.steps.0 in
+    let end = none (Scans is_private_reference c.args.records.now c.loop-rec.names.keys)
+    c.loop-rec.rec-iterator c.loop-rec.invariant c.in-None.ensures.steps.0 in
     scan_end _ _ _ end.0 end.1

@@ -9,4 +9,6 @@ use Rattle.ps_resolve.proofs.reading.queued_request.Given as goal
 -- the slot is the first of those that are left, where it is one of all
 abbrev pub invariant-loop-k : goal.invariant-loop-k
 invariant-loop-k l =
-    queued_request l.queue l.empty l.slot ≡ option_and_then (λ k. option_map (λ g. request_of g l.slot) (slice_get l.queue k.0)) (find (λ k. k.1 == l.slot) (enumerate_from l.k (drop l.k l.empty)))
+    queued_request l.queue l.empty l.slot
+    ≡ option_and_then (λ k. option_map (λ g. request_of g l.slot) (slice_get l.queue k.0))
+    (find (λ k. k.1 == l.slot) (enumerate_from l.k (drop l.k l.empty)))

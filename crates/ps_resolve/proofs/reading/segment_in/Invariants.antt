@@ -5,4 +5,5 @@ use Rattle.ps_resolve.proofs.reading.segment_in.Given as goal
 
 -- the segment is looked for in what is left
 abbrev pub invariant-loop-segment : goal.invariant-loop-segment
-invariant-loop-segment l = find (is_in_slot l.slot) (map segment_of l.segments) ≡ find (is_in_slot l.slot) (map segment_of (drop l.segment-index l.segments))
+invariant-loop-segment l = find (is_in_slot l.slot) (map segment_of l.segments)
+    ≡ find (is_in_slot l.slot) (map segment_of (drop l.segment-index l.segments))

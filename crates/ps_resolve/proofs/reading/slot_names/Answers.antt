@@ -1,4 +1,5 @@
-use Rattle.std.proofs.Common.{◌≡◌, ◌<◌, ◌≤◌, ◌∙◌, length, take, map, ℕ, sym, subst, arith}
+use Rattle.std.proofs.Common.{◌≡◌, ◌<◌, ◌≤◌, ◌∙◌, length, take, map, ℕ, sym}
+use Rattle.std.proofs.Common.{subst, arith}
 use Rattle.std.specs.List.{range_with_len}
 use Rattle.std.proofs.lemmas.List.{take_more_set, take_all}
 use Rattle.std.proofs.lemmas.List.FromFn.{map-range_with_len_more}
@@ -18,7 +19,9 @@ loop-slot-preserved c =
       done =
           let name = c.slot_name.ensures in
           let so_far = inv.done in
-          let more = map-range_with_len_more (slot_name c.args.host.now.file (map segment_of c.args.segments.now)) 0 i i (omega arith) in
+          let more = map-range_with_len_more
+          (slot_name c.args.host.now.file (map segment_of c.args.segments.now)) 0 i i
+          (omega arith) in
           grind (arith, common_steps, wrote, more, name, so_far);
     }
 
@@ -29,4 +32,6 @@ returns c =
     let done : c.loop-slot.slot ≡ 16 = omega arith in
     let whole : length names ≤ 16 = omega (arith, c.loop-slot.invariant.all) in
     sym (take_all 16 names whole)
-    ∙ subst (λ (n : ℕ). take n names ≡ map (slot_name c.args.host.now.file (map segment_of c.args.segments.now)) (range_with_len 0 n)) done c.loop-slot.invariant.done
+    ∙ subst (λ (n : ℕ). take n names
+    ≡ map (slot_name c.args.host.now.file (map segment_of c.args.segments.now))
+    (range_with_len 0 n)) done c.loop-slot.invariant.done

@@ -8,5 +8,6 @@ use Rattle.ps_resolve.proofs.reading.slot_names.Given as goal
 abbrev pub invariant-loop-slot : goal.invariant-loop-slot
 invariant-loop-slot l = record {
   all : length l.names ≡ 16;
-  done : take l.slot l.names ≡ map (slot_name l.host.file (map segment_of l.segments)) (range_with_len 0 l.slot);
+  done : take l.slot l.names ≡ map (slot_name l.host.file (map segment_of l.segments))
+      (range_with_len 0 l.slot);
 }

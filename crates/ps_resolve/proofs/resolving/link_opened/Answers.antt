@@ -10,7 +10,8 @@ use Rattle.ps_resolve.proofs.resolving.link_opened.Goals as goal
 abbrev files_of : OpenedFile → List (List ℕ) → HostFiles
 files_of dict libs = record { order = dict.order; file = dict.file; libs = libs }
 
-opened_is : (host : List ℕ) (libs : List (List ℕ)) (dict : OpenedFile) → opened_alone host ≡ Ok dict → opened_host host libs ≡ Ok (files_of dict libs)
+opened_is : (host : List ℕ) (libs : List (List ℕ)) (dict : OpenedFile)
+    → opened_alone host ≡ Ok dict → opened_host host libs ≡ Ok (files_of dict libs)
 opened_is host libs dict h = rw (h, opened_host) refl
 
 pub returns-in-Some-clause-stop : goal.returns-in-Some-clause-stop
@@ -20,9 +21,12 @@ returns-in-Some-clause-stop g c =
     let slots : OpenedFile = c.of-slots.result in
     let v = files_of slots libs in
     let fault = c.in-Some.fault in
-    let found : own_reading_fault v.order v.file v.libs ≡ Some fault = sym c.read_own.ensures.first ∙ c.in-Some.is in
-    let opened : opened_alone host ≡ Ok slots = sym (ap (λ (o : OpenedFile). Ok o) c.of-slots.ensures ∙ c.requires) in
-    first_read host libs fault (sym (fault_of_host host libs v (opened_is host libs slots opened)) ∙ first_own v.order v.file v.libs fault found)
+    let found : own_reading_fault v.order v.file v.libs ≡ Some fault =
+    sym c.read_own.ensures.first ∙ c.in-Some.is in
+    let opened : opened_alone host ≡ Ok slots =
+    sym (ap (λ (o : OpenedFile). Ok o) c.of-slots.ensures ∙ c.requires) in
+    first_read host libs fault (sym (fault_of_host host libs v (opened_is host libs slots opened))
+    ∙ first_own v.order v.file v.libs fault found)
 
 pub link_units-requires : goal.link_units-requires
 link_units-requires g c = record {

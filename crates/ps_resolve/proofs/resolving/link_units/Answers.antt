@@ -1,4 +1,6 @@
-use Rattle.std.proofs.Common.{◌≡◌, ◌≤◌, ℕ, List, length, map, Bool, true, false, if◌then◌else◌, Option, None, Ok, Err, is_some, refl, sym, ◌∙◌, ap, subst, arith}
+use Rattle.std.proofs.Common.{◌≡◌, ◌≤◌, ℕ, List, length, map, Bool, true, false}
+use Rattle.std.proofs.Common.{if◌then◌else◌, Option, None, Ok, Err, is_some, refl, sym}
+use Rattle.std.proofs.Common.{◌∙◌, ap, subst, arith}
 use Rattle.std.proofs.Math.Dec.{ltb}
 use Rattle.std.proofs.lemmas.Bool.Decides.{nat_tests}
 use Rattle.std.specs.Prelude.{IfOk}
@@ -25,14 +27,21 @@ use Rattle.ps_resolve.proofs.Sharing.{all_sound, read_alike}
 use Rattle.ps_resolve.proofs.resolving.link_units.Goals as goal
 
 -- the first fault of reading a host that was opened
-fault_of : (host : List ℕ) (libs : List (List ℕ)) (o : OpenedFile) → Ok o ≡ opened_alone host → host_reading_fault o.order o.file libs ≡ reading_fault host libs
+fault_of : (host : List ℕ) (libs : List (List ℕ)) (o : OpenedFile)
+    → Ok o ≡ opened_alone host → host_reading_fault o.order o.file libs
+    ≡ reading_fault host libs
 fault_of host libs o h = reading_is o.order o.file libs ∙ sym (host_read host libs o (sym h))
 
 -- where there is none, what was read is all segments of the link
-all_of : (host : List ℕ) (libs : List (List ℕ)) (o : OpenedFile) (read : List Segment) → Ok o ≡ opened_alone host → read ≡ all_read o.order o.file (opened_files o.order libs) → host_reading_fault o.order o.file libs ≡ None
+all_of : (host : List ℕ) (libs : List (List ℕ)) (o : OpenedFile) (read : List Segment)
+    → Ok o ≡ opened_alone host → read ≡ all_read o.order o.file (opened_files o.order libs)
+    → host_reading_fault o.order o.file libs ≡ None
     → (reading_fault host libs ≡ None) × (read ≡ segments (order_of host) host libs)
-all_of host libs o read h is none =
-    (sym (fault_of host libs o h) ∙ none, is ∙ segments_are o.order o.file libs none ∙ ap (λ (x : OpenedFile). segments x.order x.file libs) (host_is host o (sym h)))
+all_of host libs o read h is none = (
+  sym (fault_of host libs o h) ∙ none,
+  is ∙ segments_are o.order o.file libs none
+      ∙ ap (λ (x : OpenedFile). segments x.order x.file libs) (host_is host o (sym h)),
+)
 
 pub returns-in-Some-clause-stop : goal.returns-in-Some-clause-stop
 returns-in-Some-clause-stop g c =
@@ -41,35 +50,50 @@ returns-in-Some-clause-stop g c =
     let o : OpenedFile = c.args.slots.now in
     let fault : Fault = c.in-Some.fault in
     first_read host libs fault
-    (sym (fault_of host libs o c.requires.opened) ∙ (sym (units_last o.order o.file libs None c.add_to.result.fault (sym c.requires.faultless) c.add_to.ensures.ends) ∙ c.in-Some.is))
+    (sym (fault_of host libs o c.requires.opened)
+    ∙ (sym (units_last o.order o.file libs None c.add_to.result.fault
+    (sym c.requires.faultless) c.add_to.ensures.ends) ∙ c.in-Some.is))
 
 -- what is read of the units too has no fault
-faultless : (o : OpenedFile) (libs : List (List ℕ)) (last : Option Fault) → own_reading_fault o.order o.file libs ≡ None → last ≡ (read_rounds o.order o.file (opened_files o.order libs)).fault → last ≡ None → host_reading_fault o.order o.file libs ≡ None
-faultless o libs last own ends none = sym (units_last o.order o.file libs None last (sym own) ends) ∙ none
+faultless : (o : OpenedFile) (libs : List (List ℕ)) (last : Option Fault)
+    → own_reading_fault o.order o.file libs ≡ None
+    → last ≡ (read_rounds o.order o.file (opened_files o.order libs)).fault → last ≡ None
+    → host_reading_fault o.order o.file libs ≡ None
+faultless o libs last own ends none = sym (units_last o.order o.file libs None last (sym own) ends)
+    ∙ none
 
 -- a host that was opened has a whole dictionary
-not_short : (short : Bool) (of : FileOrder) (file : List ℕ) (o : OpenedFile) → (if short then Err reason.ShortFile else opened_as file of) ≡ Ok o → short ≡ false
+not_short : (short : Bool) (of : FileOrder) (file : List ℕ) (o : OpenedFile)
+    → (if short then Err reason.ShortFile else opened_as file of) ≡ Ok o → short ≡ false
 not_short true of file o h = cc
 not_short false of file o h = refl
 
 whole_of : (host : List ℕ) (o : OpenedFile) → Ok o ≡ opened_alone host → 512 ≤ length host
-whole_of host o h = let e : ltb (length host) 512 ≡ false = not_short (ltb (length host) 512) (file_order host) host o (sym h) in grind (arith, nat_tests)
+whole_of host o h = let e : ltb (length host) 512 ≡ false =
+    not_short (ltb (length host) 512) (file_order host) host o (sym h) in grind (arith, nat_tests)
 
 pub host_of-requires : goal.host_of-requires
 host_of-requires g c =
     let o : OpenedFile = c.args.slots.now in
-    rw (c.as_slice-all.ensures.value, c.order-order.ensures) (all_sound o.order o.file (opened_files o.order (contents c.args.libs.now)) c.add_to.new.segments.items c.add_to.ensures.read)
+    rw (c.as_slice-all.ensures.value, c.order-order.ensures)
+    (all_sound o.order o.file (opened_files o.order (contents c.args.libs.now))
+    c.add_to.new.segments.items c.add_to.ensures.read)
 
 pub returns-in-None-clause-stop : goal.returns-in-None-clause-stop
 returns-in-None-clause-stop g c =
     let o : OpenedFile = c.args.slots.now in
     let libs = contents c.args.libs.now in
-    let none = faultless o libs c.add_to.result.fault c.requires.faultless c.add_to.ensures.ends c.in_default.is in
+    let none = faultless o libs c.add_to.result.fault c.requires.faultless c.add_to.ensures.ends
+    c.in_default.is in
     let host : List ℕ = c.args.host.now in
-    let t = all_of host libs o (map segment_of c.add_to.new.segments.items) c.requires.opened c.add_to.ensures.all none in
+    let t = all_of host libs o (map segment_of c.add_to.new.segments.items) c.requires.opened
+    c.add_to.ensures.all none in
     let has = has_host host libs t.0 in
-    let lacks = c.in-None.ensures.found ∙ ap (λ (ss : List SegmentView). host_of (map segment_of ss)) c.as_slice-all.ensures.value ∙ ap host_of t.1 in
-    let no : is_some (host_of (segments (order_of host) host libs)) ≡ false = ap is_some (sym lacks) in
+    let lacks = c.in-None.ensures.found ∙ ap
+    (λ (ss : List SegmentView). host_of (map segment_of ss)) c.as_slice-all.ensures.value
+    ∙ ap host_of t.1 in
+    let no : is_some (host_of (segments (order_of host) host libs)) ≡ false =
+    ap is_some (sym lacks) in
     let wrong : true ≡ false = sym has ∙ no in
     cc
 
@@ -79,22 +103,31 @@ invariant_of-linkable g c =
     let libs = contents c.args.libs.now in
     let files = opened_files o.order libs in
     let items : List SegmentView = c.add_to.new.segments.items in
-    let none = faultless o libs c.add_to.result.fault c.requires.faultless c.add_to.ensures.ends c.in_default.is in
+    let none = faultless o libs c.add_to.result.fault c.requires.faultless c.add_to.ensures.ends
+    c.in_default.is in
     let host : List ℕ = c.args.host.now in
     let t = all_of host libs o (map segment_of items) c.requires.opened c.add_to.ensures.all none in
-    let file : o.file ≡ c.args.host.now = ap (λ (x : OpenedFile). x.file) (host_is c.args.host.now o (sym c.requires.opened)) in
+    let file : o.file ≡ c.args.host.now =
+    ap (λ (x : OpenedFile). x.file) (host_is c.args.host.now o (sym c.requires.opened)) in
     record {
       sound = rw c.order-order.ensures (all_sound o.order o.file files items c.add_to.ensures.read);
-      found = sym (c.in-Some-host_of.ensures.found ∙ ap (λ (ss : List SegmentView). host_of (map segment_of ss)) c.as_slice-all.ensures.value);
+      found = sym (c.in-Some-host_of.ensures.found
+          ∙ ap (λ (ss : List SegmentView). host_of (map segment_of ss))
+          c.as_slice-all.ensures.value);
       own = c.in-Some-host_of.ensures.is;
-      one_host = subst HasOneHost (sym t.1) (one_host (order_of host) host libs (slots_fine host libs t.0));
-      ascending = subst (λ (ss : List Segment). AscendFrom 0 (map (λ s. s.slot) ss)) (sym t.1) (ascend (order_of host) host libs);
+      one_host = subst HasOneHost (sym t.1)
+          (one_host (order_of host) host libs (slots_fine host libs t.0));
+      ascending = subst (λ (ss : List Segment). AscendFrom 0 (map (λ s. s.slot) ss)) (sym t.1)
+          (ascend (order_of host) host libs);
       whole = whole_of c.args.host.now o c.requires.opened;
       alike = read_alike o.order o.file files items c.add_to.ensures.read;
-      most = subst (λ (ss : List SegmentView). length ss ≤ 16) c.as_slice-all.ensures.value c.as_slice-all.ensures.fits;
+      most = subst (λ (ss : List SegmentView). length ss ≤ 16) c.as_slice-all.ensures.value
+          c.as_slice-all.ensures.fits;
       named = c.slot_names-names.ensures
-          ∙ (ap (λ (xs : List ℕ). slot_names xs (map segment_of c.as_slice-all.result.now)) file
-          ∙ ap (λ (ss : List SegmentView). slot_names c.args.host.now (map segment_of ss)) c.as_slice-all.ensures.value);
+          ∙ (ap (λ (xs : List ℕ). slot_names xs (map segment_of c.as_slice-all.result.now))
+          file
+          ∙ ap (λ (ss : List SegmentView). slot_names c.args.host.now (map segment_of ss))
+          c.as_slice-all.ensures.value);
     }
 
 pub returns-in-Some-host_of : goal.returns-in-Some-host_of
@@ -106,15 +139,26 @@ returns-in-Some-host_of g c =
     let order : Order = c.order-order.result in
     let given : List Segment = map segment_of c.add_to.new.segments.items in
     let all : List Segment = segments (order_of host) host libs in
-    let read = faultless o libs c.add_to.result.fault c.requires.faultless c.add_to.ensures.ends c.in_default.is in
-    let order_is : order ≡ order_of host = c.order-order.ensures ∙ ap (λ (x : OpenedFile). x.order) is in
+    let read = faultless o libs c.add_to.result.fault c.requires.faultless c.add_to.ensures.ends
+    c.in_default.is in
+    let order_is : order ≡ order_of host =
+    c.order-order.ensures ∙ ap (λ (x : OpenedFile). x.order) is in
     let t = all_of host libs o given c.requires.opened c.add_to.ensures.all read in
-    let same : linking_fault order given ≡ linking_fault (order_of host) all = ap (linking_fault order) t.1 ∙ ap (λ (o : Order). linking_fault o all) order_is in
+    let same : linking_fault order given ≡ linking_fault (order_of host) all =
+    ap (linking_fault order) t.1 ∙ ap (λ (o : Order). linking_fault o all) order_is in
     record {
       plan = subst (λ (o : Order). IfOk c.link_segments.result (IsPlanOf o host all)) order_is
-          (subst (λ (segs : List Segment). IfOk c.link_segments.result (IsPlanOf order host segs)) t.1 c.link_segments.ensures.plan);
-      sound = IfOk-weaker c.link_segments.result (λ _. linking_fault order given ≡ None) (λ _. first_fault host libs ≡ None) (λ _ h. first_linked host libs t.0 ∙ sym same ∙ h) c.link_segments.ensures.sound;
-      known = IfOk-weaker c.link_segments.result (λ _. linking_fault order given ≡ None) (λ _. AreOfLink host libs all) (λ _ h. of_link host libs t.0) c.link_segments.ensures.sound;
+          (subst (λ (segs : List Segment). IfOk c.link_segments.result (IsPlanOf order host segs))
+          t.1 c.link_segments.ensures.plan);
+      sound = IfOk-weaker c.link_segments.result (λ _. linking_fault order given ≡ None)
+          (λ _. first_fault host libs ≡ None)
+          (λ _ h. first_linked host libs t.0 ∙ sym same ∙ h) c.link_segments.ensures.sound;
+      known = IfOk-weaker c.link_segments.result (λ _. linking_fault order given ≡ None)
+          (λ _. AreOfLink host libs all)
+          (λ _ h. of_link host libs t.0) c.link_segments.ensures.sound;
       stop = IfErr-weaker c.link_segments.result (AreStopped order given) (IsStopped host libs)
-          (λ stop d. stopped host libs t.0 stop (subst (λ (o : Order). AreStopped o all stop) order_is (subst (λ (segs : List Segment). AreStopped order segs stop) t.1 d))) c.link_segments.ensures.stop;
+          (λ stop d. stopped host libs t.0 stop
+          (subst (λ (o : Order). AreStopped o all stop) order_is
+          (subst (λ (segs : List Segment). AreStopped order segs stop) t.1 d)))
+          c.link_segments.ensures.stop;
     }

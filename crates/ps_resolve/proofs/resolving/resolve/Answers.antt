@@ -8,4 +8,6 @@ pub returns-in-Err-clause-stop : goal.returns-in-Err-clause-stop
 returns-in-Err-clause-stop g c =
     let host = c.args.host.now in
     let libs = map (λ lib. lib.now) c.args.libs.now in
-    first_read host libs c.in_file.result (host_refused host libs c.in-Err.reason (sym c.read.ensures ∙ c.in-Err.is) ∙ ap (λ (f : Fault). Some f) (sym c.in_file.ensures))
+    first_read host libs c.in_file.result
+    (host_refused host libs c.in-Err.reason (sym c.read.ensures ∙ c.in-Err.is)
+    ∙ ap (λ (f : Fault). Some f) (sym c.in_file.ensures))

@@ -11,7 +11,9 @@ pub returns-in_err-write_file-clause-prefix : goal.returns-in_err-write_file-cla
 returns-in_err-write_file-clause-prefix g c =
     let same : c.self.inside.plan ≡ c.args.self.now = cc (c.self.view_is) in
     on_err_always c.from_residual.result
-    (subst (λ (p : Planned). AppendsPrefix (g.W.Write.contents c.args.out.now) (g.W.Write.contents c.write_file.new.out) (file_in p)) same c.in_err-write_file.ensures.prefix)
+    (subst (λ (p : Planned). AppendsPrefix (g.W.Write.contents c.args.out.now)
+    (g.W.Write.contents c.write_file.new.out) (file_in p)) same
+    c.in_err-write_file.ensures.prefix)
 
 pub returns-in_err-write_file-clause-device : goal.returns-in_err-write_file-clause-device
 returns-in_err-write_file-clause-device g c =

@@ -1,12 +1,21 @@
 use Rattle.std.proofs.Common.{◌≡◌, true, false, rules}
 use Rattle.std.specs.Prelude.{is_some}
-use Rattle.ps_linkfile.proofs.Sending.{noted_fault, noted_more, sent_more, sent_no_more, sent_prefix}
+use Rattle.ps_linkfile.proofs.Sending.{noted_fault, noted_more, sent_more, sent_no_more}
+use Rattle.ps_linkfile.proofs.Sending.{sent_prefix}
 use Rattle.ps_linkfile.proofs.stream.StreamTextWriter.add.Goals as goal
 
 pub returns-then-is_some : goal.returns-then-is_some
 returns-then-is_some g c =
     let failed : is_some c.args.self.now.fault ≡ true = search rules in
-    record { after = λ first before h. (h.0, h.1, sent_no_more _ _ before c.args.self.now.gathered.items c.args.bytes.now c.args.self.now.fault failed h.2, h.3) }
+    record {
+      after = λ first before h. (
+        h.0,
+        h.1,
+        sent_no_more _ _ before c.args.self.now.gathered.items c.args.bytes.now
+            c.args.self.now.fault failed h.2,
+        h.3,
+      );
+    }
 
 pub returns-in-Err : goal.returns-in-Err
 returns-in-Err g c =
@@ -15,7 +24,8 @@ returns-in-Err g c =
       after = λ first before h. (
         h.0,
         h.1,
-        sent_prefix _ _ _ before c.args.self.now.gathered.items c.args.bytes.now c.args.self.now.fault none h.2 c.in-Err.ensures.prefix,
+        sent_prefix _ _ _ before c.args.self.now.gathered.items c.args.bytes.now
+            c.args.self.now.fault none h.2 c.in-Err.ensures.prefix,
         noted_fault _ _ _ c.args.self.now.fault _ none h.3 c.in-Err.ensures.failed,
       );
     }
@@ -27,7 +37,8 @@ returns-in-Ok g c =
       after = λ first before h. (
         h.0,
         h.1,
-        sent_more _ _ _ before c.args.self.now.gathered.items c.args.bytes.now c.gather.new.gathered.items c.args.self.now.fault none h.2 c.in-Ok.ensures.sent,
+        sent_more _ _ _ before c.args.self.now.gathered.items c.args.bytes.now
+            c.gather.new.gathered.items c.args.self.now.fault none h.2 c.in-Ok.ensures.sent,
         noted_more _ _ _ c.args.self.now.fault none h.3 c.in-Ok.ensures.ok,
       );
     }

@@ -5,8 +5,11 @@ use Rattle.ps_resolve.specs.Readings.{HostFiles}
 use Rattle.ps_resolve.proofs.ReadingSlots.{units_last}
 use Rattle.ps_resolve.proofs.reading.HostReading.of.Goals as goal
 
-files_of : (libs : List (Bor (List ℕ))) (a b : OpenedFile) → a ≡ b → ◌≡◌ {A = HostFiles} (record { order = a.order; file = a.file; libs = contents libs }) (record { order = b.order; file = b.file; libs = contents libs })
-files_of libs a b e = ap (λ (o : OpenedFile). record { order = o.order; file = o.file; libs = contents libs }) e
+files_of : (libs : List (Bor (List ℕ))) (a b : OpenedFile) → a ≡ b
+    → ◌≡◌ {A = HostFiles} (record { order = a.order; file = a.file; libs = contents libs })
+    (record { order = b.order; file = b.file; libs = contents libs })
+files_of libs a b e = ap (λ (o : OpenedFile). record
+    { order = o.order; file = o.file; libs = contents libs }) e
 
 pub returns : goal.returns
 returns c = files_of c.args.libs.now c.of-slots.result c.args.dict c.of-slots.ensures
@@ -25,5 +28,6 @@ invariant_of-result c =
       requested = added.ensures.requested;
       following = added.ensures.following;
       ends = added.ensures.ends;
-      first = c.or.ensures ∙ units_last host.order host.file libs own.result added.result.fault own.ensures.first added.ensures.ends;
+      first = c.or.ensures ∙ units_last host.order host.file libs own.result added.result.fault
+          own.ensures.first added.ensures.ends;
     }

@@ -5,19 +5,28 @@ use Rattle.ps_resolve.specs.declared.reading.added.UnitReference.{UnitReference}
 use Rattle.ps_resolve.proofs.ReadingSlots.{request_by, request_of_slot}
 use Rattle.ps_resolve.proofs.reading.HostReading.request.Goals as goal
 
-seen : (a b : HostFiles) (slot : ℕ) → a ≡ b → slot_request a.order a.file (opened_files a.order a.libs) slot ≡ slot_request b.order b.file (opened_files b.order b.libs) slot
-seen a b slot e = ap (λ (v : HostFiles). slot_request v.order v.file (opened_files v.order v.libs) slot) e
+seen : (a b : HostFiles) (slot : ℕ) → a ≡ b
+    → slot_request a.order a.file (opened_files a.order a.libs) slot
+    ≡ slot_request b.order b.file (opened_files b.order b.libs) slot
+seen a b slot e = ap (λ (v : HostFiles). slot_request v.order v.file
+    (opened_files v.order v.libs) slot) e
 
 pub returns-in-Some : goal.returns-in-Some
 returns-in-Some c =
     let host = c.self.inside.slots in
-    sym (request_of_slot host.order host.file (opened_files host.order (contents c.self.inside.libs.now)) c.args.slot c.in-Some.request (sym c.own_request.ensures ∙ c.in-Some.is)) ∙ seen _ _ c.args.slot c.self.view_is
+    sym (request_of_slot host.order host.file
+    (opened_files host.order (contents c.self.inside.libs.now)) c.args.slot c.in-Some.request
+    (sym c.own_request.ensures ∙ c.in-Some.is)) ∙ seen _ _ c.args.slot c.self.view_is
 
 pub returns : goal.returns
 returns c =
     let host = c.self.inside.slots in
     let files = opened_files host.order (contents c.self.inside.libs.now) in
     c.queued_request.ensures
-    ∙ (ap (λ (queue : List UnitReference). queued_request queue c.as_slice-2.result.now c.args.slot) (c.as_slice.ensures.value ∙ c.self.invariant.requested)
-    ∙ (ap (λ (empty : List ℕ). queued_request (read_requests host.order host.file files) empty c.args.slot) (c.as_slice-2.ensures.value ∙ c.self.invariant.slots_left)
-    ∙ (sym (request_by host.order host.file files c.args.slot (sym c.own_request.ensures ∙ c.in_default.is)) ∙ seen _ _ c.args.slot c.self.view_is)))
+    ∙ (ap (λ (queue : List UnitReference). queued_request queue c.as_slice-2.result.now
+    c.args.slot) (c.as_slice.ensures.value ∙ c.self.invariant.requested)
+    ∙ (ap (λ (empty : List ℕ). queued_request
+    (read_requests host.order host.file files) empty c.args.slot)
+    (c.as_slice-2.ensures.value ∙ c.self.invariant.slots_left)
+    ∙ (sym (request_by host.order host.file files c.args.slot
+    (sym c.own_request.ensures ∙ c.in_default.is)) ∙ seen _ _ c.args.slot c.self.view_is)))

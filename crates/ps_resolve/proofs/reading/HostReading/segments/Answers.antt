@@ -5,4 +5,7 @@ use Rattle.ps_resolve.specs.Views.{segment_of}
 use Rattle.ps_resolve.proofs.reading.HostReading.segments.Goals as goal
 
 pub returns : goal.returns
-returns c = ap (map segment_of) c.as_slice.ensures.value ∙ (c.self.invariant.all ∙ ap (λ (v : HostFiles). all_read v.order v.file (opened_files v.order v.libs)) c.self.view_is)
+returns c = ap (map segment_of) c.as_slice.ensures.value
+    ∙ (c.self.invariant.all
+    ∙ ap (λ (v : HostFiles). all_read v.order v.file (opened_files v.order v.libs))
+    c.self.view_is)

@@ -9,8 +9,12 @@ use Rattle.ps_resolve.proofs.reading.Reading.fault.Goals as goal
 pub returns-in-Err : goal.returns-in-Err
 returns-in-Err c =
     ap (λ (f : Fault). Some f) c.in_file.ensures
-    ∙ (sym (fault_of_none c.self.inside.file.now (contents c.self.inside.libs.now) c.in-Err.reason (sym c.self.invariant ∙ c.in-Err.is)) ∙ ap (λ (v : ReadFiles). reading_fault v.host v.libs) c.self.view_is)
+    ∙ (sym (fault_of_none c.self.inside.file.now (contents c.self.inside.libs.now) c.in-Err.reason
+    (sym c.self.invariant ∙ c.in-Err.is))
+    ∙ ap (λ (v : ReadFiles). reading_fault v.host v.libs) c.self.view_is)
 
 pub returns-in-Ok : goal.returns-in-Ok
 returns-in-Ok c =
-    c.fault.ensures ∙ (fault_of_host c.self.inside.file.now (contents c.self.inside.libs.now) c.in-Ok.host (sym c.self.invariant ∙ c.in-Ok.is) ∙ ap (λ (v : ReadFiles). reading_fault v.host v.libs) c.self.view_is)
+    c.fault.ensures ∙ (fault_of_host c.self.inside.file.now
+    (contents c.self.inside.libs.now) c.in-Ok.host (sym c.self.invariant ∙ c.in-Ok.is)
+    ∙ ap (λ (v : ReadFiles). reading_fault v.host v.libs) c.self.view_is)

@@ -3,7 +3,9 @@ use Rattle.ps_resolve.specs.Readings.{ReadFiles, opened_host}
 use Rattle.ps_resolve.proofs.reading.Reading.host.Goals as goal
 
 pub returns-in-Err-clause-refused : goal.returns-in-Err-clause-refused
-returns-in-Err-clause-refused c = ap (λ (v : ReadFiles). opened_host v.host v.libs) (sym c.self.view_is) ∙ (sym c.self.invariant ∙ c.in-Err.is)
+returns-in-Err-clause-refused c = ap (λ (v : ReadFiles). opened_host v.host v.libs)
+    (sym c.self.view_is) ∙ (sym c.self.invariant ∙ c.in-Err.is)
 
 pub returns-in-Ok-clause-opened : goal.returns-in-Ok-clause-opened
-returns-in-Ok-clause-opened c = ap (λ (v : ReadFiles). opened_host v.host v.libs) (sym c.self.view_is) ∙ (sym c.self.invariant ∙ c.in-Ok.is)
+returns-in-Ok-clause-opened c = ap (λ (v : ReadFiles). opened_host v.host v.libs)
+    (sym c.self.view_is) ∙ (sym c.self.invariant ∙ c.in-Ok.is)

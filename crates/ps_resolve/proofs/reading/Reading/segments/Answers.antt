@@ -6,14 +6,17 @@ use Rattle.ps_resolve.specs.OfLink.{AreOfLink}
 use Rattle.ps_resolve.specs.Readings.{HostFiles, ReadFiles, host_reading_fault}
 use Rattle.ps_resolve.specs.Views.{segment_of}
 use Rattle.ps_resolve.proofs.OfLink.{of_link}
-use Rattle.ps_resolve.proofs.ReadingSlots.{fault_of_host, fault_of_none, host_of_files, segments_are}
+use Rattle.ps_resolve.proofs.ReadingSlots.{fault_of_host, fault_of_none, host_of_files}
+use Rattle.ps_resolve.proofs.ReadingSlots.{segments_are}
 use Rattle.ps_resolve.proofs.reading.Reading.segments.Goals as goal
 
 pub returns-in-Err : goal.returns-in-Err
 returns-in-Err c =
     let f : ReadFiles = c.args.self.now in
     let no : reading_fault f.host f.libs ≡ None → ⊥ = λ none.
-    let some = ap (λ (v : ReadFiles). reading_fault v.host v.libs) (sym c.self.view_is) ∙ fault_of_none c.self.inside.file.now (contents c.self.inside.libs.now) _ (sym c.self.invariant ∙ c.in-Err.is) in
+    let some = ap (λ (v : ReadFiles). reading_fault v.host v.libs) (sym c.self.view_is)
+    ∙ fault_of_none c.self.inside.file.now (contents c.self.inside.libs.now) _
+    (sym c.self.invariant ∙ c.in-Err.is) in
     let both = sym none ∙ some in
     cc in
     record { all = λ none. absurd (no none); known = λ none. absurd (no none) }
@@ -21,13 +24,22 @@ returns-in-Err c =
 pub returns-in-Ok : goal.returns-in-Ok
 returns-in-Ok c =
     let f : ReadFiles = c.args.self.now in
-    let all : reading_fault f.host f.libs ≡ None → map segment_of c.segments.result.now ≡ segments (order_of f.host) f.host f.libs = λ none.
+    let all : reading_fault f.host f.libs ≡ None
+    → map segment_of c.segments.result.now ≡ segments (order_of f.host) f.host f.libs =
+    λ none.
     let file = c.self.inside.file.now in
     let libs = contents c.self.inside.libs.now in
     let v : HostFiles = c.in-Ok.host in
     let is = sym c.self.invariant ∙ c.in-Ok.is in
-    let here : host_reading_fault v.order v.file v.libs ≡ None = fault_of_host file libs v is ∙ (ap (λ (f : ReadFiles). reading_fault f.host f.libs) c.self.view_is ∙ none) in
+    let here : host_reading_fault v.order v.file v.libs ≡ None =
+    fault_of_host file libs v is ∙
+    (ap (λ (f : ReadFiles). reading_fault f.host f.libs) c.self.view_is ∙ none) in
     c.segments.ensures
     ∙ (segments_are v.order v.file v.libs here
-    ∙ (ap (λ (x : HostFiles). segments x.order x.file x.libs) (host_of_files file libs v is) ∙ ap (λ (f : ReadFiles). segments (order_of f.host) f.host f.libs) c.self.view_is)) in
-    record { all = all; known = λ none. subst (AreOfLink f.host f.libs) (sym (all none)) (of_link f.host f.libs none) }
+    ∙ (ap (λ (x : HostFiles). segments x.order x.file x.libs) (host_of_files file libs v is)
+    ∙ ap (λ (f : ReadFiles). segments (order_of f.host) f.host f.libs) c.self.view_is)) in
+    record {
+      all = all;
+      known = λ none. subst (AreOfLink f.host f.libs) (sym (all none))
+          (of_link f.host f.libs none);
+    }

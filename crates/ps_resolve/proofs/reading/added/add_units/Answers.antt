@@ -1,14 +1,18 @@
-use Rattle.std.proofs.Common.{◌≡◌, ◌∙◌, ◌+◌, ◌++◌, ◌<◌, ◌∷◌, [], ℕ, List, length, length-append, map, take, drop, get_or, append-nil, Some, None, refl, sym, ap, subst, arith}
+use Rattle.std.proofs.Common.{◌≡◌, ◌∙◌, ◌+◌, ◌++◌, ◌<◌, ◌∷◌, [], ℕ}
+use Rattle.std.proofs.Common.{List, length, length-append, map, take, drop, get_or, append-nil}
+use Rattle.std.proofs.Common.{Some, None, refl, sym, ap, subst, arith}
 use Rattle.std.proofs.lemmas.List.{get_or_default, length-map, drop_all}
 use Rattle.std.proofs.lemmas.List.Elements.{All-nil}
 use Rattle.std.proofs.lemmas.Result.{err_from_is_err_and}
 use Rattle.ps_words.specs.declared.fault.Fault.{Fault}
 use Rattle.ps_resolve.specs.Sources.{Segment, opened}
-use Rattle.ps_resolve.specs.Added.{RoundsOutcome, requested_from, unit_references, all_unit_references, rounds_from}
+use Rattle.ps_resolve.specs.Added.{RoundsOutcome, requested_from, unit_references}
+use Rattle.ps_resolve.specs.Added.{all_unit_references, rounds_from}
 use Rattle.ps_resolve.specs.Linkable.{AscendFrom}
 use Rattle.ps_resolve.specs.Views.{put_by_slot, segment_of, segments_in_slots}
 use Rattle.ps_resolve.specs.declared.reading.added.UnitReference.{UnitReference}
-use Rattle.ps_resolve.proofs.Adding.{at_round, kept, no_name_left, no_slot_left, round_refused, round_adds, joined, joined_more, references_more, few_kept}
+use Rattle.ps_resolve.proofs.Adding.{at_round, kept, no_name_left, no_slot_left, round_refused}
+use Rattle.ps_resolve.proofs.Adding.{round_adds, joined, joined_more, references_more, few_kept}
 use Rattle.ps_resolve.proofs.BySlot.{empty_ascend, new_in, own_table, put_table, room_in_table}
 use Rattle.ps_resolve.proofs.Segs.{drop_at}
 use Rattle.ps_resolve.proofs.reading.added.add_units.Goals as goal
@@ -49,17 +53,24 @@ returns-in-None c =
     let xs : List Segment = t.0 in
     let is = λ (whole : List UnitReference) (kept : c.args.queue.now.items ≡ take 10 whole).
     let r = t.6 whole kept in
-    let at = at_round r.0 c.loop-round.queue.items i i None r.2 (omega arith) refl c.in-None.ensures in
+    let at = at_round r.0 c.loop-round.queue.items i i None r.2 (omega arith) refl c.in-None.ensures
+    in
     r.3 ∙ ap (joined xs) (no_name_left host.order host.file libs units i r.0 (drop i slots) at) in
-    let all = λ (whole : List UnitReference) (kept : c.args.queue.now.items ≡ take 10 whole). ap (λ (r : RoundsOutcome). r.added) (is whole kept) ∙ append-nil xs in
+    let all = λ (whole : List UnitReference) (kept : c.args.queue.now.items ≡ take 10 whole). ap
+    (λ (r : RoundsOutcome). r.added) (is whole kept) ∙ append-nil xs in
     record {
       fault = λ whole kept. sym (ap (λ (r : RoundsOutcome). r.fault) (is whole kept));
-      added = λ whole kept. t.4 ∙ ap (segments_in_slots host.order host.file old) (sym (all whole kept));
-      count = λ whole kept. t.5 ∙ ap (λ (ys : List Segment). length c.args.segments.now.items + length ys) (sym (all whole kept));
+      added = λ whole kept. t.4 ∙ ap (segments_in_slots host.order host.file old)
+          (sym (all whole kept));
+      count = λ whole kept. t.5
+          ∙ ap (λ (ys : List Segment). length c.args.segments.now.items + length ys)
+          (sym (all whole kept));
       more = omega (arith, t.5);
       requested = λ whole kept.
           let r = t.6 whole kept in
-          r.2 ∙ (ap (take 10) r.1 ∙ ap (λ (ys : List Segment). take 10 (requested_from units whole (all_unit_references ys))) (sym (all whole kept)));
+          r.2 ∙ (ap (take 10) r.1 ∙ ap
+          (λ (ys : List Segment). take 10
+          (requested_from units whole (all_unit_references ys))) (sym (all whole kept)));
       read = inv.read;
     }
 
@@ -79,20 +90,30 @@ returns-in_err-segment-in-Some c =
     let left = drop (i + 1) slots in
     let is = λ (whole : List UnitReference) (kept : c.args.queue.now.items ≡ take 10 whole).
     let r = t.6 whole kept in
-    let at = at_round r.0 c.loop-round.queue.items i i (Some c.in-Some.requested) r.2 (omega arith) refl c.in-Some.ensures in
-    let here = ap (λ (l : List ℕ). rounds_from host.order host.file libs units l i r.0) (drop_at slots i slot lt (get_or_default slots i 0 slot lt))
-    ∙ round_refused host.order host.file libs units i r.0 slot left c.in-Some.requested c.in_err-segment-in-Some.field-0.0 at (rw c.in_slot-request.ensures at (sym c.in_err-segment-in-Some.ensures.fault)) in
+    let at = at_round r.0 c.loop-round.queue.items i i (Some c.in-Some.requested) r.2
+    (omega arith) refl c.in-Some.ensures in
+    let here = ap (λ (l : List ℕ). rounds_from host.order host.file libs units l i r.0)
+    (drop_at slots i slot lt (get_or_default slots i 0 slot lt))
+    ∙ round_refused host.order host.file libs units i r.0 slot left c.in-Some.requested
+    c.in_err-segment-in-Some.field-0.0 at
+    (rw c.in_slot-request.ensures at (sym c.in_err-segment-in-Some.ensures.fault)) in
     r.3 ∙ ap (joined xs) here in
-    let all = λ (whole : List UnitReference) (kept : c.args.queue.now.items ≡ take 10 whole). ap (λ (r : RoundsOutcome). r.added) (is whole kept) ∙ append-nil xs in
+    let all = λ (whole : List UnitReference) (kept : c.args.queue.now.items ≡ take 10 whole). ap
+    (λ (r : RoundsOutcome). r.added) (is whole kept) ∙ append-nil xs in
     let p = err_from_is_err_and c.from_residual.result c.from_residual.ensures.1 in
     rw (p.1, p.2) (record {
       fault = λ whole kept. sym (ap (λ (r : RoundsOutcome). r.fault) (is whole kept));
-      added = λ whole kept. t.4 ∙ ap (segments_in_slots host.order host.file old) (sym (all whole kept));
-      count = λ whole kept. t.5 ∙ ap (λ (ys : List Segment). length c.args.segments.now.items + length ys) (sym (all whole kept));
+      added = λ whole kept. t.4 ∙ ap (segments_in_slots host.order host.file old)
+          (sym (all whole kept));
+      count = λ whole kept. t.5
+          ∙ ap (λ (ys : List Segment). length c.args.segments.now.items + length ys)
+          (sym (all whole kept));
       more = omega (arith, t.5);
       requested = λ whole kept.
           let r = t.6 whole kept in
-          r.2 ∙ (ap (take 10) r.1 ∙ ap (λ (ys : List Segment). take 10 (requested_from units whole (all_unit_references ys))) (sym (all whole kept)));
+          r.2 ∙ (ap (take 10) r.1 ∙ ap
+          (λ (ys : List Segment). take 10
+          (requested_from units whole (all_unit_references ys))) (sym (all whole kept)));
       read = inv.read;
     })
 
@@ -113,9 +134,17 @@ put-requires c =
     let xs : List Segment = t.0 in
     let s : Segment = segment_of c.in_ok-segment-in-Some.segment in
     let brought = rw c.in_slot-request.ensures at c.in_ok-segment-in-Some.ensures.segment in
-    let new = new_in host.order host.file libs slots i slot t.1 xs s c.in-Some.requested c.requires.empty c.requires.in_range lt (get_or_default slots i 0 slot lt) t.3 t.2 brought in
-    let less = room_in_table host.order host.file libs old c.requires.own xs s new.low new.empty new.none in
-    omega (arith, less, ap (λ (ys : List Segment). length ys) t.4, length-map c.loop-round.segments.items segment_of)
+    let new = new_in host.order host.file libs slots i slot t.1 xs s c.in-Some.requested
+    c.requires.empty c.requires.in_range lt (get_or_default slots i 0 slot lt) t.3 t.2 brought
+    in
+    let less = room_in_table host.order host.file libs old c.requires.own xs s new.low new.empty
+    new.none in
+    omega (
+      arith,
+      less,
+      ap (λ (ys : List Segment). length ys) t.4,
+      length-map c.loop-round.segments.items segment_of,
+    )
 
 pub loop-round-preserved : goal.loop-round-preserved
 loop-round-preserved c =
@@ -131,7 +160,9 @@ loop-round-preserved c =
     let xs : List Segment = t.0 in
     let s : Segment = segment_of c.in_ok-segment-in-Some.segment in
     let brought = rw c.in_slot-request.ensures at c.in_ok-segment-in-Some.ensures.segment in
-    let new = new_in host.order host.file libs slots i slot t.1 xs s c.in-Some.requested c.requires.empty c.requires.in_range lt (get_or_default slots i 0 slot lt) t.3 t.2 brought in
+    let new = new_in host.order host.file libs slots i slot t.1 xs s c.in-Some.requested
+    c.requires.empty c.requires.in_range lt (get_or_default slots i 0 slot lt) t.3 t.2 brought
+    in
     let units = c.args.units.now in
     let left = drop (i + 1) slots in
     let gs = unit_references s.file s.slot 0 s.records in
@@ -141,25 +172,37 @@ loop-round-preserved c =
         s.slot + 1,
         new.below,
         new.ascend,
-        c.put.ensures.segments ∙ (ap (put_by_slot s) t.4 ∙ put_table host.order host.file libs old c.requires.own xs s new.low new.empty new.none),
+        c.put.ensures.segments ∙ (ap (put_by_slot s) t.4
+            ∙ put_table host.order host.file libs old c.requires.own xs s new.low new.empty
+            new.none),
         omega (arith, c.put.ensures.len, t.5, length-append xs (s ∷ [])),
         λ whole kept_is.
             let r = t.6 whole kept_is in
             let queue = r.0 in
             let next = requested_from units queue gs in
-            let at = at_round queue c.loop-round.queue.items i i (Some c.in-Some.requested) r.2 (omega arith) refl c.in-Some.ensures in
-            let is : c.enqueue_segment.new.queue.items ≡ take 10 next = c.enqueue_segment.ensures ∙ (ap (λ (q : List UnitReference). take 10 (requested_from units q gs)) r.2 ∙ kept units queue gs) in
+            let at = at_round queue c.loop-round.queue.items i i (Some c.in-Some.requested) r.2
+            (omega arith) refl c.in-Some.ensures in
+            let is : c.enqueue_segment.new.queue.items ≡ take 10 next =
+            c.enqueue_segment.ensures
+            ∙ (ap (λ (q : List UnitReference). take 10 (requested_from units q gs)) r.2
+            ∙ kept units queue gs) in
             let rest = rounds_from host.order host.file libs units left (i + 1) next in
-            let here = ap (λ (l : List ℕ). rounds_from host.order host.file libs units l i queue) (drop_at slots i slot lt (get_or_default slots i 0 slot lt))
-            ∙ round_adds host.order host.file libs units i queue slot left c.in-Some.requested s at (rw c.in_slot-request.ensures at (sym c.in_ok-segment-in-Some.ensures.fault)) brought in (
+            let here = ap (λ (l : List ℕ). rounds_from host.order host.file libs units l i queue)
+            (drop_at slots i slot lt (get_or_default slots i 0 slot lt))
+            ∙ round_adds host.order host.file libs units i queue slot left c.in-Some.requested s
+            at (rw c.in_slot-request.ensures at (sym c.in_ok-segment-in-Some.ensures.fault))
+            brought in (
               next,
-              ap (λ (q : List UnitReference). requested_from units q gs) r.1 ∙ references_more units whole xs s,
+              ap (λ (q : List UnitReference). requested_from units q gs) r.1
+                  ∙ references_more units whole xs s,
               is,
               r.3 ∙ (ap (joined xs) here ∙ joined_more xs s rest),
             ),
       );
-      short = rw c.enqueue_segment.ensures (few_kept (requested_from units c.loop-round.queue.items gs));
-      read = c.put.ensures.read host.order host.file libs inv.read c.in_ok-segment-in-Some.ensures.read;
+      short = rw c.enqueue_segment.ensures
+          (few_kept (requested_from units c.loop-round.queue.items gs));
+      read = c.put.ensures.read host.order host.file libs inv.read
+          c.in_ok-segment-in-Some.ensures.read;
     }
 
 pub returns-in-None-requested_at : goal.returns-in-None-requested_at
@@ -175,17 +218,24 @@ returns-in-None-requested_at c =
     let xs : List Segment = t.0 in
     let is = λ (whole : List UnitReference) (kept : c.args.queue.now.items ≡ take 10 whole).
     let r = t.6 whole kept in
-    let at = at_round r.0 c.loop-round.queue.items i (length slots) None r.2 (omega arith) (omega arith) c.in-None-requested_at.ensures in
+    let at = at_round r.0 c.loop-round.queue.items i (length slots) None r.2 (omega arith)
+    (omega arith) c.in-None-requested_at.ensures in
     r.3 ∙ ap (joined xs) (no_name_left host.order host.file libs units i r.0 (drop i slots) at) in
-    let all = λ (whole : List UnitReference) (kept : c.args.queue.now.items ≡ take 10 whole). ap (λ (r : RoundsOutcome). r.added) (is whole kept) ∙ append-nil xs in
+    let all = λ (whole : List UnitReference) (kept : c.args.queue.now.items ≡ take 10 whole). ap
+    (λ (r : RoundsOutcome). r.added) (is whole kept) ∙ append-nil xs in
     record {
       fault = λ whole kept. sym (ap (λ (r : RoundsOutcome). r.fault) (is whole kept));
-      added = λ whole kept. t.4 ∙ ap (segments_in_slots host.order host.file old) (sym (all whole kept));
-      count = λ whole kept. t.5 ∙ ap (λ (ys : List Segment). length c.args.segments.now.items + length ys) (sym (all whole kept));
+      added = λ whole kept. t.4 ∙ ap (segments_in_slots host.order host.file old)
+          (sym (all whole kept));
+      count = λ whole kept. t.5
+          ∙ ap (λ (ys : List Segment). length c.args.segments.now.items + length ys)
+          (sym (all whole kept));
       more = omega (arith, t.5);
       requested = λ whole kept.
           let r = t.6 whole kept in
-          r.2 ∙ (ap (take 10) r.1 ∙ ap (λ (ys : List Segment). take 10 (requested_from units whole (all_unit_references ys))) (sym (all whole kept)));
+          r.2 ∙ (ap (take 10) r.1 ∙ ap
+          (λ (ys : List Segment). take 10
+          (requested_from units whole (all_unit_references ys))) (sym (all whole kept)));
       read = inv.read;
     }
 
@@ -204,16 +254,27 @@ returns-in-Some-requested_at c =
     let g = c.in-Some-requested_at.requested in
     let is = λ (whole : List UnitReference) (kept : c.args.queue.now.items ≡ take 10 whole).
     let r = t.6 whole kept in
-    let at = at_round r.0 c.loop-round.queue.items i (length slots) (Some g) r.2 (omega arith) (omega arith) c.in-Some-requested_at.ensures in
-    r.3 ∙ ap (joined xs) (ap (λ (l : List ℕ). rounds_from host.order host.file libs units l i r.0) (drop_all i slots c.loop-round-test.false) ∙ no_slot_left host.order host.file libs units i r.0 g at) in
-    let all = λ (whole : List UnitReference) (kept : c.args.queue.now.items ≡ take 10 whole). ap (λ (r : RoundsOutcome). r.added) (is whole kept) ∙ append-nil xs in
+    let at = at_round r.0 c.loop-round.queue.items i (length slots) (Some g) r.2 (omega arith)
+    (omega arith) c.in-Some-requested_at.ensures in
+    r.3 ∙ ap (joined xs)
+    (ap (λ (l : List ℕ). rounds_from host.order host.file libs units l i r.0)
+    (drop_all i slots c.loop-round-test.false)
+    ∙ no_slot_left host.order host.file libs units i r.0 g at) in
+    let all = λ (whole : List UnitReference) (kept : c.args.queue.now.items ≡ take 10 whole). ap
+    (λ (r : RoundsOutcome). r.added) (is whole kept) ∙ append-nil xs in
     record {
-      fault = λ whole kept. ap (λ (f : Fault). Some f) c.no_slot.ensures ∙ sym (ap (λ (r : RoundsOutcome). r.fault) (is whole kept));
-      added = λ whole kept. t.4 ∙ ap (segments_in_slots host.order host.file old) (sym (all whole kept));
-      count = λ whole kept. t.5 ∙ ap (λ (ys : List Segment). length c.args.segments.now.items + length ys) (sym (all whole kept));
+      fault = λ whole kept. ap (λ (f : Fault). Some f) c.no_slot.ensures
+          ∙ sym (ap (λ (r : RoundsOutcome). r.fault) (is whole kept));
+      added = λ whole kept. t.4 ∙ ap (segments_in_slots host.order host.file old)
+          (sym (all whole kept));
+      count = λ whole kept. t.5
+          ∙ ap (λ (ys : List Segment). length c.args.segments.now.items + length ys)
+          (sym (all whole kept));
       more = omega (arith, t.5);
       requested = λ whole kept.
           let r = t.6 whole kept in
-          r.2 ∙ (ap (take 10) r.1 ∙ ap (λ (ys : List Segment). take 10 (requested_from units whole (all_unit_references ys))) (sym (all whole kept)));
+          r.2 ∙ (ap (take 10) r.1 ∙ ap
+          (λ (ys : List Segment). take 10
+          (requested_from units whole (all_unit_references ys))) (sym (all whole kept)));
       read = inv.read;
     }

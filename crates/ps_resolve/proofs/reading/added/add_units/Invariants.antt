@@ -1,4 +1,5 @@
-use Rattle.std.proofs.Common.{◌≡◌, ◌<◌, ◌≤◌, ◌+◌, ℕ, List, length, take, drop, map}
+use Rattle.std.proofs.Common.{◌≡◌, ◌<◌, ◌≤◌, ◌+◌, ℕ, List, length, take, drop}
+use Rattle.std.proofs.Common.{map}
 use Rattle.std.specs.Prelude.{All}
 use Rattle.ps_resolve.specs.Sources.{Segment, opened}
 use Rattle.ps_resolve.specs.Added.{all_unit_references, requested_from, rounds_from}
@@ -17,12 +18,19 @@ invariant-loop-round l =
     let libs = opened order l.libs in
     let old = l.fn.segments.items in
     record {
-      so_far : (added : List Segment) × (from : ℕ) × (All (λ (s : Segment). s.slot < from) added) × (AscendFrom from (drop l.round l.slots))
-          × (map segment_of l.segments.items ≡ segments_in_slots order l.host.file (map segment_of old) added)
+      so_far : (added : List Segment) × (from : ℕ)
+          × (All (λ (s : Segment). s.slot < from) added)
+          × (AscendFrom from (drop l.round l.slots))
+          × (map segment_of l.segments.items
+          ≡ segments_in_slots order l.host.file (map segment_of old) added)
           × (length l.segments.items ≡ length old + length added)
           × ((whole : List UnitReference) → l.fn.queue.items ≡ take 10 whole
-          → (queue : List UnitReference) × (queue ≡ requested_from l.units whole (all_unit_references added)) × (l.queue.items ≡ take 10 queue)
-          × (rounds_from order l.host.file libs l.units l.slots 0 whole ≡ joined added (rounds_from order l.host.file libs l.units (drop l.round l.slots) l.round queue)));
+          → (queue : List UnitReference)
+          × (queue ≡ requested_from l.units whole (all_unit_references added))
+          × (l.queue.items ≡ take 10 queue)
+          × (rounds_from order l.host.file libs l.units l.slots 0 whole
+          ≡ joined added (rounds_from order l.host.file libs l.units
+          (drop l.round l.slots) l.round queue)));
       short : length l.queue.items ≤ 10;
       read : All (IsRead order l.host.file libs) l.segments.items;
     }

@@ -8,7 +8,8 @@ use Rattle.ps_resolve.proofs.reading.added.empty_slots.Goals as goal
 
 pub loop-slot-init : goal.loop-slot-init
 unfolding empty_slots
-loop-slot-init c = rw c.new-slots.ensures (record { all = refl; in_range = All-nil (λ (slot : ℕ). slot < 16); few = omega arith })
+loop-slot-init c = rw c.new-slots.ensures
+    (record { all = refl; in_range = All-nil (λ (slot : ℕ). slot < 16); few = omega arith })
 
 pub loop-slot-preserved : goal.loop-slot-preserved
 loop-slot-preserved c =
@@ -18,6 +19,7 @@ loop-slot-preserved c =
     let inv = c.loop-slot.invariant in
     rw c.add_empty.ensures (record {
       all = inv.all ∙ filter_more test old i 16 c.loop-slot-test.true;
-      in_range = all_if (λ (slot : ℕ). slot < 16) (test i) old i inv.in_range c.loop-slot-test.true;
+      in_range = all_if (λ (slot : ℕ). slot < 16)
+          (test i) old i inv.in_range c.loop-slot-test.true;
       few = few_if (test i) old i (i + 1) 7 inv.few refl;
     })

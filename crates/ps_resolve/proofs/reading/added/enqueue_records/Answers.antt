@@ -11,12 +11,20 @@ returns-then-units-eq0 c =
     let s = c.args.place in
     let units = c.args.units.now in
     let queue = c.args.queue.now.items in
-    let none_new = no_references s.file s.slot 0 c.args.records.now (sym c.units.ensures ∙ c.if-units-eq0.true) in
-    sym (ap (λ (gs : List UnitReference). take 10 (requested_from units queue gs)) none_new ∙ take_all 10 queue c.requires)
+    let none_new = no_references s.file s.slot 0 c.args.records.now
+    (sym c.units.ensures ∙ c.if-units-eq0.true) in
+    sym (ap (λ (gs : List UnitReference). take 10 (requested_from units queue gs)) none_new
+    ∙ take_all 10 queue c.requires)
 
 pub loop-rec-init : goal.loop-rec-init
 loop-rec-init c = record {
-  left = (0, c.args.records.now, c.into_iter-rec-iterator.ensures.into_iter_gives ∙ c.records-rec-items.ensures, refl);
+  left = (
+    0,
+    c.args.records.now,
+    c.into_iter-rec-iterator.ensures.into_iter_gives
+        ∙ c.records-rec-items.ensures,
+    refl,
+  );
   few = c.requires;
 }
 
@@ -27,10 +35,19 @@ loop-rec-preserved c =
     let old = c.loop-rec.queue.items in
     let rec = c.in-Some.rec in
     let r = c.in-Some.record in
-    let step = one (Enqueues units s.file s.slot c.args.records.now c.args.queue.now.items old) c.loop-rec.rec-iterator c.next.new.self rec r c.loop-rec.invariant.left c.in-Some.ensures.steps in
+    let step = one (Enqueues units s.file s.slot c.args.records.now c.args.queue.now.items old)
+    c.loop-rec.rec-iterator c.next.new.self rec r c.loop-rec.invariant.left
+    c.in-Some.ensures.steps in
     record {
-      left = (rec + 1, step.0, step.1, kept_more units old c.enqueue_record.new.queue.items s.file s.slot rec r step.0 (rw c.record.ensures at c.enqueue_record.ensures) ∙ step.2);
-      few = rw (c.enqueue_record.ensures, c.record.ensures) (few_kept (requested_from units old (unit_references s.file s.slot rec (r ∷ []))));
+      left = (
+        rec + 1,
+        step.0,
+        step.1,
+        kept_more units old c.enqueue_record.new.queue.items s.file
+            s.slot rec r step.0 (rw c.record.ensures at c.enqueue_record.ensures) ∙ step.2,
+      );
+      few = rw (c.enqueue_record.ensures, c.record.ensures)
+          (few_kept (requested_from units old (unit_references s.file s.slot rec (r ∷ []))));
     }
 
 pub enqueue_record-requires : goal.enqueue_record-requires
@@ -40,5 +57,7 @@ pub returns : goal.returns
 returns c =
     let s = c.args.place in
     let queue = c.loop-rec.queue.items in
-    let end = none (Enqueues c.args.units.now s.file s.slot c.args.records.now c.args.queue.now.items queue) c.loop-rec.rec-iterator c.loop-rec.invariant.left c.in-None.ensures.steps.0 in
+    let end = none (Enqueues c.args.units.now s.file s.slot c.args.records.now
+    c.args.queue.now.items queue) c.loop-rec.rec-iterator c.loop-rec.invariant.left
+    c.in-None.ensures.steps.0 in
     sym (take_all 10 queue c.loop-rec.invariant.few) ∙ end.1

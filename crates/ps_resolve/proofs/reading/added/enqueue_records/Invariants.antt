@@ -6,6 +6,7 @@ use Rattle.ps_resolve.proofs.reading.added.enqueue_records.Given as goal
 -- the queue so far and what the remaining records request make the whole queue
 abbrev pub invariant-loop-rec : goal.invariant-loop-rec
 invariant-loop-rec l = record {
-  left : IsLeft (Enqueues l.units l.place.file l.place.slot l.records l.fn.queue.items l.queue.items) l.rec-iterator;
+  left : IsLeft (Enqueues l.units l.place.file l.place.slot l.records l.fn.queue.items
+      l.queue.items) l.rec-iterator;
   few : length l.queue.items ≤ 10;
 }

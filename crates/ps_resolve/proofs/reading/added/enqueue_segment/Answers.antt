@@ -9,10 +9,14 @@ returns-in_default c =
     let s = c.args.segment.now in
     let queue = c.args.queue.now.items in
     sym (take_all 10 queue c.requires)
-    ∙ ap (λ (rs : List Record). take 10 (requested_from c.args.units.now queue (unit_references s.file s.slot 0 rs))) c.in_default.ensures.records
+    ∙ ap (λ (rs : List Record). take 10
+    (requested_from c.args.units.now queue (unit_references s.file s.slot 0 rs)))
+    c.in_default.ensures.records
 
 pub returns-in-Some : goal.returns-in-Some
 returns-in-Some c =
     let s = c.args.segment.now in
     rw c.place.ensures at c.enqueue_records.ensures
-    ∙ ap (λ (rs : List Record). take 10 (requested_from c.args.units.now c.args.queue.now.items (unit_references s.file s.slot 0 rs))) c.in-Some.ensures.records
+    ∙ ap (λ (rs : List Record). take 10
+    (requested_from c.args.units.now c.args.queue.now.items
+    (unit_references s.file s.slot 0 rs))) c.in-Some.ensures.records

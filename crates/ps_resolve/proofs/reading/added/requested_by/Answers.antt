@@ -11,7 +11,9 @@ use Rattle.ps_resolve.proofs.reading.added.requested_by.Goals as goal
 
 pub loop-index-preserved : goal.loop-index-preserved
 loop-index-preserved c =
-    requested_more c.args.units.now c.args.own.now c.loop-index.index c.index-own-index.result c.loop-index.queue.items c.enqueue_segment.new.queue.items (omega arith) c.index-own-index.is c.enqueue_segment.ensures c.loop-index.invariant
+    requested_more c.args.units.now c.args.own.now c.loop-index.index c.index-own-index.result
+    c.loop-index.queue.items c.enqueue_segment.new.queue.items
+    (omega arith) c.index-own-index.is c.enqueue_segment.ensures c.loop-index.invariant
 
 -- the names of a segment that shares its records are known
 pub loop-index-preserved-then-shares_with : goal.loop-index-preserved-then-shares_with
@@ -24,6 +26,11 @@ loop-index-preserved-then-shares_with c =
     let v : SegmentView = c.index-own-index.result in
     let inv = c.loop-index.invariant in
     let has = c.shares_with.ensures.records c.if-shares_with.true in
-    let alike = All-take (IsLike v) i own (subst (λ (s : SegmentView). All (IsLike s) own) (sym c.index-own-index.is) (c.requires i v lt)) in
-    let known = of_shared (λ (rs : List Record). AreAlreadyKnown units queue rs) (take i own) v has.0 (c.shares_with.ensures.linked c.if-shares_with.true) alike inv.known has.1 in
-    requested_more units own i v queue queue lt c.index-own-index.is (nothing_new units v.file v.slot queue v.records inv.few known) inv
+    let alike = All-take (IsLike v) i own
+    (subst (λ (s : SegmentView). All (IsLike s) own) (sym c.index-own-index.is)
+    (c.requires i v lt)) in
+    let known = of_shared (λ (rs : List Record). AreAlreadyKnown units queue rs)
+    (take i own) v has.0 (c.shares_with.ensures.linked c.if-shares_with.true) alike inv.known
+    has.1 in
+    requested_more units own i v queue queue lt c.index-own-index.is
+    (nothing_new units v.file v.slot queue v.records inv.few known) inv

@@ -7,7 +7,8 @@ use Rattle.ps_resolve.proofs.reading.entries.read_segment.Goals as goal
 pub returns-in_ok-resolvable-in-Ok-clause-sound : goal.returns-in_ok-resolvable-in-Ok-clause-sound
 returns-in_ok-resolvable-in-Ok-clause-sound c =
     let from = c.args.from.now in
-    let is = whole from.file (entry_at from.order from.file c.args.index) c.in-Ok.code.now c.in-Ok.ensures in
+    let is = whole from.file (entry_at from.order from.file c.args.index) c.in-Ok.code.now
+    c.in-Ok.ensures in
     record {
       large = λ linked. omega (arith, is.len, is.large (c.requires.kind linked));
       tables = λ linked.

@@ -5,4 +5,5 @@ use Rattle.ps_resolve.proofs.reading.host.host_of.Given as goal
 
 -- the host's segment is one of those that are left
 abbrev pub invariant-loop-segment : goal.invariant-loop-segment
-invariant-loop-segment l = host_of (map segment_of (drop l.segment-index l.segments)) ≡ host_of (map segment_of l.segments)
+invariant-loop-segment l = host_of (map segment_of (drop l.segment-index l.segments))
+    ≡ host_of (map segment_of l.segments)

@@ -13,12 +13,18 @@ loop-slot-init c = refl
 
 pub returns-in-Some : goal.returns-in-Some
 returns-in-Some c =
-    let fault = λ (s : ℕ). option_map (in_slot 0 s) (slot_reason c.args.host.now.order c.args.host.now.file s) in
-    let here = ap (λ (why : Option Reason). option_map (in_slot 0 c.loop-slot.slot) why) (sym c.slot_reason.ensures ∙ c.in-Some.is) in
-    ap (λ (f : Fault). Some f) c.in_slot.ensures ∙ sym (c.loop-slot.invariant ∙ first_here fault c.loop-slot.slot 16 _ c.loop-slot-test.true here)
+    let fault = λ (s : ℕ). option_map (in_slot 0 s)
+    (slot_reason c.args.host.now.order c.args.host.now.file s) in
+    let here = ap (λ (why : Option Reason). option_map (in_slot 0 c.loop-slot.slot) why)
+    (sym c.slot_reason.ensures ∙ c.in-Some.is) in
+    ap (λ (f : Fault). Some f) c.in_slot.ensures
+    ∙ sym (c.loop-slot.invariant ∙ first_here fault c.loop-slot.slot 16 _
+    c.loop-slot-test.true here)
 
 pub loop-slot-preserved : goal.loop-slot-preserved
 loop-slot-preserved c =
-    let fault = λ (s : ℕ). option_map (in_slot 0 s) (slot_reason c.args.host.now.order c.args.host.now.file s) in
-    let here = ap (λ (why : Option Reason). option_map (in_slot 0 c.loop-slot.slot) why) (sym c.slot_reason.ensures ∙ c.in_default.is) in
+    let fault = λ (s : ℕ). option_map (in_slot 0 s)
+    (slot_reason c.args.host.now.order c.args.host.now.file s) in
+    let here = ap (λ (why : Option Reason). option_map (in_slot 0 c.loop-slot.slot) why)
+    (sym c.slot_reason.ensures ∙ c.in_default.is) in
     c.loop-slot.invariant ∙ first_later fault c.loop-slot.slot 16 c.loop-slot-test.true here

@@ -16,7 +16,9 @@ use Rattle.ps_resolve.proofs.reading.sources.read_slot.Goals as goal
 pub read_segment-requires-clause-placed : goal.read_segment-requires-clause-placed
 read_segment-requires-clause-placed c =
     let host = c.args.host.now in
-    subst (λ (o : OpenedFile). ArePlacedIn o.order o.file 0 c.args.earlier.now) (sym c.dict.ensures) (placed_in host.order host.file (opened host.order c.args.libs.now) 0 c.args.earlier.now c.requires.read)
+    subst (λ (o : OpenedFile). ArePlacedIn o.order o.file 0 c.args.earlier.now)
+    (sym c.dict.ensures) (placed_in host.order host.file
+    (opened host.order c.args.libs.now) 0 c.args.earlier.now c.requires.read)
 
 pub returns-in_err-own-in-Plain : goal.returns-in_err-own-in-Plain
 returns-in_err-own-in-Plain c =
@@ -25,9 +27,12 @@ returns-in_err-own-in-Plain c =
     let dict = c.dict.ensures in
     let p = err_from_is_err_and c.from_residual.result c.from_residual.ensures.1 in
     rw (p.1, p.2) (record {
-      fault = c.in_err-own-in-Plain.ensures.fault host.file libs (sym (ap (λ (o : OpenedFile). o.file) dict))
-          ∙ (ap (λ (o : OpenedFile). code_fault o.order host.file libs c.args.slot c.in-Ok.role (0, c.args.slot)) dict
-          ∙ sym (own_fault host.order host.file libs c.args.slot c.in-Ok.role (sym c.role.ensures ∙ c.in-Ok.is) c.in-Plain.is));
+      fault = c.in_err-own-in-Plain.ensures.fault host.file libs
+          (sym (ap (λ (o : OpenedFile). o.file) dict))
+          ∙ (ap (λ (o : OpenedFile). code_fault o.order host.file libs c.args.slot c.in-Ok.role
+          (0, c.args.slot)) dict
+          ∙ sym (own_fault host.order host.file libs c.args.slot c.in-Ok.role
+          (sym c.role.ensures ∙ c.in-Ok.is) c.in-Plain.is));
       segment = tt;
       read = tt;
     })
@@ -41,25 +46,38 @@ returns-in_ok-own-in-Plain c =
     let file = sym (ap (λ (o : OpenedFile). o.file) dict) in
     record {
       fault = c.in_ok-own-in-Plain.ensures.fault host.file libs file
-          ∙ (ap (λ (o : OpenedFile). code_fault o.order host.file libs c.args.slot c.in-Ok.role (0, c.args.slot)) dict
-          ∙ sym (own_fault host.order host.file libs c.args.slot c.in-Ok.role (sym c.role.ensures ∙ c.in-Ok.is) c.in-Plain.is));
-      segment = sym (read_from_host host.order host.file libs c.args.slot c.in-Ok.role (sym c.role.ensures ∙ c.in-Ok.is) c.in-Plain.is
-          ∙ (ap (λ (n : List ℕ). segment_from host.order host.file libs c.args.slot n c.in-Ok.role (0, c.args.slot)) name
-          ∙ (ap (λ (o : OpenedFile). segment_from o.order host.file libs c.args.slot c.entry.result.name c.in-Ok.role (0, c.args.slot)) (sym dict)
+          ∙ (ap (λ (o : OpenedFile). code_fault o.order host.file libs c.args.slot c.in-Ok.role
+          (0, c.args.slot)) dict
+          ∙ sym (own_fault host.order host.file libs c.args.slot c.in-Ok.role
+          (sym c.role.ensures ∙ c.in-Ok.is) c.in-Plain.is));
+      segment = sym (read_from_host host.order host.file libs c.args.slot c.in-Ok.role
+          (sym c.role.ensures ∙ c.in-Ok.is) c.in-Plain.is
+          ∙ (ap (λ (n : List ℕ). segment_from host.order host.file libs c.args.slot n
+          c.in-Ok.role (0, c.args.slot)) name
+          ∙ (ap (λ (o : OpenedFile). segment_from o.order host.file libs c.args.slot
+          c.entry.result.name c.in-Ok.role (0, c.args.slot)) (sym dict)
           ∙ c.in_ok-own-in-Plain.ensures.segment host.file libs file)));
-      read = subst (λ (o : OpenedFile). IsRead o.order host.file libs c.in_ok-own-in-Plain.own) dict
-          (record { placed = c.in_ok-own-in-Plain.ensures.placed host.file libs file; sound = c.in_ok-own-in-Plain.ensures.sound });
+      read = subst (λ (o : OpenedFile). IsRead o.order host.file libs c.in_ok-own-in-Plain.own)
+          dict
+          (record {
+            placed = c.in_ok-own-in-Plain.ensures.placed host.file libs file;
+            sound =
+                c.in_ok-own-in-Plain.ensures.sound;
+          });
     }
 
 pub returns-in_err-wanted-in-Wanted : goal.returns-in_err-wanted-in-Wanted
 returns-in_err-wanted-in-Wanted c =
     let host = c.args.host.now in
     let libs = opened host.order c.args.libs.now in
-    let wants : role_of (entry_at host.order host.file c.args.slot) ≡ Ok Wanted = sym c.role.ensures ∙ (c.in-Ok.is ∙ ap (λ (r : Role). Ok r) c.in-Wanted.is) in
-    let p = err_from_is_err_and c.from_residual-in_err-wanted-in-Wanted.result c.from_residual-in_err-wanted-in-Wanted.ensures.1 in
+    let wants : role_of (entry_at host.order host.file c.args.slot) ≡ Ok Wanted =
+    sym c.role.ensures ∙ (c.in-Ok.is ∙ ap (λ (r : Role). Ok r) c.in-Wanted.is) in
+    let p = err_from_is_err_and c.from_residual-in_err-wanted-in-Wanted.result
+    c.from_residual-in_err-wanted-in-Wanted.ensures.1 in
     rw (p.1, p.2) (record {
       fault = c.in_err-wanted-in-Wanted.ensures.fault
-          ∙ (ap (request_fault host.order host.file libs) c.of_slot-request.ensures ∙ sym (wanted_is host.order host.file libs c.args.slot wants));
+          ∙ (ap (request_fault host.order host.file libs) c.of_slot-request.ensures
+          ∙ sym (wanted_is host.order host.file libs c.args.slot wants));
       segment = tt;
       read = tt;
     })
@@ -68,10 +86,15 @@ pub returns-in_ok-wanted-in-Wanted : goal.returns-in_ok-wanted-in-Wanted
 returns-in_ok-wanted-in-Wanted c =
     let host = c.args.host.now in
     let libs = opened host.order c.args.libs.now in
-    let wants : role_of (entry_at host.order host.file c.args.slot) ≡ Ok Wanted = sym c.role.ensures ∙ (c.in-Ok.is ∙ ap (λ (r : Role). Ok r) c.in-Wanted.is) in
+    let wants : role_of (entry_at host.order host.file c.args.slot) ≡ Ok Wanted =
+    sym c.role.ensures ∙ (c.in-Ok.is ∙ ap (λ (r : Role). Ok r) c.in-Wanted.is) in
     let same = c.of_slot-request.ensures in
     record {
-      fault = c.in_ok-wanted-in-Wanted.ensures.fault ∙ (ap (request_fault host.order host.file libs) same ∙ sym (wanted_is host.order host.file libs c.args.slot wants));
-      segment = sym (wanted_segment host.order host.file libs c.args.slot wants ∙ (ap (requested_segment host.order host.file libs) (sym same) ∙ c.in_ok-wanted-in-Wanted.ensures.segment));
+      fault = c.in_ok-wanted-in-Wanted.ensures.fault
+          ∙ (ap (request_fault host.order host.file libs) same
+          ∙ sym (wanted_is host.order host.file libs c.args.slot wants));
+      segment = sym (wanted_segment host.order host.file libs c.args.slot wants
+          ∙ (ap (requested_segment host.order host.file libs) (sym same)
+          ∙ c.in_ok-wanted-in-Wanted.ensures.segment));
       read = c.in_ok-wanted-in-Wanted.ensures.read;
     }

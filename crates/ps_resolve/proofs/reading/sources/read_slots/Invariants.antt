@@ -16,8 +16,12 @@ invariant-loop-slot l =
     let host = l.host.file in
     let libs = opened order l.libs in
     record {
-      faults : sources_fault order host libs ≡ option_or l.first (first_of (source_fault order host libs) (range_with_len l.slot (16 - l.slot)));
-      all : read_segments order host libs ≡ map segment_of l.segments.items ++ filter_map (read_segment order host libs) (range_with_len l.slot (16 - l.slot));
+      faults : sources_fault order host libs
+          ≡ option_or l.first (first_of (source_fault order host libs)
+          (range_with_len l.slot (16 - l.slot)));
+      all : read_segments order host libs
+          ≡ map segment_of l.segments.items
+          ++ filter_map (read_segment order host libs) (range_with_len l.slot (16 - l.slot));
       read : All (IsRead order host libs) l.segments.items;
       few : length l.segments.items ≤ l.slot;
     }

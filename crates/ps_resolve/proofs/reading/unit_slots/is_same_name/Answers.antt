@@ -1,4 +1,5 @@
-use Rattle.std.proofs.Common.{◌≡◌, ◌∙◌, ◌<◌, ◌==◌, ℕ, List, length, get_or, Bool, true, false, refl, sym, ap, rules}
+use Rattle.std.proofs.Common.{◌≡◌, ◌∙◌, ◌<◌, ◌==◌, ℕ, List, length, get_or}
+use Rattle.std.proofs.Common.{Bool, true, false, refl, sym, ap, rules}
 use Rattle.std.specs.Int.{w64, from_le_bytes, to_le_bytes}
 use Rattle.std.specs.Str.{bytes_eq}
 use Rattle.std.proofs.lemmas.Bool.{ne_eqb, eq-eqb}
@@ -7,15 +8,20 @@ use Rattle.std.proofs.lemmas.Slice.Eq.{bytes_eq-Decides}
 use Rattle.ps_resolve.proofs.reading.unit_slots.is_same_name.Goals as goal
 
 -- words are equal where their bytes are
-same_words : (xs ys : List ℕ) (m n : ℕ) → length xs ≡ 8 → length ys ≡ 8 → ((i : ℕ) → get_or xs i 0 < 256) → ((i : ℕ) → get_or ys i 0 < 256)
+same_words : (xs ys : List ℕ) (m n : ℕ) → length xs ≡ 8 → length ys ≡ 8
+    → ((i : ℕ) → get_or xs i 0 < 256) → ((i : ℕ) → get_or ys i 0 < 256)
     → m ≡ from_le_bytes w64 xs → n ≡ from_le_bytes w64 ys → (m == n) ≡ bytes_eq xs ys
 same_words xs ys m n lx ly bx by_ mx ny = at (bytes_eq xs ys) refl
   where
     at : (b : Bool) → bytes_eq xs ys ≡ b → (m == n) ≡ b
-    at true e = eq-eqb m n (mx ∙ (ap (from_le_bytes w64) ((bytes_eq-Decides xs ys).0 e) ∙ sym ny))
+    at true e = eq-eqb m n
+        (mx ∙ (ap (from_le_bytes w64) ((bytes_eq-Decides xs ys).0 e) ∙ sym ny))
     at false e = ne_eqb m n (λ same.
-        let equal = sym (le_bytes_8 xs m lx bx mx) ∙ (ap (to_le_bytes w64) same ∙ le_bytes_8 ys n ly by_ ny) in
+        let equal = sym (le_bytes_8 xs m lx bx mx)
+        ∙ (ap (to_le_bytes w64) same ∙ le_bytes_8 ys n ly by_ ny) in
         let no : true ≡ false = sym ((bytes_eq-Decides xs ys).1 equal) ∙ e in cc)
 
 pub returns : goal.returns
-returns c = same_words c.args.name c.args.other c.from_le_bytes.result c.from_le_bytes-2.result (search rules) (search rules) (search rules) (search rules) c.from_le_bytes.ensures c.from_le_bytes-2.ensures
+returns c = same_words c.args.name c.args.other c.from_le_bytes.result c.from_le_bytes-2.result
+    (search rules) (search rules) (search rules)
+    (search rules) c.from_le_bytes.ensures c.from_le_bytes-2.ensures

@@ -5,4 +5,5 @@ use Rattle.ps_resolve.proofs.reading.units.chosen_library.Given as goal
 
 -- the library is the first from here on that has such an entry
 abbrev pub invariant-loop-library : goal.invariant-loop-library
-invariant-loop-library l = chosen_library l.order l.name (opened l.order l.libs) ≡ chosen_from l.order l.name l.libs l.library
+invariant-loop-library l = chosen_library l.order l.name (opened l.order l.libs)
+    ≡ chosen_from l.order l.name l.libs l.library

@@ -7,18 +7,25 @@ use Rattle.ps_resolve.proofs.reading.units.entry_in.Goals as goal
 
 pub returns-in-Err-clause-entry : goal.returns-in-Err-clause-entry
 returns-in-Err-clause-entry c =
-    let none = refused_is c.args.order c.args.lib.now _ (sym c.read_beside.ensures ∙ c.in-Err.is) in
-    sym (ap (λ (file : List ℕ). find (is_named c.args.order c.args.name file) slots) none ∙ no_entries c.args.order c.args.name)
+    let none = refused_is c.args.order c.args.lib.now _ (sym c.read_beside.ensures ∙ c.in-Err.is)
+    in
+    sym (ap (λ (file : List ℕ). find (is_named c.args.order c.args.name file) slots) none
+    ∙ no_entries c.args.order c.args.name)
 
 pub returns-in-None-clause-entry : goal.returns-in-None-clause-entry
 returns-in-None-clause-entry c =
-    let dict = opened_is c.args.order c.args.lib.now c.in-Ok.dict (sym c.read_beside.ensures ∙ c.in-Ok.is) in
-    sym c.in-None.is ∙ (c.entry_named.ensures.entry ∙ ap (λ (o : OpenedFile). find (is_named o.order c.args.name o.file) slots) dict)
+    let dict = opened_is c.args.order c.args.lib.now c.in-Ok.dict
+    (sym c.read_beside.ensures ∙ c.in-Ok.is) in
+    sym c.in-None.is ∙ (c.entry_named.ensures.entry
+    ∙ ap (λ (o : OpenedFile). find (is_named o.order c.args.name o.file) slots) dict)
 
 pub returns-in-Some-clause-entry : goal.returns-in-Some-clause-entry
 returns-in-Some-clause-entry c =
-    let dict = opened_is c.args.order c.args.lib.now c.in-Ok.dict (sym c.read_beside.ensures ∙ c.in-Ok.is) in
-    sym c.in-Some.is ∙ (c.entry_named.ensures.entry ∙ ap (λ (o : OpenedFile). find (is_named o.order c.args.name o.file) slots) dict)
+    let dict = opened_is c.args.order c.args.lib.now c.in-Ok.dict
+    (sym c.read_beside.ensures ∙ c.in-Ok.is) in
+    sym c.in-Some.is ∙ (c.entry_named.ensures.entry
+    ∙ ap (λ (o : OpenedFile). find (is_named o.order c.args.name o.file) slots) dict)
 
 pub returns-in-Some-clause-dict : goal.returns-in-Some-clause-dict
-returns-in-Some-clause-dict c = opened_is c.args.order c.args.lib.now c.in-Ok.dict (sym c.read_beside.ensures ∙ c.in-Ok.is)
+returns-in-Some-clause-dict c = opened_is c.args.order c.args.lib.now c.in-Ok.dict
+    (sym c.read_beside.ensures ∙ c.in-Ok.is)

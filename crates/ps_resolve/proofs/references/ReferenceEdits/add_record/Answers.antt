@@ -1,10 +1,13 @@
-use Rattle.std.proofs.Common.{◌≡◌, ℕ, ◌<◌, ◌≤◌, ◌+◌, ◌++◌, ◌∷◌, ◌∙◌, [], List, length, map, take, sym, ap, arith, append_assoc, get_or}
+use Rattle.std.proofs.Common.{◌≡◌, ℕ, ◌<◌, ◌≤◌, ◌+◌, ◌++◌, ◌∷◌}
+use Rattle.std.proofs.Common.{◌∙◌, [], List, length, map, take, sym, ap, arith, append_assoc}
+use Rattle.std.proofs.Common.{get_or}
 use Rattle.ps_words.specs.declared.edit.Edit.{Edit}
 use Rattle.ps_codefile.specs.Procedures.{is_reserved}
 use Rattle.ps_resolve.specs.EditTables.{edits_of, put_in}
 use Rattle.ps_resolve.specs.declared.edit_table.PlaceState.{PlaceState}
 use Rattle.ps_resolve.specs.Operands.{edit_of, operands, width_of}
-use Rattle.ps_resolve.proofs.Takes.{map_one, operands_one, fault_one, operand_put, operand_table, taken_more}
+use Rattle.ps_resolve.proofs.Takes.{map_one, operands_one, fault_one, operand_put, operand_table}
+use Rattle.ps_resolve.proofs.Takes.{taken_more}
 use Rattle.ps_resolve.proofs.references.ReferenceEdits.add_record.Goals as goal
 
 pub loop-i-preserved : goal.loop-i-preserved
@@ -20,14 +23,26 @@ loop-i-preserved g c =
     let ts : List PlaceState = c.loop-i.self.edits.states.items in
     let so_far : List (ℕ × ℕ) → List (ℕ × ℕ) = λ os. os ++ operands t (take i refs) in
     let inside : c.get-x.result + width_of t ≤ length code = c.in-Ok.ensures.inside in
-    let put : c.put.new.self.states.items ≡ put_in ts (edit_of code t c.get-x.result) = c.put.ensures ∙ ap (put_in ts) c.in-Ok.ensures.edit in
+    let put : c.put.new.self.states.items ≡ put_in ts (edit_of code t c.get-x.result) =
+    c.put.ensures ∙ ap (put_in ts) c.in-Ok.ensures.edit in
     let old : List Edit = edits_of c.args.self.now.edits.states.items in
     record {
       same_procedures = inv.same_procedures;
       table = rw put (operand_table code t c.get-x.result ts inv.table inside c.in-Ok.ensures.free);
-      edits = rw (put, map_one (edit_of code t) refs i within, ← x, ← append_assoc old (map (edit_of code t) (take i refs)) (edit_of code t c.get-x.result ∷ []))
-          (operand_put code t c.get-x.result ts (old ++ map (edit_of code t) (take i refs)) inv.table.len inside c.in-Ok.ensures.free inv.edits);
+      edits = rw (
+        put,
+        map_one (edit_of code t) refs i within,
+        ← x,
+        ← append_assoc old (map (edit_of code t) (take i refs))
+            (edit_of code t c.get-x.result ∷ []),
+      )
+          (operand_put code t c.get-x.result ts
+          (old ++ map (edit_of code t) (take i refs)) inv.table.len inside c.in-Ok.ensures.free
+          inv.edits);
       fault = λ os taken. sym (fault_one (is_reserved tables.order code) code t os refs i within
-          (rw (← x) (sym (c.in-Ok.ensures.reason (so_far os) (inv.taken os taken))))) ∙ inv.fault os taken;
-      taken = λ os taken. rw (put, operands_one t os refs i within, ← x) (taken_more tables ts t c.get-x.result (so_far os) inv.table.len inside (inv.taken os taken));
+          (rw (← x) (sym (c.in-Ok.ensures.reason (so_far os) (inv.taken os taken)))))
+          ∙ inv.fault os taken;
+      taken = λ os taken. rw (put, operands_one t os refs i within, ← x)
+          (taken_more tables ts t c.get-x.result (so_far os) inv.table.len inside
+          (inv.taken os taken));
     }

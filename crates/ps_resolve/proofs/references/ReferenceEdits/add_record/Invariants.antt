@@ -16,8 +16,12 @@ invariant-loop-i g l =
     record {
       same_procedures : tables ≡ old.procedures;
       table : IsTableOf tables.code l.self.edits.states.items;
-      edits : IsPermutation (edits_of old.edits.states.items ++ map (edit_of tables.code l.target) (take l.i l.refs)) (edits_of l.self.edits.states.items);
+      edits : IsPermutation (edits_of old.edits.states.items
+          ++ map (edit_of tables.code l.target) (take l.i l.refs))
+          (edits_of l.self.edits.states.items);
       fault : (os : List (ℕ × ℕ)) → AreTaken tables old.edits.states.items os
-          → fault_from l.i (os ++ operands l.target (take l.i l.refs)) (drop l.i l.refs) ≡ fault_from 0 os l.refs;
-      taken : (os : List (ℕ × ℕ)) → AreTaken tables old.edits.states.items os → AreTaken tables l.self.edits.states.items (os ++ operands l.target (take l.i l.refs));
+          → fault_from l.i (os ++ operands l.target (take l.i l.refs)) (drop l.i l.refs)
+          ≡ fault_from 0 os l.refs;
+      taken : (os : List (ℕ × ℕ)) → AreTaken tables old.edits.states.items os
+          → AreTaken tables l.self.edits.states.items (os ++ operands l.target (take l.i l.refs));
     }

@@ -1,4 +1,5 @@
-use Rattle.std.proofs.Common.{◌≡◌, ℕ, ◌+◌, ◌++◌, ◌∙◌, [], sym, subst, arith, refl, Option, append-nil, List, ap}
+use Rattle.std.proofs.Common.{◌≡◌, ℕ, ◌+◌, ◌++◌, ◌∙◌, [], sym, subst, arith}
+use Rattle.std.proofs.Common.{refl, Option, append-nil, List, ap}
 use Rattle.std.specs.Prelude.{IsPermutation}
 use Rattle.std.proofs.lemmas.Option.{same_Some}
 use Rattle.std.proofs.lemmas.Result.{err_from_is_err_and}
@@ -23,21 +24,27 @@ use Rattle.ps_resolve.specs.declared.linkage.Stop.{Stop}
 use Rattle.ps_resolve.specs.Views.{SegmentView}
 use Rattle.ps_resolve.proofs.Numbers.{one, none}
 use Rattle.ps_resolve.proofs.FirstSlots.{none_mapped as map_none}
-use Rattle.ps_resolve.proofs.NextRecords.{no_links, record_refused, references_refused, record_stands, listed_more}
+use Rattle.ps_resolve.proofs.NextRecords.{no_links, record_refused, references_refused}
+use Rattle.ps_resolve.proofs.NextRecords.{record_stands, listed_more}
 use Rattle.ps_resolve.proofs.Sharing.{of_shared, no_references}
 use Rattle.ps_resolve.proofs.references.records.add_records.Goals as goal
 use Rattle.ps_resolve.proofs.LookingBack.{words_before}
 
 -- the first fault of the records of a segment with these tables
-abbrev fault_by : Known → SegmentView → ℕ → ProcedureTables → Option (ℕ × (Option ℕ × Reason))
-fault_by known s free t = records_fault known (is_reserved t.order t.code) t.code 0 free [] s.records
+abbrev fault_by : Known → SegmentView → ℕ → ProcedureTables
+    → Option (ℕ × (Option ℕ × Reason))
+fault_by known s free t = records_fault known
+    (is_reserved t.order t.code) t.code 0 free [] s.records
 
 pub returns-then-privates-eq0 : goal.returns-then-privates-eq0
 returns-then-privates-eq0 g c =
     let v : SegmentView = c.args.segment.now in
     let is = sym c.requires.records in
-    let no = no_links c.args.link.now.names.now (is_reserved c.args.link.now.order v.code) v.code v.records 0 c.args.free []
-    (ap units_in is ∙ (sym c.units.ensures ∙ c.if-units-eq0.true)) (ap publics_in is ∙ (sym c.publics.ensures ∙ c.if-publics-eq0.true)) (ap privates_in is ∙ (sym c.privates.ensures ∙ c.if-privates-eq0.true)) in
+    let no = no_links c.args.link.now.names.now
+    (is_reserved c.args.link.now.order v.code) v.code v.records 0 c.args.free []
+    (ap units_in is ∙ (sym c.units.ensures ∙ c.if-units-eq0.true))
+    (ap publics_in is ∙ (sym c.publics.ensures ∙ c.if-publics-eq0.true))
+    (ap privates_in is ∙ (sym c.privates.ensures ∙ c.if-privates-eq0.true)) in
     record {
       edits = rw (no.edits, append-nil) (IsPermutation-refl (edits_of c.args.edits.states.items));
       table = c.requires.table;
@@ -52,9 +59,14 @@ returns-then-shares_with g c =
     let v : SegmentView = c.args.segment.now in
     let is = sym c.requires.records in
     let has = c.shares_with.ensures.records c.if-shares_with.true in
-    let named : HaveTargets known v.records = of_shared (λ (rs : List Record). HaveTargets known rs) c.args.earlier.now v has.0 c.requires.linked c.requires.next.alike c.requires.next.named has.1 in
-    let no = no_references known (is_reserved c.args.link.now.order v.code) v.code v.records 0 c.args.free [] named
-    (ap references_in is ∙ (sym c.references.ensures ∙ c.if-references-eq0.true)) (ap privates_in is ∙ (sym c.privates-then-references-eq0.ensures ∙ c.if-privates-eq0-2.true)) in
+    let named : HaveTargets known v.records =
+    of_shared (λ (rs : List Record). HaveTargets known rs) c.args.earlier.now v has.0
+    c.requires.linked c.requires.next.alike c.requires.next.named has.1 in
+    let no = no_references known (is_reserved c.args.link.now.order v.code) v.code v.records 0
+    c.args.free [] named
+    (ap references_in is ∙ (sym c.references.ensures ∙ c.if-references-eq0.true))
+    (ap privates_in is ∙ (sym c.privates-then-references-eq0.ensures
+    ∙ c.if-privates-eq0-2.true)) in
     record {
       edits = rw (no.edits, append-nil) (IsPermutation-refl (edits_of c.args.edits.states.items));
       table = c.requires.table;
@@ -66,18 +78,40 @@ returns-then-shares_with g c =
 pub loop-rec-init : goal.loop-rec-init
 loop-rec-init g c =
     let procedures = c.args.procedures in
-    let is : procedures ≡ record { order = c.args.link.now.order; code = c.args.segment.now.code } = same_Some _ _ (c.requires.tables ∙ c.requires.next.sound.kept c.requires.linked) in
-    let table : IsTableOf procedures.code c.args.edits.states.items = subst (λ (t : ProcedureTables). IsTableOf t.code c.args.edits.states.items) (sym is) c.requires.table in
+    let is : procedures ≡ record { order = c.args.link.now.order; code = c.args.segment.now.code }
+    = same_Some _ _ (c.requires.tables ∙ c.requires.next.sound.kept c.requires.linked) in
+    let table : IsTableOf procedures.code c.args.edits.states.items =
+    subst (λ (t : ProcedureTables). IsTableOf t.code c.args.edits.states.items)
+    (sym is) c.requires.table in
     record {
-      links = (0, c.args.segment.now.records, c.into_iter-rec-iterator.ensures.into_iter_gives ∙ c.records-rec-items.ensures ∙ ap (numbered_records 0) c.requires.records, record { table = table; listed = IsPermutation-refl _; first = ([], c.requires.taken, refl); words = refl });
+      links = (
+        0,
+        c.args.segment.now.records,
+        c.into_iter-rec-iterator.ensures.into_iter_gives ∙ c.records-rec-items.ensures
+            ∙ ap (numbered_records 0) c.requires.records,
+        record {
+          table = table;
+          listed = IsPermutation-refl _;
+          first =
+              ([], c.requires.taken, refl);
+          words = refl;
+        },
+      );
       procedures = is;
     }
 
 pub overflow_add-next : goal.overflow_add-next
 overflow_add-next g c =
     let r = c.in-Some.record in
-    let step = one _ c.loop-rec.rec-iterator c.next.new.self c.in-Some.rec r c.loop-rec.invariant.links c.in-Some.ensures.steps in
-    omega (arith, step.2.words, words_before r step.0, c.words_taken-next.ensures, c.requires.next.room)
+    let step = one _ c.loop-rec.rec-iterator c.next.new.self c.in-Some.rec r
+    c.loop-rec.invariant.links c.in-Some.ensures.steps in
+    omega (
+      arith,
+      step.2.words,
+      words_before r step.0,
+      c.words_taken-next.ensures,
+      c.requires.next.room,
+    )
 
 pub returns-in-Err-clause-stop : goal.returns-in-Err-clause-stop
 returns-in-Err-clause-stop g c =
@@ -86,11 +120,15 @@ returns-in-Err-clause-stop g c =
     let l = c.loop-rec in
     let tables = l.found.procedures in
     let r = c.in-Some.record in
-    let step = one _ l.rec-iterator c.next.new.self c.in-Some.rec r l.invariant.links c.in-Some.ensures.steps in
+    let step = one _ l.rec-iterator c.next.new.self c.in-Some.rec r l.invariant.links
+    c.in-Some.ensures.steps in
     let first = step.2.first in
-    let here = record_refused known (is_reserved tables.order tables.code) tables.code c.in-Some.rec l.next first.0 r step.0 c.in-Err.reason (sym c.target_of.ensures ∙ c.in-Err.is) in
-    subst (IsStop ⊥ (segment_fault c.args.link.now.order known c.args.free (segment_of s))) (sym c.stop_for.ensures) (rw (c.record-place.ensures, c.place.ensures)
-    (ap (option_map (in_segment s.file s.slot)) (ap (fault_by known s c.args.free) (sym l.invariant.procedures) ∙ sym first.2 ∙ here)))
+    let here = record_refused known (is_reserved tables.order tables.code) tables.code c.in-Some.rec
+    l.next first.0 r step.0 c.in-Err.reason (sym c.target_of.ensures ∙ c.in-Err.is) in
+    subst (IsStop ⊥ (segment_fault c.args.link.now.order known c.args.free (segment_of s)))
+    (sym c.stop_for.ensures) (rw (c.record-place.ensures, c.place.ensures)
+    (ap (option_map (in_segment s.file s.slot))
+    (ap (fault_by known s c.args.free) (sym l.invariant.procedures) ∙ sym first.2 ∙ here)))
 
 pub returns-in_err-add_record-in-Ok-clause-stop : goal.returns-in_err-add_record-in-Ok-clause-stop
 returns-in_err-add_record-in-Ok-clause-stop g c =
@@ -99,14 +137,21 @@ returns-in_err-add_record-in-Ok-clause-stop g c =
     let l = c.loop-rec in
     let tables = l.found.procedures in
     let r = c.in-Some.record in
-    let step = one _ l.rec-iterator c.next.new.self c.in-Some.rec r l.invariant.links c.in-Some.ensures.steps in
+    let step = one _ l.rec-iterator c.next.new.self c.in-Some.rec r l.invariant.links
+    c.in-Some.ensures.steps in
     let first = step.2.first in
     let fault_is = first.2 ∙ ap (fault_by known s c.args.free) l.invariant.procedures in
     let stop : Stop = c.in_err-add_record-in-Ok.field-0.0 in
     let p = err_from_is_err_and c.from_residual.result c.from_residual.ensures.1 in
-    rw (p.1, p.2) (subst (λ (o : Option (ℕ × (Option ℕ × Reason))). IsStop ⊥ (option_map (in_segment s.file s.slot) o) stop) fault_is
-    (references_refused known (is_reserved tables.order tables.code) tables.code c.in-Some.rec l.next first.0 r step.0 s.file s.slot c.in-Ok.target stop
-    (sym c.target_of.ensures ∙ c.in-Ok.is) (subst (λ (p : RecordPlace). IsStop ⊥ (refs_fault_at p tables c.in-Ok.target first.0 (refs_of r.body)) stop) (rw c.place.ensures at c.record-place.ensures) (c.in_err-add_record-in-Ok.ensures.stop first.0 first.1))))
+    rw (p.1, p.2) (subst (λ (o : Option (ℕ × (Option ℕ × Reason))). IsStop ⊥
+    (option_map (in_segment s.file s.slot) o) stop) fault_is
+    (references_refused known (is_reserved tables.order tables.code) tables.code c.in-Some.rec
+    l.next first.0 r step.0 s.file s.slot c.in-Ok.target stop
+    (sym c.target_of.ensures ∙ c.in-Ok.is)
+    (subst (λ (p : RecordPlace). IsStop ⊥
+    (refs_fault_at p tables c.in-Ok.target first.0 (refs_of r.body)) stop)
+    (rw c.place.ensures at c.record-place.ensures)
+    (c.in_err-add_record-in-Ok.ensures.stop first.0 first.1))))
 
 pub loop-rec-preserved : goal.loop-rec-preserved
 loop-rec-preserved g c =
@@ -118,11 +163,13 @@ loop-rec-preserved g c =
     let r = c.in-Some.record in
     let t = c.in-Ok.target in
     let is_t = sym c.target_of.ensures ∙ c.in-Ok.is in
-    let step = one _ l.rec-iterator c.next.new.self rec r l.invariant.links c.in-Some.ensures.steps in
+    let step = one _ l.rec-iterator c.next.new.self rec r l.invariant.links c.in-Some.ensures.steps
+    in
     let rest = step.0 in
     let first = step.2.first in
     let added = c.in_ok-add_record-in-Ok.ensures in
-    let stands = record_stands known R tables.code rec l.next first.0 r rest t is_t (map_none _ _ (added.sound first.0 first.1)) in
+    let stands = record_stands known R tables.code rec l.next first.0 r rest t is_t
+    (map_none _ _ (added.sound first.0 first.1)) in
     record {
       links = (
         rec + 1,
@@ -130,8 +177,14 @@ loop-rec-preserved g c =
         step.1,
         rw (c.words_taken-next.ensures, added.same_procedures) (record {
           table = added.table;
-          listed = listed_more known R tables.code rec l.next first.0 r rest _ l.found.edits.states.items c.add_record.new.self.edits.states.items t is_t step.2.listed added.edits;
-          first = (first.0 ++ operands t (refs_of r.body), added.taken first.0 first.1, sym stands ∙ first.2);
+          listed = listed_more known R tables.code rec l.next first.0 r rest _
+              l.found.edits.states.items c.add_record.new.self.edits.states.items t is_t
+              step.2.listed added.edits;
+          first = (
+            first.0 ++ operands t (refs_of r.body),
+            added.taken first.0 first.1,
+            sym stands ∙ first.2,
+          );
           words = omega (arith, step.2.words, words_before r rest);
         }),
       );
@@ -145,10 +198,17 @@ returns g c =
     let known : Known = c.args.link.now.names.now in
     let end = none _ l.rec-iterator l.invariant.links c.in-None.ensures.steps.0 in
     record {
-      edits = subst (λ (t : ProcedureTables). IsPermutation (edits_of c.args.edits.states.items ++ records_edits known t.code c.args.free s.records) (edits_of l.found.edits.states.items)) l.invariant.procedures
-          (subst (λ (es : List Edit). IsPermutation (edits_of c.args.edits.states.items ++ records_edits known l.found.procedures.code c.args.free s.records) es) (append-nil (edits_of l.found.edits.states.items)) end.1.listed);
-      table = subst (λ (t : ProcedureTables). IsTableOf t.code l.found.edits.states.items) l.invariant.procedures end.1.table;
+      edits = subst (λ (t : ProcedureTables). IsPermutation
+          (edits_of c.args.edits.states.items ++ records_edits known t.code c.args.free s.records)
+          (edits_of l.found.edits.states.items)) l.invariant.procedures
+          (subst (λ (es : List Edit). IsPermutation
+          (edits_of c.args.edits.states.items
+          ++ records_edits known l.found.procedures.code c.args.free s.records) es)
+          (append-nil (edits_of l.found.edits.states.items)) end.1.listed);
+      table = subst (λ (t : ProcedureTables). IsTableOf t.code l.found.edits.states.items)
+          l.invariant.procedures end.1.table;
       end = omega (arith, end.1.words);
-      sound = ap (option_map (in_segment s.file s.slot)) (ap (fault_by known s c.args.free) (sym l.invariant.procedures) ∙ sym end.1.first.2);
+      sound = ap (option_map (in_segment s.file s.slot))
+          (ap (fault_by known s c.args.free) (sym l.invariant.procedures) ∙ sym end.1.first.2);
       stop = tt;
     }

@@ -8,6 +8,7 @@ use Rattle.ps_resolve.proofs.references.records.add_records.Given as goal
 abbrev pub invariant-loop-rec : goal.invariant-loop-rec
 invariant-loop-rec g l =
     record {
-      links : IsLeft (Links l.link.names.now l.found.procedures l.free l.segment.records (edits_of l.fn.edits.states.items) l.next l.found.edits.states.items) l.rec-iterator;
+      links : IsLeft (Links l.link.names.now l.found.procedures l.free l.segment.records
+          (edits_of l.fn.edits.states.items) l.next l.found.edits.states.items) l.rec-iterator;
       procedures : l.found.procedures ≡ record { order = l.link.order; code = l.segment.code };
     }

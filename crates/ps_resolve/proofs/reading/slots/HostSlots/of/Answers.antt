@@ -1,4 +1,5 @@
-use Rattle.std.proofs.Common.{◌≡◌, ◌<◌, ◌≤◌, ◌∙◌, ℕ, length, take, map, sym, subst, arith}
+use Rattle.std.proofs.Common.{◌≡◌, ◌<◌, ◌≤◌, ◌∙◌, ℕ, length, take, map, sym}
+use Rattle.std.proofs.Common.{subst, arith}
 use Rattle.std.specs.List.{range_with_len}
 use Rattle.std.proofs.lemmas.List.{take_more_set, take_all}
 use Rattle.std.proofs.lemmas.List.FromFn.{map-range_with_len_more}
@@ -17,7 +18,9 @@ loop-slot-preserved c =
       roles =
           let role = c.role.ensures in
           let so_far = inv.roles in
-          let more = map-range_with_len_more (λ (s : ℕ). role_of (entry_at c.args.dict.order c.args.dict.file s)) 0 i i (omega arith) in
+          let more = map-range_with_len_more
+          (λ (s : ℕ). role_of (entry_at c.args.dict.order c.args.dict.file s)) 0 i i
+          (omega arith) in
           grind (arith, common_steps, role_set, more, role, so_far);
     }
 
@@ -27,4 +30,6 @@ invariant_of-result c =
     let done : c.loop-slot.slot ≡ 16 = omega arith in
     let whole : length c.loop-slot.roles ≤ 16 = omega (arith, inv.all_roles) in
     sym (take_all 16 c.loop-slot.roles whole)
-    ∙ subst (λ (n : ℕ). take n c.loop-slot.roles ≡ map (λ (s : ℕ). role_of (entry_at c.args.dict.order c.args.dict.file s)) (range_with_len 0 n)) done inv.roles
+    ∙ subst (λ (n : ℕ). take n c.loop-slot.roles
+    ≡ map (λ (s : ℕ). role_of (entry_at c.args.dict.order c.args.dict.file s))
+    (range_with_len 0 n)) done inv.roles

@@ -8,5 +8,6 @@ use Rattle.ps_resolve.proofs.reading.slots.HostSlots.of.Given as goal
 abbrev pub invariant-loop-slot : goal.invariant-loop-slot
 invariant-loop-slot l = record {
   all_roles : length l.roles ≡ 16;
-  roles : take l.slot l.roles ≡ map (λ s. role_of (entry_at l.dict.order l.dict.file s)) (range_with_len 0 l.slot);
+  roles : take l.slot l.roles ≡ map (λ s. role_of (entry_at l.dict.order l.dict.file s))
+      (range_with_len 0 l.slot);
 }

@@ -10,6 +10,8 @@ pub returns : goal.returns
 returns c =
     let dict = c.self.inside.dict in
     let slot = c.args.slot in
-    ap (λ (roles : List (Result Role Reason)). slice_index_or roles slot (Ok Empty)) c.self.invariant
-    ∙ (get_or-map-range_with_len (λ (s : ℕ). role_of (entry_at dict.order dict.file s)) 0 16 slot slot (Ok Empty) c.requires (omega arith)
+    ap (λ (roles : List (Result Role Reason)). slice_index_or roles slot (Ok Empty))
+    c.self.invariant
+    ∙ (get_or-map-range_with_len (λ (s : ℕ). role_of (entry_at dict.order dict.file s)) 0 16
+    slot slot (Ok Empty) c.requires (omega arith)
     ∙ ap (λ (o : OpenedFile). role_of (entry_at o.order o.file slot)) c.self.view_is)
