@@ -7,12 +7,10 @@ use std::alloc::{AllocError, Global};
 /// The bytes of a block.
 const BLOCK: usize = 512;
 
-/// Where the names, the kinds and the tail of a segment dictionary begin.
+/// Where the names and the kinds of a segment dictionary begin.
 const NAMES: usize = 64;
 
 const KINDS: usize = 192;
-
-pub const TAIL: usize = 256;
 
 /// The bytes of a slot's pair of address and length, of its name and of a word.
 const PAIR_SIZE: usize = 4;

@@ -2,14 +2,14 @@
 //! the host.
 use super::tables::Memory::{Ample, EachAllocationRefused, NoAllocation};
 use super::tables::{
-    BIG_USED_UNIT, Base, IN_PLACE, Refusal, Row, Table, USED_UNIT, link_tables, refuse_tables,
+    BIG_USED_UNIT, Base, Refusal, Row, Table, USED_UNIT, link_tables, refuse_tables,
 };
 use super::texts::{Mapped, maps};
 use crate::base::{COUNT, HOST, LIBRARY, LINKED_DEMO, LINKED_UTIL, STATE, UTIL, WANTED_UTIL};
 use crate::code_file::Change::{
     Address, Bytes, Code, CodeWord, Entry, HostCode, Kind, Length, Records, Resized, UnitCode,
 };
-use crate::code_file::{Changes, LINKED, Slot, UNIT_SEGMENT};
+use crate::code_file::{Changes, LINKED, Slot};
 use crate::information::Name;
 use crate::information::Record::{End, PrivateReference, PublicDefinition, UnitReference};
 use crate::units::{AUX, HAS_AUX, LIBRARY_AUX, LINKED_AUX, USING_RECORDS};

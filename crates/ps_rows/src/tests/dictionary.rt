@@ -76,7 +76,7 @@ const LINKED: &str = "slot 1 DEMO     Ok(Plain) kind 0 address 1 length 18 code 
 
 /// Files, whether they are read as hosts, or beside a host, whether their words are in the other
 /// byte order than the host's, and their slots, or why they are not read.
-static FILES: [(&[Changes<'static>], bool, bool, &str); 10] = [
+static FILES: [(&[Changes<'static>], bool, bool, &str); 9] = [
     (&[HOST], true, false, HOST_TEXT),
     (&[HOST, HAS_UNIT], true, false, IN_PLACE),
     (&[LIBRARY], false, false, LIBRARY_TEXT),
@@ -84,7 +84,6 @@ static FILES: [(&[Changes<'static>], bool, bool, &str); 10] = [
     (&[LIBRARY, &[Resized(511)]], false, false, "ShortFile"),
     (&[LIBRARY, &[Resized(511)]], false, true, "ShortFile"),
     (&[&[Bytes(64, &[0; 128]), Resized(512)]], false, false, ""),
-    (&[&[Bytes(64, &[0; 128]), Resized(512)]], false, true, ""),
     (LINKED_PAIR, false, false, LINKED),
     (LINKED_PAIR, true, false, "NoHost"),
 ];

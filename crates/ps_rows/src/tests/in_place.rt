@@ -12,7 +12,7 @@ use crate::information::Record::{End, PrivateReference, PublicDefinition, Public
 
 const SUMMARY: &str = "segments 2 private words 0 blocks 3";
 
-const OPERANDS: [Row<'static>; 3] = [
+const OPERANDS: [Row<'static>; 4] = [
     Row {
         what: "a displacement of 5 and the value 3",
         host: &[Code(3, 2, &[5])],
@@ -32,6 +32,16 @@ const OPERANDS: [Row<'static>; 3] = [
         host: &[Records(2, &[PublicDefinition(COUNT, 32767), End(8)])],
         library: &[],
         linked: &[Code(2, 1, &[0xFF, 0xFF])],
+        summary: SUMMARY,
+    },
+    Row {
+        what: "a value above every operand, and no references",
+        host: &[
+            Records(2, &[PublicDefinition(COUNT, 65535), End(8)]),
+            Records(4, &[PublicReference(COUNT, &[]), End(0)]),
+        ],
+        library: &[],
+        linked: &[Code(2, 2, &[0])],
         summary: SUMMARY,
     },
 ];

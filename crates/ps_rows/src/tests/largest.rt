@@ -1,10 +1,12 @@
 //! A hundred thousand definitions and private variables, records of as many references as one can
-//! have, and sixteen segments of the largest codes.
+//! have, the show of such a record, and sixteen segments of the largest codes.
 use super::allocations::Allocating;
 use super::answers::{LITTLE, is};
 use super::link_allocations::{Link, Resolve};
+use super::records::every_reference;
 use super::tables::LIBRARY_LISTS;
-use super::texts::Map;
+use super::texts::{Map, SLOTS_OF_THE_LIBRARY, Show};
+use super::writing::writes_long_text;
 use crate::base::{COUNT, DEMO, STATE};
 use crate::code_file::Change::{Bytes, Code, Entry, Records, Resized};
 use crate::code_file::{Changes, CodeFile, HOST_SEGMENT, Slot, UNIT_SEGMENT};
@@ -12,7 +14,7 @@ use crate::information::Record::{
     End, PrivateReference, PublicDefinition, PublicReference, UnitReference,
 };
 use crate::information::{Information, Name, Record};
-use ps_linkinfo::read_records;
+use ps_linkinfo::{LinkRecord, read_records};
 use ps_resolve::{Allotment, Def, DefKind, Definitions, Linkage};
 use std::alloc::{AllocError, Global};
 use std::process::Abort;
@@ -87,6 +89,17 @@ fn has_definitions(rt: &impl Abort, definitions: &Definitions) {
     assert!(rt; definitions.look(&numbered(NUMBERED)) == None);
 }
 
+/// Checks the names of the records before the end mark: COUNT, that of each number, and COUNT
+/// again.
+fn has_names(rt: &impl Abort, records: &[LinkRecord<'_>]) {
+    assert!(rt; records.len() == NUMBERED + 3);
+    assert!(rt; records.first().map(|record| record.name) == Some(COUNT));
+    for (number, record) in records.iter().skip(1).take(NUMBERED).enumerate() {
+        assert!(rt; record.name == numbered(number), "{number}");
+    }
+    assert!(rt; records.get(NUMBERED + 1).map(|record| record.name) == Some(COUNT));
+}
+
 #[test]
 fn definitions_by_name_and_by_index(rt: HostRuntime) {
     let alloc = rt.alloc();
@@ -103,8 +116,10 @@ fn definitions_by_name_and_by_index(rt: HostRuntime) {
         Ok(definitions) => has_definitions(&rt, &definitions),
         Err(_) => assert!(rt; false, "no definitions"),
     }
-    let records = read_records(alloc, LITTLE, bytes).map(|records| records.len());
-    assert!(rt; records.ok() == Some(NUMBERED + 3));
+    match read_records(alloc, LITTLE, bytes) {
+        Ok(records) => has_names(&rt, records.as_slice()),
+        Err(_) => assert!(rt; false, "no records"),
+    }
 }
 
 /// Checks the private variables of a unit in slot 7 whose first record requests two words from
@@ -134,6 +149,29 @@ fn private_variables_by_record(rt: HostRuntime) {
         Ok(allotment) => has_private_variables(&rt, &allotment),
         Err(_) => assert!(rt; false, "no allotment"),
     }
+}
+
+/// What the show of such a record has before it and after it.
+const LINKS: &str = "links 02\n0 ";
+
+const LAST_LINK: &str = "\n1 EOFMARK next 0\n";
+
+/// The show is written in many pieces.
+#[test]
+fn a_long_show(rt: HostRuntime) {
+    let alloc = rt.alloc();
+    let references = references(alloc, REFERENCES, 1).expect(&rt, "unexpected error");
+    let records = [PublicReference(COUNT, references.as_slice()), End(0)];
+    let library = CodeFile::new(alloc, LITTLE, &LIBRARY_LISTS)
+        .expect(&rt, "unexpected error")
+        .with(alloc, &[Resized(132_128), Records(2, &records)])
+        .expect(&rt, "unexpected error");
+    let before = format!(in alloc; "{SLOTS_OF_THE_LIBRARY}{LINKS}").expect(&rt, "unexpected error");
+    let text = every_reference(alloc, before.as_str(), LAST_LINK).expect(&rt, "unexpected error");
+    let call = Show {
+        file: library.as_slice(),
+    };
+    writes_long_text(&rt, &call, text.as_str())
 }
 
 /// The largest code of a linked segment: 32752 bytes, its attribute table with a data size of 10,

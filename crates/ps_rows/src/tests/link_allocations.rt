@@ -50,6 +50,7 @@ impl<'a> Allocating for Link<'a> {
 /// `resolve` with the files of a link.
 #[derive(Clone, Copy)]
 pub(crate) struct Resolve<'a> {
+    /// The files; what they are linked to is not looked at.
     pub link: Link<'a>,
 }
 

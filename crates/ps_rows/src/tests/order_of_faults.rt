@@ -2,7 +2,7 @@
 use super::host_faults::LIKE_DEMO;
 use super::tables::Memory::Ample;
 use super::tables::{Base, PAIR, Refusal, Table, refuse_tables};
-use crate::base::{COUNT, CUONT, LIBRARY, LIBRARY_UTIL, LINKED_PAIR, WANTED_UTIL};
+use crate::base::{COUNT, CUONT, LIBRARY, LIBRARY_UTIL, LINKED_PAIR};
 use crate::code_file::Change::{Bytes, Code, Entry, Kind, Length, Records, Resized};
 use crate::information::Record::{End, PublicDefinition, PublicReference};
 

@@ -9,12 +9,24 @@ use crate::information::Record::{
 };
 
 /// Segment dictionaries of the library.
-const LIBRARIES: [Refusal<'static>; 2] = [
+const LIBRARIES: [Refusal<'static>; 4] = [
+    (
+        "kind 2",
+        &[],
+        &[Kind(2, 2)],
+        "refused 14 NotAUnit kind 2 file 1 slot 7",
+    ),
     (
         "kind 5",
         &[],
         &[Kind(2, 5)],
         "refused 14 NotAUnit kind 5 file 1 slot 7",
+    ),
+    (
+        "kind 7",
+        &[],
+        &[Kind(2, 7)],
+        "refused 14 NotAUnit kind 7 file 1 slot 7",
     ),
     (
         "two entries of the name",

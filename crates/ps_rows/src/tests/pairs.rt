@@ -4,13 +4,11 @@ use super::tables::{
     BIG_PAIR, Base, HOST_ALONE, LONG_UNIT_PAIR, NINE_REFERENCES, PAIR, Refusal, Row, Table,
     link_tables, refuse_tables,
 };
-use crate::base::{
-    COUNT, LIBRARY, LIBRARY_UTIL, LINKED_OPERANDS, LINKED_PAIR, LINKED_SEGMENTS, STATE,
-};
+use crate::base::{COUNT, LIBRARY, LINKED_OPERANDS, LINKED_PAIR, LINKED_SEGMENTS, STATE};
 use crate::code_file::Change::{
     Address, Bytes, Code, CodeWord, Entry, Kind, Length, Records, Resized,
 };
-use crate::code_file::{Changes, LINKED, Slot, TAIL, UNIT_SEGMENT};
+use crate::code_file::{Changes, LINKED, Slot, UNIT_SEGMENT};
 use crate::information::Record::{End, PrivateReference, PublicDefinition, PublicReference};
 use crate::units::LINKED_REFERENCE;
 use ps_words::Order;

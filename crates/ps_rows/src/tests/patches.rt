@@ -30,6 +30,16 @@ fn edits_at_once(rt: HostRuntime) {
     ];
     apply(Order::Little, &mut code, &edits);
     assert!(rt; code == [0x81, 0x02, 0x07]);
+    let mut code = [0x11, 0x22, 0x33];
+    let edits = [
+        Edit::Byte { place: 0, value: 9 },
+        Edit::Word {
+            place: 1,
+            value: 0x0102,
+        },
+    ];
+    apply(Order::Little, &mut code, &edits);
+    assert!(rt; code == [9, 2, 1]);
 }
 
 #[test]
@@ -50,6 +60,8 @@ fn blocks_of_codes_without_edits(rt: HostRuntime) {
     assert!(rt; patcher.fill(&mut block) == 5);
     assert!(rt; block.starts_with(&[1, 2, 3, 4, 5]));
     assert!(rt; block.ends_with(&[0; 507]));
+    assert!(rt; patcher.fill(&mut block) == 0);
+    assert!(rt; block == [0; 512]);
     let mut block = [0xEE; 512];
     let mut patcher = Patcher::new(Order::Little, &[], &[]);
     assert!(rt; patcher.fill(&mut block) == 0);

@@ -142,15 +142,27 @@ fn records_in_either_byte_order(rt: HostRuntime) {
     }
 }
 
-/// What a record of references 0, 1, 2 and so on, as many as it can have, and an end mark are read
-/// as.
-fn every_reference(alloc: Global) -> Result<String, AllocError> {
-    let mut text = String::from_str(alloc, "PUBLREF COUNT    at")?;
+/// A record of references 0, 1, 2 and so on, as many as it can have, and an end mark, as text
+/// between these texts.
+pub(crate) fn every_reference(
+    alloc: Global,
+    before: &str,
+    behind: &str,
+) -> Result<String, AllocError> {
+    let mut text = String::from_str(alloc, before)?;
+    text.push_str("PUBLREF COUNT    at")?;
     for reference in 0..65_535 {
         write!(text, " {reference}")?;
     }
-    text.push_str("; EOFMARK next 0; ")?;
+    text.push_str(behind)?;
     Ok(text)
+}
+
+/// Checks how long the first record is that is read of this little-endian link information.
+fn has_size(rt: &(impl Abort + AllocGlobal), bytes: &[u8], size: usize) {
+    let records = read_records(rt.alloc(), LITTLE, bytes);
+    let records = records.unwrap_or(Vec::new(rt.alloc()));
+    assert!(rt; records.first().map(|record| record.size()) == Some(size));
 }
 
 #[test]
@@ -158,7 +170,9 @@ fn as_many_references_as_a_record_can_have(rt: HostRuntime) {
     let alloc = rt.alloc();
     let references = references(alloc, 65_535, 1).expect(&rt, "unexpected error");
     let records = [PublicReference(COUNT, references.as_slice()), End(0)];
-    let wanted = every_reference(alloc).expect(&rt, "unexpected error");
+    let wanted = every_reference(alloc, "", "; EOFMARK next 0; ").expect(&rt, "unexpected error");
+    let information = Information::new(alloc, LITTLE, &records).expect(&rt, "unexpected error");
+    has_size(&rt, information.as_slice(), 131_088);
     reads_records(&rt, &records, 131_104, wanted.as_str());
     reads_records(&rt, &records, 131_087, "RecordsTruncated at record 0")
 }

@@ -31,6 +31,7 @@ pub(crate) type Refusal<'a> = (&'a str, Changes<'a>, Changes<'a>, &'a str);
 /// The memory that a link is given beside as much as it requests.
 #[derive(Clone, Copy)]
 pub(crate) enum Memory {
+    /// No other.
     Ample,
     /// None, and it requests none.
     NoAllocation,
@@ -41,10 +42,13 @@ pub(crate) enum Memory {
 /// The files that entries of a table change, each made by lists of changes.
 #[derive(Clone, Copy)]
 pub(crate) struct Base<'a> {
+    /// The byte order of the host and of the linked file.
     pub order: Order,
+    /// The host, whose changes make it from blank slots and zeros.
     pub host: &'a [Changes<'a>],
     /// The libraries, and whether their words are in the other byte order.
     pub libraries: &'a [(bool, &'a [Changes<'a>])],
+    /// What they are linked to.
     pub linked: &'a [Changes<'a>],
 }
 

@@ -68,7 +68,7 @@ macro_rules! show_of {
 
 pub(crate) use show_of;
 
-/// What a show says of an empty slot.
+/// What a show of the base library begins with: its byte order and its slots.
 pub(crate) static SLOTS_OF_THE_LIBRARY: &str = show_of!(
     "little",
     "         kind 0 address 0 length 0 text 0",

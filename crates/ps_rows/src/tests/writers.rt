@@ -29,6 +29,7 @@ pub(crate) struct Room {
     failures: u64,
     stalls: u64,
     shorts: u64,
+    /// How many flushes there were.
     pub flushes: u64,
 }
 

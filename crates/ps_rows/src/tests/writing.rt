@@ -1,12 +1,15 @@
 //! What a writer is given of a linked file, a map or a show, where it takes all or little, stalls
 //! or fails.
-use super::answers::{is, text_of_error};
+use super::answers::{is, text_of, text_of_error};
 use super::link_allocations::Link;
 use super::tables::{Base, IN_PLACE_FILES, PAIR_FILES, bytes_of};
 use super::texts::{Map, Show};
 use super::writers::Full::{Fails, Stalls};
-use super::writers::{Counts, Room, Writer};
-use ps_linkfile::{Counting, LinkError, Linked, ToldWriter, WriteFault, link, prepare, write_show};
+use super::writers::{Counts, Full, Room, Writer};
+use ps_linkfile::{
+    Counting, LinkError, Linked, Summary, ToldWriter, WriteFault, link, prepare, write_show,
+};
+use refusing::Refusing;
 use std::alloc::{AllocError, Global};
 use std::io;
 use std::io::{ErrorKind, Write};
@@ -14,76 +17,92 @@ use std::process::Abort;
 
 /// What is written in pieces.
 pub(crate) trait Writing {
-    /// Writes it.
-    fn write<W: Write>(&self, alloc: Global, out: &mut W) -> Result<(), LinkError>;
+    /// Writes it, and returns the summary of a linked file.
+    fn write<W: Write>(&self, alloc: Global, out: &mut W) -> Result<Option<Summary>, LinkError>;
 }
 
 impl<'a> Writing for Link<'a> {
-    fn write<W: Write>(&self, alloc: Global, out: &mut W) -> Result<(), LinkError> {
-        link(alloc, self.host, self.libraries, out)?;
-        Ok(())
+    fn write<W: Write>(&self, alloc: Global, out: &mut W) -> Result<Option<Summary>, LinkError> {
+        Ok(Some(link(alloc, self.host, self.libraries, out)?))
     }
 }
 
 impl<'a> Writing for Linked<'a> {
-    fn write<W: Write>(&self, _alloc: Global, out: &mut W) -> Result<(), LinkError> {
-        Linked::write(self, out)?;
-        Ok(())
+    fn write<W: Write>(&self, _alloc: Global, out: &mut W) -> Result<Option<Summary>, LinkError> {
+        Ok(Some(Linked::write(self, out)?))
     }
 }
 
 impl<'a> Writing for Show<'a> {
-    fn write<W: Write>(&self, _alloc: Global, out: &mut W) -> Result<(), LinkError> {
-        write_show(self.file, out)
+    fn write<W: Write>(&self, _alloc: Global, out: &mut W) -> Result<Option<Summary>, LinkError> {
+        write_show(self.file, out)?;
+        Ok(None)
     }
 }
 
 impl<'a> Writing for Map<'a> {
-    fn write<W: Write>(&self, alloc: Global, out: &mut W) -> Result<(), LinkError> {
+    fn write<W: Write>(&self, alloc: Global, out: &mut W) -> Result<Option<Summary>, LinkError> {
         let linked = prepare(alloc, self.host, self.libraries)?;
-        Ok(linked.write_map(out)?)
+        linked.write_map(out)?;
+        Ok(None)
     }
 }
 
 /// The answer of a call that writes, as text.
-fn answer_of(alloc: Global, answer: Result<(), LinkError>) -> Result<String, AllocError> {
+fn answer_of(
+    alloc: Global,
+    answer: Result<Option<Summary>, LinkError>,
+) -> Result<String, AllocError> {
     match answer {
-        Ok(()) => String::from_str(alloc, "written"),
+        Ok(Some(summary)) => text_of(alloc, Ok(summary)),
+        Ok(None) => String::from_str(alloc, WRITTEN),
         Err(error) => text_of_error(alloc, error),
     }
 }
 
-/// Checks what a writer was given: the prefix of these bytes for which it has room, in as many
-/// writes of each kind, and no flush.
+/// Checks the answer of a call and what a writer was given: the prefix of these bytes for which it
+/// has room, and no flush. Returns how many writes of each kind there were.
 fn was_given(
-    rt: &impl Abort,
+    rt: &(impl Abort + AllocGlobal),
+    answered: Result<Option<Summary>, LinkError>,
     out: &Room,
-    (room, per_write, _): Writer,
-    bytes: &[u8],
-    counts: Counts,
-) {
+    (bytes, (room, per_write, _)): (&[u8], Writer),
+    answer: &str,
+) -> Counts {
+    let text = answer_of(rt.alloc(), answered).expect(rt, "unexpected error");
+    assert!(rt; text.as_str() == answer, "{room} {per_write}: {text}");
     let prefix = bytes.get(..room).unwrap_or(bytes);
     assert!(rt; out.written() == prefix, "{room} {per_write}");
-    assert!(rt;
-        (out.counts(), out.flushes) == (counts, 0),
-        "{room} {per_write}"
-    );
+    assert!(rt; out.flushes == 0, "{room} {per_write}");
+    out.counts()
 }
 
-/// Writes these bytes into a writer, and checks the answer and what the writer was given.
-pub(crate) fn writes<T: Writing>(
+/// Writes these bytes into a writer, and checks the answer and what the writer was given. Returns
+/// how many writes of each kind there were.
+fn counts_where_written<T: Writing>(
     rt: &(impl Abort + AllocGlobal),
     (call, bytes): (&T, &[u8]),
     writer: Writer,
     answer: &str,
-    counts: Counts,
-) {
+) -> Counts {
     let alloc = rt.alloc();
     let mut out = Room::new(alloc, writer).expect(rt, "unexpected error");
     let answered = call.write(alloc, &mut out);
-    let text = answer_of(alloc, answered).expect(rt, "unexpected error");
-    is(rt, "", text.as_str(), answer);
-    was_given(rt, &out, writer, bytes, counts)
+    was_given(rt, answered, &out, (bytes, writer), answer)
+}
+
+/// Writes these bytes into a writer, and checks the answer and what the writer was given, in as
+/// many writes of each kind.
+pub(crate) fn writes<T: Writing>(
+    rt: &(impl Abort + AllocGlobal),
+    written: (&T, &[u8]),
+    writer: Writer,
+    answer: &str,
+    counts: Counts,
+) {
+    let counted = counts_where_written(rt, written, writer, answer);
+    let (room, per_write, _) = writer;
+    assert!(rt; counted == counts, "{room} {per_write}: {counted:?}");
 }
 
 /// The same of a linked file, which is written to a writer that counts as it does itself.
@@ -97,10 +116,14 @@ fn tells(
     let alloc = rt.alloc();
     let mut out = Counting::new(Room::new(alloc, writer).expect(rt, "unexpected error"));
     let answered = linked.write_told(&mut out).map_err(LinkError::Write);
-    let text = answer_of(alloc, answered.map(|_| ())).expect(rt, "unexpected error");
-    is(rt, "", text.as_str(), answer);
-    assert!(rt; counts_of(&out) == counts);
-    was_given(rt, &out.into_inner(), writer, file, counts)
+    let told = counts_of(&out);
+    let out = out.into_inner();
+    let counted = was_given(rt, answered.map(Some), &out, (file, writer), answer);
+    let (room, per_write, _) = writer;
+    assert!(rt;
+        (told, counted) == (counts, counts),
+        "{room} {per_write}: {told:?}"
+    );
 }
 
 /// What a writer that counts has counted.
@@ -111,6 +134,9 @@ fn counts_of<W: Write>(out: &Counting<W>) -> Counts {
 /// No write at all.
 pub(crate) const NO_WRITE: Counts = [0, 0, 0, 0];
 
+/// The answer where a text is written.
+const WRITTEN: &str = "written";
+
 /// Answers of a writer with no room left.
 const FAILED: &str = "device error Interrupted";
 
@@ -118,74 +144,78 @@ const STALLED: &str = "stalled";
 
 const ALL: usize = usize::MAX;
 
-/// Writers, the answer where three blocks are written to each, and how many writes of each kind
-/// there are. A write that failed is not repeated.
-static WRITERS: [(Writer, &str, Counts); 25] = [
-    ((1536, 512, Fails), "written", [3, 0, 0, 0]),
-    ((1536, 513, Fails), "written", [3, 0, 0, 0]),
-    ((1536, ALL, Fails), "written", [3, 0, 0, 0]),
-    ((1536, ALL, Stalls), "written", [3, 0, 0, 0]),
-    ((1536, 511, Fails), "written", [6, 0, 0, 3]),
-    ((1536, 256, Fails), "written", [6, 0, 0, 3]),
-    ((1536, 1, Fails), "written", [1536, 0, 0, 1533]),
-    ((0, ALL, Fails), FAILED, [1, 1, 0, 0]),
-    ((0, ALL, Stalls), STALLED, [1, 0, 1, 1]),
-    ((1, ALL, Fails), FAILED, [2, 1, 0, 1]),
-    ((1, ALL, Stalls), STALLED, [2, 0, 1, 2]),
-    ((100, ALL, Fails), FAILED, [2, 1, 0, 1]),
-    ((100, ALL, Stalls), STALLED, [2, 0, 1, 2]),
-    ((511, ALL, Fails), FAILED, [2, 1, 0, 1]),
-    ((511, ALL, Stalls), STALLED, [2, 0, 1, 2]),
-    ((512, ALL, Fails), FAILED, [2, 1, 0, 0]),
-    ((512, ALL, Stalls), STALLED, [2, 0, 1, 1]),
-    ((513, ALL, Fails), FAILED, [3, 1, 0, 1]),
-    ((513, ALL, Stalls), STALLED, [3, 0, 1, 2]),
-    ((1024, ALL, Fails), FAILED, [3, 1, 0, 0]),
-    ((1024, ALL, Stalls), STALLED, [3, 0, 1, 1]),
-    ((1025, ALL, Fails), FAILED, [4, 1, 0, 1]),
-    ((1025, ALL, Stalls), STALLED, [4, 0, 1, 2]),
-    ((1535, ALL, Fails), FAILED, [4, 1, 0, 1]),
-    ((1535, ALL, Stalls), STALLED, [4, 0, 1, 2]),
+/// Writers to which three blocks are written, the answer of those that do not take all, and how
+/// many writes of each kind there are. A write that failed is not repeated.
+static WRITERS: [(Writer, Option<&str>, Counts); 25] = [
+    ((1536, 512, Fails), None, [3, 0, 0, 0]),
+    ((1536, 513, Fails), None, [3, 0, 0, 0]),
+    ((1536, ALL, Fails), None, [3, 0, 0, 0]),
+    ((1536, ALL, Stalls), None, [3, 0, 0, 0]),
+    ((1536, 511, Fails), None, [6, 0, 0, 3]),
+    ((1536, 256, Fails), None, [6, 0, 0, 3]),
+    ((1536, 1, Fails), None, [1536, 0, 0, 1533]),
+    ((0, ALL, Fails), Some(FAILED), [1, 1, 0, 0]),
+    ((0, ALL, Stalls), Some(STALLED), [1, 0, 1, 1]),
+    ((1, ALL, Fails), Some(FAILED), [2, 1, 0, 1]),
+    ((1, ALL, Stalls), Some(STALLED), [2, 0, 1, 2]),
+    ((100, ALL, Fails), Some(FAILED), [2, 1, 0, 1]),
+    ((100, ALL, Stalls), Some(STALLED), [2, 0, 1, 2]),
+    ((511, ALL, Fails), Some(FAILED), [2, 1, 0, 1]),
+    ((511, ALL, Stalls), Some(STALLED), [2, 0, 1, 2]),
+    ((512, ALL, Fails), Some(FAILED), [2, 1, 0, 0]),
+    ((512, ALL, Stalls), Some(STALLED), [2, 0, 1, 1]),
+    ((513, ALL, Fails), Some(FAILED), [3, 1, 0, 1]),
+    ((513, ALL, Stalls), Some(STALLED), [3, 0, 1, 2]),
+    ((1024, ALL, Fails), Some(FAILED), [3, 1, 0, 0]),
+    ((1024, ALL, Stalls), Some(STALLED), [3, 0, 1, 1]),
+    ((1025, ALL, Fails), Some(FAILED), [4, 1, 0, 1]),
+    ((1025, ALL, Stalls), Some(STALLED), [4, 0, 1, 2]),
+    ((1535, ALL, Fails), Some(FAILED), [4, 1, 0, 1]),
+    ((1535, ALL, Stalls), Some(STALLED), [4, 0, 1, 2]),
 ];
 
-/// Writes a linked file of three blocks to each of these writers, by each call.
-fn writes_to_each(rt: &(impl Abort + AllocGlobal), files: &Link<'_>) {
+/// Writes a linked file into a writer by each call.
+fn writes_by_each_call(
+    rt: &(impl Abort + AllocGlobal),
+    files: &Link<'_>,
+    linked: &Linked<'_>,
+    (writer, answer, counts): (Writer, &str, Counts),
+) {
     let file = files.linked;
-    let linked = prepare(rt.alloc(), files.host, files.libraries).expect(rt, "unexpected error");
-    for (writer, answer, counts) in &WRITERS {
-        writes(rt, (files, file), *writer, *answer, *counts);
-        writes(rt, (&linked, file), *writer, *answer, *counts);
-        tells(rt, (&linked, file), *writer, *answer, *counts);
+    writes(rt, (files, file), writer, answer, counts);
+    writes(rt, (linked, file), writer, answer, counts);
+    tells(rt, (linked, file), writer, answer, counts)
+}
+
+/// Writes a linked file of three blocks into each of these writers.
+fn writes_to_each(
+    rt: &(impl Abort + AllocGlobal),
+    files: &Link<'_>,
+    linked: &Linked<'_>,
+    summary: &str,
+) {
+    for (writer, refused, counts) in &WRITERS {
+        let answer = refused.unwrap_or(summary);
+        writes_by_each_call(rt, files, linked, (*writer, answer, *counts));
     }
 }
 
 /// Writes it into a writer of each room that is too little, which stalls and which fails: there is
 /// a write for each block that it takes any of, and one for which it has no room.
-fn writes_to_any_room(rt: &(impl Abort + AllocGlobal), files: &Link<'_>) {
+fn writes_to_any_room(rt: &(impl Abort + AllocGlobal), files: &Link<'_>, linked: &Linked<'_>) {
     for room in 0..1536 {
         let writes_made = (room as u64 + 511) / 512 + 1;
         let shorts = if room % 512 == 0 { 0 } else { 1 };
         let wanted = [writes_made, 1, 0, shorts];
-        writes(
-            rt,
-            (files, files.linked),
-            (room, ALL, Fails),
-            FAILED,
-            wanted,
-        );
+        writes_by_each_call(rt, files, linked, ((room, ALL, Fails), FAILED, wanted));
         let wanted = [writes_made, 0, 1, shorts + 1];
-        writes(
-            rt,
-            (files, files.linked),
-            (room, ALL, Stalls),
-            STALLED,
-            wanted,
-        );
+        writes_by_each_call(rt, files, linked, ((room, ALL, Stalls), STALLED, wanted));
     }
 }
 
-/// Writes the linked file of these files to each writer, and to those of any room.
-fn with_files(rt: &(impl Abort + AllocGlobal), base: &Base<'_>, any_room: bool) {
+/// Writes the linked file of these files, which has this summary, into each writer, and into those
+/// of any room.
+fn with_files(rt: &(impl Abort + AllocGlobal), base: &Base<'_>, summary: &str, any_room: bool) {
     let alloc = rt.alloc();
     let host = base.host(alloc, &[]).expect(rt, "unexpected error");
     let libraries = base.libraries(alloc, &[]).expect(rt, "unexpected error");
@@ -196,16 +226,19 @@ fn with_files(rt: &(impl Abort + AllocGlobal), base: &Base<'_>, any_room: bool) 
         libraries: libraries.as_slice(),
         linked: linked.as_slice(),
     };
-    writes_to_each(rt, &files);
+    let prepared = prepare(alloc, files.host, files.libraries).expect(rt, "unexpected error");
+    writes_to_each(rt, &files, &prepared, summary);
     if any_room {
-        writes_to_any_room(rt, &files);
+        writes_to_any_room(rt, &files, &prepared);
     }
 }
 
 #[test]
 fn writers_of_linked_files(rt: HostRuntime) {
-    with_files(&rt, &IN_PLACE_FILES, false);
-    with_files(&rt, &PAIR_FILES, true)
+    let summary = "segments 2 private words 0 blocks 3";
+    with_files(&rt, &IN_PLACE_FILES, summary, false);
+    let summary = "segments 2 private words 4 blocks 3";
+    with_files(&rt, &PAIR_FILES, summary, true)
 }
 
 /// Writes this short text into writers that take all or little, stall or fail. No write is made
@@ -219,7 +252,7 @@ pub(crate) fn writes_text<T: Writing>(rt: &(impl Abort + AllocGlobal), call: &T,
             rt,
             (call, text),
             (text.len(), per_write, Fails),
-            "written",
+            WRITTEN,
             wanted,
         );
     }
@@ -228,6 +261,28 @@ pub(crate) fn writes_text<T: Writing>(rt: &(impl Abort + AllocGlobal), call: &T,
         writes(rt, (call, text), (room, ALL, Fails), FAILED, wanted);
         let wanted = [shorts + 1, 0, 1, shorts + 1];
         writes(rt, (call, text), (room, ALL, Stalls), STALLED, wanted);
+    }
+}
+
+/// How many halves of a long text a writer has room for, what it does then, the answer, and how
+/// many writes fail and stall.
+static HALVES: [(usize, Full, &str, (u64, u64)); 5] = [
+    (2, Fails, WRITTEN, (0, 0)),
+    (0, Fails, FAILED, (1, 0)),
+    (0, Stalls, STALLED, (0, 1)),
+    (1, Fails, FAILED, (1, 0)),
+    (1, Stalls, STALLED, (0, 1)),
+];
+
+/// Writes this text, of many pieces, into writers that take all, half or none of it. One write
+/// fails or stalls, and none is made after it, which would fail or stall too.
+pub(crate) fn writes_long_text<T: Writing>(rt: &(impl Abort + AllocGlobal), call: &T, text: &str) {
+    let text = text.as_bytes();
+    for (halves, full, answer, wanted) in &HALVES {
+        let room = text.len().saturating_mul(*halves) / 2;
+        let writer = (room, ALL, *full);
+        let [_, failures, stalls, _] = counts_where_written(rt, (call, text), writer, *answer);
+        assert!(rt; (failures, stalls) == *wanted, "{room}");
     }
 }
 
@@ -314,14 +369,14 @@ fn described(alloc: Global, error: &io::Error) -> Result<String, AllocError> {
     format!(in alloc; "{kind:?} {code:?} {error}")
 }
 
-/// Checks that an answer is the error of this writer.
-fn is_error(rt: &(impl Abort + AllocGlobal), answer: Result<(), LinkError>, way: Broken) {
+/// Checks that an error is that of this writer.
+fn is_error(rt: &(impl Abort + AllocGlobal), error: Option<LinkError>, way: Broken) {
     let alloc = rt.alloc();
-    match answer {
-        Err(LinkError::Write(WriteFault::Device(error))) => {
+    match error {
+        Some(LinkError::Write(WriteFault::Device(error))) => {
             let text = described(alloc, &error).expect(rt, "unexpected error");
             let wanted = described(alloc, &way.error()).expect(rt, "unexpected error");
-            is(rt, "", text.as_str(), wanted.as_str());
+            is(rt, wanted.as_str(), text.as_str(), wanted.as_str());
         }
         _ => assert!(rt; false, "no error of the write"),
     }
@@ -341,11 +396,11 @@ fn the_error_of_the_write_comes_back(rt: HostRuntime) {
     let linked = prepare(alloc, files.host, &[]).expect(&rt, "unexpected error");
     for way in &WAYS {
         let mut out = *way;
-        is_error(&rt, files.write(alloc, &mut out), *way);
-        is_error(&rt, Writing::write(&linked, alloc, &mut out), *way);
+        is_error(&rt, files.write(alloc, &mut out).err(), *way);
+        is_error(&rt, Writing::write(&linked, alloc, &mut out).err(), *way);
         let mut out = Counting::new(out);
         let answer = linked.write_told(&mut out).map_err(LinkError::Write);
-        is_error(&rt, answer.map(|_| ()), *way);
+        is_error(&rt, answer.err(), *way);
         assert!(rt; out.flush().is_err());
         assert!(rt; counts_of(&out) == [1, 1, 0, 0]);
     }
@@ -361,5 +416,20 @@ fn texts_of_write_faults(rt: HostRuntime) {
     )
     .expect(&rt, "unexpected error");
     let wanted = "the tape is torn, the writer takes no more bytes, the writer takes no more bytes";
-    is(&rt, "", text.as_str(), wanted)
+    is(&rt, "faults of writes", text.as_str(), wanted)
+}
+
+/// A list whose memory is refused takes no byte.
+#[test]
+fn a_list_that_cannot_grow(rt: HostRuntime) {
+    let alloc = rt.alloc();
+    let host = IN_PLACE_FILES
+        .host(alloc, &[])
+        .expect(&rt, "unexpected error");
+    let heap = Refusing::once(alloc, 1);
+    let mut list = Vec::new(&heap);
+    let answer = link(alloc, host.as_slice(), &[], &mut list);
+    let text = text_of(alloc, answer).expect(&rt, "unexpected error");
+    is(&rt, "a list", text.as_str(), "device error OutOfMemory");
+    assert!(rt; list.is_empty());
 }
