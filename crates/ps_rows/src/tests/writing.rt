@@ -7,7 +7,8 @@ use super::texts::{Map, Show};
 use super::writers::Full::{Fails, Stalls};
 use super::writers::{Counts, Full, Room, Writer};
 use ps_linkfile::{
-    Counting, LinkError, Linked, Summary, ToldWriter, WriteFault, link, prepare, write_show,
+    Counting, LinkError, Linked, NotedWriter, Noting, Summary, ToldWriter, WriteFault, link,
+    prepare, write_show, write_show_noted,
 };
 use refusing::Refusing;
 use std::alloc::{AllocError, Global};
@@ -320,6 +321,42 @@ fn plain_writes_are_not_counted(rt: HostRuntime) {
     let inner = out.into_inner();
     assert!(rt; (inner.counts(), inner.flushes) == ([2, 0, 1, 1], 1));
     assert!(rt; inner.written() == bytes.as_slice());
+}
+
+/// The room of a writer of texts, what it does then, and how many writes return an error and how
+/// many take nothing.
+static FAILURES: [(usize, Full, (u64, u64)); 4] = [
+    (4096, Fails, (0, 0)),
+    (4096, Stalls, (0, 0)),
+    (9, Fails, (1, 0)),
+    (9, Stalls, (0, 1)),
+];
+
+/// Checks what was counted where a text was written, or was not.
+fn has_counted(rt: &impl Abort, is_written: bool, out: Noting<Room>, wanted: (u64, u64)) {
+    let failures = out.failures();
+    let [_, errors, stalls, _] = out.into_inner().counts();
+    assert!(rt; is_written == (wanted == (0, 0)), "{wanted:?}");
+    assert!(rt; (failures.errors, failures.stalls) == wanted, "{wanted:?}");
+    assert!(rt; (errors, stalls) == wanted, "{wanted:?}");
+}
+
+#[test]
+fn failures_of_a_map_and_a_show_are_counted(rt: HostRuntime) {
+    let alloc = rt.alloc();
+    let host = IN_PLACE_FILES
+        .host(alloc, &[])
+        .expect(&rt, "unexpected error");
+    let linked = prepare(alloc, host.as_slice(), &[]).expect(&rt, "unexpected error");
+    for (room, full, wanted) in &FAILURES {
+        let writer = (*room, ALL, *full);
+        let mut out = Noting::new(Room::new(alloc, writer).expect(&rt, "unexpected error"));
+        let is_written = linked.write_map_noted(&mut out).is_ok();
+        has_counted(&rt, is_written, out, *wanted);
+        let mut out = Noting::new(Room::new(alloc, writer).expect(&rt, "unexpected error"));
+        let is_written = write_show_noted(host.as_slice(), &mut out).is_ok();
+        has_counted(&rt, is_written, out, *wanted);
+    }
 }
 
 /// A writer whose calls all fail.
