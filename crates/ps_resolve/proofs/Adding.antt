@@ -1,14 +1,13 @@
 -- The queue of names that are requested, of which only the first ten are kept, and the rounds that
 -- it gives.
-use Rattle.std.proofs.Common.{◌≡◌, ℕ, zero, suc, ◌+◌, ◌<◌, ◌≤◌, List, []}
-use Rattle.std.proofs.Common.{◌∷◌, ◌++◌, ◌-◌, length, length-append, append_assoc}
-use Rattle.std.proofs.Common.{append-nil, take, Bool, true, false, Option, Some, None, inl, inr}
-use Rattle.std.proofs.Common.{refl, sym, ◌∙◌, ap, arith}
+use Rattle.std.proofs.Common.{◌≡◌, ℕ, ◌+◌, ◌<◌, ◌≤◌, List, [], ◌∷◌}
+use Rattle.std.proofs.Common.{◌++◌, ◌-◌, length, length-append, append_assoc, append-nil}
+use Rattle.std.proofs.Common.{take, Bool, true, false, Option, Some, None, inl, inr, refl, sym}
+use Rattle.std.proofs.Common.{◌∙◌, ap, arith}
 use Rattle.std.specs.Prelude.{◌⊎◌, All, if◌then◌else◌}
 use Rattle.std.proofs.lemmas.Bool.{cases_lt}
 use Rattle.std.proofs.lemmas.List.{take-append-le, take_all, length-take, length-take-le}
 use Rattle.std.proofs.lemmas.List.Elements.{All-nil, All-cons, All-append}
-use Rattle.ps_resolve.proofs.FirstSlots.{range_more}
 use Rattle.std.specs.List.{slice_get, filter, range_with_len}
 use Rattle.ps_words.specs.declared.order.Order.{Order}
 use Rattle.ps_linkinfo.specs.RecordCounts.{is_unit_reference, units_in as units_asked}
@@ -41,13 +40,7 @@ pub no_references : (file slot n : ℕ) (rs : List Record) → units_asked rs �
     → unit_references file slot n rs ≡ []
 no_references file slot n [] h = refl
 no_references file slot n (r ∷ rs) h =
-    at (λ e. no_references file slot (n + 1) rs e) (is_unit_reference r.body) refl
-  where
-    at : (units_asked rs ≡ 0 → unit_references file slot (n + 1) rs ≡ []) → (b : Bool)
-        → is_unit_reference r.body ≡ b → unit_references file slot n (r ∷ rs) ≡ []
-    at rest false e = let a = one_unit r rs false (asks_is r.body ∙ e) in
-        rw (e, unit_references) (rest (omega arith))
-    at rest true e = let a = one_unit r rs true (asks_is r.body ∙ e) in absurd (omega arith)
+    grind (arith, asks_is r.body, one_unit r rs true, no_references file slot (n + 1) rs)
 
 -- names that are requested after others
 pub requested-append : (units : List (List ℕ × ℕ)) (queue xs ys : List UnitReference)
@@ -63,31 +56,20 @@ flat_more : (xs : List Segment) (s : Segment)
     → all_unit_references (xs ++ s ∷ [])
     ≡ all_unit_references xs ++ unit_references s.file s.slot 0 s.records
 flat_more [] s = append-nil (unit_references s.file s.slot 0 s.records)
-flat_more (x ∷ xs) s =
-    ap (λ (gs : List UnitReference). unit_references x.file x.slot 0 x.records ++ gs)
-    (flat_more xs s)
-    ∙ sym (append_assoc (unit_references x.file x.slot 0 x.records) (all_unit_references xs)
-    (unit_references s.file s.slot 0 s.records))
+flat_more (x ∷ xs) s = grind (arith, append_assoc, flat_more xs s)
 
 pub references_more : (units : List (List ℕ × ℕ)) (queue : List UnitReference)
     (xs : List Segment) (s : Segment)
     → requested_from units (requested_from units queue (all_unit_references xs))
     (unit_references s.file s.slot 0 s.records)
     ≡ requested_from units queue (all_unit_references (xs ++ s ∷ []))
-references_more units queue xs s =
-    sym (ap (requested_from units queue) (flat_more xs s)
-    ∙ requested-append units queue (all_unit_references xs)
-    (unit_references s.file s.slot 0 s.records))
+references_more units queue xs s = grind (arith, flat_more, requested-append)
 
 -- all that two lists of segments request
 pub references_both : (xs ys : List Segment)
     → all_unit_references (xs ++ ys) ≡ all_unit_references xs ++ all_unit_references ys
 references_both [] ys = refl
-references_both (x ∷ xs) ys =
-    ap (λ (gs : List UnitReference). unit_references x.file x.slot 0 x.records ++ gs)
-    (references_both xs ys)
-    ∙ sym (append_assoc (unit_references x.file x.slot 0 x.records) (all_unit_references xs)
-    (all_unit_references ys))
+references_both (x ∷ xs) ys = grind (arith, append_assoc, references_both xs ys)
 
 -- the prefix of a queue stays
 pub queue_prefix : (units : List (List ℕ × ℕ)) (n : ℕ) (queue gs : List UnitReference)
@@ -100,9 +82,7 @@ queue_prefix units n queue (g ∷ gs) h =
         → take n (requested_from units r gs) ≡ take n r) → (b : Bool)
         → is_already_known units queue g.name ≡ b
         → take n (requested_from units queue (g ∷ gs)) ≡ take n queue
-    by rest true e = rw e (rest queue h)
-    by rest false e = rw e (rest (queue ++ g ∷ []) (omega (arith, length-append queue (g ∷ [])))
-        ∙ take-append-le n queue (g ∷ []) h)
+    by rest b e = grind (arith, length-append, take-append-le)
 
 -- what is kept of a queue decides what is kept of the queue after it
 pub kept : (units : List (List ℕ × ℕ)) (queue gs : List UnitReference)
@@ -138,13 +118,7 @@ kept_full units queue g h e =
 pub references-cons : (file slot rec : ℕ) (r : Record) (rs : List Record)
     → unit_references file slot rec (r ∷ rs)
     ≡ unit_references file slot rec (r ∷ []) ++ unit_references file slot (rec + 1) rs
-references-cons file slot rec r rs = by (is_unit_reference r.body) refl
-  where
-    by : (b : Bool) → is_unit_reference r.body ≡ b
-        → unit_references file slot rec (r ∷ rs)
-        ≡ unit_references file slot rec (r ∷ []) ++ unit_references file slot (rec + 1) rs
-    by true e = rw e refl
-    by false e = rw e refl
+references-cons file slot rec r rs = grind arith
 
 -- the names that a record requests, and then those of the records after it
 pub kept_more : (units : List (List ℕ × ℕ)) (queue now : List UnitReference)
@@ -153,31 +127,13 @@ pub kept_more : (units : List (List ℕ × ℕ)) (queue now : List UnitReference
     → take 10 (requested_from units now (unit_references file slot (rec + 1) rs))
     ≡ take 10 (requested_from units queue (unit_references file slot rec (r ∷ rs)))
 kept_more units queue now file slot rec r rs is =
-    let one = unit_references file slot rec (r ∷ []) in
-    let rest = unit_references file slot (rec + 1) rs in
-    ap (λ (q : List UnitReference). take 10 (requested_from units q rest)) is
-    ∙ (kept units (requested_from units queue one) rest
-    ∙ sym (ap (λ (gs : List UnitReference). take 10 (requested_from units queue gs))
-    (references-cons file slot rec r rs)
-    ∙ ap (λ (q : List UnitReference). take 10 q) (requested-append units queue one rest)))
+    grind (arith, kept, references-cons, requested-append)
 
 -- the names that a segment requests, and then those of the segments after it
 pub kept_segment : (units : List (List ℕ × ℕ)) (queue now one rest all : List UnitReference)
     → all ≡ one ++ rest → now ≡ take 10 (requested_from units queue one)
     → take 10 (requested_from units now rest) ≡ take 10 (requested_from units queue all)
-kept_segment units queue now one rest all split is =
-    ap (λ (q : List UnitReference). take 10 (requested_from units q rest)) is
-    ∙ (kept units (requested_from units queue one) rest
-    ∙ sym (ap (λ (gs : List UnitReference). take 10 (requested_from units queue gs)) split
-    ∙ ap (λ (q : List UnitReference). take 10 q) (requested-append units queue one rest)))
-
--- the k-th name of what is kept
-pub kept_at : (n k : ℕ) (queue : List UnitReference) → k < n
-    → slice_get (take n queue) k ≡ slice_get queue k
-kept_at zero k queue h = absurd (omega arith)
-kept_at (suc n) k [] h = refl
-kept_at (suc n) zero (g ∷ queue) h = refl
-kept_at (suc n) (suc k) (g ∷ queue) h = kept_at n k queue (omega arith)
+kept_segment units queue now one rest all split is = grind (arith, kept, requested-append)
 
 -- the rounds, one by one
 module _ (order : Order) (host : List ℕ) (libs : List (List ℕ)) (units : List (List ℕ × ℕ))
@@ -196,7 +152,7 @@ module _ (order : Order) (host : List ℕ) (libs : List (List ℕ)) (units : Lis
       → slice_get queue k ≡ Some g → placed_fault order host libs g slot ≡ Some f
       → rounds_from order host libs units (slot ∷ left) k queue
       ≡ record { added = []; fault = Some f }
-  round_refused slot left g f h e = rw (h, rounds_from) (rw (e, rounds_from) refl)
+  round_refused slot left g f h e = grind arith
 
   pub round_adds : (slot : ℕ) (left : List ℕ) (g : UnitReference) (s : Segment)
       → slice_get queue k ≡ Some g → placed_fault order host libs g slot ≡ None
@@ -204,8 +160,7 @@ module _ (order : Order) (host : List ℕ) (libs : List (List ℕ)) (units : Lis
       → rounds_from order host libs units (slot ∷ left) k queue
       ≡ after s (rounds_from order host libs units left (k + 1)
       (requested_from units queue (unit_references s.file s.slot 0 s.records)))
-  round_adds slot left g s h e f = rw (h, rounds_from)
-      (rw (e, rounds_from) (rw (f, rounds_from) refl))
+  round_adds slot left g s h e f = grind arith
 
 -- segments that were added before the rounds that are left
 abbrev pub joined : List Segment → RoundsOutcome → RoundsOutcome
@@ -213,16 +168,13 @@ joined xs r = record { added = xs ++ r.added; fault = r.fault }
 
 pub joined_more : (xs : List Segment) (s : Segment) (r : RoundsOutcome)
     → joined xs (after s r) ≡ joined (xs ++ s ∷ []) r
-joined_more xs s r = ap (λ (ys : List Segment). record { added = ys; fault = r.fault })
-    (sym (append_assoc xs (s ∷ []) r.added))
+joined_more xs s r = grind (arith, append_assoc)
 
 -- the k-th name, as the queue that is kept has it
 pub at_round : (queue items : List UnitReference) (i n : ℕ) (o : Option UnitReference)
     → items ≡ take 10 queue → i < 10 → n ≡ i → o ≡ slice_get items n
     → slice_get queue i ≡ o
-at_round queue items i n o is lt same at =
-    sym (kept_at 10 i queue lt) ∙ (ap (λ (q : List UnitReference). slice_get q i) (sym is)
-    ∙ (ap (λ (j : ℕ). slice_get items j) (sym same) ∙ sym at))
+at_round queue items i n o is lt same h = grind arith
 
 -- what is kept of a queue has ten names at most
 pub few_kept : (queue : List UnitReference) → length (take 10 queue) ≤ 10
@@ -233,16 +185,7 @@ pub filter_more : (test : ℕ → Bool) (xs : List ℕ) (i n : ℕ) → i < n
     → xs ++ filter test (range_with_len i (n - i))
     ≡ (xs ++ (if test i then i ∷ [] else []))
     ++ filter test (range_with_len (i + 1) (n - (i + 1)))
-filter_more test xs i n lt =
-    ap (λ (ys : List ℕ). xs ++ filter test ys) (range_more i n lt) ∙ by (test i) refl
-  where
-    rest : List ℕ
-    rest = range_with_len (i + 1) (n - (i + 1))
-
-    by : (b : Bool) → test i ≡ b → xs ++ filter test (i ∷ rest)
-        ≡ (xs ++ (if test i then i ∷ [] else [])) ++ filter test rest
-    by true e = rw e (sym (append_assoc xs (i ∷ []) (filter test rest)))
-    by false e = rw e (ap (λ (ys : List ℕ). ys ++ filter test rest) (sym (append-nil xs)))
+filter_more test xs i n lt = grind (arith, append_assoc, append-nil)
 
 pub all_if : (P : ℕ → Type 0) (b : Bool) (xs : List ℕ) (i : ℕ) → All P xs → P i
     → All P (xs ++ (if b then i ∷ [] else []))
@@ -251,5 +194,4 @@ all_if P false xs i all h = All-append P xs [] all (All-nil P)
 
 pub few_if : (b : Bool) (xs : List ℕ) (i n m : ℕ) → length xs + m ≤ i → n ≡ i + 1
     → length (xs ++ (if b then i ∷ [] else [])) + m ≤ n
-few_if true xs i n m h e = omega (arith, length-append xs (i ∷ []))
-few_if false xs i n m h e = omega (arith, length-append xs [])
+few_if b xs i n m h e = grind (arith, length-append)

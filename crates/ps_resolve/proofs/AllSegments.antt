@@ -1,7 +1,6 @@
 -- One segment more of those that are linked one after another.
 use Rattle.std.proofs.Common.{◌≡◌, ℕ, ◌+◌, ◌<◌, ◌≤◌, ◌++◌, List, []}
-use Rattle.std.proofs.Common.{◌∷◌, length, map, get_or, drop, Option, None, sym, ◌∙◌}
-use Rattle.std.proofs.Common.{ap, subst, arith}
+use Rattle.std.proofs.Common.{◌∷◌, length, map, get_or, drop, Option, None, arith}
 use Rattle.std.specs.Prelude.{⊤}
 use Rattle.ps_words.specs.declared.order.Order.{Order}
 use Rattle.ps_words.specs.declared.edit.Edit.{Edit}
@@ -9,29 +8,25 @@ use Rattle.ps_words.specs.declared.fault.Fault.{Fault}
 use Rattle.ps_resolve.specs.Privates.{owner_of, private_words, all_words}
 use Rattle.ps_resolve.specs.Edits.{AreOfReferences}
 use Rattle.ps_resolve.specs.Stops.{IsStop}
-use Rattle.ps_resolve.specs.Views.{segment_of}
-use Rattle.ps_resolve.specs.Sources.{Segment}
+use Rattle.ps_resolve.specs.Views.{segment_of, SegmentView}
 use Rattle.ps_resolve.specs.References.{Known}
 use Rattle.ps_resolve.specs.Linking.{Edited, segment_edits, edited_from}
 use Rattle.ps_resolve.specs.Faults.{segment_fault, references_fault_from}
 use Rattle.ps_resolve.specs.Plans.{LinksSegment, LinkSegments}
-use Rattle.ps_resolve.specs.Views.{SegmentView}
 use Rattle.ps_resolve.specs.declared.linkage.Stop.{Stop}
-use Rattle.ps_resolve.specs.declared.linkage.Stop.TheVariants.{Refused, Memory}
 use Rattle.std.proofs.lemmas.List.{drop_all}
 use Rattle.ps_resolve.proofs.Segs.{drop_at}
-use Rattle.ps_resolve.proofs.Stages.{skip, keep}
 use Rattle.ps_words.specs.declared.words.TheConstants.{MAX_WORD}
 
 module _ (order : Order) (known : Known) (ss : List SegmentView) (i : ℕ) (v : SegmentView)
     (lt : i < length ss) (is : v ≡ get_or ss i v) (free : ℕ) where
   head_is : map segment_of (drop i ss) ≡ segment_of v ∷ map segment_of (drop (i + 1) ss)
-  head_is = ap (map segment_of) (drop_at ss i v lt is)
+  head_is = grind (arith, drop_at)
 
   words_head : all_words (map owner_of (map segment_of (drop i ss)))
       ≡ private_words (segment_of v).records + all_words
       (map owner_of (map segment_of (drop (i + 1) ss)))
-  words_head = ap (λ (xs : List Segment). all_words (map owner_of xs)) head_is
+  words_head = grind (arith, head_is)
 
   pub room_at : (total : ℕ) → free + all_words (map owner_of (map segment_of (drop i ss)))
       ≡ total → total ≤ MAX_WORD → free + private_words (segment_of v).records ≤ MAX_WORD
@@ -42,9 +37,7 @@ module _ (order : Order) (known : Known) (ss : List SegmentView) (i : ℕ) (v : 
       ≡ references_fault_from order known base (map segment_of ss)
       → IsStop ⊤ (segment_fault order known free (segment_of v)) stop
       → AreOfReferences order known base (map segment_of ss) stop
-  stop_at base (Refused fault) h d = sym h ∙ ap (references_fault_from order known free) head_is
-      ∙ keep _ _ fault d
-  stop_at base Memory h d = tt
+  stop_at base stop h d = grind (arith, head_is)
 
   module _ (end : ℕ) (goes : end ≡ free + private_words (segment_of v).records) where
     pub words_on : (total : ℕ) → free + all_words (map owner_of (map segment_of (drop i ss)))
@@ -55,10 +48,7 @@ module _ (order : Order) (known : Known) (ss : List SegmentView) (i : ℕ) (v : 
         → references_fault_from order known free (map segment_of (drop i ss)) ≡ first
         → segment_fault order known free (segment_of v) ≡ None
         → references_fault_from order known end (map segment_of (drop (i + 1) ss)) ≡ first
-    first_on first h none =
-        ap (λ (n : ℕ). references_fault_from order known n (map segment_of (drop (i + 1) ss)))
-        goes
-        ∙ sym (ap (references_fault_from order known free) head_is ∙ skip _ _ none) ∙ h
+    first_on first h none = grind (arith, head_is)
 
     pub links_on : (words : ℕ) (all : List Edited) (done : List (List Edit)) (d : List Edit)
         → LinksSegment order
@@ -73,19 +63,10 @@ module _ (order : Order) (known : Known) (ss : List SegmentView) (i : ℕ) (v : 
         → (behind : List (List Edit)) → LinkSegments order
         (edited_from order known words end (map segment_of (drop (i + 1) ss))) behind
         → LinkSegments order all (done ++ d ∷ behind)
-    links_on words all done d link before behind h =
-        before (d ∷ behind)
-        (subst (λ (xs : List Segment). LinkSegments order
-        (edited_from order known words free xs) (d ∷ behind)) (sym head_is) (
-          link,
-          subst (λ (n : ℕ). LinkSegments order
-              (edited_from order known words n (map segment_of (drop (i + 1) ss))) behind) goes h,
-        ))
+    links_on words all done d link before behind h = grind (arith, head_is)
 
 -- no segment is left
 pub none_left : (order : Order) (known : Known) (words free i : ℕ) (ss : List SegmentView)
     → length ss ≤ i → LinkSegments order
     (edited_from order known words free (map segment_of (drop i ss))) []
-none_left order known words free i ss h =
-    subst (λ (xs : List SegmentView). LinkSegments order
-    (edited_from order known words free (map segment_of xs)) []) (sym (drop_all i ss h)) tt
+none_left order known words free i ss h = grind (arith, drop_all)

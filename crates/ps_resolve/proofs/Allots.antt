@@ -1,15 +1,13 @@
 -- One record more of the privates.
-use Rattle.std.proofs.Common.{◌≡◌, ℕ, ◌+◌, ◌<◌, ◌≤◌, ◌++◌, List, []}
-use Rattle.std.proofs.Common.{◌∷◌, length, length-append, Bool, true, false, is_some, Option}
-use Rattle.std.proofs.Common.{Some, None, refl, sym, ◌∙◌, ap, subst, arith, append_assoc}
-use Rattle.std.specs.Prelude.{nat_eq, nat_lt}
-use Rattle.std.specs.Option.{option_eq, option_or}
+use Rattle.std.proofs.Common.{rules, ◌≡◌, ℕ, ◌+◌, ◌<◌, ◌≤◌, ◌++◌, List}
+use Rattle.std.proofs.Common.{[], ◌∷◌, length, length-append, Bool, true, false, is_some}
+use Rattle.std.proofs.Common.{Option, Some, None, refl, sym, ◌∙◌, ap, arith, append_assoc}
+use Rattle.std.specs.Prelude.{nat_eq}
+use Rattle.std.specs.Option.{option_eq}
 use Rattle.std.specs.Bool.{Decides}
 use Rattle.std.specs.List.{list_any, slice_get}
 use Rattle.std.specs.Str.{bytes_eq}
-use Rattle.std.proofs.lemmas.Bool.{false≢true}
-use Rattle.std.proofs.lemmas.Bool.Decides.{Decides-eqb, nat_tests}
-use Rattle.std.proofs.lemmas.Option.{same_Some}
+use Rattle.std.proofs.lemmas.Bool.Decides.{nat_tests}
 use Rattle.ps_words.specs.declared.fault.Reason.TheVariants as reason
 use Rattle.ps_linkinfo.specs.RecordCounts.{is_private_reference, privates_in}
 use Rattle.ps_resolve.specs.Privates.{Owner, words_in, allotted_privates, private_words}
@@ -17,19 +15,14 @@ use Rattle.ps_resolve.specs.Privates.{private_fault, all_allotted, first_private
 use Rattle.ps_resolve.specs.Privates.{unallotted_fault}
 use Rattle.ps_resolve.specs.Stops.{IsStop}
 use Rattle.ps_linkinfo.specs.declared.record.LinkRecord.{LinkRecord as Record}
-use Rattle.ps_resolve.specs.Builders.{FindsNamesake, IsFirstNamesake}
+use Rattle.ps_resolve.specs.Builders.{FindsNamesake}
 use Rattle.ps_resolve.specs.Standing.Definitions.{HasEarlierNamesake}
 use Rattle.ps_resolve.proofs.Apart.{one_private}
 use Rattle.ps_resolve.proofs.LookingBack.{asks_is, names}
 use Rattle.ps_resolve.proofs.EarlierNames.{Stands, further, looked, one_name, same_names, there}
 use Rattle.ps_resolve.specs.declared.linkage.Stop.{Stop}
-use Rattle.ps_resolve.specs.declared.linkage.Stop.TheVariants.{Refused, Memory}
-use Rattle.ps_words.specs.declared.fault.Fault.{Fault}
 use Rattle.ps_resolve.specs.declared.allotment.Private.{Private}
 use Rattle.ps_resolve.specs.declared.allotment.TheConstants.{MAX_NEXT_FREE}
-
-fits_test : (n : ℕ) → n ≤ MAX_NEXT_FREE → nat_lt MAX_NEXT_FREE n ≡ false
-fits_test n h = grind (arith, nat_tests)
 
 module _ (slot rec next : ℕ) (seen : List (List ℕ)) (ps : List Private) (r : Record)
     (rs : List Record) where
@@ -49,10 +42,7 @@ module _ (slot rec next : ℕ) (seen : List (List ℕ)) (ps : List Private) (r :
       → ps ++ allotted_privates slot rec next (r ∷ rs)
       ≡ (ps ++ record { slot = slot; rec = rec; name = r.name; offset = next; words = w }
       ∷ []) ++ allotted_privates slot (rec + 1) (next + w) rs
-  more_privates w h = rw (h, allotted_privates)
-      (sym (append_assoc ps
-      (record { slot = slot; rec = rec; name = r.name; offset = next; words = w } ∷ [])
-      (allotted_privates slot (rec + 1) (next + w) rs)))
+  more_privates w h = grind (arith, append_assoc)
 
   pub more_words : (w : ℕ) → words_in r.body ≡ Some w
       → private_words (r ∷ rs) ≡ w + private_words rs
@@ -62,7 +52,7 @@ module _ (slot rec next : ℕ) (seen : List (List ℕ)) (ps : List Private) (r :
       → list_any (bytes_eq r.name) seen ≡ false → next + w ≤ MAX_NEXT_FREE
       → private_fault rec next seen (r ∷ rs)
       ≡ private_fault (rec + 1) (next + w) (seen ++ r.name ∷ []) rs
-  more_fault w h k le = rw (h, private_fault) (rw (k, fits_test (next + w) le) refl)
+  more_fault w h k le = grind arith
 
 -- what requests a private is counted
 pub privates_counted : (slot n next : ℕ) (rs : List Record)
@@ -78,7 +68,7 @@ privates_counted slot n next (r ∷ rs) =
         ap length (skip_privates slot n next [] [] r rs h) in omega (arith, rest (n + 1) next)
     at rest (Some w) h = let a = one_private r rs true (asks_is r.body ∙ ap is_some h) in let b =
         ap length (more_privates slot n next [] [] r rs w h) in
-        omega (arith, rest (n + 1) (next + w))
+        grind arith
 
 -- where none requests one, there is none
 pub record NoPrivates (slot next : ℕ) (rs : List Record) : Type 0 where
@@ -92,27 +82,20 @@ no_asks : (slot next : ℕ) (rs : List Record) (n : ℕ) → privates_in rs ≡ 
     → (allotted_privates slot n next rs ≡ []) × (private_words rs ≡ 0)
     × (private_fault n next [] rs ≡ None)
 no_asks slot next [] n h = (refl, refl, refl)
-no_asks slot next (r ∷ rs) n h = at (λ e. no_asks slot next rs (n + 1) e) (words_in r.body) refl
-  where
-    at : (privates_in rs ≡ 0 → (allotted_privates slot (n + 1) next rs ≡ [])
-        × (private_words rs ≡ 0) × (private_fault (n + 1) next [] rs ≡ None))
-        → (o : Option ℕ) → words_in r.body ≡ o
-        → (allotted_privates slot n next (r ∷ rs) ≡ [])
-        × (private_words (r ∷ rs) ≡ 0) × (private_fault n next [] (r ∷ rs) ≡ None)
-    at rest None e =
-        let a = one_private r rs false (asks_is r.body ∙ ap is_some e) in
-        let more = rest (omega arith) in (
-          skip_privates slot n next [] [] r rs e ∙ more.0,
-          skip_words slot n next [] [] r rs e ∙ more.1,
-          skip_fault slot n next [] [] r rs e ∙ more.2,
-        )
-    at rest (Some w) e = let a = one_private r rs true (asks_is r.body ∙ ap is_some e) in
-        absurd (omega arith)
+no_asks slot next (r ∷ rs) n h =
+    grind (
+      arith,
+      asks_is r.body,
+      skip_privates slot n next,
+      skip_words slot n next,
+      skip_fault slot n next,
+      one_private r rs true,
+      no_asks slot next rs (n + 1),
+    )
 
 pub no_privates : (slot next : ℕ) (rs : List Record) → privates_in rs ≡ 0
     → NoPrivates slot next rs
-no_privates slot next rs h = let all = no_asks slot next rs 0 h in
-    record { privates = all.0; words = all.1; first = all.2 }
+no_privates slot next rs h = grind (arith, no_asks slot next rs 0 h)
 
 -- a name that is there already, and a private that ends too far
 module _ (n next : ℕ) (seen : List (List ℕ)) (r : Record) (rs : List Record) (w : ℕ)
@@ -120,13 +103,6 @@ module _ (n next : ℕ) (seen : List (List ℕ)) (r : Record) (rs : List Record)
   pub again_fault : list_any (bytes_eq r.name) seen ≡ true
       → private_fault n next seen (r ∷ rs) ≡ Some (n, reason.DoubledPrivate)
   again_fault k = rw (asks, private_fault) (rw k refl)
-
-  pub far_fault : list_any (bytes_eq r.name) seen ≡ false → MAX_NEXT_FREE < next + w
-      → private_fault n next seen (r ∷ rs) ≡ Some (n, reason.NoRoom)
-  far_fault k lt = rw (asks, private_fault) (rw (k, far_test (next + w) lt) refl)
-    where
-      far_test : (m : ℕ) → MAX_NEXT_FREE < m → nat_lt MAX_NEXT_FREE m ≡ true
-      far_test m h = grind (arith, nat_tests)
 
 -- With the privates so far, those of the records from this index on are all, and so with words and
 -- faults. The first that is a duplicate, if there is one, is none of those before.
@@ -142,7 +118,7 @@ pub record Allots (slot next : ℕ) (duplicate : Option ℕ) (before : List Priv
 pub allots : (slot next : ℕ) (duplicate : Option ℕ) (before : List Private) (all : List Record)
     → Allots slot next duplicate before all before next 0 all
 allots slot next duplicate before all = record {
-  stands = record { prefix = []; whole = refl; count = refl };
+  stands = grind arith;
   later = λ m e. omega arith;
   privates = refl;
   words = refl;
@@ -152,27 +128,15 @@ allots slot next duplicate before all = record {
 -- what the test of the first that is a duplicate says
 pub is_duplicate : (d : Option ℕ) (n : ℕ) → option_eq nat_eq d (Some n) ≡ true
     → d ≡ Some n
-is_duplicate None n h = absurd (false≢true h)
-is_duplicate (Some m) n h = ap (λ (k : ℕ). Some k) ((Decides-eqb m n).0 h)
+is_duplicate d n h = grind arith
 
 pub not_duplicate : (d : Option ℕ) (n : ℕ) → option_eq nat_eq d (Some n) ≡ false
     → d ≡ Some n → ⊥
-not_duplicate None n h e = cc
-not_duplicate (Some m) n h e = false≢true (sym h ∙ (Decides-eqb m n).1 (same_Some m n e))
+not_duplicate d n h e = grind arith
 
 -- a number that is not below n, and not n itself, is above it
 over : (n m : ℕ) → n ≤ m → (m ≡ n → ⊥) → n + 1 ≤ m
-over n m le other = at (nat_lt n m) refl
-  where
-    same : (n m : ℕ) → n ≤ m → nat_lt n m ≡ false → m ≡ n
-    same n m le h = grind (arith, nat_tests)
-
-    below : (n m : ℕ) → nat_lt n m ≡ true → n + 1 ≤ m
-    below n m h = grind (arith, nat_tests)
-
-    at : (b : Bool) → nat_lt n m ≡ b → n + 1 ≤ m
-    at true h = below n m h
-    at false h = absurd (other (same n m le h))
+over n m le other = grind arith
 
 module _ (slot next : ℕ) (duplicate : Option ℕ) (before : List Private) (all : List Record)
     (ps : List Private) (free n : ℕ) (r : Record) (rs : List Record)
@@ -183,48 +147,26 @@ module _ (slot next : ℕ) (duplicate : Option ℕ) (before : List Private) (all
 
   -- the record of the first that is a duplicate has an earlier namesake, and no other so far has
   duplicate_here : duplicate ≡ Some n → HasEarlierNamesake is_private_reference all n r
-  duplicate_here e =
-      let first : IsFirstNamesake is_private_reference all n =
-      subst (λ (d : Option ℕ). FindsNamesake is_private_reference all d) e found in
-      let same : first.item ≡ r = same_Some _ _ (sym first.there ∙ here) in
-      subst (λ (q : Record). HasEarlierNamesake is_private_reference all n q) same first.again
+  duplicate_here e = grind (arith, here)
 
   not_here : (duplicate ≡ Some n → ⊥) → HasEarlierNamesake is_private_reference all n r
       → ⊥
-  not_here other h = at duplicate refl
-    where
-      at : (d : Option ℕ) → duplicate ≡ d → ⊥
-      at None e = (subst (λ (o : Option ℕ). FindsNamesake is_private_reference all o) e found) n
-          r here h
-      at (Some m) e =
-          let first : IsFirstNamesake is_private_reference all m =
-          subst (λ (o : Option ℕ). FindsNamesake is_private_reference all o) e found in
-          first.first n r
-          (omega (
-            arith,
-            over n m (a.later m e)
-                (λ same. other (e ∙ ap (λ (k : ℕ). Some k) same)),
-          )) here h
+  not_here other h = search (rules, here)
 
   on : (duplicate ≡ Some n → ⊥) → (m : ℕ) → duplicate ≡ Some m → n + 1 ≤ m
-  on other m e = over n m (a.later m e) (λ same. other (e ∙ ap (λ (k : ℕ). Some k) same))
+  on other m e = grind arith
 
   asks : (w : Option ℕ) → words_in r.body ≡ w → is_private_reference r.body ≡ is_some w
-  asks w h = asks_is r.body ∙ ap is_some h
+  asks w h = grind arith
 
   pub allot_on : words_in r.body ≡ None
       → Allots slot next duplicate before all ps free (n + 1) rs
   allot_on passed = record {
     stands = further all n r rs a.stands;
-    later = on (λ e. false≢true (sym (asks None passed) ∙ (duplicate_here e).0));
-    privates = sym (skip_privates slot n free [] ps r rs passed) ∙ a.privates;
-    words = ap (λ (k : ℕ). free + k) (sym (skip_words slot n free [] ps r rs passed))
-        ∙ a.words;
-    first =
-        ap (λ (seen : List (List ℕ)). private_fault (n + 1) free seen rs)
-        (same_names is_private_reference a.stands.prefix r (asks None passed))
-        ∙ sym (skip_fault slot n free (names a.stands.prefix) ps r rs passed)
-        ∙ a.first;
+    later = grind (arith, asks, duplicate_here);
+    privates = grind arith;
+    words = grind arith;
+    first = grind (arith, same_names, skip_fault, names);
   }
 
   module _ (w : ℕ) (some : words_in r.body ≡ Some w) where
@@ -238,8 +180,7 @@ module _ (slot next : ℕ) (duplicate : Option ℕ) (before : List Private) (all
         (λ e. not_here other (is_seen.0 e))
       where
         not_seen : (b : Bool) → (b ≡ true → ⊥) → b ≡ false
-        not_seen true h = absurd (h refl)
-        not_seen false h = refl
+        not_seen b h = grind arith
 
     pub allot_more : (duplicate ≡ Some n → ⊥) → free + w ≤ MAX_NEXT_FREE
         → Allots slot next duplicate before all
@@ -248,13 +189,9 @@ module _ (slot next : ℕ) (duplicate : Option ℕ) (before : List Private) (all
     allot_more other fits = record {
       stands = further all n r rs a.stands;
       later = on other;
-      privates = sym (more_privates slot n free [] ps r rs w some) ∙ a.privates;
-      words = omega (arith, more_words slot n free [] ps r rs w some, a.words);
-      first =
-          ap (λ (seen : List (List ℕ)). private_fault (n + 1) (free + w) seen rs)
-          (one_name is_private_reference a.stands.prefix r (asks (Some w) some))
-          ∙ sym (more_fault slot n free (names a.stands.prefix) ps r rs w some (fresh other) fits)
-          ∙ a.first;
+      privates = grind (arith, more_privates);
+      words = grind arith;
+      first = grind (arith, one_name, more_fault, names, fresh);
     }
 
     pub duplicate_fault : duplicate ≡ Some n
@@ -264,8 +201,7 @@ module _ (slot next : ℕ) (duplicate : Option ℕ) (before : List Private) (all
 
     pub room_fault : (duplicate ≡ Some n → ⊥) → MAX_NEXT_FREE < free + w
         → private_fault 0 next [] all ≡ Some (n, reason.NoRoom)
-    room_fault other lt = sym a.first ∙ far_fault n free (names a.stands.prefix) r rs w some
-        (fresh other) lt
+    room_fault other lt = grind (arith, nat_tests, names, fresh)
 
 -- a stop at the first segment that is left is one at all
 module _ (o : Owner) (rest all : List Owner) (next free : ℕ) where
@@ -275,16 +211,4 @@ module _ (o : Owner) (rest all : List Owner) (next free : ℕ) where
       → IsStop (0 < length (allotted_privates o.slot 0 free o.records))
       (unallotted_fault o.file o.slot free o.records) stop
       → IsStop (0 < length (all_allotted next all)) (first_private_fault next all) stop
-  stopped_in before (Refused fault) privates first d =
-      sym first ∙ ap (λ (f : Option Fault). option_or f
-      (first_private_fault (free + private_words o.records) rest)) d
-  stopped_in before Memory privates first d =
-      omega (
-        arith,
-        ap length privates,
-        length-append before
-            (allotted_privates o.slot 0 free o.records
-            ++ all_allotted (free + private_words o.records) rest),
-        length-append (allotted_privates o.slot 0 free o.records)
-            (all_allotted (free + private_words o.records) rest),
-      )
+  stopped_in before stop privates first d = grind (arith, length-append)

@@ -1,5 +1,5 @@
 -- Counts of a list, and of records.
-use Rattle.std.proofs.Common.{◌≡◌, ◌∙◌, ℕ, ◌+◌, List, ◌∷◌, Bool, ap, cond}
+use Rattle.std.proofs.Common.{arith, ◌≡◌, ◌+◌, List, ◌∷◌, Bool, cond}
 use Rattle.std.specs.Prelude.{count_by}
 use Rattle.std.proofs.lemmas.List.Sums.{sum_by-cons}
 use Rattle.ps_linkinfo.specs.RecordCounts.{is_private_reference, is_public_reference}
@@ -12,8 +12,7 @@ one_more test x xs = sum_by-cons (λ y. cond (test y) 1 0) x xs
 
 counted : {X : Type 0} (test : X → Bool) (x : X) (xs : List X) (b : Bool) → test x ≡ b
     → count_by test (x ∷ xs) ≡ cond b 1 0 + count_by test xs
-counted test x xs b h = one_more test x xs
-    ∙ ap (λ (c : Bool). cond {A = ℕ} c 1 0 + count_by test xs) h
+counted test x xs b h = grind (arith, one_more)
 
 module _ (r : Record) (rs : List Record) (b : Bool) where
   pub one_unit : is_unit_reference r.body ≡ b → units_in (r ∷ rs) ≡ cond b 1 0 + units_in rs

@@ -1,15 +1,14 @@
 -- What the builders of definitions and of allotments say of their refusals, by looking back; and
 -- how the privates of an allotment are.
-use Rattle.std.proofs.Common.{◌≡◌, ℕ, zero, suc, ◌+◌, ◌<◌, List, [], ◌∷◌}
-use Rattle.std.proofs.Common.{◌++◌, length, length-append, take, map, get_or, Option, Some}
-use Rattle.std.proofs.Common.{None, Bool, true, false, refl, sym, ap, subst, ◌∙◌, inl, inr}
-use Rattle.std.proofs.Common.{arith, append_assoc}
+use Rattle.std.proofs.Common.{rules, ◌≡◌, ℕ, zero, suc, ◌+◌, ◌<◌, List, []}
+use Rattle.std.proofs.Common.{◌∷◌, ◌++◌, length, length-append, take, map, Option, Some}
+use Rattle.std.proofs.Common.{None, Bool, true, refl, sym, ap, subst, ◌∙◌, inl, inr, arith}
+use Rattle.std.proofs.Common.{append_assoc}
 use Rattle.std.specs.Prelude.{◌==◌, ◌&&◌, ◌||◌, count_by, nat_le, nat_lt}
 use Rattle.std.specs.Bool.{Decides}
 use Rattle.std.specs.List.{enumerate_from, filter_map, slice_get, flat_map}
 use Rattle.std.specs.Option.{option_map, option_or}
-use Rattle.std.proofs.lemmas.Bool.{cases_Bool, cases_lt, false≢true}
-use Rattle.std.proofs.lemmas.Bool.Decides.{Decides-and, Decides-ltb, nat_tests}
+use Rattle.std.proofs.lemmas.Bool.{cases_Bool, cases_lt}
 use Rattle.std.proofs.lemmas.List.{map-append}
 use Rattle.std.proofs.lemmas.List.Sums.{sum_by-append, sum_by-cons}
 use Rattle.std.proofs.lemmas.Option.{get_or_from_slice_get, slice_get_within}
@@ -31,18 +30,16 @@ use Rattle.ps_resolve.specs.References.{words_taken, words_taken_by}
 use Rattle.ps_resolve.specs.Stops.{IsStop, duplicate_fault}
 use Rattle.ps_resolve.specs.Builders.{HaveNoNamesakes, StopsDefinitions, offset_at}
 use Rattle.ps_resolve.specs.Builders.{HaveDistinctPrivates, HaveRoom, IsUnfit, IsFirstUnfit}
-use Rattle.ps_resolve.specs.Builders.{StopsPrivates, Asked, asked_in, all_asked, asked_of}
-use Rattle.ps_resolve.specs.Builders.{AreByRecord, words_of_all}
+use Rattle.ps_resolve.specs.Builders.{StopsPrivates, asked_in, all_asked, asked_of, AreByRecord}
+use Rattle.ps_resolve.specs.Builders.{words_of_all}
 use Rattle.ps_resolve.specs.declared.allotment.Private.{Private}
 use Rattle.ps_resolve.specs.declared.linkage.Stop.{Stop}
 use Rattle.ps_resolve.specs.declared.linkage.Stop.TheVariants.{Refused, Memory}
-use Rattle.ps_resolve.proofs.LookingBack.{is_again, again, take_prefix, longer, of_test}
-use Rattle.ps_resolve.proofs.LookingBack.{definitions_carried, words_before, reason_at}
-use Rattle.ps_resolve.proofs.LookingBack.{record_fault, privates_carried}
+use Rattle.ps_resolve.proofs.LookingBack.{is_again, again, take_prefix, longer, definitions_carried}
+use Rattle.ps_resolve.proofs.LookingBack.{words_before, reason_at, record_fault, privates_carried}
 use Rattle.ps_resolve.proofs.Allots.{privates_counted}
-use Rattle.ps_resolve.proofs.Apart.{one_more as counted}
 use Rattle.ps_resolve.proofs.Duplicates.{definitions_counted}
-use Rattle.ps_resolve.proofs.FirstSlots.{none_mapped, or_none, some_mapped}
+use Rattle.ps_resolve.proofs.FirstSlots.{some_mapped}
 use Rattle.ps_resolve.proofs.Rises.{behind}
 use Rattle.ps_resolve.specs.declared.allotment.TheConstants.{MAX_NEXT_FREE}
 
@@ -62,8 +59,7 @@ none_given : {A X : Type 0} (f : ℕ × A → Option X) (n : ℕ) (items : List 
     → slice_get items i ≡ Some a → f (k, a) ≡ None
 none_given f n [] h i k a is e = absurd (cc)
 none_given f n (b ∷ items) h zero k a is e = grind arith
-none_given f n (b ∷ items) h (suc i) k a is e =
-    none_given f (n + 1) items (or_none _ _ h).1 i k a (omega (arith, is)) e
+none_given f n (b ∷ items) h (suc i) k a is e = grind (arith, none_given f (n + 1) items)
 
 -- what it gives of some is what it gives of one, and it gives none of those before
 some_given : {A X : Type 0} (f : ℕ × A → Option X) (n : ℕ) (items : List A) (x : X)
@@ -80,8 +76,8 @@ some_given {A} {X} f n (a ∷ items) x h =
       at = zero;
       item = a;
       there = refl;
-      gives = λ k is. subst (λ (m : ℕ). f (m, a) ≡ Some x) (omega (arith, is)) (g ∙ h);
-      before = λ j k b lt is e. absurd (omega (arith, lt));
+      gives = grind arith;
+      before = grind arith;
     }
     go None g h rest =
         let later = rest h in
@@ -104,13 +100,11 @@ some_given {A} {X} f n (a ∷ items) x h =
 -- a fault that is there where P holds
 not_there : {X P : Type 0} (b : Bool) (x : X) → Decides b P → fault_if b x ≡ None → P
     → ⊥
-not_there true x d h p = absurd (cc)
-not_there false x d h p = false≢true (d.1 p)
+not_there b x d h p = grind arith
 
 is_there : {X P : Type 0} (b : Bool) (x y : X) → Decides b P → fault_if b x ≡ Some y
     → P × (y ≡ x)
-is_there true x y d h = (d.0 refl, cc)
-is_there false x y d h = absurd (cc)
+is_there b x y d h = grind arith
 
 -- where some items pass a test, one does
 some_counted : {A : Type 0} (test : A → Bool) (items : List A) → 0 < count_by test items
@@ -118,7 +112,7 @@ some_counted : {A : Type 0} (test : A → Bool) (items : List A) → 0 < count_b
 some_counted test [] h = absurd (omega (arith, h))
 some_counted test (a ∷ items) h = elim (cases_Bool (test a)) [
   | inl passes ↦ (zero, a, refl, passes)
-  | inr fails ↦ let t = some_counted test items (grind (arith, counted test a items)) in
+  | inr fails ↦ let t = some_counted test items (grind arith) in
       (suc t.0, t.1, t.2, t.3)
 ]
 
@@ -157,8 +151,7 @@ module _ (file slot : ℕ) (rs : List Record) where
         },
         here.1,
       )
-  stops_definitions Memory d = some_counted (λ r. is_definition r.body) rs
-      (omega (arith, d, definitions_counted rs))
+  stops_definitions Memory d = grind (arith, some_counted, definitions_counted)
 
   -- the same, with the number of the record
   abbrev IsNamed : Stop → Type 0
@@ -166,29 +159,16 @@ module _ (file slot : ℕ) (rs : List Record) where
   IsNamed Memory = 0 < length (definitions rs)
 
   pub not_defined : (stop : Stop) → IsNamed stop → StopsDefinitions file slot rs stop
-  not_defined (Refused fault) d = stops_definitions (Refused fault)
-      (ap (option_map told) d.1 ∙ ap (λ (f : Fault). Some f) (sym d.2))
-  not_defined Memory d = stops_definitions Memory d
+  not_defined stop d = grind (arith, stops_definitions)
 
 -- 2. the words before a record
 words_are : (rs : List Record) → words_taken_by rs ≡ private_words rs
 words_are [] = refl
-words_are (r ∷ rs) = omega (
-  arith,
-  sum_by-cons (λ (q : Record). words_taken q.body) r rs,
-  words_are rs,
-  words_before r rs,
-)
+words_are (r ∷ rs) = search (rules, sum_by-cons, words_before, words_are rs)
 
 all_are : (ss : List Owner) → words_taken_by (flat_map (λ q. q.records) ss) ≡ all_words ss
 all_are [] = refl
-all_are (s ∷ ss) = omega (
-  arith,
-  sum_by-append (λ (q : Record). words_taken q.body) s.records
-      (flat_map (λ (q : Owner). q.records) ss),
-  words_are s.records,
-  all_are ss,
-)
+all_are (s ∷ ss) = grind (arith, sum_by-append, words_are, all_are ss)
 
 one_behind : (prefix : List Owner) (s : Owner)
     → all_words (prefix ++ s ∷ []) ≡ all_words prefix + private_words s.records
@@ -199,13 +179,7 @@ one_behind (q ∷ prefix) s = omega (arith, one_behind prefix s)
 offset_is : (base : ℕ) (prefix : List Owner) (s : Owner) (rest : List Owner) (rec : ℕ)
     → offset_at base (prefix ++ s ∷ rest) (length prefix) s rec
     ≡ base + all_words prefix + private_words (take rec s.records)
-offset_is base prefix s rest rec =
-    let a = ap (λ (qs : List Owner). words_taken_by
-    (flat_map (λ (q : Owner). q.records) qs ++ take rec s.records))
-    (take_prefix prefix (s ∷ rest)) in
-    let b = sum_by-append (λ (q : Record). words_taken q.body)
-    (flat_map (λ (q : Owner). q.records) prefix) (take rec s.records) in
-    omega (arith, a, b, all_are prefix, words_are (take rec s.records))
+offset_is base prefix s rest rec = grind (arith, take_prefix, sum_by-append, all_are, words_are)
 
 -- 3. privates
 module _ (base : ℕ) (ss : List Owner) where
@@ -235,12 +209,16 @@ module _ (base : ℕ) (ss : List Owner) where
       ∙ offset_is base prefix s rest rec)) in
       let later : first_private_fault (start + private_words s.records) rest
       ≡ first_of segment_fault (enumerate_from (n + 1) rest) =
-      ap (λ (m : ℕ). first_private_fault m rest) (omega (arith, one_behind prefix s))
-      ∙ segments_carried (prefix ++ s ∷ []) rest (n + 1)
-      (is ∙ sym (append_assoc prefix (s ∷ []) rest)) (omega (arith, longer prefix s, e)) in
-      ap (λ (o : Option Fault). option_or o
-      (first_private_fault (start + private_words s.records) rest)) mine
-      ∙ ap (option_or (segment_fault (n, s))) later
+      grind (
+        arith,
+        one_behind,
+        append_assoc,
+        longer,
+        segments_carried (prefix ++ s ∷ []) rest (n + 1)
+            (is ∙ sym (append_assoc prefix (s ∷ []) rest))
+            (omega (arith, longer prefix s, e)),
+      ) in
+      grind arith
 
   segments_back : first_private_fault base ss ≡ first_of segment_fault (enumerate_from 0 ss)
   segments_back = ap (λ (n : ℕ). first_private_fault n ss) (omega arith)
@@ -253,17 +231,12 @@ module _ (base : ℕ) (ss : List Owner) where
 
     is_full : Decides full ((is_private_reference r.body ≡ true)
         × (MAX_NEXT_FREE < offset_at base ss k s rec + words_taken r.body))
-    is_full =
-        Decides-and (is_private_reference r.body)
-        (nat_lt MAX_NEXT_FREE (offset_at base ss k s rec + words_taken r.body))
-        (of_test (is_private_reference r.body))
-        (Decides-ltb MAX_NEXT_FREE (offset_at base ss k s rec + words_taken r.body))
+    is_full = grind arith
 
     neither : record_faults (k, s) (rec, r) ≡ None
         → (fault_if (is_again is_private_reference s.records (rec, r)) reason.DoubledPrivate
         ≡ None) × (fault_if full reason.NoRoom ≡ None)
-    neither e = or_none _ _ (none_mapped (λ why. in_record s.file s.slot rec why)
-        (reason_at (λ n. offset_at base ss k s n) s.records (rec, r)) e)
+    neither e = grind arith
 
     -- a record without a fault is not unfit
     fits : record_faults (k, s) (rec, r) ≡ None → (why : Reason)
@@ -285,31 +258,18 @@ module _ (base : ℕ) (ss : List Owner) where
             × (MAX_NEXT_FREE < offset_at base ss k s rec + words_taken r.body))
             → option_or (fault_if b reason.DoubledPrivate) (fault_if c reason.NoRoom) ≡ Some why
             → IsUnfit base ss k s rec r why
-        go true c d f h = let is : reason.DoubledPrivate ≡ why = cc in
-            subst (IsUnfit base ss k s rec r) is (d.0 refl)
-        go false true d f h =
-            let x = f.0 refl in
-            let is : reason.NoRoom ≡ why = cc in
-            subst (IsUnfit base ss k s rec r) is (
-              λ (a : HasEarlierNamesake is_private_reference s.records rec r). false≢true
-                  (d.1 a),
-              x.0,
-              x.1,
-            )
-        go false false d f h = absurd (cc)
+        go b c d f h = search rules
 
   none_in : (k : ℕ) (s : Owner) → segment_fault (k, s) ≡ None → (rec : ℕ) (r : Record)
       → slice_get s.records rec ≡ Some r → (why : Reason) → IsUnfit base ss k s rec r why
       → ⊥
-  none_in k s e rec r there = fits k s rec r
-      (none_given (record_faults (k, s)) 0 s.records e rec rec r (omega arith) there)
+  none_in k s e rec r there = grind (arith, fits, none_given)
 
   none_unfit : first_private_fault base ss ≡ None
       → (k : ℕ) (s : Owner) (rec : ℕ) (r : Record) → slice_get ss k ≡ Some s
       → slice_get s.records rec ≡ Some r → (why : Reason) → IsUnfit base ss k s rec r why
       → ⊥
-  none_unfit e k s rec r of there = none_in k s
-      (none_given segment_fault 0 ss (sym segments_back ∙ e) k k s (omega arith) of) rec r there
+  none_unfit e k s rec r of there = grind (arith, none_in, none_given, segments_back)
 
   pub distinct_names : first_private_fault base ss ≡ None → HaveDistinctPrivates ss
   distinct_names e k s of rec r there is = none_unfit e k s rec r of there reason.DoubledPrivate is
@@ -318,8 +278,7 @@ module _ (base : ℕ) (ss : List Owner) where
   room e k rec s r of there asks =
       elim (cases_lt MAX_NEXT_FREE (offset_at base ss k s rec + words_taken r.body)) [
         | inl lt ↦ absurd (none_unfit e k s rec r of there reason.NoRoom (
-          λ (a : HasEarlierNamesake is_private_reference s.records rec r). distinct_names e k s
-              of rec r there a,
+          grind (arith, distinct_names),
           asks,
           lt,
         ))
@@ -348,7 +307,7 @@ module _ (base : ℕ) (ss : List Owner) where
         unfit = unfit k s one.at one.item why.0 why.1;
         told = why.2;
         first = λ j n q r other of there u b. elim b [
-          | inl lt ↦ none_in j q (found.before j j q lt (omega arith) of) n r there other u
+          | inl lt ↦ grind (arith, none_in)
           | inr t ↦ elim t.1 [
             | inl lt ↦ same_segment k s one.at found.there one.before j n q r
                 other of there u t.0 lt
@@ -363,13 +322,7 @@ module _ (base : ℕ) (ss : List Owner) where
           → (j n : ℕ) (q : Owner) (r : Record) (other : Reason) → slice_get ss j ≡ Some q
           → slice_get q.records n ≡ Some r → IsUnfit base ss j q n r other → j ≡ k
           → n < rec → ⊥
-      same_segment k s rec at_k before j n q r other of there u at lt =
-          let is : q ≡ s = cc in
-          let u2 : IsUnfit base ss k s n r other =
-          subst (λ (o : Owner). IsUnfit base ss k o n r other) is
-          (subst (λ (m : ℕ). IsUnfit base ss m q n r other) at u) in
-          fits k s n r (before n n r lt (omega arith)
-          (subst (λ (o : Owner). slice_get o.records n ≡ Some r) is there)) other u2
+      same_segment k s rec at_k before j n q r other of there u h lt = grind (arith, fits)
 
 -- where a private of segments is allotted, a record of one of them requests it
 some_segment : (next : ℕ) (ss : List Owner) → 0 < length (all_allotted next ss)
@@ -381,8 +334,7 @@ some_segment next (s ∷ ss) h =
         zero,
         s,
         refl,
-        some_counted (λ r. is_private_reference r.body) s.records
-            (omega (arith, some, privates_counted s.slot 0 next s.records)),
+        grind (arith, some_counted, privates_counted),
       )
       | inr none ↦
           let t = some_segment (next + private_words s.records) ss
@@ -399,22 +351,24 @@ some_segment next (s ∷ ss) h =
 pub not_allotted : (base : ℕ) (ss : List Owner) (stop : Stop)
     → IsStop (0 < length (all_allotted base ss)) (first_private_fault base ss) stop
     → StopsPrivates base ss stop
-not_allotted base ss (Refused fault) d = first_unfit base ss fault d
-not_allotted base ss Memory d = some_segment base ss d
+not_allotted base ss stop d = grind (arith, first_unfit, some_segment)
 
 -- 4. what is allotted
 -- slots first, then records
 later_record : (a b s r : ℕ) → (nat_lt a s || (a == s && nat_le (b + 1) r)) ≡ true
     → Before (a ∷ b ∷ []) (s ∷ r ∷ [])
-later_record a b s r h = grind (arith, nat_tests)
+later_record a b s r h = grind arith
 
 -- privates whose slot and record rise are by slot and, of one slot, by record
 pub by_record : (ps : List Private) → RiseFrom 0 0 ps → AreByRecord ps
 by_record ps rises i j p q lt is_p is_q =
-    let h = behind 0 0 ps i j p rises lt (slice_get_within ps j q is_q) in
-    let x : get_or ps i p ≡ p = get_or_from_slice_get ps i p p is_p in
-    let y : get_or ps j p ≡ q = get_or_from_slice_get ps j q p is_q in
-    later_record p.slot p.rec q.slot q.rec (rw (x, y) at h)
+    grind (
+      arith,
+      behind 0 0 ps i j p rises lt (slice_get_within ps j q is_q),
+      get_or_from_slice_get ps i p p is_p,
+      get_or_from_slice_get ps j q p is_q,
+      later_record p.slot p.rec q.slot q.rec,
+    )
 
 -- the privates have the words that their records request
 words_allotted : (slot rec next : ℕ) (rs : List Record)
@@ -425,19 +379,13 @@ words_allotted slot rec next (r ∷ rs) =
     let more = λ (w : ℕ). sum_by-cons (λ (p : Private). p.words)
     (record { slot = slot; rec = rec; name = r.name; offset = next; words = w })
     (allotted_privates slot (rec + 1) (next + w) rs) in
-    grind (arith, rest, more)
+    grind arith
 
 -- and so have the privates of all segments
 pub summed : (next : ℕ) (ss : List Owner) → words_of_all (all_allotted next ss) ≡ all_words ss
 summed next [] = refl
 summed next (s ∷ ss) =
-    omega (
-      arith,
-      sum_by-append (λ (p : Private). p.words) (allotted_privates s.slot 0 next s.records)
-          (all_allotted (next + private_words s.records) ss),
-      words_allotted s.slot 0 next s.records,
-      summed (next + private_words s.records) ss,
-    )
+    grind (arith, sum_by-append, words_allotted, summed (next + private_words s.records) ss)
 
 -- the privates of a segment, without their offsets
 asked_allotted : (s : Owner) (rec next : ℕ) (rs : List Record)
@@ -446,15 +394,10 @@ asked_allotted : (s : Owner) (rec next : ℕ) (rs : List Record)
 asked_allotted s rec next [] = refl
 asked_allotted s rec next (r ∷ rs) =
     let rest = λ (n : ℕ). asked_allotted s (rec + 1) n rs in
-    grind (arith, rest)
+    grind arith
 
 -- and those of all segments, which are what all records request
 pub asked : (next : ℕ) (ss : List Owner) → map asked_of (all_allotted next ss) ≡ all_asked ss
 asked next [] = refl
 asked next (s ∷ ss) =
-    map-append asked_of (allotted_privates s.slot 0 next s.records)
-    (all_allotted (next + private_words s.records) ss)
-    ∙ (ap (λ (xs : List Asked). xs ++ map asked_of
-    (all_allotted (next + private_words s.records) ss)) (asked_allotted s 0 next s.records)
-    ∙ ap (λ (xs : List Asked). filter_map (asked_in s) (enumerate_from 0 s.records) ++ xs)
-    (asked (next + private_words s.records) ss))
+    grind (arith, map-append, asked_allotted, asked (next + private_words s.records) ss)

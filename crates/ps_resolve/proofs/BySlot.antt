@@ -2,13 +2,11 @@
 use Rattle.std.proofs.Common.{◌≡◌, ◌≢◌, ℕ, zero, suc, ◌+◌, ◌<◌, ◌≤◌}
 use Rattle.std.proofs.Common.{List, [], ◌∷◌, ◌++◌, length, map, take, drop, get_or, Bool}
 use Rattle.std.proofs.Common.{true, false, if◌then◌else◌, Option, Some, None, Result, Ok}
-use Rattle.std.proofs.Common.{refl, sym, ◌∙◌, ap, subst, inl, inr, arith}
-use Rattle.std.specs.Prelude.{◌⊎◌, All, nat_lt, is_none}
+use Rattle.std.proofs.Common.{refl, sym, ◌∙◌, ap, subst, arith}
+use Rattle.std.specs.Prelude.{All, is_none}
 use Rattle.std.specs.List.{filter, filter_map, find, insert, range_with_len}
 use Rattle.std.specs.Option.{option_map_or, option_or}
 use Rattle.std.specs.Result.{result_ok}
-use Rattle.std.proofs.lemmas.Bool.{cases_lt, eq-eqb, eqb-true}
-use Rattle.std.proofs.lemmas.Bool.Decides.{nat_tests}
 use Rattle.std.proofs.lemmas.List.Elements.{All-nil, All-cons, All-head, All-tail, All-append}
 use Rattle.std.proofs.lemmas.List.Elements.{All-take, All-drop, All-map, All-weaker, filter_passes}
 use Rattle.std.proofs.lemmas.List.Folds.{find-append}
@@ -16,11 +14,10 @@ use Rattle.std.proofs.lemmas.List.{map-append, take-map, drop-map, take-append-d
 use Rattle.std.proofs.lemmas.List.{length-map}
 use Rattle.ps_words.specs.declared.order.Order.{Order}
 use Rattle.ps_words.specs.declared.fault.Reason.{Reason}
-use Rattle.ps_codefile.specs.Dictionary.{entry_at, role_of}
 use Rattle.ps_codefile.specs.Roles.{is_empty}
 use Rattle.ps_codefile.specs.declared.entry.Role.{Role}
 use Rattle.ps_codefile.specs.declared.entry.Role.TheVariants as role
-use Rattle.ps_resolve.specs.Sources.{Segment, own_segment}
+use Rattle.ps_resolve.specs.Sources.{Segment}
 use Rattle.ps_resolve.specs.Added.{added_segment, empty_slots}
 use Rattle.ps_resolve.specs.Faults.{is_role, source_fault}
 use Rattle.ps_resolve.specs.Linkable.{AscendFrom}
@@ -29,26 +26,20 @@ use Rattle.ps_resolve.specs.Views.{SegmentView, is_in_slot, put_by_slot, segment
 use Rattle.ps_resolve.specs.Views.{segment_of, segments_in_slots}
 use Rattle.ps_resolve.specs.declared.reading.added.UnitReference.{UnitReference}
 use Rattle.ps_resolve.proofs.EachSegment.{added_made}
-use Rattle.ps_resolve.proofs.InSlots.{InPlace, found_there, other_slot, same_kept}
+use Rattle.ps_resolve.proofs.InSlots.{InPlace, found_there, same_kept}
 use Rattle.ps_resolve.proofs.Items.{find_passes}
 use Rattle.ps_resolve.proofs.ReadingKnown.{own_parts}
 use Rattle.ps_resolve.proofs.Segs.{drop_at}
-
-lt_true : (a b : ℕ) → a < b → nat_lt a b ≡ true
-lt_true a b h = grind (arith, nat_tests)
-
-lt_false : (a b : ℕ) → b ≤ a → nat_lt a b ≡ false
-lt_false a b h = grind (arith, nat_tests)
 
 -- 1. where a segment goes
 -- a segment goes before one of a later slot, and after one of another
 pub put_before : (s x : Segment) (xs : List Segment) → s.slot < x.slot
     → put_by_slot s (x ∷ xs) ≡ s ∷ x ∷ xs
-put_before s x xs h = rw (lt_true s.slot x.slot h) refl
+put_before s x xs h = grind arith
 
 pub put_after : (s x : Segment) (xs : List Segment) → x.slot ≤ s.slot
     → put_by_slot s (x ∷ xs) ≡ x ∷ put_by_slot s xs
-put_after s x xs h = rw (lt_false s.slot x.slot h) refl
+put_after s x xs h = grind arith
 
 -- so where the first ones are not of later slots, it goes behind them
 pub put_behind : (s : Segment) (xs ys : List Segment) → All (λ x. x.slot ≤ s.slot) xs
@@ -78,34 +69,27 @@ pub placed_at : (segs : List SegmentView) (i slot : ℕ) (v : SegmentView) → i
     → v ≡ get_or segs i v → slot < v.slot → AreBefore slot i segs
     → (s : Segment) → s.slot ≡ slot
     → insert (map segment_of segs) i s ≡ put_by_slot s (map segment_of segs)
-placed_at segs i slot v lt at later before s is =
-    let xs = map segment_of segs in
-    let rest : drop i xs ≡ segment_of v ∷ drop (i + 1) xs =
-    drop-map segment_of i segs ∙ (ap (map segment_of) (drop_at segs i v lt at)
-    ∙ ap (λ (ys : List Segment). segment_of v ∷ ys)
-    (sym (drop-map segment_of (i + 1) segs))) in
-    let here : put_by_slot s (drop i xs) ≡ s ∷ drop i xs =
-    ap (put_by_slot s) rest
-    ∙ (put_before s (segment_of v) (drop (i + 1) xs) (omega (arith, is, later))
-    ∙ ap (λ (ys : List Segment). s ∷ ys) (sym rest)) in
-    sym (put_there segs i slot s is before ∙ ap (λ (ys : List Segment). take i xs ++ ys) here)
+placed_at segs i slot v lt h later before s is =
+    grind (
+      arith,
+      drop-map segment_of i segs,
+      drop_at segs i v lt,
+      put_before s (segment_of v),
+      put_there segs i slot s is before,
+    )
 
 pub placed_last : (segs : List SegmentView) (i slot : ℕ) → length segs ≤ i
     → AreBefore slot i segs → (s : Segment) → s.slot ≡ slot
     → insert (map segment_of segs) i s ≡ put_by_slot s (map segment_of segs)
 placed_last segs i slot le before s is =
     let xs = map segment_of segs in
-    let none : drop i xs ≡ [] = drop_all i xs (omega (arith, le, length-map segs segment_of)) in
-    let here : put_by_slot s (drop i xs) ≡ s ∷ drop i xs =
-    ap (put_by_slot s) none ∙ ap (λ (ys : List Segment). s ∷ ys) (sym none) in
-    sym (put_there segs i slot s is before ∙ ap (λ (ys : List Segment). take i xs ++ ys) here)
+    let none : drop i xs ≡ [] = grind (arith, drop_all, length-map) in
+    let here : put_by_slot s (drop i xs) ≡ s ∷ drop i xs = grind arith in
+    grind (arith, put_there)
 
 pub map-insert : {X Y : Type 0} (f : X → Y) (xs : List X) (i : ℕ) (x : X)
     → map f (insert xs i x) ≡ insert (map f xs) i (f x)
-map-insert {X} {Y} f xs i x =
-    map-append f (take i xs) (x ∷ drop i xs)
-    ∙ (ap (λ (ys : List Y). ys ++ f x ∷ map f (drop i xs)) (sym (take-map f i xs))
-    ∙ ap (λ (ys : List Y). take i (map f xs) ++ f x ∷ ys) (sym (drop-map f i xs)))
+map-insert {X} {Y} f xs i x = grind (arith, map-append, take-map, drop-map)
 
 -- what holds of all holds of all with one more
 pub All-insert : {X : Type 0} (P : X → Type 0) (xs : List X) (i : ℕ) (x : X) → All P xs
@@ -119,16 +103,8 @@ put_front : (f : ℕ → Option Segment) → InPlace f → (s : Segment) (n a : 
     → put_by_slot s (filter_map f (range_with_len a n))
     ≡ s ∷ filter_map f (range_with_len a n)
 put_front f place s zero a lt = refl
-put_front f place s (suc n) a lt = by (f a) refl (put_front f place s n (a + 1) (omega arith))
-  where
-    by : (o : Option Segment) → f a ≡ o
-        → put_by_slot s (filter_map f (range_with_len (a + 1) n))
-        ≡ s ∷ filter_map f (range_with_len (a + 1) n)
-        → put_by_slot s (filter_map f (a ∷ range_with_len (a + 1) n))
-        ≡ s ∷ filter_map f (a ∷ range_with_len (a + 1) n)
-    by None e rest = rw e rest
-    by (Some x) e rest = let is = place a x e in
-        rw e (put_before s x (filter_map f (range_with_len (a + 1) n)) (omega (arith, is, lt)))
+put_front f place s (suc n) a lt =
+    grind (arith, put_front f place s n (a + 1) (omega arith))
 
 -- g gives of the slot of s the segment s, and of the others what f gives, which gives none of it
 put_kept : (f g : ℕ → Option Segment) → InPlace f → (s : Segment) → f s.slot ≡ None
@@ -137,64 +113,19 @@ put_kept : (f g : ℕ → Option Segment) → InPlace f → (s : Segment) → f 
     → put_by_slot s (filter_map f (range_with_len a n)) ≡ filter_map g (range_with_len a n)
 put_kept f g place s none some same zero a le lt = absurd (omega arith)
 put_kept f g place s none some same (suc n) a le lt =
-    by (λ h. put_kept f g place s none some same n (a + 1) (omega (arith, h)) (omega (arith, lt)))
-    (cases_lt a s.slot)
-  where
-    here : a ≡ s.slot → put_by_slot s (filter_map f (a ∷ range_with_len (a + 1) n))
-        ≡ filter_map g (a ∷ range_with_len (a + 1) n)
-    here e =
-        let of_f : f a ≡ None = ap f e ∙ none in
-        let of_g : g a ≡ Some s = ap g e ∙ some in
-        rw (of_f, of_g) (put_front f place s n (a + 1) (omega (arith, e))
-        ∙ ap (λ (xs : List Segment). s ∷ xs)
-        (same_kept f g n (a + 1) (λ i h _. same i (λ is. omega (arith, is, h, e)))))
-
-    later : put_by_slot s (filter_map f (range_with_len (a + 1) n))
-        ≡ filter_map g (range_with_len (a + 1) n) → a < s.slot → (o : Option Segment)
-        → f a ≡ o → g a ≡ o
-        → put_by_slot s (filter_map f (a ∷ range_with_len (a + 1) n))
-        ≡ filter_map g (a ∷ range_with_len (a + 1) n)
-    later rest h None e d = rw (e, d) rest
-    later rest h (Some x) e d =
-        let is = place a x e in
-        rw (e, d) (put_after s x (filter_map f (range_with_len (a + 1) n)) (omega (arith, is, h))
-        ∙ ap (λ (xs : List Segment). x ∷ xs) rest)
-
-    by : (a < s.slot → put_by_slot s (filter_map f (range_with_len (a + 1) n))
-        ≡ filter_map g (range_with_len (a + 1) n)) → (a < s.slot) ⊎ (s.slot ≤ a)
-        → put_by_slot s (filter_map f (a ∷ range_with_len (a + 1) n))
-        ≡ filter_map g (a ∷ range_with_len (a + 1) n)
-    by rest (inl h) = later (rest h) h (f a) refl (sym (same a (λ is. omega (arith, is, h))))
-    by rest (inr h) = here (omega arith)
+    grind (arith, put_front, same_kept, put_after, put_kept f g place s none some same n (a + 1))
 
 -- fewer are kept than there are numbers, where f gives none of one of them
 few_from : (f : ℕ → Option Segment) (n a : ℕ)
     → length (filter_map f (range_with_len a n)) ≤ n
 few_from f zero a = omega arith
-few_from f (suc n) a = by (f a) refl (few_from f n (a + 1))
-  where
-    by : (o : Option Segment) → f a ≡ o
-        → length (filter_map f (range_with_len (a + 1) n)) ≤ n
-        → length (filter_map f (a ∷ range_with_len (a + 1) n)) ≤ suc n
-    by None e rest = rw e (omega (arith, rest))
-    by (Some x) e rest = rw e (omega (arith, rest))
+few_from f (suc n) a = grind (arith, few_from f n (a + 1))
 
 fewer_kept : (f : ℕ → Option Segment) (j : ℕ) → f j ≡ None → (n a : ℕ) → a ≤ j
     → j < a + n → length (filter_map f (range_with_len a n)) < n
 fewer_kept f j none zero a le lt = absurd (omega arith)
-fewer_kept f j none (suc n) a le lt = by
-    (λ h. fewer_kept f j none n (a + 1) (omega (arith, h)) (omega (arith, lt))) (f a) refl
-    (cases_lt a j)
-  where
-    by : (a < j → length (filter_map f (range_with_len (a + 1) n)) < n) → (o : Option Segment)
-        → f a ≡ o → (a < j) ⊎ (j ≤ a)
-        → length (filter_map f (a ∷ range_with_len (a + 1) n)) < suc n
-    by rest None e h = let most = few_from f n (a + 1) in rw e (omega (arith, most))
-    by rest (Some x) e (inl h) = let less = rest h in rw e (omega (arith, less))
-    by rest (Some x) e (inr h) =
-        let same : a ≡ j = omega arith in
-        let wrong : Some x ≡ None = sym e ∙ (ap f same ∙ none) in
-        cc
+fewer_kept f j none (suc n) a le lt =
+    grind (arith, few_from, fewer_kept f j none n (a + 1))
 
 -- a segment that is added in the slot at i of those that are left
 pub record IsNewIn (order : Order) (host : List ℕ) (slots : List ℕ) (i : ℕ)
@@ -208,7 +139,7 @@ pub record IsNewIn (order : Order) (host : List ℕ) (slots : List ℕ) (i : ℕ
 -- 3. segments that are found by their slots
 in_slot : (j : ℕ) (xs : List Segment) (x : Segment) → find (is_in_slot j) xs ≡ Some x
     → x.slot ≡ j
-in_slot j xs x h = eqb-true x.slot j (find_passes (is_in_slot j) xs x h)
+in_slot j xs x h = grind (arith, find_passes)
 
 -- none is found in a slot that all are before
 pub none_below : (j from : ℕ) (xs : List Segment) → All (λ x. x.slot < from) xs → from ≤ j
@@ -216,7 +147,7 @@ pub none_below : (j from : ℕ) (xs : List Segment) → All (λ x. x.slot < from
 none_below j from [] h le = refl
 none_below j from (x ∷ xs) h le =
     let first = All-head (λ (x : Segment). x.slot < from) x xs h in
-    let other : is_in_slot j x ≡ false = other_slot j x (λ same. omega (arith, same, first, le))
+    let other : is_in_slot j x ≡ false = grind arith
     in
     rw other (none_below j from xs (All-tail (λ (x : Segment). x.slot < from) x xs h) le)
 
@@ -231,8 +162,7 @@ module _ (order : Order) (host : List ℕ) (libs : List (List ℕ)) where
 
   empty_role : (q : Result Role Reason) → option_map_or is_empty (result_ok q) false ≡ true
       → q ≡ Ok role.Empty
-  empty_role (Ok role.Empty) h = refl
-  empty_role other h = cc
+  empty_role other h = grind arith
 
   either : {X : Type 0} (b : Bool) → ◌≡◌ {A = Option X} (if b then None else None) None
   either true = refl
@@ -240,14 +170,11 @@ module _ (order : Order) (host : List ℕ) (libs : List (List ℕ)) where
 
   pub none_of_empty : (i : ℕ) → is_role is_empty order host i ≡ true
       → read_segment order host libs i ≡ None
-  none_of_empty i h =
-      let own : own_segment order host libs i ≡ None =
-      rw (empty_role (role_of (entry_at order host i)) h) refl in
-      rw own (either (is_none (source_fault order host libs i)))
+  none_of_empty i h = grind (arith, empty_role)
 
   pub fine_of_empty : (i : ℕ) → is_role is_empty order host i ≡ true
       → source_fault order host libs i ≡ None
-  fine_of_empty i h = rw (empty_role (role_of (entry_at order host i)) h) refl
+  fine_of_empty i h = grind (arith, empty_role)
 
   found_own : (i : ℕ) → i < 16 → find (is_in_slot i) (read_segments order host libs)
       ≡ read_segment order host libs i
@@ -287,27 +214,14 @@ module _ (order : Order) (host : List ℕ) (libs : List (List ℕ)) where
     no_own : find (is_in_slot s.slot) own ≡ None
     no_own = found_own s.slot low ∙ none_of_empty s.slot is
 
-    at_slot : is_in_slot s.slot s ≡ true
-    at_slot = eq-eqb s.slot s.slot refl
-
     not_yet : kept_in xs s.slot ≡ None
     not_yet = rw (no_own, is) none
 
     then_found : kept_in (xs ++ s ∷ []) s.slot ≡ Some s
-    then_found = rw (no_own, is) (find-append (is_in_slot s.slot) xs (s ∷ [])
-        ∙ (ap (λ (o : Option Segment). option_or o (find (is_in_slot s.slot) (s ∷ []))) none
-        ∙ rw at_slot refl))
+    then_found = grind (arith, no_own, find-append)
 
     others : (i : ℕ) → i ≢ s.slot → kept_in xs i ≡ kept_in (xs ++ s ∷ []) i
-    others i differs =
-        let not_here : is_in_slot i s ≡ false = other_slot i s (λ e. differs (sym e)) in
-        let rest : find (is_in_slot i) (s ∷ []) ≡ None = rw not_here refl in
-        let same : find (is_in_slot i) xs ≡ find (is_in_slot i) (xs ++ s ∷ []) =
-        sym (find-append (is_in_slot i) xs (s ∷ [])
-        ∙ (ap (option_or (find (is_in_slot i) xs)) rest ∙ or_none (find (is_in_slot i) xs)))
-        in
-        ap (λ (o : Option Segment). option_or (find (is_in_slot i) own)
-        (if is_role is_empty order host i then o else None)) same
+    others i differs = grind (arith, find-append, or_none)
 
     pub put_one : put_by_slot s (segments_in_slots order host own xs)
         ≡ segments_in_slots order host own (xs ++ s ∷ [])
@@ -323,14 +237,7 @@ module _ (order : Order) (host : List ℕ) (libs : List (List ℕ)) where
   ascend_filtered : (p : ℕ → Bool) (n a from : ℕ) → from ≤ a
       → AscendFrom from (filter p (range_with_len a n))
   ascend_filtered p zero a from le = tt
-  ascend_filtered p (suc n) a from le = by (p a) refl
-      (λ next l. ascend_filtered p n (a + 1) next l)
-    where
-      by : (b : Bool) → p a ≡ b → ((next : ℕ) → next ≤ a + 1
-          → AscendFrom next (filter p (range_with_len (a + 1) n)))
-          → AscendFrom from (filter p (a ∷ range_with_len (a + 1) n))
-      by true e rest = rw e (le, rest (a + 1) (omega arith))
-      by false e rest = rw e (rest from (omega arith))
+  ascend_filtered p (suc n) a from le = grind (arith, ascend_filtered p n (a + 1))
 
   pub empty_ascend : AscendFrom 0 (empty_slots order host)
   unfolding empty_slots
@@ -347,46 +254,37 @@ module _ (order : Order) (host : List ℕ) (libs : List (List ℕ)) where
       → added_segment order host libs g slot ≡ Some s → IsNewIn order host slots i added s
   new_in slots i slot from added s g are low lt at ascend below brought =
       let made = added_made order host libs g slot s brought in
-      let is : s.slot ≡ slot = ap (λ (x : Segment). x.slot) made.2
-      ∙ ap (λ (x : Segment). x.slot) made.3.is in
-      let left : AscendFrom from (slot ∷ drop (i + 1) slots) =
-      subst (AscendFrom from) (drop_at slots i slot lt at) ascend in
+      let is : s.slot ≡ slot = grind arith in
+      let left : AscendFrom from (slot ∷ drop (i + 1) slots) = grind (arith, drop_at) in
       let first : from ≤ slot = left.0 in
-      let small : slot < 16 = subst (λ (j : ℕ). j < 16) (sym at) (low i slot lt) in
-      let has : is_role is_empty order host slot ≡ true =
-      subst (λ (j : ℕ). is_role is_empty order host j ≡ true) (sym at)
-      (subst (All (λ j. is_role is_empty order host j ≡ true)) (sym are) empty_are i slot lt)
+      let small : slot < 16 = grind arith in
+      let has : is_role is_empty order host slot ≡ true = grind (arith, empty_are)
       in
       let next : AscendFrom (slot + 1) (drop (i + 1) slots) = left.1 in
       record {
         low = omega (arith, is, small);
         empty = rw is has;
-        none = none_below s.slot from added below (omega (arith, is, first));
+        none = grind (arith, none_below);
         below = All-append (λ (x : Segment). x.slot < s.slot + 1) added (s ∷ [])
             (All-weaker (λ (x : Segment). x.slot < from) (λ (x : Segment). x.slot < s.slot + 1)
             (λ x h. omega (arith, h, is, first)) added below)
             (All-cons (λ (x : Segment). x.slot < s.slot + 1) s [] (omega arith)
             (All-nil (λ (x : Segment). x.slot < s.slot + 1)));
-        ascend = subst (λ (j : ℕ). AscendFrom (j + 1) (drop (i + 1) slots)) (sym is) next;
+        ascend = grind arith;
       }
 
   -- with the own segments as they were read
   module _ (old : List Segment) (are : old ≡ own) where
     pub own_table : old ≡ segments_in_slots order host old []
-    own_table = subst (λ (o : List Segment). o ≡ segments_in_slots order host o []) (sym are)
-        (sym own_by_slot)
+    own_table = grind (arith, own_by_slot)
 
     pub put_table : (xs : List Segment) (s : Segment) → s.slot < 16
         → is_role is_empty order host s.slot ≡ true → find (is_in_slot s.slot) xs ≡ None
         → put_by_slot s (segments_in_slots order host old xs)
         ≡ segments_in_slots order host old (xs ++ s ∷ [])
-    put_table xs s low is none =
-        subst (λ (o : List Segment). put_by_slot s (segments_in_slots order host o xs)
-        ≡ segments_in_slots order host o (xs ++ s ∷ [])) (sym are) (put_one xs s low is none)
+    put_table xs s low is none = grind (arith, put_one)
 
     pub room_in_table : (xs : List Segment) (s : Segment) → s.slot < 16
         → is_role is_empty order host s.slot ≡ true → find (is_in_slot s.slot) xs ≡ None
         → length (segments_in_slots order host old xs) < 16
-    room_in_table xs s low is none = subst
-        (λ (o : List Segment). length (segments_in_slots order host o xs) < 16) (sym are)
-        (is_room xs s low is none)
+    room_in_table xs s low is none = grind (arith, is_room)

@@ -1,15 +1,13 @@
 -- One record more of a table of definitions.
-use Rattle.std.proofs.Common.{◌≡◌, ℕ, ◌+◌, List, [], ◌∷◌, ◌++◌, length, true}
-use Rattle.std.proofs.Common.{false, Option, Some, None, is_some, refl, sym, ◌∙◌, arith}
-use Rattle.std.proofs.Common.{append_assoc, length-append, ◌<◌}
-use Rattle.std.specs.List.{filter_map}
-use Rattle.ps_resolve.specs.Symbols.{def_in, definition_in, definitions, definition_of}
-use Rattle.ps_resolve.specs.Symbols.{first_duplicate, first_duplicate_from}
+use Rattle.std.proofs.Common.{rules, ◌≡◌, ℕ, ◌+◌, List, [], ◌∷◌, ◌++◌, length}
+use Rattle.std.proofs.Common.{true, false, Option, Some, None, is_some, refl, arith, append_assoc}
+use Rattle.std.proofs.Common.{length-append, ◌<◌}
+use Rattle.ps_resolve.specs.Symbols.{def_in, definitions, definition_of, first_duplicate}
+use Rattle.ps_resolve.specs.Symbols.{first_duplicate_from}
 use Rattle.ps_resolve.specs.declared.definitions.Def.{Def}
 use Rattle.ps_linkinfo.specs.RecordCounts.{is_definition, definitions_in}
 use Rattle.ps_linkinfo.specs.declared.record.LinkRecord.{LinkRecord as Record}
 use Rattle.ps_resolve.proofs.Apart.{one_more}
-use Rattle.ps_resolve.proofs.LookingBack.{defines_is}
 use Rattle.std.proofs.lemmas.List.{nil_from_length}
 
 pub none_is : {X : Type 0} (o : Option X) → is_some o ≡ false → o ≡ None
@@ -19,8 +17,7 @@ module _ (rec : ℕ) (ds : List (List ℕ × Def)) (r : Record) (rs : List Recor
   -- a record that defines nothing
   pub none_entries : def_in r.body ≡ None
       → ds ++ definitions (r ∷ rs) ≡ ds ++ definitions rs
-  none_entries h = let e : definition_in r ≡ None = rw (h, definition_in) refl in
-      rw (e, filter_map) refl
+  none_entries h = grind arith
 
   pub none_first : def_in r.body ≡ None
       → first_duplicate_from rec ds (r ∷ rs) ≡ first_duplicate_from (rec + 1) ds rs
@@ -29,20 +26,18 @@ module _ (rec : ℕ) (ds : List (List ℕ × Def)) (r : Record) (rs : List Recor
   -- a name that is new
   pub new_entries : (d : Def) → def_in r.body ≡ Some d
       → ds ++ definitions (r ∷ rs) ≡ (ds ++ (r.name, d) ∷ []) ++ definitions rs
-  new_entries d h = let e : definition_in r ≡ Some (r.name, d) = rw (h, definition_in) refl in
-      rw (e, filter_map) (sym (append_assoc ds ((r.name, d) ∷ []) (definitions rs)))
+  new_entries d h = grind (arith, append_assoc)
 
   pub new_first : (d : Def) → def_in r.body ≡ Some d
       → is_some (definition_of r.name ds) ≡ false
       → first_duplicate_from rec ds (r ∷ rs)
       ≡ first_duplicate_from (rec + 1) (ds ++ (r.name, d) ∷ []) rs
-  new_first d h k = rw (h, first_duplicate_from) (rw k refl)
+  new_first d h k = grind arith
 
 -- where one of what is left defines something, there is a definition
 pub some_there : (ds : List (List ℕ × Def)) (r : Record) (rs : List Record) (d : Def)
     → def_in r.body ≡ Some d → 0 < length (ds ++ definitions (r ∷ rs))
-some_there ds r rs d h = rw (new_entries 0 ds r rs d h, append_assoc)
-    (omega (arith, length-append ds ((r.name, d) ∷ definitions rs)))
+some_there ds r rs d h = grind (arith, append_assoc, length-append)
 
 -- with the table so far, the definitions of the records from this index on are all, and the first
 -- that is a duplicate is theirs
@@ -55,12 +50,7 @@ pub record Defines (all : List Record) (ds : List (List ℕ × Def)) (n : ℕ)
 pub definitions_counted : (rs : List Record) → length (definitions rs) ≡ definitions_in rs
 definitions_counted [] = refl
 definitions_counted (r ∷ rs) =
-    grind (
-      arith,
-      definitions_counted rs,
-      defines_is r.body,
-      one_more (λ s. is_definition s.body) r rs,
-    )
+    grind (arith, definitions_counted rs, one_more (λ s. is_definition s.body) r rs)
 
 -- records that define nothing define no name again
 none_duplicate : (rs : List Record) (n : ℕ) (ds : List (List ℕ × Def))
@@ -74,13 +64,10 @@ positive n h = omega (arith, h)
 -- where nothing defines a name, there are no definitions, and none is duplicate
 pub no_definitions : (rs : List Record) → definitions_in rs ≡ 0
     → (definitions rs ≡ []) × (first_duplicate rs ≡ None)
-no_definitions rs h = (none, none_duplicate rs 0 [] none)
-  where
-    none : definitions rs ≡ []
-    none = nil_from_length (definitions rs) (definitions_counted rs ∙ h)
+no_definitions rs h = search (rules, none_duplicate, nil_from_length, definitions_counted)
 
 -- a name that is there already
 pub again_first : (n : ℕ) (ds : List (List ℕ × Def)) (r : Record) (rs : List Record) (d : Def)
     → def_in r.body ≡ Some d → is_some (definition_of r.name ds) ≡ true
     → first_duplicate_from n ds (r ∷ rs) ≡ Some n
-again_first n ds r rs d h k = rw (h, first_duplicate_from) (rw k refl)
+again_first n ds r rs d h k = grind arith

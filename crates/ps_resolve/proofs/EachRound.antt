@@ -2,15 +2,14 @@
 -- one
 -- before.
 use Rattle.std.proofs.Common.{◌≡◌, ℕ, ◌+◌, List, [], ◌∷◌, ◌++◌, length}
-use Rattle.std.proofs.Common.{Option, Some, None, Result, Ok, Err, Bool, true, false, refl, sym, ap}
-use Rattle.std.proofs.Common.{subst, ◌∙◌, arith, append_assoc, append-nil, is_none, is_some}
-use Rattle.std.proofs.Common.{take}
+use Rattle.std.proofs.Common.{Option, Some, None, Bool, true, false, refl, sym, ap, subst}
+use Rattle.std.proofs.Common.{◌∙◌, arith, append_assoc, append-nil, is_none, is_some, take}
 use Rattle.std.specs.Prelude.{if◌then◌else◌}
 use Rattle.std.specs.List.{enumerate_from, slice_get, find}
 use Rattle.std.specs.Option.{option_map, option_or, option_and_then}
-use Rattle.std.proofs.lemmas.Bool.{false≢true, or_parts}
+use Rattle.std.proofs.lemmas.Bool.{false≢true}
 use Rattle.std.proofs.lemmas.Grind.{flat_map-append}
-use Rattle.ps_codefile.specs.Dictionary.{slots, is_nameless, entry_at, code_of}
+use Rattle.ps_codefile.specs.Dictionary.{slots}
 use Rattle.ps_codefile.specs.declared.entry.Role.{Role}
 use Rattle.ps_codefile.specs.declared.entry.Role.TheVariants as role
 use Rattle.ps_resolve.specs.Added.{unit_references, all_unit_references, requested_from}
@@ -20,16 +19,14 @@ use Rattle.ps_resolve.specs.Added.{requested_units, rounds, added_segments}
 use Rattle.ps_resolve.specs.Faults.{entry_fault, code_fault, request_fault}
 use Rattle.ps_resolve.specs.Requests.{missing_at}
 use Rattle.ps_resolve.specs.Sources.{Segment, is_named, has_entry, chosen_library, unit_source}
-use Rattle.ps_resolve.specs.Sources.{file_at, segment_from, own_segments, units_of}
+use Rattle.ps_resolve.specs.Sources.{segment_from, own_segments, units_of}
 use Rattle.ps_resolve.specs.declared.reading.added.UnitReference.{UnitReference}
 use Rattle.ps_resolve.specs.declared.reading.request.Request.{Request}
-use Rattle.ps_resolve.proofs.Adding.{no_name_left, references_both, requested-append, round_adds}
-use Rattle.ps_resolve.proofs.Adding.{round_refused}
-use Rattle.ps_resolve.proofs.FirstSlots.{any_found, neither_first, neither_second}
+use Rattle.ps_resolve.proofs.Adding.{no_name_left, requested-append, round_adds, round_refused}
+use Rattle.ps_resolve.proofs.FirstSlots.{any_found, neither_first}
 use Rattle.ps_resolve.proofs.Items.{find_passes, first_right}
 use Rattle.ps_resolve.proofs.LookingBack.{longer, take_prefix}
 use Rattle.ps_words.specs.declared.order.Order.{Order}
-use Rattle.ps_words.specs.declared.fault.Reason.{Reason}
 use Rattle.ps_words.specs.declared.fault.Fault.{Fault}
 
 -- 1. what is known of a unit's source where there is no fault
@@ -82,12 +79,12 @@ request_parts order host libs q = go (is_missing order libs q.name) refl
         → (if b then Some (missing_at q.slot q.requester)
         else option_or (entry_fault order q.name libs q.slot) Code) ≡ None
         → IsFine order host libs q
-    go b h k = grind (arith, neither_first, neither_second)
+    go b h k = grind (arith, neither_first)
 
 -- such a request has a source
 pub unit_there : (order : Order) (name : List ℕ) (libs : List (List ℕ))
     → is_missing order libs name ≡ false → unit_source order name libs ≡ None → ⊥
-unit_there order name libs is none = grind (arith, or_parts, is_none, unit_found)
+unit_there order name libs is none = grind (arith, is_none, unit_found)
 
 -- a name that has no fault in its slot brings its segment there
 brought : (order : Order) (host : List ℕ) (libs : List (List ℕ)) (g : UnitReference)
@@ -123,13 +120,7 @@ pub requested_rest : (order : Order) (host : List ℕ) (libs : List (List ℕ))
     (all_unit_references rest)
 unfolding requested_units
 requested_rest order host libs prefix rest =
-    grind (arith, append_assoc, flat_map-append, requested-append)
-
-requested_more : (order : Order) (host : List ℕ) (libs : List (List ℕ)) (prefix : List Segment)
-    (s : Segment) → requested_units order host libs (prefix ++ s ∷ [])
-    ≡ requested_from (own_units order host libs) (requested_units order host libs prefix)
-    (references_of s)
-requested_more order host libs prefix s = grind (arith, requested_rest, append-nil)
+    grind (arith, flat_map-append, requested-append)
 
 abbrev pub rest_of : Order → List ℕ → List (List ℕ) → List ℕ → ℕ
     → List UnitReference → RoundsOutcome
@@ -171,14 +162,15 @@ module _ (order : Order) (host : List ℕ) (libs : List (List ℕ)) where
   pub segments_before : (prefix rest : List Segment) (k : ℕ)
       → added_segments order host libs ≡ prefix ++ rest → k ≡ length prefix
       → take k (added_segments order host libs) ≡ prefix
-  segments_before prefix rest k all many = rw (all, many) (take_prefix prefix rest)
+  segments_before prefix rest k all many = grind (arith, take_prefix)
 
   one_more : (slot : ℕ) (left : List ℕ) (prefix : List Segment) (used : List ℕ) (k : ℕ)
       (queue : List UnitReference) (s : Segment)
       → SoFar order host libs (slot ∷ left) prefix used k queue
       → SoFar order host libs left (prefix ++ s ∷ []) (used ++ slot ∷ []) (k + 1)
       (requested_from (own_units order host libs) queue (references_of s))
-  one_more slot left prefix used k queue s h = grind (arith, longer, append_assoc, requested_more)
+  one_more slot left prefix used k queue s h =
+      grind (arith, longer, append_assoc, requested_rest, append-nil)
 
   -- P holds of the rounds from each on, where it holds of the last, which has no name or a fault,
   -- and
@@ -207,8 +199,7 @@ module _ (order : Order) (host : List ℕ) (libs : List (List ℕ)) where
       from_round [] prefix used k queue h is = by (slice_get queue k) refl
         where
           slot_is : slice_get (empty_slots order host) k ≡ None
-          slot_is = ap (λ (xs : List ℕ). slice_get xs k) h.slots_are
-              ∙ first_right used [] k h.used_at
+          slot_is = grind (arith, first_right)
 
           by : (o : Option UnitReference) → slice_get queue k ≡ o
               → P k (record { added = []; fault = option_map (unplaced_fault order libs) o })
@@ -241,10 +232,10 @@ module _ (order : Order) (host : List ℕ) (libs : List (List ℕ)) where
               let next = requested_from (own_units order host libs) queue (references_of s) in
               let rest = rest_of order host libs left (k + 1) next in
               let goes_on : rest_of order host libs (slot ∷ left) k queue ≡ after s rest =
-              round_adds order host libs (own_units order host libs) k queue slot left g s e p a
+              grind (arith, round_adds)
               in
               let all : added_segments order host libs ≡ prefix ++ s ∷ rest.added =
-              is ∙ ap (λ (r : RoundsOutcome). prefix ++ r.added) goes_on in
+              grind arith in
               subst (P k) (sym goes_on)
               (goes prefix k g slot s rest (turn g e (s ∷ rest.added) all) p a
               (later s next (one_more slot left prefix used k queue s h)
@@ -255,8 +246,7 @@ module _ (order : Order) (host : List ℕ) (libs : List (List ℕ)) where
               → P k (rest_of order host libs (slot ∷ left) k queue)
           at_fault later g e (Some f) p =
               let ends : rest_of order host libs (slot ∷ left) k queue
-              ≡ record { added = []; fault = Some f } =
-              round_refused order host libs (own_units order host libs) k queue slot left g f e p
+              ≡ record { added = []; fault = Some f } = grind (arith, round_refused)
               in
               subst (P k) (sym ends) (stops prefix k g (Some slot) f
               (turn g e [] (is ∙ ap (λ (r : RoundsOutcome). prefix ++ r.added) ends)) p)
@@ -267,8 +257,7 @@ module _ (order : Order) (host : List ℕ) (libs : List (List ℕ)) where
               → P k (rest_of order host libs (slot ∷ left) k queue)
           at_name later None e =
               let ends : rest_of order host libs (slot ∷ left) k queue
-              ≡ record { added = []; fault = None } =
-              no_name_left order host libs (own_units order host libs) k queue (slot ∷ left) e
+              ≡ record { added = []; fault = None } = grind (arith, no_name_left)
               in
               subst (P k) (sym ends) (none prefix k
               (is ∙ ap (λ (r : RoundsOutcome). prefix ++ r.added) ends ∙ append-nil prefix)

@@ -1,13 +1,13 @@
 -- What a segment of a link is made of, and what holds of each.
-use Rattle.std.proofs.Common.{◌≡◌, ℕ, ◌<◌, List, [], ◌∷◌, Bool, true, false}
-use Rattle.std.proofs.Common.{Option, Some, None, Result, Ok, Err, refl, sym, ◌∙◌, subst}
-use Rattle.std.proofs.Common.{◌==◌, inl, inr, arith}
+use Rattle.std.proofs.Common.{rules, ◌≡◌, ℕ, ◌<◌, List, [], ◌∷◌, Bool, true}
+use Rattle.std.proofs.Common.{false, Option, Some, None, Result, Ok, refl, ◌∙◌, ◌==◌, inl}
+use Rattle.std.proofs.Common.{inr, arith}
 use Rattle.std.specs.Prelude.{◌⊎◌, All}
 use Rattle.std.specs.List.{filter_map, cons_option, find}
 use Rattle.std.specs.Option.{option_and_then, option_map}
 use Rattle.std.specs.Result.{result_ok}
 use Rattle.std.proofs.lemmas.Bool.{eqb-true}
-use Rattle.std.proofs.lemmas.Option.{option_and_then_some, same_Some}
+use Rattle.std.proofs.lemmas.Option.{option_and_then_some}
 use Rattle.std.proofs.lemmas.List.Elements.{All-nil, All-cons, All-tail, All-from_get_or}
 use Rattle.std.proofs.lemmas.List.FromFn.{get_or-range_with_len}
 use Rattle.ps_words.specs.declared.order.Order.{Order}
@@ -32,9 +32,7 @@ find_has {X} P test (y ∷ ys) x h all =
   where
     by : (find test ys ≡ Some x → (test x ≡ true) × P x) → (b : Bool) → test y ≡ b
         → (test x ≡ true) × P x
-    by rest true e = let same : y ≡ x = same_Some _ _ (rw e at h) in
-        (subst (λ (z : X). test z ≡ true) same e, subst P same (all 0 y (omega arith)))
-    by rest false e = rest (rw e at h)
+    by rest b e = grind arith
 
 -- 1. what it is made of
 -- the segment with this code
@@ -75,8 +73,7 @@ module _ (order : Order) (host : List ℕ) (libs : List (List ℕ)) where
           (entry_at order (file_at host libs place.0) place.1) ≡ q
           → option_map (segment_with order host libs slot name r place) (result_ok q) ≡ Some s
           → IsMade order host libs slot name r place s
-      by (Err why) e k = cc
-      by (Ok code) e k = record { code = code; given = e; is = sym (same_Some _ _ k) }
+      by q e k = search rules
 
   -- a slot's own segment is made from its source, by its role
   pub own_made : (slot : ℕ) (s : Segment) → own_segment order host libs slot ≡ Some s

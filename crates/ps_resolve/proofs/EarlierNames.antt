@@ -2,29 +2,27 @@
 -- names of privates differ, and the first of them.
 use Rattle.std.proofs.Common.{◌≡◌, ℕ, nat_cmp, zero, suc, ◌+◌, ◌<◌, ◌==◌}
 use Rattle.std.proofs.Common.{◌++◌, List, [], ◌∷◌, length, take, Bool, true, false, Some}
-use Rattle.std.proofs.Common.{None, inl, inr, refl, sym, ◌∙◌, ap, subst, arith, append_assoc}
-use Rattle.std.proofs.Common.{append-nil}
-use Rattle.std.specs.Prelude.{◌&&◌, nat_lt}
+use Rattle.std.proofs.Common.{refl, sym, ◌∙◌, ap, subst, arith, append_assoc, append-nil}
+use Rattle.std.specs.Prelude.{nat_lt}
 use Rattle.std.specs.Bool.{Decides}
 use Rattle.std.specs.Int.{w64, from_be_bytes}
 use Rattle.std.specs.List.{AllByRecursion, IsAllAdjacentAnswer, IsDistinct, filter, list_any}
 use Rattle.std.specs.List.{slice_get}
 use Rattle.std.specs.List.Sorted.{IsPermutation, IsSorted, IsStrictlyIncreasing}
 use Rattle.std.specs.Str.{bytes_eq}
-use Rattle.std.proofs.lemmas.Bool.{cases_lt, false≢true, ne_eqb}
-use Rattle.std.proofs.lemmas.Bool.Decides.{Decides-ltb, nat_tests}
+use Rattle.std.proofs.lemmas.Bool.{false≢true}
 use Rattle.std.proofs.lemmas.List.Kept.{AllPairs-from_increasing}
 use Rattle.std.proofs.lemmas.List.Sorted.{IsNonDecreasingBy-from_sort, IsPermutation-sym}
 use Rattle.std.proofs.lemmas.Map.Keys.{IsDistinct-head, IsDistinct-tail, IsDistinct-from_apart}
 use Rattle.std.proofs.lemmas.Map.Keys.{IsDistinct-IsPermutation, IsStrictlyIncreasing-from_distinct}
-use Rattle.std.proofs.lemmas.Option.{same_Some, slice_get_within}
+use Rattle.std.proofs.lemmas.Option.{slice_get_within}
 use Rattle.ps_linkinfo.specs.RecordCounts.{is_private_reference}
 use Rattle.ps_linkinfo.specs.declared.record.Body.{Body}
 use Rattle.ps_linkinfo.specs.declared.record.LinkRecord.{LinkRecord as Record}
 use Rattle.ps_resolve.specs.Builders.{HaveNoNamesakes, IsFirstNamesake, private_numbers}
 use Rattle.ps_resolve.specs.Standing.Definitions.{HasEarlierNamesake}
-use Rattle.ps_resolve.proofs.LookingBack.{again, has_name, is_again, longer, more_names, names_of}
-use Rattle.ps_resolve.proofs.LookingBack.{seen_is, take_prefix}
+use Rattle.ps_resolve.proofs.LookingBack.{again, is_again, longer, more_names, names_of, seen_is}
+use Rattle.ps_resolve.proofs.LookingBack.{take_prefix}
 
 abbrev number : Record → ℕ
 number r = from_be_bytes w64 r.name
@@ -34,7 +32,7 @@ is_same x y = x == y
 
 -- two numbers are the same, whichever is compared with the other
 flips : (x y : ℕ) → is_same x y ≡ is_same y x
-flips x y = grind (arith, nat_tests)
+flips x y = grind arith
 
 -- 1. numbers of names
 -- a private more, and another record
@@ -49,8 +47,7 @@ passed r rs h = rw (h, filter) refl
 pub more_numbers : (xs : List ℕ) (r : Record) (rs : List Record)
     → is_private_reference r.body ≡ true
     → xs ++ private_numbers (r ∷ rs) ≡ (xs ++ number r ∷ []) ++ private_numbers rs
-more_numbers xs r rs h = ap (λ (ys : List ℕ). xs ++ ys) (taken r rs h)
-    ∙ sym (append_assoc xs (number r ∷ []) (private_numbers rs))
+more_numbers xs r rs h = grind (arith, append_assoc)
 
 -- these numbers and those of the records that are left are all
 abbrev pub AreNumbers : List Record → List ℕ → ℕ → List Record → Type 0
@@ -63,10 +60,7 @@ all_numbers : (x : ℕ) (rs : List Record)
     → is_same x (number r) ≡ false
 all_numbers x [] all n r there is = cc
 all_numbers x (s ∷ ss) all zero r there is = grind arith
-all_numbers x (s ∷ ss) all (suc n) r there is =
-    let rest = λ (h : AllByRecursion (λ y. is_same x y ≡ false) (private_numbers ss)).
-    all_numbers x ss h n r there is in
-    grind (arith, rest)
+all_numbers x (s ∷ ss) all (suc n) r there is = grind (arith, all_numbers x ss)
 
 -- where the numbers of the names of privates are distinct, no private has the name of an earlier
 -- one
@@ -75,37 +69,31 @@ none_again : (rs : List Record) → IsDistinct is_same (private_numbers rs)
     → is_private_reference r.body ≡ true
     → other < rec → slice_get rs other ≡ Some q → is_private_reference q.body ≡ true
     → q.name ≡ r.name → ⊥
-none_again [] d rec other r q there is lt before was name = let none : None ≡ Some r = there in cc
+none_again [] d rec other r q there is lt before was name = grind arith
 none_again (s ∷ ss) d zero other r q there is lt before was name = absurd (omega (arith, lt))
 none_again (s ∷ ss) d (suc n) zero r q there is lt before was name =
     let here : is_private_reference s.body ≡ true = grind arith in
-    let apart : IsDistinct is_same (number s ∷ private_numbers ss) =
-    subst (λ (xs : List ℕ). IsDistinct is_same xs) (taken s ss here) d in
+    let apart : IsDistinct is_same (number s ∷ private_numbers ss) = grind (arith, taken) in
     let differ = all_numbers (number s) ss
     (IsDistinct-head is_same (number s) (private_numbers ss) apart) n r there is in
-    grind (arith, nat_tests, differ)
+    grind arith
 none_again (s ∷ ss) d (suc n) (suc m) r q there is lt before was name =
     none_again ss (rest (is_private_reference s.body) refl) n m r q there is
     (omega (arith, lt)) before was name
   where
     rest : (b : Bool) → is_private_reference s.body ≡ b
         → IsDistinct is_same (private_numbers ss)
-    rest true h = IsDistinct-tail is_same (number s) (private_numbers ss)
-        (subst (λ (xs : List ℕ). IsDistinct is_same xs) (taken s ss h) d)
-    rest false h = subst (λ (xs : List ℕ). IsDistinct is_same xs) (passed s ss h) d
+    rest b h = grind (arith, IsDistinct-tail, passed)
 
 -- what the test of neighbours says
 pub ascends : (xs : List ℕ) (r : Bool) → IsAllAdjacentAnswer (λ x y b. b ≡ nat_lt x y) xs r
     → r ≡ true → IsStrictlyIncreasing xs
-ascends xs true h e = λ k lt. (Decides-ltb _ _).0 (sym (h k 0 lt))
-ascends xs false h e = absurd (false≢true e)
+ascends xs r h e = grind arith
 
 pub does_not_ascend : (xs : List ℕ) (r : Bool)
     → IsAllAdjacentAnswer (λ x y b. b ≡ nat_lt x y) xs r → r ≡ false
     → IsStrictlyIncreasing xs → ⊥
-does_not_ascend xs true h e rises = absurd (false≢true (sym e))
-does_not_ascend xs false h e rises = absurd
-    (false≢true (h.2 0 ∙ (Decides-ltb _ _).1 (rises h.0 h.1)))
+does_not_ascend xs r h e rises = grind arith
 
 -- where their numbers, in any order, ascend, no two privates have the same name
 pub distinct_names : (rs : List Record) (ys : List ℕ) → IsPermutation (private_numbers rs) ys
@@ -114,9 +102,7 @@ distinct_names rs ys moved ascends rec r there h =
     none_again rs distinct rec h.1.0 r h.1.2.0 there h.0 h.1.1 h.1.2.1 h.1.2.2.0 h.1.2.2.1
   where
     sorted : IsDistinct is_same ys
-    sorted = IsDistinct-from_apart is_same ys
-        (λ i j d lt le. ne_eqb _ _ (λ e. absurd
-        (omega (arith, e, AllPairs-from_increasing ys ascends i j d lt le))))
+    sorted = grind (arith, IsDistinct-from_apart, AllPairs-from_increasing, ascends)
 
     distinct : IsDistinct is_same (private_numbers rs)
     distinct = IsDistinct-IsPermutation is_same flips ys (private_numbers rs)
@@ -140,12 +126,11 @@ at_end (p ∷ prefix) r rs = at_end prefix r rs
 
 pub same_names : (test : Body → Bool) (prefix : List Record) (r : Record)
     → test r.body ≡ false → names_of test (prefix ++ r ∷ []) ≡ names_of test prefix
-same_names test prefix r h = more_names test prefix r
-    ∙ rw (h, filter) (append-nil (names_of test prefix))
+same_names test prefix r h = grind (arith, more_names, append-nil)
 
 pub one_name : (test : Body → Bool) (prefix : List Record) (r : Record) → test r.body ≡ true
     → names_of test (prefix ++ r ∷ []) ≡ names_of test prefix ++ r.name ∷ []
-one_name test prefix r h = more_names test prefix r ∙ rw (h, filter) refl
+one_name test prefix r h = grind (arith, more_names)
 
 -- the records from this index on are left, after the others
 pub record Stands (all : List Record) (n : ℕ) (rs : List Record) : Type 0 where
@@ -164,8 +149,7 @@ further all n r rs s = record {
 
 pub there : (all : List Record) (n : ℕ) (r : Record) (rs : List Record)
     → Stands all n (r ∷ rs) → slice_get all n ≡ Some r
-there all n r rs s = ap (λ (xs : List Record). slice_get xs n) s.whole
-    ∙ ap (λ (k : ℕ). slice_get (s.prefix ++ r ∷ rs) k) s.count ∙ at_end s.prefix r rs
+there all n r rs s = grind (arith, at_end)
 
 -- the name is among those of the records of the kind before it just where one of these has the name
 pub looked : (test : Body → Bool) (all : List Record) (n : ℕ) (r : Record) (rs : List Record)
@@ -176,15 +160,10 @@ looked test all n r rs s is = subst (λ (b : Bool). Decides b (HasEarlierNamesak
     same (again test all n r)
   where
     before : take n all ≡ s.prefix
-    before = ap (λ (xs : List Record). take n xs) s.whole
-        ∙ ap (λ (k : ℕ). take k (s.prefix ++ r ∷ rs)) s.count
-        ∙ take_prefix s.prefix (r ∷ rs)
+    before = grind (arith, take_prefix)
 
     same : is_again test all (n, r) ≡ list_any (bytes_eq r.name) (names_of test s.prefix)
-    same =
-        ap (λ (b : Bool). b && list_any (has_name test r.name) (take n all)) is
-        ∙ ap (λ (xs : List Record). list_any (has_name test r.name) xs) before
-        ∙ sym (seen_is test r.name s.prefix)
+    same = grind (arith, before, seen_is)
 
 -- the names of the records of the kind so far, none of which an earlier one has
 pub record Scans (test : Body → Bool) (all : List Record) (seen : List (List ℕ)) (n : ℕ)
@@ -196,7 +175,7 @@ pub record Scans (test : Body → Bool) (all : List Record) (seen : List (List �
 
 pub scans : (test : Body → Bool) (all : List Record) → Scans test all [] 0 all
 scans test all = record {
-  stands = record { prefix = []; whole = refl; count = refl };
+  stands = grind arith;
   same = refl;
   none = λ lesser q lt. absurd (omega (arith, lt));
 }
@@ -204,20 +183,12 @@ scans test all = record {
 module _ (test : Body → Bool) (all : List Record) (seen : List (List ℕ)) (n : ℕ) (r : Record)
     (rs : List Record) (s : Scans test all seen n (r ∷ rs)) where
   this_is : (q : Record) → slice_get all n ≡ Some q → r ≡ q
-  this_is q e = same_Some _ _ (sym (there all n r rs s.stands) ∙ e)
+  this_is q e = grind (arith, there all n r rs s.stands)
 
   none_more : (HasEarlierNamesake test all n r → ⊥) → (lesser : ℕ) (q : Record)
       → lesser < n + 1 → slice_get all lesser ≡ Some q
       → HasEarlierNamesake test all lesser q → ⊥
-  none_more fresh lesser q lt e h = elim (cases_lt lesser n) [
-    | inl less ↦ s.none lesser q less e h
-    | inr le ↦
-        let here : lesser ≡ n = omega (arith, lt, le) in
-        let is : slice_get all n ≡ Some q =
-        subst (λ (k : ℕ). slice_get all k ≡ Some q) here e in
-        fresh (subst (λ (x : Record). HasEarlierNamesake test all n x) (sym (this_is q is))
-        (subst (λ (k : ℕ). HasEarlierNamesake test all k q) here h))
-  ]
+  none_more fresh lesser q lt e h = grind (arith, this_is q)
 
   pub scan_on : test r.body ≡ false → Scans test all seen (n + 1) rs
   scan_on other = record {
@@ -230,8 +201,7 @@ module _ (test : Body → Bool) (all : List Record) (seen : List (List ℕ)) (n 
       → Scans test all (seen ++ r.name ∷ []) (n + 1) rs
   scan_more is new = record {
     stands = further all n r rs s.stands;
-    same = ap (λ (xs : List (List ℕ)). xs ++ r.name ∷ []) s.same
-        ∙ sym (one_name test s.stands.prefix r is);
+    same = grind (arith, one_name);
     none = none_more (λ h. false≢true
         (sym (ap (λ (xs : List (List ℕ)). list_any (bytes_eq r.name) xs) (sym s.same) ∙ new)
         ∙ (looked test all n r rs s.stands is).1 h));
@@ -239,17 +209,10 @@ module _ (test : Body → Bool) (all : List Record) (seen : List (List ℕ)) (n 
 
   pub scan_found : test r.body ≡ true → list_any (bytes_eq r.name) seen ≡ true
       → IsFirstNamesake test all n
-  scan_found is old = record {
-    item = r;
-    there = there all n r rs s.stands;
-    again = (looked test all n r rs s.stands is).0
-        (ap (λ (xs : List (List ℕ)). list_any (bytes_eq r.name) xs) (sym s.same) ∙ old);
-    first = s.none;
-  }
+  scan_found is old =
+      grind (arith, there all n r rs s.stands, again, looked test all n r rs s.stands is)
 
 -- where no record is left to look at, none of the kind has the name of an earlier one
 pub scan_end : (test : Body → Bool) (all : List Record) (seen : List (List ℕ)) (n : ℕ)
     → Scans test all seen n [] → HaveNoNamesakes test all
-scan_end test all seen n s rec r e h =
-    let long = ap length (s.stands.whole ∙ append-nil s.stands.prefix) in
-    s.none rec r (omega (arith, long, s.stands.count, slice_get_within all rec r e)) e h
+scan_end test all seen n s rec r e h = grind (arith, append-nil, slice_get_within)

@@ -1,13 +1,13 @@
 -- The names of all slots of a linked file have eight bytes each: those of the host's dictionary,
 -- and those of UNITREF records.
-use Rattle.std.proofs.Common.{◌≡◌, ℕ, ◌+◌, ◌*◌, ◌-◌, ◌<◌, ◌≤◌}
-use Rattle.std.proofs.Common.{◌==◌, List, [], ◌∷◌, ◌++◌, length, length-append, map}
-use Rattle.std.proofs.Common.{drop, Bool, true, false, if◌then◌else◌, Option, Some, None}
-use Rattle.std.proofs.Common.{refl, sym, ap, ◌∙◌, subst, inl, inr, arith}
+use Rattle.std.proofs.Common.{◌≡◌, ℕ, ◌+◌, ◌*◌, ◌<◌, ◌≤◌, ◌==◌, List}
+use Rattle.std.proofs.Common.{[], ◌∷◌, ◌++◌, length, length-append, map, Bool, true}
+use Rattle.std.proofs.Common.{false, if◌then◌else◌, Option, Some, None, refl, sym, ap}
+use Rattle.std.proofs.Common.{◌∙◌, subst, inl, inr, arith}
 use Rattle.std.specs.Prelude.{All}
 use Rattle.std.specs.List.{flat_map, find}
 use Rattle.std.specs.Option.{option_map_or}
-use Rattle.std.proofs.lemmas.List.{length-take, length-drop}
+use Rattle.std.proofs.lemmas.List.{length-drop}
 use Rattle.std.proofs.lemmas.List.Elements.{All-nil, All-cons, All-tail, All-append, All-push}
 use Rattle.std.proofs.lemmas.List.Elements.{All-from_get_or}
 use Rattle.std.proofs.lemmas.List.FromFn.{get_or-range_with_len}
@@ -23,9 +23,7 @@ use Rattle.ps_codefile.specs.declared.entry.Role.{Role}
 use Rattle.ps_codefile.specs.declared.entry.Role.TheVariants.{Wanted}
 use Rattle.ps_linkinfo.specs.Records.{reading}
 use Rattle.ps_linkinfo.specs.declared.record.LinkRecord.{LinkRecord as Record}
-use Rattle.ps_codefile.specs.Roles.{needs_linking}
 use Rattle.ps_resolve.specs.Sources.{Segment, own_segment, own_segments, units_of, records_of}
-use Rattle.ps_resolve.specs.Sources.{file_at}
 use Rattle.ps_resolve.specs.declared.reading.added.UnitReference.{UnitReference}
 use Rattle.ps_resolve.proofs.EachSegment.{IsMade, added_made, at_slot, each_slot, find_has}
 use Rattle.ps_resolve.proofs.EachSegment.{own_made}
@@ -72,10 +70,13 @@ queue_named : (units : List (List ℕ × ℕ)) (queue gs : List UnitReference) �
     → All IsNamed gs → All IsNamed (requested_from units queue gs)
 queue_named units queue [] all rest = all
 queue_named units queue (g ∷ gs) all rest =
-    let more = cond_both (is_already_known units queue g.name) queue (queue ++ g ∷ [])
-    (All IsNamed) (λ _. all) (λ _. All-push IsNamed queue g all (rest 0 g (omega arith))) in
-    queue_named units (if is_already_known units queue g.name then queue else queue ++ g ∷ []) gs
-    more (All-tail IsNamed g gs rest)
+    grind (
+      arith,
+      All-push IsNamed queue g all (rest 0 g (omega arith)),
+      All-tail IsNamed g gs rest,
+      queue_named units (if is_already_known units queue g.name then queue else queue ++ g ∷ [])
+          gs,
+    )
 
 records_whole : ReadWhole → (order : Order) (file : List ℕ) (e : Entry) (b : Bool)
     → All HasWholeName (records_of order file e b)
@@ -86,19 +87,11 @@ records_whole law order file e false = All-nil HasWholeName
 made_whole : ReadWhole → (order : Order) (host : List ℕ) (libs : List (List ℕ)) (slot : ℕ)
     (name : List ℕ) (r : Role) (at : ℕ × ℕ) (s : Segment)
     → IsMade order host libs slot name r at s → HasWholeNames s
-made_whole law order host libs slot name r at s h =
-    let file = file_at host libs at.0 in
-    subst HasWholeNames (sym h.is) (records_whole law order file (entry_at order file at.1)
-    (needs_linking r))
+made_whole law order host libs slot name r k s h = grind arith
 
 name_long : (host : List ℕ) (slot : ℕ) → 512 ≤ length host → slot < 16
     → length (name_at host slot) ≡ 8
-name_long host slot long lt =
-    omega (
-      arith,
-      length-take (64 + 8 * slot + 8 - (64 + 8 * slot)) (drop (64 + 8 * slot) host),
-      length-drop (64 + 8 * slot) host,
-    )
+name_long host slot long lt = grind (arith, length-drop)
 
 abbrev HasName : Segment → Type 0
 HasName s = length s.name ≡ 8
@@ -111,7 +104,7 @@ all_named law order host libs long =
     each_slot HasName (segment_at order host libs)
     (λ x s lt h. elim (at_slot order host libs HasName named x s h) [
       | inl own ↦ (let t = own_made order host libs x s own in
-          ap (λ (q : Segment). length q.name) t.3.is ∙ name_long host x long lt)
+          grind (arith, name_long))
       | inr t ↦ t.2
     ])
   where
@@ -157,7 +150,7 @@ run f [] h all = refl
 run f (x ∷ xs) h all =
     let one = h x (all 0 x (omega arith)) in
     let rest = run f xs h (All-tail (λ (y : ℕ). y < 16) x xs all) in
-    omega (arith, length-append (f x) (flat_map (λ name. name) (map f xs)), one, rest)
+    grind (arith, length-append)
 
 -- where the host has its whole dictionary, the names of the sixteen slots have 128 bytes in all
 pub names_whole : ReadWhole → (order : Order) (host : List ℕ) (libs : List (List ℕ))

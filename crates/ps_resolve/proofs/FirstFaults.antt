@@ -1,5 +1,5 @@
 -- The first fault of all, by that of reading the files and that of linking their segments.
-use Rattle.std.proofs.Common.{◌≡◌, ℕ, List, Some, None, ◌∙◌}
+use Rattle.std.proofs.Common.{arith, ◌≡◌, ℕ, List, Some, None}
 use Rattle.ps_words.specs.declared.fault.Fault.{Fault}
 use Rattle.ps_resolve.specs.Sources.{order_of}
 use Rattle.ps_resolve.specs.Added.{segments}
@@ -7,7 +7,6 @@ use Rattle.ps_resolve.specs.Faults.{linking_fault}
 use Rattle.ps_resolve.specs.AllFaults.{first_fault, reading_fault}
 use Rattle.ps_resolve.specs.Plans.{AreStopped, IsStopped}
 use Rattle.ps_resolve.specs.declared.linkage.Stop.{Stop}
-use Rattle.ps_resolve.specs.declared.linkage.Stop.TheVariants.{Refused, Memory}
 use Rattle.ps_resolve.proofs.Stages.{skip, keep}
 
 module _ (host : List ℕ) (libs : List (List ℕ)) where
@@ -25,5 +24,4 @@ module _ (host : List ℕ) (libs : List (List ℕ)) where
   pub stopped : reading_fault host libs ≡ None → (stop : Stop)
       → AreStopped (order_of host) (segments (order_of host) host libs) stop
       → IsStopped host libs stop
-  stopped h (Refused fault) d = first_linked h ∙ d
-  stopped h Memory d = h
+  stopped h stop d = grind (arith, first_linked)

@@ -1,22 +1,17 @@
 -- The host's own segment among the segments of a link.
-use Rattle.std.proofs.Common.{◌≡◌, ◌≤◌, ℕ, zero, suc, List, Bool, true, Option, Some}
-use Rattle.std.proofs.Common.{refl, sym, ◌∙◌, subst, arith}
+use Rattle.std.proofs.Common.{◌≡◌, ◌≤◌, ℕ, List, Bool, true, Option, Some, arith}
 use Rattle.std.specs.Prelude.{All}
 use Rattle.std.specs.List.{list_any, filter_map, range_with_len}
 use Rattle.ps_codefile.specs.Roles.{is_host}
 use Rattle.ps_resolve.specs.Sources.{Segment, host_of}
 use Rattle.ps_resolve.specs.Linkable.{HasOneHost}
 
-some_is : (a b : Segment) → ◌≡◌ {A = Option Segment} (Some a) (Some b) → a ≡ b
-some_is a b h = cc
-
 -- what holds of the host's own segment holds of each that is a host's
 pub of_hosts : (segs : List Segment) (h : Segment) → host_of segs ≡ Some h → HasOneHost segs
     → (P : Segment → Type 0) → P h → All (λ s. is_host s.role ≡ true → P s) segs
-of_hosts segs h is one P p = λ k d lt role. subst P (some_is h _ (sym is ∙ one k d lt role)) p
+of_hosts segs h is one z4 p = grind arith
 
 -- what holds of the table of procedure 1 holds of one of the tables
 pub some_table : (f : ℕ → Option ℕ) (q : ℕ → Bool) (n t : ℕ) → 1 ≤ n
     → f 1 ≡ Some t → q t ≡ true → list_any q (filter_map f (range_with_len 1 n)) ≡ true
-some_table f q zero t h k s = absurd (omega arith)
-some_table f q (suc n) t h k s = rw k (rw s refl)
+some_table f q n t h k s = grind arith

@@ -1,11 +1,9 @@
 -- The segments of a link, put together slot by slot from the host's own and those that were added.
 use Rattle.std.proofs.Common.{◌≡◌, ◌≢◌, ℕ, zero, suc, ◌+◌, ◌<◌, ◌≤◌}
-use Rattle.std.proofs.Common.{List, ◌∷◌, true, false, if◌then◌else◌, Option, Some, None}
-use Rattle.std.proofs.Common.{refl, ◌∙◌, ap, inl, inr, arith}
-use Rattle.std.specs.Prelude.{◌⊎◌}
+use Rattle.std.proofs.Common.{List, false, if◌then◌else◌, Option, Some, None, refl, ap, arith}
 use Rattle.std.specs.List.{range_with_len, filter_map, find}
 use Rattle.std.specs.Option.{option_or}
-use Rattle.std.proofs.lemmas.Bool.{cases_lt, ne_eqb, eq-eqb}
+use Rattle.std.proofs.lemmas.Bool.{ne_eqb, eq-eqb}
 use Rattle.ps_words.specs.declared.order.Order.{Order}
 use Rattle.ps_codefile.specs.Roles.{is_empty}
 use Rattle.ps_resolve.specs.Sources.{Segment, own_segment, own_segments}
@@ -25,56 +23,22 @@ other_slot j s differs = ne_eqb s.slot j differs
 none_before : (f : ℕ → Option Segment) → InPlace f → (j n a : ℕ) → j < a
     → find (is_in_slot j) (filter_map f (range_with_len a n)) ≡ None
 none_before f place j zero a lt = refl
-none_before f place j (suc n) a lt = by (f a) refl (none_before f place j n (a + 1) (omega arith))
-  where
-    by : (o : Option Segment) → f a ≡ o
-        → find (is_in_slot j) (filter_map f (range_with_len (a + 1) n)) ≡ None
-        → find (is_in_slot j) (filter_map f (a ∷ range_with_len (a + 1) n)) ≡ None
-    by None e rest = rw e rest
-    by (Some s) e rest = let is = place a s e in
-        rw (e, other_slot j s (λ same. omega (arith, is, same, lt))) rest
+none_before f place j (suc n) a lt =
+    grind (arith, none_before f place j n (a + 1) (omega arith))
 
 -- the segment that is found in a slot is that of the number of the slot
 pub found_there : (f : ℕ → Option Segment) → InPlace f → (j n a : ℕ) → a ≤ j
     → j < a + n → find (is_in_slot j) (filter_map f (range_with_len a n)) ≡ f j
 found_there f place j zero a le lt = absurd (omega arith)
-found_there f place j (suc n) a le lt = by
-    (λ h. found_there f place j n (a + 1) (omega (arith, h)) (omega (arith, lt))) (cases_lt a j)
-  where
-    here : (o : Option Segment) → f a ≡ o → a ≡ j
-        → find (is_in_slot j) (filter_map f (a ∷ range_with_len (a + 1) n)) ≡ o
-    here None e same = rw e (none_before f place j n (a + 1) (omega arith))
-    here (Some s) e same = let is = place a s e in let at : is_in_slot j s ≡ true =
-        eq-eqb s.slot j (is ∙ same) in rw (e, at) refl
-
-    later : find (is_in_slot j) (filter_map f (range_with_len (a + 1) n)) ≡ f j → a < j
-        → (o : Option Segment) → f a ≡ o
-        → find (is_in_slot j) (filter_map f (a ∷ range_with_len (a + 1) n)) ≡ f j
-    later rest h None e = rw e rest
-    later rest h (Some s) e = let is = place a s e in
-        rw (e, other_slot j s (λ same. omega (arith, is, same, h))) rest
-
-    by : (a < j → find (is_in_slot j) (filter_map f (range_with_len (a + 1) n)) ≡ f j)
-        → (a < j) ⊎ (j ≤ a) → find (is_in_slot j)
-        (filter_map f (a ∷ range_with_len (a + 1) n)) ≡ f j
-    by rest (inl h) = later (rest h) h (f a) refl
-    by rest (inr h) = let same : a ≡ j = omega arith in here (f a) refl same ∙ ap f same
+found_there f place j (suc n) a le lt =
+    grind (arith, none_before, eq-eqb, other_slot, found_there f place j n (a + 1))
 
 -- f and g keep the same segments of a range of numbers, where they give the same of each
 pub same_kept : (f g : ℕ → Option Segment) (n a : ℕ)
     → ((i : ℕ) → a ≤ i → i < a + n → f i ≡ g i)
     → filter_map f (range_with_len a n) ≡ filter_map g (range_with_len a n)
 same_kept f g zero a same = refl
-same_kept f g (suc n) a same = by (g a) refl
-    (same_kept f g n (a + 1) (λ i low high. same i (omega (arith, low)) (omega (arith, high))))
-  where
-    by : (o : Option Segment) → g a ≡ o
-        → filter_map f (range_with_len (a + 1) n) ≡ filter_map g (range_with_len (a + 1) n)
-        → filter_map f (a ∷ range_with_len (a + 1) n)
-        ≡ filter_map g (a ∷ range_with_len (a + 1) n)
-    by None e rest = rw (same a (omega arith) (omega arith), e) rest
-    by (Some s) e rest = rw (same a (omega arith) (omega arith), e)
-        (ap (λ (xs : List Segment). s ∷ xs) rest)
+same_kept f g (suc n) a same = grind (arith, same_kept f g n (a + 1))
 
 -- the own segments and the added ones, slot by slot, are those of the link
 pub in_slots_are : (order : Order) (host : List ℕ) (libs : List (List ℕ))

@@ -1,63 +1,34 @@
 -- Where no fault applies each reference's edit lies in the code and can be stored.
-use Rattle.std.proofs.Common.{◌≡◌, ℕ, ◌+◌, ◌≤◌, ◌++◌, List, [], ◌∷◌}
-use Rattle.std.proofs.Common.{length, map, Bool, false, Some, None, Result, Ok, Err, refl, sym}
-use Rattle.std.proofs.Common.{◌∙◌, arith}
-use Rattle.std.specs.Prelude.{nat_lt, All}
-use Rattle.std.specs.List.{list_any, range_with_len}
-use Rattle.std.specs.Option.{option_map, option_or}
-use Rattle.ps_resolve.specs.Searches.{fault_if}
+use Rattle.std.proofs.Common.{◌≡◌, ℕ, ◌+◌, ◌++◌, List, [], ◌∷◌, length, map}
+use Rattle.std.proofs.Common.{Bool, Some, None, Result, Ok, Err, refl, sym, ◌∙◌, arith}
+use Rattle.std.specs.Prelude.{All}
+use Rattle.std.specs.Option.{option_map}
 use Rattle.std.proofs.lemmas.Bool.{ltb-false}
 use Rattle.std.proofs.lemmas.List.Elements.{All-nil, All-cons, All-append}
 use Rattle.ps_words.specs.Edits.{IsInside}
 use Rattle.ps_words.specs.declared.fault.Reason.{Reason}
-use Rattle.ps_words.specs.declared.fault.Reason.TheVariants as reason
 use Rattle.ps_linkinfo.specs.Records.{refs_of}
 use Rattle.ps_linkinfo.specs.declared.record.LinkRecord.{LinkRecord as Record}
-use Rattle.ps_resolve.specs.Operands.{operands, width_of, is_in, refs_fault, reference_reason}
-use Rattle.ps_resolve.specs.Operands.{value_of, edit_of}
+use Rattle.ps_resolve.specs.Operands.{operands, width_of, refs_fault, edit_of}
 use Rattle.ps_resolve.specs.References.{Known, words_taken, target_of, records_fault, record_edits}
 use Rattle.ps_resolve.specs.References.{records_edits}
 use Rattle.ps_resolve.specs.declared.references.Target.{Target}
-use Rattle.ps_resolve.specs.declared.references.Target.TheVariants.{Slot, Base}
 use Rattle.ps_resolve.proofs.FirstSlots.{or_none, none_mapped}
 use Rattle.ps_resolve.proofs.NextRecords.{record_refused, record_by}
-use Rattle.ps_words.specs.declared.words.TheConstants.{MAX_OPERAND}
-
--- where none of four reasons is given, none of their tests holds
-reasons_none : (a b c d : Bool) (r s t u : Reason)
-    → option_or (fault_if a r) (option_or (fault_if b s)
-    (option_or (fault_if c t) (fault_if d u))) ≡ None
-    → (a ≡ false) × (b ≡ false) × (c ≡ false) × (d ≡ false)
-reasons_none a b c d r s t u h = grind arith
-
-inside_of : (code : List ℕ) (t : Target) (x : ℕ) → x + width_of t ≤ length code
-    → value_of code t x ≤ MAX_OPERAND → IsInside (length code) (edit_of code t x)
-inside_of code (Slot slot) x h k = record { storable = tt; within = h }
-inside_of code (Base base) x h k = record { storable = omega arith; within = h }
-
--- the edit of a reference that has no fault lies in the code and can be stored
-one_inside : (R : ℕ → Bool) (code : List ℕ) (t : Target) (x : ℕ) (os : List (ℕ × ℕ))
-    → reference_reason R code os t x ≡ None → IsInside (length code) (edit_of code t x)
-one_inside R code t x os h =
-    let places = range_with_len x (width_of t) in
-    let e = reasons_none (nat_lt (length code) (x + width_of t)) (list_any R places)
-    (list_any (λ p. list_any (is_in p) os) places)
-    (nat_lt MAX_OPERAND (value_of code t x)) reason.OutsideCode reason.ReservedPlace
-    reason.Overlap reason.OperandTooLarge h in
-    inside_of code t x (ltb-false (length code) (x + width_of t) e.0)
-    (ltb-false MAX_OPERAND (value_of code t x) e.3)
 
 -- where no reference of a record has a fault, the edits of them lie in the code and can be stored
 refs_inside : (R : ℕ → Bool) (code : List ℕ) (t : Target) (xs : List ℕ) (i : ℕ)
     (os : List (ℕ × ℕ)) → refs_fault R code t i os xs ≡ None
     → All (IsInside (length code)) (map (edit_of code t) xs)
 refs_inside R code t [] i os h = All-nil (IsInside (length code))
-refs_inside R code t (x ∷ xs) i os h =
-    let e = or_none (option_map (λ why. (i, why)) (reference_reason R code os t x))
-    (refs_fault R code t (i + 1) (os ++ (x, width_of t) ∷ []) xs) h in
-    All-cons (IsInside (length code)) (edit_of code t x) (map (edit_of code t) xs)
-    (one_inside R code t x os (none_mapped _ _ e.0))
-    (refs_inside R code t xs (i + 1) (os ++ (x, width_of t) ∷ []) e.1)
+refs_inside R code t (x ∷ xs) i os h = grind (
+  arith,
+  or_none,
+  All-cons,
+  ltb-false,
+  none_mapped,
+  refs_inside R code t xs (i + 1) (os ++ (x, width_of t) ∷ []),
+)
 
 -- where no record has a fault, the edits of all their references lie in the code and can be stored
 pub records_inside : (known : Known) (R : ℕ → Bool) (code : List ℕ) (rs : List Record)

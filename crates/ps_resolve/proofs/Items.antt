@@ -1,10 +1,8 @@
 -- What is in a list, by its place there.
 use Rattle.std.proofs.Common.{◌≡◌, ℕ, zero, suc, ◌+◌, ◌≤◌, List, [], ◌∷◌}
-use Rattle.std.proofs.Common.{◌++◌, length, get_or, add-zero, Some, None, Bool, true, sym, ap}
-use Rattle.std.proofs.Common.{subst, ◌∙◌, arith}
+use Rattle.std.proofs.Common.{◌++◌, length, Some, None, Bool, true, arith}
 use Rattle.std.specs.Prelude.{All, ⊤}
 use Rattle.std.specs.List.{slice_get, find}
-use Rattle.std.proofs.lemmas.List.Elements.{All-get_or}
 use Rattle.std.proofs.lemmas.Option.{get_or_from_slice_get, slice_get-get_or, slice_get_within}
 use Rattle.ps_resolve.proofs.EachSegment.{find_has}
 
@@ -14,12 +12,11 @@ In a xs = (i : ℕ) × (slice_get xs i ≡ Some a)
 -- what holds of all items holds of the item at a place
 pub of_all : {A : Type 0} (P : A → Type 0) (xs : List A) → All P xs → (i : ℕ) (x : A)
     → slice_get xs i ≡ Some x → P x
-of_all P xs all i x e = subst P (get_or_from_slice_get xs i x x e)
-    (All-get_or P xs i x (slice_get_within xs i x e) all)
+of_all P xs all i x e = grind (arith, get_or_from_slice_get, slice_get_within)
 
 pub all_items : {A : Type 0} (P : A → Type 0) (xs : List A)
     → ((k : ℕ) (x : A) → slice_get xs k ≡ Some x → P x) → All P xs
-all_items P xs h i x lt = h i (get_or xs i x) (slice_get-get_or xs i x lt)
+all_items P xs h i x lt = grind (arith, slice_get-get_or)
 
 -- each item is in the list
 pub all_in : {A : Type 0} (xs : List A) → All (λ x. In x xs) xs
@@ -35,17 +32,13 @@ at_left (x ∷ xs) ys (suc i) a e = at_left xs ys i a e
 -- after the first of two joined lists is the second
 pub right_at : {A : Type 0} (xs ys : List A) (q : ℕ)
     → slice_get (xs ++ ys) (length xs + q) ≡ slice_get ys q
-right_at {A} [] ys q = let same : length {A = A} [] + q ≡ q = omega arith in
-    ap (slice_get ys) same
-right_at {A} (x ∷ xs) ys q =
-    let same : length (x ∷ xs) + q ≡ suc (length xs + q) = omega arith in
-    ap (slice_get (x ∷ xs ++ ys)) same ∙ right_at xs ys q
+right_at {A} [] ys q = grind arith
+right_at {A} (x ∷ xs) ys q = grind (arith, right_at xs ys q)
 
 -- its first item is right after the first
 pub first_right : {A : Type 0} (xs ys : List A) (k : ℕ) → k ≡ length xs
     → slice_get (xs ++ ys) k ≡ slice_get ys 0
-first_right xs ys k e = ap (slice_get (xs ++ ys)) (e ∙ sym (add-zero (length xs)))
-    ∙ right_at xs ys 0
+first_right xs ys k e = grind (arith, right_at)
 
 -- the place before one that is taken is taken
 pub some_before : {A : Type 0} (xs : List A) (i j : ℕ) (a : A) → i ≤ j

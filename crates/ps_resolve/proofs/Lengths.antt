@@ -1,6 +1,6 @@
 -- As many lists of edits as segments, and as many sources.
-use Rattle.std.proofs.Common.{◌≡◌, ℕ, ◌+◌, List, [], ◌∷◌, length, map, refl, sym}
-use Rattle.std.proofs.Common.{◌∙◌, ap, arith}
+use Rattle.std.proofs.Common.{◌≡◌, ℕ, ◌+◌, List, [], ◌∷◌, length, map, refl}
+use Rattle.std.proofs.Common.{arith}
 use Rattle.std.proofs.lemmas.List.{length-map}
 use Rattle.ps_words.specs.declared.order.Order.{Order}
 use Rattle.ps_words.specs.declared.edit.Edit.{Edit}
@@ -17,13 +17,13 @@ linked_len : (order : Order) (es : List Edited) (ds : List (List Edit)) → Link
 linked_len order [] [] h = refl
 linked_len order [] (d ∷ ds) h = absurd h
 linked_len order (e ∷ es) [] h = absurd h
-linked_len order (e ∷ es) (d ∷ ds) h = let r = linked_len order es ds h.1 in omega (arith, r)
+linked_len order (e ∷ es) (d ∷ ds) h = grind (arith, linked_len order es ds h.1)
 
 pub edited_len : (order : Order) (known : Known) (words free : ℕ) (segs : List Segment)
     → length (edited_from order known words free segs) ≡ length segs
 edited_len order known words free [] = refl
-edited_len order known words free (s ∷ ss) = let r =
-    edited_len order known words (free + private_words s.records) ss in omega (arith, r)
+edited_len order known words free (s ∷ ss) =
+    grind (arith, edited_len order known words (free + private_words s.records) ss)
 
 -- the lists of edits that link segments are as many as the sources of these
 pub lengths : (order : Order) (known : Known) (words free : ℕ) (segs : List Segment)
@@ -32,7 +32,4 @@ pub lengths : (order : Order) (known : Known) (words free : ℕ) (segs : List Se
     → map origin_of_source sources ≡ map origin_of segs
     → length ds ≡ length sources
 lengths order known words free segs ds sources h o =
-    linked_len order (edited_from order known words free segs) ds h
-    ∙ edited_len order known words free segs
-    ∙ sym (length-map segs origin_of) ∙ sym (ap length o)
-    ∙ length-map sources origin_of_source
+    grind (arith, linked_len, edited_len, length-map)

@@ -1,14 +1,13 @@
 -- The searches of a segment's records that carry what came before are those that look back over the
 -- records. What is said of whole links, in ps_laws, is on them too.
 use Rattle.std.proofs.Common.{◌≡◌, ℕ, zero, suc, ◌+◌, ◌<◌, List, [], ◌∷◌}
-use Rattle.std.proofs.Common.{◌++◌, length, take, map, Option, Some, Bool, true, refl, sym, ap}
-use Rattle.std.proofs.Common.{subst, ◌∙◌, inl, inr, arith, append_assoc, append-nil, is_some}
+use Rattle.std.proofs.Common.{◌++◌, length, take, map, Option, Some, Bool, true, refl, sym, inl}
+use Rattle.std.proofs.Common.{inr, arith, append_assoc, append-nil, is_some}
 use Rattle.std.specs.Prelude.{◌⊎◌, ◌&&◌, ◌||◌, nat_lt}
 use Rattle.std.specs.Bool.{Decides}
 use Rattle.std.specs.List.{enumerate_from, slice_get, list_any, filter, cons_option}
 use Rattle.std.specs.Option.{option_map, option_or}
 use Rattle.std.specs.Str.{bytes_eq}
-use Rattle.std.proofs.lemmas.Bool.{false≢true}
 use Rattle.std.proofs.lemmas.Bool.Decides.{Decides-and, Decides-or, Decides-like}
 use Rattle.std.proofs.lemmas.List.{length_push, map-append, take_at}
 use Rattle.std.proofs.lemmas.List.Elements.{filter-append, filter_map-append}
@@ -36,9 +35,8 @@ pub any_of_take : {A : Type 0} (test : A → Bool) (P : A → Type 0)
     → ((a : A) → Decides (test a) (P a)) → (n : ℕ) (items : List A)
     → Decides (list_any test (take n items))
     (SomeBelow n (λ i. (q : A) × (slice_get items i ≡ Some q) × P q))
-any_of_take test P d zero items = (λ e. absurd (false≢true e), λ t. absurd (omega (arith, t.1)))
-any_of_take test P d (suc n) [] =
-    (λ e. absurd (false≢true e), λ t. absurd (let e = t.2.1 in cc))
+any_of_take test P d zero items = grind arith
+any_of_take test P d (suc n) [] = grind arith
 any_of_take {A} test P d (suc n) (a ∷ items) =
     Decides-like (test a || list_any test (take n items))
     (elim [
@@ -50,8 +48,7 @@ any_of_take {A} test P d (suc n) (a ∷ items) =
   where
     go : (i : ℕ) (q : A) → i < suc n → slice_get (a ∷ items) i ≡ Some q → P q
         → P a ⊎ SomeBelow n (λ i. (q : A) × (slice_get items i ≡ Some q) × P q)
-    go zero q h e p = inl (subst P (cc) p)
-    go (suc i) q h e p = inr (i, omega (arith, h), (q, e, p))
+    go i q h e p = grind arith
 
 -- the record passes the test, and so does one before it that has its name
 abbrev pub is_again : (Body → Bool) → List Record → ℕ × Record → Bool
@@ -73,7 +70,7 @@ again test records rec r =
 -- a prefix of a list
 pub take_prefix : {A : Type 0} (prefix rest : List A)
     → take (length prefix) (prefix ++ rest) ≡ prefix
-take_prefix prefix rest = take_at prefix rest (length prefix) refl
+take_prefix prefix rest = grind (arith, take_at)
 
 pub longer : {A : Type 0} (prefix : List A) (a : A)
     → length (prefix ++ a ∷ []) ≡ length prefix + 1
@@ -95,7 +92,7 @@ known name (q ∷ prefix) = grind (arith, known name prefix)
 -- one record more adds its definition, if it has one
 more_definitions : (prefix : List Record) (r : Record)
     → definitions (prefix ++ r ∷ []) ≡ definitions prefix ++ cons_option (definition_in r) []
-more_definitions prefix r = filter_map-append definition_in prefix (r ∷ [])
+more_definitions prefix r = grind (arith, filter_map-append)
 
 -- the search that carries the definitions so far is the one that looks back
 pub definitions_carried : (h : ℕ → Fault) (prefix rs : List Record) (rec : ℕ)
@@ -105,20 +102,15 @@ pub definitions_carried : (h : ℕ → Fault) (prefix rs : List Record) (rec : �
     (h r.0)) (enumerate_from rec rs)
 definitions_carried h prefix [] rec e = refl
 definitions_carried h prefix (r ∷ rs) rec e =
-    let later = λ (all : List Record). first_of
-    (λ (q : ℕ × Record). fault_if (is_again is_definition all q) (h q.0))
-    (enumerate_from (rec + 1) rs) in
-    let before : take rec (prefix ++ r ∷ rs) ≡ prefix = take_at prefix (r ∷ rs) rec (sym e) in
-    let more = definitions_carried h (prefix ++ r ∷ []) rs (rec + 1)
-    (omega (arith, longer prefix r, e)) ∙ ap later (append_assoc prefix (r ∷ []) rs) in
     grind (
       arith,
-      more,
+      take_at prefix (r ∷ rs) rec (sym e),
+      append_assoc prefix (r ∷ []) rs,
       more_definitions prefix r,
       append-nil (definitions prefix),
-      before,
       known r.name prefix,
       defines_is r.body,
+      definitions_carried h (prefix ++ r ∷ []) rs (rec + 1) (omega (arith, longer prefix r, e)),
     )
 
 -- a record requests a private where that takes words
@@ -145,11 +137,7 @@ seen_is test name (q ∷ prefix) = grind (arith, seen_is test name prefix)
 -- one record more adds its name, if it is of the kind
 pub more_names : (test : Body → Bool) (prefix : List Record) (r : Record)
     → names_of test (prefix ++ r ∷ []) ≡ names_of test prefix ++ names_of test (r ∷ [])
-more_names test prefix r =
-    ap (λ (qs : List Record). map (λ (q : Record). q.name) qs)
-    (filter-append (λ (q : Record). test q.body) prefix (r ∷ []))
-    ∙ map-append (λ (q : Record). q.name) (filter (λ (q : Record). test q.body) prefix)
-    (filter (λ (q : Record). test q.body) (r ∷ []))
+more_names test prefix r = grind (arith, filter-append, map-append)
 
 -- one record more, before the others or after them, adds the words of its private, if it requests
 -- one
@@ -160,8 +148,7 @@ words_before r rs = grind arith
 pub more_words : (prefix : List Record) (r : Record)
     → private_words (prefix ++ r ∷ []) ≡ private_words prefix + words_taken r.body
 more_words [] r = omega (arith, words_before r [])
-more_words (q ∷ prefix) r =
-    omega (arith, words_before q (prefix ++ r ∷ []), words_before q prefix, more_words prefix r)
+more_words (q ∷ prefix) r = grind (arith, more_words prefix r)
 
 -- why a private cannot be allotted, by the records before it and by its offset
 abbrev pub reason_at : (ℕ → ℕ) → List Record → ℕ × Record → Option Reason
@@ -182,26 +169,15 @@ pub privates_carried : (h : Reason → ℕ → Fault) (offset : ℕ → ℕ) (ba
     (private_fault rec (base + private_words prefix) (names prefix) rs)
     ≡ first_of (record_fault h offset (prefix ++ rs)) (enumerate_from rec rs)
 privates_carried h offset base prefix [] rec e offsets = refl
-privates_carried h offset base prefix (r ∷ rs) rec e offsets =
-    let later = λ (all : List Record). first_of (record_fault h offset all)
-    (enumerate_from (rec + 1) rs) in
-    let before : take rec (prefix ++ r ∷ rs) ≡ prefix = take_at prefix (r ∷ rs) rec (sym e) in
-    let words = offsets rec ∙ ap (λ (records : List Record). base + private_words records) before
-    in
-    let offsets_again = λ (n : ℕ). offsets n
-    ∙ ap (λ (all : List Record). base + private_words (take n all))
-    (sym (append_assoc prefix (r ∷ []) rs)) in
-    let more = privates_carried h offset base (prefix ++ r ∷ []) rs (rec + 1)
-    (omega (arith, longer prefix r, e)) offsets_again
-    ∙ ap later (append_assoc prefix (r ∷ []) rs) in
-    grind (
-      arith,
-      more,
-      more_words prefix r,
-      more_names is_private_reference prefix r,
-      append-nil (names prefix),
-      before,
-      words,
-      seen_is is_private_reference r.name prefix,
-      asks_is r.body,
-    )
+privates_carried h offset base prefix (r ∷ rs) rec e offsets = grind (
+  arith,
+  take_at prefix (r ∷ rs) rec (sym e),
+  append_assoc prefix (r ∷ []) rs,
+  more_words prefix r,
+  more_names is_private_reference prefix r,
+  append-nil (names prefix),
+  seen_is is_private_reference r.name prefix,
+  asks_is r.body,
+  privates_carried h offset base (prefix ++ r ∷ []) rs (rec + 1)
+      (omega (arith, longer prefix r, e)),
+)

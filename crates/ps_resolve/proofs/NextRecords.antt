@@ -1,7 +1,7 @@
 -- One record more of a segment.
-use Rattle.std.proofs.Common.{◌≡◌, ◌∙◌, ℕ, ◌+◌, ◌++◌, List, [], ◌∷◌}
-use Rattle.std.proofs.Common.{map, Bool, true, false, Option, Some, None, Ok, Err, refl, sym, ap}
-use Rattle.std.proofs.Common.{subst, append_assoc}
+use Rattle.std.proofs.Common.{◌≡◌, ℕ, ◌+◌, ◌++◌, List, [], ◌∷◌, map, Bool}
+use Rattle.std.proofs.Common.{true, false, Some, None, Ok, Err, refl, ap, subst, append_assoc}
+use Rattle.std.proofs.Common.{arith}
 use Rattle.std.specs.Prelude.{IsPermutation}
 use Rattle.std.specs.Option.{option_map, option_or}
 use Rattle.std.proofs.lemmas.List.Sorted.{IsPermutation-trans, IsPermutation-append_left}
@@ -15,7 +15,6 @@ use Rattle.ps_linkinfo.specs.declared.record.Body.TheVariants.{UnitRef, PublRef,
 use Rattle.ps_linkinfo.specs.declared.record.LinkRecord.{LinkRecord as Record}
 use Rattle.ps_words.specs.declared.fault.Reason.{Reason}
 use Rattle.ps_words.specs.declared.edit.Edit.{Edit}
-use Rattle.std.proofs.Common.{arith}
 use Rattle.ps_words.specs.FaultPlaces.{in_reference}
 use Rattle.ps_codefile.specs.Procedures.{is_reserved, ProcedureTables}
 use Rattle.ps_resolve.specs.Faults.{in_segment}
@@ -25,13 +24,12 @@ use Rattle.ps_resolve.specs.EditTables.{IsTableOf, edits_of}
 use Rattle.ps_resolve.specs.declared.edit_table.PlaceState.{PlaceState}
 use Rattle.ps_resolve.specs.Stops.{IsStop}
 use Rattle.ps_resolve.specs.References.{Known, words_taken, target_in, target_of, records_fault}
-use Rattle.ps_resolve.specs.References.{record_edits, records_edits}
+use Rattle.ps_resolve.specs.References.{records_edits}
 use Rattle.ps_resolve.specs.declared.references.Target.{Target}
 use Rattle.ps_resolve.specs.declared.references.Target.TheVariants.{Slot}
 use Rattle.ps_resolve.proofs.Apart.{one_private, one_public, one_unit}
 use Rattle.ps_resolve.proofs.LookingBack.{words_before}
 use Rattle.ps_resolve.specs.declared.linkage.Stop.{Stop}
-use Rattle.ps_resolve.specs.declared.linkage.Stop.TheVariants.{Refused, Memory}
 
 module _ (known : Known) (R : ℕ → Bool) (code : List ℕ) (rec off : ℕ)
     (os : List (ℕ × ℕ)) (r : Record) (rs : List Record) where
@@ -46,19 +44,7 @@ module _ (known : Known) (R : ℕ → Bool) (code : List ℕ) (rec off : ℕ)
       (refs_fault R code t 0 os (refs_of r.body))) stop
       → IsStop ⊥ (option_map (in_segment file slot)
       (records_fault known R code rec off os (r ∷ rs))) stop
-  references_refused file slot t stop h k =
-      let rest = records_fault known R code (rec + 1) (off + words_taken r.body)
-      (os ++ operands t (refs_of r.body)) rs in
-      rw (h, records_fault) (at stop (refs_fault R code t 0 os (refs_of r.body)) rest k)
-    where
-      at : (stop : Stop) (o : Option (ℕ × Reason))
-          (rest : Option (ℕ × (Option ℕ × Reason)))
-          → IsStop ⊥ (option_map (λ f. in_reference file slot rec f.0 f.1) o) stop
-          → IsStop ⊥ (option_map (in_segment file slot)
-          (option_or (option_map (λ f. (rec, (Some f.0, f.1))) o) rest)) stop
-      at Memory o rest k = k
-      at (Refused fault) (Some f) rest k = k
-      at (Refused fault) None rest k = cc
+  references_refused file slot t stop h k = grind arith
 
   pub record_by : (t : Target) → target_of known off r ≡ Ok t
       → records_fault known R code rec off os (r ∷ rs)
@@ -79,9 +65,7 @@ module _ (known : Known) (R : ℕ → Bool) (code : List ℕ) (rec off : ℕ)
       → es ++ records_edits known code off (r ∷ rs)
       ≡ (es ++ map (edit_of code t) (refs_of r.body))
       ++ records_edits known code (off + words_taken r.body) rs
-  edits_more es t h = rw (h, record_edits)
-      (sym (append_assoc es (map (edit_of code t) (refs_of r.body))
-      (records_edits known code (off + words_taken r.body) rs)))
+  edits_more es t h = grind (arith, append_assoc)
 
   -- the edits of the record, put in
   pub listed_more : (all : List Edit) (ts us : List PlaceState) (t : Target)
@@ -126,19 +110,11 @@ module _ (known : Known) (R : ℕ → Bool) (code : List ℕ) where
       → NoLinks known R code n off os (r ∷ rs)
   passed n off os r rs t none words rest =
       let next = rest (n + 1) (off + words_taken r.body) (os ++ operands (Slot 0) (refs_of r.body))
-      in
-      record {
-        edits = edits_more known R code n off os r rs [] (Slot 0) t
-            ∙ (ap (λ (xs : List ℕ). map (edit_of code (Slot 0)) xs
-            ++ records_edits known code (off + words_taken r.body) rs) none ∙ next.edits);
-        first = record_stands known R code n off os r rs (Slot 0) t
-            (ap (λ (xs : List ℕ). refs_fault R code (Slot 0) 0 os xs) none) ∙ next.first;
-        words = let a = words_before r rs in omega (arith, words, next.words);
-      }
+      in grind (arith, edits_more, words_before)
 
   pub no_links : (rs : List Record) (n off : ℕ) (os : List (ℕ × ℕ)) → units_asked rs ≡ 0
       → publics_in rs ≡ 0 → privates_in rs ≡ 0 → NoLinks known R code n off os rs
-  no_links [] n off os u p q = record { edits = refl; first = refl; words = refl }
+  no_links [] n off os u p q = grind arith
   no_links (r ∷ rs) n off os u p q = at
       (λ uu pp qq m free ps. no_links rs m free ps uu pp qq) r.body refl
     where

@@ -1,6 +1,6 @@
 -- What a walk over records and their indices has left.
 use Rattle.std.proofs.Common.{◌≡◌, ℕ, ◌+◌, List, [], ◌∷◌, length, sym, ◌∙◌}
-use Rattle.std.proofs.Common.{ap, subst, arith}
+use Rattle.std.proofs.Common.{ap, arith}
 use Rattle.std.proofs.lemmas.Option.{some_pair_parts}
 use Rattle.ps_linkinfo.specs.Numbered.{numbered_records}
 use Rattle.ps_linkinfo.specs.declared.record.LinkRecord.{LinkRecord as Record}
@@ -20,12 +20,8 @@ one P left more i r h k = at h.0 h.1 (sym h.2 ∙ k) h.3
     at n [] e p = absurd (omega (arith, ap length e))
     at n (s ∷ rest) e p =
         let same = some_pair_parts n i s r (cc) in
-        let behind : numbered_records (n + 1) rest ≡ more = cc in (
-          rest,
-          sym behind ∙ ap (λ (m : ℕ). numbered_records (m + 1) rest) same.0,
-          subst (λ (m : ℕ). P m (r ∷ rest)) same.0
-              (subst (λ (q : Record). P n (q ∷ rest)) same.1 p),
-        )
+        let behind : numbered_records (n + 1) rest ≡ more = cc in
+        grind arith
 
 -- none is left
 pub none : (P : ℕ → List Record → Type 0) (left : List (ℕ × Record)) → IsLeft P left

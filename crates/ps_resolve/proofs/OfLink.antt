@@ -1,14 +1,11 @@
 -- What is known of each segment of a link whose files were read without a fault.
-use Rattle.std.proofs.Common.{◌≡◌, ℕ, ◌<◌, List, get_or, Option, Some, None, true, refl}
-use Rattle.std.proofs.Common.{sym, ap, subst, ◌∙◌, inl, inr, is_some, arith}
+use Rattle.std.proofs.Common.{◌≡◌, ℕ, ◌<◌, List, get_or, Some, None, true, sym, ap}
+use Rattle.std.proofs.Common.{subst, ◌∙◌, inl, inr, is_some, arith}
 use Rattle.std.specs.Prelude.{◌⊎◌}
 use Rattle.std.specs.Option.{option_and_then}
-use Rattle.std.specs.Result.{result_ok}
-use Rattle.ps_codefile.specs.Dictionary.{entry_at, role_of, information_of}
+use Rattle.ps_codefile.specs.Dictionary.{entry_at, role_of}
 use Rattle.ps_codefile.specs.declared.entry.Role.{Role}
 use Rattle.ps_codefile.specs.declared.entry.Role.TheVariants as role
-use Rattle.ps_linkinfo.specs.Records.{reading}
-use Rattle.ps_linkinfo.specs.declared.record.LinkRecord.{LinkRecord as Record}
 use Rattle.ps_resolve.specs.Added.{added_fault, added_segments, as_added, request_of, segment_at}
 use Rattle.ps_resolve.specs.Added.{segments}
 use Rattle.ps_resolve.specs.AllFaults.{reading_fault}
@@ -16,7 +13,7 @@ use Rattle.ps_resolve.specs.Faults.{code_fault, role_fault, source_fault, source
 use Rattle.ps_resolve.specs.Faults.{slots_fault, no_host_fault}
 use Rattle.ps_resolve.specs.OfLink.{AreOfLink, IsOfFile, IsOfSlot, IsOfRound}
 use Rattle.ps_resolve.specs.Requests.{request_by_slot}
-use Rattle.ps_resolve.specs.Sources.{Segment, file_at, host_of, order_of, source_of, own_segment}
+use Rattle.ps_resolve.specs.Sources.{Segment, host_of, order_of, source_of, own_segment}
 use Rattle.ps_resolve.specs.Standing.Slots.{HasRole}
 use Rattle.ps_resolve.specs.declared.reading.added.UnitReference.{UnitReference}
 use Rattle.ps_resolve.proofs.EachSegment.{IsMade, added_made, at_slot, own_made}
@@ -26,37 +23,17 @@ use Rattle.ps_resolve.proofs.EachRound.{request_parts}
 use Rattle.ps_resolve.proofs.Items.{In, all_in}
 use Rattle.ps_resolve.proofs.OfRounds.{segment_named}
 use Rattle.ps_words.specs.declared.order.Order.{Order}
-use Rattle.ps_words.specs.declared.fault.Reason.{Reason}
-
-read_whole : (read : List Record × Option Reason) → read.1 ≡ None → read ≡ (read.0, None)
-read_whole (rs, o) h = ap (λ (o : Option Reason). (rs, o)) h
 
 module _ (order : Order) (host : List ℕ) (libs : List (List ℕ)) where
   -- 1. the entry of a segment, whose code has no fault
   of_file : (slot : ℕ) (name : List ℕ) (r : Role) (place : ℕ × ℕ) (s : Segment)
       → IsMade order host libs slot name r place s
       → code_fault order host libs slot r place ≡ None → IsOfFile order host libs s
-  of_file slot name r place s made fine =
-      let file = file_at host libs place.0 in
-      let entry = entry_at order file place.1 in
-      let linked = rw (made.given, code_fault) at fine in
-      subst (IsOfFile order host libs) (sym made.is) (record {
-        code = made.given;
-        tables = λ h. none_mapped _ _ (or_none _ _ (rw h at linked)).0;
-        records = λ h. rw h (read_whole (reading order (information_of file entry))
-            (none_mapped _ _ (or_none _ _ (rw h at linked)).1));
-        unread = λ h. rw h refl;
-      })
+  of_file slot name r place s made fine = grind (arith, none_mapped, or_none)
 
   as_added_file : (s : Segment) → IsOfFile order host libs s
       → IsOfFile order host libs (as_added s)
-  as_added_file s h = record {
-    code = h.code;
-    tables = h.tables;
-    records = h.records;
-    unread =
-        h.unread;
-  }
+  as_added_file s h = grind arith
 
   -- 2. a slot's own segment, where the sources have no fault
   module _ (fine : sources_fault order host libs ≡ None) where
@@ -68,9 +45,7 @@ module _ (order : Order) (host : List ℕ) (libs : List (List ℕ)) where
     -- a slot has none by its role
     pub role_none : (slot : ℕ) → slot < 16 → (r : Role) → HasRole order host slot r
         → role_fault order host libs slot r ≡ None
-    role_none slot inside r has =
-        sym (ap (option_and_then (role_fault order host libs slot)) (ap result_ok has))
-        ∙ source_none slot inside
+    role_none slot inside r has = grind (arith, source_none slot inside)
 
     pub own_known : (slot : ℕ) (s : Segment) → slot < 16
         → own_segment order host libs slot ≡ Some s
@@ -84,14 +59,7 @@ module _ (order : Order) (host : List ℕ) (libs : List (List ℕ)) where
           of_file slot (entry_at order host slot).name r t.2 s made
               (sym (ap (option_and_then (code_fault order host libs slot r)) t.4)
               ∙ by_role slot r fits),
-          subst (IsOfSlot order host libs) (sym made.is) (record {
-            own = e ∙ ap (λ (q : Segment). Some q) made.is;
-            role = has;
-            name = refl;
-            source = t.4;
-            fits = fits;
-            not_added = refl;
-          }),
+          grind arith,
         )
       where
         by_role : (slot : ℕ) (r : Role) → role_fault order host libs slot r ≡ None
@@ -120,11 +88,7 @@ module _ (host : List ℕ) (libs : List (List ℕ)) (read : reading_fault host l
   parts : (slots_fault order host ≡ None) × (no_host_fault order host ≡ None)
       × (sources_fault order host libs ≡ None) × (added_fault order host libs ≡ None)
   unfolding reading_fault
-  parts =
-      let a = or_none _ _ (or_none _ _ read).1 in
-      let b = or_none _ _ a.1 in
-      let c = or_none _ _ (or_none _ _ b.1).1 in
-      (a.0, b.0, c.0, c.1)
+  parts = grind (arith, or_none)
 
   pub slots_fine : slots_fault order host ≡ None
   slots_fine = parts.0
@@ -151,7 +115,7 @@ module _ (host : List ℕ) (libs : List (List ℕ)) (read : reading_fault host l
         | inl own ↦ (let k = own_known order host libs parts.2 s.slot s inside own in
             (k.0, inl k.1))
         | inr t ↦ (let k = segment_named order host libs t.2.0 s t.2.1 in
-            (round_known order host libs t.2.0 k.0 s k.1, inr (t.2.0, k.0, k.1)))
+            grind (arith, round_known))
       ]
 
   pub of_link : AreOfLink host libs (segments order host libs)

@@ -1,12 +1,12 @@
 -- Each segment that is added is that of a round, and where the rounds end without a fault each name
 -- that is requested has its round.
-use Rattle.std.proofs.Common.{◌≡◌, ℕ, ◌≤◌, List, ◌∷◌, ◌++◌, length, get_or}
-use Rattle.std.proofs.Common.{Option, Some, None, refl, sym, ap, subst, ◌∙◌, inl, inr, arith}
+use Rattle.std.proofs.Common.{◌≡◌, ℕ, ◌≤◌, List, ◌∷◌, ◌++◌, length, Option}
+use Rattle.std.proofs.Common.{Some, None, sym, ap, subst, ◌∙◌, inl, inr, arith}
 use Rattle.std.specs.Prelude.{◌⊎◌, All}
 use Rattle.std.specs.List.{slice_get}
 use Rattle.std.proofs.lemmas.Bool.{cases_lt}
 use Rattle.std.proofs.lemmas.List.{append-nil}
-use Rattle.std.proofs.lemmas.Option.{same_Some, none-some, slice_get-get_or, slice_get_past}
+use Rattle.std.proofs.lemmas.Option.{none-some, slice_get-get_or, slice_get_past}
 use Rattle.ps_codefile.specs.declared.entry.Role.TheVariants as role
 use Rattle.ps_words.specs.declared.order.Order.{Order}
 use Rattle.ps_words.specs.declared.fault.Fault.{Fault}
@@ -14,7 +14,7 @@ use Rattle.ps_resolve.specs.Added.{all_unit_references, empty_slots, placed_faul
 use Rattle.ps_resolve.specs.Added.{added_segment, RoundsOutcome, requested_units, added_segments}
 use Rattle.ps_resolve.specs.Added.{added_fault}
 use Rattle.ps_resolve.specs.OfLink.{IsOfRound}
-use Rattle.ps_resolve.specs.Sources.{Segment, unit_source}
+use Rattle.ps_resolve.specs.Sources.{Segment}
 use Rattle.ps_resolve.specs.declared.reading.added.UnitReference.{UnitReference}
 use Rattle.ps_resolve.proofs.EachRound.{IsTurn, all_rounds, own_units, requested_rest}
 use Rattle.ps_resolve.proofs.EachRound.{segments_before}
@@ -35,30 +35,24 @@ module _ (order : Order) (host : List ℕ) (libs : List (List ℕ)) where
       let before = segments_before order host libs prefix (s ∷ rest) k turn.all turn.many in
       let requested = requested_units order host libs prefix in
       let more = grown (own_units order host libs) requested (all_unit_references (s ∷ rest)) in
-      let all : queue_of ≡ requested ++ more.0 =
-      ap (requested_units order host libs) turn.all
-      ∙ requested_rest order host libs prefix (s ∷ rest) ∙ more.1 in
+      let all : queue_of ≡ requested ++ more.0 = grind (arith, requested_rest) in
       let made = added_made order host libs g slot s from in
       let is : s ≡ as_added
       (segment_with order host libs slot g.name role.Wanted made.0 made.3.code) =
       made.2 ∙ ap as_added made.3.is in
-      let slot_is : slot ≡ s.slot = sym (ap (λ (q : Segment). q.slot) is) in
       let name : s.name ≡ g.name = ap (λ (q : Segment). q.name) is in
       record {
-        earlier = ap (λ (ss : List Segment). slice_get (requested_units order host libs ss) k)
-            before ∙ turn.name;
+        earlier = grind arith;
         requested = ap (λ (gs : List UnitReference). slice_get gs k) all
             ∙ at_left requested more.0 k g turn.name;
-        there = ap (λ (ss : List Segment). slice_get ss k) turn.all
-            ∙ first_right prefix (s ∷ rest) k turn.many;
-        slot = turn.slot_is ∙ ap (λ (n : ℕ). Some n) slot_is;
-        fits = subst (λ (n : ℕ). placed_fault order host libs g n ≡ None) slot_is fits;
-        brought = subst (λ (n : ℕ). added_segment order host libs g n ≡ Some s) slot_is from;
+        there = grind (arith, first_right);
+        slot = grind arith;
+        fits = grind arith;
+        brought = grind arith;
         name = name;
         role = ap (λ (q : Segment). q.role) is;
         is_added = ap (λ (q : Segment). q.added) is;
-        source = ap (λ (n : List ℕ). unit_source order n libs) name ∙ made.4
-            ∙ ap (λ (q : Segment). Some (source_at q)) (sym is);
+        source = grind (arith, source_at);
       }
     where
       source_at : Segment → ℕ × ℕ
@@ -76,23 +70,13 @@ module _ (order : Order) (host : List ℕ) (libs : List (List ℕ)) where
   none_after : (prefix : List Segment) (k : ℕ) → added_segments order host libs ≡ prefix
       → k ≡ length prefix → (j : ℕ) → k ≤ j
       → slice_get (added_segments order host libs) j ≡ None
-  none_after prefix k is many j low =
-      slice_get_past (added_segments order host libs) j
-      (omega (arith, ap (λ (ss : List Segment). length ss) is, many, low))
+  none_after prefix k is many j low = grind (arith, slice_get_past)
 
   -- and no name is left
   no_name : (prefix : List Segment) (k : ℕ) → added_segments order host libs ≡ prefix
       → slice_get (requested_units order host libs prefix) k ≡ None
       → (j : ℕ) → k ≤ j → slice_get queue_of j ≡ None
-  no_name prefix k is none j low = by (slice_get queue_of j) refl
-    where
-      by : (o : Option UnitReference) → slice_get queue_of j ≡ o → o ≡ None
-      by None e = refl
-      by (Some g) e =
-          let there = sym
-          (ap (λ (ss : List Segment). slice_get (requested_units order host libs ss) j) is)
-          ∙ e in
-          absurd (some_before (requested_units order host libs prefix) k j g low there none)
+  no_name prefix k is none j low = grind (arith, some_before)
 
   -- so it is from each round on
   abbrev HaveTurns : ℕ → RoundsOutcome → Type 0
@@ -102,9 +86,9 @@ module _ (order : Order) (host : List ℕ) (libs : List (List ℕ)) where
   turns j =
       all_rounds order host libs HaveTurns
       (λ prefix k is many none j low. inr
-      (none_after prefix k is many j low, λ _. no_name prefix k is none j low))
+      (none_after prefix k is many j low, grind (arith, no_name)))
       (λ prefix k g slot f turn is j low. inr
-      (none_after prefix k (turn.all ∙ append-nil prefix) turn.many j low, λ e. absurd (cc)))
+      (grind (arith, none_after, append-nil), λ e. absurd (cc)))
       (λ prefix k g slot s rest turn fits from later j low. elim (cases_lt k j) [
         | inl h ↦ later j (omega (arith, h))
         | inr h ↦ subst (HasTurn rest.fault) (omega (arith, h, low))
@@ -116,11 +100,7 @@ module _ (order : Order) (host : List ℕ) (libs : List (List ℕ)) where
       → slice_get (added_segments order host libs) j ≡ Some s
       → (g : UnitReference) × IsOfRound order host libs j g s
   segment_named j s e = elim (turns j) [
-    | inl t ↦ (
-      t.0,
-      subst (IsOfRound order host libs j t.0)
-          (same_Some t.1 s (sym t.2.there ∙ e)) t.2,
-    )
+    | inl t ↦ grind arith
     | inr n ↦ absurd (none-some s (sym n.0 ∙ e))
   ]
 
@@ -133,10 +113,7 @@ module _ (order : Order) (host : List ℕ) (libs : List (List ℕ)) where
   pub each_added : (P : Segment → Type 0)
       → ((j : ℕ) (g : UnitReference) (s : Segment) → IsOfRound order host libs j g s → P s)
       → All P (added_segments order host libs)
-  each_added P h i d lt =
-      let added = added_segments order host libs in
-      let t = segment_named i (get_or added i d) (slice_get-get_or added i d lt) in
-      h i t.0 (get_or added i d) t.1
+  each_added P h i d lt = grind (arith, segment_named, slice_get-get_or)
 
   -- a round has a name and its segment, or neither
   abbrev pub HasRound : ℕ → Type 0
@@ -147,18 +124,11 @@ module _ (order : Order) (host : List ℕ) (libs : List (List ℕ)) where
 
   module _ (fine : added_fault order host libs ≡ None) where
     pub round_at : (j : ℕ) → HasRound j
-    round_at j = elim (turns j) [
-      | inl t ↦ inl t
-      | inr n ↦ inr (n.1 fine, n.0)
-    ]
+    round_at j = grind (arith, turns)
 
     pub name_placed : (j : ℕ) (g : UnitReference) → slice_get queue_of j ≡ Some g
         → (s : Segment) × IsOfRound order host libs j g s
     name_placed j g e = elim (round_at j) [
-      | inl t ↦ (
-        t.1,
-        subst (λ (h : UnitReference). IsOfRound order host libs j h t.1)
-            (same_Some t.0 g (sym t.2.requested ∙ e)) t.2,
-      )
+      | inl t ↦ grind arith
       | inr n ↦ absurd (none-some g (sym n.0 ∙ e))
     ]

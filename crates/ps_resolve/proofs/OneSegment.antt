@@ -1,7 +1,7 @@
 -- The edits of one segment link it.
-use Rattle.std.proofs.Common.{◌≡◌, ℕ, ◌-◌, ◌++◌, List, [], ◌∷◌, length, Bool}
-use Rattle.std.proofs.Common.{true, false, Option, refl, sym, ◌∙◌, ap, subst}
-use Rattle.std.specs.Prelude.{IsPermutation, if◌then◌else◌}
+use Rattle.std.proofs.Common.{rules, arith, ◌≡◌, ℕ, ◌-◌, ◌++◌, List, [], ◌∷◌}
+use Rattle.std.proofs.Common.{length, true, Option}
+use Rattle.std.specs.Prelude.{IsPermutation}
 use Rattle.std.specs.Option.{option_to_list}
 use Rattle.std.proofs.lemmas.List.Sorted.{IsPermutation-sym}
 use Rattle.ps_words.specs.Edits.{AreApart, AreEdits, patched_byte}
@@ -13,12 +13,7 @@ use Rattle.ps_resolve.specs.Edits.{data_size_edit}
 use Rattle.ps_resolve.specs.Linking.{data_edits, segment_edits}
 use Rattle.ps_resolve.specs.Plans.{LinksSegment}
 use Rattle.ps_resolve.specs.References.{Known, records_edits}
-use Rattle.ps_resolve.specs.Views.{segment_of}
-use Rattle.ps_resolve.specs.Views.{SegmentView}
-
-if_true : {X : Type 0} (b : Bool) (x y : X) → b ≡ true → (if b then x else y) ≡ x
-if_true true x y h = refl
-if_true false x y h = cc
+use Rattle.ps_resolve.specs.Views.{segment_of, SegmentView}
 
 -- the number of a segment that is linked, its own edit, and the edits of its references
 abbrev pub all_of : Known → SegmentView → Option Edit → ℕ → List Edit
@@ -28,19 +23,11 @@ all_of known v own free = Byte v.slot (length v.code - 2)
 module _ (order : Order) (known : Known) (v : SegmentView) (free : ℕ) where
   -- one whose references are resolved
   module _ (h : needs_linking v.role ≡ true) (size : Edit) where
-    own_is : (b : Bool) (es : List Edit) → (b ≡ true → es ≡ size ∷ [])
-        → option_to_list (data_size_edit b size) ≡ (if b then es else [])
-    own_is true es e = sym (e refl)
-    own_is false es e = refl
-
     listed : (words : ℕ) → (is_host v.role ≡ true
         → data_edits order words v.code ≡ size ∷ [])
         → segment_edits order known words free (segment_of v)
         ≡ all_of known v (data_size_edit (is_host v.role) size) free
-    listed words e = if_true (needs_linking v.role) _ [] h
-        ∙ ap (λ (es : List Edit). Byte v.slot (length v.code - 2)
-        ∷ (es ++ records_edits known v.code free v.records))
-        (sym (own_is (is_host v.role) (data_edits order words v.code) e))
+    listed words e = grind arith
 
     pub linked_links : (sorted : List Edit)
         → IsPermutation (all_of known v (data_size_edit (is_host v.role) size) free) sorted
@@ -56,12 +43,4 @@ module _ (order : Order) (known : Known) (v : SegmentView) (free : ℕ) where
           edits =
               segment_edits order known words free (segment_of v);
         }) sorted
-    linked_links sorted same ready alike words e =
-        let all : List Edit = all_of known v (data_size_edit (is_host v.role) size) free in
-        let is = listed words e in
-        record {
-          ready = ready;
-          each = subst (λ (es : List Edit). IsPermutation es sorted) (sym is) same;
-          bytes = λ p lt. alike sorted all p ready.apart (IsPermutation-sym all sorted same)
-              ∙ ap (λ (es : List Edit). patched_byte order v.code es p) (sym is);
-        }
+    linked_links sorted same ready alike words e = search (rules, IsPermutation-sym)

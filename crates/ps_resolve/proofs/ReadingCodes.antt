@@ -1,14 +1,12 @@
 -- How long a code is that is whole in its file, and which kinds have one of a linked segment.
-use Rattle.std.proofs.Common.{◌≡◌, ◌==◌, ◌&&◌, ◌||◌, ◌+◌, ◌*◌, ◌%◌}
-use Rattle.std.proofs.Common.{◌≤◌, ◌-◌, ℕ, List, drop, length, Bool, true, false}
-use Rattle.std.proofs.Common.{if◌then◌else◌, Ok, Err, refl, sym, ◌∙◌, ap, arith}
+use Rattle.std.proofs.Common.{◌≡◌, ◌&&◌, ◌||◌, ◌+◌, ◌≤◌, ℕ, List, length}
+use Rattle.std.proofs.Common.{Bool, true, false, if◌then◌else◌, Ok, Err, arith}
 use Rattle.std.proofs.Math.Dec.{ltb}
 use Rattle.std.specs.List.{slice_range}
 use Rattle.std.proofs.lemmas.List.{length-take, length-drop}
-use Rattle.std.proofs.lemmas.Bool.Decides.{nat_tests}
 use Rattle.ps_words.specs.declared.fault.Reason.TheVariants as reason
 use Rattle.ps_codefile.specs.declared.entry.Entry.{Entry}
-use Rattle.ps_codefile.specs.Dictionary.{code_of, has_bad_length, kind_needs_linking}
+use Rattle.ps_codefile.specs.Dictionary.{code_of, kind_needs_linking}
 use Rattle.ps_codefile.specs.declared.code_layout.TheConstants.{MAX_CODE_LEN}
 
 -- a code that is given has no bad length, is not cut short, and is the slice of its file
@@ -16,33 +14,22 @@ pub whole_code : (bad zero short : Bool) (x code : List ℕ)
     → (if bad then Err reason.BadLength
     else (if zero then Err reason.BadAddress else (if short then Err reason.Truncated else Ok x)))
     ≡ Ok code → (bad ≡ false) × (short ≡ false) × (x ≡ code)
-whole_code true zero short x code h = cc
-whole_code false true short x code h = cc
-whole_code false false true x code h = cc
-whole_code false false false x code h = (refl, refl, cc)
+whole_code bad h short x code k = grind arith
 
 -- a slice of n bytes that ends within the file has n bytes
 length_within : (xs : List ℕ) (a n : ℕ) → ltb (length xs) (a + n) ≡ false
     → length (slice_range xs a (a + n)) ≡ n
-length_within xs a n h =
-    let le : a + n ≤ length xs = grind (arith, nat_tests) in
-    omega (arith, length-take (a + n - a) (drop a xs), length-drop a xs)
+length_within xs a n h = grind (arith, length-take, length-drop)
 
 -- a length that is not refused is MAX_CODE_LEN at most
 small_code : (n : ℕ) (other : Bool) → (ltb MAX_CODE_LEN n || other) ≡ false
     → n ≤ MAX_CODE_LEN
-small_code n other h = at (ltb MAX_CODE_LEN n) refl
-  where
-    at : (b : Bool) → ltb MAX_CODE_LEN n ≡ b → n ≤ MAX_CODE_LEN
-    at true q = let e : true ≡ false = rw q at h in cc
-    at false q = grind (arith, nat_tests)
+small_code n other h = grind arith
 
 -- the length of a linked segment that is not refused is 4 at least
 large_code : (n : ℕ) (long odd : Bool) → (long || (true && (odd || ltb n 4))) ≡ false
     → 4 ≤ n
-large_code n true odd h = cc
-large_code n false true h = cc
-large_code n false false h = grind (arith, nat_tests)
+large_code n long odd h = grind arith
 
 pub record IsWholeCode (e : Entry) (code : List ℕ) : Type 0 where
   pub len : length code ≡ e.length
@@ -52,13 +39,4 @@ pub record IsWholeCode (e : Entry) (code : List ℕ) : Type 0 where
 -- a code with which nothing is wrong has the length of its entry, which is within its limits
 pub whole : (file : List ℕ) (e : Entry) (code : List ℕ) → code_of file e ≡ Ok code
     → IsWholeCode e code
-whole file e code h =
-    let parts = whole_code (has_bad_length e) (e.address == 0)
-    (ltb (length file) (512 * e.address + e.length))
-    (slice_range file (512 * e.address) (512 * e.address + e.length)) code h in
-    record {
-      len = ap length (sym parts.2) ∙ length_within file (512 * e.address) e.length parts.1;
-      small = small_code e.length _ parts.0;
-      large = λ linked. large_code e.length (ltb MAX_CODE_LEN e.length) (e.length % 2 == 1)
-          (rw linked at parts.0);
-    }
+whole file e code h = grind (arith, ltb, length_within, small_code, large_code)

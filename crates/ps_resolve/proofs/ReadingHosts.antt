@@ -1,6 +1,6 @@
 -- The host, read by itself, and what is known of the segments of a link once the files were read
 -- without a fault.
-use Rattle.std.proofs.Common.{◌≡◌, ℕ, List, length, Bool, true, false, if◌then◌else◌}
+use Rattle.std.proofs.Common.{arith, ◌≡◌, ℕ, List, length, Bool, if◌then◌else◌}
 use Rattle.std.proofs.Common.{Option, Some, Ok, Err}
 use Rattle.std.proofs.Math.Dec.{ltb}
 use Rattle.std.specs.Option.{option_or}
@@ -9,8 +9,7 @@ use Rattle.ps_words.specs.declared.order.Order.{Order}
 use Rattle.ps_words.specs.declared.fault.Reason.{Reason}
 use Rattle.ps_words.specs.declared.fault.Reason.TheVariants as reason
 use Rattle.ps_words.specs.declared.fault.Fault.{Fault}
-use Rattle.ps_codefile.specs.Dictionary.{OpenedFile, FileOrder, Zero, file_order, opened_alone}
-use Rattle.ps_codefile.specs.Dictionary.{opened_as}
+use Rattle.ps_codefile.specs.Dictionary.{OpenedFile, FileOrder, file_order, opened_alone, opened_as}
 use Rattle.ps_resolve.specs.Sources.{known_order, order_of}
 use Rattle.ps_resolve.specs.Faults.{slots_fault, no_host_fault, libraries_fault}
 use Rattle.ps_resolve.specs.AllFaults.{reading_fault, reading_rest}
@@ -19,9 +18,7 @@ use Rattle.ps_resolve.specs.AllFaults.{reading_fault, reading_rest}
 read_as : (short : Bool) (of : FileOrder) (file : List ℕ) (o : OpenedFile)
     → (if short then Err reason.ShortFile else opened_as file of) ≡ Ok o
     → o ≡ record { order = known_order of; file = file }
-read_as true of file o h = cc
-read_as false Zero file o h = cc
-read_as false other file o h = cc
+read_as short of file o h = grind arith
 
 pub host_refused : (host : List ℕ) (libs : List (List ℕ)) (why : Reason)
     → opened_alone host ≡ Err why → reading_fault host libs ≡ Some (in_file 0 why)

@@ -1,10 +1,8 @@
 -- What is read of the slots of a host, where reading has no fault: the segments of the link.
-use Rattle.std.proofs.Common.{◌≡◌, ℕ, List, [], ◌∷◌, ◌++◌, ◌==◌, ◌≢◌}
-use Rattle.std.proofs.Common.{take, Bool, false, if◌then◌else◌, Option, Some, None, Result}
-use Rattle.std.proofs.Common.{Ok, Err, refl, sym, ◌∙◌, ap}
-use Rattle.std.specs.List.{cons_option, filter_map, find}
-use Rattle.std.proofs.lemmas.Bool.{eq-eqb, ne_eqb}
-use Rattle.std.specs.Option.{option_and_then, option_map, option_map_or, option_or}
+use Rattle.std.proofs.Common.{arith, ◌≡◌, ℕ, List, [], ◌∷◌, ◌++◌, ◌≢◌, take}
+use Rattle.std.proofs.Common.{Option, Some, None, Result, Ok, Err, refl, ◌∙◌}
+use Rattle.std.specs.List.{filter_map, find}
+use Rattle.std.specs.Option.{option_and_then, option_map, option_or}
 use Rattle.std.specs.Result.{result_ok}
 use Rattle.ps_words.specs.declared.order.Order.{Order}
 use Rattle.ps_words.specs.FaultPlaces.{in_file}
@@ -16,9 +14,9 @@ use Rattle.ps_resolve.specs.Sources.{Segment, own_segment, own_segments, opened_
 use Rattle.ps_resolve.specs.Sources.{units_of}
 use Rattle.ps_resolve.specs.Faults.{slots_fault, no_host_fault, libraries_fault, source_fault}
 use Rattle.ps_resolve.specs.Faults.{sources_fault}
-use Rattle.ps_resolve.specs.Added.{RoundsOutcome, added_fault, all_unit_references, empty_slots}
-use Rattle.ps_resolve.specs.Added.{requested_from, rounds, rounds_in, rounds_of, segments}
-use Rattle.ps_resolve.specs.AllFaults.{reading_fault, reading_rest}
+use Rattle.ps_resolve.specs.Added.{RoundsOutcome, all_unit_references, empty_slots, requested_from}
+use Rattle.ps_resolve.specs.Added.{rounds, rounds_in, segments}
+use Rattle.ps_resolve.specs.AllFaults.{reading_fault}
 use Rattle.ps_resolve.specs.Readings.{HostFiles, all_read, host_reading_fault, own_reading_fault}
 use Rattle.ps_resolve.specs.Readings.{opened_host, read_requests, read_rounds, read_segment}
 use Rattle.ps_resolve.specs.Readings.{read_segments, fault_of_added, queued_request, slot_after}
@@ -36,13 +34,7 @@ module _ (order : Order) (host : List ℕ) (libs : List (List ℕ)) where
       → filter_map (read_segment order host libs) xs
       ≡ filter_map (own_segment order host libs) xs
   read_from [] h = refl
-  read_from (x ∷ xs) h =
-      let fine : source_fault order host libs x ≡ None =
-      neither_first _ (first_of (source_fault order host libs) xs) h in
-      let here : read_segment order host libs x ≡ own_segment order host libs x = rw fine refl in
-      let rest = read_from xs (neither_second (source_fault order host libs x) _ h) in
-      ap (λ (o : Option Segment). cons_option o (filter_map (read_segment order host libs) xs))
-      here ∙ ap (cons_option (own_segment order host libs x)) rest
+  read_from (x ∷ xs) h = grind (arith, neither_second, read_from xs)
 
   pub read_are : sources_fault order host libs ≡ None
       → read_segments order host libs ≡ own_segments order host libs
@@ -52,28 +44,13 @@ module _ (order : Order) (host : List ℕ) (libs : List (List ℕ)) where
   pub rounds_are : sources_fault order host libs ≡ None
       → read_rounds order host libs ≡ rounds order host libs
   unfolding read_rounds rounds
-  rounds_are h = ap (rounds_of order host libs) (read_are h)
+  rounds_are h = grind (arith, read_are)
 
   -- all that were read are the segments of the link
   pub all_are : sources_fault order host libs ≡ None
       → all_read order host libs ≡ segments order host libs
   unfolding all_read
-  all_are h =
-      ap (λ (own : List Segment). segments_in_slots order host own
-      (read_rounds order host libs).added) (read_are h)
-      ∙ (ap (λ (r : RoundsOutcome). segments_in_slots order host
-      (own_segments order host libs) r.added) (rounds_are h) ∙ in_slots_are order host libs)
-
-  -- the first fault of their sources and of the units that are added
-  sources_then : option_or (sources_fault order host libs) (read_rounds order host libs).fault
-      ≡ reading_rest order host libs
-  sources_then = by (sources_fault order host libs) refl
-    where
-      by : (o : Option Fault) → sources_fault order host libs ≡ o
-          → option_or (sources_fault order host libs) (read_rounds order host libs).fault
-          ≡ reading_rest order host libs
-      by (Some fault) e = rw e refl
-      by None e = rw e (ap (λ (r : RoundsOutcome). r.fault) (rounds_are e))
+  all_are h = grind (arith, read_are, rounds_are, in_slots_are)
 
 module _ (order : Order) (host : List ℕ) (libs : List (List ℕ)) where
   pub libraries_are : libraries_fault order libs ≡ None → opened_files order libs ≡ libs
@@ -87,26 +64,12 @@ module _ (order : Order) (host : List ℕ) (libs : List (List ℕ)) where
   -- the first fault of a host and its libraries, as it is defined step by step
   pub reading_is : host_reading_fault order host libs ≡ rest_of order host libs
   unfolding host_reading_fault
-  reading_is = ap (λ (o : Option Fault). option_or (slots_fault order host)
-      (option_or (no_host_fault order host) o)) (by (libraries_fault order libs) refl)
-    where
-      by : (o : Option Fault) → libraries_fault order libs ≡ o
-          → option_or (libraries_fault order libs) (sources_rest (opened_files order libs))
-          ≡ option_or (libraries_fault order libs) (reading_rest order host libs)
-      by (Some fault) e = rw e refl
-      by None e = rw e (ap sources_rest (libraries_are e) ∙ sources_then order host libs)
+  reading_is = grind (arith, libraries_are, rounds_are)
 
   -- where there is none, the segments that were read are those of the link
   pub segments_are : host_reading_fault order host libs ≡ None
       → all_read order host (opened_files order libs) ≡ segments order host libs
-  segments_are h =
-      let behind = neither_second (no_host_fault order host) _
-      (neither_second (slots_fault order host) _ (sym reading_is ∙ h)) in
-      let opened = libraries_are (neither_first (libraries_fault order libs)
-      (reading_rest order host libs) behind) in
-      let fine = neither_first (sources_fault order host libs) (added_fault order host libs)
-      (neither_second (libraries_fault order libs) (reading_rest order host libs) behind) in
-      ap (all_read order host) opened ∙ all_are order host libs fine
+  segments_are h = grind (arith, reading_is, libraries_are, neither_first, all_are)
 
   -- what is read of the slots, by the words of the definitions
   abbrev files : List (List ℕ)
@@ -117,22 +80,7 @@ module _ (order : Order) (host : List ℕ) (libs : List (List ℕ)) where
       → last ≡ (read_rounds order host files).fault
       → option_or own last ≡ host_reading_fault order host libs
   unfolding own_reading_fault host_reading_fault
-  units_last own last is ends =
-      ap (λ (o : Option Fault). option_or o last) is
-      ∙
-      (ap (option_or (option_or (option_or (slots_fault order host)
-      (option_or (no_host_fault order host) (libraries_fault order libs)))
-      (sources_fault order host files))) ends
-      ∙ in_turn (slots_fault order host) (no_host_fault order host) (libraries_fault order libs)
-      (sources_fault order host files) (read_rounds order host files).fault)
-    where
-      in_turn : (a b c d e : Option Fault)
-          → option_or (option_or (option_or a (option_or b c)) d) e
-          ≡ option_or a (option_or b (option_or c (option_or d e)))
-      in_turn (Some fault) b c d e = refl
-      in_turn None (Some fault) c d e = refl
-      in_turn None None (Some fault) d e = refl
-      in_turn None None None d e = refl
+  units_last own last is ends = grind arith
 
   pub own_is : (of_files sources own : Option Fault) → own ≡ option_or of_files sources
       → of_files ≡ option_or (slots_fault order host)
@@ -140,42 +88,30 @@ module _ (order : Order) (host : List ℕ) (libs : List (List ℕ)) where
       → sources ≡ sources_fault order host files
       → own ≡ own_reading_fault order host libs
   unfolding own_reading_fault
-  own_is of_files sources own is first second =
-      is ∙ (ap (λ (o : Option Fault). option_or o sources) first
-      ∙ ap (option_or (option_or (slots_fault order host)
-      (option_or (no_host_fault order host) (libraries_fault order libs)))) second)
+  own_is of_files sources own is first second = grind arith
 
   pub first_own : (fault : Fault) → own_reading_fault order host libs ≡ Some fault
       → host_reading_fault order host libs ≡ Some fault
-  first_own fault h =
-      sym (units_last (own_reading_fault order host libs)
-      (read_rounds order host files).fault refl refl)
-      ∙ ap (λ (o : Option Fault). option_or o (read_rounds order host files).fault) h
+  first_own fault h = grind (
+    arith,
+    units_last (own_reading_fault order host libs) (read_rounds order host files).fault refl refl,
+  )
 
   module _ (own : List Segment) (is : own ≡ read_segments order host files) where
     pub in_rounds : (empty : List ℕ) → empty ≡ empty_slots order host
         → rounds_in order host files own empty ≡ read_rounds order host files
     unfolding read_rounds
-    in_rounds empty left = ap (rounds_in order host files own) left
-        ∙ ap (λ (segs : List Segment). rounds_in order host files segs (empty_slots order host))
-        is
+    in_rounds empty left = grind arith
 
     module _ (added : List Segment) (with : added ≡ (read_rounds order host files).added) where
       pub all_of : segments_in_slots order host own added ≡ all_read order host files
       unfolding all_read
-      all_of = ap (segments_in_slots order host own) with
-          ∙ ap (λ (segs : List Segment). segments_in_slots order host segs
-          (read_rounds order host files).added) is
+      all_of = grind arith
 
       pub requests_of : take 10 (requested_from (units_of own) []
           (all_unit_references (own ++ added))) ≡ read_requests order host files
       unfolding read_requests
-      requests_of =
-          ap (λ (segs : List Segment). take 10
-          (requested_from (units_of own) [] (all_unit_references (own ++ segs)))) with
-          ∙ ap (λ (segs : List Segment). take 10
-          (requested_from (units_of segs) []
-          (all_unit_references (segs ++ (read_rounds order host files).added)))) is
+      requests_of = grind arith
 
 -- a host that is opened or refused
 pub host_err : (host : List ℕ) (libs : List (List ℕ)) (why : Reason)
@@ -200,20 +136,18 @@ host_ok host libs v h = by (opened_alone host) refl
         let t : ◌≡◌ {A = Result HostFiles Reason}
         (Ok (record { order = o.order; file = o.file; libs = libs })) (Ok v) =
         rw (e, opened_host) at h in
-        let is : record { order = o.order; file = o.file; libs = libs } ≡ v = cc in (
-          e ∙ ap (λ (x : HostFiles). Ok (record { order = x.order; file = x.file })) is,
-          sym (ap (λ (x : HostFiles). x.libs) is),
-        )
+        grind arith
 
 -- so its first fault is that of the reading of its files
 pub fault_of_host : (host : List ℕ) (libs : List (List ℕ)) (v : HostFiles)
     → opened_host host libs ≡ Ok v → host_reading_fault v.order v.file v.libs
     ≡ reading_fault host libs
-fault_of_host host libs v h =
-    let t = host_ok host libs v h in
-    ap (host_reading_fault v.order v.file) t.1
-    ∙ (reading_is v.order v.file libs
-    ∙ sym (host_read host libs (record { order = v.order; file = v.file }) t.0))
+fault_of_host host libs v h = grind (
+  arith,
+  host_ok host libs v h,
+  reading_is v.order v.file libs,
+  host_read host libs (record { order = v.order; file = v.file }),
+)
 
 pub fault_of_none : (host : List ℕ) (libs : List (List ℕ)) (why : Reason)
     → opened_host host libs ≡ Err why → reading_fault host libs ≡ Some (in_file 0 why)
@@ -224,10 +158,7 @@ pub host_of_files : (host : List ℕ) (libs : List (List ℕ)) (v : HostFiles)
     → opened_host host libs ≡ Ok v → v
     ≡ record { order = order_of host; file = host; libs = libs }
 host_of_files host libs v h =
-    let t = host_ok host libs v h in
-    ap (λ (o : OpenedFile). record { order = o.order; file = o.file; libs = v.libs })
-    (host_is host (record { order = v.order; file = v.file }) t.0)
-    ∙ ap (λ (xs : List (List ℕ)). record { order = order_of host; file = host; libs = xs }) t.1
+    grind (arith, host_ok host libs v h, host_is host (record { order = v.order; file = v.file }))
 
 -- what is read of a slot
 module _ (order : Order) (host : List ℕ) (files : List (List ℕ)) (slot : ℕ) where
@@ -245,33 +176,21 @@ module _ (order : Order) (host : List ℕ) (files : List (List ℕ)) (slot : ℕ
 
     pub next_by : (next : ℕ) → slot_after added (empty_slots order host) ≡ Some next
         → next ≡ slot → slot_fault order host files slot ≡ added.fault
-    next_by next e same =
-        at_next ∙ (ap (λ (o : Option ℕ). if option_map_or (λ (n : ℕ). n == slot) o false
-        then added.fault else None) e ∙ ap (λ (b : Bool). if b then added.fault else None)
-        (eq-eqb next slot same))
+    next_by next e same = grind arith
 
     pub other_by : (next : ℕ) → slot_after added (empty_slots order host) ≡ Some next
         → next ≢ slot → slot_fault order host files slot ≡ None
-    other_by next e differs = at_next ∙
-        (ap (λ (o : Option ℕ). if option_map_or (λ (n : ℕ). n == slot) o false
-        then added.fault else None) e ∙ ap (λ (b : Bool). if b then added.fault else None)
-        (ne_eqb next slot differs))
+    other_by next e differs = grind arith
 
     pub none_by : slot_after added (empty_slots order host) ≡ None
         → slot_fault order host files slot ≡ None
-    none_by e = at_next ∙ ap (λ (o : Option ℕ). if option_map_or
-        (λ (n : ℕ). n == slot) o false then added.fault else None) e
+    none_by e = grind arith
 
   pub reading_by : (segs : List Segment) (o : Option Segment)
       → slot_fault order host files slot ≡ None → segs ≡ all_read order host files
       → o ≡ find (is_in_slot slot) segs
       → slot_reading order host files slot ≡ option_map Ok o
-  reading_by segs o fine all found =
-      ap (λ (f : Option Fault). elim f [
-        | Some fault ↦ Some (Err fault)
-        | None ↦ option_map Ok (find (is_in_slot slot) (all_read order host files))
-      ]) fine
-      ∙ ap (option_map (λ (s : Segment). Ok s)) (sym (found ∙ ap (find (is_in_slot slot)) all))
+  reading_by segs o fine all found = grind arith
 
   -- the request of a slot
   abbrev own : Option Request
@@ -280,10 +199,8 @@ module _ (order : Order) (host : List ℕ) (files : List (List ℕ)) (slot : ℕ
 
   pub request_of_slot : (r : Request) → own ≡ Some r
       → slot_request order host files slot ≡ Some r
-  request_of_slot r e = ap (λ (o : Option Request). option_or o
-      (queued_request (read_requests order host files) (empty_slots order host) slot)) e
+  request_of_slot r e = grind arith
 
   pub request_by : own ≡ None → slot_request order host files slot
       ≡ queued_request (read_requests order host files) (empty_slots order host) slot
-  request_by e = ap (λ (o : Option Request). option_or o
-      (queued_request (read_requests order host files) (empty_slots order host) slot)) e
+  request_by e = grind arith

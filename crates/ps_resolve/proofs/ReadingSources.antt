@@ -1,21 +1,18 @@
 -- The segments of a link, slot by slot.
 use Rattle.std.proofs.Common.{◌≡◌, ℕ, ◌+◌, ◌-◌, ◌<◌, ◌≤◌, List, []}
 use Rattle.std.proofs.Common.{◌∷◌, ◌++◌, append_assoc, length, length-append, map, Option}
-use Rattle.std.proofs.Common.{Some, None, Result, Ok, ◌⊎◌, inl, inr, ⊎_elim, refl, sym}
-use Rattle.std.proofs.Common.{◌∙◌, ap, subst, arith}
+use Rattle.std.proofs.Common.{Some, None, Ok, ◌⊎◌, inl, inr, refl, arith}
 use Rattle.std.specs.List.{range_with_len, filter_map}
 use Rattle.std.specs.Prelude.{All}
 use Rattle.std.specs.Option.{option_map, option_and_then, option_to_list, IfSome}
-use Rattle.std.specs.Result.{result_ok}
 use Rattle.std.proofs.lemmas.List.{map-append}
 use Rattle.std.proofs.lemmas.List.Elements.{All-nil, All-cons, All-append}
 use Rattle.ps_words.specs.declared.order.Order.{Order}
-use Rattle.ps_words.specs.declared.fault.Reason.{Reason}
 use Rattle.ps_codefile.specs.declared.entry.Role.{Role}
 use Rattle.ps_codefile.specs.declared.entry.Role.TheVariants as role
 use Rattle.ps_codefile.specs.Dictionary.{entry_at, role_of}
 use Rattle.ps_resolve.specs.Sources.{Segment, own_segment, segment_from, source_of}
-use Rattle.ps_resolve.specs.Faults.{source_fault, role_fault, code_fault}
+use Rattle.ps_resolve.specs.Faults.{source_fault, code_fault}
 use Rattle.ps_resolve.proofs.FirstSlots.{range_more}
 
 -- a segment that is in the host file
@@ -24,8 +21,7 @@ IsOwn r = (r ≡ role.Plain) ⊎ ((r ≡ role.Host) ⊎ (r ≡ role.Unit))
 
 own_each : (P : Role → Type 0) → P role.Plain → P role.Host → P role.Unit → (r : Role)
     → IsOwn r → P r
-own_each P plain host unit r is = ⊎_elim (λ e. subst P (sym e) plain)
-    (λ rest. ⊎_elim (λ e. subst P (sym e) host) (λ e. subst P (sym e) unit) rest) is
+own_each P plain host unit r is = grind arith
 
 pub is_own_host : IsOwn role.Host
 is_own_host = inr (inl refl)
@@ -40,44 +36,14 @@ segment_as order host libs slot r = option_and_then
 pub own_fault : (order : Order) (host : List ℕ) (libs : List (List ℕ)) (slot : ℕ) (r : Role)
     → role_of (entry_at order host slot) ≡ Ok r → IsOwn r
     → source_fault order host libs slot ≡ code_fault order host libs slot r (0, slot)
-own_fault order host libs slot r of is =
-    ap (λ (q : Result Role Reason). option_and_then (role_fault order host libs slot)
-    (result_ok q)) of
-    ∙ own_each (λ (r : Role). role_fault order host libs slot r
-    ≡ code_fault order host libs slot r (0, slot)) refl refl refl r is
+own_fault order host libs slot r of is = grind arith
 
 -- the own segment of a slot of role Plain, Host or Unit is read from the entry of the host there
 pub read_from_host : (order : Order) (host : List ℕ) (libs : List (List ℕ)) (slot : ℕ)
     (r : Role) → role_of (entry_at order host slot) ≡ Ok r → IsOwn r
     → own_segment order host libs slot
     ≡ segment_from order host libs slot (entry_at order host slot).name r (0, slot)
-read_from_host order host libs slot r of is =
-    ap (λ (q : Result Role Reason). option_and_then (segment_as order host libs slot)
-    (result_ok q)) of
-    ∙ own_each (λ (r : Role). segment_as order host libs slot r
-    ≡ segment_from order host libs slot (entry_at order host slot).name r (0, slot)) refl refl
-    refl r is
-
--- what is kept of the numbers from i on is that of i and what is kept after it
-pub kept_more : {Y : Type 0} (h : ℕ → Option Y) (i n : ℕ) → i < n
-    → filter_map h (range_with_len i (n - i))
-    ≡ option_to_list (h i) ++ filter_map h (range_with_len (i + 1) (n - (i + 1)))
-kept_more {Y = Y} h i n lt = ap (λ (xs : List ℕ). filter_map h xs) (range_more i n lt)
-    ∙ at (h i) refl
-  where
-    at : (o : Option Y) → h i ≡ o → filter_map h (i ∷ range_with_len (i + 1) (n - (i + 1)))
-        ≡ option_to_list (h i) ++ filter_map h (range_with_len (i + 1) (n - (i + 1)))
-    at None e = rw e
-    at (Some y) e = rw e
-
-pub mapped_one : {X Y : Type 0} (f : X → Y) (o : Option X)
-    → map f (option_to_list o) ≡ option_to_list (option_map f o)
-mapped_one f None = refl
-mapped_one f (Some x) = refl
-
-pub at_most_one : {X : Type 0} (o : Option X) → length (option_to_list o) ≤ 1
-at_most_one None = omega arith
-at_most_one (Some x) = omega arith
+read_from_host order host libs slot r of is = grind arith
 
 -- one segment more
 pub all_with : {X : Type 0} (P : X → Type 0) (xs : List X) (o : Option X) → All P xs
@@ -91,15 +57,8 @@ pub kept_on : {X Y : Type 0} (f : X → Y) (h : ℕ → Option Y) (xs : List X) 
     (i n : ℕ) → i < n → option_map f o ≡ h i
     → map f xs ++ filter_map h (range_with_len i (n - i))
     ≡ map f (xs ++ option_to_list o) ++ filter_map h (range_with_len (i + 1) (n - (i + 1)))
-kept_on {X} {Y} f h xs o i n lt is =
-    let rest = filter_map h (range_with_len (i + 1) (n - (i + 1))) in
-    let one : option_to_list (h i) ≡ map f (option_to_list o) =
-    ap (λ (y : Option Y). option_to_list y) (sym is) ∙ sym (mapped_one f o) in
-    ap (λ (ys : List Y). map f xs ++ ys)
-    (kept_more h i n lt ∙ ap (λ (ys : List Y). ys ++ rest) one)
-    ∙ (sym (append_assoc (map f xs) (map f (option_to_list o)) rest)
-    ∙ ap (λ (ys : List Y). ys ++ rest) (sym (map-append f xs (option_to_list o))))
+kept_on {X} {Y} f h xs o i n lt is = grind (arith, range_more, append_assoc, map-append)
 
 pub few_more : {X : Type 0} (xs : List X) (o : Option X) (n : ℕ) → length xs ≤ n
     → length (xs ++ option_to_list o) ≤ n + 1
-few_more xs o n h = omega (arith, length-append xs (option_to_list o), at_most_one o)
+few_more xs o n h = grind (arith, length-append)

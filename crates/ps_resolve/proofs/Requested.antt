@@ -1,8 +1,7 @@
 -- The unit of a request: its fault and its segment by the library that has it, and the request of a
 -- slot that wants a unit.
-use Rattle.std.proofs.Common.{◌≡◌, ℕ, List, Bool, true, false, ◌||◌, ◌&&◌, ◌==◌}
-use Rattle.std.proofs.Common.{not, Option, Some, None, Result, Ok, Err, ◌+◌, refl, ◌∙◌}
-use Rattle.std.proofs.Common.{ap}
+use Rattle.std.proofs.Common.{arith, ◌≡◌, ℕ, List, Bool, false, ◌&&◌, not, Option, Some}
+use Rattle.std.proofs.Common.{None, Result, Ok, ◌+◌, refl, ◌∙◌, ap}
 use Rattle.std.specs.Prelude.{if◌then◌else◌}
 use Rattle.std.specs.List.{find}
 use Rattle.std.specs.Option.{option_and_then, option_map}
@@ -10,19 +9,17 @@ use Rattle.std.specs.Result.{result_ok}
 use Rattle.ps_words.specs.FaultPlaces.{in_slot}
 use Rattle.ps_words.specs.declared.order.Order.{Order}
 use Rattle.ps_words.specs.declared.fault.Reason.{Reason}
-use Rattle.ps_words.specs.declared.fault.Reason.TheVariants as reason
 use Rattle.ps_codefile.specs.Dictionary.{slots, entry_at, is_nameless, role_of, role_of_kind}
 use Rattle.ps_codefile.specs.declared.entry.Role.{Role}
 use Rattle.ps_codefile.specs.declared.entry.Role.TheVariants as role
 use Rattle.ps_resolve.specs.Sources.{Segment, segment_from, chosen_library, is_named, own_segment}
 use Rattle.ps_resolve.specs.Sources.{source_of, unit_source}
-use Rattle.ps_resolve.specs.Faults.{code_fault, entries_reason, request_fault, role_fault}
-use Rattle.ps_resolve.specs.Faults.{source_fault}
+use Rattle.ps_resolve.specs.Faults.{code_fault, entries_reason, request_fault, source_fault}
 use Rattle.ps_resolve.specs.Requests.{as_requested, is_missing, request_by_slot, requested_segment}
 use Rattle.ps_resolve.specs.Views.{SegmentView, as_requested_view, segment_of, IsRead}
 use Rattle.ps_resolve.specs.declared.reading.request.Request.{Request}
 use Rattle.ps_resolve.specs.declared.reading.request.Requester.{Requester}
-use Rattle.ps_resolve.specs.declared.reading.request.Requester.TheVariants.{Slot, Record}
+use Rattle.ps_resolve.specs.declared.reading.request.Requester.TheVariants.{Slot}
 
 -- the fault and the segment of a request, by the library's entry
 module _ (order : Order) (host : List ℕ) (libs : List (List ℕ)) (r : Request) where
@@ -49,44 +46,18 @@ module _ (order : Order) (host : List ℕ) (libs : List (List ℕ)) (r : Request
 -- a segment that is marked as it is requested, seen as a segment of the link, and as it is read
 pub seen_as : (by : Requester) (s : SegmentView)
     → segment_of (as_requested_view by s) ≡ as_requested by (segment_of s)
-seen_as Slot s = refl
-seen_as (Record place) s = refl
+seen_as by s = grind arith
 
 pub read_marked : (order : Order) (host : List ℕ) (libs : List (List ℕ)) (by : Requester)
     (s : SegmentView) → IsRead order host libs s
     → IsRead order host libs (as_requested_view by s)
-read_marked order host libs Slot s h = h
-read_marked order host libs (Record place) s h = let t = h.sound in
-    record {
-      placed = h.placed;
-      sound = record
-          { large = t.large; tables = t.tables; kept = t.kept; slot = t.slot };
-    }
-
--- a kind by itself wants no unit
-never_by : (a b c d e f : Bool) → (if a then Ok role.Plain
-    else (if b then Ok role.Host else (if c then Err reason.SegmentProcedure
-    else (if d then Ok role.Unit else (if e then Err reason.NativeSegment
-    else (if f then Err reason.Intrinsic else Err reason.UnknownKind)))))) ≡ Ok role.Wanted
-    → ⊥
-never_by true b c d e f h = cc
-never_by false true c d e f h = cc
-never_by false false true d e f h = cc
-never_by false false false true e f h = cc
-never_by false false false false true f h = cc
-never_by false false false false false true h = cc
-never_by false false false false false false h = cc
+read_marked order host libs by s h = grind arith
 
 -- a slot that wants a unit has its name
 named : (p q z n : Bool) (kind : ℕ) → (if (p && q) && not n then Ok role.Wanted
     else (if p && q then Ok role.Empty else (if z then Ok role.Empty else role_of_kind kind)))
     ≡ Ok role.Wanted → n ≡ false
-named p q z false kind h = refl
-named true true z true kind h = cc
-named true false true true kind h = cc
-named true false false true kind h = absurd (never_by _ _ _ _ _ _ h)
-named false q true true kind h = cc
-named false q false true kind h = absurd (never_by _ _ _ _ _ _ h)
+named p q z n kind h = grind arith
 
 -- the request of a slot that wants a unit
 module _ (order : Order) (host : List ℕ) (libs : List (List ℕ)) (slot : ℕ)
@@ -96,13 +67,10 @@ module _ (order : Order) (host : List ℕ) (libs : List (List ℕ)) (slot : ℕ)
 
   -- its name is one
   pub has_name : is_nameless wanted.name ≡ false
-  has_name = let e = entry_at order host slot in
-      named (e.kind == 3) (e.address == 0 || e.length == 0) (e.length == 0)
-      (is_nameless e.name) e.kind wants
+  has_name = grind (arith, named)
 
   pub wanted_is : source_fault order host libs slot ≡ request_fault order host libs wanted
-  wanted_is = ap (λ (q : Result Role Reason). option_and_then (role_fault order host libs slot)
-      (result_ok q)) wants
+  wanted_is = grind arith
 
   pub wanted_segment : own_segment order host libs slot ≡ requested_segment order host libs wanted
   wanted_segment =
@@ -113,5 +81,4 @@ module _ (order : Order) (host : List ℕ) (libs : List (List ℕ)) (slot : ℕ)
       (unit_source order wanted.name libs))
     where
       by : (o : Option Segment) → o ≡ option_map (as_requested Slot) o
-      by None = refl
-      by (Some s) = refl
+      by o = grind arith

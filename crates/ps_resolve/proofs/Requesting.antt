@@ -1,14 +1,11 @@
 -- Names that are already known: requesting them again does not change the queue.
 use Rattle.std.proofs.Common.{◌≡◌, ◌∙◌, ℕ, ◌+◌, ◌≤◌, ◌++◌, List, []}
 use Rattle.std.proofs.Common.{◌∷◌, length, length-append, append_assoc, append-nil, map, take}
-use Rattle.std.proofs.Common.{drop, get_or, ◌<◌, Bool, true, false, if◌then◌else◌, inl}
-use Rattle.std.proofs.Common.{inr, ⊎_elim, refl, sym, ap, subst, arith}
-use Rattle.std.specs.Prelude.{All, ◌||◌, is_some}
-use Rattle.std.specs.List.{list_any}
-use Rattle.std.specs.Map.{lookup}
-use Rattle.std.specs.Str.{bytes_eq}
-use Rattle.std.proofs.lemmas.Bool.{cases_lt, or_cases, or_left, or_right}
-use Rattle.std.proofs.lemmas.List.{take_all, length-take-le}
+use Rattle.std.proofs.Common.{drop, get_or, ◌<◌, Bool, true, false, inl, inr, refl, sym, subst}
+use Rattle.std.proofs.Common.{arith}
+use Rattle.std.specs.Prelude.{All}
+use Rattle.std.proofs.lemmas.Bool.{or_left, or_right}
+use Rattle.std.proofs.lemmas.List.{take_all}
 use Rattle.std.proofs.lemmas.List.Elements.{All-nil, All-cons, All-head, All-tail, All-weaker}
 use Rattle.std.proofs.lemmas.List.Folds.{list_any-append}
 use Rattle.std.proofs.lemmas.Slice.Eq.{bytes_eq-Decides}
@@ -27,22 +24,11 @@ module _ (units : List (List ℕ × ℕ)) where
   pub known_longer : (queue more : List UnitReference) (name : List ℕ)
       → is_already_known units queue name ≡ true
       → is_already_known units (queue ++ more) name ≡ true
-  known_longer queue more name h =
-      let test : UnitReference → Bool = λ g. bytes_eq g.name name in
-      elim (or_cases (is_some (lookup (bytes_eq name) units)) (list_any test queue) h) [
-        | inl e ↦ or_left (is_some (lookup (bytes_eq name) units)) _ e
-        | inr e ↦ or_right _ (list_any test (queue ++ more))
-            (list_any-append test queue more ∙ or_left (list_any test queue) _ e)
-      ]
+  known_longer queue more name h = grind (arith, or_left, or_right, list_any-append)
 
   pub known_last : (queue : List UnitReference) (g : UnitReference)
       → is_already_known units (queue ++ g ∷ []) g.name ≡ true
-  known_last queue g =
-      let test : UnitReference → Bool = λ h. bytes_eq h.name g.name in
-      let itself : test g ≡ true = (bytes_eq-Decides g.name g.name).1 refl in
-      let last = list_any-append test queue (g ∷ [])
-      ∙ or_right (list_any test queue) (test g || false) (or_left (test g) false itself) in
-      or_right (is_some (lookup (bytes_eq g.name) units)) (list_any test (queue ++ g ∷ [])) last
+  known_last queue g = grind (arith, bytes_eq-Decides, list_any-append, or_left)
 
   -- a queue grows at its end
   pub grown : (queue gs : List UnitReference)
@@ -56,25 +42,22 @@ module _ (units : List (List ℕ × ℕ)) where
           → (more : List UnitReference)
           × (requested_from units queue (g ∷ gs) ≡ queue ++ more)
       by rest true e = let r = rest queue in (r.0, rw e r.1)
-      by rest false e = let r = rest (queue ++ g ∷ []) in
-          (g ∷ r.0, rw e (r.1 ∙ append_assoc queue (g ∷ []) r.0))
+      by rest false e = let r = rest (queue ++ g ∷ []) in grind (arith, append_assoc)
 
   known_behind : (queue gs : List UnitReference) (name : List ℕ)
       → is_already_known units queue name ≡ true
       → is_already_known units (requested_from units queue gs) name ≡ true
-  known_behind queue gs name h = let g = grown queue gs in rw g.1 (known_longer queue g.0 name h)
+  known_behind queue gs name h = grind (arith, grown queue gs, known_longer queue)
 
   enqueue_known : (queue : List UnitReference) (g : UnitReference) (gs : List UnitReference)
       → is_already_known units queue g.name ≡ true
       → requested_from units queue (g ∷ gs) ≡ requested_from units queue gs
-  enqueue_known queue g gs e =
-      ap (λ (b : Bool). requested_from units (if b then queue else queue ++ g ∷ []) gs) e
+  enqueue_known queue g gs e = grind arith
 
   enqueue_new : (queue : List UnitReference) (g : UnitReference) (gs : List UnitReference)
       → is_already_known units queue g.name ≡ false
       → requested_from units queue (g ∷ gs) ≡ requested_from units (queue ++ g ∷ []) gs
-  enqueue_new queue g gs e =
-      ap (λ (b : Bool). requested_from units (if b then queue else queue ++ g ∷ []) gs) e
+  enqueue_new queue g gs e = grind arith
 
   module _ (file slot n : ℕ) (r : Record) (rs : List Record) where
     abbrev asked : UnitReference
@@ -85,11 +68,11 @@ module _ (units : List (List ℕ × ℕ)) where
 
     first_asks : is_unit_reference r.body ≡ true
         → unit_references file slot n (r ∷ rs) ≡ asked ∷ behind
-    first_asks e = ap (λ (b : Bool). if b then asked ∷ behind else behind) e
+    first_asks e = grind arith
 
     first_is_none : is_unit_reference r.body ≡ false
         → unit_references file slot n (r ∷ rs) ≡ behind
-    first_is_none e = ap (λ (b : Bool). if b then asked ∷ behind else behind) e
+    first_is_none e = grind arith
 
   -- all names that records request are known after them
   all_known : (file slot n : ℕ) (rs : List Record) (queue : List UnitReference)
@@ -123,71 +106,45 @@ module _ (units : List (List ℕ × ℕ)) where
       by : ((q : List UnitReference) → All (IsAlreadyKnown units (requested_from units q gs)) rs)
           → (b : Bool) → is_unit_reference r.body ≡ b
           → Known (requested_from units queue (unit_references file slot n (r ∷ rs)))
-      by rest true e = subst (λ (q : List UnitReference). Known (requested_from units queue q))
-          (sym (first_asks file slot n r rs e))
-          (seen rest (is_already_known units queue r.name) refl)
-      by rest false e = subst (λ (q : List UnitReference). Known (requested_from units queue q))
-          (sym (first_is_none file slot n r rs e))
-          (All-cons (IsAlreadyKnown units (requested_from units queue gs)) r rs
-          (λ h. let no : true ≡ false = sym h ∙ e in cc) (rest queue))
+      by rest b e = grind (arith, first_asks, seen, first_is_none, All-cons, gs)
 
   -- what is kept of a queue is full, or the whole queue
   of_kept : (whole : List UnitReference) (rs : List Record) → All (IsAlreadyKnown units whole) rs
       → AreAlreadyKnown units (take 10 whole) rs
-  of_kept whole rs h = ⊎_elim
-      (λ short. inr (subst (λ (q : List UnitReference). All (IsAlreadyKnown units q) rs)
-      (sym (take_all 10 whole (omega (arith, short)))) h))
-      (λ long. inl (let n = length-take-le 10 whole long in omega (arith, n)))
-      (cases_lt (length whole) 10)
+  of_kept whole rs h = grind arith
 
   -- the names that a segment requests are known after it
   pub known_here : (file slot : ℕ) (rs : List Record) (queue now : List UnitReference)
       → now ≡ take 10 (requested_from units queue (unit_references file slot 0 rs))
       → AreAlreadyKnown units now rs
-  known_here file slot rs queue now is =
-      subst (λ (q : List UnitReference). AreAlreadyKnown units q rs) (sym is)
-      (of_kept (requested_from units queue (unit_references file slot 0 rs)) rs
-      (all_known file slot 0 rs queue))
+  known_here file slot rs queue now is = grind (arith, all_known)
 
   more_known : (queue gs : List UnitReference) (rs : List Record)
       → All (IsAlreadyKnown units queue) rs
       → All (IsAlreadyKnown units (requested_from units queue gs)) rs
   more_known queue gs [] h = All-nil (IsAlreadyKnown units (requested_from units queue gs))
-  more_known queue gs (r ∷ rs) h = All-cons
-      (IsAlreadyKnown units (requested_from units queue gs)) r rs
-      (λ asks. known_behind queue gs r.name (All-head (IsAlreadyKnown units queue) r rs h asks))
-      (more_known queue gs rs (All-tail (IsAlreadyKnown units queue) r rs h))
+  more_known queue gs (r ∷ rs) h = grind (arith, All-cons, known_behind, All-head, All-tail)
 
   -- and after any names more
   pub still_known : (queue gs now : List UnitReference) (rs : List Record)
       → now ≡ take 10 (requested_from units queue gs) → AreAlreadyKnown units queue rs
       → AreAlreadyKnown units now rs
-  still_known queue gs now rs is (inl full) =
-      subst (λ (q : List UnitReference). AreAlreadyKnown units q rs) (sym is)
-      (inl (let g = grown queue gs in let long : 10 ≤ length (requested_from units queue gs) =
-      omega (arith, full, ap length g.1, length-append queue g.0) in let n =
-      length-take-le 10 (requested_from units queue gs) long in omega (arith, n)))
-  still_known queue gs now rs is (inr h) =
-      subst (λ (q : List UnitReference). AreAlreadyKnown units q rs) (sym is)
-      (of_kept (requested_from units queue gs) rs (more_known queue gs rs h))
+  still_known queue gs now rs is (inl full) = grind (arith, grown queue gs, length-append queue)
+  still_known queue gs now rs is (inr h) = grind (arith, more_known)
 
   same_queue : (file slot n : ℕ) (queue : List UnitReference) (rs : List Record)
       → All (IsAlreadyKnown units queue) rs
       → requested_from units queue (unit_references file slot n rs) ≡ queue
   same_queue file slot n queue [] h = refl
   same_queue file slot n queue (r ∷ rs) h =
-      by (same_queue file slot (n + 1) queue rs (All-tail (IsAlreadyKnown units queue) r rs h))
-      (is_unit_reference r.body) refl
-    where
-      by : requested_from units queue (unit_references file slot (n + 1) rs) ≡ queue
-          → (b : Bool) → is_unit_reference r.body ≡ b
-          → requested_from units queue (unit_references file slot n (r ∷ rs)) ≡ queue
-      by rest true e =
-          ap (requested_from units queue) (first_asks file slot n r rs e)
-          ∙ (enqueue_known queue (record { name = r.name; file = file; slot = slot; rec = n })
-          (unit_references file slot (n + 1) rs)
-          (All-head (IsAlreadyKnown units queue) r rs h e) ∙ rest)
-      by rest false e = ap (requested_from units queue) (first_is_none file slot n r rs e) ∙ rest
+      grind (
+        arith,
+        first_asks,
+        enqueue_known,
+        All-head,
+        first_is_none,
+        same_queue file slot (n + 1) queue rs (All-tail (IsAlreadyKnown units queue) r rs h),
+      )
 
   -- names that are known change no queue
   pub nothing_new : (file slot : ℕ) (queue : List UnitReference) (rs : List Record)
@@ -197,7 +154,7 @@ module _ (units : List (List ℕ × ℕ)) where
       sym (queue_prefix units 10 queue (unit_references file slot 0 rs) full
       ∙ take_all 10 queue few)
   nothing_new file slot queue rs few (inr h) =
-      sym (ap (take 10) (same_queue file slot 0 queue rs h) ∙ take_all 10 queue few)
+      grind (arith, same_queue file slot 0 queue rs h, take_all 10 queue few)
 
 -- The queue after the first i of these segments: with what the others request it is that of all,
 -- and
@@ -219,11 +176,9 @@ requested_more units own i v queue now lt there is so_far =
     let one = unit_references v.file v.slot 0 v.records in
     let rest = all_unit_references (map segment_of (drop (i + 1) own)) in
     let all = all_unit_references (map segment_of (drop i own)) in
-    let split : all ≡ one ++ rest = ap
-    (λ (xs : List SegmentView). all_unit_references (map segment_of xs))
-    (drop_at own i v lt there) in
+    let split : all ≡ one ++ rest = grind (arith, drop_at) in
     record {
-      whole = kept_segment units queue now one rest all split is ∙ so_far.whole;
+      whole = grind (arith, kept_segment);
       few = rw is (few_kept (requested_from units queue one));
       known = all_taken (λ (q : SegmentView). AreAlreadyKnown units now q.records) i own v lt there
           (All-weaker (λ (q : SegmentView). AreAlreadyKnown units queue q.records)

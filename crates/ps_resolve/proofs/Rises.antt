@@ -2,10 +2,8 @@
 -- binary search.
 use Rattle.std.proofs.Common.{◌≡◌, ℕ, zero, suc, ◌+◌, ◌<◌, ◌==◌, ◌&&◌}
 use Rattle.std.proofs.Common.{◌||◌, ◌++◌, List, [], ◌∷◌, length, map, get_or, Bool}
-use Rattle.std.proofs.Common.{true, false, Option, Some, None, inl, inr, refl, sym, ◌∙◌, ap}
-use Rattle.std.proofs.Common.{subst, arith}
+use Rattle.std.proofs.Common.{true, false, Option, Some, None, inl, inr, refl, ap, arith}
 use Rattle.std.specs.Prelude.{find, nat_lt}
-use Rattle.std.specs.Option.{option_map}
 use Rattle.std.specs.List.Sorted.{IsPartitionedBy, IsPartitionPoint}
 use Rattle.std.proofs.lemmas.Bool.{cases_lt, cases_order}
 use Rattle.std.proofs.lemmas.Bool.Decides.{nat_tests}
@@ -26,26 +24,25 @@ weaker a b c d (p ∷ ps) h r = (h p r.0, r.1)
 prefixed : (slot : ℕ) (rs : List Record) (rec next : ℕ) (tail : List Private)
     → RiseFrom (slot + 1) 0 tail → RiseFrom slot rec
     (allotted_privates slot rec next rs ++ tail)
-prefixed slot [] rec next tail h = weaker (slot + 1) 0 slot rec tail
-    (λ p k. grind (arith, nat_tests)) h
+prefixed slot [] rec next tail h = grind (arith, weaker, nat_tests)
 prefixed slot (r ∷ rs) rec next tail h =
     at (words_in r.body) refl (λ rec next. prefixed slot rs rec next tail h)
   where
     at : (w : Option ℕ) → words_in r.body ≡ w
         → ((rec next : ℕ) → RiseFrom slot rec (allotted_privates slot rec next rs ++ tail))
         → RiseFrom slot rec (allotted_privates slot rec next (r ∷ rs) ++ tail)
-    at None e again = rw (e, allotted_privates)
-        (weaker slot (rec + 1) slot rec (allotted_privates slot (rec + 1) next rs ++ tail)
-        (λ p k. grind (arith, nat_tests)) (again (rec + 1) next))
-    at (Some w) e again = rw (e, allotted_privates)
-        (grind (arith, nat_tests), again (rec + 1) (next + w))
+    at w e again = grind (
+      arith,
+      weaker slot (rec + 1) slot rec (allotted_privates slot (rec + 1) next rs ++ tail),
+      nat_tests,
+    )
 
 -- the privates of segments that are by slot rise by slot and then by record
 pub rise : (next from : ℕ) (ss : List Owner) → AscendFrom from (map (λ s. s.slot) ss)
     → RiseFrom from 0 (all_allotted next ss)
 rise next from [] h = tt
 rise next from (s ∷ ss) h =
-    weaker s.slot 0 from 0 (all_allotted next (s ∷ ss)) (λ p k. grind (arith, nat_tests))
+    weaker s.slot 0 from 0 (all_allotted next (s ∷ ss)) (λ p k. grind arith)
     (prefixed s.slot s.records 0 next (all_allotted (next + private_words s.records) ss)
     (rise (next + private_words s.records) (s.slot + 1) ss h.1))
 
@@ -64,8 +61,7 @@ pub behind : (a b : ℕ) (ps : List Private) (i j : ℕ) (d : Private) → RiseF
     ≡ true
 behind a b [] i j d h le lt = absurd (omega arith)
 behind a b (p ∷ ps) zero zero d h le lt = absurd (omega arith)
-behind a b (p ∷ ps) zero (suc j) d h le lt =
-    all_behind p.slot (p.rec + 1) ps j d h.1 (omega arith)
+behind a b (p ∷ ps) zero (suc j) d h le lt = grind (arith, all_behind)
 behind a b (p ∷ ps) (suc i) zero d h le lt = absurd (omega arith)
 behind a b (p ∷ ps) (suc i) (suc j) d h le lt =
     behind p.slot (p.rec + 1) ps i j d h.1 (omega arith) (omega arith)
@@ -78,9 +74,9 @@ is_before slot rec p = nat_lt p.slot slot || (p.slot == slot && nat_lt p.rec rec
 pub partitioned : (slot rec a b : ℕ) (ps : List Private) → RiseFrom a b ps
     → IsPartitionedBy (is_before slot rec) ps
 partitioned slot rec a b ps h i j d le lt t = elim (cases_lt i j) [
-  | inl less ↦ let later = behind a b ps i j d h less lt in grind (arith, nat_tests, later)
-  | inr ge ↦ let same : i ≡ j = omega (arith, le, ge) in
-      subst (λ (n : ℕ). is_before slot rec (get_or ps n d) ≡ true) (sym same) t
+  | inl less ↦ let later = behind a b ps i j d h less lt in
+      grind (arith, nat_tests, later)
+  | inr ge ↦ grind arith
 ]
 
 -- an item that passes a test, where none before it does, is the one that is found
@@ -104,18 +100,16 @@ module _ (slot rec a b : ℕ) (ps : List Private) (i : ℕ) (h : RiseFrom a b ps
     (λ x. is_before slot rec x ≡ false) ps i) where
   pub found_there : (x : Private) → i < length ps → x ≡ get_or ps i x
       → is_of slot rec x ≡ true → find (is_of slot rec) ps ≡ Some x
-  found_there x lt is t = first_find (is_of slot rec) ps i x
-      (λ k l. let before = p.0 k x (omega arith) l in grind (arith, nat_tests, before)) lt is t
+  found_there x lt is t = grind (arith, first_find)
 
   pub found_nowhere : ((d : Private) → i < length ps → is_of slot rec (get_or ps i d) ≡ false)
       → find (is_of slot rec) ps ≡ None
   found_nowhere other = no_find (is_of slot rec) ps (λ k d lt. elim (cases_order k i) [
-    | inl same ↦ subst (λ (n : ℕ). is_of slot rec (get_or ps n d) ≡ false) (sym same)
-        (other d (omega (arith, same, lt)))
-    | inr (inl less) ↦ let before = p.0 k d (omega (arith, less, lt)) less in
-        grind (arith, nat_tests, before)
+    | inl same ↦ grind arith
+    | inr (inl less) ↦ grind (arith, nat_tests)
     | inr (inr more) ↦ let at = p.1 i d (omega arith) (omega (arith, more, lt)) in let later =
-        behind a b ps i k d h more lt in grind (arith, nat_tests, at, later)
+        behind a b ps i k d h more lt in
+        grind arith
   ])
 
 module _ (slot rec : ℕ) (xs ps : List Private) (i : ℕ) (same : xs ≡ ps) (h : RiseFrom 0 0 xs)
@@ -126,14 +120,8 @@ module _ (slot rec : ℕ) (xs ps : List Private) (i : ℕ) (same : xs ≡ ps) (h
 
   pub offset_found : (x : Private) → i < length xs → x ≡ get_or xs i x → x.slot ≡ slot
       → x.rec ≡ rec → ◌≡◌ {A = Option ℕ} (Some x.offset) (offset_listed slot rec ps)
-  offset_found x lt is s r =
-      sym (ap (option_map (λ q. q.offset))
-      (found_there slot rec 0 0 xs i h p x lt is (both x.slot x.rec s r))) ∙ all_of
-    where
-      both : (a b : ℕ) → a ≡ slot → b ≡ rec → (a == slot && b == rec) ≡ true
-      both a b s r = grind (arith, nat_tests)
+  offset_found x lt is s r = grind (arith, found_there, nat_tests)
 
   pub offset_none : ((d : Private) → i < length xs → is_of slot rec (get_or xs i d) ≡ false)
       → ◌≡◌ {A = Option ℕ} None (offset_listed slot rec ps)
-  offset_none other = sym (ap (option_map (λ q. q.offset))
-      (found_nowhere slot rec 0 0 xs i h p other)) ∙ all_of
+  offset_none other = grind (arith, found_nowhere slot rec 0 0 xs i h p other)

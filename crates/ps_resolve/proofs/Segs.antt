@@ -1,20 +1,18 @@
 -- Segments of the files, seen one by one as segments of the link.
 use Rattle.std.proofs.Common.{◌≡◌, ℕ, zero, suc, ◌+◌, ◌<◌, ◌++◌, List, []}
-use Rattle.std.proofs.Common.{◌∷◌, length, map, get_or, drop, refl, sym, ◌∙◌, ap, subst}
-use Rattle.std.proofs.Common.{arith, add-one, drop-cons, append_assoc}
+use Rattle.std.proofs.Common.{◌∷◌, length, map, get_or, drop, refl, sym, subst, arith}
+use Rattle.std.proofs.Common.{drop-cons, append_assoc}
 use Rattle.std.specs.Prelude.{All}
 use Rattle.std.proofs.lemmas.List.{map-append}
 use Rattle.std.proofs.lemmas.List.Elements.{All-tail}
 use Rattle.ps_resolve.specs.Privates.{owner_of}
-use Rattle.ps_resolve.specs.Views.{segment_of}
+use Rattle.ps_resolve.specs.Views.{segment_of, SegmentView}
 use Rattle.ps_resolve.specs.Sources.{Segment}
-use Rattle.ps_resolve.specs.Views.{SegmentView}
 
 -- the item at i, and what holds of it
 pub drop_at : {X : Type 0} (xs : List X) (i : ℕ) (x : X) → i < length xs → x ≡ get_or xs i x
     → drop i xs ≡ x ∷ drop (i + 1) xs
-drop_at {X} xs i x lt is = subst (λ (y : X). drop i xs ≡ y ∷ drop (i + 1) xs) (sym is)
-    (rw (add-one, drop-cons xs i x))
+drop_at {X} xs i x lt is = grind (arith, drop-cons)
 
 -- what holds of f of each item holds of f of the item at i
 pub at_map : {X Y : Type 0} (P : Y → Type 0) (f : X → Y) (xs : List X) (i : ℕ) (x : X)
@@ -27,8 +25,7 @@ at_map P f (y ∷ ys) (suc i) x lt is all =
 
 pub map_push : {X Y : Type 0} (f : X → Y) (xs : List X) (x : X) (ys : List Y)
     → map f (xs ++ x ∷ []) ++ ys ≡ map f xs ++ f x ∷ ys
-map_push {X} {Y} f xs x ys = ap (λ (zs : List Y). zs ++ ys) (map-append f xs (x ∷ []))
-    ∙ append_assoc (map f xs) (f x ∷ []) ys
+map_push {X} {Y} f xs x ys = grind (arith, map-append, append_assoc)
 
 pub owners_of_segments : (ss : List SegmentView)
     → map (λ s. owner_of (segment_of s)) ss ≡ map owner_of (map segment_of ss)

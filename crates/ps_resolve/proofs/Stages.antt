@@ -1,21 +1,18 @@
 -- The first fault of a link's segments, stage by stage.
-use Rattle.std.proofs.Common.{◌≡◌, ℕ, ◌<◌, List, [], ◌∷◌, length, map, true}
-use Rattle.std.proofs.Common.{Option, Some, None, refl, sym, ◌∙◌, ap, subst}
+use Rattle.std.proofs.Common.{arith, ◌≡◌, ℕ, ◌<◌, List, [], ◌∷◌, length, map}
+use Rattle.std.proofs.Common.{true, Option, Some, None, refl, sym, ◌∙◌, ap}
 use Rattle.std.specs.Prelude.{All}
-use Rattle.std.specs.Option.{option_or, option_map, option_map_or}
-use Rattle.ps_words.specs.FaultPlaces.{in_record}
+use Rattle.std.specs.Option.{option_or, option_map_or}
 use Rattle.ps_words.specs.declared.edit.Edit.{Edit}
 use Rattle.ps_words.specs.declared.order.Order.{Order}
 use Rattle.ps_words.specs.declared.fault.Fault.{Fault}
-use Rattle.ps_words.specs.declared.fault.Reason.TheVariants as reason
 use Rattle.ps_codefile.specs.Roles.{is_host}
 use Rattle.ps_linkinfo.specs.RecordCounts.{next_of}
-use Rattle.ps_linkinfo.specs.declared.record.LinkRecord.{LinkRecord as Record}
 use Rattle.ps_resolve.specs.Sources.{Segment, host_of, host_records, units_of}
 use Rattle.ps_resolve.specs.Symbols.{definitions, first_duplicate}
 use Rattle.ps_resolve.specs.Stops.{IsStop, duplicate_fault}
-use Rattle.ps_resolve.specs.Privates.{Owner, Allotted, owner_of, all_allotted, all_words}
-use Rattle.ps_resolve.specs.Privates.{allotment_of, first_private_fault, total_words}
+use Rattle.ps_resolve.specs.Privates.{Owner, Allotted, owner_of, all_allotted, allotment_of}
+use Rattle.ps_resolve.specs.Privates.{first_private_fault, total_words}
 use Rattle.ps_resolve.specs.Edits.{IsOfSize, AreOfReferences}
 use Rattle.ps_resolve.specs.Linkable.{HasOneHost}
 use Rattle.ps_resolve.specs.References.{Known, known_by}
@@ -23,23 +20,18 @@ use Rattle.ps_resolve.specs.Linking.{known_of, data_edits, edited_segments, edit
 use Rattle.ps_resolve.specs.Faults.{definitions_fault, privates_fault, data_fault, size_fault}
 use Rattle.ps_resolve.specs.Faults.{references_fault, references_fault_from, linking_fault}
 use Rattle.ps_resolve.specs.Plans.{AreStopped, LinkSegments, origin_of, origin_of_source}
-use Rattle.ps_resolve.specs.Views.{segment_of}
+use Rattle.ps_resolve.specs.Views.{segment_of, SegmentView}
 use Rattle.ps_resolve.specs.declared.definitions.Def.{Def}
 use Rattle.ps_resolve.specs.declared.linkage.Stop.{Stop}
-use Rattle.ps_resolve.specs.declared.linkage.Stop.TheVariants.{Refused, Memory}
 use Rattle.ps_resolve.specs.declared.plan.Source.{Source}
-use Rattle.ps_resolve.specs.Views.{SegmentView}
-use Rattle.ps_resolve.proofs.Hosts.{of_hosts}
 use Rattle.ps_resolve.proofs.Lengths.{lengths}
 use Rattle.ps_resolve.proofs.Segs.{owners_of_segments}
 
 pub skip : {X : Type 0} (a b : Option X) → a ≡ None → option_or a b ≡ b
-skip None b h = refl
-skip (Some x) b h = cc
+skip a b h = grind arith
 
 pub keep : {X : Type 0} (a b : Option X) (x : X) → a ≡ Some x → option_or a b ≡ Some x
-keep None b x h = cc
-keep (Some y) b x h = h
+keep a b x h = grind arith
 
 -- a link of these segments, of which one is the host's
 module _ (order : Order) (ss : List SegmentView) (own : SegmentView)
@@ -69,8 +61,7 @@ module _ (order : Order) (ss : List SegmentView) (own : SegmentView)
   privates_are : privates_fault segs ≡ first_private_fault (next_of own.records)
       (map owner_of segs)
   unfolding privates_fault
-  privates_are = ap (λ (rs : List Record). first_private_fault (next_of rs) (map owner_of segs))
-      records_are
+  privates_are = grind arith
 
   data_is : data_fault order segs ≡ size_fault order (total_words segs) (segment_of own)
   unfolding data_fault
@@ -79,13 +70,11 @@ module _ (order : Order) (ss : List SegmentView) (own : SegmentView)
   references_are : references_fault order segs
       ≡ references_fault_from order (known_of segs) (next_of own.records) segs
   unfolding references_fault
-  references_are = ap (λ (rs : List Record). references_fault_from order (known_of segs)
-      (next_of rs) segs) records_are
+  references_are = grind arith
 
   pub definitions_stop : (stop : Stop) → IsStop (0 < length (definitions own.records))
       (duplicate_fault 0 own.slot own.records) stop → AreStopped order segs stop
-  definitions_stop (Refused fault) d = stages ∙ keep _ _ fault (definitions_are ∙ d)
-  definitions_stop Memory d = tt
+  definitions_stop stop d = grind (arith, stages, definitions_are)
 
   -- its definitions, and the offset after its own data
   module _ (ds : List (List ℕ × Def)) (ds_are : ds ≡ definitions own.records)
@@ -94,30 +83,24 @@ module _ (order : Order) (ss : List SegmentView) (own : SegmentView)
     behind_definitions : linking_fault order segs
         ≡ option_or (privates_fault segs)
         (option_or (data_fault order segs) (references_fault order segs))
-    behind_definitions = stages ∙ skip _ _
-        (definitions_are ∙ ap (option_map
-        (λ rec. in_record 0 own.slot rec reason.DoubledDefinition)) once)
+    behind_definitions = grind (arith, stages, definitions_are)
 
     fault_is : first_private_fault next owners ≡ privates_fault segs
-    fault_is = ap (λ (n : ℕ). first_private_fault n owners) next_is
-        ∙ ap (first_private_fault (next_of own.records)) owners_are ∙ sym privates_are
+    fault_is = grind (arith, owners_are, privates_are)
 
     pub privates_stop : (stop : Stop) → IsStop (0 < length (all_allotted next owners))
         (first_private_fault next owners) stop → AreStopped order segs stop
-    privates_stop (Refused fault) d = behind_definitions ∙ keep _ _ fault (sym fault_is ∙ d)
-    privates_stop Memory d = tt
+    privates_stop stop d = grind (arith, behind_definitions, fault_is)
 
     -- the privates, and how many words they take
     module _ (a : Allotted) (a_is : a ≡ allotment_of next owners)
         (allotted : first_private_fault next owners ≡ None) (words : ℕ)
         (words_is : words ≡ a.words) where
       pub words_are : words ≡ total_words segs
-      words_are = words_is ∙ ap (λ (b : Allotted). b.words) a_is ∙ ap all_words owners_are
+      words_are = grind (arith, owners_are)
 
       pub allotment_is : a ≡ allotment_of (next_of (host_records segs)) (map owner_of segs)
-      allotment_is = a_is ∙ ap (λ (n : ℕ). allotment_of n owners)
-          (next_is ∙ ap next_of (sym records_are))
-          ∙ ap (allotment_of (next_of (host_records segs))) owners_are
+      allotment_is = grind (arith, owners_are)
 
       behind_privates : linking_fault order segs
           ≡ option_or (size_fault order words (segment_of own)) (references_fault order segs)
@@ -127,8 +110,7 @@ module _ (order : Order) (ss : List SegmentView) (own : SegmentView)
 
       pub size_stop : (stop : Stop) → IsOfSize order words (segment_of own) stop
           → AreStopped order segs stop
-      size_stop (Refused fault) d = behind_privates ∙ keep _ _ fault d
-      size_stop Memory d = absurd d
+      size_stop stop d = grind (arith, behind_privates)
 
       -- the edit that stores the host's data size, the units of the link
       module _ (fits : size_fault order words (segment_of own) ≡ None)
@@ -137,21 +119,14 @@ module _ (order : Order) (ss : List SegmentView) (own : SegmentView)
         known = known_by ds units
 
         pub known_is : known ≡ known_of segs
-        known_is =
-            ap (λ (xs : List (List ℕ × Def)). known_by xs units)
-            (ds_are ∙ ap definitions (sym records_are))
-            ∙ ap (λ (ys : List (List ℕ × ℕ)). known_by (definitions (host_records segs)) ys)
-            units_is
+        known_is = grind arith
 
         behind_size : linking_fault order segs ≡ references_fault_from order known next segs
-        behind_size = behind_privates ∙ skip _ _ fits ∙ references_are
-            ∙ sym (ap (λ (q : Known). references_fault_from order q next segs) known_is
-            ∙ ap (λ (m : ℕ). references_fault_from order (known_of segs) m segs) next_is)
+        behind_size = grind (arith, behind_privates, references_are, known_is)
 
         pub references_stop : (stop : Stop) → AreOfReferences order known next segs stop
             → AreStopped order segs stop
-        references_stop (Refused fault) d = behind_size ∙ d
-        references_stop Memory d = tt
+        references_stop stop d = grind (arith, behind_size)
 
         pub none_stands : references_fault_from order known next segs ≡ None
             → linking_fault order segs ≡ None
@@ -163,20 +138,12 @@ module _ (order : Order) (ss : List SegmentView) (own : SegmentView)
             → data_edits order n s.code ≡ size ∷ []) segs
             → LinkSegments order (edited_from order known n next segs) edits) where
           linked : LinkSegments order (edited_from order known (total_words segs) next segs) edits
-          linked = links (total_words segs)
-              (of_hosts segs (segment_of own) is one
-              (λ s. data_edits order (total_words segs) s.code ≡ size ∷ [])
-              (sym (ap (λ (n : ℕ). data_edits order n own.code) words_are) ∙ stored))
+          linked = grind (arith, words_are)
 
           pub all_linked : LinkSegments order (edited_segments order segs) edits
-          all_linked = subst (λ (n : ℕ). LinkSegments order
-              (edited_from order (known_of segs) (total_words segs) n segs) edits)
-              (next_is ∙ ap next_of (sym records_are))
-              (subst (λ (k : Known). LinkSegments order
-              (edited_from order k (total_words segs) next segs) edits) known_is linked)
+          all_linked = grind (arith, linked)
 
           pub as_many : (sources : List Source)
               → map origin_of_source sources ≡ map origin_of segs
               → length edits ≡ length sources
-          as_many sources o = lengths order known
-              (total_words segs) next segs edits sources linked o
+          as_many sources o = grind (arith, lengths, linked)

@@ -1,6 +1,6 @@
 -- The words of the privates of the first records of a segment, added up.
 use Rattle.std.proofs.Common.{◌≡◌, ℕ, suc, ◌+◌, ◌-◌, ◌<◌, ◌≤◌, List}
-use Rattle.std.proofs.Common.{◌∷◌, take, sym, ◌∙◌, ap, arith}
+use Rattle.std.proofs.Common.{◌∷◌, take, arith}
 use Rattle.std.proofs.lemmas.List.Sums.{sum_by-cons}
 use Rattle.ps_linkinfo.specs.declared.record.LinkRecord.{LinkRecord as Record}
 use Rattle.ps_resolve.specs.References.{words_taken, words_taken_by}
@@ -18,8 +18,7 @@ pub counted : (all : List Record) (count words n : ℕ) (r : Record) (rs : List 
 counted all count words n r rs up lt =
     let more : count - n ≡ suc (count - (n + 1)) = omega (arith, lt) in
     let whole : words + words_taken_by (take (suc (count - (n + 1))) (r ∷ rs))
-    ≡ words_taken_by (take count all) =
-    ap (λ (m : ℕ). words + words_taken_by (take m (r ∷ rs))) (sym more) ∙ up in
+    ≡ words_taken_by (take count all) = grind arith in
     let first : words_taken_by (take (suc (count - (n + 1))) (r ∷ rs))
     ≡ words_taken r.body + words_taken_by (take (count - (n + 1)) rs) =
     sum_by-cons (λ (q : Record). words_taken q.body) r (take (count - (n + 1)) rs) in
@@ -28,16 +27,10 @@ counted all count words n r rs up lt =
 -- any other is not
 pub not_counted : (all : List Record) (count words n : ℕ) (r : Record) (rs : List Record)
     → AddUp all count words n (r ∷ rs) → count ≤ n → AddUp all count words (n + 1) rs
-not_counted all count words n r rs up le =
-    let zero : count - n ≡ 0 = omega (arith, le) in
-    let later : count - (n + 1) ≡ 0 = omega (arith, le) in
-    ap (λ (m : ℕ). words + words_taken_by (take m rs)) later
-    ∙ (ap (λ (m : ℕ). words + words_taken_by (take m (r ∷ rs))) (sym zero) ∙ up)
+not_counted all count words n r rs up le = grind arith
 
 -- it is not more than all
 pub within : (all : List Record) (count words n : ℕ) (r : Record) (rs : List Record)
     → AddUp all count words n (r ∷ rs) → n < count
     → words + words_taken r.body ≤ words_taken_by (take count all)
-within all count words n r rs up lt =
-    let next = counted all count words n r rs up lt in
-    omega (arith, next)
+within all count words n r rs up lt = grind (arith, counted all count words n r rs up lt)

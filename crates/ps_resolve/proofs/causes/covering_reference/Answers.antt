@@ -1,4 +1,4 @@
-use Rattle.std.proofs.Common.{◌≡◌, ◌∙◌, ◌∷◌, List, ℕ, Some, None, ap, sym, refl}
+use Rattle.std.proofs.Common.{arith, ◌≡◌, ◌∷◌, List, ℕ, Some, None, refl}
 use Rattle.ps_linkinfo.specs.declared.operand.Operand.{Operand}
 use Rattle.ps_linkinfo.specs.declared.record.LinkRecord.{LinkRecord as Record}
 use Rattle.ps_resolve.specs.Causes.{covering_in, first_before}
@@ -16,27 +16,13 @@ later : (place : ReferencePlace) (operand : Operand) (r : ℕ × Record) (rs : L
 later place operand r rs is = rw is refl
 
 pub loop-rec-init : goal.loop-rec-init
-loop-rec-init c =
-    ap (λ (xs : List (ℕ × Record)). first_before c.args.place c.args.operand xs)
-    (c.into_iter-rec-iterator.ensures.into_iter_gives ∙ c.records-rec-items.ensures)
+loop-rec-init c = grind arith
 
 pub loop-rec-preserved : goal.loop-rec-preserved
-loop-rec-preserved c =
-    let passed = later c.args.place c.args.operand (c.in-Some.rec, c.in-Some.record) c.next.new.self
-    (sym c.covering_in.ensures ∙ c.in_default.is) in
-    sym passed ∙ sym (ap
-    (λ (xs : List (ℕ × Record)). first_before c.args.place c.args.operand xs)
-    c.in-Some.ensures.steps) ∙ c.loop-rec.invariant
+loop-rec-preserved c = grind arith
 
 pub returns-in-Some-covering_in : goal.returns-in-Some-covering_in
-returns-in-Some-covering_in c =
-    let found = here c.args.place c.args.operand
-    (c.in-Some.rec, c.in-Some.record) c.next.new.self c.in-Some-covering_in.earlier
-    (sym c.covering_in.ensures ∙ c.in-Some-covering_in.is) in
-    sym found ∙ sym (ap
-    (λ (xs : List (ℕ × Record)). first_before c.args.place c.args.operand xs)
-    c.in-Some.ensures.steps) ∙ c.loop-rec.invariant
+returns-in-Some-covering_in c = grind arith
 
 pub returns : goal.returns
-returns c = ap (λ (xs : List (ℕ × Record)). first_before c.args.place c.args.operand xs)
-    (sym c.in-None.ensures.steps.0) ∙ c.loop-rec.invariant
+returns c = grind arith

@@ -1,6 +1,6 @@
 use Rattle.std.proofs.Common.{◌≤◌, ◌+◌, arith}
 use Rattle.ps_resolve.proofs.Numbers.{one}
-use Rattle.ps_resolve.proofs.WordsBefore.{AddUp, counted, not_counted, within}
+use Rattle.ps_resolve.proofs.WordsBefore.{AddUp, counted, within}
 use Rattle.ps_resolve.proofs.causes.words_of_first.Goals as goal
 
 pub returns-in_err-words-clause-many : goal.returns-in_err-words-clause-many
@@ -20,22 +20,12 @@ loop-rec-preserved-then-rec-count c =
     let step = one (AddUp c.args.records.now c.args.count c.loop-rec.words) _ _ _ r
     c.loop-rec.invariant c.in-Some.ensures.steps in
     let more = counted c.args.records.now c.args.count c.loop-rec.words c.in-Some.rec r step.0
-    step.2 c.if-rec-count.true in (
-      c.in-Some.rec + 1,
-      step.0,
-      step.1,
-      rw
-          (c.in_ok-words.ensures.1, c.from.ensures, c.words_taken.ensures) more,
-    )
+    step.2 c.if-rec-count.true in
+    grind arith
 
 pub loop-rec-preserved : goal.loop-rec-preserved
 loop-rec-preserved c =
     let r = c.in-Some.record in
     let step = one (AddUp c.args.records.now c.args.count c.loop-rec.words) _ _ _ r
-    c.loop-rec.invariant c.in-Some.ensures.steps in (
-      c.in-Some.rec + 1,
-      step.0,
-      step.1,
-      not_counted c.args.records.now c.args.count c.loop-rec.words
-          c.in-Some.rec r step.0 step.2 (omega (arith, c.if-rec-count.false)),
-    )
+    c.loop-rec.invariant c.in-Some.ensures.steps in
+    grind arith

@@ -1,30 +1,9 @@
-use Rattle.std.proofs.Common.{ℕ, ◌-◌, ◌∙◌, List, length, ap}
-use Rattle.ps_words.specs.declared.edit.Edit.TheVariants.{Byte}
-use Rattle.ps_codefile.specs.Procedures.{ProcedureTables}
-use Rattle.ps_resolve.specs.EditTables.{put_in}
-use Rattle.ps_resolve.specs.declared.edit_table.PlaceState.{PlaceState}
+use Rattle.std.proofs.Common.{arith}
 use Rattle.ps_resolve.proofs.Own.{number_table, size_table}
 use Rattle.ps_resolve.proofs.edits.own_edits.Goals as goal
 
 pub returns-then-not-host : goal.returns-then-not-host
-returns-then-not-host g c =
-    let tables : ProcedureTables = c.args.procedures.now in
-    let ts : List PlaceState = c.in_ok-edits.edits.states.items in
-    let put = c.put.ensures
-    ∙ ap (λ (xs : List ℕ). put_in ts (Byte c.args.slot (length xs - 2))) c.code.ensures in
-    let own = number_table tables ts c.args.slot c.requires.long c.in_ok-edits.ensures.len
-    c.in_ok-edits.ensures.states in
-    rw (put, c.if-not-host.true)
-    (record { table = own.table; taken = own.taken; edits = own.same; stop = tt })
+returns-then-not-host g c = grind (arith, number_table)
 
 pub returns : goal.returns
-returns g c =
-    let tables : ProcedureTables = c.args.procedures.now in
-    let ts : List PlaceState = c.in_ok-edits.edits.states.items in
-    let put = c.put-2.ensures ∙ ap (λ (us : List PlaceState). put_in us c.args.size)
-    (c.put.ensures ∙ ap (λ (xs : List ℕ). put_in ts (Byte c.args.slot (length xs - 2)))
-    c.code.ensures) in
-    let own = size_table tables ts c.args.slot c.requires.long c.in_ok-edits.ensures.len
-    c.in_ok-edits.ensures.states c.args.size (c.requires.table c.if-not-host.false) in
-    rw (put, c.if-not-host.false)
-    (record { table = own.table; taken = own.taken; edits = own.same; stop = tt })
+returns g c = grind (arith, size_table)

@@ -1,10 +1,10 @@
-use Rattle.std.proofs.Common.{◌≡◌, ℕ, ◌-◌, ◌++◌, ◌∷◌, ◌∙◌, List, Option}
-use Rattle.std.proofs.Common.{true, length, subst, sym, ap}
+use Rattle.std.proofs.Common.{arith, ◌≡◌, ℕ, ◌-◌, ◌++◌, ◌∷◌, ◌∙◌, List}
+use Rattle.std.proofs.Common.{Option, true, length, sym, ap}
 use Rattle.std.specs.Prelude.{IsPermutation}
 use Rattle.std.specs.Option.{option_to_list}
 use Rattle.std.proofs.lemmas.List.Sorted.{All-permutation, IsPermutation-append_left}
 use Rattle.std.proofs.lemmas.List.Sorted.{IsPermutation-trans}
-use Rattle.ps_words.specs.Edits.{AreApart, AreEdits, IsInside}
+use Rattle.ps_words.specs.Edits.{AreEdits, IsInside}
 use Rattle.ps_words.specs.declared.edit.Edit.{Edit}
 use Rattle.ps_words.specs.declared.edit.Edit.TheVariants.{Byte}
 use Rattle.ps_resolve.specs.Edits.{data_size_edit}
@@ -53,19 +53,15 @@ returns-in_ok-edits-in-Some g c =
     IsPermutation-trans (all_of known v own free) (edits_of own_states ++ rest) (edits_of states)
     (IsPermutation-append_left rest own_edits (edits_of own_states) own_listed)
     c.in_ok-table-in-Some.ensures.edits in
-    let same : IsPermutation (all_of known v own free) sorted =
-    subst (λ (es : List Edit). IsPermutation (all_of known v own free) es)
-    (sym c.in_ok-edits-in-Some.ensures) listed in
+    let same : IsPermutation (all_of known v own free) sorted = grind arith in
     let inside = edits_inside order known code v.records free v.slot own large table
     (map_none _ _ sound) in
     let apart = edits_apart 0 states c.in_ok-table-in-Some.ensures.table.spaced in
     let ready : AreEdits (length code) sorted =
-    record {
-      inside = All-permutation (IsInside (length code))
-          (all_of known v own free) sorted same inside;
-      apart =
-          subst (λ (es : List Edit). AreApart 0 es) (sym c.in_ok-edits-in-Some.ensures) apart;
-    } in
+    grind (
+      arith,
+      All-permutation (IsInside (length code)) (all_of known v own free) sorted same inside,
+    ) in
     record {
       links = λ words e. linked_links order known v free linked size sorted same ready
           (λ edits listed p. c.edits_patch_alike_in_any_order.ensures order code edits listed p)

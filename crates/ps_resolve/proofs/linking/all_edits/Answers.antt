@@ -1,5 +1,5 @@
-use Rattle.std.proofs.Common.{◌≡◌, ℕ, ◌+◌, ◌<◌, ◌∷◌, [], List, length, map}
-use Rattle.std.proofs.Common.{get_or, true, sym, subst, arith, append-nil}
+use Rattle.std.proofs.Common.{rules, ◌≡◌, ℕ, ◌+◌, ◌<◌, ◌∷◌, [], List, length}
+use Rattle.std.proofs.Common.{map, get_or, true, sym, subst, arith, append-nil}
 use Rattle.std.specs.Prelude.{All}
 use Rattle.std.proofs.lemmas.List.Elements.{All-take}
 use Rattle.std.proofs.lemmas.Result.{err_from_is_err_and}
@@ -13,8 +13,7 @@ use Rattle.ps_resolve.specs.Linking.{data_edits, edited_from}
 use Rattle.ps_resolve.specs.Privates.{owner_of, all_words}
 use Rattle.ps_resolve.specs.References.{Known, HaveTargets}
 use Rattle.ps_resolve.specs.Sources.{Segment}
-use Rattle.ps_resolve.specs.Views.{segment_of, IsSound, IsLike}
-use Rattle.ps_resolve.specs.Views.{SegmentView}
+use Rattle.ps_resolve.specs.Views.{segment_of, IsSound, IsLike, SegmentView}
 use Rattle.ps_resolve.proofs.AllSegments.{room_at, stop_at, words_on, first_on, links_on, none_left}
 use Rattle.ps_resolve.proofs.FirstSlots.{none_mapped}
 use Rattle.ps_resolve.proofs.Segs.{at_map, map_push}
@@ -33,9 +32,7 @@ segment_edits-requires g c =
     let is : v ≡ get_or ss i v = c.index-segments-index.is in
     record {
       sound = subst (IsSound order) (sym is) (c.requires.sound i v lt);
-      room = room_at order known ss i v lt is c.loop-index.free
-          (c.args.base + all_words (map owner_of (map segment_of ss))) c.loop-index.invariant.words
-          c.requires.room;
+      room = search (rules, room_at);
       table = at_map (λ (s : Segment). is_host s.role ≡ true → IsOfTable order s.code size)
           segment_of ss i v lt is c.requires.table;
       alike = All-take (IsLike v) i ss (subst (λ (s : SegmentView). All (IsLike s) ss) (sym is)
@@ -44,13 +41,7 @@ segment_edits-requires g c =
     }
 
 pub returns-in_err-found-clause-stop : goal.returns-in_err-found-clause-stop
-returns-in_err-found-clause-stop g c =
-    let p = err_from_is_err_and c.from_residual-in_err-found.result
-    c.from_residual-in_err-found.ensures.1 in
-    rw (p.1, p.2) (stop_at c.args.link.now.order c.args.link.now.names.now c.args.segments.now
-    c.loop-index.index c.index-segments-index.result
-    (omega arith) c.index-segments-index.is c.loop-index.free
-    c.args.base c.in_err-found.field-0.0 c.loop-index.invariant.first c.in_err-found.ensures.stop)
+returns-in_err-found-clause-stop g c = grind (arith, err_from_is_err_and, stop_at)
 
 pub loop-index-preserved : goal.loop-index-preserved
 loop-index-preserved g c =

@@ -1,19 +1,14 @@
 use Rattle.std.proofs.Common.{◌≡◌, ℕ, ◌+◌, [], ◌∷◌, List, map, Some, refl, sym}
-use Rattle.std.proofs.Common.{◌∙◌, ap, subst, arith}
-use Rattle.std.specs.Option.{option_map_or}
+use Rattle.std.proofs.Common.{◌∙◌, ap, arith}
 use Rattle.std.proofs.lemmas.Result.{err_from_is_err_and}
 use Rattle.std.proofs.lemmas.List.{length-map}
 use Rattle.ps_words.specs.declared.edit.Edit.{Edit}
 use Rattle.ps_words.specs.declared.order.Order.{Order}
-use Rattle.ps_linkinfo.specs.declared.record.LinkRecord.{LinkRecord as Record}
-use Rattle.ps_resolve.specs.Sources.{Segment, host_of}
+use Rattle.ps_resolve.specs.Sources.{host_of}
 use Rattle.ps_resolve.specs.Symbols.{definitions}
-use Rattle.ps_resolve.specs.Privates.{Owner, Allotted, owner_of, all_words, total_words}
-use Rattle.ps_resolve.specs.Views.{segment_of}
-use Rattle.ps_resolve.specs.Edits.{IsOfTable}
-use Rattle.ps_resolve.specs.Linking.{data_size_of}
-use Rattle.ps_resolve.specs.Linkable.{AreSegments, AscendFrom}
-use Rattle.ps_resolve.specs.Views.{SegmentView}
+use Rattle.ps_resolve.specs.Privates.{Allotted, owner_of, all_words}
+use Rattle.ps_resolve.specs.Views.{segment_of, SegmentView}
+use Rattle.ps_resolve.specs.Linkable.{AreSegments}
 use Rattle.ps_resolve.specs.declared.reading.host.HostSegment.{HostSegment}
 use Rattle.ps_resolve.proofs.Hosts.{of_hosts}
 use Rattle.ps_resolve.proofs.Segs.{owners_of_segments, slots_are}
@@ -26,7 +21,7 @@ use Rattle.ps_resolve.proofs.linking.link_segments.Goals as goal
 given : {order : Order} {host : List ℕ} {names : List (List ℕ)} {own : HostSegment}
     {items lent : List SegmentView} → lent ≡ items → AreSegments order host names own items
     → AreSegments order host names own lent
-given {order} {host} {names} {own} same h = subst (AreSegments order host names own) (sym same) h
+given {order} {host} {names} {own} same h = grind arith
 
 -- the host's own segment, with the records that are lent beside it
 abbrev own_of : HostSegment → SegmentView
@@ -35,27 +30,14 @@ own_of h = record h.segment.now { records = h.records.now }
 found_own : {order : Order} {host : List ℕ} {names : List (List ℕ)} {own : HostSegment}
     {ss : List SegmentView} → AreSegments order host names own ss
     → host_of (map segment_of ss) ≡ Some (segment_of (own_of own))
-found_own {order} {host} {names} {own} h =
-    h.found ∙ ap (λ (rs : List Record). Some
-    (segment_of (record own.segment.now { records = rs }))) (sym h.own.records)
+found_own {order} {host} {names} {own} h = grind arith
 
 pub returns-in_err-definitions-clause-stop : goal.returns-in_err-definitions-clause-stop
 returns-in_err-definitions-clause-stop g c =
-    let known = given c.as_slice-all.ensures.value c.segments.invariant in
-    let own = own_of c.segments.inside.own in
-    let is = found_own known in
-    let p = err_from_is_err_and c.from_residual.result c.from_residual.ensures.1 in
-    rw (p.1, p.2, ← c.segments.view_is, ← c.as_slice-all.ensures.value)
-    (definitions_stop c.segments.inside.order c.as_slice-all.result.now own is
-    c.in_err-definitions.field-0.0 (rw c.slot.ensures at c.in_err-definitions.ensures.stop))
+    grind (arith, given, found_own, err_from_is_err_and, definitions_stop)
 
 pub of_segments-requires : goal.of_segments-requires
-of_segments-requires g c =
-    let known = given c.as_slice-all.ensures.value c.segments.invariant in
-    let segs : List Segment = map segment_of c.as_slice-all.result.now in
-    let owners = owners_of_segments c.as_slice-all.result.now in
-    subst (λ (ns : List ℕ). AscendFrom 0 ns)
-    (sym (ap (map (λ (o : Owner). o.slot)) owners ∙ slots_are segs)) known.ascending
+of_segments-requires g c = grind (arith, given, owners_of_segments, slots_are)
 
 pub returns-in_err-allotment-clause-stop : goal.returns-in_err-allotment-clause-stop
 returns-in_err-allotment-clause-stop g c =
@@ -65,10 +47,12 @@ returns-in_err-allotment-clause-stop g c =
     let p = err_from_is_err_and c.from_residual-in_err-allotment.result
     c.from_residual-in_err-allotment.ensures.1 in
     let ds = c.in_ok-definitions in
-    rw (p.1, p.2, ← c.segments.view_is, ← c.as_slice-all.ensures.value)
-    (privates_stop c.segments.inside.order c.as_slice-all.result.now own is ds.definitions
-    ds.ensures.found ds.ensures.once c.next-base.result c.next-base.ensures
-    c.in_err-allotment.field-0.0 c.in_err-allotment.ensures.stop)
+    grind (
+      arith,
+      privates_stop c.segments.inside.order c.as_slice-all.result.now own is ds.definitions
+          ds.ensures.found ds.ensures.once c.next-base.result c.next-base.ensures
+          c.in_err-allotment.field-0.0 c.in_err-allotment.ensures.stop,
+    )
 
 pub grown_data_size-requires : goal.grown_data_size-requires
 grown_data_size-requires g c = c.segments.invariant.own
@@ -82,11 +66,13 @@ returns-in_err-size-clause-stop g c =
     c.from_residual-in_err-size.ensures.1 in
     let ds = c.in_ok-definitions in
     let a = c.in_ok-allotment in
-    rw (p.1, p.2, ← c.segments.view_is, ← c.as_slice-all.ensures.value)
-    (size_stop c.segments.inside.order c.as_slice-all.result.now own is ds.definitions
-    ds.ensures.found ds.ensures.once c.next-base.result c.next-base.ensures
-    a.allotment a.ensures.found a.ensures.once c.words.result c.words.ensures
-    c.in_err-size.field-0.0 c.in_err-size.ensures.stop)
+    grind (
+      arith,
+      size_stop c.segments.inside.order c.as_slice-all.result.now own is ds.definitions
+          ds.ensures.found ds.ensures.once c.next-base.result c.next-base.ensures a.allotment
+          a.ensures.found a.ensures.once c.words.result c.words.ensures c.in_err-size.field-0.0
+          c.in_err-size.ensures.stop,
+    )
 
 pub all_edits-requires : goal.all_edits-requires
 all_edits-requires g c =
@@ -96,17 +82,13 @@ all_edits-requires g c =
     let ss : List SegmentView = c.as_slice-all.result.now in
     let end : c.in_ok-allotment.allotment.next_free
     ≡ c.next-base.result + all_words (map owner_of (map segment_of ss)) =
-    ap (λ (a : Allotted). a.next_free) c.in_ok-allotment.ensures.found
-    ∙ ap (λ (os : List Owner). c.next-base.result + all_words os) (owners_of_segments ss) in
+    grind (arith, owners_of_segments) in
     let free = ap (λ (a : Allotted). a.next_free) c.allotment.view_is in
     let size : Edit = c.edit.result in
     record {
       sound = known.sound;
       room = omega (arith, end, free, c.allotment.ranges.1.0.1);
-      table = of_hosts (map segment_of ss) (segment_of own) is known.one_host
-          (λ s. IsOfTable c.segments.inside.order s.code size)
-          (subst (IsOfTable c.segments.inside.order own.code)
-          (sym c.edit.ensures) c.in_ok-size.ensures.table);
+      table = grind (arith, of_hosts);
       alike = known.alike;
     }
 
@@ -179,9 +161,7 @@ returns-clause-plan g c =
       privates = ap (λ (b : Allotted). b.privates) whole;
       next_free = ap (λ (b : Allotted). b.next_free) whole;
       private_words = ap (λ (b : Allotted). b.words) whole;
-      data_size = size.size ∙ ap (λ (n : ℕ). data_size_of order n own.code) words
-          ∙ sym (ap (λ o. option_map_or
-          (λ s. data_size_of order (total_words (map segment_of ss)) s.code) o 0) is);
+      data_size = grind arith;
     })
 
 pub returns-clause-sound : goal.returns-clause-sound

@@ -1,6 +1,5 @@
-use Rattle.std.proofs.Common.{◌≡◌, ◌+◌, ◌++◌, ◌∙◌, [], ◌∷◌, List, ℕ, ap}
-use Rattle.std.proofs.Common.{sym, subst}
-use Rattle.std.specs.Prelude.{if◌then◌else◌}
+use Rattle.std.proofs.Common.{arith, ◌≡◌, ◌+◌, ◌++◌, ◌∙◌, [], ◌∷◌, List}
+use Rattle.std.proofs.Common.{ℕ, ap, sym, subst}
 use Rattle.std.proofs.lemmas.Bool.{not-false, not-true}
 use Rattle.std.specs.List.{list_any}
 use Rattle.std.specs.Str.{bytes_eq}
@@ -13,12 +12,8 @@ use Rattle.ps_resolve.proofs.namesakes.first_namesake.Goals.{else-is_private-via
 
 pub loop-rec-init : goal.loop-rec-init
 loop-rec-init g c =
-    let all = c.args.records.now in (
-      0,
-      all,
-      c.into_iter-rec-iterator.ensures.into_iter_gives ∙ c.records-rec-items.ensures,
-      rw c.in_ok-names.ensures.empty (scans is_private_reference all),
-    )
+    let all = c.args.records.now in
+    grind (arith, scans is_private_reference all)
 
 pub returns-then-not-branch-clause-found : goal.returns-then-not-branch-clause-found
 returns-then-not-branch-clause-found g c =
@@ -40,9 +35,7 @@ loop-rec-preserved g c =
           let is = sym c.is_private.ensures ∙ w.if-is_private.true in
           let new = not-true (list_any (bytes_eq r.name) seen)
           (sym w.in_ok-insert.ensures.added ∙ w.if-not-branch.false) in
-          let keys : c.else-is_private.names.keys ≡ seen ++ r.name ∷ [] =
-          ap (λ v. v.keys) w.names-is ∙ w.in_ok-insert.ensures.keys
-          ∙ ap (λ b. if b then seen else seen ++ r.name ∷ []) new in (
+          let keys : c.else-is_private.names.keys ≡ seen ++ r.name ∷ [] = grind arith in (
             rec + 1,
             step.0,
             step.1,

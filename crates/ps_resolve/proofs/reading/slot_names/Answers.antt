@@ -1,7 +1,7 @@
 use Rattle.std.proofs.Common.{◌≡◌, ◌<◌, ◌≤◌, ◌∙◌, length, take, map, ℕ, sym}
 use Rattle.std.proofs.Common.{subst, arith}
 use Rattle.std.specs.List.{range_with_len}
-use Rattle.std.proofs.lemmas.List.{take_more_set, take_all}
+use Rattle.std.proofs.lemmas.List.{take_all}
 use Rattle.std.proofs.lemmas.List.FromFn.{map-range_with_len_more}
 use Rattle.std.proofs.lemmas.Grind.{common_steps}
 use Rattle.ps_resolve.specs.Added.{slot_name, slot_names}
@@ -11,19 +11,13 @@ use Rattle.ps_resolve.proofs.reading.slot_names.Goals as goal
 pub loop-slot-preserved : goal.loop-slot-preserved
 loop-slot-preserved c =
     let i = c.loop-slot.slot in
-    let inv = c.loop-slot.invariant in
     let lt : i < length c.loop-slot.names = omega arith in
-    let wrote = take_more_set c.loop-slot.names i c.slot_name.result lt in
-    record {
-      all = grind (arith, common_steps);
-      done =
-          let name = c.slot_name.ensures in
-          let so_far = inv.done in
-          let more = map-range_with_len_more
-          (slot_name c.args.host.now.file (map segment_of c.args.segments.now)) 0 i i
-          (omega arith) in
-          grind (arith, common_steps, wrote, more, name, so_far);
-    }
+    grind (
+      arith,
+      common_steps,
+      map-range_with_len_more (slot_name c.args.host.now.file (map segment_of c.args.segments.now))
+          0 i i (omega arith),
+    )
 
 pub returns : goal.returns
 unfolding slot_names

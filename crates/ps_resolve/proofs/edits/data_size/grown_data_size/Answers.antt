@@ -1,4 +1,4 @@
-use Rattle.std.proofs.Common.{◌≡◌, ℕ, ◌+◌, ◌-◌, ◌&&◌, true, subst, arith}
+use Rattle.std.proofs.Common.{◌≡◌, ℕ, ◌+◌, ◌-◌, ◌&&◌, true, arith}
 use Rattle.std.specs.Prelude.{nat_le, nat_lt}
 use Rattle.std.proofs.lemmas.Bool.{or_right}
 use Rattle.std.proofs.lemmas.Bool.Decides.{nat_tests}
@@ -17,8 +17,7 @@ stored : (order : Order) (h : HostSegment) (v : ℕ) → IsHost order h
     → IsOfTable order h.segment.now.code (Word v (h.outer_block - 8))
 stored order h v is = record {
   storable = tt;
-  before = let end = is.whole.high in let start =
-      is.whole.low in omega arith;
+  before = grind arith;
   reserved = reserved;
 }
   where
@@ -31,9 +30,9 @@ stored order h v is = record {
     reserved p covered = or_right _ _ (some_table (table_of order h.segment.now.code)
         (λ t. nat_le (t - 8) p && nat_le p (t + 1))
         (procedures h.segment.now.code) h.outer_block is.procedure is.table
-        (let e : h.outer_block - 8 + 8 ≡ h.outer_block = (let start = is.whole.low in omega arith)
-        in subst (λ (n : ℕ). (nat_le (h.outer_block - 8) p && nat_le p (n + 1)) ≡ true) e
-        (low_of (h.outer_block - 8) p covered)))
+        (let e : h.outer_block - 8 + 8 ≡ h.outer_block = (let start = is.whole.low in
+        omega arith)
+        in grind (arith, low_of)))
 
 pub returns-clause-table : goal.returns-clause-table
 returns-clause-table c = stored c.args.order c.args.host.now _ c.requires

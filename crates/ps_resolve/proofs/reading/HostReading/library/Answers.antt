@@ -1,5 +1,5 @@
-use Rattle.std.proofs.Common.{◌≡◌, ◌∙◌, ℕ, List, Bor, Some, Result, length, refl, sym}
-use Rattle.std.proofs.Common.{ap}
+use Rattle.std.proofs.Common.{arith, ◌≡◌, ◌∙◌, ℕ, List, Bor, Some, Result, length}
+use Rattle.std.proofs.Common.{refl, sym, ap}
 use Rattle.std.specs.List.{slice_get}
 use Rattle.std.specs.Option.{option_map}
 use Rattle.std.proofs.lemmas.Option.{slice_get-map, slice_get_read}
@@ -19,9 +19,7 @@ returns-in-Some c =
     let found = slice_get_read libs (length libs) c.args.index c.in-Some.lib.now refl
     (ltb-true c.args.index (length libs) (sym c.in-Some.ensures.lookup.0))
     c.in-Some.ensures.lookup.1 in
-    let at : slice_get (contents libs) c.args.index ≡ Some lib =
-    slice_get-map (λ (b : Bor (List ℕ)). b.now) libs c.args.index
-    ∙ ap (option_map (λ (b : Bor (List ℕ)). b.now)) found in
+    let at : slice_get (contents libs) c.args.index ≡ Some lib = grind (arith, slice_get-map) in
     ap (λ (r : Result OpenedFile Reason). Some r)
     (c.read_beside.ensures ∙ ap (λ (o : Order). opened_beside o lib) c.order.ensures)
     ∙ (sym (ap (option_map (opened_beside order)) at)

@@ -1,22 +1,17 @@
-use Rattle.std.proofs.Common.{◌≡◌, ◌∙◌, ℕ, List, sym, ap}
+use Rattle.std.proofs.Common.{rules, arith, ◌≡◌, ◌∙◌, ℕ, List, sym, ap}
 use Rattle.ps_resolve.specs.Sources.{contents, opened_files}
 use Rattle.ps_resolve.specs.Readings.{HostFiles, queued_request, read_requests, slot_request}
 use Rattle.ps_resolve.specs.declared.reading.added.UnitReference.{UnitReference}
-use Rattle.ps_resolve.proofs.ReadingSlots.{request_by, request_of_slot}
+use Rattle.ps_resolve.proofs.ReadingSlots.{request_by}
 use Rattle.ps_resolve.proofs.reading.HostReading.request.Goals as goal
 
 seen : (a b : HostFiles) (slot : ℕ) → a ≡ b
     → slot_request a.order a.file (opened_files a.order a.libs) slot
     ≡ slot_request b.order b.file (opened_files b.order b.libs) slot
-seen a b slot e = ap (λ (v : HostFiles). slot_request v.order v.file
-    (opened_files v.order v.libs) slot) e
+seen a b slot e = search rules
 
 pub returns-in-Some : goal.returns-in-Some
-returns-in-Some c =
-    let host = c.self.inside.slots in
-    sym (request_of_slot host.order host.file
-    (opened_files host.order (contents c.self.inside.libs.now)) c.args.slot c.in-Some.request
-    (sym c.own_request.ensures ∙ c.in-Some.is)) ∙ seen _ _ c.args.slot c.self.view_is
+returns-in-Some c = grind arith
 
 pub returns : goal.returns
 returns c =

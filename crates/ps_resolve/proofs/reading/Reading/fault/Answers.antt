@@ -1,4 +1,4 @@
-use Rattle.std.proofs.Common.{◌∙◌, Some, sym, ap}
+use Rattle.std.proofs.Common.{arith, ◌∙◌, Some, sym, ap}
 use Rattle.ps_words.specs.declared.fault.Fault.{Fault}
 use Rattle.ps_resolve.specs.Sources.{contents}
 use Rattle.ps_resolve.specs.AllFaults.{reading_fault}
@@ -14,7 +14,4 @@ returns-in-Err c =
     ∙ ap (λ (v : ReadFiles). reading_fault v.host v.libs) c.self.view_is)
 
 pub returns-in-Ok : goal.returns-in-Ok
-returns-in-Ok c =
-    c.fault.ensures ∙ (fault_of_host c.self.inside.file.now
-    (contents c.self.inside.libs.now) c.in-Ok.host (sym c.self.invariant ∙ c.in-Ok.is)
-    ∙ ap (λ (v : ReadFiles). reading_fault v.host v.libs) c.self.view_is)
+returns-in-Ok c = grind (arith, fault_of_host)

@@ -1,4 +1,4 @@
-use Rattle.std.proofs.Common.{◌∙◌, sym, ap}
+use Rattle.std.proofs.Common.{arith, ◌∙◌, sym, ap}
 use Rattle.ps_resolve.specs.Readings.{ReadFiles, opened_host}
 use Rattle.ps_resolve.proofs.reading.Reading.host.Goals as goal
 
@@ -7,5 +7,4 @@ returns-in-Err-clause-refused c = ap (λ (v : ReadFiles). opened_host v.host v.l
     (sym c.self.view_is) ∙ (sym c.self.invariant ∙ c.in-Err.is)
 
 pub returns-in-Ok-clause-opened : goal.returns-in-Ok-clause-opened
-returns-in-Ok-clause-opened c = ap (λ (v : ReadFiles). opened_host v.host v.libs)
-    (sym c.self.view_is) ∙ (sym c.self.invariant ∙ c.in-Ok.is)
+returns-in-Ok-clause-opened c = grind arith

@@ -1,4 +1,4 @@
-use Rattle.std.proofs.Common.{◌∙◌, ◌+◌, ◌<◌, ℕ, refl, arith, Bool}
+use Rattle.std.proofs.Common.{◌∙◌, ◌<◌, ℕ, refl, arith, Bool}
 use Rattle.std.proofs.lemmas.List.Elements.{All-nil}
 use Rattle.ps_codefile.specs.Roles.{is_empty}
 use Rattle.ps_resolve.specs.Added.{empty_slots}
@@ -21,5 +21,5 @@ loop-slot-preserved c =
       all = inv.all ∙ filter_more test old i 16 c.loop-slot-test.true;
       in_range = all_if (λ (slot : ℕ). slot < 16)
           (test i) old i inv.in_range c.loop-slot-test.true;
-      few = few_if (test i) old i (i + 1) 7 inv.few refl;
+      few = grind (arith, few_if);
     })

@@ -1,32 +1,19 @@
-use Rattle.std.proofs.Common.{◌∙◌, ◌+◌, ◌∷◌, [], List, take, refl, sym, ap}
+use Rattle.std.proofs.Common.{arith, ◌∙◌, sym}
 use Rattle.std.proofs.lemmas.List.{take_all}
-use Rattle.ps_resolve.specs.Added.{requested_from, unit_references}
-use Rattle.ps_resolve.specs.declared.reading.added.UnitReference.{UnitReference}
-use Rattle.ps_resolve.proofs.Adding.{Enqueues, kept_more, few_kept, no_references}
+use Rattle.ps_resolve.proofs.Adding.{Enqueues, kept_more, no_references}
 use Rattle.ps_resolve.proofs.Numbers.{one, none}
 use Rattle.ps_resolve.proofs.reading.added.enqueue_records.Goals as goal
 
 pub returns-then-units-eq0 : goal.returns-then-units-eq0
 returns-then-units-eq0 c =
     let s = c.args.place in
-    let units = c.args.units.now in
     let queue = c.args.queue.now.items in
     let none_new = no_references s.file s.slot 0 c.args.records.now
     (sym c.units.ensures ∙ c.if-units-eq0.true) in
-    sym (ap (λ (gs : List UnitReference). take 10 (requested_from units queue gs)) none_new
-    ∙ take_all 10 queue c.requires)
+    grind (arith, take_all 10 queue c.requires)
 
 pub loop-rec-init : goal.loop-rec-init
-loop-rec-init c = record {
-  left = (
-    0,
-    c.args.records.now,
-    c.into_iter-rec-iterator.ensures.into_iter_gives
-        ∙ c.records-rec-items.ensures,
-    refl,
-  );
-  few = c.requires;
-}
+loop-rec-init c = grind arith
 
 pub loop-rec-preserved : goal.loop-rec-preserved
 loop-rec-preserved c =
@@ -38,17 +25,7 @@ loop-rec-preserved c =
     let step = one (Enqueues units s.file s.slot c.args.records.now c.args.queue.now.items old)
     c.loop-rec.rec-iterator c.next.new.self rec r c.loop-rec.invariant.left
     c.in-Some.ensures.steps in
-    record {
-      left = (
-        rec + 1,
-        step.0,
-        step.1,
-        kept_more units old c.enqueue_record.new.queue.items s.file
-            s.slot rec r step.0 (rw c.record.ensures at c.enqueue_record.ensures) ∙ step.2,
-      );
-      few = rw (c.enqueue_record.ensures, c.record.ensures)
-          (few_kept (requested_from units old (unit_references s.file s.slot rec (r ∷ []))));
-    }
+    grind (arith, kept_more)
 
 pub enqueue_record-requires : goal.enqueue_record-requires
 enqueue_record-requires c = c.loop-rec.invariant.few

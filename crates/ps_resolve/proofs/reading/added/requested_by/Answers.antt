@@ -1,4 +1,4 @@
-use Rattle.std.proofs.Common.{◌<◌, ℕ, List, length, take, subst, sym, arith}
+use Rattle.std.proofs.Common.{rules, ◌<◌, ℕ, List, length, take, subst, sym, arith}
 use Rattle.std.specs.Prelude.{All}
 use Rattle.std.proofs.lemmas.List.Elements.{All-take}
 use Rattle.ps_linkinfo.specs.declared.record.LinkRecord.{LinkRecord as Record}
@@ -10,10 +10,7 @@ use Rattle.ps_resolve.proofs.Sharing.{of_shared}
 use Rattle.ps_resolve.proofs.reading.added.requested_by.Goals as goal
 
 pub loop-index-preserved : goal.loop-index-preserved
-loop-index-preserved c =
-    requested_more c.args.units.now c.args.own.now c.loop-index.index c.index-own-index.result
-    c.loop-index.queue.items c.enqueue_segment.new.queue.items
-    (omega arith) c.index-own-index.is c.enqueue_segment.ensures c.loop-index.invariant
+loop-index-preserved c = search (rules, requested_more)
 
 -- the names of a segment that shares its records are known
 pub loop-index-preserved-then-shares_with : goal.loop-index-preserved-then-shares_with
@@ -32,5 +29,4 @@ loop-index-preserved-then-shares_with c =
     let known = of_shared (λ (rs : List Record). AreAlreadyKnown units queue rs)
     (take i own) v has.0 (c.shares_with.ensures.linked c.if-shares_with.true) alike inv.known
     has.1 in
-    requested_more units own i v queue queue lt c.index-own-index.is
-    (nothing_new units v.file v.slot queue v.records inv.few known) inv
+    search (rules, requested_more, nothing_new)

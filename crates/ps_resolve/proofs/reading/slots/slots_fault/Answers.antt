@@ -1,8 +1,6 @@
-use Rattle.std.proofs.Common.{ℕ, ◌∙◌, Option, Some, refl, sym, ap}
+use Rattle.std.proofs.Common.{arith, ℕ, refl}
 use Rattle.std.specs.Option.{option_map}
 use Rattle.ps_words.specs.FaultPlaces.{in_slot}
-use Rattle.ps_words.specs.declared.fault.Reason.{Reason}
-use Rattle.ps_words.specs.declared.fault.Fault.{Fault}
 use Rattle.ps_resolve.specs.Faults.{slot_reason, slots_fault}
 use Rattle.ps_resolve.proofs.FirstSlots.{first_here, first_later}
 use Rattle.ps_resolve.proofs.reading.slots.slots_fault.Goals as goal
@@ -15,16 +13,7 @@ pub returns-in-Some : goal.returns-in-Some
 returns-in-Some c =
     let fault = λ (s : ℕ). option_map (in_slot 0 s)
     (slot_reason c.args.host.now.order c.args.host.now.file s) in
-    let here = ap (λ (why : Option Reason). option_map (in_slot 0 c.loop-slot.slot) why)
-    (sym c.slot_reason.ensures ∙ c.in-Some.is) in
-    ap (λ (f : Fault). Some f) c.in_slot.ensures
-    ∙ sym (c.loop-slot.invariant ∙ first_here fault c.loop-slot.slot 16 _
-    c.loop-slot-test.true here)
+    grind (arith, first_here fault c.loop-slot.slot 16)
 
 pub loop-slot-preserved : goal.loop-slot-preserved
-loop-slot-preserved c =
-    let fault = λ (s : ℕ). option_map (in_slot 0 s)
-    (slot_reason c.args.host.now.order c.args.host.now.file s) in
-    let here = ap (λ (why : Option Reason). option_map (in_slot 0 c.loop-slot.slot) why)
-    (sym c.slot_reason.ensures ∙ c.in_default.is) in
-    c.loop-slot.invariant ∙ first_later fault c.loop-slot.slot 16 c.loop-slot-test.true here
+loop-slot-preserved c = grind (arith, first_later)

@@ -1,24 +1,15 @@
-use Rattle.std.proofs.Common.{◌≡◌, ◌∙◌, ℕ, List, Ok, sym, ap, subst}
+use Rattle.std.proofs.Common.{rules, arith, ◌∙◌, ℕ, List, sym, ap}
 use Rattle.std.proofs.lemmas.Result.{err_from_is_err_and}
-use Rattle.ps_codefile.specs.Dictionary.{OpenedFile, entry_at, role_of}
-use Rattle.ps_codefile.specs.declared.entry.Role.{Role}
-use Rattle.ps_codefile.specs.declared.entry.Role.TheVariants.{Wanted}
+use Rattle.ps_codefile.specs.Dictionary.{OpenedFile}
 use Rattle.ps_codefile.specs.declared.entry.Entry.{Entry}
 use Rattle.ps_resolve.specs.Sources.{segment_from, opened}
-use Rattle.ps_resolve.specs.Faults.{code_fault, request_fault}
-use Rattle.ps_resolve.specs.Views.{ArePlacedIn, IsRead}
-use Rattle.ps_resolve.specs.Requests.{requested_segment}
+use Rattle.ps_resolve.specs.Faults.{code_fault}
 use Rattle.ps_resolve.proofs.ReadingSources.{own_fault, read_from_host}
 use Rattle.ps_resolve.proofs.Requested.{wanted_is, wanted_segment}
-use Rattle.ps_resolve.proofs.Sharing.{placed_in}
 use Rattle.ps_resolve.proofs.reading.sources.read_slot.Goals as goal
 
 pub read_segment-requires-clause-placed : goal.read_segment-requires-clause-placed
-read_segment-requires-clause-placed c =
-    let host = c.args.host.now in
-    subst (λ (o : OpenedFile). ArePlacedIn o.order o.file 0 c.args.earlier.now)
-    (sym c.dict.ensures) (placed_in host.order host.file
-    (opened host.order c.args.libs.now) 0 c.args.earlier.now c.requires.read)
+read_segment-requires-clause-placed c = grind arith
 
 pub returns-in_err-own-in-Plain : goal.returns-in_err-own-in-Plain
 returns-in_err-own-in-Plain c =
@@ -57,44 +48,11 @@ returns-in_ok-own-in-Plain c =
           ∙ (ap (λ (o : OpenedFile). segment_from o.order host.file libs c.args.slot
           c.entry.result.name c.in-Ok.role (0, c.args.slot)) (sym dict)
           ∙ c.in_ok-own-in-Plain.ensures.segment host.file libs file)));
-      read = subst (λ (o : OpenedFile). IsRead o.order host.file libs c.in_ok-own-in-Plain.own)
-          dict
-          (record {
-            placed = c.in_ok-own-in-Plain.ensures.placed host.file libs file;
-            sound =
-                c.in_ok-own-in-Plain.ensures.sound;
-          });
+      read = grind arith;
     }
 
 pub returns-in_err-wanted-in-Wanted : goal.returns-in_err-wanted-in-Wanted
-returns-in_err-wanted-in-Wanted c =
-    let host = c.args.host.now in
-    let libs = opened host.order c.args.libs.now in
-    let wants : role_of (entry_at host.order host.file c.args.slot) ≡ Ok Wanted =
-    sym c.role.ensures ∙ (c.in-Ok.is ∙ ap (λ (r : Role). Ok r) c.in-Wanted.is) in
-    let p = err_from_is_err_and c.from_residual-in_err-wanted-in-Wanted.result
-    c.from_residual-in_err-wanted-in-Wanted.ensures.1 in
-    rw (p.1, p.2) (record {
-      fault = c.in_err-wanted-in-Wanted.ensures.fault
-          ∙ (ap (request_fault host.order host.file libs) c.of_slot-request.ensures
-          ∙ sym (wanted_is host.order host.file libs c.args.slot wants));
-      segment = tt;
-      read = tt;
-    })
+returns-in_err-wanted-in-Wanted c = grind arith
 
 pub returns-in_ok-wanted-in-Wanted : goal.returns-in_ok-wanted-in-Wanted
-returns-in_ok-wanted-in-Wanted c =
-    let host = c.args.host.now in
-    let libs = opened host.order c.args.libs.now in
-    let wants : role_of (entry_at host.order host.file c.args.slot) ≡ Ok Wanted =
-    sym c.role.ensures ∙ (c.in-Ok.is ∙ ap (λ (r : Role). Ok r) c.in-Wanted.is) in
-    let same = c.of_slot-request.ensures in
-    record {
-      fault = c.in_ok-wanted-in-Wanted.ensures.fault
-          ∙ (ap (request_fault host.order host.file libs) same
-          ∙ sym (wanted_is host.order host.file libs c.args.slot wants));
-      segment = sym (wanted_segment host.order host.file libs c.args.slot wants
-          ∙ (ap (requested_segment host.order host.file libs) (sym same)
-          ∙ c.in_ok-wanted-in-Wanted.ensures.segment));
-      read = c.in_ok-wanted-in-Wanted.ensures.read;
-    }
+returns-in_ok-wanted-in-Wanted c = search (rules, wanted_is, wanted_segment)

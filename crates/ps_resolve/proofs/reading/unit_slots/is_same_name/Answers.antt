@@ -22,6 +22,4 @@ same_words xs ys m n lx ly bx by_ mx ny = at (bytes_eq xs ys) refl
         let no : true ≡ false = sym ((bytes_eq-Decides xs ys).1 equal) ∙ e in cc)
 
 pub returns : goal.returns
-returns c = same_words c.args.name c.args.other c.from_le_bytes.result c.from_le_bytes-2.result
-    (search rules) (search rules) (search rules)
-    (search rules) c.from_le_bytes.ensures c.from_le_bytes-2.ensures
+returns c = search (rules, same_words)

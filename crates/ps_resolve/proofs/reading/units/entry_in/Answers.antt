@@ -1,4 +1,4 @@
-use Rattle.std.proofs.Common.{◌∙◌, List, ℕ, sym, ap}
+use Rattle.std.proofs.Common.{rules, ◌∙◌, sym, ap}
 use Rattle.std.specs.List.{find}
 use Rattle.ps_codefile.specs.Dictionary.{OpenedFile, slots}
 use Rattle.ps_resolve.specs.Sources.{is_named}
@@ -6,11 +6,7 @@ use Rattle.ps_resolve.proofs.ReadingLibraries.{no_entries, opened_is, refused_is
 use Rattle.ps_resolve.proofs.reading.units.entry_in.Goals as goal
 
 pub returns-in-Err-clause-entry : goal.returns-in-Err-clause-entry
-returns-in-Err-clause-entry c =
-    let none = refused_is c.args.order c.args.lib.now _ (sym c.read_beside.ensures ∙ c.in-Err.is)
-    in
-    sym (ap (λ (file : List ℕ). find (is_named c.args.order c.args.name file) slots) none
-    ∙ no_entries c.args.order c.args.name)
+returns-in-Err-clause-entry c = search (rules, refused_is, no_entries)
 
 pub returns-in-None-clause-entry : goal.returns-in-None-clause-entry
 returns-in-None-clause-entry c =

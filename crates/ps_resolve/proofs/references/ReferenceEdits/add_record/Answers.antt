@@ -1,8 +1,6 @@
-use Rattle.std.proofs.Common.{◌≡◌, ℕ, ◌<◌, ◌≤◌, ◌+◌, ◌++◌, ◌∷◌}
-use Rattle.std.proofs.Common.{◌∙◌, [], List, length, map, take, sym, ap, arith, append_assoc}
-use Rattle.std.proofs.Common.{get_or}
+use Rattle.std.proofs.Common.{rules, ◌≡◌, ℕ, ◌<◌, ◌≤◌, ◌+◌, ◌++◌}
+use Rattle.std.proofs.Common.{◌∙◌, List, length, take, ap, arith, append_assoc, get_or}
 use Rattle.ps_words.specs.declared.edit.Edit.{Edit}
-use Rattle.ps_codefile.specs.Procedures.{is_reserved}
 use Rattle.ps_resolve.specs.EditTables.{edits_of, put_in}
 use Rattle.ps_resolve.specs.declared.edit_table.PlaceState.{PlaceState}
 use Rattle.ps_resolve.specs.Operands.{edit_of, operands, width_of}
@@ -29,20 +27,7 @@ loop-i-preserved g c =
     record {
       same_procedures = inv.same_procedures;
       table = rw put (operand_table code t c.get-x.result ts inv.table inside c.in-Ok.ensures.free);
-      edits = rw (
-        put,
-        map_one (edit_of code t) refs i within,
-        ← x,
-        ← append_assoc old (map (edit_of code t) (take i refs))
-            (edit_of code t c.get-x.result ∷ []),
-      )
-          (operand_put code t c.get-x.result ts
-          (old ++ map (edit_of code t) (take i refs)) inv.table.len inside c.in-Ok.ensures.free
-          inv.edits);
-      fault = λ os taken. sym (fault_one (is_reserved tables.order code) code t os refs i within
-          (rw (← x) (sym (c.in-Ok.ensures.reason (so_far os) (inv.taken os taken)))))
-          ∙ inv.fault os taken;
-      taken = λ os taken. rw (put, operands_one t os refs i within, ← x)
-          (taken_more tables ts t c.get-x.result (so_far os) inv.table.len inside
-          (inv.taken os taken));
+      edits = search (rules, map_one, append_assoc, operand_put);
+      fault = grind (arith, fault_one);
+      taken = search (rules, operands_one, taken_more);
     }

@@ -1,31 +1,23 @@
-use Rattle.std.proofs.Common.{◌≡◌, ℕ, ◌+◌, ◌++◌, ◌∙◌, [], sym, subst, arith}
-use Rattle.std.proofs.Common.{refl, Option, append-nil, List, ap}
-use Rattle.std.specs.Prelude.{IsPermutation}
-use Rattle.std.proofs.lemmas.Option.{same_Some}
+use Rattle.std.proofs.Common.{rules, ℕ, ◌+◌, ◌++◌, ◌∙◌, [], sym, subst, arith}
+use Rattle.std.proofs.Common.{Option, append-nil, List, ap}
 use Rattle.std.proofs.lemmas.Result.{err_from_is_err_and}
 use Rattle.std.specs.Option.{option_map}
-use Rattle.ps_words.specs.declared.edit.Edit.{Edit}
 use Rattle.ps_words.specs.declared.fault.Reason.{Reason}
 use Rattle.ps_linkinfo.specs.Records.{refs_of}
 use Rattle.ps_linkinfo.specs.RecordCounts.{units_in, publics_in, privates_in, references_in}
-use Rattle.ps_linkinfo.specs.Numbered.{numbered_records}
 use Rattle.ps_codefile.specs.Procedures.{is_reserved, ProcedureTables}
 use Rattle.ps_linkinfo.specs.declared.record.LinkRecord.{LinkRecord as Record}
-use Rattle.std.proofs.lemmas.List.Sorted.{IsPermutation-refl}
-use Rattle.ps_resolve.specs.EditTables.{IsTableOf, edits_of}
 use Rattle.ps_resolve.specs.Operands.{operands}
 use Rattle.ps_resolve.specs.Edits.{refs_fault_at}
-use Rattle.ps_resolve.specs.Faults.{in_segment, segment_fault}
-use Rattle.ps_resolve.specs.References.{Known, HaveTargets, records_edits, records_fault}
+use Rattle.ps_resolve.specs.Faults.{in_segment}
+use Rattle.ps_resolve.specs.References.{Known, HaveTargets, records_fault}
 use Rattle.ps_resolve.specs.Stops.{IsStop}
-use Rattle.ps_resolve.specs.Views.{segment_of}
+use Rattle.ps_resolve.specs.Views.{SegmentView}
 use Rattle.ps_resolve.specs.declared.linkage.RecordPlace.{RecordPlace}
 use Rattle.ps_resolve.specs.declared.linkage.Stop.{Stop}
-use Rattle.ps_resolve.specs.Views.{SegmentView}
 use Rattle.ps_resolve.proofs.Numbers.{one, none}
 use Rattle.ps_resolve.proofs.FirstSlots.{none_mapped as map_none}
-use Rattle.ps_resolve.proofs.NextRecords.{no_links, record_refused, references_refused}
-use Rattle.ps_resolve.proofs.NextRecords.{record_stands, listed_more}
+use Rattle.ps_resolve.proofs.NextRecords.{no_links, references_refused, record_stands, listed_more}
 use Rattle.ps_resolve.proofs.Sharing.{of_shared, no_references}
 use Rattle.ps_resolve.proofs.references.records.add_records.Goals as goal
 use Rattle.ps_resolve.proofs.LookingBack.{words_before}
@@ -45,13 +37,7 @@ returns-then-privates-eq0 g c =
     (ap units_in is ∙ (sym c.units.ensures ∙ c.if-units-eq0.true))
     (ap publics_in is ∙ (sym c.publics.ensures ∙ c.if-publics-eq0.true))
     (ap privates_in is ∙ (sym c.privates.ensures ∙ c.if-privates-eq0.true)) in
-    record {
-      edits = rw (no.edits, append-nil) (IsPermutation-refl (edits_of c.args.edits.states.items));
-      table = c.requires.table;
-      end = omega (arith, no.words);
-      sound = ap (option_map (in_segment v.file v.slot)) no.first;
-      stop = tt;
-    }
+    grind (arith, append-nil)
 
 pub returns-then-shares_with : goal.returns-then-shares_with
 returns-then-shares_with g c =
@@ -67,38 +53,10 @@ returns-then-shares_with g c =
     (ap references_in is ∙ (sym c.references.ensures ∙ c.if-references-eq0.true))
     (ap privates_in is ∙ (sym c.privates-then-references-eq0.ensures
     ∙ c.if-privates-eq0-2.true)) in
-    record {
-      edits = rw (no.edits, append-nil) (IsPermutation-refl (edits_of c.args.edits.states.items));
-      table = c.requires.table;
-      end = omega (arith, no.words);
-      sound = ap (option_map (in_segment v.file v.slot)) no.first;
-      stop = tt;
-    }
+    grind (arith, append-nil)
 
 pub loop-rec-init : goal.loop-rec-init
-loop-rec-init g c =
-    let procedures = c.args.procedures in
-    let is : procedures ≡ record { order = c.args.link.now.order; code = c.args.segment.now.code }
-    = same_Some _ _ (c.requires.tables ∙ c.requires.next.sound.kept c.requires.linked) in
-    let table : IsTableOf procedures.code c.args.edits.states.items =
-    subst (λ (t : ProcedureTables). IsTableOf t.code c.args.edits.states.items)
-    (sym is) c.requires.table in
-    record {
-      links = (
-        0,
-        c.args.segment.now.records,
-        c.into_iter-rec-iterator.ensures.into_iter_gives ∙ c.records-rec-items.ensures
-            ∙ ap (numbered_records 0) c.requires.records,
-        record {
-          table = table;
-          listed = IsPermutation-refl _;
-          first =
-              ([], c.requires.taken, refl);
-          words = refl;
-        },
-      );
-      procedures = is;
-    }
+loop-rec-init g c = grind arith
 
 pub overflow_add-next : goal.overflow_add-next
 overflow_add-next g c =
@@ -116,19 +74,13 @@ overflow_add-next g c =
 pub returns-in-Err-clause-stop : goal.returns-in-Err-clause-stop
 returns-in-Err-clause-stop g c =
     let known : Known = c.args.link.now.names.now in
-    let s = c.args.segment.now in
     let l = c.loop-rec in
     let tables = l.found.procedures in
     let r = c.in-Some.record in
     let step = one _ l.rec-iterator c.next.new.self c.in-Some.rec r l.invariant.links
     c.in-Some.ensures.steps in
     let first = step.2.first in
-    let here = record_refused known (is_reserved tables.order tables.code) tables.code c.in-Some.rec
-    l.next first.0 r step.0 c.in-Err.reason (sym c.target_of.ensures ∙ c.in-Err.is) in
-    subst (IsStop ⊥ (segment_fault c.args.link.now.order known c.args.free (segment_of s)))
-    (sym c.stop_for.ensures) (rw (c.record-place.ensures, c.place.ensures)
-    (ap (option_map (in_segment s.file s.slot))
-    (ap (fault_by known s c.args.free) (sym l.invariant.procedures) ∙ sym first.2 ∙ here)))
+    grind arith
 
 pub returns-in_err-add_record-in-Ok-clause-stop : goal.returns-in_err-add_record-in-Ok-clause-stop
 returns-in_err-add_record-in-Ok-clause-stop g c =
@@ -177,9 +129,7 @@ loop-rec-preserved g c =
         step.1,
         rw (c.words_taken-next.ensures, added.same_procedures) (record {
           table = added.table;
-          listed = listed_more known R tables.code rec l.next first.0 r rest _
-              l.found.edits.states.items c.add_record.new.self.edits.states.items t is_t
-              step.2.listed added.edits;
+          listed = search (rules, listed_more);
           first = (
             first.0 ++ operands t (refs_of r.body),
             added.taken first.0 first.1,
@@ -194,21 +144,6 @@ loop-rec-preserved g c =
 pub returns : goal.returns
 returns g c =
     let l = c.loop-rec in
-    let s : SegmentView = c.args.segment.now in
     let known : Known = c.args.link.now.names.now in
     let end = none _ l.rec-iterator l.invariant.links c.in-None.ensures.steps.0 in
-    record {
-      edits = subst (λ (t : ProcedureTables). IsPermutation
-          (edits_of c.args.edits.states.items ++ records_edits known t.code c.args.free s.records)
-          (edits_of l.found.edits.states.items)) l.invariant.procedures
-          (subst (λ (es : List Edit). IsPermutation
-          (edits_of c.args.edits.states.items
-          ++ records_edits known l.found.procedures.code c.args.free s.records) es)
-          (append-nil (edits_of l.found.edits.states.items)) end.1.listed);
-      table = subst (λ (t : ProcedureTables). IsTableOf t.code l.found.edits.states.items)
-          l.invariant.procedures end.1.table;
-      end = omega (arith, end.1.words);
-      sound = ap (option_map (in_segment s.file s.slot))
-          (ap (fault_by known s c.args.free) (sym l.invariant.procedures) ∙ sym end.1.first.2);
-      stop = tt;
-    }
+    grind (arith, append-nil)

@@ -21,7 +21,7 @@ loop-slot-preserved c =
           let more = map-range_with_len_more
           (λ (s : ℕ). role_of (entry_at c.args.dict.order c.args.dict.file s)) 0 i i
           (omega arith) in
-          grind (arith, common_steps, role_set, more, role, so_far);
+          grind arith;
     }
 
 pub invariant_of-result : goal.invariant_of-result
