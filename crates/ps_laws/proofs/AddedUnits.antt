@@ -3,16 +3,15 @@ use Rattle.std.proofs.Common.{rules, ◌≡◌, ℕ, zero, suc, ◌+◌, ◌<◌
 use Rattle.std.proofs.Common.{[], ◌∷◌, ◌++◌, length, map, Option, Some, None, Ok, Bool}
 use Rattle.std.proofs.Common.{true, false, refl, sym, ap, subst, ◌∙◌, inl, inr, arith}
 use Rattle.std.proofs.Common.{is_some, length-append, length-take, take}
-use Rattle.ps_laws.proofs.Words.{◌⊎◌, ◌≢◌, if◌then◌else◌, slice_get, list_any}
-use Rattle.ps_laws.proofs.Words.{lookup, option_map}
-use Rattle.ps_laws.proofs.Words.{option_and_then, result_ok, bytes_eq, cases_lt, cases_order}
-use Rattle.ps_laws.proofs.Words.{false≢true, same_Some, bytes_eq-Decides, entry_at, role_of}
-use Rattle.ps_laws.proofs.Words.{code_of, information_of, is_unit_reference, unit_references}
-use Rattle.ps_laws.proofs.Words.{all_unit_references, requested_from, added_segments, added_fault}
-use Rattle.ps_laws.proofs.Words.{SomeItem, IsOfFile, HasRole, IsUnitSlot, Role, reading, Record}
-use Rattle.ps_laws.proofs.Words.{role_fault, code_fault, request_by_slot, Before, is_unit}
-use Rattle.ps_laws.proofs.Words.{needs_linking, Segment, unit_source, source_of, own_segment, Asks}
-use Rattle.ps_laws.proofs.Words.{IsGiver, AddedUnits, UnitReference, Order, Reason}
+use Rattle.ps_laws.proofs.Words.{◌⊎◌, ◌≢◌, slice_get, result_ok, same_Some, AddedUnits}
+use Rattle.ps_laws.proofs.Words.{if◌then◌else◌, is_unit_reference, all_unit_references, Order}
+use Rattle.ps_laws.proofs.Words.{list_any, bytes_eq, cases_lt, entry_at, SomeItem, source_of, Asks}
+use Rattle.ps_laws.proofs.Words.{lookup, Record, Before, IsGiver, Reason}
+use Rattle.ps_laws.proofs.Words.{option_map, IsUnitSlot, Role, role_fault, code_fault, own_segment}
+use Rattle.ps_laws.proofs.Words.{option_and_then, bytes_eq-Decides, information_of, unit_references}
+use Rattle.ps_laws.proofs.Words.{cases_order, false≢true, added_fault, unit_source, UnitReference}
+use Rattle.ps_laws.proofs.Words.{role_of, code_of, IsOfFile, HasRole, reading, is_unit, Segment}
+use Rattle.ps_laws.proofs.Words.{requested_from, added_segments, request_by_slot, needs_linking}
 use Rattle.std.proofs.lemmas.Bool.{false_from_ne_true, or_cases, or_left}
 use Rattle.std.proofs.lemmas.Option.{slice_get_within, slice_get-map}
 use Rattle.ps_resolve.specs.Added.{is_already_known, requested_units}
@@ -39,8 +38,7 @@ use Rattle.ps_laws.proofs.Asked.{reference_of, all_known, own_in, own_at, units_
 -- an item of a mapped list is what the function makes of the item at the same place
 pub mapped : {A C : Type 0} (f : A → C) (xs : List A) (k : ℕ) (y : C)
     → slice_get (map f xs) k ≡ Some y → (x : A) × (slice_get xs k ≡ Some x) × (f x ≡ y)
-mapped f xs k y e = let t = some_mapped f (slice_get xs k) y (sym (slice_get-map f xs k) ∙ e) in
-    (t.0, t.1, sym t.2)
+mapped f xs k y e = grind (arith, some_mapped, slice_get-map)
 
 -- an item of two joined lists is in the first at its place, or in the second, where it is as much
 -- earlier
@@ -48,15 +46,9 @@ mapped f xs k y e = let t = some_mapped f (slice_get xs k) y (sym (slice_get-map
 pub split_at : {A : Type 0} (xs ys : List A) (p : ℕ) (a : A) → slice_get (xs ++ ys) p ≡ Some a
     → (slice_get xs p ≡ Some a) ⊎ ((q : ℕ) × (p ≡ length xs + q)
     × (slice_get ys q ≡ Some a))
-split_at [] ys p a e = inr (p, omega arith, e)
+split_at [] ys p a e = grind arith
 split_at (x ∷ xs) ys zero a e = inl e
-split_at {A} (x ∷ xs) ys (suc p) a e = go (split_at xs ys p a e)
-  where
-    go : (slice_get xs p ≡ Some a) ⊎
-        ((q : ℕ) × (p ≡ length xs + q) × (slice_get ys q ≡ Some a))
-        → (slice_get xs p ≡ Some a) ⊎
-        ((q : ℕ) × (suc p ≡ length (x ∷ xs) + q) × (slice_get ys q ≡ Some a))
-    go h = grind arith
+split_at {A} (x ∷ xs) ys (suc p) a e = grind (arith, split_at xs ys p a e)
 
 -- those of one segment
 abbrev IsOf : ℕ → ℕ → ℕ → List Record → UnitReference → ℕ → Type 0
@@ -64,80 +56,53 @@ IsOf file slot n rs g j = (r : Record) × (slice_get rs j ≡ Some r)
     × (is_unit_reference r.body ≡ true) × (r.name ≡ g.name) × (g.rec ≡ n + j)
     × (g.file ≡ file) × (g.slot ≡ slot)
 
--- each unit reference of a sequence of records is of a UNITREF among them, with its name and
--- number, this file and this slot
-reference_is : (file slot n : ℕ) (rs : List Record) (p : ℕ) (g : UnitReference)
-    → slice_get (unit_references file slot n rs) p ≡ Some g
-    → (j : ℕ) × IsOf file slot n rs g j
-reference_is file slot n [] p g e = absurd (cc)
-reference_is file slot n (q ∷ rs) p g e =
-    go (is_unit_reference q.body) refl p e (λ k h. reference_is file slot (n + 1) rs k g h)
-  where
-    Q : UnitReference
-    Q = record { name = q.name; file = file; slot = slot; rec = n }
+module _ (file slot : ℕ) where
+  -- each unit reference of a sequence of records is of a UNITREF among them, with its name and
+  -- number, this file and this slot
+  reference_is : (n : ℕ) (rs : List Record) (p : ℕ) (g : UnitReference) → slice_get
+      (unit_references file slot n rs) p ≡ Some g → (j : ℕ) × IsOf file slot n rs g j
+  reference_is n [] p g e = absurd (cc)
+  reference_is n (q ∷ rs) p g e =
+      go (is_unit_reference q.body) refl p e (λ k h. reference_is (n + 1) rs k g h)
+    where
+      Q : UnitReference
+      Q = record { name = q.name; file = file; slot = slot; rec = n }
 
-    rest : List UnitReference
-    rest = unit_references file slot (n + 1) rs
+      rest : List UnitReference
+      rest = unit_references file slot (n + 1) rs
 
-    step : ((j : ℕ) × IsOf file slot (n + 1) rs g j)
-        → (j : ℕ) × IsOf file slot n (q ∷ rs) g j
-    step t = (
-      suc t.0,
-      (
-        t.1.0,
-        t.1.1,
-        t.1.2,
-        t.1.3,
-        (let h = t.1.4 in omega (arith, h)),
-        t.1.5,
-        t.1.6,
-      ),
-    )
+      step : ((j : ℕ) × IsOf file slot (n + 1) rs g j)
+          → (j : ℕ) × IsOf file slot n (q ∷ rs) g j
+      step t = (
+        suc t.0,
+        (
+          t.1.0,
+          t.1.1,
+          t.1.2,
+          t.1.3,
+          (let h = t.1.4 in omega (arith, h)),
+          t.1.5,
+          t.1.6,
+        ),
+      )
 
-    go : (b : Bool) → is_unit_reference q.body ≡ b → (p : ℕ)
-        → slice_get (if b then record { name = q.name; file = file; slot = slot; rec = n }
-        ∷ unit_references file slot (n + 1) rs else unit_references file slot (n + 1) rs) p
-        ≡ Some g
-        → ((k : ℕ) → slice_get (unit_references file slot (n + 1) rs) k ≡ Some g
-        → (j : ℕ) × IsOf file slot (n + 1) rs g j)
-        → (j : ℕ) × IsOf file slot n (q ∷ rs) g j
-    go true is zero e later =
-        let same : Q ≡ g = cc in (
-          zero,
-          (
-            q,
-            refl,
-            is,
-            ap (λ (x : UnitReference). x.name) same,
-            (let h = ap (λ (x : UnitReference). x.rec) same in omega (arith, h)),
-            sym (ap (λ (x : UnitReference). x.file) same),
-            sym (ap (λ (x : UnitReference). x.slot) same),
-          ),
-        )
-    go true is (suc k) e later = step (later k e)
-    go false is k e later = step (later k e)
+      go : (b : Bool) → is_unit_reference q.body ≡ b → (p : ℕ)
+          → slice_get (if b then record { name = q.name; file = file; slot = slot; rec = n }
+          ∷ unit_references file slot (n + 1) rs else unit_references file slot (n + 1) rs) p
+          ≡ Some g → ((k : ℕ) → slice_get (unit_references file slot (n + 1) rs) k
+          ≡ Some g → (j : ℕ) × IsOf file slot (n + 1) rs g j)
+          → (j : ℕ) × IsOf file slot n (q ∷ rs) g j
+      go true is zero e later = grind arith
+      go true is (suc k) e later = step (later k e)
+      go false is k e later = step (later k e)
 
--- the unit references of a sequence of records are in the order of the records
-references_ascend : (file slot n : ℕ) (rs : List Record) (p q : ℕ) (g h : UnitReference)
-    → p < q → slice_get (unit_references file slot n rs) p ≡ Some g
-    → slice_get (unit_references file slot n rs) q ≡ Some h → g.rec < h.rec
-references_ascend file slot n [] p q g h l e u = absurd (cc)
-references_ascend file slot n (x ∷ rs) p q g h l e u =
-    go (is_unit_reference x.body) p q l e u
-    (λ i j m a b. references_ascend file slot (n + 1) rs i j g h m a b)
-  where
-    rest : List UnitReference
-    rest = unit_references file slot (n + 1) rs
-
-    X : UnitReference
-    X = record { name = x.name; file = file; slot = slot; rec = n }
-
-    go : (b : Bool) (p q : ℕ) → p < q
-        → slice_get (if b then X ∷ rest else rest) p ≡ Some g
-        → slice_get (if b then X ∷ rest else rest) q ≡ Some h
-        → ((i j : ℕ) → i < j → slice_get rest i ≡ Some g → slice_get rest j ≡ Some h
-        → g.rec < h.rec) → g.rec < h.rec
-    go b p q k m u v = grind (arith, reference_is)
+  -- the unit references of a sequence of records are in the order of the records
+  references_ascend : (n : ℕ) (rs : List Record) (p q : ℕ) (g h : UnitReference)
+      → p < q → slice_get (unit_references file slot n rs) p ≡ Some g
+      → slice_get (unit_references file slot n rs) q ≡ Some h → g.rec < h.rec
+  references_ascend n [] p q g h l e u = absurd (cc)
+  references_ascend n (x ∷ rs) p q g h l e u =
+      grind (arith, reference_is, references_ascend (n + 1) rs)
 
 -- what the function makes of an item is in the mapped list at the same place
 pub map_at : {A C : Type 0} (f : A → C) (xs : List A) (k : ℕ) (x : A)
@@ -154,8 +119,7 @@ IsReferenceOf (s ∷ ss) p m g =
 
 -- each of them is of a segment
 place_of : (segs : List Segment) (p : ℕ) (g : UnitReference)
-    → slice_get (all_unit_references segs) p ≡ Some g
-    → (m : ℕ) × IsReferenceOf segs p m g
+    → slice_get (all_unit_references segs) p ≡ Some g → (m : ℕ) × IsReferenceOf segs p m g
 place_of [] p g e = absurd (cc)
 place_of (s ∷ ss) p g e = elim (split_at (references_of s) (all_unit_references ss) p g e) [
   | inl h ↦ (0, inl (refl, h))
@@ -167,17 +131,13 @@ of_place : (segs : List Segment) (p m : ℕ) (g : UnitReference) → IsReference
     × IsOf s.file s.slot 0 s.records g d
 of_place [] p m g x = absurd x
 of_place (s ∷ ss) p m g (inl t) = grind (arith, reference_is)
-of_place (s ∷ ss) p m g (inr t) =
-    let r = of_place ss t.0 t.1 g t.4 in
-    (r.0, ap (slice_get (s ∷ ss)) t.3 ∙ r.1, r.2, r.3)
+of_place (s ∷ ss) p m g (inr t) = grind (arith, of_place ss t.0 t.1 g t.4)
 
 -- each UNITREF of a segment has its unit reference among them
 reference_at : (segs : List Segment) (j : ℕ) (s : Segment) (rec : ℕ) (r : Record)
-    → slice_get segs j ≡ Some s
-    → slice_get s.records rec ≡ Some r → is_unit_reference r.body ≡ true
-    → (p : ℕ) × (g : UnitReference) × IsReferenceOf segs p j g
-    × (slice_get (all_unit_references segs) p ≡ Some g)
-    × (g.name ≡ r.name) × (g.rec ≡ rec)
+    → slice_get segs j ≡ Some s → slice_get s.records rec ≡ Some r → is_unit_reference
+    r.body ≡ true → (p : ℕ) × (g : UnitReference) × IsReferenceOf segs p j g
+    × (slice_get (all_unit_references segs) p ≡ Some g) × (g.name ≡ r.name) × (g.rec ≡ rec)
 reference_at [] j s rec r e a u = absurd (cc)
 reference_at (q ∷ ss) zero s rec r e a u =
     let same : q ≡ s = cc in
@@ -192,23 +152,20 @@ reference_at (q ∷ ss) (suc j) s rec r e a u =
     (length own + t.0, t.1, inr (t.0, j, refl, refl, t.2), at, t.4, t.5)
 
 -- there is one at a place
-same_at : (segs : List Segment) (p m n : ℕ) (g h : UnitReference) → IsReferenceOf segs p m g
-    → IsReferenceOf segs p n h
-    → (m ≡ n) × (g ≡ h)
+same_at : (segs : List Segment) (p m n : ℕ) (g h : UnitReference)
+    → IsReferenceOf segs p m g → IsReferenceOf segs p n h → (m ≡ n) × (g ≡ h)
 same_at [] p m n g h x y = absurd x
-same_at (s ∷ ss) p m n g h (inl a) (inl b) = (a.0 ∙ sym b.0, same_Some g h (sym a.1 ∙ b.1))
+same_at (s ∷ ss) p m n g h (inl a) (inl b) = grind (arith, same_Some)
 same_at (s ∷ ss) p m n g h (inl a) (inr t) = grind (arith, slice_get_within, references_of)
 same_at (s ∷ ss) p m n g h (inr t) (inl b) = grind (arith, slice_get_within, references_of)
 same_at (s ∷ ss) p m n g h (inr t) (inr v) =
     let same : v.0 ≡ t.0 = (let a = t.2 in let b = v.2 in omega (arith, a, b)) in
-    let r = same_at ss t.0 t.1 v.1 g h t.4 (subst (λ (q : ℕ). IsReferenceOf ss q v.1 h) same v.4)
-    in
+    let r = same_at ss t.0 t.1 v.1 g h t.4 (subst (λ q. IsReferenceOf ss q v.1 h) same v.4) in
     (t.3 ∙ ap suc r.0 ∙ sym v.3, r.1)
 
 -- they are in the order of their segments and, in each of these, of their records
-in_order : (segs : List Segment) (p q m n : ℕ) (g h : UnitReference) → p < q
-    → IsReferenceOf segs p m g
-    → IsReferenceOf segs q n h → Before (m ∷ g.rec ∷ []) (n ∷ h.rec ∷ [])
+in_order : (segs : List Segment) (p q m n : ℕ) (g h : UnitReference) → p < q → IsReferenceOf
+    segs p m g → IsReferenceOf segs q n h → Before (m ∷ g.rec ∷ []) (n ∷ h.rec ∷ [])
 in_order [] p q m n g h l x y = absurd x
 in_order (s ∷ ss) p q m n g h l (inl a) (inl b) = grind (arith, references_ascend)
 in_order (s ∷ ss) p q m n g h l (inl a) (inr t) =
@@ -235,49 +192,43 @@ known_by : (units : List (List ℕ × ℕ)) (queue : List UnitReference) (h : Un
     → (is_already_known units queue name ≡ false) × (h.name ≢ name)
 known_by units queue h name e = grind (arith, false_from_ne_true, known_longer, known_last)
 
--- after one more reference
-past_known : (units : List (List ℕ × ℕ)) (queue gs : List UnitReference) (x : UnitReference)
-    (p : ℕ) (g : UnitReference) → is_already_known units queue x.name ≡ true
-    → IsEarliest units queue gs p g → IsEarliest units queue (x ∷ gs) (suc p) g
-past_known units queue gs x p g known t = grind arith
+module _ (units : List (List ℕ × ℕ)) (queue gs : List UnitReference) (x : UnitReference) where
+  -- after one more reference
+  past_known : (p : ℕ) (g : UnitReference) → is_already_known units queue x.name ≡ true
+      → IsEarliest units queue gs p g → IsEarliest units queue (x ∷ gs) (suc p) g
+  past_known p g known t = grind arith
 
--- and after one that came into the queue
-past_new : (units : List (List ℕ × ℕ)) (queue gs : List UnitReference) (x : UnitReference)
-    (p : ℕ) (g : UnitReference) → IsEarliest units (queue ++ x ∷ []) gs p g
-    → IsEarliest units queue (x ∷ gs) (suc p) g
-past_new units queue gs x p g t = grind (arith, known_by)
+  -- and after one that came into the queue
+  past_new : (p : ℕ) (g : UnitReference) → IsEarliest units (queue ++ x ∷ []) gs p g
+      → IsEarliest units queue (x ∷ gs) (suc p) g
+  past_new p g t = grind (arith, known_by)
 
-new_here : (units : List (List ℕ × ℕ)) (queue gs : List UnitReference) (x : UnitReference)
-    → is_already_known units queue x.name ≡ false → IsEarliest units queue (x ∷ gs) zero x
-new_here units queue gs x none = (refl, none, λ q h l e same. omega (arith, l))
+  new_here : is_already_known units queue x.name ≡ false
+      → IsEarliest units queue (x ∷ gs) zero x
+  new_here none = (refl, none, λ q h l e same. omega (arith, l))
 
--- the name that a new one of the queue is
-new_name : (units : List (List ℕ × ℕ)) (queue gs : List UnitReference) (x : UnitReference)
-    (k : ℕ) (g : UnitReference) → k ≡ length queue
-    → slice_get (requested_from units (queue ++ x ∷ []) gs) k ≡ Some g → x ≡ g
-new_name units queue gs x k g at e =
-    let more = grown units (queue ++ x ∷ []) gs in
-    let there : slice_get (requested_from units (queue ++ x ∷ []) gs) k ≡ Some x =
-    ap (λ (r : List UnitReference). slice_get r k) more.1
-    ∙ at_left (queue ++ x ∷ []) more.0 k x (first_right queue (x ∷ []) k at) in
-    cc
+  -- the name that a new one of the queue is
+  new_name : (k : ℕ) (g : UnitReference) → k ≡ length queue
+      → slice_get (requested_from units (queue ++ x ∷ []) gs) k ≡ Some g → x ≡ g
+  new_name k g at e =
+      let more = grown units (queue ++ x ∷ []) gs in
+      let there : slice_get (requested_from units (queue ++ x ∷ []) gs) k ≡ Some x =
+      ap (λ r. slice_get r k) more.1
+      ∙ at_left (queue ++ x ∷ []) more.0 k x (first_right queue (x ∷ []) k at) in
+      cc
 
 -- each name that is after those in the queue is that of an earliest reference
 requested_at : (units : List (List ℕ × ℕ)) (queue gs : List UnitReference) (k : ℕ)
-    (g : UnitReference) → length queue ≤ k
-    → slice_get (requested_from units queue gs) k ≡ Some g
-    → (p : ℕ) × IsEarliest units queue gs p g
-requested_at units queue [] k g low e = let h = slice_get_within queue k g e in
-    absurd (omega (arith, h, low))
+    (g : UnitReference) → length queue ≤ k → slice_get (requested_from units queue gs) k
+    ≡ Some g → (p : ℕ) × IsEarliest units queue gs p g
+requested_at units queue [] k g low e = grind (arith, slice_get_within)
 requested_at units queue (x ∷ gs) k g low e =
     go (is_already_known units queue x.name) refl e (λ r h u. requested_at units r gs k g h u)
   where
     go : (b : Bool) → is_already_known units queue x.name ≡ b
         → slice_get (requested_from units (if b then queue else queue ++ x ∷ []) gs) k
-        ≡ Some g
-        → ((r : List UnitReference) → length r ≤ k
-        → slice_get (requested_from units r gs) k ≡ Some g
-        → (p : ℕ) × IsEarliest units r gs p g)
+        ≡ Some g → ((r : List UnitReference) → length r ≤ k → slice_get
+        (requested_from units r gs) k ≡ Some g → (p : ℕ) × IsEarliest units r gs p g)
         → (p : ℕ) × IsEarliest units queue (x ∷ gs) p g
     go true known e later = let t = later queue low e in
         (suc t.0, past_known units queue gs x t.0 g known t.1)
@@ -289,7 +240,7 @@ requested_at units queue (x ∷ gs) k g low e =
       | inr h ↦
           let same = new_name units queue gs x k g (omega (arith, h, low)) e in (
             zero,
-            subst (λ (y : UnitReference). IsEarliest units queue (x ∷ gs) zero y) same
+            subst (λ y. IsEarliest units queue (x ∷ gs) zero y) same
                 (new_here units queue gs x none),
           )
     ]
@@ -305,20 +256,16 @@ requested_pair : (units : List (List ℕ × ℕ)) (queue gs : List UnitReference
     (g h : UnitReference) → length queue ≤ j → j < k
     → slice_get (requested_from units queue gs) j ≡ Some g
     → slice_get (requested_from units queue gs) k ≡ Some h → InOrder units queue gs g h
-requested_pair units queue [] j k g h low l e u = let w = slice_get_within queue j g e in
-    absurd (omega (arith, w, low))
-requested_pair units queue (x ∷ gs) j k g h low l e u =
-    go (is_already_known units queue x.name) refl e u
-    (λ r m a b. requested_pair units r gs j k g h m l a b)
+requested_pair units queue [] j k g h low l e u = grind (arith, slice_get_within)
+requested_pair units queue (x ∷ gs) j k g h low l e u = go (is_already_known units queue x.name)
+    refl e u (λ r m a b. requested_pair units r gs j k g h m l a b)
   where
-    go : (b : Bool) → is_already_known units queue x.name ≡ b
-        → slice_get (requested_from units (if b then queue else queue ++ x ∷ []) gs) j
-        ≡ Some g → slice_get (requested_from units (if b then queue else queue ++ x ∷ []) gs)
-        k ≡ Some h
-        → ((r : List UnitReference) → length r ≤ j
-        → slice_get (requested_from units r gs) j ≡ Some g
-        → slice_get (requested_from units r gs) k ≡ Some h → InOrder units r gs g h)
-        → InOrder units queue (x ∷ gs) g h
+    go : (b : Bool) → is_already_known units queue x.name ≡ b → slice_get
+        (requested_from units (if b then queue else queue ++ x ∷ []) gs) j ≡ Some g
+        → slice_get (requested_from units (if b then queue else queue ++ x ∷ []) gs) k
+        ≡ Some h → ((r : List UnitReference) → length r ≤ j → slice_get
+        (requested_from units r gs) j ≡ Some g → slice_get (requested_from units r gs) k
+        ≡ Some h → InOrder units r gs g h) → InOrder units queue (x ∷ gs) g h
     go true known e u later = let t = later queue low e u in (
       suc t.0,
       suc t.1,
@@ -344,17 +291,16 @@ requested_pair units queue (x ∷ gs) j k g h low l e u =
             suc t.0,
             omega arith,
             subst
-                (λ (y : UnitReference). IsEarliest units queue (x ∷ gs) zero y) same
+                (λ y. IsEarliest units queue (x ∷ gs) zero y) same
                 (new_here units queue gs x none),
             past_new units queue gs x t.0 h t.1,
           )
     ]
 
 -- a record that requests a name has its unit reference among those of all
-asks_at : (segs : List Segment) (j rec : ℕ) (name : List ℕ) → Asks segs j rec name
-    → (q : ℕ) × (h : UnitReference) × IsReferenceOf segs q j h
-    × (slice_get (all_unit_references segs) q ≡ Some h)
-    × (h.name ≡ name) × (h.rec ≡ rec)
+asks_at : (segs : List Segment) (j rec : ℕ) (name : List ℕ)
+    → Asks segs j rec name → (q : ℕ) × (h : UnitReference) × IsReferenceOf segs q j h
+    × (slice_get (all_unit_references segs) q ≡ Some h) × (h.name ≡ name) × (h.rec ≡ rec)
 asks_at segs j rec name t = grind (arith, reference_at)
 
 -- the earliest reference of a name is of the first record of all that requests it
@@ -414,146 +360,137 @@ giver units segs p m g t at = (
         itself : (a b : ℕ) → Before (a ∷ b ∷ []) (a ∷ b ∷ []) → ⊥
         itself a b h = not_both (a ∷ b ∷ []) (a ∷ b ∷ []) h h
 
--- a name of the queue that these segments come to has its giver among the host's own segments and
--- these
-pub given : (order : Order) (host : List ℕ) (libs : List (List ℕ)) (segs : List Segment)
-    (k : ℕ) (g : UnitReference) → slice_get (requested_units order host libs segs) k ≡ Some g
-    → (i : ℕ) × IsGiver (own_segments order host libs ++ segs) i g
-unfolding requested_units
-given order host libs segs k g e =
-    let all = own_segments order host libs ++ segs in
-    let t = requested_at (own_units order host libs) [] (all_unit_references all) k g
-    (omega arith) e in
-    let p = place_of all t.0 g t.1.0 in
-    (p.0, giver (own_units order host libs) all t.0 p.0 g t.1 p.1)
+module _ (order : Order) (host : List ℕ) where
+  -- a name of the queue that these segments come to has its giver among the host's own segments and
+  -- these
+  pub given : (libs : List (List ℕ)) (segs : List Segment) (k : ℕ) (g : UnitReference)
+      → slice_get (requested_units order host libs segs) k ≡ Some g
+      → (i : ℕ) × IsGiver (own_segments order host libs ++ segs) i g
+  unfolding requested_units
+  given libs segs k g e =
+      let all = own_segments order host libs ++ segs in
+      let t = requested_at (own_units order host libs) [] (all_unit_references all) k g
+      (omega arith) e in
+      let p = place_of all t.0 g t.1.0 in
+      (p.0, giver (own_units order host libs) all t.0 p.0 g t.1 p.1)
 
--- 4. what the host's own slots have
--- a slot of a unit's role is a unit slot
-pub unit_slot : (order : Order) (host : List ℕ) (slot : ℕ) (r : Role) → is_unit r ≡ true
-    → HasRole order host slot r → IsUnitSlot order host slot
-unit_slot order host slot r unit has = grind arith
+  -- 4. what the host's own slots have
+  -- a slot of a unit's role is a unit slot
+  pub unit_slot : (slot : ℕ) (r : Role)
+      → is_unit r ≡ true → HasRole order host slot r → IsUnitSlot order host slot
+  unit_slot slot r unit has = grind arith
 
--- a slot's own segment has the slot's role and its name
-pub own_is : (order : Order) (host : List ℕ) (libs : List (List ℕ)) (slot : ℕ) (s : Segment)
-    → own_segment order host libs slot ≡ Some s
-    → (r : Role) × HasRole order host slot r × (s.role ≡ r)
-    × (s.name ≡ (entry_at order host slot).name)
-own_is order host libs slot s e = let t = made_from order host libs slot s e in (
-  t.0,
-  ok_is (role_of (entry_at order host slot)) t.0 t.1,
-  ap (λ (q : Segment). q.role) t.3.is,
-  ap (λ (q : Segment). q.name) t.3.is,
-)
+module _ (order : Order) (host : List ℕ) (libs : List (List ℕ)) where
+  -- a slot's own segment has the slot's role and its name
+  pub own_is : (slot : ℕ) (s : Segment)
+      → own_segment order host libs slot ≡ Some s → (r : Role)
+      × HasRole order host slot r × (s.role ≡ r) × (s.name ≡ (entry_at order host slot).name)
+  own_is slot s e = let t = made_from order host libs slot s e in (
+    t.0,
+    ok_is (role_of (entry_at order host slot)) t.0 t.1,
+    ap (λ (q : Segment). q.role) t.3.is,
+    ap (λ (q : Segment). q.name) t.3.is,
+  )
 
--- the name of a unit among the host's own segments is that of a unit slot of the host
-slot_of_unit : (order : Order) (host : List ℕ) (libs : List (List ℕ)) (name : List ℕ)
-    → is_some (lookup (bytes_eq name) (own_units order host libs)) ≡ true
-    → HasSlot order host name
-slot_of_unit order host libs name e =
-    let t = (units_named name (own_segments order host libs)).0 e in
-    let o = own_at order host libs t.1 (t.0, t.2) in
-    let r = own_is order host libs o.0 t.1 o.2 in (
-      o.0,
-      o.1,
-      (
-        unit_slot order host o.0 r.0 (sym (ap is_unit r.2) ∙ t.3.0) r.1,
-        sym r.3 ∙ t.3.1,
-      ),
-    )
+  -- the name of a unit among the host's own segments is that of a unit slot of the host
+  slot_of_unit : (name : List ℕ) → is_some (lookup (bytes_eq name) (own_units order host libs))
+      ≡ true → HasSlot order host name
+  slot_of_unit name e =
+      let t = (units_named name (own_segments order host libs)).0 e in
+      let o = own_at order host libs t.1 (t.0, t.2) in
+      let r = own_is o.0 t.1 o.2 in (
+        o.0,
+        o.1,
+        (
+          unit_slot order host o.0 r.0 (sym (ap is_unit r.2) ∙ t.3.0) r.1,
+          sym r.3 ∙ t.3.1,
+        ),
+      )
 
--- a slot that has a source, in whose code there is no fault, has its own segment
-own_made : (order : Order) (host : List ℕ) (libs : List (List ℕ)) (slot : ℕ) (r : Role)
-    (at : ℕ × ℕ) → HasRole order host slot r → source_of order host libs slot r ≡ Some at
-    → code_fault order host libs slot r at ≡ None
-    → (s : Segment) × (own_segment order host libs slot ≡ Some s)
-own_made order host libs slot r at has is fine =
-    go (segment_from order host libs slot (entry_at order host slot).name r at) refl
-  where
-    go : (o : Option Segment) → segment_from order host libs slot
-        (entry_at order host slot).name r at ≡ o
-        → (s : Segment) × (own_segment order host libs slot ≡ Some s)
-    go None e = absurd (source_made order host libs slot
-        (entry_at order host slot).name r at fine e)
-    go (Some s) e = (
-      s,
-      ap (option_and_then (λ (x : Role). option_and_then
-          (segment_from order host libs slot (entry_at order host slot).name x)
-          (source_of order host libs slot x))) (ap result_ok has)
-          ∙ (ap (option_and_then (segment_from order host libs slot
-          (entry_at order host slot).name r)) is ∙ e),
-    )
+  -- a slot that has a source, in whose code there is no fault, has its own segment
+  own_made : (slot : ℕ) (r : Role) (at : ℕ × ℕ) → HasRole order host slot r
+      → source_of order host libs slot r ≡ Some at → code_fault order host libs slot r at
+      ≡ None → (s : Segment) × (own_segment order host libs slot ≡ Some s)
+  own_made slot r at has is fine =
+      go (segment_from order host libs slot (entry_at order host slot).name r at) refl
+    where
+      go : (o : Option Segment) → segment_from order host libs slot (entry_at order host
+          slot).name r at ≡ o → (s : Segment) × (own_segment order host libs slot ≡ Some s)
+      go None e = grind (arith, source_made)
+      go (Some s) e = (
+        s,
+        ap (option_and_then (λ (x : Role). option_and_then
+            (segment_from order host libs slot (entry_at order host slot).name x)
+            (source_of order host libs slot x))) (ap result_ok has)
+            ∙ (ap (option_and_then (segment_from order host libs slot
+            (entry_at order host slot).name r)) is ∙ e),
+      )
 
--- a slot that is not empty has its own segment, where the sources have no fault
-pub has_own : (order : Order) (host : List ℕ) (libs : List (List ℕ))
-    → sources_fault order host libs ≡ None → (slot : ℕ) → slot < 16 → (r : Role)
-    → HasRole order host slot r → r ≢ role.Empty
-    → (s : Segment) × (own_segment order host libs slot ≡ Some s)
-has_own order host libs fine slot inside r has filled =
-    go r has filled (role_none order host libs fine slot inside r has)
-  where
-    go : (r : Role) → HasRole order host slot r → r ≢ role.Empty
-        → role_fault order host libs slot r ≡ None
-        → (s : Segment) × (own_segment order host libs slot ≡ Some s)
-    go role.Empty has filled e = absurd (filled refl)
-    go role.Wanted has filled e = from (unit_source order (entry_at order host slot).name libs) refl
-      where
-        parts : IsFine order host libs (request_by_slot order host slot)
-        parts = request_parts order host libs (request_by_slot order host slot) e
+  -- a slot that is not empty has its own segment, where the sources have no fault
+  pub has_own : sources_fault order host libs ≡ None
+      → (slot : ℕ) → slot < 16 → (r : Role) → HasRole order host slot r
+      → r ≢ role.Empty → (s : Segment) × (own_segment order host libs slot ≡ Some s)
+  has_own fine slot inside r has filled =
+      go r has filled (role_none order host libs fine slot inside r has)
+    where
+      go : (r : Role) → HasRole order host slot r → r ≢ role.Empty → role_fault order host
+          libs slot r ≡ None → (s : Segment) × (own_segment order host libs slot ≡ Some s)
+      go role.Empty has filled e = absurd (filled refl)
+      go role.Wanted has filled e =
+          from (unit_source order (entry_at order host slot).name libs) refl
+        where
+          parts : IsFine order host libs (request_by_slot order host slot)
+          parts = request_parts order host libs (request_by_slot order host slot) e
 
-        from : (o : Option (ℕ × ℕ))
-            → unit_source order (entry_at order host slot).name libs ≡ o
-            → (s : Segment) × (own_segment order host libs slot ≡ Some s)
-        from None is = absurd (unit_there order (entry_at order host slot).name libs parts.0 is)
-        from (Some at) is = own_made order host libs slot role.Wanted at has is
-            (sym (ap (option_and_then (code_fault order host libs slot role.Wanted)) is)
-            ∙ parts.2)
-    go other has filled e = own_made order host libs slot other (0, slot) has refl e
+          from : (o : Option (ℕ × ℕ)) → unit_source order (entry_at order host slot).name
+              libs ≡ o → (s : Segment) × (own_segment order host libs slot ≡ Some s)
+          from None is = absurd (unit_there order (entry_at order host slot).name libs parts.0 is)
+          from (Some at) is = own_made slot role.Wanted at has is (sym
+              (ap (option_and_then (code_fault order host libs slot role.Wanted)) is) ∙ parts.2)
+      go other has filled e = own_made slot other (0, slot) has refl e
 
--- where the sources have no fault, the name of a unit slot is that of a unit among the host's own
--- segments
-unit_of_slot : (order : Order) (host : List ℕ) (libs : List (List ℕ))
-    → sources_fault order host libs ≡ None → (name : List ℕ) → HasSlot order host name
-    → is_some (lookup (bytes_eq name) (own_units order host libs)) ≡ true
-unit_of_slot order host libs fine name t =
-    elim t.2.0 [
-      | inl has ↦ known role.Unit has refl (λ e. cc)
-      | inr has ↦ known role.Wanted has refl (λ e. cc)
-    ]
-  where
-    known : (r : Role) → HasRole order host t.0 r → is_unit r ≡ true → r ≢ role.Empty
-        → is_some (lookup (bytes_eq name) (own_units order host libs)) ≡ true
-    known r has unit filled =
-        let m = has_own order host libs fine t.0 t.1 r has filled in
-        let i = own_in order host libs t.0 m.0 t.1 m.1 in
-        let o = own_is order host libs t.0 m.0 m.1 in
-        let same : o.0 ≡ r = (let a = o.1 in cc) in
-        (units_named name (own_segments order host libs)).1
-        (i.0, m.0, i.1, (ap is_unit (o.2 ∙ same) ∙ unit, o.3 ∙ t.2.1))
+  -- where the sources have no fault, the name of a unit slot is that of a unit among the host's own
+  -- segments
+  unit_of_slot : sources_fault order host libs ≡ None → (name : List ℕ) → HasSlot
+      order host name → is_some (lookup (bytes_eq name) (own_units order host libs)) ≡ true
+  unit_of_slot fine name t =
+      elim t.2.0 [
+        | inl has ↦ known role.Unit has refl (λ e. cc)
+        | inr has ↦ known role.Wanted has refl (λ e. cc)
+      ]
+    where
+      known : (r : Role) → HasRole order host t.0 r → is_unit r ≡ true → r ≢ role.Empty
+          → is_some (lookup (bytes_eq name) (own_units order host libs)) ≡ true
+      known r has unit filled =
+          let m = has_own fine t.0 t.1 r has filled in
+          let i = own_in order host libs t.0 m.0 t.1 m.1 in
+          let o = own_is t.0 m.0 m.1 in
+          let same : o.0 ≡ r = (let a = o.1 in cc) in
+          (units_named name (own_segments order host libs)).1
+          (i.0, m.0, i.1, (ap is_unit (o.2 ∙ same) ∙ unit, o.3 ∙ t.2.1))
 
--- 5. where an added segment comes from
-of_first_library : (order : Order) (host : List ℕ) (libs : List (List ℕ)) (s : Segment)
-    → s.role ≡ role.Wanted
-    → IsOfFile order host libs s → unit_source order s.name libs ≡ Some (s.file, s.index)
-    → IsOfFirstLibrary order libs s
-of_first_library order host libs s wanted h source =
-    let u = unit_place order s.name libs (s.file, s.index) source in
-    let records = ap (λ (p : List Record × Option Reason). p.0)
-    (sym (h.records (ap needs_linking wanted))) in (
-      u.number,
-      u.library,
-      u.there,
-      (
-        u.first,
-        u.file,
-        u.within,
-        u.named,
-        subst (λ (f : List ℕ). code_of f (entry_at order f s.index) ≡ Ok s.code)
-            (u.file_is host) h.code,
-        subst (λ (f : List ℕ). s.records
-            ≡ (reading order (information_of f (entry_at order f s.index))).0)
-            (u.file_is host) records,
-      ),
-    )
+  -- 5. where an added segment comes from
+  of_first_library : (s : Segment) → s.role ≡ role.Wanted → IsOfFile order host libs s
+      → unit_source order s.name libs ≡ Some (s.file, s.index) → IsOfFirstLibrary order libs s
+  of_first_library s wanted h source =
+      let u = unit_place order s.name libs (s.file, s.index) source in
+      let records = ap (λ (p : List Record × Option Reason). p.0)
+      (sym (h.records (ap needs_linking wanted))) in (
+        u.number,
+        u.library,
+        u.there,
+        (
+          u.first,
+          u.file,
+          u.within,
+          u.named,
+          subst (λ f. code_of f (entry_at order f s.index) ≡ Ok s.code)
+              (u.file_is host) h.code,
+          subst (λ f. s.records
+              ≡ (reading order (information_of f (entry_at order f s.index))).0)
+              (u.file_is host) records,
+        ),
+      )
 
 -- 6. all of it
 pub same_items : {A : Type 0} (xs ys : List A) → ((k : ℕ) → slice_get xs k ≡ slice_get ys k)
@@ -575,20 +512,16 @@ module _ (order : Order) (host : List ℕ) (libs : List (List ℕ))
     queue_is = refl
 
     at_queue : (k : ℕ) (g : UnitReference) → slice_get (queue_of order host libs) k ≡ Some g
-        → slice_get (requested_from (own_units order host libs) []
-        (all_unit_references (own_segments order host libs ++ added_segments order host libs))) k
-        ≡ Some g
+        → slice_get (requested_from (own_units order host libs) [] (all_unit_references
+        (own_segments order host libs ++ added_segments order host libs))) k ≡ Some g
     at_queue k g e = sym (ap (λ (r : List UnitReference). slice_get r k) queue_is) ∙ e
 
     not_slot : (name : List ℕ) → is_already_known (own_units order host libs) [] name ≡ false
         → HasSlot order host name → ⊥
-    not_slot name none has =
-        false≢true (sym none ∙ or_left
-        (is_some (lookup (bytes_eq name) (own_units order host libs))) false
-        (unit_of_slot order host libs fine name has))
+    not_slot name none has = grind (arith, false≢true, or_left, own_units, unit_of_slot)
 
-    is_requested : (k : ℕ) (g : UnitReference) → slice_get (queue_of order host libs) k ≡ Some g
-        → ((i : ℕ) × (i < length (own_segments order host libs) + k)
+    is_requested : (k : ℕ) (g : UnitReference) → slice_get (queue_of order host libs) k
+        ≡ Some g → ((i : ℕ) × (i < length (own_segments order host libs) + k)
         × IsGiver (own_segments order host libs ++ added_segments order host libs) i g)
         × (HasSlot order host g.name → ⊥)
     is_requested k g e =
@@ -604,15 +537,16 @@ module _ (order : Order) (host : List ℕ) (libs : List (List ℕ))
         let below : p.0 < length own + k = omega (arith, within, joined, front) in
         ((p.0, below, giver_of_front own segs k p.0 g below p.1), not_slot g.name t.1.1)
 
-    is_complete : (i rec : ℕ) (name : List ℕ)
-        → Asks (own_segments order host libs ++ added_segments order host libs) i rec name
-        → HasSlot order host name ⊎ SomeItem (queue_of order host libs) (λ k g. g.name ≡ name)
+    is_complete : (i rec : ℕ) (name : List ℕ) → Asks (own_segments order host libs
+        ++ added_segments order host libs) i rec name → HasSlot order host name
+        ⊎ SomeItem (queue_of order host libs) (λ k g. g.name ≡ name)
     is_complete i rec name asks =
         let segs = own_segments order host libs ++ added_segments order host libs in
         let a = asks_at segs i rec name asks in
         let known : is_already_known (own_units order host libs) (queue_of order host libs) name
         ≡ true =
-        ap (λ (r : List UnitReference). is_already_known (own_units order host libs) r name) queue_is
+        ap (λ (r : List UnitReference). is_already_known
+        (own_units order host libs) r name) queue_is
         ∙ (ap (λ (n : List ℕ). is_already_known (own_units order host libs)
         (requested_from (own_units order host libs) [] (all_unit_references segs)) n) (sym a.4)
         ∙ all_known (own_units order host libs) [] (all_unit_references segs) a.1 a.0 a.3) in
@@ -625,10 +559,9 @@ module _ (order : Order) (host : List ℕ) (libs : List (List ℕ))
               (queue_of order host libs)).0 e)
         ]
 
-    are_given : (j k : ℕ) (g h : UnitReference) → j < k
-        → slice_get (queue_of order host libs) j ≡ Some g
-        → slice_get (queue_of order host libs) k ≡ Some h
-        → AreGiven (own_segments order host libs ++ added_segments order host libs) g h
+    are_given : (j k : ℕ) (g h : UnitReference) → j < k → slice_get
+        (queue_of order host libs) j ≡ Some g → slice_get (queue_of order host libs) k
+        ≡ Some h → AreGiven (own_segments order host libs ++ added_segments order host libs) g h
     are_given j k g h l e u =
         let segs = own_segments order host libs ++ added_segments order host libs in
         let t = requested_pair (own_units order host libs) [] (all_unit_references segs) j k g h
@@ -647,12 +580,11 @@ module _ (order : Order) (host : List ℕ) (libs : List (List ℕ))
         → slice_get (queue_of order host libs) k ≡ Some h → g.name ≡ h.name → ⊥
     apart j k g h l e u same =
         let t = are_given j k g h l e u in
-        t.3.2 t.0 g.rec t.4
-        (subst (λ (n : List ℕ). Asks
+        t.3.2 t.0 g.rec t.4 (subst (λ (n : List ℕ). Asks
         (own_segments order host libs ++ added_segments order host libs) t.0 g.rec n) same t.2.1)
 
-    is_once : (j k : ℕ) (g h : UnitReference) → slice_get (queue_of order host libs) j ≡ Some g
-        → slice_get (queue_of order host libs) k ≡ Some h → g.name ≡ h.name → j ≡ k
+    is_once : (j k : ℕ) (g h : UnitReference) → slice_get (queue_of order host libs) j ≡ Some
+        g → slice_get (queue_of order host libs) k ≡ Some h → g.name ≡ h.name → j ≡ k
     is_once j k g h e u same = not_apart j k (λ l. apart j k g h l e u same)
         (λ l. apart k j h g l u e (sym same))
 

@@ -3,10 +3,9 @@
 use Rattle.std.proofs.Common.{rules, ◌≡◌, ℕ, zero, suc, ◌+◌, ◌<◌, ◌≤◌, List}
 use Rattle.std.proofs.Common.{[], ◌∷◌, ◌++◌, Option, Some, None, Bool, true, false, refl}
 use Rattle.std.proofs.Common.{sym, ap, subst, ◌∙◌, inl, inr, arith, is_some}
-use Rattle.ps_laws.proofs.Words.{◌⊎◌, if◌then◌else◌, ◌&&◌, ◌||◌, ◌==◌}
-use Rattle.ps_laws.proofs.Words.{Decides, slice_get, list_any}
-use Rattle.ps_laws.proofs.Words.{find, cons_option, lookup, option_or, bytes_eq, false≢true}
-use Rattle.ps_laws.proofs.Words.{Decides-at, Decides-and, Decides-like, Decides-eqb}
+use Rattle.ps_laws.proofs.Words.{◌⊎◌, if◌then◌else◌, ◌&&◌, ◌==◌, Decides}
+use Rattle.ps_laws.proofs.Words.{slice_get, list_any, find, lookup, option_or, bytes_eq}
+use Rattle.ps_laws.proofs.Words.{false≢true, Decides-at, Decides-and, Decides-like, Decides-eqb}
 use Rattle.ps_laws.proofs.Words.{bytes_eq-Decides, slots, is_unit_reference, unit_references}
 use Rattle.ps_laws.proofs.Words.{all_unit_references, requested_from, added_segments, added_fault}
 use Rattle.ps_laws.proofs.Words.{SomeItem, IsSegment, Record, is_role, is_unit, is_empty, Segment}
@@ -31,122 +30,104 @@ pub all_known : (units : List (List ℕ × ℕ)) (queue gs : List UnitReference)
 all_known units queue [] g i e = absurd (cc)
 all_known units queue (h ∷ gs) g zero e =
     let same : h ≡ g = cc in
-    let more = grown units (if is_already_known units queue h.name then queue
-    else queue ++ h ∷ []) gs in
-    subst (λ (x : UnitReference). is_already_known units
-    (requested_from units (if is_already_known units queue h.name then queue
-    else queue ++ h ∷ []) gs) x.name ≡ true) same
-    (subst (λ (r : List UnitReference). is_already_known units r h.name ≡ true) (sym more.1)
-    (known_longer units (if is_already_known units queue h.name then queue
-    else queue ++ h ∷ []) more.0 h.name (first (is_already_known units queue h.name) refl)))
+    let more =
+    grown units (if is_already_known units queue h.name then queue else queue ++ h ∷ []) gs in
+    subst (λ (x : UnitReference). is_already_known units (requested_from units
+    (if is_already_known units queue h.name then queue else queue ++ h ∷ []) gs) x.name
+    ≡ true) same (subst (λ r. is_already_known units r h.name ≡ true)
+    (sym more.1) (known_longer units (if is_already_known units queue h.name then queue else queue
+    ++ h ∷ []) more.0 h.name (first (is_already_known units queue h.name) refl)))
   where
     first : (b : Bool) → is_already_known units queue h.name ≡ b
         → is_already_known units (if b then queue else queue ++ h ∷ []) h.name ≡ true
     first b k = grind (arith, known_last)
-all_known units queue (h ∷ gs) g (suc i) e =
-    all_known units (if is_already_known units queue h.name then queue else queue ++ h ∷ []) gs g
-    i e
+all_known units queue (h ∷ gs) g (suc i) e = all_known units
+    (if is_already_known units queue h.name then queue else queue ++ h ∷ []) gs g i e
 
-pub empty_slot : (order : Order) (host : List ℕ) (j slot : ℕ)
-    → slice_get (empty_slots order host) j ≡ Some slot
-    → (7 ≤ slot) × (slot < 7 + 9) × (is_role is_empty order host slot ≡ true)
-unfolding empty_slots
-empty_slot order host j slot e = of_filter (is_role is_empty order host) 7 9 slot j e
+module _ (order : Order) (host : List ℕ) where
+  pub empty_slot : (j slot : ℕ) → slice_get (empty_slots order host) j ≡ Some slot
+      → (7 ≤ slot) × (slot < 7 + 9) × (is_role is_empty order host slot ≡ true)
+  unfolding empty_slots
+  empty_slot j slot e = of_filter (is_role is_empty order host) 7 9 slot j e
 
-pub empty_ascend : (order : Order) (host : List ℕ) (i j x y : ℕ) → i < j
-    → slice_get (empty_slots order host) i ≡ Some x
-    → slice_get (empty_slots order host) j ≡ Some y → x < y
-unfolding empty_slots
-empty_ascend order host i j x y h e u = filter_ascends
-    (is_role is_empty order host) 7 9 i j x y h e u
+  pub empty_ascend : (i j x y : ℕ) → i < j → slice_get (empty_slots order host) i ≡ Some x
+      → slice_get (empty_slots order host) j ≡ Some y → x < y
+  unfolding empty_slots
+  empty_ascend i j x y h e u = filter_ascends (is_role is_empty order host) 7 9 i j x y h e u
 
--- an empty slot has no segment of its own
-not_own : (order : Order) (host : List ℕ) (libs : List (List ℕ)) (slot : ℕ)
-    → is_role is_empty order host slot ≡ true → own_segment order host libs slot ≡ None
-not_own order host libs slot e = search rules
+module _ (order : Order) (host : List ℕ) (libs : List (List ℕ)) where
+  -- an empty slot has no segment of its own
+  not_own : (slot : ℕ)
+      → is_role is_empty order host slot ≡ true → own_segment order host libs slot ≡ None
+  not_own slot e = search rules
 
--- it is found there
-pub found_added : (order : Order) (host : List ℕ) (libs : List (List ℕ)) (j : ℕ) (s : Segment)
-    → slice_get (added_segments order host libs) j ≡ Some s
-    → segment_at order host libs s.slot ≡ Some s
-found_added order host libs j s e =
-    ap (λ (o : Option Segment). option_or o (added_at order host libs s.slot))
-    (not_own order host libs s.slot empty)
-    ∙ (ap (λ (b : Bool). if b then find (λ (q : Segment). q.slot == s.slot)
-    (added_segments order host libs) else None) empty
-    ∙ go (find (λ (q : Segment). q.slot == s.slot) (added_segments order host libs)) refl)
-  where
-    at : slice_get (empty_slots order host) j ≡ Some s.slot
-    at = in_empty order host libs j s e
+  -- it is found there
+  pub found_added : (j : ℕ) (s : Segment) → slice_get (added_segments order host libs) j
+      ≡ Some s → segment_at order host libs s.slot ≡ Some s
+  found_added j s e = ap (λ o. option_or o (added_at order host libs s.slot))
+      (not_own s.slot empty) ∙ (ap (λ b. if b then find
+      (λ (q : Segment). q.slot == s.slot) (added_segments order host libs) else None) empty
+      ∙ go (find (λ (q : Segment). q.slot == s.slot) (added_segments order host libs)) refl)
+    where
+      at : slice_get (empty_slots order host) j ≡ Some s.slot
+      at = in_empty order host libs j s e
 
-    empty : is_role is_empty order host s.slot ≡ true
-    empty = (empty_slot order host j s.slot at).2
+      empty : is_role is_empty order host s.slot ≡ true
+      empty = (empty_slot order host j s.slot at).2
 
-    one : (i : ℕ) (q : Segment) → slice_get (added_segments order host libs) i ≡ Some q
-        → q.slot ≡ s.slot → i ≡ j
-    one i q u same =
-        let there = in_empty order host libs i q u in
-        not_apart i j (λ h. let a = empty_ascend order host i j q.slot s.slot h there at in
-        omega (arith, a, same))
-        (λ h. let a = empty_ascend order host j i s.slot q.slot h at there in
-        omega (arith, a, same))
+      one : (i : ℕ) (q : Segment) → slice_get (added_segments order host libs) i ≡ Some q
+          → q.slot ≡ s.slot → i ≡ j
+      one i q u same = grind (arith, in_empty, not_apart, empty_ascend)
 
-    go : (o : Option Segment) → find (λ (q : Segment). q.slot == s.slot)
-        (added_segments order host libs) ≡ o → o ≡ Some s
-    go None is = absurd (find_none (λ (q : Segment). q.slot == s.slot)
-        (λ (q : Segment). q.slot ≡ s.slot) (λ q. Decides-eqb q.slot s.slot)
-        (added_segments order host libs) is (j, s, e, refl))
-    go (Some q) is =
-        let t = found_in_slot s.slot (added_segments order host libs) q is in
-        let i_is_j : t.0 ≡ j = one t.0 t.1 t.2 t.3.1 in
-        let there : slice_get (added_segments order host libs) j ≡ Some t.1 =
-        subst (λ (n : ℕ). slice_get (added_segments order host libs) n ≡ Some t.1) i_is_j
-        t.2 in
-        let a = t.3.0 in
-        cc
+      go : (o : Option Segment) → find (λ (q : Segment). q.slot == s.slot)
+          (added_segments order host libs) ≡ o → o ≡ Some s
+      go None is = absurd (find_none (λ (q : Segment). q.slot == s.slot)
+          (λ (q : Segment). q.slot ≡ s.slot) (λ q. Decides-eqb q.slot s.slot)
+          (added_segments order host libs) is (j, s, e, refl))
+      go (Some q) is =
+          let t = found_in_slot s.slot (added_segments order host libs) q is in
+          let i_is_j : t.0 ≡ j = one t.0 t.1 t.2 t.3.1 in
+          let there : slice_get (added_segments order host libs) j ≡ Some t.1 =
+          subst (λ n. slice_get (added_segments order host libs) n ≡ Some t.1) i_is_j t.2 in
+          let a = t.3.0 in
+          cc
 
--- all segments
-pub in_segments : (order : Order) (host : List ℕ) (libs : List (List ℕ)) (slot : ℕ)
-    (s : Segment) → slot < 16 → segment_at order host libs slot ≡ Some s
-    → In s (segments order host libs)
-unfolding segments
-in_segments order host libs slot s h e =
-    in_filter_map (segment_at order host libs) slots slot s
-    (in_range 0 16 slot (omega arith) (omega (arith, h))) e
+  -- all segments
+  pub in_segments : (slot : ℕ) (s : Segment) → slot < 16
+      → segment_at order host libs slot ≡ Some s → In s (segments order host libs)
+  unfolding segments
+  in_segments slot s h e = in_filter_map (segment_at order host libs) slots slot s
+      (in_range 0 16 slot (omega arith) (omega (arith, h))) e
 
-pub own_in : (order : Order) (host : List ℕ) (libs : List (List ℕ)) (slot : ℕ) (s : Segment)
-    → slot < 16 → own_segment order host libs slot ≡ Some s
-    → In s (own_segments order host libs)
-unfolding own_segments
-own_in order host libs slot s h e = in_filter_map (own_segment order host libs) slots slot s
-    (in_range 0 16 slot (omega arith) (omega (arith, h))) e
+  pub own_in : (slot : ℕ) (s : Segment) → slot < 16
+      → own_segment order host libs slot ≡ Some s → In s (own_segments order host libs)
+  unfolding own_segments
+  own_in slot s h e = in_filter_map (own_segment order host libs) slots slot s
+      (in_range 0 16 slot (omega arith) (omega (arith, h))) e
 
--- each of the host's own segments is that of a slot below 16
-pub own_at : (order : Order) (host : List ℕ) (libs : List (List ℕ)) (s : Segment)
-    → In s (own_segments order host libs)
-    → (slot : ℕ) × (slot < 16) × (own_segment order host libs slot ≡ Some s)
-unfolding own_segments
-own_at order host libs s t =
-    let r = of_filter_map (own_segment order host libs) slots s t in
-    (r.0, (let a = (of_range 0 16 r.0 r.1.0 r.1.1).1 in omega (arith, a)), r.2)
+  -- each of the host's own segments is that of a slot below 16
+  pub own_at : (s : Segment) → In s (own_segments order host libs)
+      → (slot : ℕ) × (slot < 16) × (own_segment order host libs slot ≡ Some s)
+  unfolding own_segments
+  own_at s t =
+      let r = of_filter_map (own_segment order host libs) slots s t in
+      (r.0, (let a = (of_range 0 16 r.0 r.1.0 r.1.1).1 in omega (arith, a)), r.2)
 
--- a segment of the link is its slot's own, or one that was added
-pub own_or_added : (order : Order) (host : List ℕ) (libs : List (List ℕ)) (s : Segment)
-    → IsSegment order host libs s
-    → (own_segment order host libs s.slot ≡ Some s) ⊎ In s (added_segments order host libs)
-own_or_added order host libs s t =
-    let added = added_segments order host libs in
-    elim (at_slot order host libs (λ q. In q added) (all_in added) s.slot s t.1) [
-      | inl own ↦ inl own
-      | inr u ↦ inr u.2
-    ]
+  -- a segment of the link is its slot's own, or one that was added
+  pub own_or_added : (s : Segment) → IsSegment order host libs s
+      → (own_segment order host libs s.slot ≡ Some s) ⊎ In s (added_segments order host libs)
+  own_or_added s t =
+      let added = added_segments order host libs in
+      elim (at_slot order host libs (λ q. In q added) (all_in added) s.slot s t.1) [
+        | inl own ↦ inl own
+        | inr u ↦ inr u.2
+      ]
 
 -- each UNITREF of a sequence of records has its unit reference, with its name and its number
 pub reference_of : (file slot n : ℕ) (rs : List Record) (j : ℕ) (r : Record)
-    → slice_get rs j ≡ Some r → is_unit_reference r.body ≡ true
-    → (p : ℕ) × (g : UnitReference)
-    × (slice_get (unit_references file slot n rs) p ≡ Some g) × (g.name ≡ r.name)
-    × (g.rec ≡ n + j)
+    → slice_get rs j ≡ Some r → is_unit_reference r.body ≡ true → (p : ℕ)
+    × (g : UnitReference) × (slice_get (unit_references file slot n rs) p ≡ Some g)
+    × (g.name ≡ r.name) × (g.rec ≡ n + j)
 reference_of file slot n [] j r e u = absurd (cc)
 reference_of file slot n (q ∷ rs) j r e u =
     go (is_unit_reference q.body) refl j e (λ k h. reference_of file slot (n + 1) rs k r h u)
@@ -158,21 +139,17 @@ reference_of file slot n (q ∷ rs) j r e u =
     Found m j gs = (p : ℕ) × (g : UnitReference) × (slice_get gs p ≡ Some g)
         × (g.name ≡ r.name) × (g.rec ≡ m + j)
 
-    go : (b : Bool) → is_unit_reference q.body ≡ b → (j : ℕ)
-        → slice_get (q ∷ rs) j ≡ Some r
-        → ((k : ℕ) → slice_get rs k ≡ Some r
-        → Found (n + 1) k (unit_references file slot (n + 1) rs))
+    go : (b : Bool) → is_unit_reference q.body ≡ b
+        → (j : ℕ) → slice_get (q ∷ rs) j ≡ Some r → ((k : ℕ)
+        → slice_get rs k ≡ Some r → Found (n + 1) k (unit_references file slot (n + 1) rs))
         → Found n j (if b then record { name = q.name; file = file; slot = slot; rec = n }
         ∷ unit_references file slot (n + 1) rs else unit_references file slot (n + 1) rs)
     go true is zero e later = let same : q ≡ r = cc in
         (zero, Q, refl, ap (λ (x : Record). x.name) same, omega arith)
     go true is (suc k) e later = let t = later k e in
         (suc t.0, t.1, t.2, t.3, (let h = t.4 in omega (arith, h)))
-    go false is zero e later = let same : q ≡ r = cc in
-        absurd (false≢true (sym is ∙
-        (ap (λ (x : Record). is_unit_reference x.body) same ∙ u)))
-    go false is (suc k) e later = let t = later k e in
-        (t.0, t.1, t.2, t.3, (let h = t.4 in omega (arith, h)))
+    go false is zero e later = grind (arith, false≢true)
+    go false is (suc k) e later = search (rules, arith)
 
 -- a unit by its name
 abbrev unit_named : List ℕ → Segment → Bool
@@ -183,78 +160,67 @@ unit_named name q = is_unit q.role && bytes_eq name q.name
 units_known : (name : List ℕ) (segs : List Segment)
     → is_some (lookup (bytes_eq name) (units_of segs)) ≡ list_any (unit_named name) segs
 units_known name [] = refl
-units_known name (s ∷ segs) = go (is_unit s.role) (units_known name segs)
-  where
-    go : (b : Bool) → is_some (lookup (bytes_eq name) (units_of segs))
-        ≡ list_any (unit_named name) segs
-        → is_some (lookup (bytes_eq name)
-        (cons_option (if b then Some (s.name, s.slot) else None) (units_of segs)))
-        ≡ ((b && bytes_eq name s.name) || list_any (unit_named name) segs)
-    go b h = grind arith
+units_known name (s ∷ segs) = grind (arith, units_known name segs)
 
 -- a name is found among the slots of the units just where some segment is the unit of that name
 pub units_named : (name : List ℕ) (segs : List Segment)
     → Decides (is_some (lookup (bytes_eq name) (units_of segs)))
     (SomeItem segs (λ k q. (is_unit q.role ≡ true) × (q.name ≡ name)))
-units_named name segs =
-    Decides-at (is_some (lookup (bytes_eq name) (units_of segs))) (list_any (unit_named name) segs)
-    (units_known name segs)
-    (any_of_items (unit_named name) (λ q. (is_unit q.role ≡ true) × (q.name ≡ name))
-    (λ q. Decides-and (is_unit q.role) (bytes_eq name q.name) (of_test (is_unit q.role))
-    (Decides-like (bytes_eq name q.name) (λ e. sym e) (λ e. sym e)
-    (bytes_eq-Decides name q.name))) segs)
+units_named name segs = Decides-at (is_some (lookup (bytes_eq name) (units_of segs)))
+    (list_any (unit_named name) segs) (units_known name segs)
+    (any_of_items (unit_named name) (λ q. (is_unit q.role ≡ true) × (q.name ≡ name)) (λ
+    q. Decides-and (is_unit q.role) (bytes_eq name q.name) (of_test (is_unit q.role)) (Decides-like
+    (bytes_eq name q.name) (λ e. sym e) (λ e. sym e) (bytes_eq-Decides name q.name))) segs)
 
 -- what is known has its segment
 abbrev pub HasUnit : List Segment → List ℕ → Type 0
 HasUnit segs name = SomeItem segs (λ k q. (is_unit q.role ≡ true) × (q.name ≡ name))
 
--- where the rounds end without a fault, a name that is known is that of a unit of the link
-pub known_has_unit : (order : Order) (host : List ℕ) (libs : List (List ℕ))
-    → added_fault order host libs ≡ None → (name : List ℕ)
-    → is_already_known (own_units order host libs) (queue_of order host libs) name ≡ true
-    → HasUnit (segments order host libs) name
-known_has_unit order host libs fine name known =
-    elim (or_cases (is_some (lookup (bytes_eq name) (own_units order host libs)))
-    (list_any (λ (g : UnitReference). bytes_eq g.name name) (queue_of order host libs)) known) [
-      | inl e ↦
-          let t = (units_named name (own_segments order host libs)).0 e in
-          let o = own_at order host libs t.1 (t.0, t.2) in
-          let i = in_segments order host libs o.0 t.1 o.1
-          (ap (λ (x : Option Segment). option_or x (added_at order host libs o.0)) o.2) in
-          (i.0, t.1, i.1, t.3)
-      | inr e ↦
-          let t = (any_of_items (λ (g : UnitReference). bytes_eq g.name name)
-          (λ (g : UnitReference). g.name ≡ name) (λ g. bytes_eq-Decides g.name name)
-          (queue_of order host libs)).0 e in
-          let p = name_placed order host libs fine t.0 t.1 t.2 in
-          let s = p.0 in
-          let at = (empty_slot order host t.0 s.slot p.1.slot).1 in
-          let i = in_segments order host libs s.slot s (omega (arith, at))
-          (found_added order host libs t.0 s p.1.there) in
-          (i.0, s, i.1, (ap is_unit p.1.role, p.1.name ∙ t.3))
-    ]
+module _ (order : Order) (host : List ℕ) (libs : List (List ℕ)) where
+  -- where the rounds end without a fault, a name that is known is that of a unit of the link
+  pub known_has_unit : added_fault order host libs ≡ None → (name : List ℕ)
+      → is_already_known (own_units order host libs) (queue_of order host libs) name ≡ true
+      → HasUnit (segments order host libs) name
+  known_has_unit fine name known =
+      elim (or_cases (is_some (lookup (bytes_eq name) (own_units order host libs)))
+      (list_any (λ (g : UnitReference). bytes_eq g.name name) (queue_of order host libs)) known) [
+        | inl e ↦
+            let t = (units_named name (own_segments order host libs)).0 e in
+            let o = own_at order host libs t.1 (t.0, t.2) in
+            let i = in_segments order host libs o.0 t.1 o.1
+            (ap (λ x. option_or x (added_at order host libs o.0)) o.2) in
+            (i.0, t.1, i.1, t.3)
+        | inr e ↦
+            let t = (any_of_items (λ (g : UnitReference). bytes_eq g.name name)
+            (λ (g : UnitReference). g.name ≡ name) (λ g. bytes_eq-Decides g.name name)
+            (queue_of order host libs)).0 e in
+            let p = name_placed order host libs fine t.0 t.1 t.2 in
+            let s = p.0 in
+            let at = (empty_slot order host t.0 s.slot p.1.slot).1 in
+            let i = in_segments order host libs s.slot s (omega (arith, at))
+            (found_added order host libs t.0 s p.1.there) in
+            (i.0, s, i.1, (ap is_unit p.1.role, p.1.name ∙ t.3))
+      ]
 
-pub is_had_there : (order : Order) (host : List ℕ) (libs : List (List ℕ)) (g : UnitReference)
-    → In g (all_unit_references (own_segments order host libs ++ added_segments order host libs))
-    → is_already_known (own_units order host libs) (queue_of order host libs) g.name ≡ true
-unfolding requested_units
-is_had_there order host libs g i = all_known (own_units order host libs) []
-    (all_unit_references (own_segments order host libs ++ added_segments order host libs)) g i.0 i.1
+  pub is_had_there : (g : UnitReference) → In g
+      (all_unit_references (own_segments order host libs ++ added_segments order host libs))
+      → is_already_known (own_units order host libs) (queue_of order host libs) g.name ≡ true
+  unfolding requested_units
+  is_had_there g i = grind (arith, all_known, own_units)
 
--- where the rounds end without a fault, each unit that a record of the link requests is a segment
--- of it
-pub asked_is_there : (order : Order) (host : List ℕ) (libs : List (List ℕ))
-    → added_fault order host libs ≡ None → (s : Segment) → IsSegment order host libs s
-    → (rec : ℕ) (r : Record) → slice_get s.records rec ≡ Some r
-    → is_unit_reference r.body ≡ true → HasUnit (segments order host libs) r.name
-asked_is_there order host libs fine s is rec r e u =
-    let own = own_segments order host libs in
-    let added = added_segments order host libs in
-    let g = reference_of s.file s.slot 0 s.records rec r e u in
-    let there : In s (own ++ added) = elim (own_or_added order host libs s is) [
-      | inl h ↦ in_left own added s (own_in order host libs s.slot s is.0 h)
-      | inr h ↦ in_right own added s h
-    ] in
-    let i = in_flat references_of (own ++ added) s g.1 there (g.0, g.2) in
-    subst (λ (name : List ℕ). HasUnit (segments order host libs) name) g.3
-    (known_has_unit order host libs fine g.1.name (is_had_there order host libs g.1 i))
+  -- where the rounds end without a fault, each unit that a record of the link requests is a segment
+  -- of it
+  pub asked_is_there : added_fault order host libs ≡ None → (s : Segment)
+      → IsSegment order host libs s → (rec : ℕ) (r : Record) → slice_get s.records rec
+      ≡ Some r → is_unit_reference r.body ≡ true → HasUnit (segments order host libs) r.name
+  asked_is_there fine s is rec r e u =
+      let own = own_segments order host libs in
+      let added = added_segments order host libs in
+      let g = reference_of s.file s.slot 0 s.records rec r e u in
+      let there : In s (own ++ added) = elim (own_or_added order host libs s is) [
+        | inl h ↦ in_left own added s (own_in order host libs s.slot s is.0 h)
+        | inr h ↦ in_right own added s h
+      ] in
+      let i = in_flat references_of (own ++ added) s g.1 there (g.0, g.2) in
+      subst (λ name. HasUnit (segments order host libs) name) g.3
+      (known_has_unit fine g.1.name (is_had_there g.1 i))

@@ -1,14 +1,14 @@
 -- The byte that the edits of a segment make is its linked byte, and no other byte is.
 use Rattle.std.proofs.Common.{rules, ◌≡◌, ℕ, zero, suc, ◌+◌, ◌-◌, ◌≤◌, List}
 use Rattle.std.proofs.Common.{[], ◌∷◌, length, Option, Some, None, Result, Ok, Err, Bool}
-use Rattle.std.proofs.Common.{true, false, refl, sym, ap, subst, ◌∙◌, inl, inr, arith}
+use Rattle.std.proofs.Common.{true, false, refl, sym, ap, ◌∙◌, inl, inr, arith}
 use Rattle.ps_laws.proofs.Words.{same_Some, ◌⊎◌, if◌then◌else◌, slice_get, find}
 use Rattle.ps_laws.proofs.Words.{cons_option, lookup, option_map_or, bytes_eq, bytes_eq-Decides}
-use Rattle.ps_laws.proofs.Words.{Decides, table_of, total_words, private_offset, next_of}
-use Rattle.ps_laws.proofs.Words.{IsReference, Reaches, IsSizePlace, IsOnePlace, summed_edits}
-use Rattle.ps_laws.proofs.Words.{summed_segment, refs_of, Body, Record, needs_linking, is_host}
-use Rattle.ps_laws.proofs.Words.{is_unit, Segment, host_records, units_of, target_in, target_of}
-use Rattle.ps_laws.proofs.Words.{known_of, grown_data_size, Target, Order, Edit, Byte, Reason}
+use Rattle.ps_laws.proofs.Words.{Decides, table_of, private_offset, next_of, IsReference, Reaches}
+use Rattle.ps_laws.proofs.Words.{IsSizePlace, IsOnePlace, summed_edits, summed_segment, refs_of}
+use Rattle.ps_laws.proofs.Words.{Body, Record, needs_linking, is_host, is_unit, Segment}
+use Rattle.ps_laws.proofs.Words.{host_records, units_of, target_in, target_of, known_of}
+use Rattle.ps_laws.proofs.Words.{grown_data_size, Target, Order, Edit, Reason}
 use Rattle.std.specs.Prelude.{slice_index}
 use Rattle.ps_resolve.specs.Standing.Privates.{words_before}
 use Rattle.ps_resolve.specs.LinkedBytes.{IsSlotOf, IsPublic, IsBase, all_private_words, Becomes}
@@ -30,7 +30,6 @@ use Rattle.ps_laws.proofs.EditsAt.{edit_place, IsNumber, IsSize, IsOfReference, 
 use Rattle.ps_laws.proofs.EditsAt.{number_covers, size_covers, reference_covers}
 use Rattle.ps_words.specs.Words.{word_bytes, operand_bytes, displacement_at}
 use Rattle.ps_words.specs.Edits.{place_of, stored_bytes, covers}
-use Rattle.ps_words.specs.declared.edit.Edit.TheVariants.{Word}
 use Rattle.ps_words.specs.declared.fault.Reason.TheVariants as reason
 
 -- 1. what a reference becomes
@@ -49,9 +48,8 @@ unit_slot_is name (s ∷ segs) slot e = go (is_unit s.role) refl e (unit_slot_is
     go false unit e later = further (later e)
     go true unit e later = at (bytes_eq name s.name) (bytes_eq-Decides name s.name) e
       where
-        at : (b : Bool) → Decides b (name ≡ s.name)
-            → (if b then Some s.slot else lookup (bytes_eq name) (units_of segs)) ≡ Some slot
-            → IsSlotOf (s ∷ segs) name slot
+        at : (b : Bool) → Decides b (name ≡ s.name) → (if b then Some s.slot else lookup
+            (bytes_eq name) (units_of segs)) ≡ Some slot → IsSlotOf (s ∷ segs) name slot
         at true d e = (zero, s, refl, (unit, sym (d.0 refl), same_Some s.slot slot e))
         at false d e = further (later e)
 
@@ -66,9 +64,8 @@ public_in body d h k = grind arith
 
 -- a public definition that is found for a name is that of a PUBLDEF record, which gives the name
 -- its value
-given : (name : List ℕ) (rs : List Record) (d : Def)
-    → definition_of name (definitions rs) ≡ Some d → d.kind ≡ Public
-    → IsGiven rs name d.value
+given : (name : List ℕ) (rs : List Record) (d : Def) → definition_of name (definitions rs)
+    ≡ Some d → d.kind ≡ Public → IsGiven rs name d.value
 given name [] d e k = absurd (cc)
 given name (r ∷ rs) d e k = go (def_in r.body) refl e (λ h. given name rs d h k)
   where
@@ -82,9 +79,8 @@ given name (r ∷ rs) d e k = go (def_in r.body) refl e (λ h. given name rs d h
     go None is e later = further (later e)
     go (Some c) is e later = at (bytes_eq name r.name) (bytes_eq-Decides name r.name) e
       where
-        at : (b : Bool) → Decides b (name ≡ r.name)
-            → (if b then Some c else definition_of name (definitions rs)) ≡ Some d
-            → IsGiven (r ∷ rs) name d.value
+        at : (b : Bool) → Decides b (name ≡ r.name) → (if b then Some c
+            else definition_of name (definitions rs)) ≡ Some d → IsGiven (r ∷ rs) name d.value
         at true t e = (zero, r, refl, (sym (t.0 refl), public_in r.body d (is ∙ e) k))
         at false t e = further (later e)
 
@@ -104,7 +100,7 @@ becomes order segs base s rec name (PrivRef words refs) i x t g e =
       next_of (host_records segs),
       base,
       ap
-          (λ (u : Target). stored_bytes order (edit_of s.code u x)) (sym is),
+          (λ u. stored_bytes order (edit_of s.code u x)) (sym is),
     )
 becomes order segs base s rec name (UnitRef refs) i x t g e =
     go (lookup (bytes_eq name) (units_of segs)) refl e
@@ -115,7 +111,7 @@ becomes order segs base s rec name (UnitRef refs) i x t g e =
     go (Some slot) is e = let same : Slot slot ≡ t = cc in (
       slot,
       unit_slot_is name segs slot is,
-      ap (λ (u : Target). stored_bytes order (edit_of s.code u x)) (sym same),
+      ap (λ u. stored_bytes order (edit_of s.code u x)) (sym same),
     )
 becomes order segs base s rec name (PublRef refs) i x t g e =
     go (definition_of name (definitions (host_records segs))) refl e
@@ -126,15 +122,14 @@ becomes order segs base s rec name (PublRef refs) i x t g e =
     go None is e = absurd (cc)
     go (Some d) is e = at d.kind refl e
       where
-        at : (k : DefKind) → d.kind ≡ k
-            → (elim k as (λ _. Result Target Reason)
+        at : (k : DefKind) → d.kind ≡ k → (elim k as (λ _. Result Target Reason)
             [ Public ↦ Ok (Base d.value) | Constant ↦ Err reason.IllKind ]) ≡ Ok t
             → Becomes segs s rec name (PublRef refs) x (stored_bytes order (edit_of s.code t x))
         at Constant k e = absurd (cc)
         at Public k e = let same : Base d.value ≡ t = cc in (
           d.value,
           public_is segs name d.value (given name (host_records segs) d is k),
-          ap (λ (u : Target). stored_bytes order (edit_of s.code u x)) (sym same),
+          ap (λ u. stored_bytes order (edit_of s.code u x)) (sym same),
         )
 becomes order segs base s rec name other i x t g e = absurd (cc)
 
@@ -156,14 +151,12 @@ one_becomes : (segs : List Segment) → OneUnit segs → OnePublic segs → OneB
     → (s : Segment) (rec : ℕ) (name : List ℕ) (body : Body) (x : ℕ) (b c : List ℕ)
     → Becomes segs s rec name body x b → Becomes segs s rec name body x c → b ≡ c
 one_becomes segs units publics bases s rec name (UnitRef refs) x b c t u =
-    t.2 ∙ (ap (λ (n : ℕ). n ∷ []) (units name t.0 u.0 t.1 u.1) ∙ sym u.2)
-one_becomes segs units publics bases s rec name (PublRef refs) x b c t u =
-    t.2 ∙ (ap (λ (n : ℕ). operand_bytes (displacement_at s.code x + n))
-    (publics name t.0 u.0 t.1 u.1) ∙ sym u.2)
+    t.2 ∙ (ap (λ n. n ∷ []) (units name t.0 u.0 t.1 u.1) ∙ sym u.2)
+one_becomes segs units publics bases s rec name (PublRef refs) x b c t u = t.2 ∙ (ap
+    (λ n. operand_bytes (displacement_at s.code x + n)) (publics name t.0 u.0 t.1 u.1) ∙ sym u.2)
 one_becomes segs units publics bases s rec name (PrivRef words refs) x b c t u =
-    t.2 ∙ (ap (λ (n : ℕ). operand_bytes
-    (displacement_at s.code x + (n + words_before segs s.slot rec))) (bases t.0 u.0 t.1 u.1)
-    ∙ sym u.2)
+    t.2 ∙ (ap (λ n. operand_bytes (displacement_at s.code x
+    + (n + words_before segs s.slot rec))) (bases t.0 u.0 t.1 u.1) ∙ sym u.2)
 one_becomes segs units publics bases s rec name other x b c t u = absurd t
 
 -- 2. the byte
@@ -192,12 +185,10 @@ module _ (order : Order) (segs : List Segment) (base : IsBase segs (next_of (hos
       (λ g. of_test (covers p g)) edits e (t.0, f, t.1, on)
 
   no_number : Uncovered → IsNumberPlace s p → ⊥
-  no_number e n = let c = number_covers order segs s long outer p n in
-      no_edit e (Byte s.slot (length s.code - 2)) c.0 c.1
+  no_number e n = grind (arith, number_covers, no_edit)
 
   no_size : Uncovered → (t j : ℕ) → IsSizePlace order s t j p → ⊥
-  no_size e t j z = let c = size_covers order segs s long outer p t j (hosts z.0) z in
-      no_edit e (Word (grown_data_size order s.code (total_words segs) t) (t - 8)) c.0 c.1
+  no_size e t j z = grind (arith, size_covers, no_edit)
 
   no_reference : Uncovered → (rec i x : ℕ) (r : Record) → Reaches s rec r i x p → ⊥
   no_reference e rec i x r u =
@@ -227,8 +218,7 @@ module _ (order : Order) (segs : List Segment) (base : IsBase segs (next_of (hos
     kept = λ n z u. absurd (z h.0 h.1 h.2);
   }
     where
-      is_it : (t j : ℕ) → IsSizePlace order s t j p
-          → byte_at (Some f) ≡ slice_index
+      is_it : (t j : ℕ) → IsSizePlace order s t j p → byte_at (Some f) ≡ slice_index
           (word_bytes order (grown_data_size order s.code (all_private_words segs) t)) j
       is_it t j z = grind (arith, all_are)
 
@@ -251,8 +241,8 @@ module _ (order : Order) (segs : List Segment) (base : IsBase segs (next_of (hos
       mine = (
         stored_bytes order whole,
         becomes order segs base s h.0 h.3.name h.3.body h.1 h.2 t h.4.0.1 h.5.1,
-        ap (λ (g : Edit). byte_at (Some g)) h.5.2
-            ∙ ap (λ (n : ℕ). slice_index (stored_bytes order whole) (p - n))
+        ap (λ g. byte_at (Some g)) h.5.2
+            ∙ ap (λ n. slice_index (stored_bytes order whole) (p - n))
             (edit_place s.code t h.2),
       )
 
@@ -262,9 +252,9 @@ module _ (order : Order) (segs : List Segment) (base : IsBase segs (next_of (hos
       is_it rec i x r u =
           let one = apart.references h.0 h.1 h.2 rec i x h.3 r h.4 u in
           let er : h.3 ≡ r = same_Some h.3 r
-          (sym h.4.0.0 ∙ (ap (λ (n : ℕ). slice_get s.records n) one.0 ∙ u.0.0)) in
+          (sym h.4.0.0 ∙ (ap (λ n. slice_get s.records n) one.0 ∙ u.0.0)) in
           let ex : h.2 ≡ x = same_Some h.2 x
-          (sym h.4.0.1 ∙ (ap (λ (n : ℕ). slice_get (refs_of h.3.body) n) one.1
+          (sym h.4.0.1 ∙ (ap (λ n. slice_get (refs_of h.3.body) n) one.1
           ∙ (ap (λ (q : Record). slice_get (refs_of q.body) i) er ∙ u.0.1))) in
           moved rec x r one.0 er ex mine
         where
@@ -274,9 +264,7 @@ module _ (order : Order) (segs : List Segment) (base : IsBase segs (next_of (hos
 
           moved : (rec x : ℕ) (r : Record) → h.0 ≡ rec → h.3 ≡ r → h.2 ≡ x
               → Fact h.0 h.3 h.2 → Fact rec r x
-          moved rec x r a b c fact = subst (λ (n : ℕ). Fact n r x) a
-              (subst (λ (q : Record). Fact h.0 q x) b
-              (subst (λ (n : ℕ). Fact h.0 h.3 n) c fact))
+          moved rec x r a b c fact = grind arith
 
   covered_by : (f : Edit) → find (covers p) edits ≡ Some f
       → IsNumber s p f ⊎ (IsSize order segs s p f ⊎ IsOfReference segs s p f)
@@ -308,7 +296,7 @@ module _ (order : Order) (segs : List Segment) (base : IsBase segs (next_of (hos
           | inr h ↦
               let v = x.reference h.0 h.1 h.2 h.3 h.4 in
               let w = y.reference h.0 h.1 h.2 h.3 h.4 in
-              v.2 ∙ (ap (λ (bytes : List ℕ). slice_index bytes (p - h.2))
+              v.2 ∙ (ap (λ bytes. slice_index bytes (p - h.2))
               (one_becomes segs units publics bases s h.0 h.3.name h.3.body h.2 v.0 w.0 v.1 w.1)
               ∙ sym w.2)
         ]

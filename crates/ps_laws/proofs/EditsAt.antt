@@ -1,8 +1,7 @@
 -- The edits of a segment of a link: what each is, and which of them covers a place.
 use Rattle.std.proofs.Common.{rules, ◌≡◌, ℕ, zero, suc, ◌+◌, ◌-◌, ◌<◌}
 use Rattle.std.proofs.Common.{◌≤◌, List, [], ◌∷◌, ◌++◌, length, map, Some, Result}
-use Rattle.std.proofs.Common.{Ok, Err, Bool, true, false, refl, sym, ap, subst, ◌∙◌, inl, inr}
-use Rattle.std.proofs.Common.{arith}
+use Rattle.std.proofs.Common.{Ok, Err, Bool, true, refl, sym, ap, subst, ◌∙◌, inl, inr, arith}
 use Rattle.ps_laws.proofs.Words.{same_Some, ◌⊎◌, if◌then◌else◌, ◌&&◌, nat_le}
 use Rattle.ps_laws.proofs.Words.{nat_lt, enumerate_from, slice_get, flat_map, table_of, total_words}
 use Rattle.ps_laws.proofs.Words.{private_offset, Reaches, IsSizePlace, summed_edits, refs_of, Body}
@@ -35,37 +34,34 @@ of_flat {A} {C} f (x ∷ xs) y t = elim (of_joined (f x) (flat_map f xs) y t) [
 ]
 
 -- an item with its number
-of_numbered : {A : Type 0} (n : ℕ) (xs : List A) (k : ℕ) (p : ℕ × A)
-    → slice_get (enumerate_from n xs) k ≡ Some p
-    → (p.0 ≡ n + k) × (slice_get xs k ≡ Some p.1)
+of_numbered : {A : Type 0} (n : ℕ) (xs : List A) (k : ℕ) (p : ℕ × A) → slice_get
+    (enumerate_from n xs) k ≡ Some p → (p.0 ≡ n + k) × (slice_get xs k ≡ Some p.1)
 of_numbered n [] k p e = absurd (cc)
 of_numbered {A} n (x ∷ xs) zero p e = grind arith
-of_numbered n (x ∷ xs) (suc k) p e = let r = of_numbered (n + 1) xs k p e in
-    ((let h = r.0 in omega (arith, h)), r.1)
+of_numbered n (x ∷ xs) (suc k) p e = grind (arith, of_numbered (n + 1) xs k p e)
 
 -- an item is at the same place of the numbered list, with its number
 in_numbered : {A : Type 0} (n : ℕ) (xs : List A) (k : ℕ) (x : A) → slice_get xs k ≡ Some x
     → slice_get (enumerate_from n xs) k ≡ Some (n + k, x)
 in_numbered n [] k x e = absurd (cc)
 in_numbered {A} n (y ∷ xs) zero x e = grind arith
-in_numbered n (y ∷ xs) (suc k) x e = in_numbered (n + 1) xs k x e
-    ∙ ap (λ (m : ℕ). Some (m, x)) (omega arith)
+in_numbered n (y ∷ xs) (suc k) x e = grind (arith, in_numbered (n + 1) xs k x e)
 
--- which places an edit covers
-covered : (x p w : ℕ) → (nat_le x p && nat_lt p (x + w)) ≡ true → (x ≤ p) × (p < x + w)
-covered x p w h = grind arith
+module _ (x p w : ℕ) where
+  -- which places an edit covers
+  covered : (nat_le x p && nat_lt p (x + w)) ≡ true → (x ≤ p) × (p < x + w)
+  covered h = grind arith
 
-covering : (x p w : ℕ) → x ≤ p → p < x + w → (nat_le x p && nat_lt p (x + w)) ≡ true
-covering x p w h k = grind (arith, nat_tests)
+  covering : x ≤ p → p < x + w → (nat_le x p && nat_lt p (x + w)) ≡ true
+  covering h k = grind (arith, nat_tests)
 
 pub edit_place : (code : List ℕ) (t : Target) (x : ℕ) → place_of (edit_of code t x) ≡ x
 edit_place code t x = grind arith
 
 -- what an operand becomes is as wide as the operand
 pub edit_width : (segs : List Segment) (off : ℕ) (name : List ℕ) (body : Body) (i x : ℕ)
-    (code : List ℕ) (t : Target) → slice_get (refs_of body) i ≡ Some x
-    → target_in (known_of segs) off name body ≡ Ok t
-    → width (edit_of code t x) ≡ operand_width body
+    (code : List ℕ) (t : Target) → slice_get (refs_of body) i ≡ Some x → target_in
+    (known_of segs) off name body ≡ Ok t → width (edit_of code t x) ≡ operand_width body
 edit_width segs off name body i x code t h k = grind arith
 
 -- what an edit is that covers a place: the number, the data size, or what a reference becomes
@@ -104,7 +100,7 @@ module _ (order : Order) (segs : List Segment) (s : Segment)
 
   all_linked : needs_linking s.role ≡ true
       → summed_edits order segs s ≡ number ∷ (own ++ others)
-  all_linked h = ap (λ (b : Bool). if b then number ∷ (own ++ others) else []) h
+  all_linked h = ap (λ b. if b then number ∷ (own ++ others) else []) h
 
   is_number : (p : ℕ) (f : Edit) → needs_linking s.role ≡ true → number ≡ f
       → covers p f ≡ true → IsNumber s p f
@@ -120,29 +116,24 @@ module _ (order : Order) (segs : List Segment) (s : Segment)
       (private_offset segs s.slot r.0) r.1) (enumerate_from 0 s.records) f t in
       let n = of_numbered 0 s.records u.1.0 u.0 u.1.1 in
       let at : u.1.0 ≡ u.0.0 = (let h = n.0 in omega (arith, h)) in
-      go u.0.0 u.0.1 (subst (λ (m : ℕ). slice_get s.records m ≡ Some u.0.1) at n.1)
+      go u.0.0 u.0.1 (subst (λ m. slice_get s.records m ≡ Some u.0.1) at n.1)
       (target_of (known_of segs) (offset u.0.0) u.0.1) refl u.2.0 u.2.1
     where
-      go : (rec : ℕ) (r : Record) → slice_get s.records rec ≡ Some r
-          → (o : Result Target Reason) → target_of (known_of segs) (offset rec) r ≡ o
-          → (k : ℕ) → slice_get
+      go : (rec : ℕ) (r : Record) → slice_get s.records rec ≡ Some r → (o : Result Target
+          Reason) → target_of (known_of segs) (offset rec) r ≡ o → (k : ℕ) → slice_get
           (elim o [ Err why ↦ [] | Ok t ↦ map (edit_of s.code t) (refs_of r.body) ]) k
           ≡ Some f → IsOfReference segs s p f
       go rec r h o m k q = search (rules, mapped, covered, edit_place, edit_width)
 
   -- an edit that covers a place is one of these
-  pub what_covers : (p : ℕ) (f : Edit) → In f (summed_edits order segs s)
-      → covers p f ≡ true → IsNumber s p f
-      ⊎ (IsSize order segs s p f ⊎ IsOfReference segs s p f)
+  pub what_covers : (p : ℕ) (f : Edit) → In f (summed_edits order segs s) → covers p f
+      ≡ true → IsNumber s p f ⊎ (IsSize order segs s p f ⊎ IsOfReference segs s p f)
   what_covers p f t on = go (needs_linking s.role) refl t.0 t.1
     where
       go : (b : Bool) → needs_linking s.role ≡ b → (k : ℕ)
           → slice_get (if b then number ∷ (own ++ others) else []) k ≡ Some f
           → IsNumber s p f ⊎ (IsSize order segs s p f ⊎ IsOfReference segs s p f)
-      go false h k e = absurd (cc)
-      go true h zero e = inl (is_number p f h (same_Some number f e) on)
-      go true h (suc k) e = elim (of_joined own others f (k, e))
-          [ inl u ↦ inr (inl (is_size p f u on)) | inr u ↦ inr (inr (is_reference p f u on)) ]
+      go b h1 h2 h3 = grind (arith, is_number, same_Some, of_joined, is_size, is_reference)
 
   -- and each of these has its edit
   pub number_covers : (p : ℕ) → IsNumberPlace s p
@@ -151,15 +142,14 @@ module _ (order : Order) (segs : List Segment) (s : Segment)
 
   behind : (f : Edit) → needs_linking s.role ≡ true → In f (own ++ others)
       → In f (summed_edits order segs s)
-  behind f h t = subst (λ (es : List Edit). In f es) (sym (all_linked h)) (suc t.0, t.1)
+  behind f h t = subst (λ es. In f es) (sym (all_linked h)) (suc t.0, t.1)
 
   pub size_covers : (p t j : ℕ) → needs_linking s.role ≡ true → IsSizePlace order s t j p
       → In (size t) (summed_edits order segs s) × (covers p (size t) ≡ true)
   size_covers p t j h z = grind (arith, behind, in_left, covering)
 
-  pub reference_covers : (p rec i x : ℕ) (r : Record) (t : Target)
-      → needs_linking s.role ≡ true → Reaches s rec r i x p
-      → target_of (known_of segs) (offset rec) r ≡ Ok t
+  pub reference_covers : (p rec i x : ℕ) (r : Record) (t : Target) → needs_linking s.role
+      ≡ true → Reaches s rec r i x p → target_of (known_of segs) (offset rec) r ≡ Ok t
       → In (edit_of s.code t x) (summed_edits order segs s)
       × (covers p (edit_of s.code t x) ≡ true)
   reference_covers p rec i x r t h u e =
@@ -176,8 +166,7 @@ module _ (order : Order) (segs : List Segment) (s : Segment)
       mine = record_edits (known_of segs) s.code (private_offset segs s.slot rec) r
 
       mine_is : mine ≡ map (edit_of s.code t) (refs_of r.body)
-      mine_is = ap (λ (o : Result Target Reason). elim o as
-          (λ _. List Edit) [ Err why ↦ [] | Ok t ↦ map (edit_of s.code t) (refs_of r.body) ]) e
+      mine_is = grind arith
 
       there : In (edit_of s.code t x) others
       there =
@@ -186,9 +175,9 @@ module _ (order : Order) (segs : List Segment) (s : Segment)
           (edit_of s.code t x) (
             rec,
             in_numbered 0 s.records rec r u.0.0
-                ∙ ap (λ (m : ℕ). Some (m, r)) (omega arith),
+                ∙ ap (λ m. Some (m, r)) (omega arith),
           ) (
             i,
-            ap (λ (es : List Edit). slice_get es i) mine_is
+            ap (λ es. slice_get es i) mine_is
                 ∙ map_at (edit_of s.code t) (refs_of r.body) i x u.0.1,
           )

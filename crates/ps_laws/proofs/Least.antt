@@ -80,15 +80,13 @@ pub least_then : {A X : Type 0} {B : X → X → Type 0} {S : A → X → Type 0
     (f : A → Option X) (o : Option A) → ((a : A) → o ≡ Some a → Least B (S a) (f a))
     → Least B (λ x. (a : A) × (o ≡ Some a) × S a x) (option_and_then f o)
 least_then f None each = nothing (λ y t. absurd (let e = t.1 in cc))
-least_then {S} f (Some a) each = least_same (λ x s. (a, refl, s))
-    (λ x t. subst (λ b. S b x) (let e = t.1 in cc) t.2) (each a refl)
+least_then {S} f (Some a) each = grind (arith, least_same)
 
 -- each number of a range, in order
-pub least_within : {X : Type 0} {B : X → X → Type 0} {S : ℕ → X → Type 0}
-    (f : ℕ → Option X) (n m : ℕ) → ((i : ℕ) → n ≤ i → i < n + m
-    → Least B (S i) (f i)) → ((i j : ℕ) (x y : X) → i < j → S i x → S j y → B x y)
-    → Least B (λ x. (i : ℕ) × (n ≤ i) × (i < n + m) × S i x)
-    (first_of f (range_with_len n m))
+pub least_within : {X : Type 0} {B : X → X → Type 0} {S : ℕ → X → Type 0} (f : ℕ
+    → Option X) (n m : ℕ) → ((i : ℕ) → n ≤ i → i < n + m → Least B (S i) (f i))
+    → ((i j : ℕ) (x y : X) → i < j → S i x → S j y → B x y) → Least B
+    (λ x. (i : ℕ) × (n ≤ i) × (i < n + m) × S i x) (first_of f (range_with_len n m))
 least_within f n zero each apart = nothing (λ y t. absurd (omega (arith, t.1, t.2)))
 least_within {S} f n (suc m) each apart =
     least_same
@@ -104,19 +102,17 @@ least_within {S} f n (suc m) each apart =
     (least_within f (n + 1) m (λ i low high. each i (omega (arith, low)) (omega (arith, high)))
     apart) (λ x y s t. apart n t.0 x y (omega (arith, t.1)) s t.3))
 
-pub least_range : {X : Type 0} {B : X → X → Type 0} {S : ℕ → X → Type 0}
-    (f : ℕ → Option X) → ((i : ℕ) → Least B (S i) (f i))
-    → ((i j : ℕ) (x y : X) → i < j → S i x → S j y → B x y) → (n m : ℕ)
-    → Least B (λ x. (i : ℕ) × (n ≤ i) × (i < n + m) × S i x)
-    (first_of f (range_with_len n m))
+pub least_range : {X : Type 0} {B : X → X → Type 0}
+    {S : ℕ → X → Type 0} (f : ℕ → Option X) → ((i : ℕ) → Least B (S i) (f i))
+    → ((i j : ℕ) (x y : X) → i < j → S i x → S j y → B x y) → (n m : ℕ) → Least B
+    (λ x. (i : ℕ) × (n ≤ i) × (i < n + m) × S i x) (first_of f (range_with_len n m))
 least_range f each apart n m = least_within f n m (λ i low high. each i) apart
 
 -- each item of a list with its number, in order
 pub least_each : {A X : Type 0} {B : X → X → Type 0} {S : ℕ → A → X → Type 0}
-    (f : ℕ × A → Option X) (n : ℕ) (items : List A)
-    → ((i k : ℕ) (a : A) → k ≡ n + i → slice_get items i ≡ Some a
-    → Least B (S k a) (f (k, a))) → ((i j : ℕ) (a b : A) (x y : X) → i < j → S i a x
-    → S j b y → B x y)
+    (f : ℕ × A → Option X) (n : ℕ) (items : List A) → ((i k : ℕ) (a : A)
+    → k ≡ n + i → slice_get items i ≡ Some a → Least B (S k a) (f (k, a)))
+    → ((i j : ℕ) (a b : A) (x y : X) → i < j → S i a x → S j b y → B x y)
     → Least B (λ x. (i : ℕ) × (k : ℕ) × (a : A) × (k ≡ n + i)
     × (slice_get items i ≡ Some a) × S k a x) (first_of f (enumerate_from n items))
 least_each f n [] each apart = nothing (λ y t. absurd (let e = t.4 in cc))
@@ -134,14 +130,11 @@ least_each {A} {X} {S} f n (a ∷ items) each apart =
     go : (x : X) (i k : ℕ) (b : A) → k ≡ n + i → slice_get (a ∷ items) i ≡ Some b
         → S k b x → S n a x ⊎ ((i : ℕ) × (k : ℕ) × (c : A) × (k ≡ n + 1 + i)
         × (slice_get items i ≡ Some c) × S k c x)
-    go x zero k b e h s =
-        inl (subst (λ c. S n c x) (cc) (subst (λ j. S j b x) (omega (arith, e)) s))
-    go x (suc i) k b e h s = inr (i, k, b, omega (arith, e), h, s)
+    go x i k b h1 h2 h3 = grind arith
 
     back : (x : X) → ((i : ℕ) × (k : ℕ) × (b : A) × (k ≡ n + i)
-        × (slice_get (a ∷ items) i ≡ Some b) × S k b x)
-        → S n a x ⊎ ((i : ℕ) × (k : ℕ) × (c : A) × (k ≡ n + 1 + i)
-        × (slice_get items i ≡ Some c) × S k c x)
+        × (slice_get (a ∷ items) i ≡ Some b) × S k b x) → S n a x ⊎ ((i : ℕ)
+        × (k : ℕ) × (c : A) × (k ≡ n + 1 + i) × (slice_get items i ≡ Some c) × S k c x)
     back x t = go x t.0 t.1 t.2 t.3 t.4 t.5
 
 -- the same from 0
@@ -152,19 +145,18 @@ pub least_items : {A X : Type 0} {B : X → X → Type 0} {S : ℕ → A → X �
     → Least B (λ x. SomeItem items (λ i a. S i a x)) (first_of f (enumerate_from 0 items))
 least_items {S} f items each apart =
     least_same (λ x t. (t.0, t.2, t.4, subst (λ k. S k t.2 x) (omega (arith, t.3)) t.5))
-    (λ x t. (t.0, t.0, t.1, omega arith, t.2, t.3))
-    (least_each f 0 items (λ i k a e h. each k a
+    (λ x t. (t.0, t.0, t.1, omega arith, t.2, t.3)) (least_each f 0 items (λ i k a e h. each k a
     (subst (λ j. slice_get items j ≡ Some a) (omega (arith, e)) h)) apart)
 
 -- one fault, or two
 pub at_apart : {X P Q : Type 0} (B : X → X → Type 0) (f g : X) → B f g → (x y : X)
     → (x ≡ f) × P → (y ≡ g) × Q → B x y
-at_apart B f g h x y s t = subst (λ z. B z y) (sym s.0) (subst (λ z. B f z) (sym t.0) h)
+at_apart B f g h x y s t = grind arith
 
 -- what applies only under a condition
 pub least_guard : {X P : Type 0} {B : X → X → Type 0} {S : X → Type 0} {o : Option X}
     (b : Bool) → Decides b P → Least B S o → Least B (λ x. P × S x) (if b then o else None)
-least_guard true d l = least_same (λ x s. (d.0 refl, s)) (λ x t. t.1) l
+least_guard true d l = grind (arith, least_same)
 least_guard false d l = nothing (λ x t. false≢true (d.1 t.0))
 
 -- the first over the list of what all items give is the first over the items themselves

@@ -41,8 +41,8 @@ module _ (law : OneStop) (host : List ℕ) (libs : List (List ℕ)) (none : None
     apart s is p = one_place host libs none s is (file s is) p
 
     pub places : HaveApartPlaces host libs
-    places = all_items (λ (s : Segment). (p : ℕ) → IsOnePlace (order_of host) s p)
-        (segments_of host libs) (λ k s e p. apart s (of_segments (order_of host) host libs k s e) p)
+    places = all_items (λ (s : Segment). (p : ℕ) → IsOnePlace (order_of host) s p) (segments_of
+        host libs) (λ k s e p. apart s (of_segments (order_of host) host libs k s e) p)
 
     module _ (s : Segment) (is : IsSegment (order_of host) host libs s) where
       long_code : needs_linking s.role ≡ true → 2 ≤ length s.code
@@ -57,11 +57,9 @@ module _ (law : OneStop) (host : List ℕ) (libs : List (List ℕ)) (none : None
       targets : (rec i x : ℕ) (r : Record) → IsReference s rec r i x
           → (t : Target) × (target_of (known_of (segments_of host libs))
           (private_offset (segments_of host libs) s.slot rec) r ≡ Ok t)
-      targets rec i x r u =
-          go (target_of (known_of (segments_of host libs))
-          (private_offset (segments_of host libs) s.slot rec) r) refl
-          (record_rows (segments_of host libs)
-          (private_offset (segments_of host libs) s.slot rec) r.name r.body
+      targets rec i x r u = go (target_of (known_of (segments_of host libs))
+          (private_offset (segments_of host libs) s.slot rec) r) refl (record_rows
+          (segments_of host libs) (private_offset (segments_of host libs) s.slot rec) r.name r.body
           (asked_is_there (order_of host) host libs (rounds_fine host libs read) s is rec r u.0))
         where
           bad : (why : Reason) → Least Ranked (RecordHas (segments_of host libs) r.name r.body)
@@ -72,26 +70,22 @@ module _ (law : OneStop) (host : List ℕ) (libs : List (List ℕ)) (none : None
           go : (o : Result Target Reason) → target_of (known_of (segments_of host libs))
               (private_offset (segments_of host libs) s.slot rec) r ≡ o
               → Least Ranked (RecordHas (segments_of host libs) r.name r.body) (result_err o)
-              → (t : Target)
-              × (target_of (known_of (segments_of host libs))
+              → (t : Target) × (target_of (known_of (segments_of host libs))
               (private_offset (segments_of host libs) s.slot rec) r ≡ Ok t)
           go (Ok t) e l = (t, e)
           go (Err why) e l = absurd (bad why l)
 
       is_byte : (p : ℕ) → IsLinkedByte (order_of host) (segments_of host libs) s p
           (linked_byte (order_of host) (summed_segment (order_of host) (segments_of host libs) s) p)
-      is_byte p = facts (order_of host) (segments_of host libs)
-          (base_there host libs none read) s long_code outer_block (host_linked s.role)
-          (file s is).unread targets p (apart s is p)
+      is_byte p = facts (order_of host) (segments_of host libs) (base_there host libs none read)
+          s long_code outer_block (host_linked s.role) (file s is).unread targets p (apart s is p)
 
       one_at : (p b c : ℕ) → IsLinkedByte (order_of host) (segments_of host libs) s p b
           → IsLinkedByte (order_of host) (segments_of host libs) s p c → b ≡ c
-      one_at p b c x y =
-          one_byte (order_of host) (segments_of host libs)
+      one_at p b c x y = one_byte (order_of host) (segments_of host libs)
           (base_there host libs none read) s long_code outer_block (host_linked s.role)
-          (file s is).unread targets p (apart s is p)
-          (one_unit host libs none read) (one_public host libs none read)
-          (one_base host libs none read) b c x y
+          (file s is).unread targets p (apart s is p) (one_unit host libs none read)
+          (one_public host libs none read) (one_base host libs none read) b c x y
 
     abbrev IsMade : Edited → Type 0
     IsMade e = (p : ℕ) → p < length e.segment.code
@@ -99,13 +93,10 @@ module _ (law : OneStop) (host : List ℕ) (libs : List (List ℕ)) (none : None
         (linked_byte (order_of host) e p)
 
     pub bytes : HaveLinkedBytes host libs
-    bytes =
-        All-same IsMade (edited_segments (order_of host) (segments_of host libs))
+    bytes = All-same IsMade (edited_segments (order_of host) (segments_of host libs))
         (map (summed_segment (order_of host) (segments_of host libs)) (segments_of host libs))
-        (offsets host libs)
-        (All-map IsMade (summed_segment (order_of host) (segments_of host libs))
-        (segments_of host libs)
-        (all_items (λ (s : Segment). IsMade
+        (offsets host libs) (All-map IsMade (summed_segment (order_of host) (segments_of host libs))
+        (segments_of host libs) (all_items (λ (s : Segment). IsMade
         (summed_segment (order_of host) (segments_of host libs) s)) (segments_of host libs)
         (λ k s e p lt. is_byte s (of_segments (order_of host) host libs k s e) p)))
 

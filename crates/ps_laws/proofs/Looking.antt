@@ -1,7 +1,7 @@
 -- Tests of items, and what they decide.
-use Rattle.std.proofs.Common.{◌≡◌, ℕ, zero, suc, ◌<◌, List, [], ◌∷◌, Some, None}
-use Rattle.std.proofs.Common.{Bool, true, false, refl, sym, ap, subst, ◌∙◌, inl, inr, arith}
-use Rattle.std.proofs.Common.{is_none}
+use Rattle.std.proofs.Common.{rules, ◌≡◌, ℕ, zero, suc, ◌<◌, List, [], ◌∷◌, Some}
+use Rattle.std.proofs.Common.{None, Bool, true, false, refl, sym, ap, subst, ◌∙◌, inl, inr}
+use Rattle.std.proofs.Common.{arith, is_none}
 use Rattle.ps_laws.proofs.Words.{◌⊎◌, if◌then◌else◌, not, ◌||◌, Decides, slice_get}
 use Rattle.ps_laws.proofs.Words.{list_any, find, false≢true, Decides-or, Decides-like, SomeItem}
 pub use Rattle.ps_resolve.proofs.LookingBack.{of_test, any_of_take}
@@ -32,16 +32,14 @@ none_of_items {A} test (a ∷ items) = grind (arith, none_of_items test items)
 pub find_none : {A : Type 0} (test : A → Bool) (P : A → Type 0)
     → ((a : A) → Decides (test a) (P a)) → (items : List A) → find test items ≡ None
     → SomeItem items (λ i q. P q) → ⊥
-find_none test P d items e t = false≢true
-    (sym (ap not ((any_of_items test P d items).1 t)) ∙ sym (none_of_items test items)
-    ∙ ap is_none e)
+find_none test P d items e t = false≢true (sym (ap not ((any_of_items test P d items).1 t))
+    ∙ sym (none_of_items test items) ∙ ap is_none e)
 
 -- what a search finds is the first item of which P holds
 pub find_some : {A : Type 0} (test : A → Bool) (P : A → Type 0)
     → ((a : A) → Decides (test a) (P a)) → (items : List A) (x : A)
-    → find test items ≡ Some x → SomeItem items
-    (λ i q. (q ≡ x) × P q × ((j : ℕ) (e : A) → j < i → slice_get items j ≡ Some e
-    → P e → ⊥))
+    → find test items ≡ Some x → SomeItem items (λ i q. (q ≡ x)
+    × P q × ((j : ℕ) (e : A) → j < i → slice_get items j ≡ Some e → P e → ⊥))
 find_some test P d [] x = λ e. absurd (cc)
 find_some {A} test P d (a ∷ items) x = go (test a) (d a) (find_some test P d items x)
   where
@@ -51,11 +49,10 @@ find_some {A} test P d (a ∷ items) x = go (test a) (d a) (find_some test P d i
 
     go : (b : Bool) → Decides b (P a) → (find test items ≡ Some x → Found items)
         → (if b then Some a else find test items) ≡ Some x → Found (a ∷ items)
-    go true h rest e = (zero, a, refl, (cc, h.0 refl, λ j q l g p. omega (arith, l)))
+    go true h rest e = search (rules, arith)
     go false h rest e = let r = rest e in (suc r.0, r.1, r.2, (r.3.0, r.3.1, lesser r.0 r.3.2))
       where
         lesser : (i : ℕ) → ((j : ℕ) (e : A) → j < i → slice_get items j ≡ Some e → P e
             → ⊥) → (j : ℕ) (e : A) → j < suc i → slice_get (a ∷ items) j ≡ Some e
             → P e → ⊥
-        lesser i none zero q l g p = false≢true (h.1 (subst P (cc) p))
-        lesser i none (suc j) q l g p = none j q (omega (arith, l)) g p
+        lesser i h1 h2 h3 h4 h5 = grind (arith, false≢true)

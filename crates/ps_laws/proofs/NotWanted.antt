@@ -1,13 +1,11 @@
 -- The slot of a record that requests a unit does not itself want one that no library has.
-use Rattle.std.proofs.Common.{◌≡◌, ℕ, ◌+◌, List, ◌++◌, take, Option, Some, None}
-use Rattle.std.proofs.Common.{true, false, refl, sym, ap, subst, ◌∙◌, inl, inr, is_none}
-use Rattle.std.proofs.Common.{arith}
+use Rattle.std.proofs.Common.{◌≡◌, ◌+◌, List, ◌++◌, Option, false, ◌∙◌, is_none}
+use Rattle.std.proofs.Common.{ℕ, take, Some, None, true, refl, sym, ap, subst, inl, inr, arith}
 use Rattle.ps_codefile.specs.declared.entry.Role.TheVariants as role
 use Rattle.ps_laws.proofs.Words.{Segment, is_named, chosen_library, unit_source, own_segment}
 use Rattle.ps_laws.proofs.Words.{IsGiver, HasRole, UnitReference, Order, slice_get, find}
 use Rattle.ps_laws.proofs.Words.{option_map, option_map_or, option_and_then, result_ok}
-use Rattle.ps_laws.proofs.Words.{false≢true}
-use Rattle.ps_laws.proofs.Words.{none-some, slots, is_empty, added_segments, is_role}
+use Rattle.ps_laws.proofs.Words.{false≢true, none-some, slots, is_empty, added_segments, is_role}
 use Rattle.ps_resolve.specs.Parts.{WantsMissing}
 use Rattle.ps_resolve.specs.Sources.{own_segments}
 use Rattle.ps_resolve.specs.Standing.Rounds.{IsRequested}
@@ -36,10 +34,9 @@ module _ (order : Order) (host : List ℕ) (libs : List (List ℕ)) where
       → unit_source order name libs ≡ None
   none_source name none = go (chosen_library order name libs) ((none_has order name libs).1 none)
     where
-      go : (o : Option (ℕ × List ℕ)) → is_none o ≡ true
-          → option_and_then {U = ℕ × ℕ}
-          (λ (lib : ℕ × List ℕ). option_map {U = ℕ × ℕ} (λ (i : ℕ). (lib.0 + 1, i))
-          (find (is_named order name lib.1) slots)) o ≡ None
+      go : (o : Option (ℕ × List ℕ)) → is_none o ≡ true → option_and_then
+          {U = ℕ × ℕ} (λ (lib : ℕ × List ℕ). option_map {U = ℕ × ℕ}
+          (λ (i : ℕ). (lib.0 + 1, i)) (find (is_named order name lib.1) slots)) o ≡ None
       go None e = refl
       go (Some lib) e = absurd (false≢true e)
 
@@ -55,11 +52,11 @@ module _ (order : Order) (host : List ℕ) (libs : List (List ℕ)) where
       (take k (added_segments order host libs)) giver.0 s there) [
         | inl h ↦
             let o = own_at order host libs s (giver.0, h) in
-            own_has_library o.0 s o.2 (subst (λ (n : ℕ). WantsMissing order host libs n)
+            own_has_library o.0 s o.2 (subst (λ n. WantsMissing order host libs n)
             (slot ∙ own_in_slot order host libs o.0 s o.2) wants)
         | inr u ↦
             let v = of_take k (added_segments order host libs) u.0 s u.2 in
-            not_empty s.slot (subst (λ (n : ℕ). HasRole order host n role.Wanted) slot wants.0)
+            not_empty s.slot (subst (λ n. HasRole order host n role.Wanted) slot wants.0)
             (added_slot u.0 s v.1)
       ]
     where

@@ -26,10 +26,8 @@ last_at : (rs : List Record) → EndsOnce rs → (k : ℕ) (r : Record)
 last_at [] h k r e is = absurd h
 last_at (q ∷ []) h zero r e is = refl
 last_at (q ∷ []) h (suc k) r e is = absurd (cc)
-last_at (q ∷ p ∷ rs) h zero r e is =
-    absurd (false≢true (sym h.0 ∙ (ap is_eof (same_Some q r e) ∙ is)))
-last_at (q ∷ p ∷ rs) h (suc k) r e is = let l = last_at (p ∷ rs) h.1 k r e is in
-    omega (arith, l)
+last_at (q ∷ p ∷ rs) h zero r e is = grind (arith, false≢true, same_Some)
+last_at (q ∷ p ∷ rs) h (suc k) r e is = grind (arith, last_at (p ∷ rs) h.1 k r e is)
 
 -- and gives the base offset
 base_in : (rs : List Record) → EndsOnce rs
@@ -41,10 +39,9 @@ base_in (r ∷ []) h = (0, r, refl, at r.body h)
         → b ≡ Eof (unwrap_or (slice_get (cons_option (next_in b) []) 0) 0)
     at b h = grind arith
 base_in (r ∷ q ∷ rs) h = let t = base_in (q ∷ rs) h.1 in
-    (suc t.0, t.1, t.2, t.3 ∙ ap (λ (n : ℕ). Eof n) (sym (at r.body h.0)))
+    (suc t.0, t.1, t.2, t.3 ∙ ap (λ n. Eof n) (sym (at r.body h.0)))
   where
-    at : (b : Body) → is_end b ≡ false
-        → unwrap_or (slice_get (cons_option (next_in b)
+    at : (b : Body) → is_end b ≡ false → unwrap_or (slice_get (cons_option (next_in b)
         (filter_map (λ (p : Record). next_in p.body) (q ∷ rs))) 0) 0 ≡ next_of (q ∷ rs)
     at b h = grind arith
 
@@ -72,7 +69,7 @@ module _ (host : List ℕ) (libs : List (List ℕ)) (none : NoneStands host libs
 
   its_records : (s : Segment) → host_of (segments_of host libs) ≡ Some s
       → host_records (segments_of host libs) ≡ s.records
-  its_records s e = ap (λ (o : Option Segment). option_map_or (λ (q : Segment). q.records) o []) e
+  its_records s e = ap (λ o. option_map_or (λ (q : Segment). q.records) o []) e
 
   ends : (k : ℕ) (s : Segment) → slice_get (segments_of host libs) k ≡ Some s
       → is_host s.role ≡ true → EndsOnce s.records
@@ -92,18 +89,16 @@ module _ (host : List ℕ) (libs : List (List ℕ)) (none : NoneStands host libs
   one_record : (rec other : ℕ) (r q : Record) → IsHostRecord (segments_of host libs) rec r
       → IsHostRecord (segments_of host libs) other q → rec ≡ other → r ≡ q
   one_record rec other r q t u e = same_Some r q
-      (sym t.3.1 ∙ (ap (λ (n : ℕ). slice_get t.1.records n) e
-      ∙ of_one_host rec other r q t u))
+      (sym t.3.1 ∙ (ap (λ n. slice_get t.1.records n) e ∙ of_one_host rec other r q t u))
 
   pub one_base : (a b : ℕ) → IsBase (segments_of host libs) a
       → IsBase (segments_of host libs) b → a ≡ b
   one_base a b t u =
       let once = ends t.2.0 t.2.1 t.2.2 t.2.3.0 in
       let x = last_at t.2.1.records once t.0 t.1 t.2.3.1 (ap is_end t.3) in
-      let y = last_at t.2.1.records once u.0 u.1 (of_one_host t.0 u.0 t.1 u.1 t.2 u.2)
-      (ap is_end u.3) in
-      let both : ◌≡◌ {A = Body} (Eof a) (Eof b) =
-      sym t.3 ∙ (ap (λ (r : Record). r.body)
+      let y =
+      last_at t.2.1.records once u.0 u.1 (of_one_host t.0 u.0 t.1 u.1 t.2 u.2) (ap is_end u.3) in
+      let both : ◌≡◌ {A = Body} (Eof a) (Eof b) = sym t.3 ∙ (ap (λ (r : Record). r.body)
       (one_record t.0 u.0 t.1 u.1 t.2 u.2 (omega (arith, x, y))) ∙ u.3) in
       cc
 
@@ -132,11 +127,9 @@ module _ (host : List ℕ) (libs : List (List ℕ)) (none : NoneStands host libs
   one_public name a b t u =
       let is = found t.2.0 t.2.1 t.2.2 t.2.3.0 in
       let there = of_one_host t.0 u.0 t.1 u.1 t.2 u.2 in
-      let at =
-      not_apart t.0 u.0 (again t.2.1 is t.0 u.0 t.1 u.1 a b t.2.3.1 there
-      (t.3.0 ∙ sym u.3.0) t.3.1 u.3.1)
+      let at = not_apart t.0 u.0
+      (again t.2.1 is t.0 u.0 t.1 u.1 a b t.2.3.1 there (t.3.0 ∙ sym u.3.0) t.3.1 u.3.1)
       (again t.2.1 is u.0 t.0 u.1 t.1 b a there t.2.3.1 (u.3.0 ∙ sym t.3.0) u.3.1 t.3.1) in
-      let both : ◌≡◌ {A = Body} (PublDef a) (PublDef b) =
-      sym t.3.1 ∙ ap (λ (d : Record). d.body) (one_record t.0 u.0 t.1 u.1 t.2 u.2 at)
-      ∙ u.3.1 in
+      let both : ◌≡◌ {A = Body} (PublDef a) (PublDef b) = sym t.3.1
+      ∙ ap (λ (d : Record). d.body) (one_record t.0 u.0 t.1 u.1 t.2 u.2 at) ∙ u.3.1 in
       cc

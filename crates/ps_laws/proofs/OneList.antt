@@ -1,7 +1,7 @@
 -- What is said plainly of the units that are added holds of the queue and the segments that the
 -- rounds come to, and of no others.
-use Rattle.std.proofs.Common.{◌≡◌, ℕ, zero, suc, List, map, Option, Some, None, refl, sym}
-use Rattle.std.proofs.Common.{ap, subst, ◌∙◌, arith}
+use Rattle.std.proofs.Common.{rules, ◌≡◌, ℕ, zero, suc, List, map, Option, Some, None, refl}
+use Rattle.std.proofs.Common.{sym, ap, subst, ◌∙◌, arith}
 use Rattle.ps_laws.proofs.Words.{slice_get, option_map, same_Some, added_segments, added_fault}
 use Rattle.ps_laws.proofs.Words.{request_of, Segment, AddedUnits, UnitReference, Order}
 use Rattle.std.proofs.lemmas.Option.{slice_get-map}
@@ -15,30 +15,24 @@ agree_longer : {A : Type 0} (k : ℕ) (xs ys : List A) → Agree k xs ys
     → slice_get xs k ≡ slice_get ys k → Agree (suc k) xs ys
 agree_longer k xs ys h e j l = grind arith
 
--- a sequence of segments has at each place a segment of the name that is there
-named : (segs : List Segment) (queue : List UnitReference) (k : ℕ) (g : UnitReference)
-    → map (λ (s : Segment). s.name) segs ≡ map (λ (h : UnitReference). h.name) queue
-    → slice_get queue k ≡ Some g
-    → (s : Segment) × (slice_get segs k ≡ Some s) × (s.name ≡ g.name)
-named segs queue k g same e =
-    mapped (λ (s : Segment). s.name) segs k g.name
-    (ap (λ (names : List (List ℕ)). slice_get names k) same
-    ∙ slice_get-map (λ (h : UnitReference). h.name) queue k
-    ∙ ap (option_map (λ (h : UnitReference). h.name)) e)
+module _ (segs : List Segment) (queue : List UnitReference) (k : ℕ) where
+  -- a sequence of segments has at each place a segment of the name that is there
+  named : (g : UnitReference) → map (λ (s : Segment). s.name) segs
+      ≡ map (λ (h : UnitReference). h.name) queue → slice_get queue k ≡ Some g
+      → (s : Segment) × (slice_get segs k ≡ Some s) × (s.name ≡ g.name)
+  named g same e = mapped (λ (s : Segment). s.name) segs k g.name (ap
+      (λ names. slice_get names k) same ∙ slice_get-map (λ (h : UnitReference). h.name) queue k
+      ∙ ap (option_map (λ (h : UnitReference). h.name)) e)
 
--- and none where no name is left
-unnamed : (segs : List Segment) (queue : List UnitReference) (k : ℕ)
-    → map (λ (s : Segment). s.name) segs ≡ map (λ (h : UnitReference). h.name) queue
-    → slice_get queue k ≡ None → slice_get segs k ≡ None
-unnamed segs queue k same e =
-    go (slice_get segs k)
-    (sym (slice_get-map (λ (s : Segment). s.name) segs k)
-    ∙ ap (λ (names : List (List ℕ)). slice_get names k) same
-    ∙ slice_get-map (λ (h : UnitReference). h.name) queue k
-    ∙ ap (option_map (λ (h : UnitReference). h.name)) e)
-  where
-    go : (o : Option Segment) → option_map (λ (s : Segment). s.name) o ≡ None → o ≡ None
-    go o h = grind arith
+  -- and none where no name is left
+  unnamed : map (λ (s : Segment). s.name) segs ≡ map (λ (h : UnitReference). h.name) queue
+      → slice_get queue k ≡ None → slice_get segs k ≡ None
+  unnamed same e = go (slice_get segs k) (sym (slice_get-map (λ (s : Segment). s.name) segs k)
+      ∙ ap (λ names. slice_get names k) same ∙ slice_get-map (λ
+      (h : UnitReference). h.name) queue k ∙ ap (option_map (λ (h : UnitReference). h.name)) e)
+    where
+      go : (o : Option Segment) → option_map (λ (s : Segment). s.name) o ≡ None → o ≡ None
+      go o h = grind arith
 
 module _ (order : Order) (host : List ℕ) (libs : List (List ℕ))
     (fine : sources_fault order host libs ≡ None) (ended : added_fault order host libs ≡ None)
@@ -64,7 +58,7 @@ module _ (order : Order) (host : List ℕ) (libs : List (List ℕ))
           e ∙ sym (same_name order host libs Queue other Segs others A B k segs queue g e)
       go None e (Some g) u = same_name order host libs other Queue others Segs B A k
           (λ j l. sym (segs j l)) (λ j l. sym (queue j l)) g u ∙ sym u
-      go None e None u = e ∙ sym u
+      go None e None u = search (rules, arith)
 
   -- and its segment
   segs_at : (k : ℕ) → slice_get Queue k ≡ slice_get other k
@@ -73,8 +67,7 @@ module _ (order : Order) (host : List ℕ) (libs : List (List ℕ))
     where
       go : (o : Option UnitReference) → slice_get Queue k ≡ o
           → slice_get Segs k ≡ slice_get others k
-      go None e = unnamed Segs Queue k A.names e
-          ∙ sym (unnamed others other k B.names (sym same ∙ e))
+      go None e = grind (arith, unnamed, A)
       go (Some g) e =
           let s = named Segs Queue k g A.names e in
           let t = named others other k g B.names (sym same ∙ e) in
@@ -86,17 +79,16 @@ module _ (order : Order) (host : List ℕ) (libs : List (List ℕ))
           let marked = (A.roles k s.0 s.1).1 ∙ sym (B.roles k t.0 t.1).1 in
           let one : s.0 ≡ t.0 = same_segment order libs s.0 t.0 slot (s.2 ∙ sym t.2) role marked
           (A.found k s.0 s.1) (B.found k t.0 t.1)
-          (subst (λ (n : List ℕ). HasOneEntry order libs n) (sym s.2) only) in
-          s.1 ∙ ap (λ (x : Segment). Some x) one ∙ sym t.1
+          (subst (λ n. HasOneEntry order libs n) (sym s.2) only) in
+          s.1 ∙ ap (λ x. Some x) one ∙ sym t.1
 
   agreed : (k : ℕ) → Agree k Segs others × Agree k Queue other
-  agreed zero = (λ j l. absurd (omega (arith, l)), λ j l. absurd (omega (arith, l)))
+  agreed zero = search (rules, arith)
   agreed (suc k) = go (agreed k)
     where
       go : Agree k Segs others × Agree k Queue other
           → Agree (suc k) Segs others × Agree (suc k) Queue other
-      go h = let queue = queue_at k h.0 h.1 in
-          (agree_longer k Segs others h.0 (segs_at k queue), agree_longer k Queue other h.1 queue)
+      go h = grind (arith, queue_at, agree_longer, segs_at)
 
   pub only_units : (other ≡ Queue) × (others ≡ Segs)
   only_units = (

@@ -1,7 +1,7 @@
 -- Just one queue of names and one list of segments have what is said of the units that are added.
-use Rattle.std.proofs.Common.{◌≡◌, ℕ, zero, suc, ◌+◌, ◌<◌, List, [], ◌∷◌}
-use Rattle.std.proofs.Common.{◌++◌, length, take, Option, Some, None, Bool, refl, sym, ap}
-use Rattle.std.proofs.Common.{subst, ◌∙◌, inl, inr, arith}
+use Rattle.std.proofs.Common.{rules, ◌≡◌, ℕ, zero, suc, ◌+◌, ◌<◌, List, []}
+use Rattle.std.proofs.Common.{◌∷◌, ◌++◌, length, take, Option, Some, None, Bool, refl}
+use Rattle.std.proofs.Common.{sym, ap, subst, ◌∙◌, inl, inr, arith}
 use Rattle.ps_laws.proofs.Words.{slice_get, cases_order, same_Some, Role, Record, IsNamed, HasEntry}
 use Rattle.ps_laws.proofs.Words.{Before, Segment, Asks, IsGiver, AddedUnits, UnitReference, Order}
 use Rattle.ps_resolve.specs.Sources.{own_segments}
@@ -15,9 +15,9 @@ Agree k xs ys = (j : ℕ) → j < k → slice_get xs j ≡ slice_get ys j
 
 agree_behind : {A : Type 0} (own xs ys : List A) (k : ℕ) → Agree k xs ys → (i : ℕ)
     → i < length own + k → slice_get (own ++ xs) i ≡ slice_get (own ++ ys) i
-agree_behind {A} [] xs ys k h i l = h i (omega (arith, l))
+agree_behind {A} [] xs ys k h i l = search (rules, arith)
 agree_behind (s ∷ own) xs ys k h zero l = refl
-agree_behind (s ∷ own) xs ys k h (suc i) l = agree_behind own xs ys k h i (omega (arith, l))
+agree_behind (s ∷ own) xs ys k h (suc i) l = search (rules, arith, agree_behind own xs ys k h i)
 
 -- a list and its front
 front_agrees : {A : Type 0} (k : ℕ) (xs : List A) → Agree k (take k xs) xs
@@ -59,10 +59,10 @@ same_place segs i j g h a b same = (
 )
   where
     earlier : Before (i ∷ g.rec ∷ []) (j ∷ h.rec ∷ []) → ⊥
-    earlier l = b.2 i g.rec l (subst (λ (n : List ℕ). Asks segs i g.rec n) same a.1)
+    earlier l = b.2 i g.rec l (subst (λ n. Asks segs i g.rec n) same a.1)
 
     later : Before (j ∷ h.rec ∷ []) (i ∷ g.rec ∷ []) → ⊥
-    later l = a.2 j h.rec l (subst (λ (n : List ℕ). Asks segs j h.rec n) (sym same) b.1)
+    later l = a.2 j h.rec l (subst (λ n. Asks segs j h.rec n) (sym same) b.1)
 
     at : i ≡ j
     at = not_apart i j (λ l. earlier (inl l)) (λ l. later (inl l))
@@ -79,16 +79,14 @@ alike g h name file slot rec = cc
 same_reference : (segs : List Segment) (i j : ℕ) (g h : UnitReference) → IsGiver segs i g
     → IsGiver segs j h → g.name ≡ h.name → g ≡ h
 unfolding reference
-same_reference segs i j g h a b same =
-    alike g h same (a.0.2 ∙ ap (λ (s : Segment). s.file) segment ∙ sym b.0.2)
-    (a.0.3 ∙ ap (λ (s : Segment). s.slot) segment ∙ sym b.0.3) place.1
+same_reference segs i j g h a b same = alike g h same (a.0.2 ∙ ap (λ (s : Segment). s.file)
+    segment ∙ sym b.0.2) (a.0.3 ∙ ap (λ (s : Segment). s.slot) segment ∙ sym b.0.3) place.1
   where
     place : (i ≡ j) × (g.rec ≡ h.rec)
     place = same_place segs i j g h a b same
 
     segment : a.0.0 ≡ b.0.0
-    segment = same_Some a.0.0 b.0.0 (sym a.0.1 ∙ ap (λ (n : ℕ). slice_get segs n) place.0
-        ∙ b.0.1)
+    segment = same_Some a.0.0 b.0.0 (sym a.0.1 ∙ ap (λ n. slice_get segs n) place.0 ∙ b.0.1)
 
 -- 3. the queue
 before_at : {a b c d p q r s : ℕ} → a ≡ p → b ≡ q → c ≡ r → d ≡ s
@@ -131,9 +129,8 @@ module _ (order : Order) (host : List ℕ) (libs : List (List ℕ))
         giver = (B.requested k y first).0.2
 
         back : IsGiver (Own ++ segs) j y
-        back = giver_moves (Own ++ others) (Own ++ segs) (length Own + k) j y
-            (λ n l. sym (agree_behind Own segs others k same_segs n l))
-            (B.requested k y first).0.1 giver
+        back = giver_moves (Own ++ others) (Own ++ segs) (length Own + k) j y (λ n l. sym
+            (agree_behind Own segs others k same_segs n l)) (B.requested k y first).0.1 giver
 
         crossed : (m : ℕ) (z : UnitReference) → k < m → slice_get queue m ≡ Some z
             → z.name ≡ y.name → ⊥
@@ -166,16 +163,15 @@ module _ (order : Order) (host : List ℕ) (libs : List (List ℕ))
     found : (x : ℕ) (h : UnitReference) → slice_get other x ≡ Some h → h.name ≡ g.name
         → slice_get other k ≡ Some g
     found x h is name =
-        let at_k = not_apart x k (λ l. let a = A.once x k h g (same_queue x l ∙ is) at name in
-        omega (arith, a, l)) (λ l. behind l (slice_get other k) refl) in
+        let at_k = not_apart x k (λ l. let a = A.once x k h g (same_queue x l
+        ∙ is) at name in omega (arith, a, l)) (λ l. behind l (slice_get other k) refl) in
         let first : slice_get other k ≡ Some h =
         ap (λ (o : ℕ). slice_get other o) (sym at_k) ∙ is in
-        first ∙ ap (λ (r : UnitReference). Some r)
-        (same_reference (Own ++ others) (B.requested k h first).0.0 i h g
-        (B.requested k h first).0.2 there name)
+        first ∙ ap (λ (r : UnitReference). Some r) (same_reference
+        (Own ++ others) (B.requested k h first).0.0 i h g (B.requested k h first).0.2 there name)
       where
         behind : k < x → (o : Option UnitReference) → slice_get other k ≡ o → ⊥
-        behind u None e = some_before other k x h (omega (arith, u)) is e
+        behind u None e = grind (arith, some_before)
         behind u (Some y) e = no_other x h u is name y e
 
     pub same_name : slice_get other k ≡ Some g
@@ -208,16 +204,14 @@ segment slot name role added file index code records =
 
 made_alike : (s t : Segment) → s.slot ≡ t.slot → s.name ≡ t.name → s.role ≡ t.role
     → s.added ≡ t.added → s.file ≡ t.file → s.index ≡ t.index → s.code ≡ t.code
-    → s.records ≡ t.records
-    → segment s.slot s.name s.role s.added s.file s.index s.code s.records
-    ≡ segment t.slot t.name t.role t.added t.file t.index t.code t.records
+    → s.records ≡ t.records → segment s.slot s.name s.role s.added s.file s.index
+    s.code s.records ≡ segment t.slot t.name t.role t.added t.file t.index t.code t.records
 made_alike s t slot name role added file index code records = cc
 
 -- of one name and slot there is one segment from the first library that has the name
 pub same_segment : (order : Order) (libs : List (List ℕ)) (s t : Segment) → s.slot ≡ t.slot
-    → s.name ≡ t.name → s.role ≡ t.role → s.added ≡ t.added
-    → IsOfFirstLibrary order libs s → IsOfFirstLibrary order libs t
-    → HasOneEntry order libs s.name → s ≡ t
+    → s.name ≡ t.name → s.role ≡ t.role → s.added ≡ t.added → IsOfFirstLibrary
+    order libs s → IsOfFirstLibrary order libs t → HasOneEntry order libs s.name → s ≡ t
 unfolding segment
 same_segment order libs s t slot name role added f u only =
     made_alike s t slot name role added file index code records
@@ -225,23 +219,23 @@ same_segment order libs s t slot name role added f u only =
     number : f.0 ≡ u.0
     number =
         not_apart f.0 u.0 (λ l. u.3.0 f.0 f.1 l f.2
-        (s.index, f.3.2, subst (λ (n : List ℕ). IsNamed order n f.1 s.index) name f.3.3))
+        (s.index, f.3.2, subst (λ n. IsNamed order n f.1 s.index) name f.3.3))
         (λ l. f.3.0 u.0 u.1 l u.2 (
           t.index,
           u.3.2,
-          subst (λ (n : List ℕ). IsNamed order n u.1 t.index) (sym name) u.3.3,
+          subst (λ n. IsNamed order n u.1 t.index) (sym name) u.3.3,
         ))
 
     library : f.1 ≡ u.1
-    library = same_Some f.1 u.1 (sym f.2 ∙ ap (λ (n : ℕ). slice_get libs n) number ∙ u.2)
+    library = same_Some f.1 u.1 (sym f.2 ∙ ap (λ n. slice_get libs n) number ∙ u.2)
 
     file : s.file ≡ t.file
-    file = f.3.1 ∙ ap (λ (n : ℕ). n + 1) number ∙ sym u.3.1
+    file = f.3.1 ∙ ap (λ n. n + 1) number ∙ sym u.3.1
 
     index : s.index ≡ t.index
     index = only f.0 f.1 f.2 f.3.0 s.index t.index f.3.2 u.3.2 f.3.3
-        (subst (λ (l : List ℕ). IsNamed order s.name l t.index) (sym library)
-        (subst (λ (n : List ℕ). IsNamed order n u.1 t.index) (sym name) u.3.3))
+        (subst (λ l. IsNamed order s.name l t.index) (sym library)
+        (subst (λ n. IsNamed order n u.1 t.index) (sym name) u.3.3))
 
     code : s.code ≡ t.code
     code = let a = f.3.4 in let b = u.3.4 in cc (library, index)

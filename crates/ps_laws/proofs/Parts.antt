@@ -2,10 +2,8 @@
 use Rattle.std.proofs.Common.{◌≡◌, ℕ, List, length, Some, Ok, Err, Bool, ap, sym, subst}
 use Rattle.std.proofs.Common.{◌∙◌, inl, inr, arith}
 use Rattle.ps_laws.proofs.Words.{UnitReference, in_slot, in_record, Order, Fault, Reason, role_of}
-use Rattle.ps_laws.proofs.Words.{code_of, entry_at, EntryFault, CodeFault, InRound, Step}
-use Rattle.ps_laws.proofs.Words.{OfSlots, OfSources, OfAdded}
-use Rattle.ps_laws.proofs.Words.{Entry, Role, is_host}
-use Rattle.ps_laws.proofs.Words.{file_at}
+use Rattle.ps_laws.proofs.Words.{code_of, entry_at, EntryFault, CodeFault, InRound, Step, OfSlots}
+use Rattle.ps_laws.proofs.Words.{OfSources, OfAdded, Entry, Role, is_host, file_at}
 use Rattle.ps_codefile.specs.declared.entry.Role.TheVariants as role
 use Rattle.ps_words.specs.declared.fault.Reason.TheVariants as reason
 use Rattle.ps_resolve.specs.Standing.Slots.{SlotHas}
@@ -15,21 +13,20 @@ use Rattle.ps_resolve.specs.Standing.{StandsIn}
 use Rattle.ps_resolve.specs.Parts.{HasItsParts, WantsMissing}
 use Rattle.ps_linkinfo.specs.Records.{bad}
 
--- the reasons for which a slot has no role, an entry no code, and a record is refused
-pub role_reason : (P : Reason → Type 0) → P reason.SegmentProcedure → P reason.NativeSegment
-    → P reason.Intrinsic → P reason.UnknownKind → (e : Entry) (why : Reason)
-    → role_of e ≡ Err why → P why
-role_reason P a b c d e why h = grind arith
+module _ (P : Reason → Type 0) where
+  -- the reasons for which a slot has no role, an entry no code, and a record is refused
+  pub role_reason : P reason.SegmentProcedure → P reason.NativeSegment → P reason.Intrinsic
+      → P reason.UnknownKind → (e : Entry) (why : Reason) → role_of e ≡ Err why → P why
+  role_reason a b c d e why h = grind arith
 
-pub code_reason : (P : Reason → Type 0) → P reason.BadLength → P reason.BadAddress
-    → P reason.Truncated → (file : List ℕ) (e : Entry) (why : Reason)
-    → code_of file e ≡ Err why → P why
-code_reason P a b c file e why h = grind arith
+  pub code_reason : P reason.BadLength → P reason.BadAddress → P reason.Truncated
+      → (file : List ℕ) (e : Entry) (why : Reason) → code_of file e ≡ Err why → P why
+  code_reason a b c file e why h = grind arith
 
-pub record_reason : (P : Reason → Type 0) → P reason.RecordsTruncated → P reason.UnknownRecord
-    → P reason.NativeRecord → P reason.SeparateRecord → P reason.BadFormat
-    → (order : Order) (bytes : List ℕ) (why : Reason) → bad order bytes ≡ Some why → P why
-record_reason P a b c d e order bytes why h = grind arith
+  pub record_reason : P reason.RecordsTruncated → P reason.UnknownRecord → P reason.NativeRecord
+      → P reason.SeparateRecord → P reason.BadFormat → (order : Order)
+      (bytes : List ℕ) (why : Reason) → bad order bytes ≡ Some why → P why
+  record_reason a b c d e order bytes why h = grind arith
 
 -- the slot of a record that requests a unit does not want one that no library has
 module _ (order : Order) (host : List ℕ) (libs : List (List ℕ))

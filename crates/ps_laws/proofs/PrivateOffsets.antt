@@ -1,7 +1,7 @@
 -- The offset of a private is the base offset of the host's end mark, and the words of all segments
 -- before and of the records before its own.
-use Rattle.std.proofs.Common.{◌≡◌, ℕ, ◌+◌, ◌<◌, ◌≤◌, List, [], ◌∷◌}
-use Rattle.std.proofs.Common.{◌++◌, take, map, refl, ap, arith}
+use Rattle.std.proofs.Common.{rules, ◌≡◌, ℕ, ◌+◌, ◌<◌, ◌≤◌, List, []}
+use Rattle.std.proofs.Common.{◌∷◌, ◌++◌, take, map, refl, ap, arith}
 use Rattle.ps_laws.proofs.Words.{flat_map, flat_map-append, Record, Segment, host_records}
 use Rattle.ps_laws.proofs.Words.{private_words, owner_of, all_words, total_words, next_of}
 use Rattle.ps_laws.proofs.Words.{private_offset, words_taken}
@@ -30,8 +30,7 @@ below_from from slot [] h b = tt
 below_from from slot (q ∷ prefix) h b =
     ((let x = b.0 in omega (arith, x, h)), below_from from slot prefix h b.1)
 
-pub words_split : (prefix rest : List Segment)
-    → all_words (map owner_of (prefix ++ rest))
+pub words_split : (prefix rest : List Segment) → all_words (map owner_of (prefix ++ rest))
     ≡ all_words (map owner_of prefix) + all_words (map owner_of rest)
 words_split [] rest = omega arith
 words_split (s ∷ prefix) rest = let e = words_split prefix rest in omega (arith, e)
@@ -43,20 +42,16 @@ words rs = sum_by (λ (r : Record). words_taken r.body) rs
 -- the words of records, one by one, are their private words
 words_are : (rs : List Record) → words rs ≡ private_words rs
 words_are [] = refl
-words_are (r ∷ rs) =
-    let a = sum_by-cons (λ (q : Record). words_taken q.body) r rs in
-    let b = words_are rs in
-    let c = words_before r rs in
-    omega (arith, a, b, c)
+words_are (r ∷ rs) = search (rules, arith, sum_by-cons, words_before, words_are rs)
 
--- which records of a segment are before one of a slot
-of_lesser : (slot rec : ℕ) (s : Segment) → s.slot < slot
-    → records_before slot rec s ≡ s.records
-of_lesser slot rec s h = rw (lt-ltb s.slot slot h) refl
+module _ (slot rec : ℕ) (s : Segment) where
+  -- which records of a segment are before one of a slot
+  of_lesser : s.slot < slot → records_before slot rec s ≡ s.records
+  of_lesser h = rw (lt-ltb s.slot slot h) refl
 
--- of a greater slot no record is before
-of_greater : (slot rec : ℕ) (s : Segment) → slot < s.slot → records_before slot rec s ≡ []
-of_greater slot rec s h = grind arith
+  -- of a greater slot no record is before
+  of_greater : slot < s.slot → records_before slot rec s ≡ []
+  of_greater h = grind arith
 
 -- of the slot itself as many records are before as the record's number says
 of_same : (rec : ℕ) (s : Segment) → records_before s.slot rec s ≡ take rec s.records
@@ -65,46 +60,35 @@ of_same rec s = grind arith
 abbrev before : ℕ → ℕ → List Segment → ℕ
 before slot rec ss = words (flat_map (records_before slot rec) ss)
 
-next_segment : (slot rec : ℕ) (s : Segment) (ss : List Segment)
-    → before slot rec (s ∷ ss) ≡ words (records_before slot rec s) + before slot rec ss
-next_segment slot rec s ss = sum_by-append (λ (r : Record). words_taken r.body)
-    (records_before slot rec s) (flat_map (records_before slot rec) ss)
+module _ (slot rec : ℕ) where
+  next_segment : (s : Segment) (ss : List Segment)
+      → before slot rec (s ∷ ss) ≡ words (records_before slot rec s) + before slot rec ss
+  next_segment s ss = sum_by-append (λ (r : Record). words_taken r.body)
+      (records_before slot rec s) (flat_map (records_before slot rec) ss)
 
--- of segments in smaller slots all words are before
-all_before : (slot rec : ℕ) (ss : List Segment) → AreBelow slot ss
-    → before slot rec ss ≡ all_words (map owner_of ss)
-all_before slot rec [] h = refl
-all_before slot rec (s ∷ ss) h =
-    let a = next_segment slot rec s ss in
-    let b = ap words (of_lesser slot rec s h.0) in
-    let c = words_are s.records in
-    let d = all_before slot rec ss h.1 in
-    omega (arith, a, b, c, d)
+  -- of segments in smaller slots all words are before
+  all_before : (ss : List Segment)
+      → AreBelow slot ss → before slot rec ss ≡ all_words (map owner_of ss)
+  all_before [] h = refl
+  all_before (s ∷ ss) h = grind (arith, next_segment, of_lesser, words_are, all_before ss h.1)
 
--- of segments in greater slots no words are before
-none_behind : (slot rec from : ℕ) (ss : List Segment) → slot < from → Ascends from ss
-    → before slot rec ss ≡ 0
-none_behind slot rec from [] h a = refl
-none_behind slot rec from (s ∷ ss) h a =
-    let low = a.0 in
-    let x = next_segment slot rec s ss in
-    let y = ap words (of_greater slot rec s (omega (arith, low, h))) in
-    let z = none_behind slot rec (s.slot + 1) ss (omega (arith, low, h)) a.1 in
-    let n : words [] ≡ 0 = refl in
-    omega (arith, x, y, z, n)
+  -- of segments in greater slots no words are before
+  none_behind : (from : ℕ) (ss : List Segment)
+      → slot < from → Ascends from ss → before slot rec ss ≡ 0
+  none_behind from [] h a = refl
+  none_behind from (s ∷ ss) h a =
+      grind (arith, next_segment, of_greater, none_behind (s.slot + 1) ss)
 
 -- the offset of a private is the base offset, the words of the segments before, and those of the
 -- records before its own
 offset_is : (prefix : List Segment) (s : Segment) (rest : List Segment) (rec : ℕ)
-    → AreBelow s.slot prefix → Ascends (s.slot + 1) rest
-    → private_offset (prefix ++ s ∷ rest) s.slot rec
-    ≡ next_of (host_records (prefix ++ s ∷ rest)) + all_words
-    (map owner_of prefix) + private_words (take rec s.records)
+    → AreBelow s.slot prefix → Ascends (s.slot + 1) rest → private_offset
+    (prefix ++ s ∷ rest) s.slot rec ≡ next_of (host_records (prefix ++ s ∷ rest))
+    + all_words (map owner_of prefix) + private_words (take rec s.records)
 offset_is prefix s rest rec below ascends =
     let e = ap words (flat_map-append (records_before s.slot rec) prefix (s ∷ rest)) in
-    let f = sum_by-append (λ (r : Record). words_taken r.body)
-    (flat_map (records_before s.slot rec) prefix)
-    (flat_map (records_before s.slot rec) (s ∷ rest)) in
+    let f = sum_by-append (λ (r : Record). words_taken r.body) (flat_map
+    (records_before s.slot rec) prefix) (flat_map (records_before s.slot rec) (s ∷ rest)) in
     let g = next_segment s.slot rec s rest in
     let a = all_before s.slot rec prefix below in
     let b = ap words (of_same rec s) in
@@ -115,17 +99,11 @@ offset_is prefix s rest rec below ascends =
 -- the offsets of a segment among all
 pub offset_in : (all prefix : List Segment) (s : Segment) (rest : List Segment) (from : ℕ)
     → all ≡ prefix ++ s ∷ rest → AreBelow from prefix → Ascends from (s ∷ rest)
-    → (rec : ℕ) → private_offset all s.slot rec
-    ≡ next_of (host_records all) + all_words (map owner_of prefix) + private_words
-    (take rec s.records)
+    → (rec : ℕ) → private_offset all s.slot rec ≡ next_of (host_records all)
+    + all_words (map owner_of prefix) + private_words (take rec s.records)
 offset_in all prefix s rest from is below ascends rec = grind (arith, offset_is, below_from)
 
 -- the words of all privates, segment by segment and record by record
 pub all_are : (ss : List Segment) → all_private_words ss ≡ total_words ss
 all_are [] = refl
-all_are (s ∷ ss) =
-    let a = sum_by-append (λ (r : Record). words_taken r.body) s.records
-    (flat_map (λ (q : Segment). q.records) ss) in
-    let b = words_are s.records in
-    let c = all_are ss in
-    omega (arith, a, b, c)
+all_are (s ∷ ss) = search (rules, arith, sum_by-append, words_are, all_are ss)

@@ -3,8 +3,7 @@ use Rattle.std.proofs.Common.{◌≡◌, ℕ, ◌+◌, ◌<◌, ◌≤◌, List,
 use Rattle.std.proofs.Common.{◌++◌, length, take, map, Option, Some, None, Result, Ok, Err}
 use Rattle.std.proofs.Common.{Bool, true, refl, sym, ap, subst, ◌∙◌, inl, inr, arith}
 use Rattle.std.proofs.Common.{append_assoc, append-nil, is_some, unwrap_or}
-use Rattle.ps_laws.proofs.Words.{◌≢◌, ◌⊎◌, if◌then◌else◌, ◌||◌, nat_le}
-use Rattle.ps_laws.proofs.Words.{nat_lt, Decides}
+use Rattle.ps_laws.proofs.Words.{◌≢◌, ◌⊎◌, ◌||◌, nat_le, nat_lt, Decides}
 use Rattle.ps_laws.proofs.Words.{range_with_len, enumerate_from, find, slice_get, list_any}
 use Rattle.ps_laws.proofs.Words.{flat_map, lookup, option_map, option_or, result_err, bytes_eq}
 use Rattle.ps_laws.proofs.Words.{false≢true, Decides-at, Decides-ltb, Decides-and, Decides-or}
@@ -22,8 +21,7 @@ use Rattle.ps_resolve.specs.Standing.References.{Defines, RecordHas, Covers, Mee
 use Rattle.ps_resolve.specs.Standing.References.{InReferences}
 use Rattle.ps_linkinfo.specs.declared.record.Body.TheVariants.{UnitRef, PublRef}
 use Rattle.ps_resolve.specs.Symbols.{definitions, definition_of}
-use Rattle.ps_resolve.specs.Operands.{width_of, value_of, is_in, reference_reason, operands}
-use Rattle.ps_resolve.specs.Operands.{refs_fault}
+use Rattle.ps_resolve.specs.Operands.{width_of, value_of, is_in, operands, refs_fault}
 use Rattle.ps_resolve.specs.References.{Known, public_base, unit_slot, records_fault}
 use Rattle.ps_resolve.specs.Faults.{in_segment, segment_fault, references_fault_from}
 use Rattle.ps_resolve.specs.Faults.{references_fault}
@@ -46,17 +44,17 @@ use Rattle.ps_words.specs.FaultPlaces.{in_reference}
 use Rattle.ps_words.specs.declared.fault.Reason.TheVariants as reason
 use Rattle.ps_words.specs.declared.words.TheConstants.{MAX_OPERAND}
 
--- tests of lists that are made of others
-any_map : {A C : Type 0} (test : C → Bool) (f : A → C) (xs : List A)
-    → list_any test (map f xs) ≡ list_any (λ x. test (f x)) xs
-any_map test f [] = refl
-any_map test f (x ∷ xs) = ap (λ (b : Bool). test (f x) || b) (any_map test f xs)
+module _ {A C : Type 0} (test : C → Bool) where
+  -- tests of lists that are made of others
+  any_map : (f : A → C) (xs : List A)
+      → list_any test (map f xs) ≡ list_any (λ x. test (f x)) xs
+  any_map f [] = refl
+  any_map f (x ∷ xs) = grind (arith, any_map f xs)
 
-any_flat : {A C : Type 0} (test : C → Bool) (f : A → List C) (xs : List A)
-    → list_any test (flat_map f xs) ≡ list_any (λ x. list_any test (f x)) xs
-any_flat test f [] = refl
-any_flat test f (x ∷ xs) = list_any-append test (f x) (flat_map f xs)
-    ∙ ap (λ (b : Bool). list_any test (f x) || b) (any_flat test f xs)
+  any_flat : (f : A → List C) (xs : List A)
+      → list_any test (flat_map f xs) ≡ list_any (λ x. list_any test (f x)) xs
+  any_flat f [] = refl
+  any_flat f (x ∷ xs) = grind (arith, list_any-append, any_flat f xs)
 
 map_or : {A C : Type 0} (f : A → C) (o p : Option A)
     → option_map f (option_or o p) ≡ option_or (option_map f o) (option_map f p)
@@ -68,19 +66,10 @@ map_map f g o = grind arith
 
 -- 1. the record's name
 -- what is looked up is what the first item of the key has
-lookup_found : {D : Type 0} (test : List ℕ → Bool) (ds : List (List ℕ × D))
-    → lookup test ds ≡ option_map (λ (e : List ℕ × D). e.1)
-    (find (λ (e : List ℕ × D). test e.0) ds)
+lookup_found : {D : Type 0} (test : List ℕ → Bool) (ds : List (List ℕ × D)) → lookup test
+    ds ≡ option_map (λ (e : List ℕ × D). e.1) (find (λ (e : List ℕ × D). test e.0) ds)
 lookup_found test [] = refl
-lookup_found {D} test (d ∷ ds) = go (test d.0) (lookup_found test ds)
-  where
-    found : Option (List ℕ × D)
-    found = find (λ (e : List ℕ × D). test e.0) ds
-
-    go : (b : Bool) → lookup test ds ≡ option_map (λ (e : List ℕ × D). e.1) found
-        → (if b then Some d.1 else lookup test ds)
-        ≡ option_map (λ (e : List ℕ × D). e.1) (if b then Some d else found)
-    go b h = grind arith
+lookup_found {D} test (d ∷ ds) = grind (arith, lookup_found test ds)
 
 is_name : {D : Type 0} (name : List ℕ) (e : List ℕ × D)
     → Decides (bytes_eq name e.0) (e.0 ≡ name)
@@ -89,9 +78,8 @@ is_name name e = Decides-like (bytes_eq name e.0) (λ h. sym h) (λ h. sym h)
 
 named_none : {D : Type 0} (name : List ℕ) (ds : List (List ℕ × D))
     → lookup (bytes_eq name) ds ≡ None → SomeItem ds (λ k e. e.0 ≡ name) → ⊥
-named_none {D} name ds e =
-    find_none (λ (d : List ℕ × D). bytes_eq name d.0) (λ d. d.0 ≡ name) (is_name name) ds
-    (none_mapped _ _ (sym (lookup_found (bytes_eq name) ds) ∙ e))
+named_none {D} name ds e = find_none (λ (d : List ℕ × D). bytes_eq name d.0) (λ d. d.0
+    ≡ name) (is_name name) ds (none_mapped _ _ (sym (lookup_found (bytes_eq name) ds) ∙ e))
 
 abbrev Earliest : {D : Type 0} → List (List ℕ × D) → List ℕ → ℕ → Type 0
 Earliest {D} ds name k = (lesser : ℕ) (other : List ℕ × D) → lesser < k
@@ -102,11 +90,10 @@ named_some : {D : Type 0} (name : List ℕ) (ds : List (List ℕ × D)) (d : D)
     → lookup (bytes_eq name) ds ≡ Some d
     → SomeItem ds (λ k e. ((e.0 ≡ name) × (e.1 ≡ d)) × Earliest ds name k)
 named_some {D} name ds d e =
-    let f = some_mapped (λ (x : List ℕ × D). x.1)
-    (find (λ (x : List ℕ × D). bytes_eq name x.0) ds) d
-    (sym (lookup_found (bytes_eq name) ds) ∙ e) in
-    let t = find_some (λ (x : List ℕ × D). bytes_eq name x.0) (λ x. x.0 ≡ name)
-    (is_name name) ds f.0 f.1 in
+    let f = some_mapped (λ (x : List ℕ × D). x.1) (find (λ
+    (x : List ℕ × D). bytes_eq name x.0) ds) d (sym (lookup_found (bytes_eq name) ds) ∙ e) in
+    let t = find_some
+    (λ (x : List ℕ × D). bytes_eq name x.0) (λ x. x.0 ≡ name) (is_name name) ds f.0 f.1 in
     (t.0, t.1, t.2, ((t.3.1, ap (λ (x : List ℕ × D). x.1) t.3.0 ∙ sym f.2), t.3.2))
 
 -- a name has no two first definitions
@@ -140,20 +127,13 @@ record_rows segs off name (PublRef refs) there = go (definition_of name ds) refl
 
     go : (o : Option Def) → definition_of name ds ≡ o
         → Least Ranked (RecordHas segs name (PublRef refs)) (result_err (public_base o))
-    go None e = this reason.MissingDefinition (named_none name ds e) least
-      where
-        least : (y : Reason) → RecordHas segs name (PublRef refs) y
-            → (y ≡ reason.MissingDefinition) ⊎ Ranked reason.MissingDefinition y
-        least reason.MissingDefinition h = inl refl
-        least reason.IllKind h = inr (omega arith)
-        least other h = absurd h
+    go None e = grind (arith, this, named_none)
     go (Some d) e = at d.kind refl
       where
         found : Defines ds name d
         found = named_some name ds d e
 
-        at : (k : DefKind) → d.kind ≡ k
-            → Least Ranked (RecordHas segs name (PublRef refs))
+        at : (k : DefKind) → d.kind ≡ k → Least Ranked (RecordHas segs name (PublRef refs))
             (result_err (elim k [ Public ↦ Ok (Base d.value) | Constant ↦ Err reason.IllKind ]))
         at Constant is = this reason.IllKind (d, found, is) least
           where
@@ -200,26 +180,21 @@ SameRecordCovers body i p =
 taken_covers : (records : List Record) (rec i : ℕ) (body : Body) (p : ℕ)
     → Decides (list_any (is_in p) (before records rec ++ own body i))
     (BeforeCovers records rec p ⊎ SameRecordCovers body i p)
-taken_covers records rec i body p =
-    Decides-at (list_any (is_in p) (before records rec ++ own body i))
-    (list_any (is_in p) (before records rec) || list_any (is_in p) (own body i))
-    (list_any-append (is_in p) (before records rec) (own body i))
-    (Decides-or (list_any (is_in p) (before records rec)) (list_any (is_in p) (own body i))
-    (Decides-at (list_any (is_in p) (before records rec))
-    (list_any (λ q. list_any (is_in p) (operands_of q)) (take rec records))
-    (any_flat (is_in p) operands_of (take rec records))
-    (any_of_take (λ q. list_any (is_in p) (operands_of q))
-    (λ q. SomeItem (refs_of q.body) (λ j y. Covers q.body y p))
-    (λ q. Decides-at (list_any (is_in p) (operands_of q))
-    (list_any (λ y. is_in p (y, operand_width q.body)) (refs_of q.body))
-    (any_map (is_in p) (λ (y : ℕ). (y, operand_width q.body)) (refs_of q.body))
+taken_covers records rec i body p = Decides-at (list_any (is_in p) (before records rec
+    ++ own body i)) (list_any (is_in p) (before records rec) || list_any (is_in p) (own body i))
+    (list_any-append (is_in p) (before records rec) (own body i)) (Decides-or (list_any (is_in p)
+    (before records rec)) (list_any (is_in p) (own body i)) (Decides-at (list_any (is_in p)
+    (before records rec)) (list_any (λ q. list_any (is_in p) (operands_of q)) (take rec records))
+    (any_flat (is_in p) operands_of (take rec records)) (any_of_take (λ q. list_any (is_in p)
+    (operands_of q)) (λ q. SomeItem (refs_of q.body) (λ j y. Covers q.body y p)) (λ q. Decides-at
+    (list_any (is_in p) (operands_of q)) (list_any (λ y. is_in p (y, operand_width q.body))
+    (refs_of q.body)) (any_map (is_in p) (λ (y : ℕ). (y, operand_width q.body)) (refs_of q.body))
     (any_of_items (λ y. is_in p (y, operand_width q.body)) (λ y. Covers q.body y p)
     (λ y. in_operand p y (operand_width q.body)) (refs_of q.body))) rec records))
-    (Decides-at (list_any (is_in p) (own body i))
-    (list_any (λ y. is_in p (y, operand_width body)) (take i (refs_of body)))
-    (any_map (is_in p) (λ (y : ℕ). (y, operand_width body)) (take i (refs_of body)))
-    (any_of_take (λ y. is_in p (y, operand_width body)) (λ y. Covers body y p)
-    (λ y. in_operand p y (operand_width body)) i (refs_of body))))
+    (Decides-at (list_any (is_in p) (own body i)) (list_any (λ y. is_in p (y, operand_width body))
+    (take i (refs_of body))) (any_map (is_in p) (λ (y : ℕ). (y, operand_width body))
+    (take i (refs_of body))) (any_of_take (λ y. is_in p (y, operand_width body))
+    (λ y. Covers body y p) (λ y. in_operand p y (operand_width body)) i (refs_of body))))
 
 abbrev overlaps : List Record → ℕ → ℕ → Body → ℕ → Bool
 overlaps records rec i body x = list_any
@@ -233,19 +208,16 @@ Overlaps records rec i r x = SomeItem records
 
 -- the test of an operand for an overlap says whether it meets that of an earlier reference of the
 -- segment
-overlapping : (records : List Record) (rec i : ℕ) (r : Record) (x : ℕ)
-    → slice_get records rec ≡ Some r
-    → Decides (overlaps records rec i r.body x) (Overlaps records rec i r x)
-overlapping records rec i r x er =
-    Decides-like (overlaps records rec i r.body x) (λ t. to t.0 t.1 t.2 t.3)
-    (λ t. from t.0 t.1 t.2 t.3.0 t.3.1 t.3.2 t.3.3.0 t.3.3.1.0 t.3.3.1.1 t.3.3.1.2)
-    (any_of_range (λ p. list_any (is_in p) (before records rec ++ own r.body i))
+overlapping : (records : List Record) (rec i : ℕ) (r : Record) (x : ℕ) → slice_get records rec
+    ≡ Some r → Decides (overlaps records rec i r.body x) (Overlaps records rec i r x)
+overlapping records rec i r x er = Decides-like (overlaps records rec i r.body x)
+    (λ t. to t.0 t.1 t.2 t.3) (λ t. from t.0 t.1 t.2 t.3.0 t.3.1 t.3.2 t.3.3.0 t.3.3.1.0 t.3.3.1.1
+    t.3.3.1.2) (any_of_range (λ p. list_any (is_in p) (before records rec ++ own r.body i))
     (λ p. BeforeCovers records rec p ⊎ SameRecordCovers r.body i p)
     (λ p. taken_covers records rec i r.body p) x (operand_width r.body))
   where
-    to : (p : ℕ) → x ≤ p → p < x + operand_width r.body
-        → BeforeCovers records rec p ⊎ SameRecordCovers r.body i p
-        → Overlaps records rec i r x
+    to : (p : ℕ) → x ≤ p → p < x + operand_width r.body → BeforeCovers records rec p
+        ⊎ SameRecordCovers r.body i p → Overlaps records rec i r x
     to p low high (inl t) =
         (t.0, t.2.0, t.2.1, (t.2.2.0, t.2.2.1, t.2.2.2, (inl t.1, (p, (low, high), t.2.2.3))))
     to p low high (inr t) =
@@ -253,9 +225,8 @@ overlapping records rec i r x er =
 
     from : (o : ℕ) (q : Record) → slice_get records o ≡ Some q → (j y : ℕ)
         → slice_get (refs_of q.body) j ≡ Some y → Before (o ∷ j ∷ []) (rec ∷ i ∷ [])
-        → (p : ℕ) → Covers r.body x p → Covers q.body y p
-        → (p : ℕ) × (x ≤ p) × (p < x + operand_width r.body)
-        × (BeforeCovers records rec p ⊎ SameRecordCovers r.body i p)
+        → (p : ℕ) → Covers r.body x p → Covers q.body y p → (p : ℕ) × (x ≤ p) × (p
+        < x + operand_width r.body) × (BeforeCovers records rec p ⊎ SameRecordCovers r.body i p)
     from o q a j y g (inl h) p cx cy = (p, cx.0, cx.1, inl (o, h, (q, a, (j, y, g, cy))))
     from o q a j y g (inr t) p cx cy =
         let same : q ≡ r = (let d = t.0 in cc) in
@@ -306,14 +277,7 @@ value_by code x (Ok t) = value_of code t x
 too_large_by : (code : List ℕ) (x : ℕ) (o : Result Target Reason)
     → Decides (nat_lt MAX_OPERAND (value_by code x o))
     ((t : Target) × (o ≡ Ok t) × (MAX_OPERAND < value_of code t x))
-too_large_by code x (Err why) =
-    Decides-like (nat_lt MAX_OPERAND 0) (λ h. absurd (omega (arith, h)))
-    (λ u. let no = u.1 in absurd (cc)) (Decides-ltb MAX_OPERAND 0)
-too_large_by code x (Ok t) =
-    Decides-like (nat_lt MAX_OPERAND (value_of code t x)) (λ h. (t, refl, h))
-    (λ u. let is : t ≡ u.0 = let same = u.1 in cc in
-    subst (λ (q : Target). MAX_OPERAND < value_of code q x) (sym is) u.2)
-    (Decides-ltb MAX_OPERAND (value_of code t x))
+too_large_by code x o = grind arith
 
 -- what the operand at x of a record becomes
 abbrev operand_value : List Segment → Segment → ℕ → List ℕ → Body → ℕ → ℕ
@@ -362,17 +326,12 @@ reference_rows order segs s rec r i x er ex =
 
     Parts : Reason → Type 0
     Parts y = ((y ≡ reason.OutsideCode) × Has reason.OutsideCode)
-        ⊎ (((y ≡ reason.ReservedPlace) × Has reason.ReservedPlace)
-        ⊎ (((y ≡ reason.Overlap) × Has reason.Overlap)
-        ⊎ ((y ≡ reason.OperandTooLarge) × Has reason.OperandTooLarge)))
+        ⊎ (((y ≡ reason.ReservedPlace) × Has reason.ReservedPlace) ⊎ (((y ≡ reason.Overlap)
+        × Has reason.Overlap) ⊎ ((y ≡ reason.OperandTooLarge) × Has reason.OperandTooLarge)))
 
     reserved : Decides (list_any (is_reserved order s.code)
         (range_with_len x (operand_width r.body))) (Has reason.ReservedPlace)
-    reserved = Decides-like (list_any (is_reserved order s.code)
-        (range_with_len x (operand_width r.body))) (λ t. (t.0, (t.1, t.2), t.3))
-        (λ t. (t.0, t.1.0, t.1.1, t.2))
-        (any_of_range (is_reserved order s.code) (λ p. is_reserved order s.code p ≡ true)
-        (λ p. of_test (is_reserved order s.code p)) x (operand_width r.body))
+    reserved = grind (arith, any_of_range, of_test)
 
     to : (y : Reason) → Parts y → Has y
     to y h = grind arith
@@ -407,77 +366,32 @@ record_fault order segs s r =
     (result_err (target_of (known_of segs) (private_offset segs s.slot r.0) r.1)))
     (first_of (references_of order segs s r.0 r.1) (enumerate_from 0 (refs_of r.1.body)))
 
--- the first fault of a record and its references is the smallest that applies, where a unit it
--- requests is there
-of_record : (order : Order) (segs : List Segment) (s : Segment) (rec : ℕ) (r : Record)
-    → slice_get s.records rec ≡ Some r → UnitIsThere segs r.name r.body
-    → Least (Precedes OfReferences) (RecordFaults order segs s rec r)
-    (record_fault order segs s (rec, r))
-of_record order segs s rec r er there =
-    least_or
-    (because OfReferences (in_record s.file s.slot rec)
-    (λ a b h. inr (refl, inr (refl, inr (refl, inr (refl, inl h)))))
-    (record_rows segs (private_offset segs s.slot rec) r.name r.body there))
-    (least_items (references_of order segs s rec r) (refs_of r.body)
-    (λ i x ex. because OfReferences (in_reference s.file s.slot rec i)
-    (λ a b h. inr (refl, inr (refl, inr (refl, inr (refl, inl h)))))
-    (reference_rows order segs s rec r i x er ex))
-    (λ i j a b x y h. because_apart OfReferences (in_reference s.file s.slot rec i)
-    (in_reference s.file s.slot rec j)
-    (λ q p. inr (refl, inr (refl, inr (refl, inl (omega (arith, h)))))) x y))
-    (λ x y a t. because_apart OfReferences (in_record s.file s.slot rec)
-    (in_reference s.file s.slot rec t.0)
-    (λ q p. inr (refl, inr (refl, inr (refl, inl (omega arith))))) x y a t.3)
+module _ (order : Order) (segs : List Segment) (s : Segment) (rec : ℕ) (r : Record) where
+  -- the first fault of a record and its references is the smallest that applies, where a unit it
+  -- requests is there
+  of_record : slice_get s.records rec ≡ Some r → UnitIsThere segs r.name r.body → Least
+      (Precedes OfReferences) (RecordFaults order segs s rec r) (record_fault order segs s (rec, r))
+  of_record er there = least_or (because OfReferences (in_record s.file s.slot rec) (λ
+      a b h. grind arith) (record_rows segs (private_offset segs s.slot rec) r.name r.body there))
+      (least_items (references_of order segs s rec r) (refs_of r.body)
+      (λ i x ex. because OfReferences (in_reference s.file s.slot rec i) (λ a b h. grind arith)
+      (reference_rows order segs s rec r i x er ex)) (λ i j a b x y h. because_apart OfReferences
+      (in_reference s.file s.slot rec i) (in_reference s.file s.slot rec j) (λ q p. grind arith)
+      x y)) (λ x y a t. because_apart OfReferences (in_record s.file s.slot rec)
+      (in_reference s.file s.slot rec t.0) (λ q p. grind arith) x y a t.3)
 
--- 3. the search that carries the operands and the offset so far is the one that looks back
-refs_carried : (order : Order) (segs : List Segment) (s : Segment) (rec : ℕ) (r : Record)
-    (t : Target) → width_of t ≡ operand_width r.body
-    → ((x : ℕ) → value_of s.code t x ≡ operand_value segs s rec r.name r.body x)
-    → (done xs : List ℕ) (i : ℕ) → refs_of r.body ≡ done ++ xs → i ≡ length done
-    → option_map (λ (f : ℕ × Reason). in_reference s.file s.slot rec f.0 f.1)
-    (refs_fault (is_reserved order s.code) s.code t i
-    (before s.records rec ++ map (λ (y : ℕ). (y, operand_width r.body)) done) xs)
-    ≡ first_of (references_of order segs s rec r) (enumerate_from i xs)
-refs_carried order segs s rec r t w v done [] i is at = refl
-refs_carried order segs s rec r t w v done (x ∷ xs) i is at =
-    map_or h (option_map (λ (why : Reason). (i, why)) (reference_reason R s.code taken t x))
-    (refs_fault R s.code t (i + 1) (taken ++ (x, width_of t) ∷ []) xs)
-    ∙ (ap (λ (o : Option Fault). option_or o
-    (option_map h (refs_fault R s.code t (i + 1) (taken ++ (x, width_of t) ∷ []) xs)))
-    (map_map h (λ (why : Reason). (i, why)) (reference_reason R s.code taken t x)
-    ∙ ap (option_map (in_reference s.file s.slot rec i)) same)
-    ∙ ap (option_or (references_of order segs s rec r (i, x)))
-    (ap (λ (os : List (ℕ × ℕ)). option_map h (refs_fault R s.code t (i + 1) os xs)) more
-    ∙ refs_carried order segs s rec r t w v (done ++ x ∷ []) xs (i + 1)
-    (is ∙ sym (append_assoc done (x ∷ []) xs))
-    (let l = longer done x in omega (arith, l, at))))
-  where
-    h : ℕ × Reason → Fault
-    h f = in_reference s.file s.slot rec f.0 f.1
-
-    R : ℕ → Bool
-    R = is_reserved order s.code
-
-    operand : ℕ → ℕ × ℕ
-    operand y = (y, operand_width r.body)
-
-    taken : List (ℕ × ℕ)
-    taken = before s.records rec ++ map operand done
-
-    done_is : take i (refs_of r.body) ≡ done
-    done_is = ap (λ (ys : List ℕ). take i ys) is
-        ∙ (ap (λ (n : ℕ). take n (done ++ x ∷ xs)) at ∙ take_prefix done (x ∷ xs))
-
-    same : reference_reason R s.code taken t x ≡ reason_at order segs s rec r (i, x)
-    same =
-        ap (λ (n : ℕ). reason_with R s.code taken n (value_of s.code t x) x) w
-        ∙ (ap (λ (n : ℕ). reason_with R s.code taken (operand_width r.body) n x) (v x)
-        ∙ ap (λ (ys : List ℕ). reason_with R s.code (before s.records rec ++ map operand ys)
-        (operand_width r.body) (operand_value segs s rec r.name r.body x) x) (sym done_is))
-
-    more : taken ++ (x, width_of t) ∷ []
-        ≡ before s.records rec ++ map operand (done ++ x ∷ [])
-    more = grind (arith, append_assoc, map-append)
+  -- 3. the search that carries the operands and the offset so far is the one that looks back
+  refs_carried : (t : Target) → width_of t ≡ operand_width r.body
+      → ((x : ℕ) → value_of s.code t x ≡ operand_value segs s rec r.name r.body x)
+      → (done xs : List ℕ) (i : ℕ) → refs_of r.body ≡ done ++ xs → i ≡ length done
+      → option_map (λ (f : ℕ × Reason). in_reference s.file s.slot rec f.0 f.1)
+      (refs_fault (is_reserved order s.code) s.code t i
+      (before s.records rec ++ map (λ (y : ℕ). (y, operand_width r.body)) done) xs)
+      ≡ first_of (references_of order segs s rec r) (enumerate_from i xs)
+  refs_carried t w v done [] i is at = refl
+  refs_carried t w v done (x ∷ xs) i is at =
+      let later = refs_carried t w v (done ++ x ∷ []) xs (i + 1) in
+      grind (arith, map_or, map_map, append_assoc, longer, take_prefix, map-append, later)
 
 -- what a record's references become has its width and its value
 abbrev Fits : List Segment → Segment → ℕ → List ℕ → Body → Target → Type 0
@@ -493,15 +407,13 @@ fits segs s rec name body t h = grind arith
 
 -- the references of a record
 refs_of_record : (order : Order) (segs : List Segment) (s : Segment) (rec : ℕ) (r : Record)
-    (t : Target) (taken : List (ℕ × ℕ)) → taken ≡ before s.records rec
-    → Fits segs s rec r.name r.body t
-    → option_map (λ (f : ℕ × Reason). in_reference s.file s.slot rec f.0 f.1)
+    (t : Target) (taken : List (ℕ × ℕ)) → taken ≡ before s.records rec → Fits segs s rec
+    r.name r.body t → option_map (λ (f : ℕ × Reason). in_reference s.file s.slot rec f.0 f.1)
     (refs_fault (is_reserved order s.code) s.code t 0 taken (refs_of r.body))
     ≡ first_of (references_of order segs s rec r) (enumerate_from 0 (refs_of r.body))
 refs_of_record order segs s rec r t taken is (inl none) = grind arith
 refs_of_record order segs s rec r t taken is (inr fit) =
-    ap (λ (os : List (ℕ × ℕ)). option_map
-    (λ (f : ℕ × Reason). in_reference s.file s.slot rec f.0 f.1)
+    ap (λ os. option_map (λ (f : ℕ × Reason). in_reference s.file s.slot rec f.0 f.1)
     (refs_fault (is_reserved order s.code) s.code t 0 os (refs_of r.body)))
     (is ∙ sym (append-nil (before s.records rec)))
     ∙ refs_carried order segs s rec r t fit.0 fit.1 [] (refs_of r.body) 0 refl refl
@@ -515,16 +427,13 @@ operands_are segs s rec r t h = grind arith
 carried : (order : Order) (segs : List Segment) (s : Segment) (base : ℕ)
     → ((n : ℕ) → private_offset segs s.slot n ≡ base + private_words (take n s.records))
     → (prefix rs : List Record) (rec : ℕ) → s.records ≡ prefix ++ rs
-    → rec ≡ length prefix
-    → option_map (in_segment s.file s.slot)
-    (records_fault (known_of segs) (is_reserved order s.code) s.code rec
-    (private_offset segs s.slot rec) (flat_map operands_of prefix) rs)
-    ≡ first_of (record_fault order segs s) (enumerate_from rec rs)
+    → rec ≡ length prefix → option_map (in_segment s.file s.slot) (records_fault
+    (known_of segs) (is_reserved order s.code) s.code rec (private_offset segs s.slot rec) (flat_map
+    operands_of prefix) rs) ≡ first_of (record_fault order segs s) (enumerate_from rec rs)
 carried order segs s base offsets prefix [] rec is at = refl
-carried order segs s base offsets prefix (r ∷ rs) rec is at =
-    go (target_of known free r) refl (carried order segs s base offsets (prefix ++ r ∷ []) rs
-    (rec + 1) (is ∙ sym (append_assoc prefix (r ∷ []) rs))
-    (let l = longer prefix r in omega (arith, l, at)))
+carried order segs s base offsets prefix (r ∷ rs) rec is at = go (target_of known free r) refl
+    (carried order segs s base offsets (prefix ++ r ∷ []) rs (rec + 1) (is
+    ∙ sym (append_assoc prefix (r ∷ []) rs)) (let l = longer prefix r in omega (arith, l, at)))
   where
     known : Known
     known = known_of segs
@@ -539,16 +448,12 @@ carried order segs s base offsets prefix (r ∷ rs) rec is at =
     taken = flat_map operands_of prefix
 
     prefix_is : take rec s.records ≡ prefix
-    prefix_is = ap (λ (records : List Record). take rec records) is
-        ∙ (ap (λ (n : ℕ). take n (prefix ++ r ∷ rs)) at ∙ take_prefix prefix (r ∷ rs))
+    prefix_is = grind (arith, take_prefix)
 
     more_is : take (rec + 1) s.records ≡ prefix ++ r ∷ []
-    more_is =
-        ap (λ (records : List Record). take (rec + 1) records)
-        (is ∙ sym (append_assoc prefix (r ∷ []) rs))
-        ∙ (ap (λ (n : ℕ). take n ((prefix ++ r ∷ []) ++ rs))
-        (let l = longer prefix r in omega (arith, l, at))
-        ∙ take_prefix (prefix ++ r ∷ []) rs)
+    more_is = ap (λ records. take (rec + 1) records) (is ∙ sym (append_assoc prefix
+        (r ∷ []) rs)) ∙ (ap (λ n. take n ((prefix ++ r ∷ []) ++ rs)) (let l =
+        longer prefix r in omega (arith, l, at)) ∙ take_prefix (prefix ++ r ∷ []) rs)
 
     next_free : private_offset segs s.slot (rec + 1) ≡ free + words_taken r.body
     next_free =
@@ -560,14 +465,12 @@ carried order segs s base offsets prefix (r ∷ rs) rec is at =
         omega (arith, a, b, c, d, m)
 
     Later : Type 0
-    Later = option_map (in_segment s.file s.slot)
-        (records_fault known R s.code (rec + 1) (private_offset segs s.slot (rec + 1))
-        (flat_map operands_of (prefix ++ r ∷ [])) rs)
+    Later = option_map (in_segment s.file s.slot) (records_fault known R s.code (rec + 1)
+        (private_offset segs s.slot (rec + 1)) (flat_map operands_of (prefix ++ r ∷ [])) rs)
         ≡ first_of (record_fault order segs s) (enumerate_from (rec + 1) rs)
 
-    go : (o : Result Target Reason) → target_of known free r ≡ o → Later
-        → option_map (in_segment s.file s.slot)
-        (records_fault known R s.code rec free taken (r ∷ rs))
+    go : (o : Result Target Reason) → target_of known free r ≡ o → Later → option_map
+        (in_segment s.file s.slot) (records_fault known R s.code rec free taken (r ∷ rs))
         ≡ option_or (record_fault order segs s (rec, r))
         (first_of (record_fault order segs s) (enumerate_from (rec + 1) rs))
     go (Err why) e later = rw (e, records_fault) refl
@@ -575,83 +478,67 @@ carried order segs s base offsets prefix (r ∷ rs) rec is at =
         let fit = fits segs s rec r.name r.body t e in
         let refs = option_map (λ (f : ℕ × Reason). (rec, (Some f.0, f.1)))
         (refs_fault R s.code t 0 taken (refs_of r.body)) in
-        let rest = records_fault known R s.code (rec + 1) (free + words_taken r.body)
-        (taken ++ operands t (refs_of r.body)) rs in
-        let taken_is : flat_map operands_of (prefix ++ r ∷ [])
-        ≡ taken ++ operands t (refs_of r.body) =
-        flat_map-append operands_of prefix (r ∷ [])
-        ∙ ap (λ (os : List (ℕ × ℕ)). taken ++ os)
+        let rest = records_fault known R s.code
+        (rec + 1) (free + words_taken r.body) (taken ++ operands t (refs_of r.body)) rs in
+        let taken_is : flat_map operands_of (prefix ++ r ∷ []) ≡ taken ++ operands t
+        (refs_of r.body) = flat_map-append operands_of prefix (r ∷ []) ∙ ap (λ os. taken ++ os)
         (append-nil (operands_of r) ∙ sym (operands_are segs s rec r t fit)) in
         let mine : option_map (in_segment s.file s.slot) refs
         ≡ first_of (references_of order segs s rec r) (enumerate_from 0 (refs_of r.body)) =
         map_map (in_segment s.file s.slot) (λ (f : ℕ × Reason). (rec, (Some f.0, f.1)))
-        (refs_fault R s.code t 0 taken (refs_of r.body))
-        ∙ refs_of_record order segs s rec r t taken
-        (ap (λ (records : List Record). flat_map operands_of records) (sym prefix_is)) fit in
-        let behind : option_map (in_segment s.file s.slot) rest
-        ≡ first_of (record_fault order segs s) (enumerate_from (rec + 1) rs) =
-        ap (λ (n : ℕ). option_map (in_segment s.file s.slot)
+        (refs_fault R s.code t 0 taken (refs_of r.body)) ∙ refs_of_record order
+        segs s rec r t taken (ap (λ records. flat_map operands_of records) (sym prefix_is)) fit in
+        let behind : option_map (in_segment s.file s.slot) rest ≡ first_of (record_fault order
+        segs s) (enumerate_from (rec + 1) rs) = ap (λ n. option_map (in_segment s.file s.slot)
         (records_fault known R s.code (rec + 1) n (taken ++ operands t (refs_of r.body)) rs))
-        (sym next_free)
-        ∙ (ap (λ (os : List (ℕ × ℕ)). option_map (in_segment s.file s.slot)
-        (records_fault known R s.code (rec + 1) (private_offset segs s.slot (rec + 1)) os rs))
-        (sym taken_is) ∙ later) in
-        rw (e, records_fault)
-        (map_or (in_segment s.file s.slot) refs rest
-        ∙ (ap (λ (o : Option Fault). option_or o (option_map (in_segment s.file s.slot) rest))
-        mine ∙ ap (option_or (first_of (references_of order segs s rec r)
-        (enumerate_from 0 (refs_of r.body)))) behind))
+        (sym next_free) ∙ (ap (λ os. option_map (in_segment s.file s.slot) (records_fault known R
+        s.code (rec + 1) (private_offset segs s.slot (rec + 1)) os rs)) (sym taken_is) ∙ later) in
+        rw (e, records_fault) (map_or (in_segment s.file s.slot) refs rest ∙ (ap
+        (λ o. option_or o (option_map (in_segment s.file s.slot) rest)) mine ∙ ap (option_or
+        (first_of (references_of order segs s rec r) (enumerate_from 0 (refs_of r.body)))) behind))
 
 abbrev all_records : Order → List Segment → Segment → Option Fault
 all_records order segs s = first_of (record_fault order segs s) (enumerate_from 0 s.records)
 
 -- the search that carries the offset from segment to segment finds the first fault of their records
 carried_all : (order : Order) (all prefix rest : List Segment) (from : ℕ)
-    → all ≡ prefix ++ rest → AreBelow from prefix → Ascends from rest
-    → references_fault_from order (known_of all)
-    (next_of (host_records all) + all_words (map owner_of prefix)) rest
-    ≡ first_of (all_records order all) rest
+    → all ≡ prefix ++ rest → AreBelow from prefix
+    → Ascends from rest → references_fault_from order (known_of all) (next_of (host_records all)
+    + all_words (map owner_of prefix)) rest ≡ first_of (all_records order all) rest
 carried_all order all prefix [] from is below ascends = refl
 carried_all order all prefix (s ∷ rest) from is below ascends =
     let start = next_of (host_records all) + all_words (map owner_of prefix) in
     let offsets = offset_in all prefix s rest from is below ascends in
     let first : start ≡ private_offset all s.slot 0 = (let e = offsets 0 in omega (arith, e)) in
     let mine : segment_fault order (known_of all) start s ≡ all_records order all s =
-    ap (λ (n : ℕ). segment_fault order (known_of all) n s) first
+    ap (λ n. segment_fault order (known_of all) n s) first
     ∙ carried order all s start offsets [] s.records 0 refl refl in
     let count = words_split prefix (s ∷ []) in
     let later : references_fault_from order (known_of all) (start + private_words s.records) rest
-    ≡ first_of (all_records order all) rest =
-    ap (λ (n : ℕ). references_fault_from order (known_of all) n rest) (omega (arith, count))
-    ∙ carried_all order all (prefix ++ s ∷ []) rest (s.slot + 1)
-    (is ∙ sym (append_assoc prefix (s ∷ []) rest))
-    (below_more (s.slot + 1) prefix s (below_from from s.slot prefix ascends.0 below)
-    (omega arith)) ascends.1 in
-    ap (λ (o : Option Fault). option_or o
-    (references_fault_from order (known_of all) (start + private_words s.records) rest)) mine
-    ∙ ap (option_or (all_records order all s)) later
+    ≡ first_of (all_records order all) rest = ap (λ n. references_fault_from order (known_of all)
+    n rest) (omega (arith, count)) ∙ carried_all order all (prefix ++ s ∷ []) rest (s.slot + 1)
+    (is ∙ sym (append_assoc prefix (s ∷ []) rest)) (below_more (s.slot + 1) prefix s
+    (below_from from s.slot prefix ascends.0 below) (omega arith)) ascends.1 in
+    ap (λ o. option_or o (references_fault_from order (known_of all)
+    (start + private_words s.records) rest)) mine ∙ ap (option_or (all_records order all s)) later
 
 -- where the rounds have no fault, so that each unit that is requested has its segment
 pub step_10 : (order : Order) (host : List ℕ) (libs : List (List ℕ))
-    → added_fault order host libs ≡ None
-    → Least (Precedes OfReferences) (InReferences order host libs)
-    (references_fault order (segments order host libs))
+    → added_fault order host libs ≡ None → Least (Precedes OfReferences)
+    (InReferences order host libs) (references_fault order (segments order host libs))
 unfolding references_fault
 step_10 order host libs fine =
     let segs = segments order host libs in
     let e : references_fault_from order (known_of segs) (next_of (host_records segs)) segs
     ≡ first_of (all_records order segs) segs =
-    ap (λ (n : ℕ). references_fault_from order (known_of segs) n segs) (omega arith)
+    ap (λ n. references_fault_from order (known_of segs) n segs) (omega arith)
     ∙ carried_all order segs [] segs 0 refl tt (ascend order host libs) in
-    subst (λ (o : Option Fault). Least (Precedes OfReferences) (InReferences order host libs) o)
-    (sym e)
+    subst (λ o. Least (Precedes OfReferences) (InReferences order host libs) o) (sym e)
     (over_segments {S = λ s f. SomeItem s.records (λ rec r. RecordFaults order segs s rec r f)}
     order host libs (all_records order segs)
-    (λ s is. least_items (record_fault order segs s) s.records
-    (λ rec r e. of_record order segs s rec r e (asked_is_there order host libs fine s is rec r e))
-    (λ i j a b x y h m n. let p = at_record order segs s i a x m in let q =
-    at_record order segs s j b y n in
-    inr (refl, inr (p.0 ∙ sym q.0, inl (let u = p.1 in let v = q.1 in omega (arith, u, v, h))))))
-    (λ s t x y h m n. let p = at_record order segs s m.0 m.1 x m.3 in let q =
-    at_record order segs t n.0 n.1 y n.3 in
-    inr (refl, inl (let u = p.0 in let v = q.0 in omega (arith, u, v, h)))))
+    (λ s is. least_items (record_fault order segs s) s.records (λ rec r e. of_record order segs
+    s rec r e (asked_is_there order host libs fine s is rec r e)) (λ i j a b x y h m n. let p =
+    at_record order segs s i a x m in let q = at_record order segs s j b y n in inr
+    (refl, inr (p.0 ∙ sym q.0, inl (let u = p.1 in let v = q.1 in omega (arith, u, v, h))))))
+    (λ s t x y h m n. let p = at_record order segs s m.0 m.1 x m.3 in let q = at_record order
+    segs t n.0 n.1 y n.3 in inr (refl, inl (let u = p.0 in let v = q.0 in omega (arith, u, v, h)))))

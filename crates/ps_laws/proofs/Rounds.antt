@@ -1,16 +1,14 @@
 -- The first fault of the units that are added is the smallest that is.
-use Rattle.std.proofs.Common.{rules, ◌≡◌, ℕ, ◌+◌, ◌≤◌, List, [], ◌∷◌}
-use Rattle.std.proofs.Common.{length, take, Option, Some, None, Bool, true, false, refl, sym, ap}
-use Rattle.std.proofs.Common.{subst, ◌∙◌, inl, inr, arith, append-nil, length-append, is_none}
-use Rattle.std.proofs.Common.{unwrap_or}
+use Rattle.std.proofs.Common.{◌≡◌, ◌≤◌, ◌∷◌, ◌∙◌, append-nil, length-append}
+use Rattle.std.proofs.Common.{ℕ, ◌+◌, length, Option, false, subst, arith, is_none, unwrap_or}
+use Rattle.std.proofs.Common.{List, [], take, Some, None, Bool, true, refl, sym, ap, inl, inr}
 use Rattle.ps_laws.proofs.Words.{◌⊎◌, if◌then◌else◌, Decides, slice_get, option_or}
-use Rattle.ps_laws.proofs.Words.{option_map}
-use Rattle.ps_laws.proofs.Words.{option_and_then, cases_lt, false≢true, Decides-or, entry_at}
-use Rattle.ps_laws.proofs.Words.{RoundsOutcome, after, added_segments, added_fault, Because, Step}
-use Rattle.ps_laws.proofs.Words.{OfSources, OfAdded, rank, part, key, CodeFault, InRound, Entry}
-use Rattle.ps_laws.proofs.Words.{Role, entry_fault, code_fault, Before, Segment, unit_source}
-use Rattle.ps_laws.proofs.Words.{chosen_library, file_at, UnitReference, in_slot, in_record, Order}
-use Rattle.ps_laws.proofs.Words.{Reason, Fault}
+use Rattle.ps_laws.proofs.Words.{option_map, option_and_then, cases_lt, false≢true, Decides-or}
+use Rattle.ps_laws.proofs.Words.{entry_at, RoundsOutcome, after, added_segments, added_fault}
+use Rattle.ps_laws.proofs.Words.{Because, Step, OfSources, OfAdded, rank, part, key, CodeFault}
+use Rattle.ps_laws.proofs.Words.{InRound, Entry, Role, entry_fault, code_fault, Before, Segment}
+use Rattle.ps_laws.proofs.Words.{unit_source, chosen_library, file_at, UnitReference, in_slot}
+use Rattle.ps_laws.proofs.Words.{in_record, Order, Reason, Fault}
 use Rattle.ps_codefile.specs.Dictionary.{is_nameless}
 use Rattle.ps_resolve.specs.Added.{empty_slots, is_missing, requested_units, rounds}
 use Rattle.ps_resolve.specs.Standing.Keys.{record_read}
@@ -45,45 +43,38 @@ reads_slot : {P : Reason → Type 0} (k slot : ℕ) (f : Fault) → Because (in_
     → Reads f
 reads_slot k slot f t = subst Reads (sym t.1) (none_read t.0)
 
--- if a fault of a code, its tables or its records has a record, it is one that was read
-reads_code : (order : Order) (file : List ℕ) (k : ℕ) (e : Entry) (slot : ℕ) (r : Role)
-    (f : Fault) → CodeFault order file k e slot r f → Reads f
-reads_code order file k e slot r f (inl t) = reads_slot k slot f t
-reads_code order file k e slot r f (inr t) = elim t.2.1 [
-  | inl b ↦ reads_slot k slot f b
-  | inr b ↦ subst Reads (sym b.2) (record_reason
-      (λ why. record_read why (Some (length b.0)) ≡ length b.0 + 1) refl refl refl refl refl
-      order _ b.1 b.3.stops)
-]
+module _ (order : Order) where
+  -- if a fault of a code, its tables or its records has a record, it is one that was read
+  reads_code : (file : List ℕ) (k : ℕ) (e : Entry) (slot : ℕ) (r : Role) (f : Fault)
+      → CodeFault order file k e slot r f → Reads f
+  reads_code file k e slot r f (inl t) = reads_slot k slot f t
+  reads_code file k e slot r f (inr t) = elim t.2.1 [
+    | inl b ↦ reads_slot k slot f b
+    | inr b ↦ subst Reads (sym b.2) (record_reason
+        (λ why. record_read why (Some (length b.0)) ≡ length b.0 + 1) refl refl refl refl refl
+        order _ b.1 b.3.stops)
+  ]
 
-reads_placed : (order : Order) (host : List ℕ) (libs : List (List ℕ)) (name : List ℕ)
-    (slot : ℕ) (f : Fault) → PlacedFault order host libs name slot f → Reads f
-reads_placed order host libs name slot f (inl t) = reads_slot (t.0 + 1) slot f t.3.1
-reads_placed order host libs name slot f (inr t) =
-    reads_code order (file_at host libs t.0.0) t.0.0
-    (entry_at order (file_at host libs t.0.0) t.0.1) slot role.Wanted f t.2
+  reads_placed : (host : List ℕ) (libs : List (List ℕ)) (name : List ℕ)
+      (slot : ℕ) (f : Fault) → PlacedFault order host libs name slot f → Reads f
+  reads_placed host libs name slot f (inl t) = reads_slot (t.0 + 1) slot f t.3.1
+  reads_placed host libs name slot f (inr t) = reads_code (file_at host libs t.0.0) t.0.0
+      (entry_at order (file_at host libs t.0.0) t.0.1) slot role.Wanted f t.2
 
--- the faults of a unit that was found come after that of one that was not
-entries_high : (order : Order) (name lib : List ℕ) (why : Reason)
-    → EntriesHave order name lib why → 13 ≤ rank why
-entries_high order name lib why h = grind arith
+  -- the faults of a unit that was found come after that of one that was not
+  entries_high : (name lib : List ℕ) (why : Reason)
+      → EntriesHave order name lib why → 13 ≤ rank why
+  entries_high name lib why h = grind arith
 
 lower_late : (slot n m : ℕ) (f : Fault) → m ≤ n → Late slot n f → Late slot m f
-lower_late slot n m f h t = (
-  t.0,
-  elim t.1 [
-    | inl u ↦ inl (u.0, u.1, (let a = u.2 in omega (arith, a, h)))
-    | inr u ↦ inr u
-  ],
-)
+lower_late slot n m f h t = grind arith
 
 placed_late : (order : Order) (host : List ℕ) (libs : List (List ℕ)) (name : List ℕ)
     (slot : ℕ) (f : Fault) → PlacedFault order host libs name slot f → Late slot 13 f
 placed_late order host libs name slot f (inl t) =
     late (t.0 + 1) slot 13 f (entries_high order name t.1) t.3.1
 placed_late order host libs name slot f (inr t) =
-    lower_late slot 15 13 f (omega arith)
-    (code_late order (file_at host libs t.0.0) t.0.0
+    lower_late slot 15 13 f (omega arith) (code_late order (file_at host libs t.0.0) t.0.0
     (entry_at order (file_at host libs t.0.0) t.0.1) slot role.Wanted f t.2)
 
 -- that a unit is missing comes before a fault of rank 13 or above, and before one of a record that
@@ -98,18 +89,14 @@ within_round : (k : ℕ) (x y : Fault) → unwrap_or x.slot x.file ≡ unwrap_or
 within_round k x y h m p q = grind arith
 
 -- the first fault of a name's unit in a slot is the smallest of its round
-placed_least : OneStop → (order : Order) (host : List ℕ) (libs : List (List ℕ)) (k : ℕ)
-    (name : List ℕ) (slot : ℕ)
-    → Least (Precedes (OfAdded k)) (PlacedFault order host libs name slot)
-    (option_or (entry_fault order name libs slot)
-    (option_and_then (code_fault order host libs slot role.Wanted)
-    (unit_source order name libs)))
+placed_least : (law : OneStop) (order : Order) (host : List ℕ) (libs : List (List ℕ))
+    (k : ℕ) (name : List ℕ) (slot : ℕ) → Least (Precedes (OfAdded k))
+    (PlacedFault order host libs name slot) (option_or (entry_fault order name libs slot)
+    (option_and_then (code_fault order host libs slot role.Wanted) (unit_source order name libs)))
 placed_least law order host libs k name slot =
-    least_order
-    (λ x y s t. within_round k x y ((placed_late order host libs name slot x s).0
-    ∙ sym (placed_late order host libs name slot y t).0)
-    (reads_placed order host libs name slot x s) (reads_placed order host libs name slot y t))
-    (unit_least law order host libs name slot)
+    least_order (λ x y s t. within_round k x y ((placed_late order host libs name slot x s).0
+    ∙ sym (placed_late order host libs name slot y t).0) (reads_placed order host libs name slot
+    x s) (reads_placed order host libs name slot y t)) (unit_least law order host libs name slot)
 
 pub missing : (order : Order) (libs : List (List ℕ)) (name : List ℕ)
     → Decides (is_missing order libs name) (IsMissing order libs name)
@@ -117,56 +104,41 @@ missing order libs name = Decides-or (is_nameless name) (is_none (chosen_library
     (of_test (is_nameless name)) (none_has order name libs)
 
 -- the first fault of a name in its round, with this slot or with none, is the smallest that applies
-round_least : OneStop → (order : Order) (host : List ℕ) (libs : List (List ℕ)) (k : ℕ)
-    (g : UnitReference) (left : Option ℕ)
-    → Least (Precedes (OfAdded k)) (RoundHas order host libs g left)
-    (round_fault order host libs g left)
+round_least : (law : OneStop) (order : Order) (host : List ℕ)
+    (libs : List (List ℕ)) (k : ℕ) (g : UnitReference) (left : Option ℕ) → Least
+    (Precedes (OfAdded k)) (RoundHas order host libs g left) (round_fault order host libs g left)
 round_least law order host libs k g None =
     go (is_missing order libs g.name) (missing order libs g.name)
   where
     go : (b : Bool) → Decides b (IsMissing order libs g.name)
         → Least (Precedes (OfAdded k)) (RoundHas order host libs g None)
         (Some (in_record g.file g.slot g.rec (if b then reason.MissingUnit else reason.NoSlot)))
-    go true d = this (in_record g.file g.slot g.rec reason.MissingUnit) (inl (refl, d.0 refl)) least
-      where
-        least : (f : Fault) → RoundHas order host libs g None f
-            → (f ≡ in_record g.file g.slot g.rec reason.MissingUnit)
-            ⊎ Precedes (OfAdded k) (in_record g.file g.slot g.rec reason.MissingUnit) f
-        least f h = grind arith
-    go false d = this (in_record g.file g.slot g.rec reason.NoSlot) (inr (inl (refl, refl))) least
-      where
-        least : (f : Fault) → RoundHas order host libs g None f
-            → (f ≡ in_record g.file g.slot g.rec reason.NoSlot)
-            ⊎ Precedes (OfAdded k) (in_record g.file g.slot g.rec reason.NoSlot) f
-        least f h = search rules
+    go b h1 = grind (arith, this)
 round_least law order host libs k g (Some slot) =
     go (is_missing order libs g.name) (missing order libs g.name)
   where
     Here : Fault → Type 0
     Here = PlacedFault order host libs g.name slot
 
-    go : (b : Bool) → Decides b (IsMissing order libs g.name)
-        → Least (Precedes (OfAdded k)) (RoundHas order host libs g (Some slot))
-        (if b then Some (in_record g.file g.slot g.rec reason.MissingUnit)
-        else option_or (entry_fault order g.name libs slot)
-        (option_and_then (code_fault order host libs slot role.Wanted)
-        (unit_source order g.name libs)))
+    go : (b : Bool) → Decides b (IsMissing order libs g.name) → Least (Precedes (OfAdded k))
+        (RoundHas order host libs g (Some slot)) (if b then Some (in_record g.file g.slot g.rec
+        reason.MissingUnit) else option_or (entry_fault order g.name libs slot) (option_and_then
+        (code_fault order host libs slot role.Wanted) (unit_source order g.name libs)))
     go true d = this (in_record g.file g.slot g.rec reason.MissingUnit) (inl (refl, d.0 refl)) least
       where
         least : (f : Fault) → RoundHas order host libs g (Some slot) f
             → (f ≡ in_record g.file g.slot g.rec reason.MissingUnit)
             ⊎ Precedes (OfAdded k) (in_record g.file g.slot g.rec reason.MissingUnit) f
         least f (inl t) = inl t.0
-        least f (inr (inl t)) = absurd (let e = t.1 in cc)
-        least f (inr (inr t)) =
-            inr (missing_first k t.0 g f (placed_late order host libs g.name t.0 f t.2)
-            (reads_placed order host libs g.name t.0 f t.2))
+        least f (inr (inl t)) = grind arith
+        least f (inr (inr t)) = inr (missing_first k t.0 g f (placed_late
+            order host libs g.name t.0 f t.2) (reads_placed order host libs g.name t.0 f t.2))
     go false d = least_same (λ f p. inr (inr (slot, refl, p))) from
         (placed_least law order host libs k g.name slot)
       where
         from : (f : Fault) → RoundHas order host libs g (Some slot) f → Here f
         from f (inl t) = absurd (false≢true (d.1 t.1))
-        from f (inr (inl t)) = absurd (let e = t.1 in cc)
+        from f (inr (inl t)) = grind arith
         from f (inr (inr t)) = let same : t.0 ≡ slot = (let e = t.1 in cc) in
             subst (λ (n : ℕ). PlacedFault order host libs g.name n f) same t.2
 
@@ -189,22 +161,19 @@ FromRound order host libs k p = (j : ℕ) × (f : Fault) × (k ≤ j) × (p ≡ 
     × InRound order host libs j f
 
 -- the round that has this name, and this slot or none
-the_round : OneStop → (order : Order) (host : List ℕ) (libs : List (List ℕ))
+the_round : (law : OneStop) (order : Order) (host : List ℕ) (libs : List (List ℕ))
     (prefix rest : List Segment) (k : ℕ) (g : UnitReference) (left : Option ℕ)
-    → IsTurn order host libs prefix rest k g left
-    → Least (Precedes (OfAdded k)) (InRound order host libs k)
-    (round_fault order host libs g left)
+    → IsTurn order host libs prefix rest k g left → Least
+    (Precedes (OfAdded k)) (InRound order host libs k) (round_fault order host libs g left)
 the_round law order host libs prefix rest k g left turn =
     least_same to from (round_least law order host libs k g left)
   where
     first : slice_get (requested_units order host libs (take k (added_segments order host libs))) k
         ≡ Some g
-    first = ap (λ (ss : List Segment). slice_get (requested_units order host libs ss) k)
-        (segments_before order host libs prefix rest k turn.all turn.many) ∙ turn.name
+    first = grind (arith, segments_before)
 
     within : k ≤ length (added_segments order host libs)
-    within = let n = ap (λ (ss : List Segment). length ss) turn.all in let m =
-        length-append prefix rest in omega (arith, n, m, turn.many)
+    within = grind (arith, length-append)
 
     to : (f : Fault) → RoundHas order host libs g left f → InRound order host libs k f
     to f h = (
@@ -221,39 +190,35 @@ the_round law order host libs prefix rest k g left turn =
         (subst (λ (h : UnitReference). RoundHas order host libs h
         (slice_get (empty_slots order host) k) f) same t.2)
 
--- no round follows the one after the last that added a segment
-last_is : (order : Order) (host : List ℕ) (libs : List (List ℕ)) (prefix : List Segment)
-    (k j : ℕ) (f : Fault) → added_segments order host libs ≡ prefix → k ≡ length prefix
-    → k ≤ j → InRound order host libs j f → j ≡ k
-last_is order host libs prefix k j f is at low t = let n = ap (λ (ss : List Segment). length ss) is
-    in let m = t.1.0 in omega (arith, n, m, at, low)
+module _ (order : Order) (host : List ℕ) (libs : List (List ℕ)) (prefix : List Segment)
+    (k : ℕ) where
+  -- no round follows the one after the last that added a segment
+  last_is : (j : ℕ) (f : Fault) → added_segments order host libs ≡ prefix
+      → k ≡ length prefix → k ≤ j → InRound order host libs j f → j ≡ k
+  last_is j f is at low t = grind arith
 
--- the first fault of the last round is the smallest that applies from this round on
-last_round : (order : Order) (host : List ℕ) (libs : List (List ℕ)) (prefix : List Segment)
-    (k : ℕ) (o : Option Fault) → added_segments order host libs ≡ prefix
-    → k ≡ length prefix
-    → Least (Precedes (OfAdded k)) (InRound order host libs k) o
-    → Least Earlier (FromRound order host libs k) (option_map (λ f. (OfAdded k, f)) o)
-last_round order host libs prefix k o is at l =
-    least_same (λ p t. (k, t.0, omega arith, t.1, t.2)) from (tagged (OfAdded k) l)
-  where
-    from : (p : Place) → FromRound order host libs k p
-        → (f : Fault) × (p ≡ (OfAdded k, f)) × InRound order host libs k f
-    from p t = grind arith
+  -- the first fault of the last round is the smallest that applies from this round on
+  last_round : (o : Option Fault) → added_segments order host libs ≡ prefix
+      → k ≡ length prefix → Least (Precedes (OfAdded k)) (InRound order host libs k) o
+      → Least Earlier (FromRound order host libs k) (option_map (λ f. (OfAdded k, f)) o)
+  last_round o is at l =
+      least_same (λ p t. (k, t.0, omega arith, t.1, t.2)) from (tagged (OfAdded k) l)
+    where
+      from : (p : Place) → FromRound order host libs k p
+          → (f : Fault) × (p ≡ (OfAdded k, f)) × InRound order host libs k f
+      from p t = grind arith
 
--- where no name is left, nothing applies
-no_name : (order : Order) (host : List ℕ) (libs : List (List ℕ)) (prefix : List Segment)
-    (k : ℕ) → added_segments order host libs ≡ prefix → k ≡ length prefix
-    → slice_get (requested_units order host libs prefix) k ≡ None → (p : Place)
-    → FromRound order host libs k p → ⊥
-no_name order host libs prefix k is at none p t =
-    let same : t.0 ≡ k = last_is order host libs prefix k t.0 t.1 is at t.2 t.4 in
-    let named = (subst (λ (n : ℕ). InRound order host libs n t.1) same t.4).1.1 in
-    let prefix_is = segments_before order host libs prefix [] k (is ∙ sym (append-nil prefix)) at
-    in
-    let first = ap (λ (ss : List Segment). slice_get (requested_units order host libs ss) k)
-    prefix_is ∙ none in
-    cc
+  -- where no name is left, nothing applies
+  no_name : added_segments order host libs ≡ prefix
+      → k ≡ length prefix → slice_get (requested_units order host libs prefix) k ≡ None
+      → (p : Place) → FromRound order host libs k p → ⊥
+  no_name is at none p t =
+      let same : t.0 ≡ k = last_is t.0 t.1 is at t.2 t.4 in
+      let named = (subst (λ n. InRound order host libs n t.1) same t.4).1.1 in
+      let prefix_is =
+      segments_before order host libs prefix [] k (is ∙ sym (append-nil prefix)) at in
+      let first = ap (λ ss. slice_get (requested_units order host libs ss) k) prefix_is ∙ none in
+      cc
 
 -- the first fault of the rounds from one on, with its step
 abbrev RoundsHave : Order → List ℕ → List (List ℕ) → ℕ → RoundsOutcome → Type 0
@@ -266,11 +231,9 @@ quiet : {S : Fault → Type 0} {B : Fault → Fault → Type 0} → Least B S No
 quiet (nothing n) f s = n f s
 
 -- that of a round without a fault is that of the rounds after it
-round_more : (order : Order) (host : List ℕ) (libs : List (List ℕ)) (k : ℕ) (s : Segment)
-    (rest : RoundsOutcome)
-    → ((f : Fault) → InRound order host libs k f → ⊥)
-    → RoundsHave order host libs (k + 1) rest
-    → RoundsHave order host libs k (after s rest)
+round_more : (order : Order) (host : List ℕ) (libs : List (List ℕ)) (k : ℕ)
+    (s : Segment) (rest : RoundsOutcome) → ((f : Fault) → InRound order host libs k f → ⊥)
+    → RoundsHave order host libs (k + 1) rest → RoundsHave order host libs k (after s rest)
 round_more order host libs k s rest none r = (r.0, least_same to from r.1, r.2)
   where
     to : (p : Place) → FromRound order host libs (k + 1) p → FromRound order host libs k p
@@ -285,7 +248,7 @@ round_more order host libs k s rest none r = (r.0, least_same to from r.1, r.2)
 
 -- the fault that ends the rounds is the smallest that applies in any of them, by round and then by
 -- fault
-pub step_6 : OneStop → (order : Order) (host : List ℕ) (libs : List (List ℕ))
+pub step_6 : (law : OneStop) (order : Order) (host : List ℕ) (libs : List (List ℕ))
     → (o : Option Place) × Least Earlier
     (λ p. (k : ℕ) × (f : Fault) × (p ≡ (OfAdded k, f)) × InRound order host libs k f) o
     × (option_map (λ (x : Place). x.1) o ≡ added_fault order host libs)
@@ -296,9 +259,8 @@ step_6 law order host libs = (
 )
   where
     here : (prefix rest : List Segment) (k : ℕ) (g : UnitReference) (slot : Option ℕ)
-        (o : Option Fault)
-        → IsTurn order host libs prefix rest k g slot → round_fault order host libs g slot ≡ o
-        → Least (Precedes (OfAdded k)) (InRound order host libs k) o
+        (o : Option Fault) → IsTurn order host libs prefix rest k g slot → round_fault
+        order host libs g slot ≡ o → Least (Precedes (OfAdded k)) (InRound order host libs k) o
     here prefix rest k g slot o turn is = grind (arith, the_round)
 
     r : RoundsHave order host libs 0 (rounds order host libs)

@@ -2,16 +2,14 @@
 use Rattle.std.proofs.Common.{◌≡◌, ℕ, zero, suc, ◌+◌, ◌<◌, ◌≤◌, List, []}
 use Rattle.std.proofs.Common.{◌∷◌, ◌++◌, take, unwrap_or, Option, Some, None, Result, Ok}
 use Rattle.std.proofs.Common.{Err, true, false, refl, sym, ap, subst, ◌∙◌, inl, inr, arith}
-use Rattle.ps_laws.proofs.Words.{◌≢◌, ◌⊎◌, slice_get, range_with_len, option_map}
-use Rattle.ps_laws.proofs.Words.{option_map_or}
-use Rattle.ps_laws.proofs.Words.{option_or, result_ok, result_err, cases_order, false≢true}
-use Rattle.ps_laws.proofs.Words.{or_parts, same_Some, entry_at, role_of, code_of, request_of}
-use Rattle.ps_laws.proofs.Words.{added_segments, added_fault, SomeItem, IsOfFile, IsOfRound}
-use Rattle.ps_laws.proofs.Words.{request_by_slot, Request, HasRole, IsSegment, NoneStands}
-use Rattle.ps_laws.proofs.Words.{segments_of, Entry, Role, reading, Record, is_empty, Segment}
-use Rattle.ps_laws.proofs.Words.{order_of, file_at, source_of, unit_source, is_role, request_fault}
-use Rattle.ps_laws.proofs.Words.{role_fault, IsFile, Asks, IsGiver, UnitReference, in_slot, Order}
-use Rattle.ps_laws.proofs.Words.{Reason}
+use Rattle.ps_laws.proofs.Words.{◌≢◌, cases_order, false≢true, request_fault, UnitReference}
+use Rattle.ps_laws.proofs.Words.{◌⊎◌, slice_get, or_parts, request_of, NoneStands, role_fault}
+use Rattle.ps_laws.proofs.Words.{range_with_len, option_map_or, added_segments, request_by_slot}
+use Rattle.ps_laws.proofs.Words.{option_map, result_err, added_fault, segments_of, unit_source}
+use Rattle.ps_laws.proofs.Words.{option_or, result_ok, same_Some, IsOfRound, IsSegment, source_of}
+use Rattle.ps_laws.proofs.Words.{entry_at, role_of, code_of, SomeItem, IsOfFile, is_empty, order_of}
+use Rattle.ps_laws.proofs.Words.{Request, HasRole, reading, Segment, file_at, is_role, IsGiver}
+use Rattle.ps_laws.proofs.Words.{Entry, Role, Record, IsFile, Asks, in_slot, Order, Reason}
 use Rattle.std.specs.Prelude.{◌↔◌, All}
 use Rattle.std.proofs.Math.Dec.{ltb}
 use Rattle.std.proofs.lemmas.Bool.{ltb-false}
@@ -79,10 +77,8 @@ Rises segs = (i j : ℕ) (s q : Segment) → i < j → slice_get segs i ≡ Some
 lowest : (from : ℕ) (segs : List Segment) → Ascends from segs → (j : ℕ) (q : Segment)
     → slice_get segs j ≡ Some q → from ≤ q.slot
 lowest from [] a j q e = absurd (cc)
-lowest from (s ∷ ss) a zero q e = let same : s ≡ q = cc in
-    subst (λ (x : Segment). from ≤ x.slot) same a.0
-lowest from (s ∷ ss) a (suc j) q e = let h = lowest (s.slot + 1) ss a.1 j q e in let b = a.0 in
-    omega (arith, h, b)
+lowest from (s ∷ ss) a zero q e = grind arith
+lowest from (s ∷ ss) a (suc j) q e = grind (arith, lowest (s.slot + 1) ss a.1 j q e)
 
 -- where slots ascend, a later segment has a greater slot
 rises : (from : ℕ) (segs : List Segment) → Ascends from segs → Rises segs
@@ -95,9 +91,8 @@ rises from (x ∷ xs) a (suc i) (suc j) s q l e u =
     rises (x.slot + 1) xs a.1 i j s q (omega (arith, l)) e u
 
 -- where later segments have greater slots, no two places have the same slot
-one_place : (segs : List Segment) → Rises segs → (i j : ℕ) (s q : Segment)
-    → slice_get segs i ≡ Some s → slice_get segs j ≡ Some q → s.slot ≡ q.slot
-    → i ≡ j
+one_place : (segs : List Segment) → Rises segs → (i j : ℕ) (s q : Segment) → slice_get
+    segs i ≡ Some s → slice_get segs j ≡ Some q → s.slot ≡ q.slot → i ≡ j
 one_place segs r i j s q e u same = grind arith
 
 -- 3. what is known of each segment of a link
@@ -134,9 +129,8 @@ module _ (law : OneStop) (spells : OneSpelling) (host : List ℕ) (libs : List (
         let at = ap (λ (n : List ℕ). unit_source order n libs) name ∙ source in
         let unit = subst (λ (n : List ℕ). IsUnitOf order host libs n s.file s.index) name
         (unit_of order host libs q (s.file, s.index) fits at) in
-        let file : IsFile host libs s.file (file_at host libs s.file) =
-        subst (IsFile host libs s.file)
-        (sym (ap (λ (o : Option (List ℕ)). unwrap_or o []) unit.file)) unit.file in
+        let file : IsFile host libs s.file (file_at host libs s.file) = subst (IsFile host
+        libs s.file) (sym (ap (λ (o : Option (List ℕ)). unwrap_or o []) unit.file)) unit.file in
         (unit, read_from spells order host libs s file unit.within h)
 
     -- a slot's own segment
@@ -181,7 +175,7 @@ module _ (law : OneStop) (spells : OneSpelling) (host : List ℕ) (libs : List (
   own_listed k s e =
       let o = own_at order host libs s (k, e) in
       in_segments order host libs o.0 s o.1
-      (ap (λ (x : Option Segment). option_or x (added_at order host libs o.0)) o.2)
+      (ap (λ x. option_or x (added_at order host libs o.0)) o.2)
 
   added_listed : (k : ℕ) (s : Segment) → slice_get (added_segments order host libs) k ≡ Some s
       → In s (segments order host libs)
@@ -208,9 +202,8 @@ module _ (law : OneStop) (spells : OneSpelling) (host : List ℕ) (libs : List (
     is_empty_slot : (slot : ℕ) → 7 ≤ slot → slot < 16 → HasRole order host slot role.Empty
         → In slot (empty_slots order host)
     unfolding empty_slots
-    is_empty_slot slot low high has =
-        in_filter (is_role is_empty order host) (range_with_len 7 9) slot
-        (in_range 7 9 slot low (omega (arith, high)))
+    is_empty_slot slot low high has = in_filter (is_role is_empty order host)
+        (range_with_len 7 9) slot (in_range 7 9 slot low (omega (arith, high)))
         (ap (λ (o : Result Role Reason). option_map_or is_empty (result_ok o) false) has)
 
     none_left : (slot : ℕ) → 7 ≤ slot → slot < s.slot → HasRole order host slot role.Empty
@@ -235,10 +228,9 @@ module _ (law : OneStop) (spells : OneSpelling) (host : List ℕ) (libs : List (
             (l.0, q, l.1, same_Some q.slot slot (sym (in_empty order host libs i.0 q e) ∙ i.1))
 
     -- what requests it was there in its round
-    asked_before : (g : UnitReference) → slice_get
-        (requested_units order host libs (take j (added_segments order host libs))) j ≡ Some g
-        → s.name ≡ g.name
-        → SomeItem (segments order host libs)
+    asked_before : (g : UnitReference)
+        → slice_get (requested_units order host libs (take j (added_segments order host libs))) j
+        ≡ Some g → s.name ≡ g.name → SomeItem (segments order host libs)
         (λ k q. ((q.added ≡ false) ⊎ (q.slot < s.slot)) × AsksFor q s.name)
     asked_before g earlier name =
         elim (split_at (own_segments order host libs)
@@ -357,8 +349,7 @@ module _ (law : OneStop) (spells : OneSpelling) (host : List ℕ) (libs : List (
       (both_none (result_err (role_of (entry_at order host slot))) _ no_reason).0
     where
       no_reason : slot_reason order host slot ≡ None
-      no_reason =
-          map_none (in_slot 0 slot) (slot_reason order host slot)
+      no_reason = map_none (in_slot 0 slot) (slot_reason order host slot)
           (none_at (λ n. option_map (in_slot 0 n) (slot_reason order host n)) 0 16 slot
           (slots_fine host libs no_fault) (omega arith) (omega (arith, inside)))
 
@@ -371,9 +362,9 @@ module _ (law : OneStop) (spells : OneSpelling) (host : List ℕ) (libs : List (
   one_each slot inside filled =
       let r = has_role slot inside in
       let s = has_own order host libs fine.0 slot inside r.0 r.1
-      (λ e. filled (subst (λ (x : Role). HasRole order host slot x) e r.1)) in
+      (λ e. filled (subst (λ x. HasRole order host slot x) e r.1)) in
       let i = in_segments order host libs slot s.0 inside
-      (ap (λ (x : Option Segment). option_or x (added_at order host libs slot)) s.1) in
+      (ap (λ x. option_or x (added_at order host libs slot)) s.1) in
       let at = own_in_slot order host libs slot s.0 s.1 in (
         i.0,
         s.0,

@@ -11,20 +11,18 @@ use Rattle.ps_resolve.proofs.ReadingKnown.{own_parts, slot_parts}
 use Rattle.ps_laws.proofs.Least.{Least, least_same, least_then, least_within, first_of_filter_map}
 use Rattle.ps_laws.proofs.Looking.{find_some}
 
-pub own_in_slot : (order : Order) (host : List ℕ) (libs : List (List ℕ)) (slot : ℕ)
-    (s : Segment) → own_segment order host libs slot ≡ Some s → s.slot ≡ slot
-own_in_slot order host libs slot s h = (own_parts order host libs slot s h).0
+module _ (order : Order) (host : List ℕ) (libs : List (List ℕ)) (slot : ℕ) (s : Segment) where
+  pub own_in_slot : own_segment order host libs slot ≡ Some s → s.slot ≡ slot
+  own_in_slot h = (own_parts order host libs slot s h).0
 
-pub slot_is : (order : Order) (host : List ℕ) (libs : List (List ℕ)) (slot : ℕ) (s : Segment)
-    → segment_at order host libs slot ≡ Some s → s.slot ≡ slot
-slot_is order host libs slot s h = (slot_parts order host libs slot s h).0
+  pub slot_is : segment_at order host libs slot ≡ Some s → s.slot ≡ slot
+  slot_is h = (slot_parts order host libs slot s h).0
 
 -- the segment that is found in a slot
 pub found_in_slot : (slot : ℕ) (segs : List Segment) (s : Segment)
     → find (λ (q : Segment). q.slot == slot) segs ≡ Some s
-    → SomeItem segs (λ i q. (q ≡ s) × (q.slot ≡ slot)
-    × ((j : ℕ) (e : Segment) → j < i → slice_get segs j ≡ Some e → e.slot ≡ slot
-    → ⊥))
+    → SomeItem segs (λ i q. (q ≡ s) × (q.slot ≡ slot) × ((j : ℕ) (e : Segment)
+    → j < i → slice_get segs j ≡ Some e → e.slot ≡ slot → ⊥))
 found_in_slot slot segs s e = find_some (λ (q : Segment). q.slot == slot)
     (λ (q : Segment). q.slot ≡ slot) (λ q. Decides-eqb q.slot slot) segs s e
 
@@ -33,20 +31,16 @@ found_in_slot slot segs s e = find_some (λ (q : Segment). q.slot == slot)
 pub over_segments : {B : Fault → Fault → Type 0} {S : Segment → Fault → Type 0}
     (order : Order) (host : List ℕ) (libs : List (List ℕ)) (g : Segment → Option Fault)
     → ((s : Segment) → IsSegment order host libs s → Least B (S s) (g s))
-    → ((s t : Segment) (x y : Fault) → s.slot < t.slot → S s x → S t y → B x y)
-    → Least B (λ f. SomeSegment order host libs (λ s. S s f))
-    (first_of g (segments order host libs))
+    → ((s t : Segment) (x y : Fault) → s.slot < t.slot → S s x → S t y → B x y) → Least
+    B (λ f. SomeSegment order host libs (λ s. S s f)) (first_of g (segments order host libs))
 unfolding segments
-over_segments {B} {S} order host libs g each apart =
-    subst (λ o. Least B (λ f. SomeSegment order host libs (λ s. S s f)) o)
-    (sym (first_of_filter_map g (segment_at order host libs) slots))
+over_segments {B} {S} order host libs g each apart = subst (λ o. Least B (λ f. SomeSegment order
+    host libs (λ s. S s f)) o) (sym (first_of_filter_map g (segment_at order host libs) slots))
     (least_same to (λ f t. (t.0.slot, omega arith, omega (arith, t.1.0), (t.0, t.1.1, t.2)))
     (least_within (λ slot. option_and_then g (segment_at order host libs slot)) 0 16
     (λ slot low high. least_then g (segment_at order host libs slot)
-    (λ s e. each s (here slot s high e)))
-    (λ i j x y h s t. apart s.0 t.0 x y
-    (omega (arith, h, slot_is order host libs i s.0 s.1, slot_is order host libs j t.0 t.1)) s.2
-    t.2)))
+    (λ s e. each s (here slot s high e))) (λ i j x y h s t. apart s.0 t.0 x y (omega
+    (arith, h, slot_is order host libs i s.0 s.1, slot_is order host libs j t.0 t.1)) s.2 t.2)))
   where
     here : (slot : ℕ) (s : Segment) → slot < 0 + 16
         → segment_at order host libs slot ≡ Some s → IsSegment order host libs s

@@ -16,41 +16,37 @@ pub ends_once : (order : Order) (host : List ℕ) (libs : List (List ℕ)) (s : 
     → IsOfFile order host libs s → needs_linking s.role ≡ true → EndsOnce s.records
 ends_once order host libs s h linked = grind (arith, reading_is)
 
-has_tables : (order : Order) (code : List ℕ) (host : Bool)
-    → tables_fault order code host ≡ None
-    → HasTables order code
-    × ((host && (procedures code == 0 || content_of order code 1 == 0)) ≡ false)
-has_tables order code host h = grind arith
+module _ (order : Order) (code : List ℕ) (host : Bool) where
+  has_tables : tables_fault order code host ≡ None → HasTables order code
+      × ((host && (procedures code == 0 || content_of order code 1 == 0)) ≡ false)
+  has_tables h = grind arith
 
--- the bounds of a code whose tables have no fault
-pub long : (order : Order) (code : List ℕ) (host : Bool) → tables_fault order code host ≡ None
-    → 2 ≤ length code
-long order code host h = let fits = (has_tables order code host h).0.fits in omega (arith, fits)
+  -- the bounds of a code whose tables have no fault
+  pub long : tables_fault order code host ≡ None → 2 ≤ length code
+  long h = let fits = (has_tables h).0.fits in omega (arith, fits)
 
 pub record HasOuter (order : Order) (code : List ℕ) (t : ℕ) : Type 0 where
   pub procedure : 1 ≤ procedures code
   pub low : 8 ≤ t
   pub high : t + 1 < dictionary_start code
 
--- where the tables of a host have no fault, that of its outer block is whole before the procedure
--- dictionary
-pub outer : (order : Order) (code : List ℕ) (t : ℕ) (host : Bool) → host ≡ true
-    → tables_fault order code host ≡ None → table_of order code 1 ≡ Some t
-    → HasOuter order code t
-outer order code t host is h e = grind (arith, has_tables, or_parts, eqb-false, whole_table)
+module _ (order : Order) (code : List ℕ) where
+  -- where the tables of a host have no fault, that of its outer block is whole before the procedure
+  -- dictionary
+  pub outer : (t : ℕ) (host : Bool) → host ≡ true → tables_fault order code host ≡ None
+      → table_of order code 1 ≡ Some t → HasOuter order code t
+  outer t host is h e = grind (arith, has_tables, or_parts, eqb-false, whole_table)
 
--- the last place but one of a code is reserved
-pub number_reserved : (order : Order) (code : List ℕ) (p : ℕ) → p + 2 ≡ length code
-    → is_reserved order code p ≡ true
-number_reserved order code p h = grind arith
+  -- the last place but one of a code is reserved
+  pub number_reserved : (p : ℕ) → p + 2 ≡ length code → is_reserved order code p ≡ true
+  number_reserved p h = grind arith
 
--- the two places of the data size of the outer block are reserved
-pub size_reserved : (order : Order) (code : List ℕ) (t j p : ℕ) → HasOuter order code t
-    → table_of order code 1 ≡ Some t → j < 2 → p + 8 ≡ t + j
-    → is_reserved order code p ≡ true
-size_reserved order code t j p o e h k = grind arith
+  -- the two places of the data size of the outer block are reserved
+  pub size_reserved : (t j p : ℕ) → HasOuter order code t → table_of order code 1 ≡ Some t
+      → j < 2 → p + 8 ≡ t + j → is_reserved order code p ≡ true
+  size_reserved t j p o e h k = grind arith
 
--- and they are apart
-pub own_apart : (order : Order) (code : List ℕ) (t j p : ℕ) → HasOuter order code t → j < 2
-    → p + 8 ≡ t + j → p + 2 ≡ length code → ⊥
-own_apart order code t j p o h k n = grind arith
+  -- and they are apart
+  pub own_apart : (t j p : ℕ)
+      → HasOuter order code t → j < 2 → p + 8 ≡ t + j → p + 2 ≡ length code → ⊥
+  own_apart t j p o h k n = grind arith

@@ -1,21 +1,20 @@
 -- The first fault of the sources is the smallest that is.
-use Rattle.std.proofs.Common.{◌≡◌, ℕ, ◌+◌, ◌-◌, ◌*◌, ◌<◌, ◌≤◌, List}
-use Rattle.std.proofs.Common.{[], ◌∷◌, length, Option, Some, None, Result, Ok, Err, Bool}
-use Rattle.std.proofs.Common.{true, false, refl, sym, ap, subst, ◌∙◌, inl, inr, arith}
+use Rattle.std.proofs.Common.{rules, ◌≡◌, ℕ, ◌+◌, ◌-◌, ◌*◌, ◌<◌, ◌≤◌}
+use Rattle.std.proofs.Common.{List, [], ◌∷◌, length, Option, Some, None, Result, Ok, Err}
+use Rattle.std.proofs.Common.{Bool, true, false, refl, sym, ap, subst, ◌∙◌, inl, inr, arith}
 use Rattle.std.proofs.Common.{leb-true, le-leb, unwrap_or, is_none}
 use Rattle.ps_laws.proofs.Words.{◌⊎◌, ◌≢◌, if◌then◌else◌, nat_lt, not, ◌&&◌}
-use Rattle.ps_laws.proofs.Words.{◌||◌, ◌==◌, nat_le}
-use Rattle.ps_laws.proofs.Words.{Decides, range_with_len, enumerate_from, slice_get, list_any}
-use Rattle.ps_laws.proofs.Words.{filter_map, find, option_or, option_map, option_and_then}
-use Rattle.ps_laws.proofs.Words.{option_map_or, result_ok, bytes_eq, false≢true, Decides-at}
-use Rattle.ps_laws.proofs.Words.{Decides-ltb, Decides-and, Decides-or, Decides-like, Decides-eqb}
-use Rattle.ps_laws.proofs.Words.{none-some, same_Some, bytes_eq-Decides, slots, entry_at, role_of}
-use Rattle.ps_laws.proofs.Words.{code_of, information_of, table_of, Because, SomeBelow, SomeItem}
-use Rattle.ps_laws.proofs.Words.{OfSources, rank, part, IsNamed, HasEntry, EntryFault, CodeFault}
-use Rattle.ps_laws.proofs.Words.{Entry, Role, reading, Record, entry_fault, code_fault, role_fault}
-use Rattle.ps_laws.proofs.Words.{first_of, fault_if, is_host, needs_linking, is_named}
-use Rattle.ps_laws.proofs.Words.{chosen_library, source_of, unit_source, file_at, in_slot}
-use Rattle.ps_laws.proofs.Words.{in_record, Order, Reason, Fault}
+use Rattle.ps_laws.proofs.Words.{◌||◌, ◌==◌, nat_le, Decides, range_with_len}
+use Rattle.ps_laws.proofs.Words.{enumerate_from, slice_get, list_any, filter_map, find, option_or}
+use Rattle.ps_laws.proofs.Words.{option_map, option_and_then, option_map_or, result_ok, bytes_eq}
+use Rattle.ps_laws.proofs.Words.{false≢true, Decides-at, Decides-ltb, Decides-and, Decides-or}
+use Rattle.ps_laws.proofs.Words.{Decides-like, Decides-eqb, none-some, same_Some, bytes_eq-Decides}
+use Rattle.ps_laws.proofs.Words.{slots, entry_at, role_of, code_of, information_of, table_of}
+use Rattle.ps_laws.proofs.Words.{Because, SomeBelow, SomeItem, OfSources, rank, part, IsNamed}
+use Rattle.ps_laws.proofs.Words.{HasEntry, EntryFault, CodeFault, Entry, Role, reading, Record}
+use Rattle.ps_laws.proofs.Words.{entry_fault, code_fault, role_fault, first_of, fault_if, is_host}
+use Rattle.ps_laws.proofs.Words.{needs_linking, is_named, chosen_library, source_of, unit_source}
+use Rattle.ps_laws.proofs.Words.{file_at, in_slot, in_record, Order, Reason, Fault}
 use Rattle.std.specs.Prelude.{◌↔◌, slice_index}
 use Rattle.std.specs.List.{list_all}
 use Rattle.std.proofs.lemmas.Bool.Decides.{Decides-not}
@@ -58,17 +57,16 @@ pub early_late : (slot n : ℕ) (x y : Fault) → Early slot n x → Late slot n
     → Precedes OfSources x y
 early_late slot n x y a b = grind arith
 
--- a fault of a slot is before rank n where each reason that it may have is
-early : {P : Reason → Type 0} (k slot n : ℕ) (f : Fault)
-    → ((why : Reason) → P why → rank why < n) → Because (in_slot k slot) P f
-    → Early slot n f
-early k slot n f low t = grind arith
+module _ {P : Reason → Type 0} (k slot n : ℕ) (f : Fault) where
+  -- a fault of a slot is before rank n where each reason that it may have is
+  early : ((why : Reason) → P why → rank why < n)
+      → Because (in_slot k slot) P f → Early slot n f
+  early low t = grind arith
 
--- a fault of a slot is from rank n on where each reason that it may have is
-pub late : {P : Reason → Type 0} (k slot n : ℕ) (f : Fault)
-    → ((why : Reason) → P why → n ≤ rank why) → Because (in_slot k slot) P f
-    → Late slot n f
-late k slot n f high t = grind arith
+  -- a fault of a slot is from rank n on where each reason that it may have is
+  pub late : ((why : Reason) → P why → n ≤ rank why)
+      → Because (in_slot k slot) P f → Late slot n f
+  late high t = grind arith
 
 -- the first that passes is the first of those
 find_first : {X : Type 0} (p : X → Bool) (xs : List X)
@@ -76,122 +74,105 @@ find_first : {X : Type 0} (p : X → Bool) (xs : List X)
 find_first p [] = refl
 find_first {X} p (x ∷ xs) = grind (arith, find_first p xs)
 
--- the library's entries
-pub named : (order : Order) (name file : List ℕ) (i : ℕ)
-    → Decides (is_named order name file i) (IsNamed order name file i)
-named order name file i = Decides-and (is_filled (entry_at order file i))
-    (bytes_eq (entry_at order file i).name name) (of_test (is_filled (entry_at order file i)))
-    (bytes_eq-Decides (entry_at order file i).name name)
+module _ (order : Order) (name file : List ℕ) where
+  -- the library's entries
+  pub named : (i : ℕ) → Decides (is_named order name file i) (IsNamed order name file i)
+  named i = Decides-and (is_filled (entry_at order file i))
+      (bytes_eq (entry_at order file i).name name) (of_test (is_filled (entry_at order file i)))
+      (bytes_eq-Decides (entry_at order file i).name name)
 
-pub has : (order : Order) (name file : List ℕ)
-    → Decides (has_entry order name file) (HasEntry order name file)
-has order name file = any_lesser (is_named order name file) (λ i. IsNamed order name file i)
-    (named order name file) 16
+  pub has : Decides (has_entry order name file) (HasEntry order name file)
+  has = any_lesser (is_named order name file) (λ i. IsNamed order name file i) (named) 16
+
+-- the entries of a name, by their numbers
+abbrev NamedAt : Order → List ℕ → List ℕ → ℕ → Type 0
+NamedAt order name lib y = (i : ℕ) × (0 ≤ i) × (i < 0 + 16)
+    × (IsNamed order name lib i × (y ≡ i))
 
 abbrev Duplicate : Order → List ℕ → List ℕ → Type 0
 Duplicate order name lib =
     SomeBelow 16 (λ i. IsNamed order name lib i × SomeBelow i (λ j. IsNamed order name lib j))
 
--- the test of a library's entries says whether two have the name
-duplicate : (order : Order) (name lib : List ℕ)
-    → Decides (list_any (λ i. is_named order name lib i
-    && list_any (is_named order name lib) (range_with_len 0 i)) slots) (Duplicate order name lib)
-duplicate order name lib =
-    any_lesser (λ i. is_named order name lib i
-    && list_any (is_named order name lib) (range_with_len 0 i))
-    (λ i. IsNamed order name lib i × SomeBelow i (λ j. IsNamed order name lib j))
-    (λ i. Decides-and (is_named order name lib i)
-    (list_any (is_named order name lib) (range_with_len 0 i)) (named order name lib i)
-    (any_lesser (is_named order name lib) (λ j. IsNamed order name lib j)
-    (named order name lib) i)) 16
+module _ (order : Order) (name lib : List ℕ) where
+  -- the test of a library's entries says whether two have the name
+  duplicate : Decides (list_any (λ i. is_named order name lib i
+      && list_any (is_named order name lib) (range_with_len 0 i)) slots) (Duplicate order name lib)
+  duplicate = any_lesser (λ i. is_named order name lib i && list_any
+      (is_named order name lib) (range_with_len 0 i)) (λ i. IsNamed order name lib i × SomeBelow i
+      (λ j. IsNamed order name lib j)) (λ i. Decides-and (is_named order name lib i)
+      (list_any (is_named order name lib) (range_with_len 0 i)) (named order name lib i) (any_lesser
+      (is_named order name lib) (λ j. IsNamed order name lib j) (named order name lib) i)) 16
 
--- the entry that is found for a name is the smallest that has it
-first_entry : (order : Order) (name lib : List ℕ)
-    → Least (λ i j. i < j) (λ y. (i : ℕ) × (0 ≤ i) × (i < 0 + 16)
-    × (IsNamed order name lib i × (y ≡ i))) (find (is_named order name lib) slots)
-first_entry order name lib =
-    subst (λ o. Least (λ i j. i < j) (λ y. (i : ℕ) × (0 ≤ i) × (i < 0 + 16)
-    × (IsNamed order name lib i × (y ≡ i))) o)
-    (sym (find_first (is_named order name lib) slots))
-    (least_range (λ i. if is_named order name lib i then Some i else None)
-    (λ i. least_guard (is_named order name lib i) (named order name lib i)
-    (this i refl (λ y e. inl e)))
-    (λ i j x y h s t. let a = s.1 in let b = t.1 in omega (arith, a, b, h)) 0 16)
+  -- the entry that is found for a name is the smallest that has it
+  first_entry : Least
+      (λ i j. i < j) (NamedAt order name lib) (find (is_named order name lib) slots)
+  first_entry = subst (λ o. Least (λ i j. i < j) (NamedAt order name lib) o)
+      (sym (find_first (is_named order name lib) slots))
+      (least_range (λ i. if is_named order name lib i then Some i else None) (λ i. least_guard
+      (is_named order name lib i) (named order name lib i) (this i refl (λ y e. inl e)))
+      (λ i j x y h s t. let a = s.1 in let b = t.1 in omega (arith, a, b, h)) 0 16)
 
--- the reason that is given for a library's entries of a name is the one of smallest rank that
--- applies
-entries_rows : (order : Order) (name lib : List ℕ)
-    → Least Ranked (EntriesHave order name lib) (entries_reason order name lib)
-entries_rows order name lib =
-    go (list_any (λ i. is_named order name lib i
-    && list_any (is_named order name lib) (range_with_len 0 i)) slots)
-    (find (is_named order name lib) slots) (duplicate order name lib) (first_entry order name lib)
-  where
-    Has : Reason → Type 0
-    Has = EntriesHave order name lib
+  -- the reason that is given for a library's entries of a name is the one of smallest rank that
+  -- applies
+  entries_rows : Least Ranked (EntriesHave order name lib) (entries_reason order name lib)
+  entries_rows = go (list_any (λ i. is_named order name lib i && list_any (is_named order name lib)
+      (range_with_len 0 i)) slots) (find (is_named order name lib) slots) duplicate first_entry
+    where
+      Has : Reason → Type 0
+      Has = EntriesHave order name lib
 
-    First : ℕ → Type 0
-    First y = (i : ℕ) × (0 ≤ i) × (i < 0 + 16) × (IsNamed order name lib i × (y ≡ i))
+      single : Decides false (Duplicate order name lib) → (i j : ℕ) → i < 16 → j < 16
+          → IsNamed order name lib i → IsNamed order name lib j → i ≡ j
+      single d i j a b m n = grind (arith, not_apart, false≢true)
 
-    single : Decides false (Duplicate order name lib) → (i j : ℕ) → i < 16 → j < 16
-        → IsNamed order name lib i → IsNamed order name lib j → i ≡ j
-    single d i j a b m n = not_apart i j (λ h. false≢true (d.1 (j, b, (n, (i, h, m)))))
-        (λ h. false≢true (d.1 (i, a, (m, (j, h, n)))))
+      go : (b : Bool) (o : Option ℕ) → Decides b (Duplicate order name lib)
+          → Least (λ i j. i < j) (NamedAt order name lib) o → Least Ranked Has
+          (if b then Some reason.DoubledUnit else option_and_then (λ i. fault_if
+          (not ((entry_at order lib i).kind == 3)) (reason.NotAUnit (entry_at order lib i).kind)) o)
+      go true o d l = grind (arith, this)
+      go false None d (nothing n) = nothing none
+        where
+          none : (y : Reason) → Has y → ⊥
+          none reason.DoubledUnit h = false≢true (d.1 h)
+          none (reason.NotAUnit kind) h = n h.0
+              (h.0, omega arith, (let a = h.1 in omega (arith, a)), (h.2.0, refl))
+          none other h = h
+      go false (Some i) d (this j s l) =
+          least_same to from (least_if (not ((entry_at order lib i).kind == 3))
+          (reason.NotAUnit (entry_at order lib i).kind) (Decides-not
+          ((entry_at order lib i).kind == 3) (Decides-eqb (entry_at order lib i).kind 3)))
+        where
+          here : IsNamed order name lib i
+          here = subst (λ k. IsNamed order name lib k) (sym s.3.1) s.3.0
 
-    go : (b : Bool) (o : Option ℕ) → Decides b (Duplicate order name lib)
-        → Least (λ i j. i < j) First o
-        → Least Ranked Has (if b then Some reason.DoubledUnit
-        else option_and_then (λ i. fault_if (not ((entry_at order lib i).kind == 3))
-        (reason.NotAUnit (entry_at order lib i).kind)) o)
-    go true o d l = this reason.DoubledUnit (d.0 refl) (λ y h. grind arith)
-    go false None d (nothing n) = nothing none
-      where
-        none : (y : Reason) → Has y → ⊥
-        none reason.DoubledUnit h = false≢true (d.1 h)
-        none (reason.NotAUnit kind) h = n h.0
-            (h.0, omega arith, (let a = h.1 in omega (arith, a)), (h.2.0, refl))
-        none other h = h
-    go false (Some i) d (this j s l) =
-        least_same to from (least_if (not ((entry_at order lib i).kind == 3))
-        (reason.NotAUnit (entry_at order lib i).kind)
-        (Decides-not ((entry_at order lib i).kind == 3)
-        (Decides-eqb (entry_at order lib i).kind 3)))
-      where
-        here : IsNamed order name lib i
-        here = subst (λ k. IsNamed order name lib k) (sym s.3.1) s.3.0
+          within : i < 16
+          within = let a = s.2 in let b = s.3.1 in omega (arith, a, b)
 
-        within : i < 16
-        within = let a = s.2 in let b = s.3.1 in omega (arith, a, b)
+          to : (y : Reason) → (y ≡ reason.NotAUnit (entry_at order lib i).kind)
+              × ((entry_at order lib i).kind ≢ 3) → Has y
+          to y t = subst Has (sym t.0) (
+            i,
+            within,
+            (here, λ j b n. single d j i b within n here, refl, t.1),
+          )
 
-        to : (y : Reason) → (y ≡ reason.NotAUnit (entry_at order lib i).kind)
-            × ((entry_at order lib i).kind ≢ 3) → Has y
-        to y t = subst Has (sym t.0) (
-          i,
-          within,
-          (here, λ j b n. single d j i b within n here, refl, t.1),
-        )
-
-        from : (y : Reason) → Has y → (y ≡ reason.NotAUnit (entry_at order lib i).kind)
-            × ((entry_at order lib i).kind ≢ 3)
-        from y h = grind arith
-
--- the library
-pub chosen : (order : Order) (name : List ℕ) (libs : List (List ℕ))
-    → Least (λ p q. p.0 < q.0) (λ p. SomeItem libs
-    (λ k lib. HasEntry order name lib × (p ≡ (k, lib)))) (chosen_library order name libs)
-chosen order name libs =
-    subst (λ o. Least (λ p q. p.0 < q.0)
-    (λ p. SomeItem libs (λ k lib. HasEntry order name lib × (p ≡ (k, lib)))) o)
-    (sym (find_first (λ lib. has_entry order name lib.1) (enumerate_from 0 libs)))
-    (least_items (λ lib. if has_entry order name lib.1 then Some lib else None) libs
-    (λ k lib e. least_guard (has_entry order name lib) (has order name lib)
-    (this (k, lib) refl (λ y q. inl q)))
-    (λ i j a b x y h s t. let p = ap (λ (z : ℕ × List ℕ). z.0) s.1 in let q =
-    ap (λ (z : ℕ × List ℕ). z.0) t.1 in omega (arith, p, q, h)))
+          from : (y : Reason) → Has y → (y ≡ reason.NotAUnit (entry_at order lib i).kind)
+              × ((entry_at order lib i).kind ≢ 3)
+          from y h = grind arith
 
 -- the library's entries of a name
 abbrev pub Found : Order → List ℕ → List (List ℕ) → ℕ × List ℕ → Type 0
 Found order name libs p = SomeItem libs (λ k lib. HasEntry order name lib × (p ≡ (k, lib)))
+
+-- the library
+pub chosen : (order : Order) (name : List ℕ) (libs : List (List ℕ))
+    → Least (λ p q. p.0 < q.0) (Found order name libs) (chosen_library order name libs)
+chosen order name libs = subst (λ o. Least (λ p q. p.0 < q.0) (Found order name libs) o)
+    (sym (find_first (λ lib. has_entry order name lib.1) (enumerate_from 0 libs))) (least_items
+    (λ lib. if has_entry order name lib.1 then Some lib else None) libs (λ k lib e. least_guard
+    (has_entry order name lib) (has order name lib) (this (k, lib) refl (λ y q. inl q)))
+    (λ i j a b x y h s t. let p = ap (λ (z : ℕ × List ℕ). z.0) s.1 in let q =
+    ap (λ (z : ℕ × List ℕ). z.0) t.1 in omega (arith, p, q, h)))
 
 -- no library is chosen just where none has an entry of the name
 pub none_has : (order : Order) (name : List ℕ) (libs : List (List ℕ))
@@ -201,8 +182,7 @@ none_has order name libs = go (chosen_library order name libs) (chosen order nam
     go : (o : Option (ℕ × List ℕ)) → Least (λ p q. p.0 < q.0) (Found order name libs) o
         → Decides (is_none o) (NoneHas order name libs)
     go None (nothing n) = (λ e t. n (t.0, t.1) (t.0, t.1, t.2, (t.3, refl)), λ h. refl)
-    go (Some p) (this q s l) =
-        (λ e. absurd (false≢true e), λ h. absurd (h (s.0, s.1, s.2, s.3.0)))
+    go (Some p) (this q s l) = grind (arith, false≢true)
 
 -- the library that is chosen is at its number, has an entry of the name, and no smaller one has
 pub record IsChosen (order : Order) (name : List ℕ) (libs : List (List ℕ))
@@ -212,47 +192,44 @@ pub record IsChosen (order : Order) (name : List ℕ) (libs : List (List ℕ))
   pub lesser : (m : ℕ) (other : List ℕ) → m < p.0 → slice_get libs m ≡ Some other
       → HasEntry order name other → ⊥
 
-pub is_chosen : (order : Order) (name : List ℕ) (libs : List (List ℕ)) (p : ℕ × List ℕ)
-    → Least (λ p q. p.0 < q.0) (Found order name libs) (Some p) → IsChosen order name libs p
-is_chosen order name libs p (this q s l) = record {
-  there = subst (λ (z : ℕ × List ℕ). slice_get libs z.0 ≡ Some z.1) (sym s.3.1) s.2;
-  has = subst (λ (z : ℕ × List ℕ). HasEntry order name z.1) (sym s.3.1) s.3.0;
-  lesser = λ m other h e k. elim (l (m, other) (m, other, e, (k, refl))) [
-    | inl x ↦ (let y = ap (λ (z : ℕ × List ℕ). z.0) x in omega (arith, y, h))
-    | inr x ↦ omega (arith, x, h)
-  ];
-}
+module _ (order : Order) (name : List ℕ) (libs : List (List ℕ)) where
+  pub is_chosen : (p : ℕ × List ℕ)
+      → Least (λ p q. p.0 < q.0) (Found order name libs) (Some p) → IsChosen order name libs p
+  is_chosen p (this q s l) = record {
+    there = subst (λ (z : ℕ × List ℕ). slice_get libs z.0 ≡ Some z.1) (sym s.3.1) s.2;
+    has = subst (λ (z : ℕ × List ℕ). HasEntry order name z.1) (sym s.3.1) s.3.0;
+    lesser = λ m other h e k. elim (l (m, other) (m, other, e, (k, refl))) [
+      | inl x ↦ (let y = ap (λ (z : ℕ × List ℕ). z.0) x in omega (arith, y, h))
+      | inr x ↦ omega (arith, x, h)
+    ];
+  }
 
--- the first fault of the chosen library's entries of a name is the smallest that applies
-pub entry_least : (order : Order) (name : List ℕ) (libs : List (List ℕ)) (slot : ℕ)
-    → Least (Precedes OfSources) (EntryFault order name libs slot)
-    (entry_fault order name libs slot)
-entry_least order name libs slot = go (chosen_library order name libs) (chosen order name libs)
-  where
-    go : (o : Option (ℕ × List ℕ)) → Least (λ p q. p.0 < q.0) (Found order name libs) o
-        → Least (Precedes OfSources) (EntryFault order name libs slot)
-        (option_and_then (λ lib. option_map (in_slot (lib.0 + 1) slot)
-        (entries_reason order name lib.1)) o)
-    go None (nothing n) = nothing (λ f t. n (t.0, t.1) (t.0, t.1, t.2, (t.3.0.0, refl)))
-    go (Some p) (this q s l) =
-        least_same to from (because OfSources (in_slot (p.0 + 1) slot)
-        (λ a b h. inr (refl, inr (refl, inr (refl, inr (refl, inl h)))))
-        (entries_rows order name p.1))
-      where
-        c : IsChosen order name libs p
-        c = is_chosen order name libs p (this p s l)
+  -- the first fault of the chosen library's entries of a name is the smallest that applies
+  pub entry_least : (slot : ℕ) → Least
+      (Precedes OfSources) (EntryFault order name libs slot) (entry_fault order name libs slot)
+  entry_least slot = go (chosen_library order name libs) (chosen order name libs)
+    where
+      go : (o : Option (ℕ × List ℕ)) → Least (λ p q. p.0 < q.0) (Found order name libs) o
+          → Least (Precedes OfSources) (EntryFault order name libs slot) (option_and_then
+          (λ lib. option_map (in_slot (lib.0 + 1) slot) (entries_reason order name lib.1)) o)
+      go None (nothing n) = nothing (λ f t. n (t.0, t.1) (t.0, t.1, t.2, (t.3.0.0, refl)))
+      go (Some p) (this q s l) = least_same to from (because OfSources
+          (in_slot (p.0 + 1) slot) (λ a b h. grind arith) (entries_rows order name p.1))
+        where
+          c : IsChosen order name libs p
+          c = is_chosen p (this p s l)
 
-        to : (f : Fault) → Because (in_slot (p.0 + 1) slot) (EntriesHave order name p.1) f
-            → EntryFault order name libs slot f
-        to f b = (p.0, p.1, c.there, ((c.has, c.lesser), b))
+          to : (f : Fault) → Because (in_slot (p.0 + 1) slot) (EntriesHave order name p.1) f
+              → EntryFault order name libs slot f
+          to f b = (p.0, p.1, c.there, ((c.has, c.lesser), b))
 
-        from : (f : Fault) → EntryFault order name libs slot f
-            → Because (in_slot (p.0 + 1) slot) (EntriesHave order name p.1) f
-        from f t = elim (l (t.0, t.1) (t.0, t.1, t.2, (t.3.0.0, refl))) [
-          | inl e ↦ subst (λ (z : ℕ × List ℕ). Because (in_slot (z.0 + 1) slot)
-              (EntriesHave order name z.1) f) e t.3.1
-          | inr h ↦ absurd (t.3.0.1 p.0 p.1 h c.there c.has)
-        ]
+          from : (f : Fault) → EntryFault order name libs slot f
+              → Because (in_slot (p.0 + 1) slot) (EntriesHave order name p.1) f
+          from f t = elim (l (t.0, t.1) (t.0, t.1, t.2, (t.3.0.0, refl))) [
+            | inl e ↦ subst (λ (z : ℕ × List ℕ). Because (in_slot (z.0 + 1) slot)
+                (EntriesHave order name z.1) f) e t.3.1
+            | inr h ↦ absurd (t.3.0.1 p.0 p.1 h c.there c.has)
+          ]
 
 -- the tables
 any_of_filter : {X Y : Type 0} (p : Y → Bool) (g : X → Option Y) (xs : List X)
@@ -268,94 +245,77 @@ not_all {X} p (x ∷ xs) = grind (arith, not_all p xs)
 
 -- a table fails the test of its place just where its content c is not 0, and it begins too low or
 -- ends too high
-not_placed : (c place q start : ℕ) → Decides
-    (not (c == 0 || (nat_le (c + 8) place && nat_lt q start)))
-    ((c ≢ 0) × ((place < c + 8) ⊎ (start ≤ q)))
+not_placed : (c place q start : ℕ) → Decides (not (c == 0
+    || (nat_le (c + 8) place && nat_lt q start))) ((c ≢ 0) × ((place < c + 8) ⊎ (start ≤ q)))
 not_placed c place q start = grind arith
 
--- the test of all tables for their places says whether one is bad
-bad_table : (order : Order) (code : List ℕ)
-    → Decides (not (list_all (is_placed order code) (numbers code))) (HasBadTable order code)
-bad_table order code =
-    Decides-at (not (list_all (is_placed order code) (numbers code)))
-    (list_any (λ p. not (is_placed order code p)) (numbers code))
-    (not_all (is_placed order code) (numbers code))
-    (Decides-like (list_any (λ p. not (is_placed order code p)) (numbers code))
-    (λ t. (t.0, t.1, omega (arith, t.2), t.3.0, t.3.1))
-    (λ t. (t.0, t.1, omega (arith, t.2), (t.3, t.4)))
-    (any_of_range (λ p. not (is_placed order code p)) Misplaced
-    (λ p. not_placed (content_of order code p) (length code - 2 - 2 * p)
-    (length code - 2 - 2 * p - content_of order code p + 1) (dictionary_start code)) 1
-    (procedures code)))
-  where
-    Misplaced : ℕ → Type 0
-    Misplaced p = (content_of order code p ≢ 0)
-        × ((length code - 2 - 2 * p < content_of order code p + 8)
-        ⊎ (dictionary_start code ≤ length code - 2 - 2 * p - content_of order code p + 1))
+module _ (order : Order) (code : List ℕ) where
+  -- the test of all tables for their places says whether one is bad
+  bad_table : Decides
+      (not (list_all (is_placed order code) (numbers code))) (HasBadTable order code)
+  bad_table = Decides-at (not (list_all (is_placed order code) (numbers code)))
+      (list_any (λ p. not (is_placed order code p)) (numbers code)) (not_all (is_placed order code)
+      (numbers code)) (Decides-like (list_any (λ p. not (is_placed order code p)) (numbers code))
+      (λ t. (t.0, t.1, omega (arith, t.2), t.3.0, t.3.1))
+      (λ t. (t.0, t.1, omega (arith, t.2), (t.3, t.4)))
+      (any_of_range (λ p. not (is_placed order code p)) Misplaced
+      (λ p. not_placed (content_of order code p) (length code - 2 - 2 * p) (length code
+      - 2 - 2 * p - content_of order code p + 1) (dictionary_start code)) 1 (procedures code)))
+    where
+      Misplaced : ℕ → Type 0
+      Misplaced p = (content_of order code p ≢ 0)
+          × ((length code - 2 - 2 * p < content_of order code p + 8)
+          ⊎ (dictionary_start code ≤ length code - 2 - 2 * p - content_of order code p + 1))
 
--- the test of the procedure dictionary and the tables says whether they are bad
-are_bad : (order : Order) (code : List ℕ) (host : Bool)
-    → Decides (nat_lt (length code) (dictionary_len code)
-    || not (list_all (is_placed order code) (numbers code))
-    || (host && (procedures code == 0 || content_of order code 1 == 0))) (AreBad order code host)
-are_bad order code host =
-    Decides-or (nat_lt (length code) (dictionary_len code)
-    || not (list_all (is_placed order code) (numbers code)))
-    (host && (procedures code == 0 || content_of order code 1 == 0))
-    (Decides-or (nat_lt (length code) (dictionary_len code))
-    (not (list_all (is_placed order code) (numbers code)))
-    (Decides-ltb (length code) (dictionary_len code)) (bad_table order code))
-    (Decides-and host (procedures code == 0 || content_of order code 1 == 0) (of_test host)
-    (Decides-or (procedures code == 0) (content_of order code 1 == 0)
-    (Decides-eqb (procedures code) 0) (Decides-eqb (content_of order code 1) 0)))
+  -- the test of the procedure dictionary and the tables says whether they are bad
+  are_bad : (host : Bool) → Decides (nat_lt (length code) (dictionary_len code)
+      || not (list_all (is_placed order code) (numbers code))
+      || (host && (procedures code == 0 || content_of order code 1 == 0))) (AreBad order code host)
+  are_bad host = Decides-or (nat_lt (length code) (dictionary_len code) || not (list_all (is_placed
+      order code) (numbers code))) (host && (procedures code == 0 || content_of order code 1 == 0))
+      (Decides-or (nat_lt (length code) (dictionary_len code)) (not (list_all (is_placed order code)
+      (numbers code))) (Decides-ltb (length code) (dictionary_len code)) (bad_table))
+      (Decides-and host (procedures code == 0 || content_of order code 1 == 0)
+      (of_test host) (Decides-or (procedures code == 0) (content_of order code 1 == 0)
+      (Decides-eqb (procedures code) 0) (Decides-eqb (content_of order code 1) 0)))
 
 is_at : (test : ℕ → Bool) (P : ℕ → Type 0) → ((t : ℕ) → Decides (test t) (P t))
     → (o : Option ℕ) → Decides (option_map_or test o false)
     ((t : ℕ) × (o ≡ Some t) × P t)
-is_at test P d None = (λ e. absurd (false≢true e), λ t. absurd (let e = t.1 in cc))
-is_at test P d (Some t) =
-    (λ e. (t, refl, (d t).0 e), λ u. (d t).1 (subst P (let e = u.1 in cc) u.2))
+is_at test P h1 h2 = grind (arith, false≢true)
 
--- the test of the tables says whether one is of a native procedure, whose number is 0
-native_table : (order : Order) (code : List ℕ)
-    → Decides (list_any (λ t. slice_index code t == 0) (tables order code))
-    ((p : ℕ) × (1 ≤ p) × (p ≤ procedures code) × (t : ℕ)
-    × (table_of order code p ≡ Some t) × (slice_index code t ≡ 0))
-native_table order code =
-    Decides-at (list_any (λ t. slice_index code t == 0) (tables order code))
-    (list_any (λ p. option_map_or (λ t. slice_index code t == 0)
-    (table_of order code p) false) (numbers code))
-    (any_of_filter (λ t. slice_index code t == 0) (table_of order code) (numbers code))
-    (Decides-like (list_any (λ p. option_map_or (λ t. slice_index code t == 0)
-    (table_of order code p) false) (numbers code))
-    (λ t. (t.0, t.1, omega (arith, t.2), t.3.0, t.3.1, t.3.2))
-    (λ t. (t.0, t.1, omega (arith, t.2), (t.3, t.4, t.5)))
-    (any_of_range (λ p. option_map_or (λ t. slice_index code t == 0)
-    (table_of order code p) false) (λ p. (t : ℕ) × (table_of order code p ≡ Some t)
-    × (slice_index code t ≡ 0))
-    (λ p. is_at (λ t. slice_index code t == 0) (λ t. slice_index code t ≡ 0)
-    (λ t. Decides-eqb (slice_index code t) 0) (table_of order code p)) 1 (procedures code)))
+module _ (order : Order) (code : List ℕ) where
+  -- the test of the tables says whether one is of a native procedure, whose number is 0
+  native_table : Decides (list_any (λ t. slice_index code t == 0) (tables order code))
+      ((p : ℕ) × (1 ≤ p) × (p ≤ procedures code)
+      × (t : ℕ) × (table_of order code p ≡ Some t) × (slice_index code t ≡ 0))
+  native_table = Decides-at (list_any (λ t. slice_index code t == 0) (tables order code))
+      (list_any (λ p. option_map_or (λ t. slice_index code t == 0) (table_of order code p) false)
+      (numbers code)) (any_of_filter
+      (λ t. slice_index code t == 0) (table_of order code) (numbers code)) (Decides-like
+      (list_any (λ p. option_map_or (λ t. slice_index code t == 0) (table_of order code p) false)
+      (numbers code)) (λ t. (t.0, t.1, omega (arith, t.2), t.3.0, t.3.1, t.3.2))
+      (λ t. (t.0, t.1, omega (arith, t.2), (t.3, t.4, t.5))) (any_of_range
+      (λ p. option_map_or (λ t. slice_index code t == 0) (table_of order code p) false)
+      (λ p. (t : ℕ) × (table_of order code p ≡ Some t) × (slice_index code t ≡ 0))
+      (λ p. is_at (λ t. slice_index code t == 0) (λ t. slice_index code t ≡ 0)
+      (λ t. Decides-eqb (slice_index code t) 0) (table_of order code p)) 1 (procedures code)))
 
--- the reason that is given for the tables of a code is the one of smallest rank that applies
-pub tables_rows : (order : Order) (code : List ℕ) (host : Bool)
-    → Least Ranked (TablesHave order code host) (tables_fault order code host)
-tables_rows order code host =
-    go (nat_lt (length code) (dictionary_len code)
-    || not (list_all (is_placed order code) (numbers code))
-    || (host && (procedures code == 0 || content_of order code 1 == 0)))
-    (list_any (λ t. slice_index code t == 0) (tables order code)) (are_bad order code host)
-    (native_table order code)
-  where
-    go : (b n : Bool) → Decides b (AreBad order code host)
-        → Decides n ((p : ℕ) × (1 ≤ p) × (p ≤ procedures code) × (t : ℕ)
-        × (table_of order code p ≡ Some t) × (slice_index code t ≡ 0))
-        → Least Ranked (TablesHave order code host)
-        (if b then Some reason.BadProcDict
-        else (if n then Some reason.NativeProcedure else None))
-    go true n d e = this reason.BadProcDict (d.0 refl) (λ y h. grind arith)
-    go false true d e = this reason.NativeProcedure (λ h. false≢true (d.1 h), e.0 refl)
-        (λ y h. grind arith)
-    go false false d e = nothing (λ y h. grind arith)
+  -- the reason that is given for the tables of a code is the one of smallest rank that applies
+  pub tables_rows : (host : Bool)
+      → Least Ranked (TablesHave order code host) (tables_fault order code host)
+  tables_rows host =
+      go (nat_lt (length code) (dictionary_len code) || not (list_all (is_placed order code)
+      (numbers code)) || (host && (procedures code == 0 || content_of order code 1 == 0))) (list_any
+      (λ t. slice_index code t == 0) (tables order code)) (are_bad order code host) (native_table)
+    where
+      go : (b n : Bool) → Decides b (AreBad order code host) → Decides n ((p : ℕ)
+          × (1 ≤ p) × (p ≤ procedures code) × (t : ℕ) × (table_of order code p ≡ Some t)
+          × (slice_index code t ≡ 0)) → Least Ranked (TablesHave order code host)
+          (if b then Some reason.BadProcDict else (if n then Some reason.NativeProcedure else None))
+      go true n d e = grind (arith, this)
+      go false true d e = grind (arith, this, false≢true)
+      go false false d e = grind (arith, nothing)
 
 -- what is read is the only stop: the law of link information
 abbrev pub OneStop : Type 0
@@ -363,9 +323,12 @@ OneStop = (order : Order) (bytes : List ℕ) (rs : List Record) (why : Reason)
     → Stops order bytes rs why ↔ (reading order bytes ≡ (rs, Some why))
 
 -- the records
-records_least : OneStop → (order : Order) (file : List ℕ) (e : Entry) (k slot : ℕ)
-    → Least (Precedes OfSources) (λ f. (rs : List Record) × (why : Reason)
-    × (f ≡ in_record k slot (length rs) why) × Stops order (information_of file e) rs why)
+abbrev RecordStops : Order → List ℕ → Entry → ℕ → ℕ → Fault → Type 0
+RecordStops order file e k slot f = (rs : List Record) × (why : Reason)
+    × (f ≡ in_record k slot (length rs) why) × Stops order (information_of file e) rs why
+
+records_least : (law : OneStop) (order : Order) (file : List ℕ) (e : Entry) (k slot : ℕ)
+    → Least (Precedes OfSources) (RecordStops order file e k slot)
     (information_fault order file e k slot)
 records_least law order file e k slot = go (reading order bytes) refl
   where
@@ -373,19 +336,16 @@ records_least law order file e k slot = go (reading order bytes) refl
     bytes = information_of file e
 
     go : (read : List Record × Option Reason) → reading order bytes ≡ read
-        → Least (Precedes OfSources) (λ f. (rs : List Record) × (why : Reason)
-        × (f ≡ in_record k slot (length rs) why) × Stops order (information_of file e) rs why)
+        → Least (Precedes OfSources) (RecordStops order file e k slot)
         (option_map (in_record k slot (length read.0)) read.1)
-    go (rs, None) is = nothing (λ f t. none-some t.1
-        (ap (λ (p : List Record × Option Reason). p.1)
-        (sym is ∙ (law order bytes t.0 t.1).0 t.3)))
+    go (rs, None) is = nothing (λ f t. none-some t.1 (ap
+        (λ (p : List Record × Option Reason). p.1) (sym is ∙ (law order bytes t.0 t.1).0 t.3)))
     go (rs, Some why) is =
         this (in_record k slot (length rs) why) (rs, why, refl, (law order bytes rs why).1 is)
-        (λ f t.
-        let e = sym ((law order bytes t.0 t.1).0 t.3) ∙ is in
-        let records = ap (λ (p : List Record × Option Reason). p.0) e in
-        let same = same_Some t.1 why (ap (λ (p : List Record × Option Reason). p.1) e) in
-        inl (t.2 ∙ ap (λ (q : List Record). in_record k slot (length q) t.1) records
+        (λ f t. let e = sym ((law order bytes t.0 t.1).0 t.3) ∙ is in let records =
+        ap (λ (p : List Record × Option Reason). p.0) e in let same =
+        same_Some t.1 why (ap (λ (p : List Record × Option Reason). p.1) e) in inl
+        (t.2 ∙ ap (λ (q : List Record). in_record k slot (length q) t.1) records
         ∙ ap (in_record k slot (length rs)) same))
 
 -- a code
@@ -414,87 +374,71 @@ entry_early order name libs slot f t = early (t.0 + 1) slot 15 f (entries_low or
 
 late_record : (k slot n rec : ℕ) (why : Reason) (f : Fault) → f ≡ in_record k slot rec why
     → Late slot n f
-late_record k slot n rec why f e = (
-  ap (λ (g : Fault). unwrap_or g.slot g.file) e,
-  inr (let a : part f.rec ≡ rec + 1 = ap (λ (g : Fault). part g.rec) e in omega (arith, a)),
-)
+late_record k slot n rec why f e = grind arith
 
 -- a fault of a code, its tables or its records is from rank 15 on, or of a record
 pub code_late : (order : Order) (file : List ℕ) (k : ℕ) (e : Entry) (slot : ℕ) (r : Role)
     (f : Fault) → CodeFault order file k e slot r f → Late slot 15 f
 code_late order file k e slot r f t = grind (arith, late, code_mid, tables_mid, late_record)
 
--- the first fault of a code, its tables and its records is the smallest that applies
-pub code_least : OneStop → (order : Order) (slot : ℕ) (r : Role) (host : List ℕ)
-    (libs : List (List ℕ)) (at : ℕ × ℕ)
-    → Least (Precedes OfSources) (CodeFault order (file_at host libs at.0) at.0
-    (entry_at order (file_at host libs at.0) at.1) slot r) (code_fault order host libs slot r at)
-code_least law order slot r host libs at = go (code_of file e) refl
-  where
-    file : List ℕ
-    file = file_at host libs at.0
+module _ (law : OneStop) (order : Order) where
+  -- the first fault of a code, its tables and its records is the smallest that applies
+  pub code_least : (slot : ℕ) (r : Role) (host : List ℕ) (libs : List (List ℕ)) (at : ℕ
+      × ℕ) → Least (Precedes OfSources) (CodeFault order (file_at host libs at.0) at.0
+      (entry_at order (file_at host libs at.0) at.1) slot r) (code_fault order host libs slot r at)
+  code_least slot r host libs at = go (code_of file e) refl
+    where
+      file : List ℕ
+      file = file_at host libs at.0
 
-    e : Entry
-    e = entry_at order file at.1
+      e : Entry
+      e = entry_at order file at.1
 
-    Records : Fault → Type 0
-    Records f = (rs : List Record) × (why : Reason) × (f ≡ in_record at.0 slot (length rs) why)
-        × Stops order (information_of file e) rs why
+      Records : Fault → Type 0
+      Records = RecordStops order file e at.0 slot
 
-    go : (o : Result (List ℕ) Reason) → code_of file e ≡ o
-        → Least (Precedes OfSources) (CodeFault order file at.0 e slot r)
-        (elim o [
-          | Err why ↦ Some (in_slot at.0 slot why)
-          | Ok code ↦ if needs_linking r
-              then option_or (option_map (in_slot at.0 slot) (tables_fault order code (is_host r)))
-              (information_fault order file e at.0 slot) else None
-        ])
-    go (Err why) q =
-        this (in_slot at.0 slot why) (inl (why, refl, q))
-        (λ f. elim [
-          | inl t ↦ inl (t.1 ∙ ap (in_slot at.0 slot) (let a = t.2 in cc))
-          | inr t ↦ absurd (let a = t.1 in cc)
-        ])
-    go (Ok code) q =
-        least_same to from
-        (least_guard (needs_linking r) (of_test (needs_linking r))
-        (least_or (because OfSources (in_slot at.0 slot)
-        (λ a b h. inr (refl, inr (refl, inr (refl, inr (refl, inl h)))))
-        (tables_rows order code (is_host r))) (records_least law order file e at.0 slot)
-        (λ x y a b. early_late slot 20 x y
-        (early at.0 slot 20 x (λ why h. (tables_mid order code (is_host r) why h).1) a)
-        (late_record at.0 slot 20 (length b.0) b.1 y b.2))))
-      where
-        Linked : Fault → Type 0
-        Linked f = (needs_linking r ≡ true)
-            × (Because (in_slot at.0 slot) (TablesHave order code (is_host r)) f ⊎ Records f)
+      go : (o : Result (List ℕ) Reason) → code_of file e ≡ o
+          → Least (Precedes OfSources) (CodeFault order file at.0 e slot r)
+          (elim o [
+            | Err why ↦ Some (in_slot at.0 slot why)
+            | Ok code ↦ if needs_linking r
+                then option_or
+                (option_map (in_slot at.0 slot) (tables_fault order code (is_host r)))
+                (information_fault order file e at.0 slot) else None
+          ])
+      go (Err why) q = grind (arith, this)
+      go (Ok code) q = least_same to from (least_guard (needs_linking r) (of_test (needs_linking r))
+          (least_or (because OfSources (in_slot at.0 slot) (λ a b h. grind arith)
+          (tables_rows order code (is_host r))) (records_least law order file e at.0 slot)
+          (λ x y a b. early_late slot 20 x y (early at.0 slot 20 x (λ why h. (tables_mid
+          order code (is_host r) why h).1) a) (late_record at.0 slot 20 (length b.0) b.1 y b.2))))
+        where
+          Linked : Fault → Type 0
+          Linked f = (needs_linking r ≡ true)
+              × (Because (in_slot at.0 slot) (TablesHave order code (is_host r)) f ⊎ Records f)
 
-        to : (f : Fault) → Linked f → CodeFault order file at.0 e slot r f
-        to f t = inr (code, q, t)
+          to : (f : Fault) → Linked f → CodeFault order file at.0 e slot r f
+          to f t = inr (code, q, t)
 
-        from : (f : Fault) → CodeFault order file at.0 e slot r f → Linked f
-        from f (inl t) = absurd (let a = t.2 in cc)
-        from f (inr t) = let same : t.0 ≡ code = (let a = t.1 in cc) in (
-          t.2.0,
-          subst (λ (c : List ℕ). Because (in_slot at.0 slot)
-              (TablesHave order c (is_host r)) f ⊎ Records f) same t.2.1,
-        )
+          from : (f : Fault) → CodeFault order file at.0 e slot r f → Linked f
+          from f (inl t) = search (rules, arith)
+          from f (inr t) = let same : t.0 ≡ code = (let a = t.1 in cc) in (
+            t.2.0,
+            subst (λ (c : List ℕ). Because (in_slot at.0 slot)
+                (TablesHave order c (is_host r)) f ⊎ Records f) same t.2.1,
+          )
 
--- the first fault of a name's unit in a slot, of the library's entries and then of its code, is the
--- smallest that applies
-pub unit_least : OneStop → (order : Order) (host : List ℕ) (libs : List (List ℕ))
-    (name : List ℕ) (slot : ℕ)
-    → Least (Precedes OfSources) (PlacedFault order host libs name slot)
-    (option_or (entry_fault order name libs slot)
-    (option_and_then (code_fault order host libs slot role.Wanted)
-    (unit_source order name libs)))
-unit_least law order host libs name slot =
-    least_or (entry_least order name libs slot)
-    (least_then (code_fault order host libs slot role.Wanted) (unit_source order name libs)
-    (λ at e. code_least law order slot role.Wanted host libs at))
-    (λ x y s t. early_late slot 15 x y (entry_early order name libs slot x s)
-    (code_late order (file_at host libs t.0.0) t.0.0
-    (entry_at order (file_at host libs t.0.0) t.0.1) slot role.Wanted y t.2))
+  -- the first fault of a name's unit in a slot, of the library's entries and then of its code, is
+  -- the smallest that applies
+  pub unit_least : (host : List ℕ) (libs : List (List ℕ)) (name : List ℕ) (slot : ℕ)
+      → Least (Precedes OfSources)
+      (PlacedFault order host libs name slot) (option_or (entry_fault order name libs slot)
+      (option_and_then (code_fault order host libs slot role.Wanted) (unit_source order name libs)))
+  unit_least host libs name slot = least_or (entry_least order name libs slot)
+      (least_then (code_fault order host libs slot role.Wanted) (unit_source order name libs)
+      (λ at e. code_least slot role.Wanted host libs at)) (λ x y s t. early_late slot 15 x y
+      (entry_early order name libs slot x s) (code_late order (file_at host libs t.0.0) t.0.0
+      (entry_at order (file_at host libs t.0.0) t.0.1) slot role.Wanted y t.2))
 
 pub is_ok : {X E : Type 0} (o : Result X E) (x : X) → o ≡ Ok x → result_ok o ≡ Some x
 is_ok o x h = grind arith
@@ -509,15 +453,13 @@ SourceFaults order host libs slot r f =
     (entry_at order (file_at host libs at.0) at.1) slot r f)
 
 -- the first fault of a slot of this role is the smallest that applies
-of_role : OneStop → (order : Order) (host : List ℕ) (libs : List (List ℕ)) (slot : ℕ)
-    (r : Role) → role_of (entry_at order host slot) ≡ Ok r
-    → Least (Precedes OfSources) (SourceFaults order host libs slot r)
-    (role_fault order host libs slot r)
+of_role : (law : OneStop) (order : Order) (host : List ℕ) (libs : List (List ℕ))
+    (slot : ℕ) (r : Role) → role_of (entry_at order host slot) ≡ Ok r → Least
+    (Precedes OfSources) (SourceFaults order host libs slot r) (role_fault order host libs slot r)
 of_role law order host libs slot role.Wanted has =
     let missing = is_none (chosen_library order name libs) in
     go (is_missing order libs name) (Decides-at (is_missing order libs name) missing
-    (ap (λ (b : Bool). b || missing) (has_name order host libs slot has))
-    (none_has order name libs))
+    (ap (λ b. b || missing) (has_name order host libs slot has)) (none_has order name libs))
   where
     name : List ℕ
     name = (entry_at order host slot).name
@@ -528,19 +470,16 @@ of_role law order host libs slot role.Wanted has =
     first : Fault
     first = in_slot 0 slot reason.MissingUnit
 
-    go : (b : Bool) → Decides b (NoneHas order name libs)
-        → Least (Precedes OfSources) Faults
-        (if b then Some first else option_or (entry_fault order name libs slot)
-        (option_and_then (code_fault order host libs slot role.Wanted)
-        (unit_source order name libs)))
+    go : (b : Bool) → Decides b (NoneHas order name libs) → Least (Precedes OfSources) Faults
+        (if b then Some first else option_or (entry_fault order name libs slot) (option_and_then
+        (code_fault order host libs slot role.Wanted) (unit_source order name libs)))
     go true d = this first (inl (refl, inl (refl, d.0 refl))) least
       where
         least : (f : Fault) → Faults f → (f ≡ first) ⊎ Precedes OfSources first f
         least f (inl (w, inl t)) = inl t.0
-        least f (inl (w, inr t)) = absurd (d.0 refl (t.0, t.1, t.2, t.3.0.0))
-        least f (inr t) =
-            inr (early_late slot 15 first f (refl, refl, refl, omega arith)
-            (code_late order (file_at host libs t.0.0) t.0.0
+        least f (inl (w, inr t)) = grind arith
+        least f (inr t) = inr (early_late slot 15 first f
+            (refl, refl, refl, omega arith) (code_late order (file_at host libs t.0.0) t.0.0
             (entry_at order (file_at host libs t.0.0) t.0.1) slot role.Wanted f t.2))
     go false d = least_same (λ f. elim [ inl t ↦ inl (refl, inr t) | inr t ↦ inr t ]) from
         (unit_least law order host libs name slot)
@@ -559,7 +498,7 @@ in_place : (order : Order) (host : List ℕ) (libs : List (List ℕ)) (slot : �
 in_place order host libs slot r f h = grind (arith, entry_early, code_late)
 
 -- the first fault of the sources is the smallest that applies
-pub step_5 : OneStop → (order : Order) (host : List ℕ) (libs : List (List ℕ))
+pub step_5 : (law : OneStop) (order : Order) (host : List ℕ) (libs : List (List ℕ))
     → Least (Precedes OfSources) (InSources order host libs) (sources_fault order host libs)
 unfolding sources_fault
 step_5 law order host libs =

@@ -1,15 +1,14 @@
 -- The first fault of each step is the smallest that is.
-use Rattle.std.proofs.Common.{◌≡◌, ℕ, zero, suc, ◌+◌, ◌<◌, ◌≤◌, List, length}
-use Rattle.std.proofs.Common.{Option, Result, Ok, Err, Bool, false, refl, sym, subst, inl, inr}
+use Rattle.std.proofs.Common.{rules, ◌≡◌, ℕ, zero, suc, ◌+◌, ◌<◌, ◌≤◌, List}
+use Rattle.std.proofs.Common.{length, Option, Result, Ok, Err, Bool, false, refl, subst, inl, inr}
 use Rattle.std.proofs.Common.{arith}
-use Rattle.ps_laws.proofs.Words.{◌⊎◌, if◌then◌else◌, nat_lt, not, ◌&&◌, ◌||◌}
-use Rattle.ps_laws.proofs.Words.{Decides, range_with_len, list_any, option_map, option_map_or}
-use Rattle.ps_laws.proofs.Words.{result_ok, result_err, bytes_eq, cases_lt, false≢true}
-use Rattle.ps_laws.proofs.Words.{Decides-ltb, Decides-and, Decides-or, Decides-like}
-use Rattle.ps_laws.proofs.Words.{bytes_eq-Decides, slots, entry_at, role_of, Because, SomeBelow}
-use Rattle.ps_laws.proofs.Words.{HasRole, IsUnitSlot, Step, OfHost, OfSlots, OfNoHost, OfLibraries}
-use Rattle.ps_laws.proofs.Words.{rank, Entry, Role, is_role, is_host, is_unit, in_slot, Order}
-use Rattle.ps_laws.proofs.Words.{Reason, Fault}
+use Rattle.ps_laws.proofs.Words.{◌⊎◌, if◌then◌else◌, nat_lt, not, ◌&&◌, Decides}
+use Rattle.ps_laws.proofs.Words.{range_with_len, list_any, option_map, option_map_or, result_ok}
+use Rattle.ps_laws.proofs.Words.{result_err, bytes_eq, cases_lt, false≢true, Decides-ltb}
+use Rattle.ps_laws.proofs.Words.{Decides-and, Decides-like, bytes_eq-Decides, slots, entry_at}
+use Rattle.ps_laws.proofs.Words.{role_of, Because, SomeBelow, HasRole, IsUnitSlot, Step, OfHost}
+use Rattle.ps_laws.proofs.Words.{OfSlots, OfNoHost, OfLibraries, rank, Entry, Role, is_role}
+use Rattle.ps_laws.proofs.Words.{is_host, is_unit, in_slot, Order, Reason, Fault}
 use Rattle.std.proofs.lemmas.Bool.Decides.{Decides-not}
 use Rattle.ps_codefile.specs.Dictionary.{FileOrder, file_order, opened_alone, opened_as}
 use Rattle.ps_codefile.specs.Dictionary.{opened_beside_as, same_order}
@@ -38,39 +37,23 @@ because step h ranked l = least_map h (least_order (λ x y s t r. ranked x y r) 
 pub because_apart : {A C : Type 0} {P : A → Type 0} {Q : C → Type 0} (step : Step)
     (h : A → Fault) (k : C → Fault) → ((a : A) (c : C) → Precedes step (h a) (k c))
     → (x y : Fault) → Because h P x → Because k Q y → Precedes step x y
-because_apart step h k apart x y s t = subst (λ z. Precedes step z y) (sym s.1)
-    (subst (λ z. Precedes step (h s.0) z) (sym t.1) (apart s.0 t.0))
+because_apart step h k apart x y s t = grind arith
 
 pub least_err : {X Y : Type 0} {B : X → X → Type 0} (r : Result Y X)
     → Least B (λ x. r ≡ Err x) (result_err r)
 least_err (Ok y) = nothing (λ x e. cc)
 least_err (Err y) = this y refl (λ x e. inl (cc))
 
--- a test of the numbers of a range
-pub any_of_range : (test : ℕ → Bool) (P : ℕ → Type 0)
-    → ((i : ℕ) → Decides (test i) (P i)) → (a n : ℕ)
-    → Decides (list_any test (range_with_len a n)) ((i : ℕ) × (a ≤ i) × (i < a + n) × P i)
-any_of_range test P d a zero =
-    (λ e. absurd (false≢true e), λ t. absurd (omega (arith, t.1, t.2)))
-any_of_range test P d a (suc n) =
-    Decides-like (test a || list_any test (range_with_len (a + 1) n))
-    (elim [
-      | inl p ↦ (a, omega arith, omega arith, p)
-      | inr t ↦ (t.0, omega (arith, t.1), omega (arith, t.2), t.3)
-    ])
-    (λ t. elim (cases_lt a t.0) [
-      | inl h ↦ inr (t.0, omega (arith, h), omega (arith, t.2), t.3)
-      | inr h ↦ inl (subst P (omega (arith, h, t.1)) t.3)
-    ])
-    (Decides-or (test a) (list_any test (range_with_len (a + 1) n)) (d a)
-    (any_of_range test P d (a + 1) n))
+module _ (test : ℕ → Bool) (P : ℕ → Type 0) where
+  -- a test of the numbers of a range
+  pub any_of_range : ((i : ℕ) → Decides (test i) (P i)) → (a n : ℕ) → Decides
+      (list_any test (range_with_len a n)) ((i : ℕ) × (a ≤ i) × (i < a + n) × P i)
+  any_of_range d a zero = grind (arith, false≢true)
+  any_of_range d a (suc n) = grind (arith, cases_lt, any_of_range d (a + 1) n)
 
-pub any_lesser : (test : ℕ → Bool) (P : ℕ → Type 0)
-    → ((i : ℕ) → Decides (test i) (P i)) → (n : ℕ)
-    → Decides (list_any test (range_with_len 0 n)) (SomeBelow n P)
-any_lesser test P d n = Decides-like (list_any test (range_with_len 0 n))
-    (λ t. (t.0, omega (arith, t.2), t.3)) (λ t. (t.0, omega arith, omega (arith, t.1), t.2))
-    (any_of_range test P d 0 n)
+  pub any_lesser : ((i : ℕ) → Decides (test i) (P i))
+      → (n : ℕ) → Decides (list_any test (range_with_len 0 n)) (SomeBelow n P)
+  any_lesser d n = search (rules, arith, any_of_range)
 
 -- 1
 host_reason : (host : List ℕ) → Least Ranked (HostHas host) (result_err (opened_alone host))
@@ -83,8 +66,7 @@ host_reason host = go (nat_lt (length host) 512) (file_order host)
     go b o d e = grind (arith, this, nothing)
 
 pub step_1 : (host : List ℕ) → Least (Precedes OfHost) (InHost host) (host_fault host)
-step_1 host = because OfHost (in_file 0)
-    (λ a b r. inr (refl, inr (refl, inr (refl, inr (refl, inl r))))) (host_reason host)
+step_1 host = because OfHost (in_file 0) (λ a b r. grind arith) (host_reason host)
 
 -- 4
 is_same : (other order : Order) → Decides (same_order other order) (other ≡ order)
@@ -117,7 +99,7 @@ step_4 order libs =
     (λ f t. (t.0, t.0 + 1, t.1, omega arith, t.2, t.3))
     (least_each (library_fault order) 1 libs
     (λ i k lib q e. because OfLibraries (in_file k)
-    (λ a b r. inr (refl, inr (refl, inr (refl, inr (refl, inl r)))))
+    (λ a b r. grind arith)
     (library_reasons order lib))
     (λ i j a b x y h. because_apart OfLibraries (in_file i) (in_file j)
     (λ r q. inr (refl, inl h)) x y))
@@ -133,103 +115,79 @@ pub host_role : (r : Result Role Reason)
 host_role r = grind arith
 
 -- the test of a role passes just where there is one, and it is Unit or Wanted
-pub unit_role : (r : Result Role Reason)
-    → Decides (option_map_or is_unit (result_ok r) false)
-    ((r ≡ Ok role.Unit) ⊎ (r ≡ Ok role.Wanted))
+pub unit_role : (r : Result Role Reason) → Decides
+    (option_map_or is_unit (result_ok r) false) ((r ≡ Ok role.Unit) ⊎ (r ≡ Ok role.Wanted))
 unit_role r = grind arith
 
--- the reason that is given for a slot is the one of smallest rank that applies
-slot_rows : (order : Order) (host : List ℕ) (slot : ℕ)
-    → Least Ranked (SlotHas order host slot) (slot_reason order host slot)
-slot_rows order host slot =
-    least_same to from
-    (least_or (least_err (role_of (entry_at order host slot)))
-    (least_or
-    (least_if (is_role is_host order host slot
-    && list_any (is_role is_host order host) (range_with_len 0 slot)) reason.TwoHosts
-    (Decides-and (is_role is_host order host slot)
-    (list_any (is_role is_host order host) (range_with_len 0 slot)) (hosts slot)
-    (any_lesser (is_role is_host order host)
-    (λ i. HasRole order host i role.Host) hosts slot)))
-    (least_if (is_role is_unit order host slot && list_any same (range_with_len 0 slot))
-    reason.DoubledSegment
-    (Decides-and (is_role is_unit order host slot) (list_any same (range_with_len 0 slot))
-    (units slot)
-    (any_lesser same (λ i. IsUnitSlot order host i × (name i ≡ name slot))
-    (λ i. Decides-and (is_role is_unit order host i) (bytes_eq (name i) (name slot)) (units i)
-    (bytes_eq-Decides (name i) (name slot))) slot)))
-    (λ x y s t. rw (s.0, t.0) (omega arith)))
-    apart)
-  where
-    name : ℕ → List ℕ
-    name i = (entry_at order host i).name
+module _ (order : Order) (host : List ℕ) where
+  -- the reason that is given for a slot is the one of smallest rank that applies
+  slot_rows : (slot : ℕ) → Least Ranked (SlotHas order host slot) (slot_reason order host slot)
+  slot_rows slot = least_same to from (least_or (least_err (role_of (entry_at order host slot)))
+      (least_or (least_if (is_role is_host order host slot && list_any (is_role is_host order host)
+      (range_with_len 0 slot)) reason.TwoHosts (Decides-and (is_role is_host order host slot)
+      (list_any (is_role is_host order host) (range_with_len 0 slot)) (hosts slot)
+      (any_lesser (is_role is_host order host) (λ i. HasRole order host i role.Host) hosts slot)))
+      (least_if (is_role is_unit order host slot && list_any same (range_with_len 0 slot))
+      reason.DoubledSegment (Decides-and (is_role is_unit order host slot) (list_any same
+      (range_with_len 0 slot)) (units slot) (any_lesser same (λ i. IsUnitSlot order host i
+      × (name i ≡ name slot)) (λ i. Decides-and (is_role is_unit order host i)
+      (bytes_eq (name i) (name slot)) (units i) (bytes_eq-Decides (name i) (name slot))) slot)))
+      (λ x y s t. rw (s.0, t.0) (omega arith))) apart)
+    where
+      name : ℕ → List ℕ
+      name i = (entry_at order host i).name
 
-    same : ℕ → Bool
-    same i = is_role is_unit order host i
-        && bytes_eq (entry_at order host i).name (entry_at order host slot).name
+      same : ℕ → Bool
+      same i = is_role is_unit order host i
+          && bytes_eq (entry_at order host i).name (entry_at order host slot).name
 
-    hosts : (i : ℕ) → Decides (is_role is_host order host i) (HasRole order host i role.Host)
-    hosts i = host_role (role_of (entry_at order host i))
+      hosts : (i : ℕ) → Decides (is_role is_host order host i) (HasRole order host i role.Host)
+      hosts i = host_role (role_of (entry_at order host i))
 
-    units : (i : ℕ) → Decides (is_role is_unit order host i) (IsUnitSlot order host i)
-    units i = unit_role (role_of (entry_at order host i))
+      units : (i : ℕ) → Decides (is_role is_unit order host i) (IsUnitSlot order host i)
+      units i = unit_role (role_of (entry_at order host i))
 
-    low : (x : Reason) → role_of (entry_at order host slot) ≡ Err x → rank x < 9
-    low x e = role_low (entry_at order host slot) x e
+      low : (x : Reason) → role_of (entry_at order host slot) ≡ Err x → rank x < 9
+      low x e = role_low (entry_at order host slot) x e
 
-    Second : Reason → Type 0
-    Second x = (x ≡ reason.TwoHosts) ×
-        (HasRole order host slot role.Host × SomeBelow slot (λ i. HasRole order host i role.Host))
+      Second : Reason → Type 0
+      Second x = (x ≡ reason.TwoHosts) × (HasRole order host slot role.Host
+          × SomeBelow slot (λ i. HasRole order host i role.Host))
 
-    Third : Reason → Type 0
-    Third x = (x ≡ reason.DoubledSegment)
-        × (IsUnitSlot order host slot × SomeBelow slot
-        (λ i. IsUnitSlot order host i × (name i ≡ name slot)))
+      Third : Reason → Type 0
+      Third x = (x ≡ reason.DoubledSegment) × (IsUnitSlot order host slot
+          × SomeBelow slot (λ i. IsUnitSlot order host i × (name i ≡ name slot)))
 
-    keep : (x : Reason) → rank x < 9 → role_of (entry_at order host slot) ≡ Err x
-        → SlotHas order host slot x
-    keep x h e = grind arith
+      keep : (x : Reason) → rank x < 9 → role_of (entry_at order host slot) ≡ Err x
+          → SlotHas order host slot x
+      keep x h e = grind arith
 
-    to : (x : Reason) → (role_of (entry_at order host slot) ≡ Err x) ⊎ (Second x ⊎ Third x)
-        → SlotHas order host slot x
-    to x (inr (inl t)) = subst (SlotHas order host slot) (sym t.0) t.1
-    to x (inr (inr t)) = subst (SlotHas order host slot) (sym t.0) t.1
-    to x (inl e) = keep x (low x e) e
+      to : (x : Reason) → (role_of (entry_at order host slot) ≡ Err x)
+          ⊎ (Second x ⊎ Third x) → SlotHas order host slot x
+      to x h1 = search (rules, arith)
 
-    from : (x : Reason) → SlotHas order host slot x
-        → (role_of (entry_at order host slot) ≡ Err x) ⊎ (Second x ⊎ Third x)
-    from x h = grind arith
+      from : (x : Reason) → SlotHas order host slot x
+          → (role_of (entry_at order host slot) ≡ Err x) ⊎ (Second x ⊎ Third x)
+      from x h = grind arith
 
-    apart : (x y : Reason) → role_of (entry_at order host slot) ≡ Err x → Second y ⊎ Third y
-        → Ranked x y
-    apart x y e = let h = low x e in elim [
-      | inl t ↦ subst (λ w. Ranked x w) (sym t.0) h
-      | inr t ↦ subst (λ w. Ranked x w) (sym t.0) (omega (arith, h))
-    ]
+      apart : (x y : Reason)
+          → role_of (entry_at order host slot) ≡ Err x → Second y ⊎ Third y → Ranked x y
+      apart x y e = grind arith
 
--- the first fault of the slots is the smallest that applies
-pub step_2 : (order : Order) (host : List ℕ)
-    → Least (Precedes OfSlots) (InSlots order host) (slots_fault order host)
-unfolding slots_fault
-step_2 order host =
-    least_same (λ f t. (t.0, omega (arith, t.2), t.3))
-    (λ f t. (t.0, omega arith, omega (arith, t.1), t.2))
-    (least_range (λ slot. option_map (in_slot 0 slot) (slot_reason order host slot))
-    (λ slot. because OfSlots (in_slot 0 slot)
-    (λ a b r. inr (refl, inr (refl, inr (refl, inr (refl, inl r)))))
-    (slot_rows order host slot))
-    (λ i j x y h. because_apart OfSlots (in_slot 0 i) (in_slot 0 j)
-    (λ r q. inr (refl, inl h)) x y)
-    0 16)
+  -- the first fault of the slots is the smallest that applies
+  pub step_2 : Least (Precedes OfSlots) (InSlots order host) (slots_fault order host)
+  unfolding slots_fault
+  step_2 = least_same
+      (λ f t. (t.0, omega (arith, t.2), t.3)) (λ f t. (t.0, omega arith, omega (arith, t.1), t.2))
+      (least_range (λ slot. option_map (in_slot 0 slot) (slot_reason order host slot))
+      (λ slot. because OfSlots (in_slot 0 slot) (λ a b r. grind arith) (slot_rows slot)) (λ i j x
+      y h. because_apart OfSlots (in_slot 0 i) (in_slot 0 j) (λ r q. inr (refl, inl h)) x y) 0 16)
 
--- 3
-pub step_3 : (order : Order) (host : List ℕ)
-    → Least (Precedes OfNoHost) (InNoHost order host) (no_host_fault order host)
-unfolding no_host_fault
-step_3 order host =
-    least_if (not (list_any (is_role is_host order host) slots)) (in_file 0 reason.NoHost)
-    (Decides-like (not (list_any (is_role is_host order host) slots))
-    (λ n slot h r. n (slot, h, r)) (λ n t. n t.0 t.1 t.2)
-    (Decides-not (list_any (is_role is_host order host) slots)
-    (any_lesser (is_role is_host order host) (λ i. HasRole order host i role.Host)
-    (λ i. host_role (role_of (entry_at order host i))) 16)))
+  -- 3
+  pub step_3 : Least (Precedes OfNoHost) (InNoHost order host) (no_host_fault order host)
+  unfolding no_host_fault
+  step_3 = least_if (not (list_any (is_role is_host order host) slots))
+      (in_file 0 reason.NoHost) (Decides-like (not (list_any (is_role is_host order host) slots))
+      (λ n slot h r. n (slot, h, r)) (λ n t. n t.0 t.1 t.2) (Decides-not
+      (list_any (is_role is_host order host) slots) (any_lesser (is_role is_host order host) (λ
+      i. HasRole order host i role.Host) (λ i. host_role (role_of (entry_at order host i))) 16)))

@@ -2,11 +2,10 @@
 use Rattle.std.proofs.Common.{◌≡◌, ℕ, zero, suc, ◌+◌, ◌<◌, List, [], Option, Some}
 use Rattle.std.proofs.Common.{sym, ap, subst, arith, unwrap_or, refl, ◌≤◌, None, Bool, true}
 use Rattle.std.proofs.Common.{false}
-use Rattle.ps_laws.proofs.Words.{slice_get, find, option_map, slots, IsFile, is_named}
-use Rattle.ps_laws.proofs.Words.{chosen_library, unit_source, file_at, IsNamed, HasEntry, Order}
-use Rattle.ps_laws.proofs.Words.{◌==◌, Decides, false≢true, Decides-eqb, entry_at}
-use Rattle.ps_laws.proofs.Words.{entry_fault}
-use Rattle.ps_laws.proofs.Words.{request_fault, OfSources, EntryFault, Request, in_slot, Fault}
+use Rattle.ps_laws.proofs.Words.{slice_get, option_map, slots, Decides-eqb, entry_fault, EntryFault}
+use Rattle.ps_laws.proofs.Words.{find, IsFile, Order, Request, in_slot, Fault}
+use Rattle.ps_laws.proofs.Words.{is_named, chosen_library, unit_source, false≢true, request_fault}
+use Rattle.ps_laws.proofs.Words.{file_at, IsNamed, HasEntry, ◌==◌, Decides, entry_at, OfSources}
 use Rattle.std.proofs.lemmas.Option.{option_and_then_some}
 use Rattle.ps_resolve.specs.Sources.{library_file}
 use Rattle.ps_resolve.proofs.FirstSlots.{some_mapped}
@@ -37,8 +36,7 @@ module _ (order : Order) (name : List ℕ) (libs : List (List ℕ)) where
   first_library : (p : ℕ × List ℕ) → chosen_library order name libs ≡ Some p
       → IsChosen order name libs p
   first_library p e = is_chosen order name libs p
-      (subst (λ (o : Option (ℕ × List ℕ)). Least (λ a b. a.0 < b.0)
-      (Found order name libs) o) e (chosen order name libs))
+      (subst (λ o. Least (λ a b. a.0 < b.0) (Found order name libs) o) e (chosen order name libs))
 
   -- the library at place k is file k + 1 of the link
   library_at : (host : List ℕ) (k : ℕ) (lib : List ℕ) → slice_get libs k ≡ Some lib
@@ -48,12 +46,11 @@ module _ (order : Order) (name : List ℕ) (libs : List (List ℕ)) where
   pub unit_place : (at : ℕ × ℕ) → unit_source order name libs ≡ Some at
       → UnitPlace order name libs at
   unit_place at e =
-      option_and_then_some (λ (lib : ℕ × List ℕ). option_map {U = ℕ × ℕ}
-      (λ (i : ℕ). (library_file lib.0, i)) (find (is_named order name lib.1) slots))
-      (chosen_library order name libs) at e (λ p chosen rest.
-      let entry = some_mapped {Y = ℕ × ℕ} (λ (i : ℕ). (library_file p.0, i))
-      (find (is_named order name p.1) slots) at rest in
-      subst (UnitPlace order name libs) (sym entry.2) (made p chosen entry.0 entry.1))
+      option_and_then_some (λ (lib : ℕ × List ℕ). option_map {U = ℕ × ℕ} (λ
+      (i : ℕ). (library_file lib.0, i)) (find (is_named order name lib.1) slots)) (chosen_library
+      order name libs) at e (λ p chosen rest. let entry = some_mapped {Y = ℕ × ℕ}
+      (λ (i : ℕ). (library_file p.0, i)) (find (is_named order name p.1) slots) at rest in subst
+      (UnitPlace order name libs) (sym entry.2) (made p chosen entry.0 entry.1))
     where
       made : (p : ℕ × List ℕ) → chosen_library order name libs ≡ Some p → (i : ℕ)
           → find (is_named order name p.1) slots ≡ Some i
@@ -71,7 +68,7 @@ module _ (order : Order) (name : List ℕ) (libs : List (List ℕ)) where
             named = (named order name p.1 i).0
                 (find_passes (is_named order name p.1) slots i found);
             is_file = λ host. library_at host p.0 p.1 first.there;
-            file_is = λ host. ap (λ (o : Option (List ℕ)). unwrap_or o [])
+            file_is = λ host. ap (λ o. unwrap_or o [])
                 (library_at host p.0 p.1 first.there);
           }
 
@@ -88,66 +85,64 @@ one_entry order libs name slot fine n lib there first i j h k a b =
     not_two i j lt h a b = fine (in_slot (n + 1) slot reason.DoubledUnit)
         (n, lib, there, (((j, h, b), first), (reason.DoubledUnit, refl, (j, h, (b, (i, lt, a))))))
 
--- where a request has no fault, none applies to the library's entries of its name
-pub no_entry_fault : (order : Order) (host : List ℕ) (libs : List (List ℕ)) (q : Request)
-    → request_fault order host libs q ≡ None → (f : Fault)
-    → EntryFault order q.name libs q.slot f → ⊥
-no_entry_fault order host libs q fits = go (entry_fault order q.name libs q.slot)
-    (request_parts order host libs q fits).1 (entry_least order q.name libs q.slot)
-  where
-    go : (o : Option Fault) → o ≡ None
-        → Least (Precedes OfSources) (EntryFault order q.name libs q.slot) o → (f : Fault)
-        → EntryFault order q.name libs q.slot f → ⊥
-    go None e (nothing n) = n
-    go (Some f) e l = absurd (cc)
+module _ (order : Order) (host : List ℕ) (libs : List (List ℕ)) (q : Request) where
+  -- where a request has no fault, none applies to the library's entries of its name
+  pub no_entry_fault : request_fault order host libs q ≡ None
+      → (f : Fault) → EntryFault order q.name libs q.slot f → ⊥
+  no_entry_fault fits = go (entry_fault order q.name libs q.slot)
+      (request_parts order host libs q fits).1 (entry_least order q.name libs q.slot)
+    where
+      go : (o : Option Fault) → o ≡ None → Least (Precedes OfSources) (EntryFault order
+          q.name libs q.slot) o → (f : Fault) → EntryFault order q.name libs q.slot f → ⊥
+      go None e (nothing n) = n
+      go (Some f) e l = absurd (cc)
 
--- and the unit is the only one of its name in the first library that has one
-pub unit_of : (order : Order) (host : List ℕ) (libs : List (List ℕ)) (q : Request)
-    (at : ℕ × ℕ) → request_fault order host libs q ≡ None
-    → unit_source order q.name libs ≡ Some at → IsUnitOf order host libs q.name at.0 at.1
-unit_of order host libs q at fits e =
-    record {
-      library = u.library;
-      file = u.is_file host;
-      beside = omega (arith, u.file);
-      first = none_lesser;
-      within = u.within;
-      entry = u.named;
-      only = one;
-      kind = go ((entry_at order u.library at.1).kind == 3)
-          (Decides-eqb (entry_at order u.library at.1).kind 3);
-    }
-  where
-    u : UnitPlace order q.name libs at
-    u = unit_place order q.name libs at e
+  -- and the unit is the only one of its name in the first library that has one
+  pub unit_of : (at : ℕ × ℕ) → request_fault order host libs q ≡ None
+      → unit_source order q.name libs ≡ Some at → IsUnitOf order host libs q.name at.0 at.1
+  unit_of at fits e =
+      record {
+        library = u.library;
+        file = u.is_file host;
+        beside = omega (arith, u.file);
+        first = none_lesser;
+        within = u.within;
+        entry = u.named;
+        only = one;
+        kind = go ((entry_at order u.library at.1).kind == 3)
+            (Decides-eqb (entry_at order u.library at.1).kind 3);
+      }
+    where
+      u : UnitPlace order q.name libs at
+      u = unit_place order q.name libs at e
 
-    fine : (f : Fault) → EntryFault order q.name libs q.slot f → ⊥
-    fine = no_entry_fault order host libs q fits
+      fine : (f : Fault) → EntryFault order q.name libs q.slot f → ⊥
+      fine = no_entry_fault fits
 
-    none_lesser : (lesser : ℕ) (other : List ℕ) → 1 ≤ lesser → lesser < at.0
-        → IsFile host libs lesser other → HasEntry order q.name other → ⊥
-    none_lesser zero other low lt is has = omega (arith, low)
-    none_lesser (suc k) other low lt is has = u.first k other (omega (arith, lt, u.file)) is has
+      none_lesser : (lesser : ℕ) (other : List ℕ) → 1 ≤ lesser → lesser < at.0
+          → IsFile host libs lesser other → HasEntry order q.name other → ⊥
+      none_lesser zero other low lt is has = omega (arith, low)
+      none_lesser (suc k) other low lt is has = u.first k other (omega (arith, lt, u.file)) is has
 
-    one : (j : ℕ) → j < 16 → IsNamed order q.name u.library j → j ≡ at.1
-    one j h n = one_entry order libs q.name q.slot fine u.number u.library u.there u.first j at.1 h
-        u.within n u.named
+      one : (j : ℕ) → j < 16 → IsNamed order q.name u.library j → j ≡ at.1
+      one j h n = one_entry order
+          libs q.name q.slot fine u.number u.library u.there u.first j at.1 h u.within n u.named
 
-    go : (b : Bool) → Decides b ((entry_at order u.library at.1).kind ≡ 3)
-        → (entry_at order u.library at.1).kind ≡ 3
-    go true d = d.0 refl
-    go false d =
-        let kind = (entry_at order u.library at.1).kind in
-        absurd (fine (in_slot (u.number + 1) q.slot (reason.NotAUnit kind)) (
-          u.number,
-          u.library,
-          u.there,
-          (
-            ((at.1, u.within, u.named), u.first),
+      go : (b : Bool) → Decides b ((entry_at order u.library at.1).kind ≡ 3)
+          → (entry_at order u.library at.1).kind ≡ 3
+      go true d = d.0 refl
+      go false d =
+          let kind = (entry_at order u.library at.1).kind in
+          absurd (fine (in_slot (u.number + 1) q.slot (reason.NotAUnit kind)) (
+            u.number,
+            u.library,
+            u.there,
             (
-              reason.NotAUnit kind,
-              refl,
-              (at.1, u.within, (u.named, one, refl, λ e. false≢true (d.1 e))),
+              ((at.1, u.within, u.named), u.first),
+              (
+                reason.NotAUnit kind,
+                refl,
+                (at.1, u.within, (u.named, one, refl, λ e. false≢true (d.1 e))),
+              ),
             ),
-          ),
-        ))
+          ))

@@ -42,7 +42,7 @@ turn_bounds : (s : Step) → (1 ≤ turn s) × (turn s < 11)
 turn_bounds s = grind arith
 
 same_turn : (s t : Step) → turn s ≡ turn t → turn t ≢ 6 → s ≡ t
-same_turn s t e h = let a = turn_back s (λ x. h (sym e ∙ x)) in let b = turn_back t h in cc
+same_turn s t e h = grind (arith, turn_back)
 
 -- a key begins with its step's turn
 key_turn : (s : Step) (f : Fault) → (rest : List ℕ) × (key s f ≡ turn s ∷ rest)
@@ -54,17 +54,13 @@ earlier_turn : (x y : Place) → turn x.0 < turn y.0 → Earlier x y
 earlier_turn x y h = grind (arith, key_turn)
 
 -- one more step before those that are later, which are looked at only if it has no fault
-add : (order : Order) (host : List ℕ) (libs : List (List ℕ)) (step : Step)
-    (next end : ℕ) {o : Option Fault} {p : Option Place} → turn step ≢ 6
-    → turn step + 1 ≡ next → next ≤ end
-    → Least (Precedes step) (StandsIn step order host libs) o
-    → (o ≡ None → Least Earlier (Between order host libs next end) p)
-    → Least Earlier (Between order host libs (turn step) end)
-    (option_or (option_map (λ f. (step, f)) o) p)
-add order host libs step next end {o} {p} alone e low l m =
-    least_same to from (least_or_then (tagged step l) (λ n. m (untagged o n))
-    (λ x y s t. earlier_turn x y (let a : turn x.0 ≡ turn step =
-    ap (λ (q : Place). turn q.0) s.1 in let b = t.0 in omega (arith, a, b, e))))
+add : (order : Order) (host : List ℕ) (libs : List (List ℕ)) (step : Step) (next end : ℕ)
+    {o : Option Fault} {p : Option Place} → (turn step ≢ 6) × (turn step + 1 ≡ next)
+    × (next ≤ end) → Least (Precedes step) (StandsIn step order host libs) o
+    → (o ≡ None → Least Earlier (Between order host libs next end) p) → Least Earlier
+    (Between order host libs (turn step) end) (option_or (option_map (λ f. (step, f)) o) p)
+add order host libs step next end {o} {p} is l m = least_same to from (least_or_then
+    (tagged step l) (λ n. m (untagged o n)) (λ x y s t. earlier_turn x y (grind arith)))
   where
     untagged : (o : Option Fault) → option_map {U = Place} (λ (f : Fault). (step, f)) o ≡ None
         → o ≡ None
@@ -82,7 +78,7 @@ add order host libs step next end {o} {p} alone e low l m =
     from q t = grind (arith, same_turn)
 
 -- the rounds are one turn
-rounds_turn : OneStop → (order : Order) (host : List ℕ) (libs : List (List ℕ))
+rounds_turn : (law : OneStop) (order : Order) (host : List ℕ) (libs : List (List ℕ))
     → (o : Option Place) × Least Earlier (Between order host libs 6 7) o
     × (option_map (λ (x : Place). x.1) o ≡ added_fault order host libs)
 rounds_turn law order host libs = let r = step_6 law order host libs in
@@ -102,9 +98,8 @@ rounds_turn law order host libs = let r = step_6 law order host libs in
     from p t = grind arith
 
 untag : (step : Step) (o : Option Fault) (p : Option Place) (q : Option Fault)
-    → option_map (λ (x : Place). x.1) p ≡ q
-    → option_map (λ (x : Place). x.1) (option_or (option_map (λ f. (step, f)) o) p)
-    ≡ option_or o q
+    → option_map (λ (x : Place). x.1) p ≡ q → option_map
+    (λ (x : Place). x.1) (option_or (option_map (λ f. (step, f)) o) p) ≡ option_or o q
 untag step o p q h = grind arith
 
 -- the faults of a queue of turns, with their steps, and that they are these
@@ -114,22 +109,22 @@ Turns host libs n m fault = (o : Option Place)
     × (option_map (λ (x : Place). x.1) o ≡ fault)
 
 -- the first fault of reading is the smallest that applies in turns 1 to 6
-reading : OneStop → (host : List ℕ) (libs : List (List ℕ))
+reading : (law : OneStop) (host : List ℕ) (libs : List (List ℕ))
     → Turns host libs 1 7 (reading_fault host libs)
 unfolding reading_fault
 reading law host libs =
     let order = order_of host in
     let last = rounds_turn law order host libs in (
       _,
-      add order host libs OfHost 2 7 (λ e. omega (arith, e)) (omega arith) (omega arith)
+      add order host libs OfHost 2 7 (omega arith)
           (step_1 host) (λ n.
-          add order host libs OfSlots 3 7 (λ e. omega (arith, e)) (omega arith) (omega arith)
+          add order host libs OfSlots 3 7 (omega arith)
           (step_2 order host) (λ n.
-          add order host libs OfNoHost 4 7 (λ e. omega (arith, e)) (omega arith) (omega arith)
+          add order host libs OfNoHost 4 7 (omega arith)
           (step_3 order host) (λ n.
-          add order host libs OfLibraries 5 7 (λ e. omega (arith, e)) (omega arith) (omega arith)
+          add order host libs OfLibraries 5 7 (omega arith)
           (step_4 order libs) (λ n.
-          add order host libs OfSources 6 7 (λ e. omega (arith, e)) (omega arith) (omega arith)
+          add order host libs OfSources 6 7 (omega arith)
           (step_5 law order host libs) (λ n. last.1))))),
       untag OfHost (host_fault host) _ _
           (untag OfSlots (slots_fault order host) _ _
@@ -143,51 +138,48 @@ last : (a b c d : Option Fault) → option_or a (option_or b (option_or c (optio
     ≡ option_or a (option_or b (option_or c d))
 last a b c d = grind arith
 
--- the first fault of linking is the smallest that applies in turns 7 to 10, where the rounds end
--- without a fault
-linking : (host : List ℕ) (libs : List (List ℕ))
-    → added_fault (order_of host) host libs ≡ None
-    → Turns host libs 7 11 (linking_fault (order_of host) (segments (order_of host) host libs))
-unfolding linking_fault
-linking host libs fine =
-    let order = order_of host in
-    let segs = segments order host libs in (
-      _,
-      add order host libs OfDefinitions 8 11 (λ e. omega (arith, e)) (omega arith) (omega arith)
-          (step_7 order host libs) (λ n.
-          add order host libs OfPrivates 9 11 (λ e. omega (arith, e)) (omega arith) (omega arith)
-          (step_8 order host libs) (λ n.
-          add order host libs OfDataSize 10 11 (λ e. omega (arith, e)) (omega arith) (omega arith)
-          (step_9 order host libs) (λ n.
-          add order host libs OfReferences 11 11 (λ e. omega (arith, e)) (omega arith)
-          (omega arith) (step_10 order host libs fine)
-          (λ n. nothing (λ p t. let a = t.0 in let b = t.1 in omega (arith, a, b)))))),
-      untag OfDefinitions (definitions_fault segs) _ _
-          (untag OfPrivates (privates_fault segs) _ _
-          (untag OfDataSize (data_fault order segs) _ _
-          (untag OfReferences (references_fault order segs) None None refl)))
-          ∙ last (definitions_fault segs) (privates_fault segs) (data_fault order segs)
-          (references_fault order segs),
-    )
+module _ (host : List ℕ) (libs : List (List ℕ)) where
+  -- the first fault of linking is the smallest that applies in turns 7 to 10, where the rounds end
+  -- without a fault
+  linking : added_fault (order_of host) host libs ≡ None
+      → Turns host libs 7 11 (linking_fault (order_of host) (segments (order_of host) host libs))
+  unfolding linking_fault
+  linking fine =
+      let order = order_of host in
+      let segs = segments order host libs in (
+        _,
+        add order host libs OfDefinitions 8 11 (omega arith)
+            (step_7 order host libs) (λ n.
+            add order host libs OfPrivates 9 11 (omega arith)
+            (step_8 order host libs) (λ n.
+            add order host libs OfDataSize 10 11 (omega arith)
+            (step_9 order host libs) (λ n.
+            add order host libs OfReferences 11 11 (omega arith) (step_10 order host libs fine)
+            (λ n. nothing (λ p t. let a = t.0 in let b = t.1 in omega (arith, a, b)))))),
+        untag OfDefinitions (definitions_fault segs) _ _
+            (untag OfPrivates (privates_fault segs) _ _
+            (untag OfDataSize (data_fault order segs) _ _
+            (untag OfReferences (references_fault order segs) None None refl)))
+            ∙ last (definitions_fault segs) (privates_fault segs) (data_fault order segs)
+            (references_fault order segs),
+      )
 
--- where nothing is wrong with what is read, nothing is with the sources of the slots, nor with the
--- units that are added
-pub none_read : (host : List ℕ) (libs : List (List ℕ)) → reading_fault host libs ≡ None
-    → (sources_fault (order_of host) host libs ≡ None)
-    × (added_fault (order_of host) host libs ≡ None)
-unfolding reading_fault
-none_read host libs e =
-    let order = order_of host in
-    both (sources_fault order host libs) (added_fault order host libs)
-    ((both (libraries_fault order libs) _
-    (both (no_host_fault order host) _
-    (both (slots_fault order host) _ (both (host_fault host) _ e).1).1).1).1)
-  where
-    both : (a b : Option Fault) → option_or a b ≡ None → (a ≡ None) × (b ≡ None)
-    both a b h = grind arith
+  -- where nothing is wrong with what is read, nothing is with the sources of the slots, nor with
+  -- the units that are added
+  pub none_read : reading_fault host libs ≡ None → (sources_fault (order_of host) host libs
+      ≡ None) × (added_fault (order_of host) host libs ≡ None)
+  unfolding reading_fault
+  none_read e =
+      let order = order_of host in
+      both (sources_fault order host libs) (added_fault order host libs)
+      ((both (libraries_fault order libs) _ (both (no_host_fault order host) _
+      (both (slots_fault order host) _ (both (host_fault host) _ e).1).1).1).1)
+    where
+      both : (a b : Option Fault) → option_or a b ≡ None → (a ≡ None) × (b ≡ None)
+      both a b h = grind arith
 
 -- the faults of all steps
-whole : OneStop → (host : List ℕ) (libs : List (List ℕ))
+whole : (law : OneStop) (host : List ℕ) (libs : List (List ℕ))
     → Turns host libs 1 11 (first_fault host libs)
 unfolding first_fault
 whole law host libs = go (reading_fault host libs) refl (reading law host libs)
@@ -201,8 +193,7 @@ whole law host libs = go (reading_fault host libs) refl (reading law host libs)
 
     from : (p : Place) → Between order host libs 1 11 p
         → Between order host libs 1 7 p ⊎ Between order host libs 7 11 p
-    from p t = elim (cases_lt (turn p.0) 7)
-        [ inl h ↦ inl (t.0, h, t.2) | inr h ↦ inr (h, t.1, t.2) ]
+    from p t = grind (arith, cases_lt)
 
     apart : (x y : Place) → Between order host libs 1 7 x → Between order host libs 7 11 y
         → Earlier x y
@@ -225,66 +216,61 @@ whole law host libs = go (reading_fault host libs) refl (reading law host libs)
         rest = linking host libs (none_read host libs e).1
 
         at : (o : Option Place) → Least Earlier (Between order host libs 1 7) o
-            → option_map (λ (x : Place). x.1) o ≡ None
-            → Turns host libs 1 11 (linking_fault (order_of host)
-            (segments (order_of host) host libs))
+            → option_map (λ (x : Place). x.1) o ≡ None → Turns host libs 1 11
+            (linking_fault (order_of host) (segments (order_of host) host libs))
         at (Some p) l is = absurd (cc)
         at None l is = (rest.0, least_same to from (least_or_then l (λ n. rest.1) apart), rest.2)
 
--- the fault of the smallest place of all turns is the first
-first_place : (host : List ℕ) (libs : List (List ℕ)) (o : Option Place) (f : Fault)
-    → Least Earlier (Between (order_of host) host libs 1 11) o
-    → option_map (λ (x : Place). x.1) o ≡ Some f → IsFirst host libs f
-first_place host libs None f l e = absurd (cc)
-first_place host libs (Some p) f l e = go l
-  where
-    same : p.1 ≡ f
-    same = cc
+module _ (host : List ℕ) (libs : List (List ℕ)) where
+  -- the fault of the smallest place of all turns is the first
+  first_place : (o : Option Place) (f : Fault) → Least Earlier (Between (order_of host)
+      host libs 1 11) o → option_map (λ (x : Place). x.1) o ≡ Some f → IsFirst host libs f
+  first_place None f l e = absurd (cc)
+  first_place (Some p) f l e = go l
+    where
+      same : p.1 ≡ f
+      same = cc
 
-    lower : (q : Place) → Between (order_of host) host libs 1 11 p
-        → ((y : Place) → Between (order_of host) host libs 1 11 y → (y ≡ p) ⊎ Earlier p y)
-        → IsFirst host libs p.1
-    lower q s l = record {
-      step = p.0;
-      stands = record { stands = s.2 };
-      least = λ t g h. elim (l (t, g) ((turn_bounds t).0, (turn_bounds t).1, h.stands)) [
-        | inl e ↦ inl (ap (λ (x : Place). x.0) e, ap (λ (x : Place). x.1) e)
-        | inr b ↦ inr b
-      ];
-    }
+      lower : (q : Place) → Between (order_of host) host libs 1 11 p → ((y : Place) → Between
+          (order_of host) host libs 1 11 y → (y ≡ p) ⊎ Earlier p y) → IsFirst host libs p.1
+      lower q s l = record {
+        step = p.0;
+        stands = record { stands = s.2 };
+        least = λ t g h. elim (l (t, g) ((turn_bounds t).0, (turn_bounds t).1, h.stands)) [
+          | inl e ↦ inl (ap (λ (x : Place). x.0) e, ap (λ (x : Place). x.1) e)
+          | inr b ↦ inr b
+        ];
+      }
 
-    go : Least Earlier (Between (order_of host) host libs 1 11) (Some p) → IsFirst host libs f
-    go (this x s l) = subst (IsFirst host libs) same (lower p s l)
+      go : Least Earlier (Between (order_of host) host libs 1 11) (Some p) → IsFirst host libs f
+      go (this x s l) = subst (IsFirst host libs) same (lower p s l)
 
-no_place : (host : List ℕ) (libs : List (List ℕ)) (o : Option Place)
-    → Least Earlier (Between (order_of host) host libs 1 11) o
-    → option_map (λ (x : Place). x.1) o ≡ None → (step : Step) (f : Fault)
-    → FaultAt host libs step f → ⊥
-no_place host libs (Some p) l e step f h = absurd (cc)
-no_place host libs None (nothing n) e step f h =
-    n (step, f) ((turn_bounds step).0, (turn_bounds step).1, h.stands)
+  no_place : (o : Option Place) → Least Earlier (Between (order_of host) host libs 1 11) o
+      → option_map (λ (x : Place). x.1) o ≡ None
+      → (step : Step) (f : Fault) → FaultAt host libs step f → ⊥
+  no_place (Some p) l e step f h = absurd (cc)
+  no_place None (nothing n) e step f h =
+      n (step, f) ((turn_bounds step).0, (turn_bounds step).1, h.stands)
 
-pub some : OneStop → (host : List ℕ) (libs : List (List ℕ)) (f : Fault)
-    → first_fault host libs ≡ Some f → IsFirst host libs f
-some law host libs f e = let w = whole law host libs in first_place host libs w.0 f w.1 (w.2 ∙ e)
+module _ (law : OneStop) (host : List ℕ) (libs : List (List ℕ)) where
+  pub some : (f : Fault) → first_fault host libs ≡ Some f → IsFirst host libs f
+  some f e = let w = whole law host libs in first_place host libs w.0 f w.1 (w.2 ∙ e)
 
-pub none : OneStop → (host : List ℕ) (libs : List (List ℕ)) → first_fault host libs ≡ None
-    → (step : Step) (f : Fault) → FaultAt host libs step f → ⊥
-none law host libs e = let w = whole law host libs in no_place host libs w.0 w.1 (w.2 ∙ e)
+  pub none : first_fault host libs ≡ None
+      → (step : Step) (f : Fault) → FaultAt host libs step f → ⊥
+  none e = let w = whole law host libs in no_place host libs w.0 w.1 (w.2 ∙ e)
 
--- no two faults are the first
-pub one : OneStop → (host : List ℕ) (libs : List (List ℕ)) (f g : Fault)
-    → IsFirst host libs f → IsFirst host libs g → f ≡ g
-one law host libs f g a b = grind (arith, not_both)
+  -- no two faults are the first
+  pub one : (f g : Fault) → IsFirst host libs f → IsFirst host libs g → f ≡ g
+  one f g a b = grind (arith, not_both)
 
--- the fault that is the first is the one that is found
-pub only : OneStop → (host : List ℕ) (libs : List (List ℕ)) (f : Fault)
-    → IsFirst host libs f → first_fault host libs ≡ Some f
-only law host libs f a = go (first_fault host libs) refl
-  where
-    go : (o : Option Fault) → first_fault host libs ≡ o → o ≡ Some f
-    go None e = absurd (none law host libs e a.step f a.stands)
-    go (Some g) e = ap (λ (x : Fault). Some x) (one law host libs g f (some law host libs g e) a)
+  -- the fault that is the first is the one that is found
+  pub only : (f : Fault) → IsFirst host libs f → first_fault host libs ≡ Some f
+  only f a = go (first_fault host libs) refl
+    where
+      go : (o : Option Fault) → first_fault host libs ≡ o → o ≡ Some f
+      go None e = grind (arith, none)
+      go (Some g) e = ap (λ x. Some x) (one g f (some g e) a)
 
 -- what is computed for the steps of reading, and what applies in them
 turn_read : (s : Step) → is_of_reading s ≡ true → turn s < 7
@@ -294,23 +280,21 @@ turn_read s h = grind arith
 read_turn : (s : Step) → turn s < 7 → is_of_reading s ≡ true
 read_turn s h = grind arith
 
--- where no fault of reading is found, none applies
-pub read : OneStop → (host : List ℕ) (libs : List (List ℕ))
-    → reading_fault host libs ≡ None → NoneStandsInReading host libs
-read law host libs e step f r h = let w = reading law host libs in go w.0 w.1 (w.2 ∙ e)
-  where
-    go : (o : Option Place) → Least Earlier (Between (order_of host) host libs 1 7) o
-        → option_map (λ (x : Place). x.1) o ≡ None → ⊥
-    go None (nothing n) is = n (step, f) ((turn_bounds step).0, turn_read step r, h.stands)
-    go (Some p) l is = absurd (cc)
+module _ (law : OneStop) (host : List ℕ) (libs : List (List ℕ)) where
+  -- where no fault of reading is found, none applies
+  pub read : reading_fault host libs ≡ None → NoneStandsInReading host libs
+  read e step f r h = let w = reading law host libs in go w.0 w.1 (w.2 ∙ e)
+    where
+      go : (o : Option Place) → Least Earlier (Between (order_of host) host libs 1 7) o
+          → option_map (λ (x : Place). x.1) o ≡ None → ⊥
+      go None (nothing n) is = n (step, f) ((turn_bounds step).0, turn_read step r, h.stands)
+      go (Some p) l is = absurd (cc)
 
--- where no fault of reading applies, none is found
-pub unread : OneStop → (host : List ℕ) (libs : List (List ℕ))
-    → NoneStandsInReading host libs → reading_fault host libs ≡ None
-unread law host libs none_in = let w = reading law host libs in sym w.2 ∙ go w.0 w.1
-  where
-    go : (o : Option Place) → Least Earlier (Between (order_of host) host libs 1 7) o
-        → option_map (λ (x : Place). x.1) o ≡ None
-    go None l = refl
-    go (Some p) (this q s l) =
-        absurd (none_in p.0 p.1 (read_turn p.0 s.1) (record { stands = s.2 }))
+  -- where no fault of reading applies, none is found
+  pub unread : NoneStandsInReading host libs → reading_fault host libs ≡ None
+  unread none_in = let w = reading law host libs in sym w.2 ∙ go w.0 w.1
+    where
+      go : (o : Option Place) → Least Earlier (Between (order_of host) host libs 1 7) o
+          → option_map (λ (x : Place). x.1) o ≡ None
+      go None l = refl
+      go (Some p) (this q s l) = grind (arith, read_turn)
